@@ -4,9 +4,14 @@
 use Rattle.std.specs.Prelude.{ℕ, ◌≡◌, ◌≢◌, ◌⊎◌, List, [], ◌∷◌, ◌++◌, Some, None, slice_get}
 use Rattle.tso_model.specs.Litmus.{Litmus}
 use Rattle.tso_model.specs.Thread.{fence}
+use Rattle.tso_model.specs.declared.register.Reg.{Reg}
+use Rattle.tso_model.specs.declared.instruction.Loc.{Loc}
+use Rattle.tso_model.specs.declared.action.Operand.{Operand}
+use Rattle.tso_model.specs.declared.action.Update.{Update}
+use Rattle.tso_model.specs.declared.action.Action.TheVariants.{Store, Move, Lock}
 use Rattle.tso_model.specs.declared.execution.Entry.{Entry}
-use Rattle.abstract_machine.specs.Machine.{NotLocked, HasWritten, HardwareThread, Machine}
-use Rattle.abstract_machine.specs.Steps.{Step}
+use Rattle.abstract_machine.specs.Machine.{NotLocked, HasRead, HasWritten, HardwareThread, Machine}
+use Rattle.abstract_machine.specs.Steps.{StandsAt, Step}
 
 -- a thread is blocked where another one holds the lock
 abbrev pub IsBlocked : Machine → ℕ → Type 0
@@ -46,3 +51,27 @@ pub record OnlyTheHolderUnlocks : Type 0 where
   pub ends : (t : Litmus) (m : Machine) (p : ℕ) (h : HardwareThread) (es : List Entry) (o : Machine) (after : HardwareThread)
       → Step t m p h es o → h.progress ≡ HasWritten → slice_get o.threads p ≡ Some after → after.progress ≡ NotLocked
       → Unlocks m p h o
+
+-- ---- what the rules leave free
+
+-- thread p, which is h, can make a step that gives nothing to the memory order and leaves memory and the lock as they were
+abbrev pub CanGoOn : Litmus → Machine → ℕ → HardwareThread → Type 0
+CanGoOn t m p h = (o : Machine) × Step t m p h [] o × (o.memory ≡ m.memory) × (o.lock ≡ m.lock)
+
+-- W: a store, and the write of a locked instruction, go to the write buffer at any time, blocked or not, whatever the buffer has;
+-- and a register is moved at any time
+pub record StoresAndMovesAreMadeAtAnyTime : Type 0 where
+  pub store : (t : Litmus) (m : Machine) (p : ℕ) (h : HardwareThread) (loc : Loc) (operand : Operand)
+      → StandsAt t p h NotLocked (Store loc operand) → CanGoOn t m p h
+  pub locked_write : (t : Litmus) (m : Machine) (p : ℕ) (h : HardwareThread) (loc : Loc) (reg : Reg) (update : Update) (v : ℕ)
+      → StandsAt t p h (HasRead v) (Lock loc reg update) → CanGoOn t m p h
+  pub move : (t : Litmus) (m : Machine) (p : ℕ) (h : HardwareThread) (reg : Reg) (operand : Operand)
+      → StandsAt t p h NotLocked (Move reg operand) → CanGoOn t m p h
+
+-- L: a locked instruction begins where nobody holds the lock, whatever the buffer has; memory stays as it was, and the thread holds
+-- the lock
+abbrev pub LockedInstructionsBeginWhateverTheBufferHas : Type 0
+LockedInstructionsBeginWhateverTheBufferHas =
+    (t : Litmus) (m : Machine) (p : ℕ) (h : HardwareThread) (loc : Loc) (reg : Reg) (update : Update)
+    → StandsAt t p h NotLocked (Lock loc reg update) → m.lock ≡ None
+    → (o : Machine) × Step t m p h [] o × (o.memory ≡ m.memory) × (o.lock ≡ Some p)

@@ -23,6 +23,7 @@ ghost use Rattle.tso_laws.specs.WorkedRuns.{short_order, turned_order, wrong_ord
 ghost use Rattle.abstract_machine.specs.Machine.{Machine};
 ghost use Rattle.abstract_machine.specs.Ended.{registers_of, EndsWith, IsReachedFreely};
 ghost use Rattle.abstract_machine.specs.OneStep.{BlockedThreadsReadAndFlushNothing, OnlyTheHolderUnlocks};
+ghost use Rattle.abstract_machine.specs.OneStep.{StoresAndMovesAreMadeAtAnyTime, LockedInstructionsBeginWhateverTheBufferHas};
 
 use tso_laws::{
     choices_lead_from_state_to_state, ended_runs_are_executions, every_execution_is_reached,
@@ -98,4 +99,15 @@ pub fn blocked_threads_read_and_flush_nothing()
 /// that has written ends in no other way than by unlocking.
 pub fn only_the_holder_unlocks()
     ensures { OnlyTheHolderUnlocks }
+{}
+
+/// In any machine a store, the write of a locked instruction and a register move can be made at any time,
+/// also by a thread that is blocked, whatever its buffer has.
+pub fn stores_and_moves_are_made_at_any_time()
+    ensures { StoresAndMovesAreMadeAtAnyTime }
+{}
+
+/// In any machine whose lock nobody holds a locked instruction can begin, whatever the buffer has.
+pub fn locked_instructions_begin_whatever_the_buffer_has()
+    ensures { LockedInstructionsBeginWhateverTheBufferHas }
 {}
