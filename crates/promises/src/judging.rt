@@ -1,10 +1,11 @@
 //! How often an order is looked at while it is judged: three looks for each entry, so no pair of entries is compared with
 //! every other.
 
-ghost use Rattle.std.specs.Prelude.{◌≡◌, ◌+◌, ◌*◌, ◌<◌, ◌≤◌, length};
-ghost use Rattle.axiom_checker.specs.FirstBreach.{IsJudged};
+ghost use Rattle.std.specs.Prelude.{◌≡◌, ◌≢◌, ◌+◌, ◌*◌, ◌<◌, ◌≤◌, IfErr, IsOkUnless, OnOk, length};
+ghost use Rattle.tso_model.specs.Axioms.{IsTsoExecution};
+ghost use Rattle.axiom_checker.specs.FirstBreach.{IsFirstBreach, IsJudged};
 
-use axiom_checker::{Breach, check_counted};
+use axiom_checker::{Breach, check_counted, check_order};
 use std::alloc::Global;
 use std::sync::ledger::{Blank, Ledger};
 use tso_model::{Execution, Test, Watched};
@@ -37,4 +38,13 @@ pub fn three_looks_from_the_first<'a, L: Ledger>(
     let mut order = Watched::<L>::new(blank, execution);
     let judged = check_counted(alloc, test, &mut order);
     (judged, order)
+}
+
+/// An order is judged valid exactly where it is a TSO execution, memory aside; any other is answered with its first breach.
+pub fn an_order_is_judged(alloc: Global, test: &Test, execution: &Execution) -> Result<(), Breach>
+    ensures valid { OnOk result (IsTsoExecution test.now execution.now.order.items) }
+    ensures accepted { IsTsoExecution test.now execution.now.order.items → IsOkUnless result Breach.NoMemory }
+    ensures first { IfErr result (λ b. b ≢ Breach.NoMemory → IsFirstBreach test.now execution.now.order.items b) }
+{
+    check_order(alloc, test, execution)
 }

@@ -3,21 +3,39 @@
 //! together with its constant, is refused here.
 #![tactic(auto)]
 
+pub mod abstract_machines;
 pub mod accesses;
 pub mod answers;
 pub mod buffers;
+pub mod buses;
+pub mod cache_calls;
+pub mod candidate_laws;
+pub mod candidates;
+pub mod found_states;
+pub mod headlines;
 pub mod judging;
 pub mod limits;
 pub mod machines;
+pub mod machines_alike;
+pub mod one_text;
+pub mod order_texts;
 pub mod orders;
+pub mod printed_texts;
 pub mod readings;
 pub mod searched;
+pub mod run_calls;
+pub mod runs_so_far;
 pub mod searches;
 pub mod sets;
 pub mod simulations;
 pub mod split_accesses;
+pub mod stream_calls;
 pub mod streams;
 pub mod tallies;
+pub mod telling_calls;
 pub mod threads;
 pub mod traced;
+pub mod told_choices;
+pub mod told_steps;
+pub mod told_texts;
 pub mod witnesses;

@@ -1,0 +1,184 @@
+//! What the headline says of each command, field by field.
+
+ghost use Rattle.std.specs.Prelude.{◌+◌, ◌<◌, ◌^◌, ◌≡◌, ◌≢◌, ◌≤◌, All, Bool, IfSome, List, if◌then◌else◌, is_some, length, true, ℕ};
+ghost use Rattle.command_line.specs.Plan.{Plan, most_seeds};
+ghost use Rattle.command_line.specs.declared.settings.Settings.{Settings};
+ghost use Rattle.commands.specs.Dividing.{EndsInFeed, HasNoDivider, IsJoinable, Parts};
+ghost use Rattle.commands.specs.Lines.{test_refusal};
+ghost use Rattle.commands.specs.Outcomes.{AreAllOutcomes};
+ghost use Rattle.commands.specs.RunTexts.{report_in};
+ghost use Rattle.commands.specs.Sweep.{IsSweepAnswer};
+ghost use Rattle.commands.specs.Witness.{ReportsOrder};
+ghost use Rattle.commands.specs.declared.answer.Status.{Status};
+ghost use Rattle.commands.specs.declared.answer.Status.TheVariants.{Good};
+ghost use Rattle.litmus_reader.specs.Spelling.{IsRefused as IsRefusedTest, SpellsTest};
+ghost use Rattle.litmus_reader.specs.declared.fault.TextFault.{TextFault};
+ghost use Rattle.machine_core.specs.Configuration.{Configuration};
+ghost use Rattle.order_builder.specs.Spelling.{SpellsOrder};
+ghost use Rattle.outcome_laws.specs.Outcomes.{IsSequentiallyConsistent};
+ghost use Rattle.outcome_report.specs.Printed.{outcomes_in};
+ghost use Rattle.protocol_tables.specs.Names.{protocol_name};
+ghost use Rattle.protocol_tables.specs.PrintedTable.{printed_table};
+ghost use Rattle.protocol_tables.specs.Tables.{table_of};
+ghost use Rattle.protocol_tables.specs.declared.kind.ProtocolKind.{ProtocolKind};
+ghost use Rattle.scheduler.specs.Grammar.{SpellsChoices};
+ghost use Rattle.scheduler.specs.Limits.{most_choices};
+ghost use Rattle.scheduler.specs.Printed.{printed_choices};
+ghost use Rattle.simulator.specs.Runs.{AnswersFit, run_under};
+ghost use Rattle.sweeper.specs.Counting.{SweepAnswersFit, sweep_counts};
+ghost use Rattle.tso_cli.specs.Answers.{IsTableAnswer};
+ghost use Rattle.tso_cli.specs.Fitting.{IsStateOf, shown_under};
+ghost use Rattle.tso_cli.specs.Headline.{HeadlineOf, PartsHeadline};
+ghost use Rattle.tso_cli.specs.OutcomesHeadline.{AreExactly, PrintsAllOutcomes};
+ghost use Rattle.tso_cli.specs.Revisited.{AreRevisited, IsRevisited, ReportsValues};
+ghost use Rattle.tso_cli.specs.RunHeadline.{PrintsExecution};
+ghost use Rattle.tso_cli.specs.SweepHeadline.{HasPart, PrintsSweep, seeded_order};
+ghost use Rattle.tso_model.specs.Axioms.{IsTsoExecution};
+ghost use Rattle.tso_model.specs.Limits.{most_depth};
+ghost use Rattle.tso_model.specs.Litmus.{IsTest, Litmus};
+ghost use Rattle.tso_model.specs.Registers.{IsWord};
+ghost use Rattle.tso_model.specs.Runs.{Run};
+ghost use Rattle.tso_model.specs.SequentialConsistency.{KeepsAllOrder};
+ghost use Rattle.tso_model.specs.declared.choice.Bus.TheVariants.{Atomic};
+ghost use Rattle.tso_model.specs.declared.choice.Choice.{Choice};
+ghost use Rattle.tso_report.specs.Limits.{IsSmall};
+ghost use Rattle.tso_report.specs.Shown.{IsOf, Shown};
+ghost use Rattle.tso_report.specs.Tally.{Ascend, count_of, ended_in, looked_at, runs_in, state_line, values_in, with_values};
+
+use tso_cli::laws::runs_fit_their_tests;
+use tso_report::laws::one_more_run_is_counted;
+
+/// Each first part that spells a test is answered of this test, and every other is refused.
+pub fn a_test_or_its_refusal_is_answered()
+    ensures every_test { (s : Settings) (parts : Parts) (out : List ℕ) → PartsHeadline s parts out → (t : Litmus)
+        → SpellsTest parts.test t → HeadlineOf s t parts.rest out }
+    ensures every_other { (s : Settings) (parts : Parts) (out : List ℕ) → PartsHeadline s parts out
+        → ((t : Litmus) → ¬ (SpellsTest parts.test t))
+        → (fault : TextFault) × IsRefusedTest parts.test fault × (out ≡ test_refusal fault) }
+{}
+
+/// At depth 0 the printed order keeps program order without exception.
+pub fn without_buffers_all_order_is_kept()
+    ensures unbuffered { (t : Litmus) (kind : ProtocolKind) (c : Configuration) (json : Bool) (r : Run) (out : List ℕ)
+        (said : PrintsExecution t kind c json r out) → c.depth ≡ 0 → KeepsAllOrder said.shown.order }
+{}
+
+/// Each run of a sweep that ended is an execution, and each number is that of its runs.
+pub fn a_sweep_prints_executions()
+    ensures runs { (t : Litmus) (kind : ProtocolKind) (c : Configuration) (plan : Plan) (run_of : List Choice → Run)
+        (out : List ℕ) (said : PrintsSweep t kind c plan run_of out) → runs_in said.counts ≡ plan.seeds }
+    ensures executions { (t : Litmus) (kind : ProtocolKind) (c : Configuration) (plan : Plan) (run_of : List Choice → Run) (out : List ℕ)
+        → PrintsSweep t kind c plan run_of out → (n : ℕ) → n < plan.seeds
+        → IfSome (seeded_order t run_of plan (plan.from + n)) (IsTsoExecution t) }
+    ensures every_seed { (t : Litmus) (kind : ProtocolKind) (c : Configuration) (plan : Plan) (run_of : List Choice → Run) (out : List ℕ)
+        → PrintsSweep t kind c plan run_of out → c.bus ≡ Atomic → (seed : ℕ)
+        → IfSome (seeded_order t run_of plan seed) (IsTsoExecution t) }
+    ensures unbuffered { (t : Litmus) (kind : ProtocolKind) (c : Configuration) (plan : Plan) (run_of : List Choice → Run) (out : List ℕ)
+        → PrintsSweep t kind c plan run_of out → c.depth ≡ 0 → (n : ℕ) → n < plan.seeds
+        → IfSome (seeded_order t run_of plan (plan.from + n)) KeepsAllOrder }
+    ensures lines { (t : Litmus) (kind : ProtocolKind) (c : Configuration) (plan : Plan) (run_of : List Choice → Run)
+        (out : List ℕ) (said : PrintsSweep t kind c plan run_of out)
+        → All (λ state. HasPart out (state_line t state)) said.counts.states }
+{}
+
+/// What `outcomes` prints is all that can be reached, and at depth 32 and 0 exactly what is allowed.
+pub fn outcomes_prints_what_is_allowed()
+    ensures printed { (t : Litmus) (depth : ℕ) (json : Bool) (out : List ℕ) (said : PrintsAllOutcomes t depth json out)
+        → out ≡ outcomes_in json t depth said.outcomes }
+    ensures all { (t : Litmus) (depth : ℕ) (json : Bool) (out : List ℕ) (said : PrintsAllOutcomes t depth json out)
+        → AreAllOutcomes t depth said.outcomes }
+    ensures tso { (t : Litmus) (depth : ℕ) (json : Bool) (out : List ℕ) (said : PrintsAllOutcomes t depth json out)
+        → depth ≡ most_depth → AreExactly t said.outcomes (IsTsoExecution t) }
+    ensures sequential { (t : Litmus) (depth : ℕ) (json : Bool) (out : List ℕ) (said : PrintsAllOutcomes t depth json out)
+        → depth ≡ 0 → AreExactly t said.outcomes (IsSequentiallyConsistent t) }
+    ensures spelled { (t : Litmus) (depth : ℕ) (json : Bool) (out : List ℕ) (said : PrintsAllOutcomes t depth json out)
+        → All (λ o. SpellsChoices (length t.programs) (printed_choices o.choices) o.choices) said.outcomes }
+{}
+
+/// `tables` prints the table, with success.
+pub fn a_table_is_printed()
+    ensures text { (kind : ProtocolKind) (out : List ℕ) (status : Status) → IsTableAnswer kind out status
+        → out ≡ printed_table (protocol_name kind) (table_of kind) }
+    ensures status_is { (kind : ProtocolKind) (out : List ℕ) (status : Status) → IsTableAnswer kind out status → status ≡ Good }
+{}
+
+/// Choices of a printed state end there when they are run.
+pub fn printed_choices_end_in_printed_states()
+    ensures printed_states { (kind : ProtocolKind) (c : Configuration) (json told : Bool) (test out : List ℕ)
+        (said : AreRevisited kind c json told test out) → out ≡ outcomes_in told said.t c.depth said.outcomes }
+    ensures each { (kind : ProtocolKind) (c : Configuration) (json told : Bool) (test out : List ℕ)
+        (said : AreRevisited kind c json told test out) → All (IsRevisited kind c json test said.t) said.outcomes }
+    ensures printed { (t : Litmus) (kind : ProtocolKind) (c : Configuration) (json : Bool) (values out : List ℕ)
+        (said : ReportsValues t kind c json values out) → out ≡ report_in json t kind c said.shown }
+    ensures values_are { (t : Litmus) (kind : ProtocolKind) (c : Configuration) (json : Bool) (values out : List ℕ)
+        (said : ReportsValues t kind c json values out) → values_in t said.shown.registers said.shown.memory ≡ values }
+    ensures stalled { (t : Litmus) (kind : ProtocolKind) (c : Configuration) (json : Bool) (values out : List ℕ)
+        (said : ReportsValues t kind c json values out) → said.shown.stalled ≡ 0 }
+    ensures unused { (t : Litmus) (kind : ProtocolKind) (c : Configuration) (json : Bool) (values out : List ℕ)
+        (said : ReportsValues t kind c json values out) → said.shown.unused ≡ 0 }
+{}
+
+/// What is shown of a run, and counted of a sweep, fits the test.
+pub fn runs_fit_their_test()
+    ensures of_test { (t : Litmus) (kind : ProtocolKind) (c : Configuration) (choices : List Choice) → IsTest t
+        → length choices ≤ most_choices → AnswersFit t kind c choices → (run_under t kind c choices).ended ≡ true
+        → IsOf t (shown_under t kind c choices) }
+    ensures small { (t : Litmus) (kind : ProtocolKind) (c : Configuration) (choices : List Choice) → IsTest t
+        → length choices ≤ most_choices → AnswersFit t kind c choices → (run_under t kind c choices).ended ≡ true
+        → IsSmall t (shown_under t kind c choices) }
+    ensures states { (t : Litmus) (kind : ProtocolKind) (c : Configuration) (plan : Plan) → IsTest t → plan.seeds ≤ most_seeds
+        → SweepAnswersFit t kind c plan → All (λ state. IsStateOf t state.0) (sweep_counts t kind c plan).states }
+    ensures verdicts { (t : Litmus) (kind : ProtocolKind) (c : Configuration) (plan : Plan) → IsTest t → plan.seeds ≤ most_seeds
+        → SweepAnswersFit t kind c plan → (sweep_counts t kind c plan).held + (sweep_counts t kind c plan).failed
+        ≡ (if is_some t.condition then ended_in (sweep_counts t kind c plan) else 0) }
+    ensures few { (t : Litmus) (kind : ProtocolKind) (c : Configuration) (plan : Plan) → IsTest t → plan.seeds ≤ most_seeds
+        → SweepAnswersFit t kind c plan → runs_in (sweep_counts t kind c plan) < 2 ^ 64 }
+{
+    runs_fit_their_tests();
+}
+
+/// A counted state has a word for each value that is looked at.
+pub fn a_counted_state_is_of_the_test()
+    ensures each { (t : Litmus) (values : List ℕ) → IsStateOf t values → length values ≡ length (looked_at t) }
+    ensures words { (t : Litmus) (values : List ℕ) → IsStateOf t values → All IsWord values }
+    ensures verdict { (t : Litmus) (s : Shown) → IsOf t s → is_some s.holds ≡ is_some t.condition }
+{}
+
+/// A text that is put before a dividing line ends in a line feed and has no such line.
+pub fn joinable_texts_end_their_last_line()
+    ensures ends { (text : List ℕ) → IsJoinable text → EndsInFeed text }
+    ensures undivided { (text : List ℕ) → IsJoinable text → HasNoDivider text }
+{}
+
+/// A sweep's answers are such as caches may give.
+pub fn a_swept_answer_fits_its_caches()
+    ensures answers { (t : Litmus) (kind : ProtocolKind) (c : Configuration) (plan : Plan) (out : List ℕ) (status : Status)
+        → IsSweepAnswer t kind c plan out status → SweepAnswersFit t kind c plan }
+{}
+
+/// The report of a witness shows the very order, no choice stalled and none left over.
+pub fn an_order_is_reported()
+    ensures test_spelled { (kind : ProtocolKind) (c : Configuration) (json : Bool) (parts : Parts) (out : List ℕ)
+        (said : ReportsOrder kind c json parts out) → SpellsTest parts.test said.t }
+    ensures order_spelled { (kind : ProtocolKind) (c : Configuration) (json : Bool) (parts : Parts) (out : List ℕ)
+        (said : ReportsOrder kind c json parts out) → SpellsOrder said.t parts.rest said.order }
+    ensures printed { (kind : ProtocolKind) (c : Configuration) (json : Bool) (parts : Parts) (out : List ℕ)
+        (said : ReportsOrder kind c json parts out) → out ≡ report_in json said.t kind c said.shown }
+    ensures reached { (kind : ProtocolKind) (c : Configuration) (json : Bool) (parts : Parts) (out : List ℕ)
+        (said : ReportsOrder kind c json parts out) → said.shown.order ≡ said.order }
+    ensures stalled { (kind : ProtocolKind) (c : Configuration) (json : Bool) (parts : Parts) (out : List ℕ)
+        (said : ReportsOrder kind c json parts out) → said.shown.stalled ≡ 0 }
+    ensures unused { (kind : ProtocolKind) (c : Configuration) (json : Bool) (parts : Parts) (out : List ℕ)
+        (said : ReportsOrder kind c json parts out) → said.shown.unused ≡ 0 }
+{}
+
+/// One more run is counted in its own state alone, and the states stay in order.
+pub fn one_more_run_is_counted_once()
+    ensures own { (values : List ℕ) (states : List (List ℕ × ℕ))
+        → count_of values (with_values values states) ≡ count_of values states + 1 }
+    ensures others { (values other : List ℕ) (states : List (List ℕ × ℕ)) → other ≢ values
+        → count_of other (with_values values states) ≡ count_of other states }
+    ensures order { (values : List ℕ) (states : List (List ℕ × ℕ)) → Ascend states → Ascend (with_values values states) }
+{
+    one_more_run_is_counted();
+}

@@ -1,0 +1,192 @@
+//! Clauses of single calls about runs, each said again of one call.
+
+ghost use Rattle.std.specs.Prelude.{◌-◌, ◌<◌, ◌^◌, ◌≡◌, ◌≤◌, All, IfErr, IfOk, IsTrue, None, OnErr, OnOk, is_some, length, string_bytes};
+ghost use Rattle.command_line.specs.Limits.{HasDepth, IsWithinLimits};
+ghost use Rattle.explorer.specs.FinalStates.{AreReached, HasMoreStates, HaveEveryEnd};
+ghost use Rattle.explorer.specs.declared.fault.ExploreFault.{ExploreFault};
+ghost use Rattle.machine_core.specs.inner.Running.{is_ended};
+ghost use Rattle.order_builder.specs.PrintedOrder.{HasWord};
+ghost use Rattle.protocol_tables.specs.Names.{protocol_name};
+ghost use Rattle.protocol_tables.specs.PrintedTable.{printed_table};
+ghost use Rattle.protocol_tables.specs.Tables.{by_kind, table_of};
+ghost use Rattle.simulator.specs.Runs.{AnswersFit, counts_under, run_under};
+ghost use Rattle.simulator.specs.Simulation.{FitsEnding, HasCounts, IsEndingOf};
+ghost use Rattle.trace_json.specs.TracedRun.{most_steps};
+ghost use Rattle.tso_model.specs.Runs.{CoresExist};
+ghost use Rattle.tso_model.specs.Together.{put_together};
+ghost use Rattle.tso_report.specs.Shown.{IsOf, shown};
+ghost use Rattle.tso_report.specs.Tally.{runs_in};
+ghost use Rattle.tso_report.specs.inner.Tally.{with_run};
+
+use command_line::{SearchPlan, Settings, settings_of};
+use explorer::{Exploration, ExploreFault, explore};
+use flat_machine::{Snapshot, drive};
+use machine_core::{Bus, Choice, Config, Final, Machine};
+use protocol_tables::{Mesi, Moesi, Mosi, Msi, Protocol, ProtocolKind, table_text};
+use scheduler::Choices;
+use std::alloc::Global;
+use trace_json::word_beyond;
+use tso_cli::{Ending, LineFault, SimFault, simulate};
+use tso_model::{NoMemory, Test};
+use tso_report::{Run, Tally, report_text};
+
+/// Whatever the words are, what comes of them is within the limits.
+pub fn settings_are_within_limits(alloc: Global, words: &[&str]) -> Result<Settings, LineFault>
+    ensures within { IfOk result IsWithinLimits }
+    ensures depth { IfOk result HasDepth }
+{
+    settings_of(alloc, words)
+}
+
+/// A search has the depth that it was made with.
+pub fn a_search_has_its_depth(plan: SearchPlan) -> u8
+    ensures value { result ≡ plan.depth }
+{
+    plan.depth()
+}
+
+/// A configuration has at least one set, and no more than the limit.
+pub fn sets_are_within_limits(config: Config) -> u8
+    ensures within { (1 ≤ result) × (result ≤ 8) }
+{
+    config.sets()
+}
+
+/// A configuration has at least one way, and no more than the limit.
+pub fn ways_are_within_limits(config: Config) -> u8
+    ensures within { (1 ≤ result) × (result ≤ 8) }
+{
+    config.ways()
+}
+
+/// The text of a table is the stated one, and its rows are what the protocol's functions answer.
+pub fn a_table_is_that_of_its_protocol(
+    alloc: Global,
+    kind: ProtocolKind,
+) -> Result<String, NoMemory>
+    ensures table { IfOk result (λ text. string_bytes text ≡ printed_table (protocol_name kind) (table_of kind)) }
+    ensures shown { IfOk result (λ text. string_bytes text ≡ by_kind kind
+        (printed_table (⟦<Msi as Protocol>⟧.called record {}) (⟦<Msi as Protocol>⟧.table record {}))
+        (printed_table (⟦<Mesi as Protocol>⟧.called record {}) (⟦<Mesi as Protocol>⟧.table record {}))
+        (printed_table (⟦<Moesi as Protocol>⟧.called record {}) (⟦<Moesi as Protocol>⟧.table record {}))
+        (printed_table (⟦<Mosi as Protocol>⟧.called record {}) (⟦<Mosi as Protocol>⟧.table record {}))) }
+{
+    table_text(alloc, kind)
+}
+
+/// Each value of a report's order is a word.
+pub fn reported_values_are_words(
+    alloc: Global,
+    test: &Test,
+    protocol: ProtocolKind,
+    config: Config,
+    run: &Run,
+) -> Result<String, NoMemory>
+    requires { IsOf test.now (shown run.now) }
+    ensures words { OnOk result (All HasWord run.now.left.execution.order.items) }
+{
+    report_text(alloc, test, protocol, config, run)
+}
+
+/// A run is counted once, or nothing has changed.
+pub fn a_run_is_counted(tally: &mut Tally<'_>, run: &Run) -> Result<(), NoMemory>
+    requires registers { length (shown run.now).registers ≡ length tally.old.test.programs }
+    requires memory { length (shown run.now).memory ≡ length tally.old.test.locations }
+    requires verdict { is_some (shown run.now).holds ≡ is_some tally.old.test.condition }
+    requires room { runs_in tally.old.counts < 2 ^ 32 - 1 }
+    ensures counts { OnOk result (tally.new.counts ≡ with_run tally.old.test (shown run.now) tally.old.counts) }
+    ensures test { tally.new.test ≡ tally.old.test }
+    ensures refused { OnErr result (tally.new ≡ tally.old) }
+{
+    tally.add(run)
+}
+
+/// Where memory is refused to a state nothing has changed.
+pub fn a_state_is_counted_or_nothing_changes(
+    tally: &mut Tally<'_>,
+    registers: &[[u32; 6]],
+    memory: &[u32],
+    holds: Option<bool>,
+) -> Result<(), NoMemory>
+    requires registers { length registers.now ≡ length tally.old.test.programs }
+    requires memory { length memory.now ≡ length tally.old.test.locations }
+    requires verdict { is_some holds ≡ is_some tally.old.test.condition }
+    requires room { runs_in tally.old.counts < 2 ^ 32 - 1 }
+    ensures refused { OnErr result (tally.new ≡ tally.old) }
+{
+    tally.add_state(registers, memory, holds)
+}
+
+/// A run that didn't end leaves the tally's test.
+pub fn an_unfinished_run_leaves_the_test(tally: &mut Tally<'_>)
+    requires { runs_in tally.old.counts < 2 ^ 32 - 1 }
+    ensures test { tally.new.test ≡ tally.old.test }
+{
+    tally.add_unfinished();
+}
+
+/// A simulation is the run of its machine, with such answers as caches may give, and with its counts.
+pub fn a_simulation_is_a_run(
+    alloc: Global,
+    test: &Test,
+    protocol: ProtocolKind,
+    config: Config,
+    choices: &[Choice],
+) -> Result<Ending, SimFault>
+    requires { CoresExist (length test.now.programs) choices.now }
+    ensures ending { IfOk result (IsEndingOf test.now (run_under test.now protocol config choices.now)) }
+    ensures fits { IfOk result (FitsEnding test.now) }
+    ensures answers { OnOk result (AnswersFit test.now protocol config choices.now) }
+    ensures counts { IfOk result (HasCounts (counts_under test.now protocol config choices.now)) }
+{
+    simulate(alloc, test, protocol, config, choices)
+}
+
+/// A finished machine hands on its order and its counts.
+pub fn a_finished_machine_hands_on_its_order<P: Protocol>(
+    machine: Machine<'_, P>,
+    alloc: Global,
+) -> Result<Final, NoMemory>
+    requires { IsTrue (is_ended machine) }
+    ensures order { IfOk result (λ f. f.execution.order.items ≡ put_together machine.entry.commits) }
+    ensures counts { IfOk result (λ f. f.counts.items ≡ machine.entry.statistics.counts) }
+{
+    machine.finish(alloc)
+}
+
+/// Of a run of at most 1,000 choices no word is beyond.
+pub fn a_short_run_has_no_word_beyond(cores: u8, used: usize, text: &[u8]) -> Option<usize>
+    requires { 0 < cores }
+    ensures short { used ≤ most_steps → result ≡ None }
+{
+    word_beyond(cores, used, text)
+}
+
+/// A machine that is driven keeps its locations.
+pub fn a_driven_machine_keeps_its_locations<C: Choices>(
+    state: &mut Snapshot,
+    test: &Test,
+    depth: u8,
+    choices: &mut C,
+) -> Result<bool, NoMemory>
+    requires cores { length state.old.cores.items ≡ length test.now.programs }
+    requires chosen { CoresExist (length test.now.programs) (C.coming choices.old) }
+    ensures words { OnOk result (length state.new.memory.items ≡ length state.old.memory.items) }
+{
+    drive(state, test, depth, choices)
+}
+
+/// Each state that is found is reached, and none that runs end in is missed; or the machine can reach more than may be kept.
+pub fn a_search_misses_no_end(
+    alloc: Global,
+    test: &Test,
+    depth: u8,
+    limit: usize,
+    hidden: &[[bool; 6]],
+) -> Result<Exploration, ExploreFault>
+    ensures reached { IfOk result (λ x. AreReached test.now depth x.final_states.items) }
+    ensures complete { IfOk result (λ x. HaveEveryEnd test.now depth hidden.now x.final_states.items) }
+    ensures too_many { IfErr result (λ fault. fault ≡ ExploreFault.TooMany → HasMoreStates test.now depth limit) }
+{
+    explore(alloc, test, depth, limit, hidden)
+}

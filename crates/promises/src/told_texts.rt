@@ -1,0 +1,29 @@
+//! What is told of texts, field by field.
+
+ghost use Rattle.std.specs.Prelude.{◌++◌, ◌∷◌, ◌≡◌, ◌≤◌, ◌⊎◌, List, [], codes, length, true, ℕ};
+ghost use Rattle.hints.specs.Hint.{IsHint, longest_hint};
+ghost use Rattle.litmus_reader.specs.Spelling.{IsRefused, SpellsTest};
+ghost use Rattle.litmus_reader.specs.declared.fault.TextFault.{TextFault};
+ghost use Rattle.std.specs.List.{list_all};
+ghost use Rattle.tso_model.specs.Litmus.{Litmus};
+ghost use Rattle.tso_model.specs.Names.{is_printable};
+
+use litmus_reader::laws::texts_are_decided;
+
+/// A hint begins with its word, is printable and short.
+pub fn a_hint_is_one_printable_line()
+    ensures is { (text : List ℕ) (said : IsHint text) → text ≡ codes "hint: " ++ said.words ++ (10 ∷ []) }
+    ensures printable { (text : List ℕ) (said : IsHint text) → list_all is_printable said.words ≡ true }
+    ensures short { (text : List ℕ) → IsHint text → length text ≤ longest_hint }
+{}
+
+/// Each text spells one test or gets one refusal, and never both.
+pub fn each_text_is_decided()
+    ensures one_test { (text : List ℕ) → (t other : Litmus) → SpellsTest text t → SpellsTest text other → t ≡ other }
+    ensures one_refusal { (text : List ℕ) → (refusal other : TextFault) → IsRefused text refusal → IsRefused text other
+        → refusal ≡ other }
+    ensures never_both { (text : List ℕ) → (t : Litmus) (refusal : TextFault) → SpellsTest text t → IsRefused text refusal → ⊥ }
+    ensures always { (text : List ℕ) → ((t : Litmus) × SpellsTest text t) ⊎ ((refusal : TextFault) × IsRefused text refusal) }
+{
+    texts_are_decided();
+}
