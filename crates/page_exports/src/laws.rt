@@ -2,7 +2,7 @@
 
 ghost use Rattle.std.specs.Prelude.{◌≡◌, ◌≢◌, ◌≤◌, true, take, length};
 ghost use Rattle.page_exports.specs.Questions.{AnswersAsked};
-ghost use Rattle.page_exports.specs.Laws.{SevenAsksForAStep, NoHintStandsBesideAStep, TellsLengths};
+ghost use Rattle.page_exports.specs.inner.Laws.{SevenAsksForAStep, NoHintStandsBesideAStep, TellsLengths};
 
 use crate::{Numbers, Told, page_answer};
 use std::alloc::Global;

@@ -15,7 +15,7 @@ use Rattle.tso_model.specs.declared.execution.Entry.{Entry}
 use Rattle.machine_core.specs.Caches.{Caches, would_hit, hits_by}
 use Rattle.machine_core.specs.Running.{Running, attempt_on, effect_by}
 use Rattle.promises.specs.Locked.{HitsAlone, OwnCoreAloneHits}
-use Rattle.promises.specs.Waiting.{IsAtLine, OthersWaitForTheLine}
+use Rattle.promises.specs.inner.Waiting.{IsAtLine, OthersWaitForTheLine}
 
 -- a choice of another core isn't the holder's
 other-choice : (e : Entry) (choice : Choice) → chosen choice ≢ e.core.0 → same_choice (Step e.core) choice ≡ false

@@ -1,3 +1,3 @@
 pub mod Locked
 pub mod Searched
-pub mod Waiting
+pub mod inner

@@ -2,7 +2,7 @@
 
 ghost use Rattle.std.specs.Prelude.{◌<◌, OnOk, length};
 ghost use Rattle.tso_model.specs.FlatMachine.{chosen};
-ghost use Rattle.promises.specs.Waiting.{OthersWaitForTheLine};
+ghost use Rattle.promises.specs.inner.Waiting.{OthersWaitForTheLine};
 
 use crate::machines::between_locked_parts_its_core_alone_hits;
 use machine_core::{Choice, Machine, Outcome};

@@ -3,7 +3,7 @@ use Rattle.std.specs.Prelude.{[], ◌∷◌}
 use Rattle.tso_model.specs.Litmus.{Litmus}
 use Rattle.tso_model.specs.declared.instruction.Instr.TheVariants.{StoreImm}
 use Rattle.worked_examples.specs.Written.{loc_x, loc_y}
-use Rattle.worked_examples.specs.inner.SharedBus.{shared}
+use Rattle.worked_examples.specs.SharedBus.{shared}
 
 -- MOV [x],$7 | MOV [y],$8
 abbrev pub two_stores : Litmus

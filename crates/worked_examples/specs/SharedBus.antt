@@ -6,9 +6,12 @@
 --     1:EAX=21; 1:EBX=22; 1:ECX=23; 1:EDX=24; 1:ESI=25; 1:EDI=26; }
 --    P0 | P1 ;
 --    .. | .. ;
-use Rattle.std.specs.Prelude.{true, false}
+use Rattle.std.specs.Prelude.{true, false, List, [], ◌∷◌, None, codes}
 use Rattle.tso_model.specs.SplitMachine.{Attempt}
 use Rattle.tso_model.specs.declared.choice.Choice.{Choice}
+use Rattle.tso_model.specs.Litmus.{Litmus}
+use Rattle.tso_model.specs.declared.instruction.Instr.{Instr}
+use Rattle.worked_examples.specs.Written.{six}
 
 -- a choice whose access misses, and one whose access hits
 abbrev pub missing : Choice → Attempt
@@ -16,3 +19,13 @@ missing c = record { choice = c; hits = false }
 
 abbrev pub hitting : Choice → Attempt
 hitting c = record { choice = c; hits = true }
+
+abbrev pub shared : List Instr → List Instr → Litmus
+shared p q = record {
+  name = codes "shared";
+  locations = codes "x" ∷ codes "y" ∷ [];
+  words = 3 ∷ 4 ∷ [];
+  registers = six 11 12 13 14 15 16 ∷ six 21 22 23 24 25 26 ∷ [];
+  programs = p ∷ q ∷ [];
+  condition = None;
+}

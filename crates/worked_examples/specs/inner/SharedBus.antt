@@ -1,5 +1,5 @@
 -- States and choices of the examples on a split bus.
-use Rattle.std.specs.Prelude.{ℕ, List, [], ◌∷◌, None, codes}
+use Rattle.std.specs.Prelude.{ℕ, List, [], ◌∷◌}
 use Rattle.tso_model.specs.Litmus.{Litmus}
 use Rattle.tso_model.specs.SplitMachine.{Attempt, BusEffect}
 use Rattle.tso_model.specs.EitherBus.{BusState, BusRun, effect_on, run_on}
@@ -10,17 +10,7 @@ use Rattle.tso_model.specs.declared.instruction.Instr.TheVariants.{StoreImm, Loa
 use Rattle.tso_model.specs.declared.execution.Entry.{Entry}
 use Rattle.tso_model.specs.declared.execution.Kind.TheVariants.{W, LR}
 use Rattle.worked_examples.specs.Written.{loc_x, loc_y, step, drain, six, memory_action}
-use Rattle.worked_examples.specs.SharedBus.{missing}
-
-abbrev pub shared : List Instr → List Instr → Litmus
-shared p q = record {
-  name = codes "shared";
-  locations = codes "x" ∷ codes "y" ∷ [];
-  words = 3 ∷ 4 ∷ [];
-  registers = six 11 12 13 14 15 16 ∷ six 21 22 23 24 25 26 ∷ [];
-  programs = p ∷ q ∷ [];
-  condition = None;
-}
+use Rattle.worked_examples.specs.SharedBus.{missing, shared}
 
 -- the registers at the beginning
 abbrev pub first_of_p0 : List ℕ
