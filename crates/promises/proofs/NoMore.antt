@@ -1,5 +1,5 @@
 -- What a search finds with store buffers, and what it hides.
-use Rattle.std.proofs.Common.{◌≡◌, ◌∙◌, ◌<◌, ℕ, Bool, false, List, length, IfOk, Ok, Err, Result, Some, None, Option, Vec, ap}
+use Rattle.std.proofs.Common.{◌≡◌, ◌∙◌, ◌<◌, ℕ, Bool, false, List, length, IfOk, Ok, Err, Result, Some, None, Vec, ap}
 use Rattle.std.specs.declared.alloc.Global.{Global}
 use Rattle.tso_model.specs.Litmus.{Litmus, IsTest}
 use Rattle.tso_model.specs.Condition.{Condition}
