@@ -31,7 +31,7 @@ use Rattle.refutation_laws.proofs.Standing.{Of, of-event, same-bare}
 use Rattle.refutation_laws.proofs.Tests.{and-of, or-first, or-second, any-in}
 use Rattle.refutation_laws.proofs.Relating.{OneOf, edge-by, of-bare, fr-bare}
 use Rattle.refutation_laws.proofs.Rows.{Edge, ordered-acyclic, never-back-at}
-use Rattle.refutation_laws.proofs.Asking.{IsPossible}
+use Rattle.refutation_laws.specs.inner.FullCases.{IsPossible}
 use Rattle.refutation_laws.proofs.Settling.{First, IsOpen, entry_among, entry_of, found, is-event, own_events, own_candidate, writes-row, own-in, place, one-own, first-source, settled}
 
 matched : (xs : List Entry) (w y : Entry) → entry_among xs w ≡ Some y → same_event w y ≡ true
@@ -46,7 +46,7 @@ matched (x ∷ xs) w y h = go (same_event w x) refl h (λ g. matched xs w y g)
 unlike : (w : Entry) → None ≡ Some w → ⊥
 unlike w h = let z : ⊥ = cc in z
 
-different : (m n : ℕ) → m ≢ n → not (m == n) ≡ true
+pub different : (m n : ℕ) → m ≢ n → not (m == n) ≡ true
 different m n d = go (m == n) refl
   where
     go : (b : Bool) → (m == n) ≡ b → not b ≡ true
@@ -119,7 +119,7 @@ module _ (model : Model) (t : Litmus) (k : Known) (o : IsOpen model t k) where
           (ap not q))))
 
   -- rf
-  rf-known : (w r : Entry) → IsIn es r → ReadsFrom c w r → reads_from k w r ≡ true
+  pub rf-known : (w r : Entry) → IsIn es r → ReadsFrom c w r → reads_from k w r ≡ true
   rf-known w r i h = go f.source.write refl
     where
       f : First t k.sources r
@@ -132,7 +132,7 @@ module _ (model : Model) (t : Litmus) (k : Known) (o : IsOpen model t k) where
           f.among (λ (s : Source). is_write_of w s.write) (subst (λ s. is_write_of w s ≡ true) (sym q) (matched es v w e))
 
   -- fr
-  fr-known : (r v : Entry) → IsIn es r → FromReads c r v → from_reads k r v ≡ true
+  pub fr-known : (r v : Entry) → IsIn es r → FromReads c r v → from_reads k r v ≡ true
   fr-known r v i h = go f.source.write refl
     where
       f : First t k.sources r

@@ -14,43 +14,10 @@ use Rattle.refutation_laws.specs.Known.{Known, events_of, same_event, is_event, 
 use Rattle.refutation_laws.specs.declared.known.Source.{Source}
 use Rattle.refutation_laws.specs.declared.model.Model.{Model}
 use Rattle.refutation_laws.specs.Refutations.{Node, ReadsFrom, ComesFirst, OnLocation, Globally, Between, FalseClaim, is_node, branches}
+use Rattle.refutation_laws.specs.inner.FullCases.{IsPossible, ArePossible, has_source, are_ordered, may_ask, is_answered, IsFull}
 use Rattle.refutation_laws.proofs.Soundness.{itself}
 use Rattle.refutation_laws.proofs.Tests.{or-first, or-second}
 use Rattle.refutation_laws.proofs.Composing.{HasTrees, EachHasOne, has-tree}
-
--- ---- what is known in a full case
-
--- the initial write, or one of the test's to the location of the read
-abbrev pub IsPossible : Litmus → Entry → Option Entry → Type 0
-IsPossible t r None = Unit {0}
-IsPossible t r (Some w) = IsIn (events_of t) w × (writes_to r.loc.0 w ≡ true)
-
-abbrev pub ArePossible : Litmus → List Source → Type 0
-ArePossible t [] = Unit {0}
-ArePossible t (s ∷ ss) = IsPossible t s.read s.write × ArePossible t ss
-
-abbrev pub has_source : Known → Entry → Bool
-has_source k r = list_any (λ (s : Source). same_event s.read r) k.sources
-
-abbrev pub are_ordered : Known → Entry → Entry → Bool
-are_ordered k w v = comes_before k w v || comes_before k v w
-
--- whether a question may be asked, whatever is known
-abbrev pub may_ask : Litmus → Node → Bool
-may_ask t (ReadsFrom r) = is_event t r && is_read r
-may_ask t (ComesFirst w v) =
-    is_event t w && is_event t v && is_write w && writes_to w.loc.0 v && not (same_event w v)
-may_ask t _ = false
-
-abbrev pub is_answered : Known → Node → Bool
-is_answered k (ReadsFrom r) = has_source k r
-is_answered k (ComesFirst w v) = are_ordered k w v
-is_answered k _ = true
-
-pub record IsFull (t : Litmus) (k : Known) : Type 0 where
-  pub possible : ArePossible t k.sources
-  pub sources : (r : Entry) → IsIn (events_of t) r → may_ask t (ReadsFrom r) ≡ true → has_source k r ≡ true
-  pub order : (w v : Entry) → IsIn (events_of t) w → IsIn (events_of t) v → may_ask t (ComesFirst w v) ≡ true → are_ordered k w v ≡ true
 
 -- ---- the questions
 

@@ -16,7 +16,8 @@ use Rattle.refutation_laws.proofs.Tests.{any-in, any-holds}
 use Rattle.refutation_laws.proofs.Composing.{HasTrees, EachHasOne, has-tree}
 use Rattle.relational_model.proofs.Sorting.{Ordered}
 use Rattle.refutation_laws.proofs.Rows.{HasCycle, Edge, cycle-or-row}
-use Rattle.refutation_laws.proofs.Asking.{IsFull, Answer, all-asked}
+use Rattle.refutation_laws.specs.inner.FullCases.{IsFull}
+use Rattle.refutation_laws.proofs.Asking.{Answer, all-asked}
 use Rattle.refutation_laws.proofs.Determined.{HaveSix}
 use Rattle.refutation_laws.proofs.Settling.{is-event, IsOpen, own_candidate}
 use Rattle.refutation_laws.proofs.Allowing.{NoneBetween, is-allowed}

@@ -15,5 +15,7 @@ pub mod Settling
 pub mod Allowing
 pub mod Exactness
 pub mod Completeness
+pub mod Ordering
+pub mod Progress
 pub mod Telling
 pub mod Naming

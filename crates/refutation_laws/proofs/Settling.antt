@@ -28,7 +28,7 @@ use Rattle.refutation_laws.proofs.Soundness.{itself, bare-same}
 use Rattle.refutation_laws.proofs.Tests.{and-of, or-first, or-second, any-in}
 use Rattle.refutation_laws.proofs.Relating.{edge-by, of-bare}
 use Rattle.refutation_laws.proofs.Rows.{edge-forward, ordered-acyclic, Edge, edge-decided}
-use Rattle.refutation_laws.proofs.Asking.{IsPossible, ArePossible, IsFull}
+use Rattle.refutation_laws.specs.inner.FullCases.{IsPossible, ArePossible, IsFull}
 use Rattle.refutation_laws.proofs.Building.{or_zero, reads_given, events_given, returns-chosen, one-event, same-place, known-value}
 use Rattle.refutation_laws.proofs.Determined.{HaveSix, EarlyGiven, AllGiven, known-write}
 

@@ -39,7 +39,7 @@ same-bare x y h =
 
 -- ---- the same events, whatever the reads return
 
-map-append : (xs ys : List Entry) → map bare (xs ++ ys) ≡ map bare xs ++ map bare ys
+pub map-append : (xs ys : List Entry) → map bare (xs ++ ys) ≡ map bare xs ++ map bare ys
 map-append [] ys = refl
 map-append (x ∷ xs) ys = ap (λ zs. bare x ∷ zs) (map-append xs ys)
 
@@ -55,7 +55,7 @@ appended : (xs ys us vs : List Entry) → map bare xs ≡ map bare us → map ba
 appended xs ys us vs p q =
     map-append xs ys ∙ (ap (λ zs. zs ++ map bare ys) p ∙ (ap (λ zs. map bare us ++ zs) q ∙ sym (map-append us vs)))
 
-by-program : (core place : ℕ) (p : List Instr) (r s values others : List ℕ)
+pub by-program : (core place : ℕ) (p : List Instr) (r s values others : List ℕ)
     → map bare (entries_of core place p r values) ≡ map bare (entries_of core place p s others)
 by-program core place [] r s values others = refl
 by-program core place (i ∷ p) r s values others =

@@ -6,3 +6,4 @@ pub mod Shown
 pub mod Models
 pub mod Agreement
 pub mod Worked
+pub mod inner

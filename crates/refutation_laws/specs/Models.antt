@@ -49,6 +49,11 @@ pub record HasCandidate (model : Model) (t : Litmus) (claim : Claim) : Type 0 wh
   pub allowed : IsAllowedBy model t candidate
   pub holds : truth_of (registers_left t candidate) (words_left t candidate) claim ≡ true
 
+-- this order is an execution of the model, and the proposition is true in its final state
+pub record IsMet (model : Model) (t : Litmus) (claim : Claim) (order : List Entry) : Type 0 where
+  pub execution : IsExecutionOf model t order
+  pub holds : truth_of (final_registers t order) (final_words t order) claim ≡ true
+
 -- in the final state of an execution of the model it is true
 pub record HasExecution (model : Model) (t : Litmus) (claim : Claim) : Type 0 where
   pub order : List Entry

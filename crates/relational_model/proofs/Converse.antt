@@ -2,12 +2,12 @@
 -- instructions go into a row, and each load part directly before its store part.
 use Rattle.std.proofs.Common.{◌≡◌, ◌≤◌, zero, suc, List, [], ◌∷◌, ◌++◌, arith, refl, sym, ap, ◌∙◌, ◌⊎◌, inl, inr, subst, length}
 use Rattle.tso_model.specs.Litmus.{Litmus}
-use Rattle.tso_model.specs.Axioms.{IsAdjacent}
+use Rattle.tso_model.specs.Axioms.{IsAdjacent, IsTsoExecution}
 use Rattle.tso_model.specs.declared.execution.Entry.{Entry}
 use Rattle.tso_model.specs.declared.execution.Kind.TheVariants.{LR, LW}
 use Rattle.relational_model.specs.Events.{IsIn, at_once, onward, IsAcyclic}
 use Rattle.relational_model.specs.Candidates.{Candidate, events}
-use Rattle.relational_model.specs.CandidatesOfOrders.{IsOfAnExecution}
+use Rattle.relational_model.specs.CandidatesOfOrders.{IsCandidateOf, LeaveTheSame, IsOfAnExecution}
 use Rattle.relational_model.specs.Model.{ArePair, IsAllowed}
 use Rattle.relational_model.proofs.Lists.{in-case, in-first, in-later, in-append}
 use Rattle.basic_laws.specs.Ranks.{part_of}
@@ -33,6 +33,13 @@ pub record CanBeKept (t : Litmus) (c : Candidate) (Before : Entry → Entry → 
   pub holds : (x y : Entry) → Goes c x y → Before x y
   pub after : (r w y : Entry) → IsIn (events t c) r → IsIn (events t c) w → IsIn (events t c) y → ArePair r w → r.loc.0 ≡ w.loc.0
       → (y ≡ w → ⊥) → Before r y → Before w y
+
+-- this order of the candidate is a TSO execution, leaves what it leaves, and no edge goes back in it
+pub record IsKeptIn (t : Litmus) (c : Candidate) (Before : Entry → Entry → Type 0) (order : List Entry) : Type 0 where
+  pub execution : IsTsoExecution t order
+  pub candidate : IsCandidateOf t order c
+  pub state : LeaveTheSame t order c
+  pub forward : GoesForward Before order
 
 -- an order of the candidate in which no edge goes back
 pub record IsKept (t : Litmus) (c : Candidate) (Before : Entry → Entry → Type 0) : Type 0 where
@@ -114,11 +121,11 @@ module _ (t : Litmus) (c : Candidate) (s : Sound t c) (a : IsAllowed t c) (Befor
 
   -- ---- events that are no load parts, in a row
 
-  record Others (xs : List Entry) : Type 0 where
-    inside : (x : Entry) → IsIn xs x → IsIn (events t c) x
-    no_load : (x : Entry) → IsIn xs x → x.kind ≡ LR → ⊥
-    single : Once xs
-    forward : GoesForward (Toward (events t c) Before) xs
+  pub record Others (xs : List Entry) : Type 0 where
+    pub inside : (x : Entry) → IsIn xs x → IsIn (events t c) x
+    pub no_load : (x : Entry) → IsIn xs x → x.kind ≡ LR → ⊥
+    pub single : Once xs
+    pub forward : GoesForward (Toward (events t c) Before) xs
 
   rest-of : (x : Entry) (xs : List Entry) → Others (x ∷ xs) → Others xs
   rest-of x xs o = record {
@@ -242,6 +249,18 @@ module _ (t : Litmus) (c : Candidate) (s : Sound t c) (a : IsAllowed t c) (Befor
       outside : (x : Entry) → IsIn (put (events t c) xs) x → IsIn (events t c) x
       outside x i = from x (in-put (events t c) xs x i)
 
+  -- all that are no load parts, in such a row: each load part is put before its store part
+  pub in-order : (xs : List Entry) → Others xs → ((x : Entry) → IsIn (events t c) x → (x.kind ≡ LR → ⊥) → IsIn xs x)
+      → IsKeptIn t c Before (put (events t c) xs)
+  in-order xs o f =
+      let k = put-placed xs o f in
+      record {
+        execution = is-execution t c (put (events t c) xs) k (put-pairs xs o);
+        candidate = is-of t c (put (events t c) xs) k;
+        state = leave-the-same t (put (events t c) xs) c (is-of t c (put (events t c) xs) k);
+        forward = put-forward xs o;
+      }
+
   -- the lemma
   pub is-kept : IsKept t c Before
   is-kept =
@@ -256,25 +275,23 @@ module _ (t : Litmus) (c : Candidate) (s : Sound t c) (a : IsAllowed t c) (Befor
             single = (pigeons (others (events t c)) r.row (once-filter _ (events t c) s.once) r.inside r.count).once;
             forward = r.forward;
           } in
-          let k = put-placed r.row o (λ x i n. r.inside x (other-is (events t c) x i n)) in
+          let k = in-order r.row o (λ x i n. r.inside x (other-is (events t c) x i n)) in
           record {
-            of = record {
-              order = put (events t c) r.row;
-              execution = is-execution t c (put (events t c) r.row) k (put-pairs r.row o);
-              candidate = is-of t c (put (events t c) r.row) k;
-              state = leave-the-same t (put (events t c) r.row) c (is-of t c (put (events t c) r.row) k);
-            };
-            forward = put-forward r.row o;
+            of = record { order = put (events t c) r.row; execution = k.execution; candidate = k.candidate; state = k.state };
+            forward = k.forward;
           }
 
 -- ---- x86-TSO
 
+pub goes-kept : (t : Litmus) (c : Candidate) (s : Sound t c) (a : IsAllowed t c) → CanBeKept t c (Goes c)
+goes-kept t c s a = record {
+  decided = goes c;
+  acyclic = goes-acyclic t c s a.global;
+  holds = λ x y g. g;
+  after = λ r w y i j k p e n g. after-store t c s a r w y i j k p e n g;
+}
+
 pub is-of-an-execution : (t : Litmus) (c : Candidate) → IsAllowed t c → IsOfAnExecution t c
 is-of-an-execution t c a =
     let s = sound t c a.candidate in
-    (is-kept t c s a (Goes c) (record {
-      decided = goes c;
-      acyclic = goes-acyclic t c s a.global;
-      holds = λ x y g. g;
-      after = λ r w y i j k p e n g. after-store t c s a r w y i j k p e n g;
-    })).of
+    (is-kept t c s a (Goes c) (goes-kept t c s a)).of

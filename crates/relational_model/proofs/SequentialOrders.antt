@@ -16,11 +16,11 @@ use Rattle.relational_model.proofs.Sorting.{Decided, GoesForward}
 use Rattle.relational_model.proofs.Events.{Sound, sound}
 use Rattle.relational_model.proofs.Order.{forward-never}
 use Rattle.relational_model.proofs.AfterStore.{po-after, after-store}
-use Rattle.relational_model.proofs.Converse.{IsKept, is-kept}
+use Rattle.relational_model.proofs.Converse.{CanBeKept, IsKept, is-kept}
 use Rattle.relational_model.proofs.SequentialFacts.{tso-allows}
 
 -- what must go forward in an order that keeps program order
-abbrev Step : Candidate → Entry → Entry → Type 0
+abbrev pub Step : Candidate → Entry → Entry → Type 0
 Step c x y = (is_before x y ≡ true) ⊎ Goes c x y
 
 step : (c : Candidate) → Decided (Step c)
@@ -44,7 +44,7 @@ step-after t c s a r w y i j k p same n (inl b) = inl (po-after t c s r w y j k 
 step-after t c s a r w y i j k p same n (inr g) = inr (after-store t c s (tso-allows t c a) r w y i j k p same n g)
 
 -- the order keeps program order
-keeps : (c : Candidate) (order : List Entry) → GoesForward (Step c) order → KeepsAllOrder order
+pub keeps : (c : Candidate) (order : List Entry) → GoesForward (Step c) order → KeepsAllOrder order
 keeps c order f i j x y p q b = on (order-of i j)
   where
     order-of : (m n : ℕ) → (m < n) ⊎ ((m ≡ n) ⊎ (n < m))
@@ -60,15 +60,18 @@ keeps c order f i j x y p q b = on (order-of i j)
         absurd (forward-never (Step c) order x y f
         (to-precedes order y x (record { first = j; second = i; is_first = q; is_second = p; before = l })) (inl b))
 
+pub step-kept : (t : Litmus) (c : Candidate) → Sound t c → IsSequential t c → CanBeKept t c (Step c)
+step-kept t c s a = record {
+  decided = step c;
+  acyclic = λ x p. a.global x (in-sequence (events t c) c x x p);
+  holds = λ x y g. inr g;
+  after = λ r w y i j m p e n g. step-after t c s a r w y i j m p e n g;
+}
+
 pub is-of-a-sequential-execution : (t : Litmus) (c : Candidate) → IsSequential t c → IsOfASequentialExecution t c
 is-of-a-sequential-execution t c a =
     let s = sound t c a.candidate in
-    let k : IsKept t c (Step c) = is-kept t c s (tso-allows t c a) (Step c) (record {
-      decided = step c;
-      acyclic = λ x p. a.global x (in-sequence (events t c) c x x p);
-      holds = λ x y g. inr g;
-      after = λ r w y i j m p e n g. step-after t c s a r w y i j m p e n g;
-    }) in
+    let k : IsKept t c (Step c) = is-kept t c s (tso-allows t c a) (Step c) (step-kept t c s a) in
     record {
       order = k.of.order;
       consistent = record { execution = k.of.execution; keeps = keeps c k.of.order k.forward };

@@ -1,0 +1,3 @@
+-- Words of contracts of a search for refutations.
+pub mod FullCases
+pub mod Orders
