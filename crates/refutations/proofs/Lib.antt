@@ -1,0 +1,7 @@
+pub mod Walking
+pub mod Stack
+pub mod Relating
+pub mod Last
+pub mod Rounds
+pub mod Growing
+pub mod Asked

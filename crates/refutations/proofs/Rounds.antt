@@ -1,0 +1,51 @@
+-- The rounds of known writes: where one knows no more than the one before, no later one does.
+use Rattle.std.proofs.Common.{◌≡◌, ◌<◌, ◌≤◌, ◌+◌, ℕ, zero, suc, Bool, true, List, [], ◌∷◌, arith, refl, sym, ap, ◌∙◌, ◌⊎◌, inl, inr, subst, length}
+use Rattle.std.specs.Cmp.Lexicographic.{pointwise}
+use Rattle.tso_model.specs.Litmus.{Litmus}
+use Rattle.tso_model.specs.declared.execution.Entry.{Entry}
+use Rattle.refutation_laws.specs.declared.known.Source.{Source}
+use Rattle.relational_model.proofs.KindFacts.{and-both}
+use Rattle.refutation_laws.specs.Known.{Known, events_of}
+use Rattle.refutation_laws.specs.Values.{known_writes, all_known, writes_from, returned}
+
+pub settled : (t : Litmus) (k : Known) (n all : ℕ) → n ≤ all → known_writes t k (suc n) ≡ known_writes t k n
+    → known_writes t k all ≡ known_writes t k n
+settled t k n zero l h = let e : zero ≡ n = omega (arith, l) in ap (known_writes t k) e
+settled t k n (suc all) l h = go (split n all l) (λ m. settled t k n all m h)
+  where
+    split : (i j : ℕ) → i ≤ suc j → (suc j ≡ i) ⊎ (i ≤ j)
+    split i j m = grind arith
+
+    go : (suc all ≡ n) ⊎ (n ≤ all) → (n ≤ all → known_writes t k all ≡ known_writes t k n) → known_writes t k (suc all) ≡ known_writes t k n
+    go (inl e) later = ap (known_writes t k) e
+    go (inr m) later = ap (λ ws. writes_from (returned t ws k.sources) 0 t.programs t.registers) (later m) ∙ h
+
+-- what a round knows more
+pub one-round : (t : Litmus) (k : Known) (n : ℕ) (more writes before : List Entry) (sources : List Source) → before ≡ writes → sources ≡ k.sources
+    → more ≡ writes_from (returned t before sources) 0 t.programs t.registers → writes ≡ known_writes t k n → more ≡ known_writes t k (n + 1)
+one-round t k n more writes before sources a b is was =
+    let e : suc n ≡ n + 1 = omega arith in
+    is
+    ∙ (ap (λ ss. writes_from (returned t before ss) 0 t.programs t.registers) b
+    ∙ (ap (λ ws. writes_from (returned t ws k.sources) 0 t.programs t.registers) (a ∙ was) ∙ ap (known_writes t k) e))
+
+-- the round that knows no more than the one before
+pub settled-at : (t : Litmus) (k : Known) (events : List Entry) (n : ℕ) → events ≡ events_of t → n < length events → (more writes before : List Entry)
+    (sources : List Source) → before ≡ writes → sources ≡ k.sources
+    → more ≡ writes_from (returned t before sources) 0 t.programs t.registers → writes ≡ known_writes t k n → more ≡ writes
+    → more ≡ all_known t k
+settled-at t k events n e l more writes before sources a b is was same =
+    let all : n ≤ length (events_of t) = subst (λ es. n ≤ length es) e (omega (arith, l)) in
+    let m : n + 1 ≡ suc n = omega arith in
+    let still : known_writes t k (suc n) ≡ known_writes t k n =
+    ap (known_writes t k) (sym m) ∙ (sym (one-round t k n more writes before sources a b is was) ∙ (same ∙ was)) in
+    same ∙ (was ∙ sym (settled t k n (length (events_of t)) all still))
+
+-- lists whose entries a test takes for the same, one by one
+pub as-same : (E : Entry → Entry → Bool) → ((x y : Entry) → E x y ≡ true → x ≡ y) → (xs ys : List Entry) → pointwise E xs ys ≡ true → xs ≡ ys
+as-same E f [] [] h = refl
+as-same E f [] (y ∷ ys) h = let z : ⊥ = cc in absurd z
+as-same E f (x ∷ xs) [] h = let z : ⊥ = cc in absurd z
+as-same E f (x ∷ xs) (y ∷ ys) h =
+    let m = and-both (E x y) (pointwise E xs ys) h in
+    ap (λ z. z ∷ xs) (f x y m.0) ∙ ap (λ zs. y ∷ zs) (as-same E f xs ys m.1)

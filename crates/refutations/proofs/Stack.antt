@@ -1,0 +1,76 @@
+-- The stack of cases: what is pushed comes first.
+use Rattle.std.proofs.Common.{◌≡◌, ◌<◌, ◌≤◌, ℕ, suc, arith, ◌+◌, ◌==◌, ◌&&◌, Bool, true, false, cond, List, [], ◌∷◌, ◌++◌, length, get_or, drop, map, refl, ap, sym, ◌∙◌}
+use Rattle.std.specs.Prelude.{filter}
+use Rattle.std.proofs.lemmas.List.{at_drop_more, at_drop_all}
+use Rattle.std.proofs.lemmas.Bool.Decides.{nat_tests}
+use Rattle.tso_model.specs.Litmus.{Litmus}
+use Rattle.tso_model.specs.Condition.{Claim}
+use Rattle.tso_model.specs.declared.execution.Entry.{Entry}
+use Rattle.refutation_laws.specs.Refutations.{is_node, branches, close}
+use Rattle.refutation_laws.specs.declared.model.Model.{Model}
+use Rattle.refutation_laws.specs.Known.{Known}
+use Rattle.refutations.specs.Trees.{known_of, node_of}
+use Rattle.refutations.specs.inner.Stack.{cases_of}
+use Rattle.refutations.specs.declared.answers.Answers.{Answers}
+use Rattle.refutations.specs.declared.tree.Node.{Node}
+
+pub cases-push : (old : List Answers) (a : Answers) → cases_of (old ++ (a ∷ [])) ≡ known_of a ∷ cases_of old
+cases-push [] a = refl
+cases-push (b ∷ old) a = ap (λ ks. ks ++ (known_of b ∷ [])) (cases-push old a)
+
+-- one more case, known to be this
+pub pushed : (before after : List Answers) (a : Answers) (k : Known) → after ≡ before ++ (a ∷ []) → known_of a ≡ k
+    → cases_of after ≡ k ∷ cases_of before
+pushed before after a k e is = ap cases_of e ∙ cases-push before a ∙ ap (λ x. x ∷ cases_of before) is
+
+-- ---- the nodes, one by one
+
+pub kept-one : (p : Entry → Bool) (xs : List Entry) (i n : ℕ) (d : Entry) → n ≡ i + 1 → i < length xs → p (get_or xs i d) ≡ true
+    → filter p (drop i xs) ≡ get_or xs i d ∷ filter p (drop n xs)
+kept-one p xs i n d e within h =
+    at_drop_more (filter p) xs i d within
+    ∙ (ap (λ b. cond b (get_or xs i d ∷ filter p (drop (i + 1) xs)) (filter p (drop (i + 1) xs))) h
+    ∙ ap (λ m. get_or xs i d ∷ filter p (drop m xs)) (sym e))
+
+module _ (model : Model) (t : Litmus) (claim : Claim) (nodes : List Node) (i : ℕ) (s : Node) (within : i < length nodes) (is : s ≡ get_or nodes i s)
+    (old new : List Answers) (a : Answers) (popped : old ≡ new ++ (a ∷ [])) (whole b : Bool) (judged : b ≡ is_node model t claim (known_of a) (node_of s))
+    (so : whole ≡ close model t claim (cases_of old) (map node_of (drop i nodes))) where
+  next : whole
+      ≡ (is_node model t claim (known_of a) (node_of s)
+      && close model t claim (branches t (known_of a) (node_of s) ++ cases_of new) (map node_of (drop (i + 1) nodes)))
+  next =
+      so
+      ∙ (ap (λ ks. close model t claim ks (map node_of (drop i nodes))) (ap cases_of popped ∙ cases-push new a)
+      ∙ (at_drop_more (λ ss. close model t claim (known_of a ∷ cases_of new) (map node_of ss)) nodes i s within
+      ∙ ap (λ x. is_node model t claim (known_of a) (node_of x)
+      && close model t claim (branches t (known_of a) (node_of x) ++ cases_of new) (map node_of (drop (i + 1) nodes))) (sym is)))
+
+  pub wrong-node : b ≡ false → false ≡ whole
+  wrong-node h =
+      sym (next ∙ ap (λ x. x && close model t claim (branches t (known_of a) (node_of s) ++ cases_of new) (map node_of (drop (i + 1) nodes)))
+      (sym judged ∙ h))
+
+  pub right-node : b ≡ true → (newer : List Answers) → cases_of newer ≡ branches t (known_of a) (node_of s) ++ cases_of new
+      → whole ≡ close model t claim (cases_of newer) (map node_of (drop (i + 1) nodes))
+  right-node h newer e =
+      next
+      ∙ (ap (λ x. x && close model t claim (branches t (known_of a) (node_of s) ++ cases_of new) (map node_of (drop (i + 1) nodes)))
+      (sym judged ∙ h)
+      ∙ ap (λ ks. close model t claim ks (map node_of (drop (i + 1) nodes))) (sym e))
+
+-- no node is left
+pub ended : (model : Model) (t : Litmus) (claim : Claim) (nodes : List Node) (i : ℕ) → length nodes ≤ i → (cases : List Answers) (whole empty : Bool)
+    → whole ≡ close model t claim (cases_of cases) (map node_of (drop i nodes)) → (n : ℕ) → n ≡ length cases → empty ≡ (n == 0) → empty ≡ whole
+ended model t claim nodes i all cases whole empty so n size is =
+    is ∙ (ap (λ m. m == 0) size ∙ go cases ∙ sym (so ∙ at_drop_all (λ ss. close model t claim (cases_of cases) (map node_of ss)) nodes i all))
+  where
+    more : (m : ℕ) → (suc m == 0) ≡ false
+    more m = grind (arith, nat_tests)
+
+    none : (ks : List Known) (k : Known) → false ≡ close model t claim (ks ++ (k ∷ [])) []
+    none [] k = refl
+    none (x ∷ ks) k = refl
+
+    go : (cs : List Answers) → (length cs == 0) ≡ close model t claim (cases_of cs) []
+    go [] = refl
+    go (c ∷ cs) = more (length cs) ∙ none (cases_of cs) (known_of c)

@@ -1,0 +1,19 @@
+use Rattle.std.proofs.Common.{◌≡◌, ◌≤◌, ◌++◌, map, drop, length, Some}
+use Rattle.std.specs.Prelude.{filter}
+use Rattle.tso_model.specs.ProgramOrder as program_order
+use Rattle.refutation_laws.specs.Known as known
+use Rattle.refutations.specs.Trees.{known_of}
+use Rattle.refutations.specs.inner.Stack.{cases_of}
+use Rattle.refutations.proofs.checking.add_sources.Given as goal
+
+-- the writes that were gone over have their cases
+abbrev pub invariant-loop-left : goal.invariant-loop-left
+invariant-loop-left l = record {
+  within : l.left ≤ length l.events;
+  cases : cases_of l.cases.items
+      ≡ map (known.with_source (known_of l.answers) l.read) (map (λ w. Some w) (filter (program_order.writes_to l.read.loc.0) (drop l.left l.events)))
+      ++ cases_of l.fn.cases.items;
+}
+
+abbrev pub decreases-loop-left : goal.decreases-loop-left
+decreases-loop-left l = l.left

@@ -1,0 +1,12 @@
+use Rattle.std.proofs.Common.{◌≡◌, [], ◌∷◌, map, drop}
+use Rattle.refutation_laws.specs.Known as known
+use Rattle.refutation_laws.specs.Refutations as spec
+use Rattle.refutations.specs.Trees.{node_of}
+use Rattle.refutations.specs.inner.Stack.{cases_of}
+use Rattle.refutations.proofs.checking.refutes.Given as goal
+
+-- what is left of the nodes is a tree for each open case just where all are one for the first
+abbrev pub invariant-loop-node : goal.invariant-loop-node
+invariant-loop-node l =
+    spec.close l.model l.test (spec.asked l.test.condition) (known.nothing ∷ []) (map node_of l.nodes)
+    ≡ spec.close l.model l.test (spec.asked l.test.condition) (cases_of l.cases.items) (map node_of (drop l.node-index l.nodes))

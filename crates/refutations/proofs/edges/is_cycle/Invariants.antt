@@ -1,0 +1,9 @@
+use Rattle.std.proofs.Common.{◌≡◌, drop}
+use Rattle.refutation_laws.specs.Edges as spec
+use Rattle.refutations.specs.Trees.{known_of, relations_of}
+use Rattle.refutations.proofs.edges.is_cycle.Given as goal
+
+abbrev pub invariant-loop-next : goal.invariant-loop-next
+invariant-loop-next l =
+    spec.is_cycle l.test (spec.is_edge l.test (known_of l.answers) (relations_of l.acyclic)) l.cycle
+    ≡ spec.leads_back (spec.is_edge l.test (known_of l.answers) (relations_of l.acyclic)) l.first l.last (drop l.next-index l.rest)

@@ -1,0 +1,9 @@
+use Rattle.std.proofs.Common.{◌≡◌, ◌++◌, map, drop, []}
+use Rattle.relational_model.specs.Candidates.{events_from}
+use Rattle.refutation_laws.specs.Known as known
+use Rattle.refutations.proofs.events.make_events.Given as goal
+
+abbrev pub invariant-loop-number : goal.invariant-loop-number
+invariant-loop-number l =
+    map known.bare (events_from 0 l.test.programs l.test.registers [])
+    ≡ l.events.items ++ map known.bare (events_from l.number (drop l.number l.test.programs) l.test.registers [])

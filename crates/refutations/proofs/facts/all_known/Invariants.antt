@@ -1,0 +1,7 @@
+use Rattle.std.proofs.Common.{◌≡◌}
+use Rattle.refutation_laws.specs.Values as spec
+use Rattle.refutations.specs.Trees.{known_of}
+use Rattle.refutations.proofs.facts.all_known.Given as goal
+
+abbrev pub invariant-loop-round : goal.invariant-loop-round
+invariant-loop-round l = l.writes.items ≡ spec.known_writes l.test (known_of l.answers) l._round

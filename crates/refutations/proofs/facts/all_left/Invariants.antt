@@ -1,0 +1,12 @@
+use Rattle.std.proofs.Common.{ℕ, ◌≡◌, ◌<◌, [], length, slice_index_or}
+use Rattle.refutation_laws.specs.Values as spec
+use Rattle.refutations.specs.Trees.{known_of}
+use Rattle.refutations.proofs.facts.all_left.Given as goal
+
+abbrev pub invariant-loop-number : goal.invariant-loop-number
+invariant-loop-number l = record {
+  count : length l.left.items ≡ l.number;
+  each : (core : ℕ) → core < l.number → slice_index_or l.left.items core []
+      ≡ spec.left_of (spec.returned l.test l.known (known_of l.answers).sources) core 0 (slice_index_or l.test.programs core [])
+      (spec.first_registers l.test.registers core);
+}

@@ -1,0 +1,14 @@
+use Rattle.std.proofs.Common.{sym, ap, ◌∙◌}
+use Rattle.std.specs.List.{list_any}
+use Rattle.tso_model.specs.ProgramOrder.{writes_to}
+use Rattle.refutation_laws.specs.Values.{can_be}
+use Rattle.refutations.specs.Trees.{known_of}
+use Rattle.refutations.proofs.Last.{words-kept, among}
+use Rattle.refutations.proofs.propositions.word_can_be.Goals as goal
+
+pub returns-then-has_writes : goal.returns-then-has_writes
+returns-then-has_writes c =
+    c.some_write_can_be.ensures
+    ∙ (among c.args.events.now c.args.test.now _ c.requires.events
+    ∙ words-kept c.args.test.now (known_of c.args.answers.now) c.args.loc.0 (can_be c.args.n c.args.truth)
+    (sym (ap (list_any (writes_to c.args.loc.0)) c.requires.events) ∙ (sym c.has_writes.ensures ∙ c.if-has_writes.true)))

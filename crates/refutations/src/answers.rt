@@ -1,0 +1,113 @@
+//! What a branch of a refutation knows: the answers on the way to it. Reads-from, coherence and from-reads follow from these
+//! alone. (Herding Cats, section 4: rf, co and fr.)
+ghost use Rattle.std.specs.Prelude.{◌≡◌, IfOk};
+ghost use Rattle.refutation_laws.specs.Known as spec;
+ghost use Rattle.refutations.specs.Trees.{known_of};
+
+use crate::events::{same_event, writes_to};
+use refutation_laws::{Pair, Source};
+use std::alloc::Global;
+use tso_model::{Entry, NoMemory};
+
+/// The answers of a branch, the last one first.
+#[derive(Drop)]
+pub struct Answers {
+    /// Reads, each with the write that it reads from.
+    pub sources: Vec<Source>,
+    /// Writes to a location, two by two in their coherence order.
+    pub order: Vec<Pair>,
+}
+
+/// No answer.
+pub fn no_answers(alloc: Global) -> Answers
+    ensures { known_of result ≡ spec.nothing }
+{
+    Answers {
+        sources: Vec::new(alloc),
+        order: Vec::new(alloc),
+    }
+}
+
+/// These answers, and one more: what a read reads from. None is the initial write.
+///
+/// Errors: out of memory only.
+pub fn with_source(
+    alloc: Global,
+    answers: &Answers,
+    read: Entry,
+    write: Option<Entry>,
+) -> Result<Answers, NoMemory>
+    ensures { IfOk result (λ a. known_of a ≡ spec.with_source (known_of answers.now) read write) }
+{
+    let mut sources = Vec::new(alloc);
+    sources.push(Source { read, write })?;
+    sources.extend_from_slice(&answers.sources)?;
+    let mut order = Vec::new(alloc);
+    order.extend_from_slice(&answers.order)?;
+    Ok(Answers { sources, order })
+}
+
+/// These answers, and one more: of two writes to a location, which one comes first.
+///
+/// Errors: out of memory only.
+pub fn with_pair(
+    alloc: Global,
+    answers: &Answers,
+    first: Entry,
+    second: Entry,
+) -> Result<Answers, NoMemory>
+    ensures { IfOk result (λ a. known_of a ≡ spec.with_pair (known_of answers.now) first second) }
+{
+    let mut sources = Vec::new(alloc);
+    sources.extend_from_slice(&answers.sources)?;
+    let mut order = Vec::new(alloc);
+    order.push(Pair { first, second })?;
+    order.extend_from_slice(&answers.order)?;
+    Ok(Answers { sources, order })
+}
+
+fn is_write_of(w: &Entry, write: &Option<Entry>) -> bool
+    ensures { result ≡ spec.is_write_of w.now write.now }
+{
+    match write {
+        None => false,
+        Some(v) => same_event(v, w),
+    }
+}
+
+/// Whether it is an answer that r reads from w.
+pub fn reads_from(answers: &Answers, w: &Entry, r: &Entry) -> bool
+    ensures { result ≡ spec.reads_from (known_of answers.now) w.now r.now }
+{
+    answers
+        .sources
+        .iter()
+        .any(|s| same_event(&s.read, r) && is_write_of(w, &s.write))
+}
+
+/// Whether it is an answer that w comes before v in coherence.
+pub fn comes_before(answers: &Answers, w: &Entry, v: &Entry) -> bool
+    ensures { result ≡ spec.comes_before (known_of answers.now) w.now v.now }
+{
+    answers
+        .order
+        .iter()
+        .any(|p| same_event(&p.first, w) && same_event(&p.second, v))
+}
+
+fn is_overwritten(answers: &Answers, r: &Entry, write: &Option<Entry>, v: &Entry) -> bool
+    ensures { result ≡ spec.is_overwritten (known_of answers.now) r.now write.now v.now }
+{
+    match write {
+        None => writes_to(r.loc.0, v),
+        Some(w) => comes_before(answers, w, v),
+    }
+}
+
+/// Whether v comes after what r reads from, by the answers.
+pub fn from_reads(answers: &Answers, r: &Entry, v: &Entry) -> bool
+    ensures { result ≡ spec.from_reads (known_of answers.now) r.now v.now }
+{
+    answers.sources.iter().any(|s| same_event(&s.read, r)
+        && is_overwritten(answers, r, &s.write, v))
+}

@@ -1,0 +1,188 @@
+//! Edges that the answers tell, and the cycles of them that a model forbids. (herd's `x86tso.cat`.)
+ghost use Rattle.std.specs.Prelude.{◌≡◌, ◌&&◌, ◌||◌};
+ghost use Rattle.std.specs.List.{list_any};
+ghost use Rattle.tso_model.specs.ProgramOrder as program_order;
+ghost use Rattle.tso_model.specs.declared.execution.Entry as declared;
+ghost use Rattle.tso_model.specs.declared.execution.Kind.TheVariants.{F};
+ghost use Rattle.relational_model.specs.Relations as access;
+ghost use Rattle.refutation_laws.specs.Known.{events_of};
+ghost use Rattle.refutation_laws.specs.Edges as spec;
+ghost use Rattle.refutation_laws.specs.Shown as shown;
+ghost use Rattle.refutations.specs.Trees.{known_of, relations_of};
+
+use crate::answers::{Answers, comes_before, from_reads, reads_from};
+use crate::events::{
+    are_events, are_parts, is_access, is_before, is_event, is_locked, is_read, is_write,
+    share_location,
+};
+use refutation_laws::{Model, Relation};
+use tso_model::{Entry, Kind, Test};
+
+/// Which relations are acyclic together.
+#[derive(Clone, Copy)]
+pub enum Acyclic {
+    /// Those on one location: uniproc.
+    OnLocation,
+    /// The model's global ones.
+    Globally(Model),
+}
+
+fn is_fenced(test: &Test, events: &[Entry], x: &Entry, y: &Entry) -> bool
+    requires { events.now ≡ events_of test.now }
+    ensures { result ≡ list_any (λ (f : declared.Entry). program_order.same_kind f.kind F && program_order.is_before x.now f
+        && program_order.is_before f y.now) (events_of test.now) }
+{
+    events.iter().any(|f| f.kind == Kind::F && is_before(x, f) && is_before(f, y))
+}
+
+fn is_kept(x: &Entry, y: &Entry) -> bool
+    ensures { result ≡ ((program_order.is_write x.now && program_order.is_write y.now)
+        || (program_order.is_read x.now && access.is_access y.now)) }
+{
+    is_write(x) && is_write(y) || is_read(x) && is_access(y)
+}
+
+/// Whether the answers tell that the relation leads from x to y.
+pub fn relates(
+    test: &Test,
+    events: &[Entry],
+    answers: &Answers,
+    relation: Relation,
+    x: &Entry,
+    y: &Entry,
+) -> bool
+    requires { events.now ≡ events_of test.now }
+    ensures { result ≡ spec.relates test.now (known_of answers.now) relation x.now y.now }
+{
+    match relation {
+        Relation::Po => is_before(x, y),
+        Relation::PoLoc => is_before(x, y) && share_location(x, y),
+        Relation::PoGhb => is_before(x, y) && is_kept(x, y),
+        Relation::Mfence => is_fenced(test, events, x, y),
+        Relation::Implied => {
+            is_before(x, y) && is_write(x) && is_read(y) && (is_locked(x) || is_locked(y))
+        }
+        Relation::Rf => reads_from(answers, x, y),
+        Relation::Rfe => reads_from(answers, x, y) && x.core.0 != y.core.0,
+        Relation::Co => comes_before(answers, x, y),
+        Relation::Fr => from_reads(answers, x, y),
+    }
+}
+
+fn first_of(
+    test: &Test,
+    events: &[Entry],
+    answers: &Answers,
+    relations: &[Relation],
+    x: &Entry,
+    y: &Entry,
+) -> Option<Relation>
+    requires { events.now ≡ events_of test.now }
+    ensures { result ≡ shown.first_of test.now (known_of answers.now) relations.now x.now y.now }
+{
+    for relation in relations {
+        if relates(test, events, answers, *relation, x, y) {
+            return Some(*relation);
+        }
+    }
+    None
+}
+
+/// The relation of an edge: of those that are acyclic together the first that leads from x to y.
+pub fn first_relation(
+    test: &Test,
+    events: &[Entry],
+    answers: &Answers,
+    acyclic: Acyclic,
+    x: &Entry,
+    y: &Entry,
+) -> Option<Relation>
+    requires { events.now ≡ events_of test.now }
+    ensures { result ≡ shown.first_of test.now (known_of answers.now) (relations_of acyclic) x.now y.now }
+{
+    match acyclic {
+        Acyclic::OnLocation => {
+            let relations = [Relation::PoLoc, Relation::Rf, Relation::Co, Relation::Fr];
+            first_of(test, events, answers, &relations, x, y)
+        }
+        Acyclic::Globally(Model::Tso) => {
+            let relations = [
+                Relation::PoGhb,
+                Relation::Mfence,
+                Relation::Implied,
+                Relation::Rfe,
+                Relation::Co,
+                Relation::Fr,
+            ];
+            first_of(test, events, answers, &relations, x, y)
+        }
+        Acyclic::Globally(Model::Sequential) => {
+            let relations = [Relation::Po, Relation::Rf, Relation::Co, Relation::Fr];
+            first_of(test, events, answers, &relations, x, y)
+        }
+    }
+}
+
+/// Whether one of the relations that are acyclic together leads from x to y.
+#[tactic(auto, using(crate::proofs::Relating::found))]
+pub fn leads_to(
+    test: &Test,
+    events: &[Entry],
+    answers: &Answers,
+    acyclic: Acyclic,
+    x: &Entry,
+    y: &Entry,
+) -> bool
+    requires { events.now ≡ events_of test.now }
+    ensures { result ≡ spec.is_edge test.now (known_of answers.now) (relations_of acyclic) x.now y.now }
+{
+    first_relation(test, events, answers, acyclic, x, y).is_some()
+}
+
+/// Whether each of these events leads to the next one, and the last one to the first.
+pub fn is_cycle(
+    test: &Test,
+    events: &[Entry],
+    answers: &Answers,
+    acyclic: Acyclic,
+    cycle: &[Entry],
+) -> bool
+    requires { events.now ≡ events_of test.now }
+    ensures { result ≡ spec.is_cycle test.now (spec.is_edge test.now (known_of answers.now) (relations_of acyclic)) cycle.now }
+{
+    let Some((first, rest)) = cycle.split_first() else {
+        return false;
+    };
+    if !are_events(test, events, cycle) {
+        return false;
+    }
+    let mut last = first;
+    for next in rest {
+        if !leads_to(test, events, answers, acyclic, last, next) {
+            return false;
+        }
+        last = next;
+    }
+    leads_to(test, events, answers, acyclic, last, first)
+}
+
+/// Whether v comes after what the load part r reads from, and before the store part w.
+pub fn is_between(
+    test: &Test,
+    events: &[Entry],
+    answers: &Answers,
+    r: &Entry,
+    v: &Entry,
+    w: &Entry,
+) -> bool
+    requires { events.now ≡ events_of test.now }
+    ensures { result ≡ spec.is_between test.now (known_of answers.now) r.now v.now w.now }
+{
+    is_event(test, events, r)
+        && is_event(test, events, v)
+        && is_event(test, events, w)
+        && are_parts(r, w)
+        && r.core.0 != v.core.0
+        && from_reads(answers, r, v)
+        && comes_before(answers, v, w)
+}

@@ -1,0 +1,109 @@
+//! What the answers of a branch tell of values, kept for the questions on it: the writes whose values are known, and each core's
+//! registers at the end.
+ghost use Rattle.std.specs.Prelude.{ℕ, ◌≡◌, ◌<◌, [], IfOk, length, slice_index_or, true};
+ghost use Rattle.refutation_laws.specs.Known.{events_of};
+ghost use Rattle.refutation_laws.specs.Values as spec;
+ghost use Rattle.refutation_laws.specs.Shown as shown;
+ghost use Rattle.refutations.specs.Trees.{known_of};
+ghost use Rattle.refutations.specs.inner.Facts.{AreFacts};
+
+use crate::answers::Answers;
+use crate::events::is_read;
+use crate::values::{Walk, first_registers, returned, run_all, run_program, value_among};
+use std::alloc::Global;
+use tso_model::{Core, Entry, NoMemory, Test};
+
+/// What is known of values.
+#[derive(Drop)]
+pub struct Facts {
+    pub writes: Vec<Entry>,
+    pub registers: Vec<[Option<u32>; 6]>,
+}
+
+/// What the answers tell of values.
+///
+/// Errors: out of memory only.
+pub fn known_facts(
+    alloc: Global,
+    test: &Test,
+    events: &[Entry],
+    answers: &Answers,
+) -> Result<Facts, NoMemory>
+    requires { events.now ≡ events_of test.now }
+    ensures { IfOk result (AreFacts test.now (known_of answers.now)) }
+{
+    let writes = all_known(alloc, test, events, answers)?;
+    let registers = all_left(alloc, test, &writes, answers)?;
+    Ok(Facts { writes, registers })
+}
+
+fn are_same(xs: &[Entry], ys: &[Entry]) -> bool
+    ensures { result ≡ true → xs.now ≡ ys.now }
+{
+    xs == ys
+}
+
+/// All writes whose values are known: the rounds end where one knows no more than the one before.
+fn all_known(
+    alloc: Global,
+    test: &Test,
+    events: &[Entry],
+    answers: &Answers,
+) -> Result<Vec<Entry>, NoMemory>
+    requires { events.now ≡ events_of test.now }
+    ensures { IfOk result (λ ws. ws.items ≡ spec.all_known test.now (known_of answers.now)) }
+{
+    let mut writes = Vec::new(alloc);
+    for _round in 0..events.len() {
+        let more = run_all(alloc, test, &writes, &answers.sources)?;
+        if are_same(&more, &writes) {
+            return Ok(more);
+        }
+        writes = more;
+    }
+    Ok(writes)
+}
+
+/// The registers of all cores at the end, as far as they are known.
+fn all_left(
+    alloc: Global,
+    test: &Test,
+    known: &[Entry],
+    answers: &Answers,
+) -> Result<Vec<[Option<u32>; 6]>, NoMemory>
+    ensures count { IfOk result (λ left. length left.items ≡ length test.now.programs) }
+    ensures each { IfOk result (λ left. (core : ℕ) → core < length test.now.programs → slice_index_or left.items core []
+        ≡ spec.left_of (spec.returned test.now known.now (known_of answers.now).sources) core 0 (slice_index_or test.now.programs core [])
+        (spec.first_registers test.now.registers core)) }
+{
+    let mut left = Vec::new(alloc);
+    for number in 0..test.cores() {
+        let core = Core(number);
+        let mut walk = Walk {
+            writes: Vec::new(alloc),
+            registers: first_registers(test, core),
+        };
+        run_program(&mut walk, test, known, &answers.sources, core)?;
+        left.push(walk.registers)?;
+    }
+    Ok(left)
+}
+
+/// What is known of the value of an event. A fence has none.
+pub fn value_known(
+    test: &Test,
+    events: &[Entry],
+    answers: &Answers,
+    facts: &Facts,
+    e: &Entry,
+) -> Option<u32>
+    requires events { events.now ≡ events_of test.now }
+    requires facts { AreFacts test.now (known_of answers.now) facts.now }
+    ensures { result ≡ shown.value_known test.now (known_of answers.now) e.now }
+{
+    if is_read(e) {
+        returned(test, &facts.writes, &answers.sources, e)
+    } else {
+        value_among(&facts.writes, e)
+    }
+}

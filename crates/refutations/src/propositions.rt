@@ -1,0 +1,227 @@
+//! What a proposition can be with what the answers tell of the final state.
+ghost use Rattle.std.specs.Prelude.{◌≡◌, ◌<◌, ◌&&◌, IfOk, length, true};
+ghost use Rattle.std.specs.List.{list_any};
+ghost use Rattle.tso_model.specs.ProgramOrder as program_order;
+ghost use Rattle.tso_model.specs.Condition.{NamesExist, claim_of};
+ghost use Rattle.refutation_laws.specs.Known.{events_of};
+ghost use Rattle.refutation_laws.specs.Known as known;
+ghost use Rattle.refutation_laws.specs.Refutations.{asked};
+ghost use Rattle.refutation_laws.specs.Values as spec;
+ghost use Rattle.refutation_laws.specs.declared.known.Pair as declared;
+ghost use Rattle.refutations.specs.Trees.{known_of};
+ghost use Rattle.refutations.specs.inner.Facts.{AreFacts};
+
+use crate::answers::Answers;
+use crate::events::{is_event, same_event, writes_to};
+use crate::facts::Facts;
+use crate::values::{first_word, value_among};
+use refutation_laws::Pair;
+use std::alloc::Global;
+use tso_model::{Core, Entry, Loc, NoMemory, Prop, Quantifier, Reg, Test};
+
+/// Whether `it is n` can have this truth of a number of which this much is known.
+fn can_be(n: u32, truth: bool, value: Option<u32>) -> bool
+    ensures { result ≡ spec.can_be n truth value }
+{
+    match value {
+        None => true,
+        Some(v) => { if truth { v == n } else { v != n } }
+    }
+}
+
+fn has_writes(events: &[Entry], loc: u8) -> bool
+    ensures { result ≡ list_any (program_order.writes_to loc) events.now }
+{
+    events.iter().any(|w| writes_to(loc, w))
+}
+
+fn puts_before(test: &Test, events: &[Entry], w: &Entry, p: &Pair) -> bool
+    requires { events.now ≡ events_of test.now }
+    ensures { result ≡ (known.same_event p.now.first w.now && known.is_event test.now p.now.second) }
+{
+    same_event(&p.first, w) && is_event(test, events, &p.second)
+}
+
+fn is_put_before(test: &Test, events: &[Entry], order: &[Pair], w: &Entry) -> bool
+    requires { events.now ≡ events_of test.now }
+    ensures { result ≡ list_any (λ (p : declared.Pair). known.same_event p.first w.now && known.is_event test.now p.second) order.now }
+{
+    order.iter().any(|p| puts_before(test, events, w, p))
+}
+
+/// Whether an answer puts w before another event.
+fn is_passed(test: &Test, events: &[Entry], answers: &Answers, w: &Entry) -> bool
+    requires { events.now ≡ events_of test.now }
+    ensures { result ≡ list_any (known.comes_before (known_of answers.now) w.now) (events_of test.now) }
+{
+    is_put_before(test, events, &answers.order, w)
+}
+
+fn can_be_last(test: &Test, events: &[Entry], answers: &Answers, loc: u8, w: &Entry) -> bool
+    requires { events.now ≡ events_of test.now }
+    ensures { result ≡ spec.can_be_last test.now (known_of answers.now) loc w.now }
+{
+    writes_to(loc, w) && !is_passed(test, events, answers, w)
+}
+
+fn write_can_be(
+    test: &Test,
+    events: &[Entry],
+    answers: &Answers,
+    facts: &Facts,
+    loc: u8,
+    n: u32,
+    truth: bool,
+    w: &Entry,
+) -> bool
+    requires events { events.now ≡ events_of test.now }
+    requires facts { AreFacts test.now (known_of answers.now) facts.now }
+    ensures { result ≡ (spec.can_be_last test.now (known_of answers.now) loc w.now
+        && spec.can_be n truth (spec.value_among (spec.all_known test.now (known_of answers.now)) w.now)) }
+{
+    can_be_last(test, events, answers, loc, w) && can_be(n, truth, value_among(&facts.writes, w))
+}
+
+fn some_write_can_be(
+    test: &Test,
+    events: &[Entry],
+    answers: &Answers,
+    facts: &Facts,
+    loc: u8,
+    n: u32,
+    truth: bool,
+) -> bool
+    requires events { events.now ≡ events_of test.now }
+    requires facts { AreFacts test.now (known_of answers.now) facts.now }
+    ensures { result ≡ list_any (λ w. spec.can_be_last test.now (known_of answers.now) loc w
+        && spec.can_be n truth (spec.value_among (spec.all_known test.now (known_of answers.now)) w)) events.now }
+{
+    events.iter().any(|w| write_can_be(test, events, answers, facts, loc, n, truth, w))
+}
+
+fn word_can_be(
+    test: &Test,
+    events: &[Entry],
+    answers: &Answers,
+    facts: &Facts,
+    loc: Loc,
+    n: u32,
+    truth: bool,
+) -> bool
+    requires events { events.now ≡ events_of test.now }
+    requires facts { AreFacts test.now (known_of answers.now) facts.now }
+    ensures { result ≡ list_any (spec.can_be n truth) (spec.words_at_end test.now (known_of answers.now) loc.0) }
+{
+    if has_writes(events, loc.0) {
+        some_write_can_be(test, events, answers, facts, loc.0, n, truth)
+    } else {
+        can_be(n, truth, Some(first_word(test, loc)))
+    }
+}
+
+/// What a location's word may be at the end: the value of each write that can be its last one; the
+/// first word, where no write goes there.
+///
+/// Errors: out of memory only.
+pub fn words_at_end(
+    alloc: Global,
+    test: &Test,
+    events: &[Entry],
+    answers: &Answers,
+    facts: &Facts,
+    loc: Loc,
+) -> Result<Vec<Option<u32>>, NoMemory>
+    requires events { events.now ≡ events_of test.now }
+    requires facts { AreFacts test.now (known_of answers.now) facts.now }
+    ensures { IfOk result (λ ws. ws.items ≡ spec.words_at_end test.now (known_of answers.now) loc.0) }
+{
+    let mut words = Vec::new(alloc);
+    if !has_writes(events, loc.0) {
+        words.push(Some(first_word(test, loc)))?;
+        return Ok(words);
+    }
+    for w in events {
+        if can_be_last(test, events, answers, loc.0, w) {
+            words.push(value_among(&facts.writes, w))?;
+        }
+    }
+    Ok(words)
+}
+
+/// What is known of a core's register at the end.
+pub fn register_at_end(
+    test: &Test,
+    answers: &Answers,
+    facts: &Facts,
+    core: Core,
+    reg: Reg,
+) -> Option<u32>
+    requires core { core.0 < length test.now.programs }
+    requires facts { AreFacts test.now (known_of answers.now) facts.now }
+    ensures { result ≡ spec.register_at_end test.now (known_of answers.now) core.0 reg }
+{
+    facts.registers[usize::from(core.0)][reg.index()]
+}
+
+/// Whether the proposition can have this truth in a final state, as far as the answers tell it.
+pub fn allows(
+    test: &Test,
+    events: &[Entry],
+    answers: &Answers,
+    facts: &Facts,
+    prop: &Prop,
+    truth: bool,
+) -> bool
+    requires events { events.now ≡ events_of test.now }
+    requires facts { AreFacts test.now (known_of answers.now) facts.now }
+    requires names { NamesExist (length test.now.programs) (length test.now.words) (claim_of prop.now) }
+    ensures { result ≡ spec.allows test.now (known_of answers.now) (claim_of prop.now) truth }
+{
+    match prop {
+        Prop::Truth(value) => *value == truth,
+        Prop::RegIs(core, reg, value) => {
+            can_be(
+                *value,
+                truth,
+                register_at_end(test, answers, facts, *core, *reg),
+            )
+        }
+        Prop::LocIs(loc, value) => word_can_be(test, events, answers, facts, *loc, *value, truth),
+        Prop::Not(inner) => allows(test, events, answers, facts, inner, !truth),
+        Prop::And(left, right) => {
+            if truth {
+                allows(test, events, answers, facts, left, true)
+                    && allows(test, events, answers, facts, right, true)
+            } else {
+                allows(test, events, answers, facts, left, false)
+                    || allows(test, events, answers, facts, right, false)
+            }
+        }
+        Prop::Or(left, right) => {
+            if truth {
+                allows(test, events, answers, facts, left, true)
+                    || allows(test, events, answers, facts, right, true)
+            } else {
+                allows(test, events, answers, facts, left, false)
+                    && allows(test, events, answers, facts, right, false)
+            }
+        }
+    }
+}
+
+/// Whether what the test asks can be true, as far as the answers tell the final state: the proposition
+/// of `exists` or `~exists`; that of `forall` false; without a condition always.
+pub fn can_be_met(test: &Test, events: &[Entry], answers: &Answers, facts: &Facts) -> bool
+    requires events { events.now ≡ events_of test.now }
+    requires facts { AreFacts test.now (known_of answers.now) facts.now }
+    ensures { result ≡ spec.allows test.now (known_of answers.now) (asked test.now.condition) true }
+{
+    let Some(cond) = test.cond() else {
+        return true;
+    };
+    match cond.quantifier {
+        Quantifier::Exists => allows(test, events, answers, facts, &cond.prop, true),
+        Quantifier::NotExists => allows(test, events, answers, facts, &cond.prop, true),
+        Quantifier::Forall => allows(test, events, answers, facts, &cond.prop, false),
+    }
+}

@@ -1,0 +1,241 @@
+//! Values that the answers tell: the programs run with registers that are known or not.
+ghost use Rattle.std.specs.Prelude.{ℕ, ◌≡◌, ◌<◌, ◌+◌, List, [], ◌∷◌, ◌++◌, IfOk, length, slice_index, slice_index_or};
+ghost use Rattle.tso_model.specs.declared.instruction.Instr.{Instr};
+ghost use Rattle.refutation_laws.specs.Values as spec;
+
+use crate::events::same_event;
+use refutation_laws::Source;
+use std::alloc::Global;
+use tso_model::{Action, Core, Entry, Instr, Kind, Loc, NoMemory, Operand, Test, Update};
+
+/// A program that is run with what is known: the writes whose values are, and the registers.
+#[derive(Drop)]
+pub struct Walk {
+    pub writes: Vec<Entry>,
+    pub registers: [Option<u32>; 6],
+}
+
+fn known_operand(registers: &[Option<u32>; 6], operand: Operand) -> Option<u32>
+    ensures { result ≡ spec.known_operand registers.now operand }
+{
+    match operand {
+        Operand::Number(value) => Some(value),
+        Operand::Held(reg) => registers[reg.index()],
+    }
+}
+
+fn known_update(update: Update, word: Option<u32>, value: Option<u32>) -> Option<u32>
+    ensures { result ≡ spec.known_update update word value }
+{
+    match update {
+        Update::Exchange => value,
+        Update::Add => match (word, value) {
+            (Some(word), Some(value)) => Some(Update::Add.apply(word, value)),
+            _ => None,
+        },
+    }
+}
+
+/// The value of a write among those that are known.
+pub fn value_among(writes: &[Entry], w: &Entry) -> Option<u32>
+    ensures { result ≡ spec.value_among writes.now w.now }
+{
+    for x in writes {
+        if same_event(x, w) {
+            return Some(x.value);
+        }
+    }
+    None
+}
+
+fn returned_from(test: &Test, writes: &[Entry], r: &Entry, write: &Option<Entry>) -> Option<u32>
+    ensures { result ≡ spec.returned_from test.now writes.now r.now write.now }
+{
+    match write {
+        None => Some(first_word(test, r.loc)),
+        Some(w) => value_among(writes, w),
+    }
+}
+
+/// The first word of a location, and 0 where there is no such location.
+pub fn first_word(test: &Test, loc: Loc) -> u32
+    ensures { result ≡ slice_index test.now.words loc.0 }
+{
+    test.initial_words()
+        .get(usize::from(loc.0))
+        .copied()
+        .unwrap_or(0)
+}
+
+/// What is known of what a read returns, where these writes are known.
+pub fn returned(test: &Test, writes: &[Entry], sources: &[Source], r: &Entry) -> Option<u32>
+    ensures { result ≡ spec.returned test.now writes.now sources.now r.now }
+{
+    for s in sources {
+        if same_event(&s.read, r) {
+            return returned_from(test, writes, r, &s.write);
+        }
+    }
+    None
+}
+
+fn word_given(
+    test: &Test,
+    writes: &[Entry],
+    sources: &[Source],
+    core: Core,
+    place: u8,
+    action: Action,
+) -> Option<u32>
+    ensures { result ≡ spec.word_given (spec.returned test.now writes.now sources.now) core.0 place action }
+{
+    let (kind, loc) = match action {
+        Action::Load(_, loc) => (Kind::R, loc),
+        Action::Lock(loc, _, _) => (Kind::LR, loc),
+        _ => return None,
+    };
+    let read = Entry {
+        core,
+        place,
+        kind,
+        loc,
+        value: 0,
+    };
+    returned(test, writes, sources, &read)
+}
+
+fn note(
+    walk: &mut Walk,
+    core: Core,
+    place: u8,
+    kind: Kind,
+    loc: Loc,
+    value: Option<u32>,
+) -> Result<(), NoMemory>
+    ensures writes { IfOk result (λ _. walk.new.writes.items ≡ walk.old.writes.items ++ spec.write_with core.0 place kind loc value) }
+    ensures registers { walk.new.registers ≡ walk.old.registers }
+{
+    if let Some(value) = value {
+        walk.writes.push(Entry {
+            core,
+            place,
+            kind,
+            loc,
+            value,
+        })?;
+    }
+    Ok(())
+}
+
+/// Does what an action does, where `word` is known of what it reads.
+fn act(
+    walk: &mut Walk,
+    core: Core,
+    place: u8,
+    action: Action,
+    word: Option<u32>,
+) -> Result<(), NoMemory>
+    ensures writes { IfOk result (λ _. walk.new.writes.items ≡ walk.old.writes.items ++ spec.writes_by core.0 place action walk.old.registers word) }
+    ensures registers { IfOk result (λ _. walk.new.registers ≡ spec.left_by action walk.old.registers word) }
+{
+    match action {
+        Action::Store(loc, operand) => {
+            let value = known_operand(&walk.registers, operand);
+            note(walk, core, place, Kind::W, loc, value)?;
+        }
+        Action::Load(reg, _) => walk.registers[reg.index()] = word,
+        Action::Move(reg, operand) => {
+            walk.registers[reg.index()] = known_operand(&walk.registers, operand);
+        }
+        Action::Fence => {}
+        Action::Lock(loc, reg, update) => {
+            let value = known_update(update, word, walk.registers[reg.index()]);
+            note(walk, core, place, Kind::LW, loc, value)?;
+            walk.registers[reg.index()] = word;
+        }
+    }
+    Ok(())
+}
+
+/// Runs one instruction.
+fn run_instruction(
+    walk: &mut Walk,
+    test: &Test,
+    before: &[Entry],
+    sources: &[Source],
+    core: Core,
+    place: u8,
+    instr: Instr,
+) -> Result<(), NoMemory>
+    ensures writes { IfOk result (λ _. (rest : List Instr)
+        → walk.old.writes.items ++ spec.writes_of (spec.returned test.now before.now sources.now) core.0 place (instr ∷ rest) walk.old.registers
+        ≡ walk.new.writes.items ++ spec.writes_of (spec.returned test.now before.now sources.now) core.0 (place + 1) rest walk.new.registers) }
+    ensures registers { IfOk result (λ _. (rest : List Instr)
+        → spec.left_of (spec.returned test.now before.now sources.now) core.0 place (instr ∷ rest) walk.old.registers
+        ≡ spec.left_of (spec.returned test.now before.now sources.now) core.0 (place + 1) rest walk.new.registers) }
+{
+    let action = instr.action();
+    let word = word_given(test, before, sources, core, place, action);
+    act(walk, core, place, action, word)
+}
+
+/// Runs a core's program, where these writes are known before.
+pub fn run_program(
+    walk: &mut Walk,
+    test: &Test,
+    before: &[Entry],
+    sources: &[Source],
+    core: Core,
+) -> Result<(), NoMemory>
+    requires { core.0 < length test.now.programs }
+    ensures writes { IfOk result (λ _. walk.new.writes.items ≡ walk.old.writes.items
+        ++ spec.writes_of (spec.returned test.now before.now sources.now) core.0 0 (slice_index_or test.now.programs core.0 []) walk.old.registers) }
+    ensures registers { IfOk result (λ _. walk.new.registers
+        ≡ spec.left_of (spec.returned test.now before.now sources.now) core.0 0 (slice_index_or test.now.programs core.0 []) walk.old.registers) }
+{
+    let mut place = 0;
+    for instr in test.program(core) {
+        run_instruction(walk, test, before, sources, core, place, *instr)?;
+        place += 1;
+    }
+    Ok(())
+}
+
+/// A core's registers at first, each known.
+pub fn first_registers(test: &Test, core: Core) -> [Option<u32>; 6]
+    requires { core.0 < length test.now.programs }
+    ensures { result ≡ spec.first_registers test.now.registers core.0 }
+{
+    let first = test.initial_registers(core);
+    [
+        Some(first[0]),
+        Some(first[1]),
+        Some(first[2]),
+        Some(first[3]),
+        Some(first[4]),
+        Some(first[5]),
+    ]
+}
+
+/// Runs all programs, where these writes are known before: the writes that are then.
+pub fn run_all(
+    alloc: Global,
+    test: &Test,
+    before: &[Entry],
+    sources: &[Source],
+) -> Result<Vec<Entry>, NoMemory>
+    ensures { IfOk result (λ ws. ws.items
+        ≡ spec.writes_from (spec.returned test.now before.now sources.now) 0 test.now.programs test.now.registers) }
+{
+    let mut writes = Vec::new(alloc);
+    for number in 0..test.cores() {
+        let core = Core(number);
+        let mut walk = Walk {
+            writes,
+            registers: first_registers(test, core),
+        };
+        run_program(&mut walk, test, before, sources, core)?;
+        writes = walk.writes;
+    }
+    Ok(writes)
+}
