@@ -74,7 +74,7 @@ core-of-events core (p ∷ ps) registers reads x i =
         omega arith
     go (inr b) later = let l : core + 1 ≤ x.core.0 = later b in omega arith
 
-once-events : (core : ℕ) (ps : List (List Instr)) (registers reads : List (List ℕ)) → Once (events_from core ps registers reads)
+pub once-events : (core : ℕ) (ps : List (List Instr)) (registers reads : List (List ℕ)) → Once (events_from core ps registers reads)
 once-events core [] registers reads = tt
 once-events core (p ∷ ps) registers reads =
     once-append (entries_of core 0 p (slice_index_or registers core []) (slice_index_or reads core []))

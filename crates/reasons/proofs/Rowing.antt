@@ -1,0 +1,228 @@
+-- A full case that no leaf closes: all of its events can be put in a row; and a write between two parts is found where there is one.
+use Rattle.std.proofs.Common.{◌≡◌, ◌&&◌, ℕ, Bool, true, false, not, if◌then◌else◌, List, [], ◌∷◌, length, Option, Some, None, map, filter, arith, refl, sym, ap, ◌∙◌, ◌⊎◌, inl, inr, subst}
+use Rattle.std.specs.List.{list_any}
+use Rattle.tso_model.specs.Litmus.{Litmus, IsTest, IsCondition}
+use Rattle.tso_model.specs.Condition.{Claim, Condition, NamesExist}
+use Rattle.tso_model.specs.declared.condition.Quantifier.{Quantifier}
+use Rattle.tso_model.specs.declared.condition.Quantifier.TheVariants.{Exists, NotExists, Forall}
+use Rattle.tso_model.specs.declared.execution.Entry.{Entry}
+use Rattle.relational_model.specs.Events.{IsIn}
+use Rattle.relational_model.specs.Candidates.{Candidate, events_from}
+use Rattle.relational_model.proofs.Lists.{in-case, in-none, in-first, in-later, in-filter, filter-in}
+use Rattle.relational_model.proofs.KindFacts.{and-both}
+use Rattle.relational_model.proofs.Sizes.{Once, once-filter}
+use Rattle.relational_model.proofs.Events.{once-events}
+use Rattle.relational_model.proofs.Sorting.{Ordered}
+use Rattle.refutation_laws.specs.Known.{Known, bare, events_of}
+use Rattle.refutation_laws.specs.Edges.{on_location, global_in, is_edge, are_parts, is_between}
+use Rattle.refutation_laws.specs.Values.{allows}
+use Rattle.refutation_laws.specs.Refutations.{is_node, asked, asked_by}
+use Rattle.refutation_laws.specs.Models.{IsMet}
+use Rattle.refutation_laws.specs.inner.FullCases.{IsFull, IsSound}
+use Rattle.refutation_laws.specs.declared.model.Model.{Model}
+use Rattle.refutation_laws.specs.inner.Orders.{comes_toward, is_load_part, IsRow, valued, with_loads, order_of}
+use Rattle.refutation_laws.proofs.Building.{one-event}
+use Rattle.refutation_laws.proofs.Allowing.{NoneBetween}
+use Rattle.refutation_laws.proofs.Progress.{never-stuck}
+use Rattle.refutation_laws.proofs.Settling.{IsOpen}
+use Rattle.refutation_laws.proofs.Completeness.{six-of}
+use Rattle.refutation_laws.proofs.Ordering.{row-is-met}
+use Rattle.refutations.specs.Trees.{node_of}
+use Rattle.refutations.specs.declared.tree.Node.{Node}
+use Rattle.refutations.specs.declared.tree.Node.TheVariants.{Between}
+use Rattle.reasons.specs.Reasons.{is_leaf}
+use Rattle.reasons.specs.inner.Precedence.{IsSorted}
+use Rattle.reasons.specs.inner.Cases.{IsLeafless, LeafOrNone, first_of_two, between_these, between_from, first_between}
+
+-- ---- each event of a test once
+
+in-bare : (xs : List Entry) (y : Entry) → IsIn (map bare xs) y → (x : Entry) × (IsIn xs x × (y ≡ bare x))
+in-bare [] y i = absurd (in-none y i)
+in-bare (x ∷ xs) y i = go (in-case (bare x) (map bare xs) y i) (λ j. in-bare xs y j)
+  where
+    go : (y ≡ bare x) ⊎ IsIn (map bare xs) y → (IsIn (map bare xs) y → (z : Entry) × (IsIn xs z × (y ≡ bare z)))
+        → (z : Entry) × (IsIn (x ∷ xs) z × (y ≡ bare z))
+    go (inl e) later = (x, (in-first x xs x refl, e))
+    go (inr j) later = let m = later j in (m.0, (in-later x xs m.0 m.1.0, m.1.1))
+
+once-bare : (xs : List Entry) → Once xs → ((x y : Entry) → IsIn xs x → IsIn xs y → bare x ≡ bare y → x ≡ y) → Once (map bare xs)
+once-bare [] o one = tt
+once-bare (x ∷ xs) o one = (
+  (λ i.
+      let m = in-bare xs (bare x) i in
+      o.0 (subst (IsIn xs) (sym (one x m.0 (in-first x xs x refl) (in-later x xs m.0 m.1.0) m.1.1)) m.1.0)),
+  once-bare xs o.1 (λ y z i j e. one y z (in-later x xs y i) (in-later x xs z j) e),
+)
+
+each-once : (t : Litmus) → Once (events_of t)
+each-once t =
+    once-bare (events_from 0 t.programs t.registers []) (once-events 0 t.programs t.registers []) (λ x y i j e. one-event t [] x y i j e)
+
+-- ---- the row
+
+is-not : (b : Bool) → not b ≡ true → b ≡ false
+is-not true h = let z : ⊥ = cc in absurd z
+is-not false h = refl
+
+abbrev pub open-case : (model : Model) (t : Litmus) (k : Known) → IsTest t → IsFull t k → IsLeafless model t k → IsOpen model t k
+open-case model t k test f u = record { full = f; six = six-of t test; within_locations = u.on_location; globally = u.globally }
+
+whole-row : (model : Model) (t : Litmus) (k : Known) → IsTest t → IsFull t k → IsSound t k → IsLeafless model t k → (others row rest : List Entry)
+    → others ≡ filter (λ e. not (is_load_part e)) (events_of t) → IsSorted (comes_toward model t k) others row rest → IsRow model t k row
+whole-row model t k test f d u others row rest is s = record {
+  inside = λ x i. other x (s.parted.in_row x i);
+  whole = λ x i n. on x (s.parted.whole x (subst (λ es. IsIn es x) (sym is) (filter-in (λ e. not (is_load_part e)) (events_of t) x i (ap not n))));
+  once = s.parted.once (subst Once (sym is) (once-filter (λ e. not (is_load_part e)) (events_of t) (each-once t)));
+  forward = s.parted.forward;
+}
+  where
+    other : (x : Entry) → IsIn others x → IsIn (events_of t) x × (is_load_part x ≡ false)
+    other x i =
+        let m = in-filter (λ e. not (is_load_part e)) (events_of t) x (subst (λ es. IsIn es x) is i) in
+        (m.0, is-not (is_load_part x) m.1)
+
+    on : (x : Entry) → IsIn row x ⊎ IsIn rest x → IsIn row x
+    on x (inl i) = i
+    on x (inr i) =
+        absurd (never-stuck model t k (open-case model t k test f u) u.none_between d rest (λ y j. other y (s.parted.in_rest y j)) s.stuck x i)
+
+-- with its values and its load parts it is an execution in which what is asked is true
+pub row-met : (model : Model) (t : Litmus) (k : Known) → IsTest t → IsFull t k → IsSound t k → IsLeafless model t k → (others row rest order : List Entry)
+    → others ≡ filter (λ e. not (is_load_part e)) (events_of t) → IsSorted (comes_toward model t k) others row rest → order ≡ order_of t k row
+    → IsMet model t (asked t.condition) order
+row-met model t k test f d u others row rest order is s so =
+    subst (IsMet model t (asked t.condition)) (sym so)
+    (row-is-met model t k (open-case model t k test f u) u.none_between (asked t.condition) (named t t.condition test refl) u.can_be row
+    (whole-row model t k test f d u others row rest is s))
+  where
+    asked-names : (cores locations : ℕ) (q : Quantifier) (claim : Claim) → NamesExist cores locations claim
+        → NamesExist cores locations (asked_by q claim)
+    asked-names cores locations Exists claim n = n
+    asked-names cores locations NotExists claim n = n
+    asked-names cores locations Forall claim n = n
+
+    named : (t : Litmus) (d : Option Condition) → IsTest t → t.condition ≡ d → NamesExist (length t.programs) (length t.words) (asked d)
+    named t None test e = tt
+    named t (Some d) test e =
+        let f : IsCondition (length t.programs) (length t.locations) d = test.condition_fits d e in
+        asked-names (length t.programs) (length t.words) d.quantifier d.claim
+        (subst (λ n. NamesExist (length t.programs) n d.claim) (sym test.words_given) f.names_known)
+
+-- the same, by the steps of the code
+pub order-met : (model : Model) (t : Litmus) (k : Known) → IsTest t → IsFull t k → IsSound t k → IsLeafless model t k
+    → (es others now row rest now2 loaded now3 order : List Entry) → es ≡ events_of t → others ≡ filter (λ e. not (is_load_part e)) es → now ≡ others
+    → IsSorted (comes_toward model t k) now row rest → now2 ≡ row → loaded ≡ with_loads es now2 → now3 ≡ loaded → order ≡ map (valued t k) now3
+    → IsMet model t (asked t.condition) order
+order-met model t k test f d u es others now row rest now2 loaded now3 order e o a s b l q v =
+    row-met model t k test f d u others row rest order (o ∙ ap (filter (λ x. not (is_load_part x))) e)
+    (subst (λ xs. IsSorted (comes_toward model t k) xs row rest) a s)
+    (v ∙ ap (map (valued t k)) (q ∙ (l ∙ (ap (λ xs. with_loads xs now2) e ∙ ap (with_loads (events_of t)) b))))
+
+-- ---- a write between two parts
+
+record IsBetween (t : Litmus) (k : Known) (n : Node) : Type 0 where
+  read : Entry
+  between : Entry
+  write : Entry
+  is : Between read between write ≡ n
+  holds : is_between t k read between write ≡ true
+
+these-found : (t : Litmus) (k : Known) (r w : Entry) (vs : List Entry) (n : Node) → between_these t k r w vs ≡ Some n → IsBetween t k n
+these-found t k r w [] n e = let z : ⊥ = cc in absurd z
+these-found t k r w (v ∷ vs) n e = go (is_between t k r v w) refl e (λ f. these-found t k r w vs n f)
+  where
+    go : (b : Bool) → is_between t k r v w ≡ b → (if b then Some (Between r v w) else between_these t k r w vs) ≡ Some n
+        → (between_these t k r w vs ≡ Some n → IsBetween t k n) → IsBetween t k n
+    go true q f later = record { read = r; between = v; write = w; is = let z : Between r v w ≡ n = cc in z; holds = q }
+    go false q f later = later f
+
+none-of-these : (t : Litmus) (k : Known) (r w : Entry) (vs : List Entry) → between_these t k r w vs ≡ None → (v : Entry) → IsIn vs v
+    → is_between t k r v w ≡ true → ⊥
+none-of-these t k r w [] e v i h = in-none v i
+none-of-these t k r w (x ∷ vs) e v i h = go (is_between t k r x w) refl e (in-case x vs v i) (λ f j. none-of-these t k r w vs f v j h)
+  where
+    go : (b : Bool) → is_between t k r x w ≡ b → (if b then Some (Between r x w) else between_these t k r w vs) ≡ None
+        → (v ≡ x) ⊎ IsIn vs v → (between_these t k r w vs ≡ None → IsIn vs v → ⊥) → ⊥
+    go true q f j later = let z : ⊥ = cc in z
+    go false q f (inl s) later = let g : is_between t k r x w ≡ true = subst (λ z. is_between t k r z w ≡ true) s h in let z : ⊥ = cc in z
+    go false q f (inr j) later = later f j
+
+two-found : (t : Litmus) (k : Known) (a b : Option Node) (n : Node) → first_of_two a b ≡ Some n → (a ≡ Some n → IsBetween t k n)
+    → (b ≡ Some n → IsBetween t k n) → IsBetween t k n
+two-found t k (Some m) b n e f g = f e
+two-found t k None b n e f g = g e
+
+none-of-two : (a b : Option Node) → first_of_two a b ≡ None → (a ≡ None) × (b ≡ None)
+none-of-two (Some m) b e = let z : ⊥ = cc in absurd z
+none-of-two None b e = (refl, e)
+
+from-found : (t : Litmus) (k : Known) (r : Entry) (ws es : List Entry) (n : Node) → between_from t k r ws es ≡ Some n → IsBetween t k n
+from-found t k r [] es n e = let z : ⊥ = cc in absurd z
+from-found t k r (w ∷ ws) es n e = go (are_parts r w) e (λ f. from-found t k r ws es n f)
+  where
+    go : (b : Bool) → (if b then first_of_two (between_these t k r w es) (between_from t k r ws es) else between_from t k r ws es) ≡ Some n
+        → (between_from t k r ws es ≡ Some n → IsBetween t k n) → IsBetween t k n
+    go true f later = two-found t k (between_these t k r w es) (between_from t k r ws es) n f (λ g. these-found t k r w es n g) later
+    go false f later = later f
+
+none-from : (t : Litmus) (k : Known) (r : Entry) (ws es : List Entry) → between_from t k r ws es ≡ None → (w v : Entry) → IsIn ws w → IsIn es v
+    → is_between t k r v w ≡ true → ⊥
+none-from t k r [] es e w v i j h = in-none w i
+none-from t k r (x ∷ ws) es e w v i j h = go (are_parts r x) refl e (in-case x ws w i) (λ f l. none-from t k r ws es f w v l j h)
+  where
+    parts : (y : Entry) → is_between t k r v y ≡ true → are_parts r y ≡ true
+    parts y q =
+        let a = and-both _ _ q in
+        let b = and-both _ _ a.0 in
+        let d = and-both _ _ b.0 in
+        (and-both _ (are_parts r y) d.0).1
+
+    go : (b : Bool) → are_parts r x ≡ b
+        → (if b then first_of_two (between_these t k r x es) (between_from t k r ws es) else between_from t k r ws es) ≡ None
+        → (w ≡ x) ⊎ IsIn ws w → (between_from t k r ws es ≡ None → IsIn ws w → ⊥) → ⊥
+    go true q f (inl s) later =
+        none-of-these t k r x es (none-of-two (between_these t k r x es) (between_from t k r ws es) f).0 v j
+        (subst (λ z. is_between t k r v z ≡ true) s h)
+    go true q f (inr l) later = later (none-of-two (between_these t k r x es) (between_from t k r ws es) f).1 l
+    go false q f (inl s) later =
+        let g : are_parts r x ≡ true = parts x (subst (λ z. is_between t k r v z ≡ true) s h) in let z : ⊥ = cc in z
+    go false q f (inr l) later = later f l
+
+first-found : (t : Litmus) (k : Known) (rs es : List Entry) (n : Node) → first_between t k rs es ≡ Some n → IsBetween t k n
+first-found t k [] es n e = let z : ⊥ = cc in absurd z
+first-found t k (r ∷ rs) es n e =
+    two-found t k (between_from t k r es es) (first_between t k rs es) n e (λ f. from-found t k r es es n f) (λ f. first-found t k rs es n f)
+
+none-first : (t : Litmus) (k : Known) (rs es : List Entry) → first_between t k rs es ≡ None → (r v w : Entry) → IsIn rs r → IsIn es v → IsIn es w
+    → is_between t k r v w ≡ true → ⊥
+none-first t k [] es e r v w i j l h = in-none r i
+none-first t k (x ∷ rs) es e r v w i j l h = go (in-case x rs r i) (λ f m. none-first t k rs es f r v w m j l h)
+  where
+    two : (between_from t k x es es ≡ None) × (first_between t k rs es ≡ None)
+    two = none-of-two (between_from t k x es es) (first_between t k rs es) e
+
+    go : (r ≡ x) ⊎ IsIn rs r → (first_between t k rs es ≡ None → IsIn rs r → ⊥) → ⊥
+    go (inl s) later = none-from t k x es es two.0 w v l j (subst (λ z. is_between t k z v w ≡ true) s h)
+    go (inr m) later = later two.1 m
+
+pub found-between : (model : Model) (t : Litmus) (claim : Claim) (k : Known) (n : Node) → first_between t k (events_of t) (events_of t) ≡ Some n
+    → (is_node model t claim k (node_of n) ≡ true) × (is_leaf (node_of n) ≡ true)
+found-between model t claim k n e =
+    let m = first-found t k (events_of t) (events_of t) n e in
+    subst (λ z. (is_node model t claim k (node_of z) ≡ true) × (is_leaf (node_of z) ≡ true)) m.is (m.holds, refl)
+
+pub none-is-between : (t : Litmus) (k : Known) → first_between t k (events_of t) (events_of t) ≡ None → NoneBetween t k
+none-is-between t k e = λ r v w i j l h. none-first t k (events_of t) (events_of t) e r v w i j l h
+
+-- the last leaf that is looked for
+pub leaf-or-none : (model : Model) (t : Litmus) (k : Known) (es : List Entry) → es ≡ events_of t
+    → Ordered (λ x y. is_edge t k on_location x y ≡ true) (events_of t) → Ordered (λ x y. is_edge t k (global_in model) x y ≡ true) (events_of t)
+    → allows t k (asked t.condition) true ≡ true → (o : Option Node) → o ≡ first_between t k es es → LeafOrNone model t k o
+leaf-or-none model t k es e l g a (Some n) h =
+    found-between model t (asked t.condition) k n (ap (λ xs. first_between t k xs xs) (sym e) ∙ sym h)
+leaf-or-none model t k es e l g a None h = record {
+  on_location = l;
+  globally = g;
+  none_between = none-is-between t k (ap (λ xs. first_between t k xs xs) (sym e) ∙ sym h);
+  can_be = a;
+}

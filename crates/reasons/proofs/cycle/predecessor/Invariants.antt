@@ -1,0 +1,9 @@
+use Rattle.std.proofs.Common.{◌≡◌, true, drop}
+use Rattle.std.specs.List.{list_any}
+use Rattle.refutation_laws.specs.Edges.{is_edge}
+use Rattle.refutations.specs.Trees.{known_of, relations_of}
+use Rattle.reasons.proofs.cycle.predecessor.Given as goal
+
+-- it is still to come
+abbrev pub invariant-loop-y : goal.invariant-loop-y
+invariant-loop-y l = list_any (λ y. is_edge l.test (known_of l.answers) (relations_of l.acyclic) y l.x) (drop l.y-index l.some) ≡ true

@@ -1,0 +1,11 @@
+use Rattle.std.proofs.Common.{◌-◌, length}
+use Rattle.refutation_laws.specs.Edges.{is_edge}
+use Rattle.refutations.specs.Trees.{known_of, relations_of}
+use Rattle.reasons.proofs.Walking.{IsWalk}
+use Rattle.reasons.proofs.cycle.walk_back.Given as goal
+
+abbrev pub invariant-loop-path : goal.invariant-loop-path
+invariant-loop-path l = IsWalk (is_edge l.test (known_of l.answers) (relations_of l.acyclic)) l.some l.path.items l.at
+
+abbrev pub decreases-loop-path : goal.decreases-loop-path
+decreases-loop-path l = length l.some - length l.path.items

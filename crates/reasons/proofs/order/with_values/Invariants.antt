@@ -1,0 +1,8 @@
+use Rattle.std.proofs.Common.{◌≡◌, ◌++◌, map, drop}
+use Rattle.refutation_laws.specs.inner.Orders as spec
+use Rattle.refutations.specs.Trees.{known_of}
+use Rattle.reasons.proofs.order.with_values.Given as goal
+
+abbrev pub invariant-loop-e : goal.invariant-loop-e
+invariant-loop-e l =
+    map (spec.valued l.test (known_of l.answers)) l.row ≡ l.order.items ++ map (spec.valued l.test (known_of l.answers)) (drop l.e-index l.row)

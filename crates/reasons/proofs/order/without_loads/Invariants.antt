@@ -1,0 +1,8 @@
+use Rattle.std.proofs.Common.{◌≡◌, ◌++◌, not, drop}
+use Rattle.std.specs.Prelude.{filter}
+use Rattle.refutation_laws.specs.inner.Orders as spec
+use Rattle.reasons.proofs.order.without_loads.Given as goal
+
+abbrev pub invariant-loop-e : goal.invariant-loop-e
+invariant-loop-e l =
+    filter (λ e. not (spec.is_load_part e)) l.events ≡ l.others.items ++ filter (λ e. not (spec.is_load_part e)) (drop l.e-index l.events)

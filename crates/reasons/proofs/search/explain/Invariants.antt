@@ -1,0 +1,15 @@
+use Rattle.std.proofs.Common.{◌≤◌, map}
+use Rattle.refutations.specs.Trees.{node_of}
+use Rattle.refutations.specs.inner.Stack.{cases_of}
+use Rattle.reasons.proofs.Weighing.{total}
+use Rattle.reasons.proofs.Searching.{IsSearch}
+use Rattle.reasons.proofs.search.explain.Given as goal
+
+abbrev pub invariant-loop-answers : goal.invariant-loop-answers
+invariant-loop-answers l = record {
+  search : IsSearch l.model l.test (cases_of l.cases.items) (map node_of l.nodes.items) l.leaves;
+  few : l.leaves ≤ l.limit;
+}
+
+abbrev pub decreases-loop-answers : goal.decreases-loop-answers
+decreases-loop-answers l = total 1 l.test (cases_of l.cases.items)

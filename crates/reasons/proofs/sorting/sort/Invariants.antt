@@ -1,0 +1,10 @@
+use Rattle.std.proofs.Common.{length}
+use Rattle.refutations.specs.Trees.{known_of}
+use Rattle.reasons.specs.inner.Precedence.{edge_in, IsParted}
+use Rattle.reasons.proofs.sorting.sort.Given as goal
+
+abbrev pub invariant-loop-rest : goal.invariant-loop-rest
+invariant-loop-rest l = IsParted (edge_in l.test (known_of l.answers) l.precedence) l.some l.row.items l.rest.items
+
+abbrev pub decreases-loop-rest : goal.decreases-loop-rest
+decreases-loop-rest l = length l.rest.items

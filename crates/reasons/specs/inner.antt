@@ -1,0 +1,5 @@
+-- Words of contracts inside the crate.
+pub mod Questions
+pub mod Precedence
+pub mod Cycles
+pub mod Cases

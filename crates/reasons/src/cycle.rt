@@ -1,0 +1,107 @@
+//! A cycle of the edges that the answers tell, or a row of the events in which each of these edges goes forward.
+ghost use Rattle.std.specs.Prelude.{◌≡◌, ◌<◌, true, IfOk, length, option_map};
+ghost use Rattle.std.specs.List.{list_any};
+ghost use Rattle.tso_model.specs.declared.execution.Entry as declared;
+ghost use Rattle.relational_model.specs.Events.{IsIn};
+ghost use Rattle.refutation_laws.specs.Known.{events_of};
+ghost use Rattle.refutation_laws.specs.Edges as edges;
+ghost use Rattle.refutations.specs.Trees.{known_of, relations_of};
+ghost use Rattle.reasons.specs.inner.Cycles.{up_to, CycleOrRow};
+
+use crate::sorting::{Precedence, sort};
+use refutations::events::same_event;
+use refutations::{Acyclic, Answers, leads_to};
+use std::alloc::Global;
+use tso_model::{Entry, NoMemory, Test};
+
+/// One of these events that leads to x.
+fn predecessor(
+    test: &Test,
+    events: &[Entry],
+    answers: &Answers,
+    acyclic: Acyclic,
+    some: &[Entry],
+    x: &Entry,
+) -> Entry
+    requires events { events.now ≡ events_of test.now }
+    requires some { list_any (λ y. edges.is_edge test.now (known_of answers.now) (relations_of acyclic) y x.now) some.now ≡ true }
+    ensures inside { IsIn some.now result }
+    ensures edge { edges.is_edge test.now (known_of answers.now) (relations_of acyclic) result x.now ≡ true }
+{
+    for y in some {
+        if leads_to(test, events, answers, acyclic, y, x) {
+            return *y;
+        }
+    }
+    *x
+}
+
+/// The front of a path that ends with x, if x stands there.
+fn front_to(alloc: Global, path: &[Entry], x: &Entry) -> Result<Option<Vec<Entry>>, NoMemory>
+    ensures { IfOk result (λ f. option_map (λ v. v.items) f ≡ up_to x.now path.now) }
+{
+    let mut front = Vec::new(alloc);
+    for p in path {
+        front.push(*p)?;
+        if same_event(p, x) {
+            return Ok(Some(front));
+        }
+    }
+    Ok(None)
+}
+
+/// Goes back from event to event until one comes again: a cycle.
+fn walk_back(
+    alloc: Global,
+    test: &Test,
+    events: &[Entry],
+    answers: &Answers,
+    acyclic: Acyclic,
+    some: &[Entry],
+) -> Result<Vec<Entry>, NoMemory>
+    requires events { events.now ≡ events_of test.now }
+    requires inside { (x : declared.Entry) → IsIn some.now x → IsIn (events_of test.now) x }
+    requires stuck { (x : declared.Entry) → IsIn some.now x
+        → list_any (λ y. edges.is_edge test.now (known_of answers.now) (relations_of acyclic) y x) some.now ≡ true }
+    requires some { 0 < length some.now }
+    ensures { IfOk result (λ c. edges.is_cycle test.now (edges.is_edge test.now (known_of answers.now) (relations_of acyclic)) c.items ≡ true) }
+{
+    let mut path = Vec::new(alloc);
+    let mut at = some[0];
+    loop {
+        if let Some(cycle) = front_to(alloc, &path, &at)? {
+            return Ok(cycle);
+        }
+        path.insert(0, at)?;
+        at = predecessor(test, events, answers, acyclic, some, &at);
+    }
+}
+
+/// A cycle of relations that are to be acyclic together. Where there is none, all events can stand in
+/// a row in which each edge goes forward.
+///
+/// Errors: out of memory only.
+pub fn find_cycle(
+    alloc: Global,
+    test: &Test,
+    events: &[Entry],
+    answers: &Answers,
+    acyclic: Acyclic,
+) -> Result<Option<Vec<Entry>>, NoMemory>
+    requires { events.now ≡ events_of test.now }
+    ensures { IfOk result (CycleOrRow test.now (known_of answers.now) acyclic) }
+{
+    let sorted = sort(
+        alloc,
+        test,
+        events,
+        answers,
+        Precedence::Edges(acyclic),
+        events,
+    )?;
+    if sorted.rest.is_empty() {
+        return Ok(None);
+    }
+    let cycle = walk_back(alloc, test, events, answers, acyclic, &sorted.rest)?;
+    Ok(Some(cycle))
+}

@@ -1,0 +1,119 @@
+//! The order of a full case that no leaf closes: its events in a row, with their values.
+ghost use Rattle.std.specs.Prelude.{◌≡◌, ◌++◌, not, IfOk, filter, map};
+ghost use Rattle.refutation_laws.specs.Known.{events_of};
+ghost use Rattle.refutation_laws.specs.Edges.{are_parts};
+ghost use Rattle.refutation_laws.specs.inner.Orders as spec;
+ghost use Rattle.refutations.specs.Trees.{known_of};
+ghost use Rattle.refutations.specs.inner.Facts.{AreFacts};
+ghost use Rattle.refutation_laws.specs.Refutations.{asked};
+ghost use Rattle.refutation_laws.specs.Models.{IsMet};
+ghost use Rattle.refutation_laws.specs.inner.FullCases.{IsFull, IsSound};
+ghost use Rattle.reasons.specs.inner.Cases.{IsLeafless};
+
+use crate::sorting::{Precedence, sort};
+use refutation_laws::Model;
+use refutations::events::{are_parts, is_access};
+use refutations::{Answers, Facts, known_facts, value_known};
+use std::alloc::Global;
+use tso_model::{Entry, Kind, NoMemory, Test};
+
+/// The event with its value; a fence has 0.
+fn valued(test: &Test, events: &[Entry], answers: &Answers, facts: &Facts, e: &Entry) -> Entry
+    requires events { events.now ≡ events_of test.now }
+    requires facts { AreFacts test.now (known_of answers.now) facts.now }
+    ensures { result ≡ spec.valued test.now (known_of answers.now) e.now }
+{
+    let value = if is_access(e) {
+        value_known(test, events, answers, facts, e).unwrap_or(0)
+    } else {
+        0
+    };
+    Entry { value, ..*e }
+}
+
+fn with_values(
+    alloc: Global,
+    test: &Test,
+    events: &[Entry],
+    answers: &Answers,
+    facts: &Facts,
+    row: &[Entry],
+) -> Result<Vec<Entry>, NoMemory>
+    requires events { events.now ≡ events_of test.now }
+    requires facts { AreFacts test.now (known_of answers.now) facts.now }
+    ensures { IfOk result (λ o. o.items ≡ map (spec.valued test.now (known_of answers.now)) row.now) }
+{
+    let mut order = Vec::new(alloc);
+    for e in row {
+        order.push(valued(test, events, answers, facts, e))?;
+    }
+    Ok(order)
+}
+
+fn add_load(order: &mut Vec<Entry>, events: &[Entry], x: &Entry) -> Result<(), NoMemory>
+    ensures { IfOk result (λ _. order.new.items ≡ order.old.items ++ filter (λ r. are_parts r x.now) events.now) }
+{
+    for r in events {
+        if are_parts(r, x) {
+            order.push(*r)?;
+        }
+    }
+    Ok(())
+}
+
+/// A row with each load part directly before its store part.
+fn with_loads(alloc: Global, events: &[Entry], row: &[Entry]) -> Result<Vec<Entry>, NoMemory>
+    ensures { IfOk result (λ o. o.items ≡ spec.with_loads events.now row.now) }
+{
+    let mut order = Vec::new(alloc);
+    for x in row {
+        add_load(&mut order, events, x)?;
+        order.push(*x)?;
+    }
+    Ok(order)
+}
+
+/// All events but load parts.
+fn without_loads(alloc: Global, events: &[Entry]) -> Result<Vec<Entry>, NoMemory>
+    ensures { IfOk result (λ o. o.items ≡ filter (λ e. not (spec.is_load_part e)) events.now) }
+{
+    let mut others = Vec::new(alloc);
+    for e in events {
+        if e.kind != Kind::LR {
+            others.push(*e)?;
+        }
+    }
+    Ok(others)
+}
+
+/// The order of a full case that no leaf closes.
+///
+/// Errors: out of memory only.
+pub fn make_order(
+    alloc: Global,
+    test: &Test,
+    events: &[Entry],
+    model: Model,
+    answers: &Answers,
+) -> Result<Vec<Entry>, NoMemory>
+    requires events { events.now ≡ events_of test.now }
+    requires full { IsFull test.now (known_of answers.now) }
+    requires sound { IsSound test.now (known_of answers.now) }
+    requires leafless { IsLeafless model test.now (known_of answers.now) }
+    ensures { IfOk result (λ o. IsMet model test.now (asked test.now.condition) o.items) }
+{
+    test.know_limits();
+    let facts = known_facts(alloc, test, events, answers)?;
+    let others = without_loads(alloc, events)?;
+    let sorted = sort(
+        alloc,
+        test,
+        events,
+        answers,
+        Precedence::Order(model),
+        &others,
+    )?;
+    let order = with_loads(alloc, events, &sorted.row)?;
+    let valued = with_values(alloc, test, events, answers, &facts, &order)?;
+    Ok(valued)
+}

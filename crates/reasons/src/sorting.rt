@@ -1,0 +1,192 @@
+//! Events in a row in which nothing stands before what must precede it, as far as that is possible.
+ghost use Rattle.std.specs.Prelude.{◌≡◌, ◌==◌, ◌&&◌, not, IfOk, filter};
+ghost use Rattle.std.specs.List.{list_any};
+ghost use Rattle.tso_model.specs.ProgramOrder as program_order;
+ghost use Rattle.refutation_laws.specs.Known.{events_of};
+ghost use Rattle.refutation_laws.specs.Edges as edges;
+ghost use Rattle.refutation_laws.specs.Known as known;
+ghost use Rattle.refutation_laws.specs.inner.Orders as orders;
+ghost use Rattle.refutations.specs.Trees.{known_of};
+ghost use Rattle.reasons.specs.inner.Precedence.{edge_in, is_first, IsSorted};
+
+use refutation_laws::Model;
+use refutations::answers::{comes_before, from_reads, reads_from};
+use refutations::events::{are_parts, is_before};
+use refutations::{Acyclic, Answers, leads_to};
+use std::alloc::Global;
+use tso_model::{Entry, Kind, NoMemory, Test};
+
+/// What must precede what.
+#[derive(Clone, Copy)]
+pub enum Precedence {
+    /// The edges of which a cycle is made.
+    Edges(Acyclic),
+    /// What an order of the model keeps, in which each load part stands with its store part.
+    Order(Model),
+}
+
+fn is_kept(model: Model, x: &Entry, y: &Entry) -> bool
+    ensures { result ≡ orders.is_kept_by model x.now y.now }
+{
+    match model {
+        Model::Tso => is_before(x, y) && !may_be_passed(x, y),
+        Model::Sequential => is_before(x, y),
+    }
+}
+
+fn may_be_passed(x: &Entry, y: &Entry) -> bool
+    ensures { result ≡ program_order.may_be_passed x.now y.now }
+{
+    x.kind == Kind::W && y.kind == Kind::R
+}
+
+fn is_read_elsewhere(answers: &Answers, w: &Entry, r: &Entry) -> bool
+    ensures { result ≡ (known.reads_from (known_of answers.now) w.now r.now && not (w.now.core.0 == r.now.core.0)) }
+{
+    reads_from(answers, w, r) && w.core.0 != r.core.0
+}
+
+fn must_precede(model: Model, answers: &Answers, x: &Entry, y: &Entry) -> bool
+    ensures { result ≡ orders.must_precede model (known_of answers.now) x.now y.now }
+{
+    is_kept(model, x, y)
+        || is_read_elsewhere(answers, x, y)
+        || comes_before(answers, x, y)
+        || from_reads(answers, x, y)
+}
+
+fn precedes_part(model: Model, answers: &Answers, x: &Entry, r: &Entry, y: &Entry) -> bool
+    ensures { result ≡ (edges.are_parts r.now y.now && orders.must_precede model (known_of answers.now) x.now r.now) }
+{
+    are_parts(r, y) && must_precede(model, answers, x, r)
+}
+
+fn precedes_load(events: &[Entry], model: Model, answers: &Answers, x: &Entry, y: &Entry) -> bool
+    ensures { result ≡ list_any (λ r. edges.are_parts r y.now && orders.must_precede model (known_of answers.now) x.now r) events.now }
+{
+    events
+        .iter()
+        .any(|r| precedes_part(model, answers, x, r, y))
+}
+
+fn comes_toward(
+    test: &Test,
+    events: &[Entry],
+    model: Model,
+    answers: &Answers,
+    x: &Entry,
+    y: &Entry,
+) -> bool
+    requires { events.now ≡ events_of test.now }
+    ensures { result ≡ orders.comes_toward model test.now (known_of answers.now) x.now y.now }
+{
+    must_precede(model, answers, x, y) || precedes_load(events, model, answers, x, y)
+}
+
+/// Whether x must precede y.
+pub fn precedes(
+    test: &Test,
+    events: &[Entry],
+    answers: &Answers,
+    precedence: Precedence,
+    x: &Entry,
+    y: &Entry,
+) -> bool
+    requires { events.now ≡ events_of test.now }
+    ensures { result ≡ edge_in test.now (known_of answers.now) precedence x.now y.now }
+{
+    match precedence {
+        Precedence::Edges(acyclic) => leads_to(test, events, answers, acyclic, x, y),
+        Precedence::Order(model) => comes_toward(test, events, model, answers, x, y),
+    }
+}
+
+fn is_preceded(
+    test: &Test,
+    events: &[Entry],
+    answers: &Answers,
+    precedence: Precedence,
+    some: &[Entry],
+    x: &Entry,
+) -> bool
+    requires { events.now ≡ events_of test.now }
+    ensures { result ≡ list_any (λ y. edge_in test.now (known_of answers.now) precedence y x.now) some.now }
+{
+    some.iter()
+        .any(|y| precedes(test, events, answers, precedence, y, x))
+}
+
+fn can_be_first(
+    test: &Test,
+    events: &[Entry],
+    answers: &Answers,
+    precedence: Precedence,
+    some: &[Entry],
+    x: &Entry,
+) -> bool
+    requires { events.now ≡ events_of test.now }
+    ensures { result ≡ is_first (edge_in test.now (known_of answers.now) precedence) some.now x.now }
+{
+    !is_preceded(test, events, answers, precedence, some, x)
+}
+
+/// Events in a row, and those that are left, each of which is preceded by one of them.
+#[derive(Drop)]
+pub struct Sorted {
+    pub row: Vec<Entry>,
+    pub rest: Vec<Entry>,
+}
+
+/// Those of some events that none of them must precede, and the others.
+fn split(
+    alloc: Global,
+    test: &Test,
+    events: &[Entry],
+    answers: &Answers,
+    precedence: Precedence,
+    some: &[Entry],
+) -> Result<Sorted, NoMemory>
+    requires { events.now ≡ events_of test.now }
+    ensures row { IfOk result (λ s. s.row.items ≡ filter (is_first (edge_in test.now (known_of answers.now) precedence) some.now) some.now) }
+    ensures rest { IfOk result (λ s. s.rest.items
+        ≡ filter (λ x. not (is_first (edge_in test.now (known_of answers.now) precedence) some.now x)) some.now) }
+{
+    let mut row = Vec::new(alloc);
+    let mut rest = Vec::new(alloc);
+    for x in some {
+        if can_be_first(test, events, answers, precedence, some, x) {
+            row.push(*x)?;
+        } else {
+            rest.push(*x)?;
+        }
+    }
+    Ok(Sorted { row, rest })
+}
+
+/// Puts events in a row: first those that none must precede, then those that no one else must precede,
+/// and so on.
+///
+/// Errors: out of memory only.
+pub fn sort(
+    alloc: Global,
+    test: &Test,
+    events: &[Entry],
+    answers: &Answers,
+    precedence: Precedence,
+    some: &[Entry],
+) -> Result<Sorted, NoMemory>
+    requires { events.now ≡ events_of test.now }
+    ensures { IfOk result (λ s. IsSorted (edge_in test.now (known_of answers.now) precedence) some.now s.row.items s.rest.items) }
+{
+    let mut row = Vec::new(alloc);
+    let mut rest = Vec::new(alloc);
+    rest.extend_from_slice(some)?;
+    loop {
+        let next = split(alloc, test, events, answers, precedence, &rest)?;
+        if next.row.is_empty() {
+            return Ok(Sorted { row, rest });
+        }
+        row.extend_from_slice(&next.row)?;
+        rest = next.rest;
+    }
+}
