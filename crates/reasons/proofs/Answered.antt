@@ -1,5 +1,5 @@
 -- The next question may be asked and isn't answered; where there is none, the case is full.
-use Rattle.std.proofs.Common.{◌≡◌, ◌&&◌, Bool, true, false, not, if◌then◌else◌, List, [], ◌∷◌, Option, Some, None, refl, sym, ap, ◌∙◌, ◌⊎◌, inl, inr, subst}
+use Rattle.std.proofs.Common.{◌≡◌, ◌&&◌, Bool, true, false, not, if◌then◌else◌, List, [], ◌∷◌, Option, Some, None, refl, sym, ◌⊎◌, inl, inr, subst}
 use Rattle.tso_model.specs.Litmus.{Litmus}
 use Rattle.tso_model.specs.ProgramOrder.{is_read, is_write, writes_to}
 use Rattle.tso_model.specs.declared.execution.Entry.{Entry}
@@ -7,7 +7,6 @@ use Rattle.relational_model.specs.Events.{IsIn}
 use Rattle.relational_model.proofs.Lists.{in-case, in-none, in-first, in-later}
 use Rattle.relational_model.proofs.KindFacts.{and-both}
 use Rattle.refutation_laws.specs.Known.{Known, events_of, same_event, is_event}
-use Rattle.refutation_laws.specs.Refutations as law
 use Rattle.refutation_laws.specs.declared.known.Pair.{Pair}
 use Rattle.refutation_laws.specs.inner.FullCases.{has_source, are_ordered, may_ask, is_answered, IsFull, IsSound}
 use Rattle.refutation_laws.proofs.Tests.{and-of}

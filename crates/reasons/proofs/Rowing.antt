@@ -1,13 +1,12 @@
 -- A full case that no leaf closes: all of its events can be put in a row; and a write between two parts is found where there is one.
-use Rattle.std.proofs.Common.{◌≡◌, ◌&&◌, ℕ, Bool, true, false, not, if◌then◌else◌, List, [], ◌∷◌, length, Option, Some, None, map, filter, arith, refl, sym, ap, ◌∙◌, ◌⊎◌, inl, inr, subst}
-use Rattle.std.specs.List.{list_any}
+use Rattle.std.proofs.Common.{◌≡◌, ℕ, Bool, true, false, not, if◌then◌else◌, List, [], ◌∷◌, length, Option, Some, None, map, filter, refl, sym, ap, ◌∙◌, ◌⊎◌, inl, inr, subst}
 use Rattle.tso_model.specs.Litmus.{Litmus, IsTest, IsCondition}
 use Rattle.tso_model.specs.Condition.{Claim, Condition, NamesExist}
 use Rattle.tso_model.specs.declared.condition.Quantifier.{Quantifier}
 use Rattle.tso_model.specs.declared.condition.Quantifier.TheVariants.{Exists, NotExists, Forall}
 use Rattle.tso_model.specs.declared.execution.Entry.{Entry}
 use Rattle.relational_model.specs.Events.{IsIn}
-use Rattle.relational_model.specs.Candidates.{Candidate, events_from}
+use Rattle.relational_model.specs.Candidates.{events_from}
 use Rattle.relational_model.proofs.Lists.{in-case, in-none, in-first, in-later, in-filter, filter-in}
 use Rattle.relational_model.proofs.KindFacts.{and-both}
 use Rattle.relational_model.proofs.Sizes.{Once, once-filter}

@@ -1,6 +1,5 @@
 -- The search's state: its nodes are part of a tree, whose open cases are these; they and the leaves weigh no more than all cases.
-use Rattle.std.proofs.Common.{◌≡◌, ◌<◌, ◌≤◌, ◌+◌, ℕ, suc, ◌&&◌, ◌||◌, Bool, true, false, not, if◌then◌else◌, List, [], ◌∷◌, ◌++◌, length, map, filter, Option, Some, None, arith, refl, sym, ap, ◌∙◌, inl, inr, subst}
-use Rattle.std.specs.List.{list_any}
+use Rattle.std.proofs.Common.{◌≡◌, ◌<◌, ◌≤◌, ◌+◌, ℕ, ◌&&◌, Bool, true, false, not, if◌then◌else◌, List, [], ◌∷◌, ◌++◌, length, map, filter, Some, None, arith, refl, sym, ap, ◌∙◌, subst}
 use Rattle.tso_model.specs.Litmus.{Litmus}
 use Rattle.tso_model.specs.Condition.{Claim}
 use Rattle.tso_model.specs.ProgramOrder.{is_read, is_write, writes_to}
@@ -8,10 +7,10 @@ use Rattle.tso_model.specs.declared.execution.Entry.{Entry}
 use Rattle.relational_model.specs.Events.{IsIn}
 use Rattle.relational_model.proofs.Lists.{in-first, in-later, in-filter}
 use Rattle.relational_model.proofs.KindFacts.{and-both}
-use Rattle.refutation_laws.specs.Known.{Known, bare, events_of, same_event, is_event, nothing, with_source, with_pair}
-use Rattle.refutation_laws.specs.Refutations.{Node, ReadsFrom, ComesFirst, OnLocation, Globally, Between, FalseClaim, asked, sources_of, is_node, branches, close, refutes}
+use Rattle.refutation_laws.specs.Known.{Known, events_of, same_event, is_event, nothing, with_source}
+use Rattle.refutation_laws.specs.Refutations.{Node, ReadsFrom, ComesFirst, OnLocation, Globally, Between, FalseClaim, asked, is_node, branches, close, refutes}
 use Rattle.refutation_laws.specs.declared.model.Model.{Model}
-use Rattle.refutation_laws.specs.inner.FullCases.{IsPossible, has_source, are_ordered, may_ask, is_answered, IsSound}
+use Rattle.refutation_laws.specs.inner.FullCases.{IsPossible, has_source, may_ask, is_answered, IsSound}
 use Rattle.refutation_laws.proofs.Standing.{same-bare}
 use Rattle.refutation_laws.proofs.Soundness.{bare-same}
 use Rattle.refutations.specs.Trees.{known_of, node_of}
@@ -20,7 +19,7 @@ use Rattle.refutations.specs.declared.answers.Answers.{Answers}
 use Rattle.refutations.specs.declared.tree.Node as code
 use Rattle.refutations.proofs.Stack.{cases-push}
 use Rattle.reasons.specs.Reasons.{open_after, is_leaf, leaves_of, HasMoreCases, most_cases}
-use Rattle.reasons.proofs.Weighing.{weight, total, some-weight, weight-at-first}
+use Rattle.reasons.proofs.Weighing.{total, some-weight, weight-at-first}
 use Rattle.reasons.proofs.Branching.{turned, fewer-cases}
 
 abbrev pub AreSound : Litmus → List Known → Type 0

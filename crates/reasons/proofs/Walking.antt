@@ -1,6 +1,6 @@
 -- Back from event to event: where one comes again, the way between is a cycle.
-use Rattle.std.proofs.Common.{◌≡◌, ◌<◌, ◌≤◌, ◌-◌, ℕ, suc, ◌&&◌, Bool, true, false, if◌then◌else◌, List, [], ◌∷◌, ◌++◌, length, Option, Some, None, option_map, slice_index_or, map, arith, refl, sym, ap, ◌∙◌, ◌⊎◌, inl, inr, subst}
-use Rattle.std.specs.List.{list_any, list_all}
+use Rattle.std.proofs.Common.{◌≡◌, ◌<◌, ◌-◌, ℕ, suc, Bool, true, false, if◌then◌else◌, List, [], ◌∷◌, length, Option, Some, None, option_map, slice_index_or, map, arith, refl, sym, ap, ◌∙◌, ◌⊎◌, inl, inr, subst}
+use Rattle.std.specs.List.{list_all}
 use Rattle.std.specs.Global.{Vec}
 use Rattle.tso_model.specs.Litmus.{Litmus}
 use Rattle.tso_model.specs.declared.execution.Entry.{Entry}
@@ -10,8 +10,8 @@ use Rattle.relational_model.proofs.Sizes.{Once, no-more}
 use Rattle.relational_model.proofs.Sorting.{Ordered}
 use Rattle.refutation_laws.specs.Known.{bare, same_event, is_event, events_of}
 use Rattle.refutation_laws.specs.Edges.{leads_back, is_cycle}
-use Rattle.refutation_laws.proofs.Tests.{and-of, any-in}
-use Rattle.refutation_laws.proofs.Standing.{Of, of-event, same-bare}
+use Rattle.refutation_laws.proofs.Tests.{and-of}
+use Rattle.refutation_laws.proofs.Standing.{same-bare}
 use Rattle.refutation_laws.proofs.Soundness.{itself}
 use Rattle.refutation_laws.proofs.Settling.{is-event}
 use Rattle.reasons.specs.inner.Cycles.{up_to}

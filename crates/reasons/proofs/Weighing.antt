@@ -1,19 +1,16 @@
 -- How many cases a case can come to: over its open questions the product of their answers. What is added to each factor has the search end.
-use Rattle.std.proofs.Common.{◌≡◌, ◌<◌, ◌≤◌, ◌+◌, ◌*◌, ◌==◌, ◌&&◌, ◌||◌, ℕ, suc, Bool, true, false, not, if◌then◌else◌, List, [], ◌∷◌, ◌++◌, length, map, filter, Option, Some, None, arith, refl, sym, ap, ◌∙◌, ◌⊎◌, inl, inr, subst}
-use Rattle.std.specs.List.{list_any}
+use Rattle.std.proofs.Common.{◌≡◌, ◌≤◌, ◌+◌, ◌*◌, ◌&&◌, ◌||◌, ℕ, Bool, true, false, if◌then◌else◌, List, [], ◌∷◌, length, Option, arith, refl, sym, ap, ◌∙◌, ◌⊎◌, inl, inr, subst}
 use Rattle.std.proofs.lemmas.Nat.{mul-le}
 use Rattle.tso_model.specs.Litmus.{Litmus}
 use Rattle.tso_model.specs.ProgramOrder.{is_read, is_write, writes_to}
 use Rattle.tso_model.specs.declared.execution.Entry.{Entry}
 use Rattle.relational_model.specs.Events.{IsIn}
-use Rattle.relational_model.proofs.Lists.{in-case, in-none, in-first, in-later, Precedes}
-use Rattle.relational_model.proofs.KindFacts.{and-both, same-number, number-same}
-use Rattle.refutation_laws.specs.Known.{Known, bare, events_of, same_event, is_event, comes_before, nothing, with_source, with_pair}
-use Rattle.refutation_laws.specs.Refutations.{Node, ReadsFrom, ComesFirst, OnLocation, Globally, Between, FalseClaim, sources_of, branches}
-use Rattle.refutation_laws.specs.inner.FullCases.{has_source, are_ordered, may_ask, is_answered}
-use Rattle.refutation_laws.proofs.Tests.{and-of, or-first, or-second, Holds, any-holds}
+use Rattle.relational_model.proofs.Lists.{in-case, in-none, Precedes}
+use Rattle.refutation_laws.specs.Known.{Known, bare, events_of, same_event, is_event, nothing, with_source}
+use Rattle.refutation_laws.specs.Refutations.{sources_of}
+use Rattle.refutation_laws.specs.inner.FullCases.{has_source, are_ordered}
+use Rattle.refutation_laws.proofs.Tests.{or-first, Holds, any-holds}
 use Rattle.refutation_laws.proofs.Standing.{same-bare}
-use Rattle.refutation_laws.proofs.Soundness.{itself, bare-same}
 use Rattle.reasons.specs.Reasons.{product, sources_in, orders_in, all_orders, most_cases}
 
 -- ---- products

@@ -1,14 +1,13 @@
 -- Events in a row in which nothing stands before what must precede it, as far as that is possible.
-use Rattle.std.specs.Prelude.{ℕ, ◌≡◌, ◌+◌, ◌⊎◌, ◌&&◌, Bool, true, false, not, if◌then◌else◌, List, [], ◌∷◌, length, filter, Option, Some, None}
+use Rattle.std.specs.Prelude.{◌≡◌, ◌+◌, ◌⊎◌, Bool, true, not, List, length}
 use Rattle.std.specs.List.{list_any}
 use Rattle.tso_model.specs.Litmus.{Litmus}
 use Rattle.tso_model.specs.declared.execution.Entry.{Entry}
 use Rattle.relational_model.specs.Events.{IsIn}
 use Rattle.relational_model.proofs.Sizes.{Once}
 use Rattle.relational_model.proofs.Sorting.{GoesForward}
-use Rattle.refutation_laws.specs.Known.{Known, same_event, events_of}
-use Rattle.refutation_laws.specs.Edges.{is_edge, are_parts, is_between}
-use Rattle.refutation_laws.specs.Refutations as spec
+use Rattle.refutation_laws.specs.Known.{Known}
+use Rattle.refutation_laws.specs.Edges.{is_edge}
 use Rattle.refutation_laws.specs.inner.Orders.{comes_toward}
 use Rattle.refutations.specs.Trees.{relations_of}
 use Rattle.reasons.specs.declared.sorting.Precedence.{Precedence}

@@ -1,11 +1,10 @@
-use Rattle.std.proofs.Common.{◌<◌, ◌≤◌, ◌+◌, ◌∷◌, ℕ, arith, map, sym, ap, ◌∙◌, subst}
+use Rattle.std.proofs.Common.{◌<◌, ◌+◌, ◌∷◌, arith, map, sym, ap, ◌∙◌, subst}
 use Rattle.std.proofs.lemmas.List.{nil_from_length}
 use Rattle.std.specs.Global.{Vec}
 use Rattle.refutations.specs.Trees.{known_of, node_of}
 use Rattle.refutations.specs.inner.Stack.{cases_of}
 use Rattle.refutations.specs.declared.answers.Answers.{Answers}
 use Rattle.refutations.specs.declared.tree.Node.{Node}
-use Rattle.reasons.specs.declared.reason.Step.TheVariants.{Leaf, Question}
 use Rattle.reasons.specs.inner.Cases.{IsStep}
 use Rattle.reasons.proofs.Weighing.{total}
 use Rattle.reasons.proofs.Searching.{IsSearch, first-case, its-sound, one-too-many, lighter-by-leaf, lighter-by-question, after-leaf, after-question, all-done}
