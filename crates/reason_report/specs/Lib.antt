@@ -1,0 +1,9 @@
+pub mod Places
+pub mod Steps
+pub mod ReasonText
+pub mod ReasonJson
+pub mod Printed
+pub mod Worked
+pub use Rattle.refutation_laws.specs.Known
+pub use Rattle.refutation_laws.specs.Refutations
+pub use Rattle.relational_model.specs.Candidates

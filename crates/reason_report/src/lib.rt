@@ -1,0 +1,10 @@
+//! What `why` prints: the reason why what a test asks is never so, as cases that a reader can check by hand, or an execution in
+//! which it is; as lines of text, or as JSON.
+//!
+//! A refutation is laid out in steps, of which both forms are made (`specs/Steps.antt`). Of a question's cases those come first
+//! that a leaf closes at once, so that most reasons read as a chain.
+#![tactic(auto)]
+
+mod worked;
+
+pub use worked::worked_reasons;
