@@ -4,6 +4,7 @@ pub mod ReasonText
 pub mod ReasonJson
 pub mod Printed
 pub mod Worked
+pub mod inner
 pub use Rattle.refutation_laws.specs.Known
 pub use Rattle.refutation_laws.specs.Refutations
 pub use Rattle.relational_model.specs.Candidates

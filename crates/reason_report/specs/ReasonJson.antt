@@ -18,7 +18,9 @@ use Rattle.tso_report.specs.Json.{count}
 use Rattle.tso_report.specs.Tally.{looked_at}
 use Rattle.outcome_report.specs.OutcomesJson.{key_of, value_members}
 use Rattle.reason_report.specs.Places.{Place}
-use Rattle.reason_report.specs.Steps.{Event, Answer, From, Before, Edge, Closing, Uniproc, Cycle, Amid, False}
+use Rattle.reason_report.specs.declared.steps.Event.{Event}
+use Rattle.reason_report.specs.declared.steps.Edge.{Edge}
+use Rattle.reason_report.specs.Steps.{Answer, From, Before, Closing, Uniproc, Cycle, Amid, False}
 use Rattle.reason_report.specs.Steps.{Step, Case, So, Leaf, Endcases, steps_of, leaves_in}
 use Rattle.reason_report.specs.ReasonText.{model_name, truth_asked, is_well, verdict_word, event_text, relation_text, source_text}
 use Rattle.reason_report.specs.ReasonText.{read_source, reads_of, values_left}
@@ -99,6 +101,7 @@ step_value t (Endcases depth) =
 
 -- ---- what can't be
 
+-- the steps of a refutation of what the test asks
 abbrev pub never_value_of : Model → Litmus → List Step → Data
 never_value_of model t steps =
     object (member (codes "answer") (string (codes "never"))
@@ -108,10 +111,6 @@ never_value_of model t steps =
     (member (codes "steps") (array (items_of (map (step_value t) steps)))
     (member (codes "test") (string t.name)
     (member (codes "verdict") (verdict_value t.condition false) no_members)))))))
-
--- a refutation of what the test asks
-abbrev pub never_value : Model → Litmus → List Node → Data
-never_value model t nodes = never_value_of model t (steps_of model t (asked t.condition) nodes)
 
 -- ---- what can be
 
@@ -151,8 +150,11 @@ unfinished_value t limit =
 
 -- ---- what is printed: the compact text of the value, on one line
 
+abbrev pub never_line : Model → Litmus → List Step → List ℕ
+never_line model t steps = line (compact_text (never_value_of model t steps))
+
 abbrev pub never_json : Model → Litmus → List Node → List ℕ
-never_json model t nodes = line (compact_text (never_value model t nodes))
+never_json model t nodes = never_line model t (steps_of model t (asked t.condition) nodes)
 
 abbrev pub allowed_json : Model → Litmus → Candidate → List Choice → List ℕ
 allowed_json model t c choices = line (compact_text (allowed_value model t c choices))

@@ -25,7 +25,9 @@ use Rattle.tso_report.specs.Tally.{values_in}
 use Rattle.outcome_report.specs.Outcomes.{by_line, state_line}
 use Rattle.outcome_report.specs.OutcomesJson.{key_of}
 use Rattle.reason_report.specs.Places.{Place}
-use Rattle.reason_report.specs.Steps.{Event, Answer, From, Before, Edge, Closing, Uniproc, Cycle, Amid, False}
+use Rattle.reason_report.specs.declared.steps.Event.{Event}
+use Rattle.reason_report.specs.declared.steps.Edge.{Edge}
+use Rattle.reason_report.specs.Steps.{Answer, From, Before, Closing, Uniproc, Cycle, Amid, False}
 use Rattle.reason_report.specs.Steps.{Step, Case, So, Leaf, Endcases, steps_of, leaves_in}
 
 -- ---- what is asked, and herd's verdict
@@ -109,21 +111,26 @@ abbrev pub source_text : Litmus → Option Event → List ℕ
 source_text t None = codes "initial"
 source_text t (Some w) = event_text t w
 
+-- a further one
+abbrev pub or_text : Litmus → Option Event → List ℕ
+or_text t w = codes " or " ++ source_text t w
+
 -- one, or several with `or` between them
 abbrev pub sources_text : Litmus → List (Option Event) → List ℕ
 sources_text t [] = []
-sources_text t (w ∷ []) = source_text t w
-sources_text t (w ∷ (v ∷ vs)) = source_text t w ++ (codes " or " ++ sources_text t (v ∷ vs))
+sources_text t (w ∷ ws) = source_text t w ++ flat_map (or_text t) ws
 
 abbrev pub answer_text : Litmus → Answer → List ℕ
 answer_text t (From r ws) = event_text t r ++ (codes " from " ++ sources_text t ws)
 answer_text t (Before w v) = event_text t w ++ (codes " before " ++ event_text t v)
 
+abbrev pub bar_text : ℕ → List ℕ
+bar_text v = codes "|" ++ decimal v
+
 -- `1|2`
 abbrev pub words_text : List ℕ → List ℕ
 words_text [] = []
-words_text (v ∷ []) = decimal v
-words_text (v ∷ (u ∷ us)) = decimal v ++ (codes "|" ++ words_text (u ∷ us))
+words_text (v ∷ vs) = decimal v ++ flat_map bar_text vs
 
 -- ` 1:EAX=0`, or ` x=1|2`
 abbrev pub place_text : Litmus → Place → List ℕ

@@ -2,7 +2,7 @@
 -- Of a question's cases those come first that a leaf closes at once. The others follow, each with its part one step deeper; where
 -- only one is left, it is what follows, and its part stands at the same depth.
 use Rattle.std.specs.Prelude.{ℕ, ◌+◌, ◌&&◌, Bool, true, false, not, if◌then◌else◌, Option, Some, None}
-use Rattle.std.specs.Prelude.{List, [], ◌∷◌, ◌++◌, map, filter, length, take, drop, count_by}
+use Rattle.std.specs.Prelude.{List, [], ◌∷◌, ◌++◌, map, filter, length, drop}
 use Rattle.std.specs.List.{list_any, flat_map}
 use Rattle.tso_model.specs.Litmus.{Litmus}
 use Rattle.tso_model.specs.Condition.{Claim}
@@ -13,26 +13,22 @@ use Rattle.refutation_laws.specs.Shown.{first_of, value_known}
 use Rattle.refutation_laws.specs.Refutations.{Node, ReadsFrom, ComesFirst, OnLocation, Globally, Between, FalseClaim, sources_of}
 use Rattle.refutation_laws.specs.declared.model.Model.{Model}
 use Rattle.refutation_laws.specs.declared.model.Relation.{Relation}
+use Rattle.reason_report.specs.declared.replies.Reply.{Reply}
+use Rattle.reason_report.specs.declared.replies.Reply.TheVariants.{Reads, First}
+use Rattle.reason_report.specs.declared.steps.Event.{Event}
+use Rattle.reason_report.specs.declared.steps.Edge.{Edge}
 use Rattle.reason_report.specs.Places.{Place, places_in, name_the_same}
 
 -- ---- what is printed
 
--- an event, with its value where the answers so far tell it
-pub record Event : Type 0 where
-  pub entry : Entry
-  pub value : Option ℕ
+-- An `Event` is an entry with its value, where the answers so far tell it; an `Edge` leads from its source to its target, and has
+-- the relation that it is of.
 
 pub data Answer : Type 0 where
   -- the read reads from this write, or from one of these; none is the initial one
   From : (read : Event) → (writes : List (Option Event)) → Answer
   -- of two writes to a location this one is the first
   Before : (first second : Event) → Answer
-
--- an edge from one event to another, and the relation that it is of
-pub record Edge : Type 0 where
-  pub source : Event
-  pub relation : Option Relation
-  pub target : Event
 
 pub data Closing : Type 0 where
   -- a cycle of uniproc; a cycle of the global relation
@@ -89,10 +85,7 @@ leaf_steps model t claim depth k ks _ = []
 
 -- ---- questions
 
--- an answer to one
-pub data Reply : Type 0 where
-  Reads : (read : Entry) → (write : Option Entry) → Reply
-  First : (first second : Entry) → Reply
+-- A `Reply` is an answer: that a read reads from a write, or from the initial one; or which of two writes comes first.
 
 -- as the branches of a refutation stand, one for each
 abbrev pub replies : Litmus → Node → List Reply
@@ -115,7 +108,7 @@ pub record Branch : Type 0 where
   pub known : Known
   pub part : Part
 
--- to each answer its part
+-- to each answer its part, as long as there are some
 abbrev pub branches_with : Known → List Reply → List Part → List Branch
 branches_with k [] parts = []
 branches_with k (r ∷ rs) [] = []
@@ -185,10 +178,9 @@ abbrev pub node_steps : Model → Litmus → Claim → Node → List Part → �
 node_steps model t claim n parts depth k =
     if is_leaf n then leaf_steps model t claim depth k (k ∷ []) n else question_steps model t claim depth k (branches_with k (replies t n) parts)
 
--- the part of a node, which takes as many of these parts as it has branches, and then those that are left
+-- the part of a node, whose branches have the first of these parts, and then those that it leaves
 abbrev pub grown : Model → Litmus → Claim → Node → List Part → List Part
-grown model t claim n parts =
-    record { root = n; steps = node_steps model t claim n (take (length (replies t n)) parts) } ∷ drop (length (replies t n)) parts
+grown model t claim n parts = record { root = n; steps = node_steps model t claim n parts } ∷ drop (length (replies t n)) parts
 
 -- the parts of nodes that stand as in a refutation
 abbrev pub parts_of : Model → Litmus → Claim → List Node → List Part
@@ -199,10 +191,11 @@ parts_of model t claim (n ∷ ns) = grown model t claim n (parts_of model t clai
 abbrev pub steps_of : Model → Litmus → Claim → List Node → List Step
 steps_of model t claim nodes = flat_map (λ (p : Part). p.steps 0 nothing) (parts_of model t claim nodes)
 
-abbrev pub is_leaf_step : Step → Bool
-is_leaf_step (Leaf depth closing) = true
-is_leaf_step _ = false
+abbrev pub leaves_of : Step → ℕ
+leaves_of (Leaf depth closing) = 1
+leaves_of _ = 0
 
 -- how many lines close a case
 abbrev pub leaves_in : List Step → ℕ
-leaves_in steps = count_by is_leaf_step steps
+leaves_in [] = 0
+leaves_in (s ∷ ss) = leaves_of s + leaves_in ss

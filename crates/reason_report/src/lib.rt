@@ -5,6 +5,16 @@
 //! that a leaf closes at once, so that most reasons read as a chain.
 #![tactic(auto)]
 
+pub mod as_json;
+pub mod as_text;
+pub mod asked;
+pub mod leaves;
+pub mod parts;
+pub mod places;
+pub mod replies;
+pub mod steps;
 mod worked;
 
+pub use as_json::{never_json, unfinished_json};
+pub use as_text::{never_text, unfinished_text};
 pub use worked::worked_reasons;

@@ -1,0 +1,80 @@
+-- The values that are printed have no float, so that their text is known.
+use Rattle.std.proofs.Common.{◌≡◌, ℕ, Bool, true, false, ◌||◌, List, [], ◌∷◌, map, Option, Some, None, refl}
+use Rattle.std.specs.Ordering.{nat_cmp, match_ordering}
+use Rattle.std.specs.Cmp.Lexicographic.{slice_cmp}
+use Rattle.std.specs.declared.cmp.Ordering.{Ordering}
+use Rattle.std.specs.declared.cmp.Ordering.TheVariants.{Less, Equal, Greater}
+use Rattle.std.proofs.lemmas.Bool.{or_parts}
+use Rattle.serde_json.specs.Data.{Data, string, array, Members, no_members, member, put}
+use Rattle.serde_json.specs.View.{items_of}
+use Rattle.serde_json.specs.Written.{has_float, items_have_float, members_have_float}
+use Rattle.tso_model.specs.Litmus.{Litmus}
+use Rattle.tso_model.specs.Condition.{Condition}
+use Rattle.refutation_laws.specs.declared.model.Model.{Model}
+use Rattle.tso_report.specs.Json.{count}
+use Rattle.outcome_report.specs.OutcomesJson.{key_of}
+use Rattle.reason_report.specs.declared.steps.Edge.{Edge}
+use Rattle.reason_report.specs.Places.{Place}
+use Rattle.reason_report.specs.Steps.{Answer, From, Before, Closing, Uniproc, Cycle, Amid, False, Step, Case, So, Leaf, Endcases}
+use Rattle.reason_report.specs.ReasonText.{source_text}
+use Rattle.reason_report.specs.ReasonJson.{edge_value, edges_value, answer_value, place_members, closing_value, step_value, asked_value, verdict_value, never_value_of}
+
+neither : (p q : Bool) → p ≡ false → q ≡ false → p || q ≡ false
+neither true q h k = h
+neither false q h k = k
+
+one_more : (k : List ℕ) (x : Data) (ms : Members) → has_float x ≡ false → members_have_float ms ≡ false → members_have_float (put k x ms) ≡ false
+one_more k x no_members f h = neither (has_float x) false f refl
+one_more k x (member l d ms) f h =
+    by_order (slice_cmp nat_cmp k l) (or_parts (has_float d) (members_have_float ms) h)
+    (one_more k x ms f (or_parts (has_float d) (members_have_float ms) h).1)
+  where
+    by_order : (o : Ordering) → (has_float d ≡ false) × (members_have_float ms ≡ false) → members_have_float (put k x ms) ≡ false
+        → members_have_float (match_ordering o (member k x (member l d ms)) (member l x ms) (member l d (put k x ms))) ≡ false
+    by_order Less parts further =
+        neither (has_float x) (has_float d || members_have_float ms) f (neither (has_float d) (members_have_float ms) parts.0 parts.1)
+    by_order Equal parts further = neither (has_float x) (members_have_float ms) f parts.1
+    by_order Greater parts further = neither (has_float d) (members_have_float (put k x ms)) parts.0 further
+
+each : {X : Type 0} (f : X → Data) → ((x : X) → has_float (f x) ≡ false) → (xs : List X) → items_have_float (items_of (map f xs)) ≡ false
+each f none [] = refl
+each f none (x ∷ xs) = neither (has_float (f x)) (items_have_float (items_of (map f xs))) (none x) (each f none xs)
+
+places : (t : Litmus) (ps : List Place) → members_have_float (place_members t ps) ≡ false
+places t [] = refl
+places t (p ∷ ps) =
+    one_more (key_of t p.named) (array (items_of (map count p.values))) (place_members t ps) (each count (λ v. refl) p.values) (places t ps)
+
+edges : (t : Litmus) (es : List Edge) → has_float (edges_value t es) ≡ false
+edges t es = each (edge_value t) (λ e. refl) es
+
+answer : (t : Litmus) (step : List ℕ) (depth : ℕ) (a : Answer) → has_float (answer_value t step depth a) ≡ false
+answer t step depth (From r ws) = neither (items_have_float (items_of (map (λ w. string (source_text t w)) ws))) false
+    (each (λ w. string (source_text t w)) (λ w. refl) ws) refl
+answer t step depth (Before w v) = refl
+
+closing : (t : Litmus) (depth : ℕ) (c : Closing) → has_float (closing_value t depth c) ≡ false
+closing t depth (Uniproc es) = neither (has_float (edges_value t es)) false (edges t es) refl
+closing t depth (Cycle es) = neither (has_float (edges_value t es)) false (edges t es) refl
+closing t depth (Amid r v w) = refl
+closing t depth (False ps) = neither (members_have_float (place_members t ps)) false (places t ps) refl
+
+step : (t : Litmus) (s : Step) → has_float (step_value t s) ≡ false
+step t (Case depth a) = answer t _ depth a
+step t (So depth a) = answer t _ depth a
+step t (Leaf depth c) = closing t depth c
+step t (Endcases depth) = refl
+
+asked : (o : Option Condition) → has_float (asked_value o) ≡ false
+asked None = refl
+asked (Some c) = refl
+
+verdict : (o : Option Condition) (allowed : Bool) → has_float (verdict_value o allowed) ≡ false
+verdict None allowed = refl
+verdict (Some c) allowed = refl
+
+pub never_has_no_float : (model : Model) (t : Litmus) (steps : List Step) → has_float (never_value_of model t steps) ≡ false
+never_has_no_float model t steps =
+    neither (has_float (asked_value t.condition)) _ (asked t.condition)
+    (neither (items_have_float (items_of (map (step_value t) steps))) _ (each (step_value t) (step t) steps)
+    (neither (has_float (verdict_value t.condition false)) false (verdict t.condition false) refl))

@@ -1,0 +1,10 @@
+use Rattle.std.proofs.Common.{◌≡◌, ◌++◌, drop, map}
+use Rattle.serde_json.specs.View.{view}
+use Rattle.reason_report.specs.ReasonJson as spec
+use Rattle.reason_report.specs.inner.Views.{step_of}
+use Rattle.reason_report.proofs.as_json.steps_value.Given as goal
+
+abbrev pub invariant-loop-step : goal.invariant-loop-step
+invariant-loop-step l =
+    map view l.values.items ++ map (spec.step_value l.test) (map step_of (drop l.step-index l.steps))
+    ≡ map (spec.step_value l.test) (map step_of l.steps)

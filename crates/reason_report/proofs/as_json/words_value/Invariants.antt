@@ -1,0 +1,8 @@
+use Rattle.std.proofs.Common.{◌≡◌, ◌++◌, drop, map}
+use Rattle.serde_json.specs.View.{view}
+use Rattle.tso_report.specs.Json.{count}
+use Rattle.reason_report.proofs.as_json.words_value.Given as goal
+
+abbrev pub invariant-loop-word : goal.invariant-loop-word
+invariant-loop-word l =
+    map view l.values.items ++ map count (drop l.word-index l.words) ≡ map count l.words

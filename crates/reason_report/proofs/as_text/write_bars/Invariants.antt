@@ -1,0 +1,9 @@
+use Rattle.std.proofs.Common.{◌≡◌, ◌++◌, drop, string_bytes}
+use Rattle.std.specs.List.{flat_map}
+use Rattle.reason_report.specs.ReasonText as spec
+use Rattle.reason_report.proofs.as_text.write_bars.Given as goal
+
+abbrev pub invariant-loop-value : goal.invariant-loop-value
+invariant-loop-value l =
+    string_bytes l.text ++ flat_map spec.bar_text (drop l.value-index l.values)
+    ≡ string_bytes l.initial.text ++ flat_map spec.bar_text l.values

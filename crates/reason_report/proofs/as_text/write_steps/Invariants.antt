@@ -1,0 +1,10 @@
+use Rattle.std.proofs.Common.{◌≡◌, ◌++◌, drop, map, string_bytes}
+use Rattle.std.specs.List.{flat_map}
+use Rattle.reason_report.specs.ReasonText as spec
+use Rattle.reason_report.specs.inner.Views.{step_of}
+use Rattle.reason_report.proofs.as_text.write_steps.Given as goal
+
+abbrev pub invariant-loop-step : goal.invariant-loop-step
+invariant-loop-step l =
+    string_bytes l.text ++ flat_map (spec.step_line l.test) (map step_of (drop l.step-index l.steps))
+    ≡ string_bytes l.initial.text ++ flat_map (spec.step_line l.test) (map step_of l.steps)

@@ -1,0 +1,9 @@
+use Rattle.std.proofs.Common.{◌≡◌, ◌++◌, drop}
+use Rattle.refutations.specs.Trees.{known_of, relations_of}
+use Rattle.reason_report.specs.Steps as spec
+use Rattle.reason_report.proofs.leaves.edges_of.Given as goal
+
+abbrev pub invariant-loop-next : goal.invariant-loop-next
+invariant-loop-next l =
+    l.edges.items ++ spec.edges_back l.test (known_of l.answers) (relations_of l.acyclic) l.first l.last (drop l.next-index l.rest)
+    ≡ spec.edges_of l.test (known_of l.answers) (relations_of l.acyclic) l.cycle

@@ -1,0 +1,9 @@
+use Rattle.std.proofs.Common.{ℕ, ◌≡◌, ◌≤◌, List, length, drop}
+use Rattle.reason_report.specs.Steps.{Part}
+use Rattle.reason_report.specs.inner.Parts.{AreNext}
+use Rattle.reason_report.proofs.parts.after_parts.Given as goal
+
+abbrev pub invariant-loop-part : goal.invariant-loop-part
+invariant-loop-part l =
+    (parts : ℕ → List Part) → AreNext parts l.first l.next
+    → (l.first ≤ l.after) × (l.after ≤ length l.next) × (parts l.after ≡ drop l._part (parts l.first))

@@ -1,0 +1,11 @@
+use Rattle.std.proofs.Common.{◌≡◌, ◌≤◌, ◌+◌, drop, map}
+use Rattle.reason_report.specs.Steps as spec
+use Rattle.reason_report.specs.inner.Views.{step_of}
+use Rattle.reason_report.proofs.steps.leaves_in.Given as goal
+
+abbrev pub invariant-loop-step : goal.invariant-loop-step
+invariant-loop-step l =
+    record {
+      count : l.leaves + spec.leaves_in (map step_of (drop l.step-index l.steps)) ≡ spec.leaves_in (map step_of l.steps);
+      few : l.leaves ≤ l.step-index;
+    }

@@ -1,0 +1,3 @@
+-- Words of contracts inside the crate.
+pub mod Views
+pub mod Parts

@@ -1,0 +1,354 @@
+//! The steps of a refutation as lines of text.
+
+ghost use Rattle.std.specs.Prelude.{◌≡◌, ◌++◌, ◌∷◌, OnOk, IfOk, string_bytes, map, codes, slice_index_or, []};
+ghost use Rattle.std.specs.List.{flat_map};
+ghost use Rattle.outcome_report.specs.OutcomesJson.{key_of};
+ghost use Rattle.reason_report.specs.ReasonText as spec;
+ghost use Rattle.reason_report.specs.inner.Views.{answer_of, place_of, closing_of, step_of, known_access};
+ghost use Rattle.reason_report.specs.inner.Views.{value_text};
+
+use crate::asked::{model_name, write_asked, write_verdict};
+use crate::steps::{Answer, Closing, Edge, Event, Place, Step, leaves_in};
+use order_builder::letters_of;
+use refutation_laws::{Model, Relation};
+use std::alloc::Global;
+use tso_model::{Kind, Loc, NoMemory, Test};
+use tso_report::named::Named;
+use tso_report::report::write_test;
+
+/// A refutation of what the test asks, as lines of text: the test; that it is refuted, and in how many leaves; what is asked; the
+/// steps; and herd's verdict.
+///
+/// Errors: out of memory only.
+pub fn never_text(
+    alloc: Global,
+    test: &Test,
+    model: Model,
+    steps: &[Step],
+) -> Result<String, NoMemory>
+    ensures { IfOk result (λ text. string_bytes text ≡ spec.never_lines model test.now (map step_of steps.now)) }
+{
+    let mut text = String::new(alloc);
+    write_test(&mut text, test)?;
+    write_never(&mut text, model, leaves_in(steps))?;
+    write_asked(&mut text, test)?;
+    write_steps(&mut text, test, steps)?;
+    write_verdict(&mut text, test, false)?;
+    Ok(text)
+}
+
+/// The line of a search that met its limit.
+///
+/// Errors: out of memory only.
+pub fn unfinished_text(alloc: Global, limit: usize) -> Result<String, NoMemory>
+    ensures { IfOk result (λ text. string_bytes text ≡ spec.unfinished_line limit) }
+{
+    let mut text = String::new(alloc);
+    write!(text, "Unfinished cases={limit}\n")?;
+    Ok(text)
+}
+
+/// `Never tso leaves=3`.
+fn write_never(text: &mut String, model: Model, leaves: usize) -> Result<(), NoMemory>
+    ensures { OnOk result (string_bytes text.new ≡ string_bytes text.old ++ spec.never_line model leaves) }
+{
+    let model = model_name(model);
+    write!(text, "Never {model} leaves={leaves}\n")?;
+    Ok(())
+}
+
+fn write_steps(text: &mut String, test: &Test, steps: &[Step]) -> Result<(), NoMemory>
+    ensures { OnOk result (string_bytes text.new ≡ string_bytes text.old ++ flat_map (spec.step_line test.now) (map step_of steps.now)) }
+{
+    for step in steps {
+        write_step(text, test, step)?;
+    }
+    Ok(())
+}
+
+fn write_step(text: &mut String, test: &Test, step: &Step) -> Result<(), NoMemory>
+    ensures { OnOk result (string_bytes text.new ≡ string_bytes text.old ++ spec.step_line test.now (step_of step.now)) }
+{
+    match step {
+        Step::Case(depth, answer) => write_answered(text, test, *depth, "Case ", answer),
+        Step::So(depth, answer) => write_answered(text, test, *depth, "So ", answer),
+        Step::Leaf(depth, closing) => write_leaf(text, test, *depth, closing),
+        Step::Endcases(depth) => {
+            write_blanks(text, *depth)?;
+            text.push_str("Endcases\n")?;
+            Ok(())
+        }
+    }
+}
+
+fn write_answered(
+    text: &mut String,
+    test: &Test,
+    depth: usize,
+    word: &str,
+    answer: &Answer,
+) -> Result<(), NoMemory>
+    ensures { OnOk result (string_bytes text.new
+        ≡ string_bytes text.old ++ (spec.blanks depth ++ (word.now ++ (spec.answer_text test.now (answer_of answer.now) ++ 10 ∷ [])))) }
+{
+    write_blanks(text, depth)?;
+    text.push_str(word)?;
+    write_answer(text, test, answer)?;
+    text.push('\n')?;
+    Ok(())
+}
+
+fn write_leaf(
+    text: &mut String,
+    test: &Test,
+    depth: usize,
+    closing: &Closing,
+) -> Result<(), NoMemory>
+    ensures { OnOk result (string_bytes text.new
+        ≡ string_bytes text.old ++ (spec.blanks depth ++ (spec.closing_text test.now (closing_of closing.now) ++ 10 ∷ []))) }
+{
+    write_blanks(text, depth)?;
+    write_closing(text, test, closing)?;
+    text.push('\n')?;
+    Ok(())
+}
+
+fn write_blanks(text: &mut String, depth: usize) -> Result<(), NoMemory>
+    ensures { OnOk result (string_bytes text.new ≡ string_bytes text.old ++ spec.blanks depth) }
+{
+    for _deeper in 0..depth {
+        text.push(' ')?;
+    }
+    Ok(())
+}
+
+/// `P1:0 R y=1 from P0:1 W y=1`, or `P0:0 W x=1 before P1:0 W x=2`.
+fn write_answer(text: &mut String, test: &Test, answer: &Answer) -> Result<(), NoMemory>
+    ensures { OnOk result (string_bytes text.new ≡ string_bytes text.old ++ spec.answer_text test.now (answer_of answer.now)) }
+{
+    match answer {
+        Answer::From(read, writes) => {
+            write_event(text, test, read)?;
+            text.push_str(" from ")?;
+            write_sources(text, test, writes)
+        }
+        Answer::Before(first, second) => {
+            write_event(text, test, first)?;
+            text.push_str(" before ")?;
+            write_event(text, test, second)
+        }
+    }
+}
+
+fn write_sources(text: &mut String, test: &Test, writes: &[Option<Event>]) -> Result<(), NoMemory>
+    ensures { OnOk result (string_bytes text.new ≡ string_bytes text.old ++ spec.sources_text test.now writes.now) }
+{
+    let Some((first, rest)) = writes.split_first() else {
+        return Ok(());
+    };
+    write_source(text, test, first)?;
+    write_further(text, test, rest)
+}
+
+fn write_further(text: &mut String, test: &Test, writes: &[Option<Event>]) -> Result<(), NoMemory>
+    ensures { OnOk result (string_bytes text.new ≡ string_bytes text.old ++ flat_map (spec.or_text test.now) writes.now) }
+{
+    for write in writes {
+        text.push_str(" or ")?;
+        write_source(text, test, write)?;
+    }
+    Ok(())
+}
+
+/// A write, or `initial`.
+pub fn write_source(text: &mut String, test: &Test, write: &Option<Event>) -> Result<(), NoMemory>
+    ensures { OnOk result (string_bytes text.new ≡ string_bytes text.old ++ spec.source_text test.now write.now) }
+{
+    match write {
+        None => {
+            text.push_str("initial")?;
+            Ok(())
+        }
+        Some(event) => write_event(text, test, event),
+    }
+}
+
+fn write_closing(text: &mut String, test: &Test, closing: &Closing) -> Result<(), NoMemory>
+    ensures { OnOk result (string_bytes text.new ≡ string_bytes text.old ++ spec.closing_text test.now (closing_of closing.now)) }
+{
+    match closing {
+        Closing::Uniproc(edges) => {
+            text.push_str("Uniproc")?;
+            write_cycle(text, test, edges)
+        }
+        Closing::Cycle(edges) => {
+            text.push_str("Cycle")?;
+            write_cycle(text, test, edges)
+        }
+        Closing::Between(read, between, write) => write_between(text, test, read, between, write),
+        Closing::False(places) => {
+            text.push_str("False")?;
+            write_places(text, test, places)
+        }
+    }
+}
+
+fn write_between(
+    text: &mut String,
+    test: &Test,
+    read: &Event,
+    between: &Event,
+    write: &Event,
+) -> Result<(), NoMemory>
+    ensures { OnOk result (string_bytes text.new ≡ string_bytes text.old ++ (codes "Between " ++ (spec.event_text test.now read.now
+        ++ (codes " " ++ (spec.event_text test.now between.now ++ (codes " " ++ spec.event_text test.now write.now)))))) }
+{
+    text.push_str("Between ")?;
+    write_event(text, test, read)?;
+    text.push(' ')?;
+    write_event(text, test, between)?;
+    text.push(' ')?;
+    write_event(text, test, write)
+}
+
+/// ` P0:0 W x=1 po P0:1 W y=1 ..`, back to the first event.
+fn write_cycle(text: &mut String, test: &Test, edges: &[Edge]) -> Result<(), NoMemory>
+    ensures { OnOk result (string_bytes text.new ≡ string_bytes text.old ++ spec.cycle_text test.now edges.now) }
+{
+    let Some((first, _)) = edges.split_first() else {
+        return Ok(());
+    };
+    text.push(' ')?;
+    write_event(text, test, &first.source)?;
+    write_hops(text, test, edges)
+}
+
+fn write_hops(text: &mut String, test: &Test, edges: &[Edge]) -> Result<(), NoMemory>
+    ensures { OnOk result (string_bytes text.new ≡ string_bytes text.old ++ flat_map (spec.hop_text test.now) edges.now) }
+{
+    for edge in edges {
+        write_hop(text, test, edge)?;
+    }
+    Ok(())
+}
+
+/// ` po P0:1 W y=1`.
+fn write_hop(text: &mut String, test: &Test, edge: &Edge) -> Result<(), NoMemory>
+    ensures { OnOk result (string_bytes text.new ≡ string_bytes text.old ++ spec.hop_text test.now edge.now) }
+{
+    let relation = relation_text(edge.relation);
+    write!(text, " {relation} ")?;
+    write_event(text, test, &edge.target)
+}
+
+/// The name that a relation has between the events of a cycle. An edge of no relation has none.
+pub fn relation_text(relation: Option<Relation>) -> &'static str
+    ensures { result.now ≡ spec.relation_text relation }
+{
+    match relation {
+        None => "",
+        Some(Relation::Po) | Some(Relation::PoLoc) | Some(Relation::PoGhb) => "po",
+        Some(Relation::Mfence) => "mfence",
+        Some(Relation::Implied) => "implied",
+        Some(Relation::Rf) | Some(Relation::Rfe) => "rf",
+        Some(Relation::Co) => "co",
+        Some(Relation::Fr) => "fr",
+    }
+}
+
+fn write_places(text: &mut String, test: &Test, places: &[Place]) -> Result<(), NoMemory>
+    ensures { OnOk result (string_bytes text.new ≡ string_bytes text.old ++ flat_map (spec.place_text test.now) (map place_of places.now)) }
+{
+    for place in places {
+        write_place(text, test, place)?;
+    }
+    Ok(())
+}
+
+/// ` 1:EAX=0`, or ` x=1|2`.
+fn write_place(text: &mut String, test: &Test, place: &Place) -> Result<(), NoMemory>
+    ensures { OnOk result (string_bytes text.new ≡ string_bytes text.old ++ spec.place_text test.now (place_of place.now)) }
+{
+    text.push(' ')?;
+    write_key(text, test, place.named)?;
+    text.push('=')?;
+    write_words(text, &place.values)
+}
+
+fn write_words(text: &mut String, values: &[u32]) -> Result<(), NoMemory>
+    ensures { OnOk result (string_bytes text.new ≡ string_bytes text.old ++ spec.words_text values.now) }
+{
+    let Some((first, rest)) = values.split_first() else {
+        return Ok(());
+    };
+    write!(text, "{first}")?;
+    write_bars(text, rest)
+}
+
+fn write_bars(text: &mut String, values: &[u32]) -> Result<(), NoMemory>
+    ensures { OnOk result (string_bytes text.new ≡ string_bytes text.old ++ flat_map spec.bar_text values.now) }
+{
+    for value in values {
+        write!(text, "|{value}")?;
+    }
+    Ok(())
+}
+
+/// `c:EAX`, or `x`.
+pub fn write_key(text: &mut String, test: &Test, named: Named) -> Result<(), NoMemory>
+    ensures { OnOk result (string_bytes text.new ≡ string_bytes text.old ++ key_of test.now named) }
+{
+    match named {
+        Named::Register(core, reg) => {
+            let (core, name) = (core.0, reg.name());
+            write!(text, "{core}:{name}")?;
+        }
+        Named::Location(loc) => text.push_str(name_of(test, loc))?,
+    }
+    Ok(())
+}
+
+/// The name of a location, if the test has it.
+fn name_of(test: &Test, loc: Loc) -> &str
+    ensures { result.now ≡ slice_index_or test.now.locations loc.0 [] }
+{
+    if loc.0 < test.locations() {
+        test.location_name(loc)
+    } else {
+        ""
+    }
+}
+
+/// An event, as `P0:1 R y=0`; `P0:1 R y` where its value isn't known, `P1:2 F` for a fence.
+pub fn write_event(text: &mut String, test: &Test, event: &Event) -> Result<(), NoMemory>
+    ensures { OnOk result (string_bytes text.new ≡ string_bytes text.old ++ spec.event_text test.now event.now) }
+{
+    let core = event.entry.core.0;
+    let place = event.entry.place;
+    let letters = letters_of(event.entry.kind);
+    write!(text, "P{core}:{place} {letters}")?;
+    write_access(text, test, event)
+}
+
+fn write_access(text: &mut String, test: &Test, event: &Event) -> Result<(), NoMemory>
+    ensures { OnOk result (string_bytes text.new
+        ≡ string_bytes text.old ++ known_access test.now event.now.entry.kind event.now.entry.loc.0 event.now.value) }
+{
+    match event.entry.kind {
+        Kind::F => Ok(()),
+        Kind::R | Kind::W | Kind::LR | Kind::LW => {
+            let name = name_of(test, event.entry.loc);
+            write!(text, " {name}")?;
+            write_value(text, event.value)
+        }
+    }
+}
+
+fn write_value(text: &mut String, value: Option<u32>) -> Result<(), NoMemory>
+    ensures { OnOk result (string_bytes text.new ≡ string_bytes text.old ++ value_text value) }
+{
+    if let Some(value) = value {
+        write!(text, "={value}")?;
+    }
+    Ok(())
+}

@@ -1,0 +1,75 @@
+//! What a test asks, and herd's verdict, as they are printed.
+
+ghost use Rattle.std.specs.Prelude.{◌≡◌, ◌++◌, OnOk, string_bytes};
+ghost use Rattle.reason_report.specs.ReasonText as spec;
+
+use refutation_laws::Model;
+use tso_model::{NoMemory, Quantifier, Test};
+use tso_report::report::quantifier_text;
+
+/// The name of a model.
+pub fn model_name(model: Model) -> &'static str
+    ensures { result.now ≡ spec.model_name model }
+{
+    match model {
+        Model::Tso => "tso",
+        Model::Sequential => "sc",
+    }
+}
+
+/// The truth of its proposition that a condition asks for.
+pub fn truth_asked(quantifier: Quantifier) -> bool
+    ensures { result ≡ spec.truth_asked quantifier }
+{
+    match quantifier {
+        Quantifier::Exists | Quantifier::NotExists => true,
+        Quantifier::Forall => false,
+    }
+}
+
+fn is_well(quantifier: Quantifier, allowed: bool) -> bool
+    ensures { result ≡ spec.is_well quantifier allowed }
+{
+    match quantifier {
+        Quantifier::Exists => allowed,
+        Quantifier::NotExists | Quantifier::Forall => !allowed,
+    }
+}
+
+/// `Ok` or `No`, where what is asked can be, or can't.
+pub fn verdict_word(quantifier: Quantifier, allowed: bool) -> &'static str
+    ensures { result.now ≡ spec.verdict_word (spec.is_well quantifier allowed) }
+{
+    if is_well(quantifier, allowed) {
+        "Ok"
+    } else {
+        "No"
+    }
+}
+
+/// `Asked exists true`; nothing where the test has no condition.
+pub fn write_asked(text: &mut String, test: &Test) -> Result<(), NoMemory>
+    ensures { OnOk result (string_bytes text.new ≡ string_bytes text.old ++ spec.asked_line test.now.condition) }
+{
+    if let Some(cond) = test.cond() {
+        let quantifier = quantifier_text(cond.quantifier);
+        let truth = if truth_asked(cond.quantifier) {
+            "true"
+        } else {
+            "false"
+        };
+        write!(text, "Asked {quantifier} {truth}\n")?;
+    }
+    Ok(())
+}
+
+/// `Verdict Ok`; nothing where the test has no condition.
+pub fn write_verdict(text: &mut String, test: &Test, allowed: bool) -> Result<(), NoMemory>
+    ensures { OnOk result (string_bytes text.new ≡ string_bytes text.old ++ spec.verdict_line test.now.condition allowed) }
+{
+    if let Some(cond) = test.cond() {
+        let word = verdict_word(cond.quantifier, allowed);
+        write!(text, "Verdict {word}\n")?;
+    }
+    Ok(())
+}

@@ -1,0 +1,73 @@
+//! Events and edges as they are shown, with what the answers of a case tell of them.
+
+ghost use Rattle.std.specs.Prelude.{◌≡◌, IfOk};
+ghost use Rattle.refutation_laws.specs.Known.{events_of};
+ghost use Rattle.refutations.specs.Trees.{known_of, relations_of};
+ghost use Rattle.refutations.specs.inner.Facts.{AreFacts};
+ghost use Rattle.reason_report.specs.Steps as spec;
+
+use crate::steps::{Edge, Event};
+use refutations::{Acyclic, Answers, Facts, first_relation, value_known};
+use std::alloc::Global;
+use tso_model::{Entry, NoMemory, Test};
+
+/// An event, with its value where the answers tell it.
+pub fn event_at(test: &Test, events: &[Entry], answers: &Answers, facts: &Facts, e: &Entry) -> Event
+    requires events { events.now ≡ events_of test.now }
+    requires facts { AreFacts test.now (known_of answers.now) facts.now }
+    ensures { result ≡ spec.event_at test.now (known_of answers.now) e.now }
+{
+    Event {
+        entry: *e,
+        value: value_known(test, events, answers, facts, e),
+    }
+}
+
+fn edge_at(
+    test: &Test,
+    events: &[Entry],
+    answers: &Answers,
+    facts: &Facts,
+    acyclic: Acyclic,
+    x: &Entry,
+    y: &Entry,
+) -> Edge
+    requires events { events.now ≡ events_of test.now }
+    requires facts { AreFacts test.now (known_of answers.now) facts.now }
+    ensures { result ≡ spec.edge_at test.now (known_of answers.now) (relations_of acyclic) x.now y.now }
+{
+    Edge {
+        source: event_at(test, events, answers, facts, x),
+        relation: first_relation(test, events, answers, acyclic, x, y),
+        target: event_at(test, events, answers, facts, y),
+    }
+}
+
+/// The edges of a cycle: from each of these events to the next one, and from the last one to the first.
+///
+/// Errors: out of memory only.
+pub fn edges_of(
+    alloc: Global,
+    test: &Test,
+    events: &[Entry],
+    answers: &Answers,
+    facts: &Facts,
+    acyclic: Acyclic,
+    cycle: &[Entry],
+) -> Result<Vec<Edge>, NoMemory>
+    requires events { events.now ≡ events_of test.now }
+    requires facts { AreFacts test.now (known_of answers.now) facts.now }
+    ensures { IfOk result (λ edges. edges.items ≡ spec.edges_of test.now (known_of answers.now) (relations_of acyclic) cycle.now) }
+{
+    let mut edges = Vec::new(alloc);
+    let Some((first, rest)) = cycle.split_first() else {
+        return Ok(edges);
+    };
+    let mut last = first;
+    for next in rest {
+        edges.push(edge_at(test, events, answers, facts, acyclic, last, next))?;
+        last = next;
+    }
+    edges.push(edge_at(test, events, answers, facts, acyclic, last, first))?;
+    Ok(edges)
+}

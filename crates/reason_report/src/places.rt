@@ -1,0 +1,166 @@
+//! Why a proposition is false by the values that are known: the registers and locations that suffice to tell it.
+
+ghost use Rattle.std.specs.Prelude.{◌≡◌, IfOk, length, true, is_some};
+ghost use Rattle.std.specs.List.{list_all};
+ghost use Rattle.tso_model.specs.Condition.{NamesExist, claim_of, RegClaim, LocClaim};
+ghost use Rattle.refutation_laws.specs.Known.{events_of};
+ghost use Rattle.refutation_laws.specs.Refutations.{asked};
+ghost use Rattle.refutations.specs.Trees.{known_of};
+ghost use Rattle.refutations.specs.inner.Facts.{AreFacts};
+ghost use Rattle.tso_report.specs.inner.Tally.{IsKnown};
+ghost use Rattle.reason_report.specs.Places as spec;
+
+use refutations::propositions::{allows, register_at_end, words_at_end};
+use refutations::{Answers, Facts};
+use std::alloc::Global;
+use tso_model::{Core, Entry, Loc, NoMemory, Prop, Quantifier, Reg, Test};
+use tso_report::named::Named;
+
+fn is_register(core: Core, reg: Reg, value: u32, place: Named) -> bool
+    ensures { result ≡ spec.is_named (RegClaim core.0 reg value) place }
+{
+    match place {
+        Named::Register(other, named) => core.0 == other.0 && reg.index() == named.index(),
+        Named::Location(_) => false,
+    }
+}
+
+fn is_location(loc: Loc, value: u32, place: Named) -> bool
+    ensures { result ≡ spec.is_named (LocClaim loc.0 value) place }
+{
+    match place {
+        Named::Register(..) => false,
+        Named::Location(named) => loc.0 == named.0,
+    }
+}
+
+/// Of a proposition that can't have this truth, whether the place tells it.
+fn tells(
+    test: &Test,
+    events: &[Entry],
+    answers: &Answers,
+    facts: &Facts,
+    prop: &Prop,
+    truth: bool,
+    place: Named,
+) -> bool
+    requires events { events.now ≡ events_of test.now }
+    requires facts { AreFacts test.now (known_of answers.now) facts.now }
+    requires names { NamesExist (length test.now.programs) (length test.now.words) (claim_of prop.now) }
+    ensures { result ≡ spec.tells test.now (known_of answers.now) (claim_of prop.now) truth place }
+{
+    match prop {
+        Prop::Truth(_) => false,
+        Prop::RegIs(core, reg, value) => is_register(*core, *reg, *value, place),
+        Prop::LocIs(loc, value) => is_location(*loc, *value, place),
+        Prop::Not(inner) => tells(test, events, answers, facts, inner, !truth, place),
+        Prop::And(left, right) => {
+            if truth {
+                if allows(test, events, answers, facts, left, true) {
+                    tells(test, events, answers, facts, right, true, place)
+                } else {
+                    tells(test, events, answers, facts, left, true, place)
+                }
+            } else {
+                tells(test, events, answers, facts, left, false, place)
+                    || tells(test, events, answers, facts, right, false, place)
+            }
+        }
+        Prop::Or(left, right) => {
+            if truth {
+                tells(test, events, answers, facts, left, true, place)
+                    || tells(test, events, answers, facts, right, true, place)
+            } else if allows(test, events, answers, facts, left, false) {
+                tells(test, events, answers, facts, right, false, place)
+            } else {
+                tells(test, events, answers, facts, left, false, place)
+            }
+        }
+    }
+}
+
+/// Whether the place tells that what the test asks is false.
+fn tells_asked(
+    test: &Test,
+    events: &[Entry],
+    answers: &Answers,
+    facts: &Facts,
+    place: Named,
+) -> bool
+    requires events { events.now ≡ events_of test.now }
+    requires facts { AreFacts test.now (known_of answers.now) facts.now }
+    ensures { result ≡ spec.tells test.now (known_of answers.now) (asked test.now.condition) true place }
+{
+    let Some(cond) = test.cond() else {
+        return false;
+    };
+    match cond.quantifier {
+        Quantifier::Exists => tells(test, events, answers, facts, &cond.prop, true, place),
+        Quantifier::NotExists => tells(test, events, answers, facts, &cond.prop, true, place),
+        Quantifier::Forall => tells(test, events, answers, facts, &cond.prop, false, place),
+    }
+}
+
+/// What a register holds at the end, or the words that a location may have; none of what isn't known.
+///
+/// Errors: out of memory only.
+pub fn words_at(
+    alloc: Global,
+    test: &Test,
+    events: &[Entry],
+    answers: &Answers,
+    facts: &Facts,
+    place: Named,
+) -> Result<Vec<Option<u32>>, NoMemory>
+    requires events { events.now ≡ events_of test.now }
+    requires facts { AreFacts test.now (known_of answers.now) facts.now }
+    requires place { IsKnown (length test.now.programs) (length test.now.locations) place }
+    ensures { IfOk result (λ words. words.items ≡ spec.words_at test.now (known_of answers.now) place) }
+{
+    match place {
+        Named::Register(core, reg) => {
+            let mut words = Vec::new(alloc);
+            words.push(register_at_end(test, answers, facts, core, reg))?;
+            Ok(words)
+        }
+        Named::Location(loc) => words_at_end(alloc, test, events, answers, facts, loc),
+    }
+}
+
+fn are_known(words: &[Option<u32>]) -> bool
+    ensures { result ≡ spec.are_known words.now }
+{
+    match words.split_first() {
+        None => false,
+        Some(_) => are_all_known(words),
+    }
+}
+
+fn are_all_known(words: &[Option<u32>]) -> bool
+    ensures { result ≡ list_all is_some words.now }
+{
+    words.iter().all(|w| w.is_some())
+}
+
+/// Whether the place is named: it tells that what the test asks is false, and what stands there is known.
+///
+/// Errors: out of memory only.
+pub fn suffices(
+    alloc: Global,
+    test: &Test,
+    events: &[Entry],
+    answers: &Answers,
+    facts: &Facts,
+    place: Named,
+) -> Result<bool, NoMemory>
+    requires events { events.now ≡ events_of test.now }
+    requires facts { AreFacts test.now (known_of answers.now) facts.now }
+    requires place { IsKnown (length test.now.programs) (length test.now.locations) place }
+    ensures { IfOk result (λ b. b ≡ spec.suffices test.now (asked test.now.condition) (known_of answers.now) place) }
+{
+    if !tells_asked(test, events, answers, facts, place) {
+        return Ok(false);
+    }
+    let words = words_at(alloc, test, events, answers, facts, place)?;
+    Ok(are_known(&words))
+}

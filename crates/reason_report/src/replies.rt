@@ -1,0 +1,87 @@
+//! The answers to a question, as the branches of a refutation stand, and where the part of each branch begins among the nodes.
+
+ghost use Rattle.std.specs.Prelude.{◌≡◌, IfOk, map};
+ghost use Rattle.refutation_laws.specs.Known.{events_of};
+ghost use Rattle.refutation_laws.specs.Refutations.{sources_of};
+ghost use Rattle.refutations.specs.Trees.{known_of, node_of};
+ghost use Rattle.reason_report.specs.Steps as spec;
+ghost use Rattle.reason_report.specs.declared.replies.Reply.TheVariants.{Reads};
+
+use refutations::events::writes_to;
+use refutations::{Answers, Node, with_pair, with_source};
+use std::alloc::Global;
+use tso_model::{Entry, NoMemory, Test};
+
+/// An answer to a question.
+#[derive(Clone, Copy)]
+pub enum Reply {
+    /// The read reads from this write; none is the initial one.
+    Reads(Entry, Option<Entry>),
+    /// Of two writes to a location, the first one comes first.
+    First(Entry, Entry),
+}
+
+/// A branch of a question.
+#[derive(Drop)]
+pub struct Branch {
+    pub reply: Reply,
+    /// All answers that are given then.
+    pub answers: Answers,
+    /// Where its part begins among the nodes.
+    pub at: usize,
+}
+
+/// The answers to a question; none to a leaf.
+///
+/// Errors: out of memory only.
+pub fn replies(
+    alloc: Global,
+    test: &Test,
+    events: &[Entry],
+    node: &Node,
+) -> Result<Vec<Reply>, NoMemory>
+    requires { events.now ≡ events_of test.now }
+    ensures { IfOk result (λ all. all.items ≡ spec.replies test.now (node_of node.now)) }
+{
+    match node {
+        Node::ReadsFrom(read) => sources(alloc, test, events, *read),
+        Node::ComesFirst(first, second) => {
+            let mut all = Vec::new(alloc);
+            all.push(Reply::First(*first, *second))?;
+            all.push(Reply::First(*second, *first))?;
+            Ok(all)
+        }
+        _ => Ok(Vec::new(alloc)),
+    }
+}
+
+fn sources(
+    alloc: Global,
+    test: &Test,
+    events: &[Entry],
+    read: Entry,
+) -> Result<Vec<Reply>, NoMemory>
+    requires { events.now ≡ events_of test.now }
+    ensures { IfOk result (λ all. all.items ≡ map (Reads read) (sources_of test.now read)) }
+{
+    let mut all = Vec::new(alloc);
+    all.push(Reply::Reads(read, None))?;
+    for w in events {
+        if writes_to(read.loc.0, w) {
+            all.push(Reply::Reads(read, Some(*w)))?;
+        }
+    }
+    Ok(all)
+}
+
+/// These answers, and one more.
+///
+/// Errors: out of memory only.
+pub fn with_reply(alloc: Global, answers: &Answers, reply: Reply) -> Result<Answers, NoMemory>
+    ensures { IfOk result (λ a. known_of a ≡ spec.with_reply (known_of answers.now) reply) }
+{
+    match reply {
+        Reply::Reads(read, write) => with_source(alloc, answers, read, write),
+        Reply::First(first, second) => with_pair(alloc, answers, first, second),
+    }
+}

@@ -1,0 +1,87 @@
+//! A refutation as it is printed, step by step: what is asked and answered, and why each case is closed.
+
+ghost use Rattle.std.specs.Prelude.{◌≡◌, if◌then◌else◌, map};
+ghost use Rattle.reason_report.specs.Steps as spec;
+ghost use Rattle.reason_report.specs.inner.Views.{step_of};
+
+use refutation_laws::Relation;
+use tso_model::Entry;
+use tso_report::named::Named;
+
+/// An event as it is printed: an entry, whose own value doesn't count.
+#[derive(Clone, Copy)]
+pub struct Event {
+    pub entry: Entry,
+    /// Its value, where the answers so far tell it.
+    pub value: Option<u32>,
+}
+
+/// An edge of a cycle.
+#[derive(Clone, Copy)]
+pub struct Edge {
+    pub source: Event,
+    /// The relation that it is of. An edge of a refutation has one.
+    pub relation: Option<Relation>,
+    pub target: Event,
+}
+
+/// An answer to a question.
+#[derive(Drop)]
+pub enum Answer {
+    /// The read reads from this write, or from one of these. None is the initial one.
+    From(Event, Vec<Option<Event>>),
+    /// Of two writes to a location, the first one comes first.
+    Before(Event, Event),
+}
+
+/// A register or a location, and the values that it may have.
+#[derive(Drop)]
+pub struct Place {
+    pub named: Named,
+    pub values: Vec<u32>,
+}
+
+/// Why a case is closed.
+#[derive(Drop)]
+pub enum Closing {
+    /// A cycle of uniproc.
+    Uniproc(Vec<Edge>),
+    /// A cycle of the model's global relation.
+    Cycle(Vec<Edge>),
+    /// The second, a write, comes between what the first, a load part, reads from and its store part.
+    Between(Event, Event, Event),
+    /// The proposition is false by what stands in these places.
+    False(Vec<Place>),
+}
+
+/// A step, with how many steps it stands deeper than the first one.
+#[derive(Drop)]
+pub enum Step {
+    /// An answer. Its part follows, one step deeper.
+    Case(usize, Answer),
+    /// The one answer that is left. What follows at the same depth is its part.
+    So(usize, Answer),
+    /// The case is closed.
+    Leaf(usize, Closing),
+    /// The cases of a question end here, and none is left.
+    Endcases(usize),
+}
+
+fn is_leaf(step: &Step) -> bool
+    ensures { (if result then 1 else 0) ≡ spec.leaves_of (step_of step.now) }
+{
+    matches!(step, Step::Leaf(..))
+}
+
+/// How many of these steps close a case.
+pub fn leaves_in(steps: &[Step]) -> usize
+    ensures { result ≡ spec.leaves_in (map step_of steps.now) }
+{
+    let mut leaves = 0;
+    for step in steps {
+        if is_leaf(step) {
+            leaves += 1;
+        }
+    }
+    leaves
+}
