@@ -4,23 +4,20 @@
 ghost use Rattle.std.specs.Prelude.{◌≡◌, IfOk, OnOk, string_bytes, map};
 ghost use Rattle.serde_json.specs.Data.{object, array, string};
 ghost use Rattle.serde_json.specs.View.{view, items_of};
-ghost use Rattle.outcome_report.specs.OutcomesJson.{key_of};
 ghost use Rattle.tso_report.specs.Json.{count};
 ghost use Rattle.reason_report.specs.ReasonText as text;
 ghost use Rattle.reason_report.specs.ReasonJson as spec;
 ghost use Rattle.reason_report.specs.Steps as steps;
 ghost use Rattle.reason_report.specs.inner.Views.{answer_of, place_of, closing_of, step_of};
 
-use crate::as_text::{relation_text, write_event, write_key, write_source};
-use crate::asked::{model_name, truth_asked, verdict_word};
+use crate::as_text::{key_text, relation_text, write_event, write_source};
+use crate::asked::{asked_value, model_name, verdict_value};
 use crate::steps::{Answer, Closing, Edge, Event, Place, Step, leaves_in};
 use refutation_laws::Model;
 use serde_json::{Map, Value, json, put};
 use std::alloc::Global;
 use tso_model::{NoMemory, Test};
 use tso_report::json::line_of;
-use tso_report::named::Named;
-use tso_report::report::quantifier_text;
 
 /// A refutation of what the test asks, as JSON: one line.
 ///
@@ -99,34 +96,6 @@ fn never_value(alloc: Global, test: &Test, model: Model, steps: &[Step]) -> Resu
         verdict_value(alloc, test, false)?,
     )?;
     Ok(Value::Object(members))
-}
-
-/// The quantifier of the condition and the truth that it asks for, or `null`.
-///
-/// Errors: out of memory only.
-pub fn asked_value(alloc: Global, test: &Test) -> Result<Value, NoMemory>
-    ensures { IfOk result (λ value. view value ≡ spec.asked_value test.now.condition) }
-{
-    match test.cond() {
-        None => Ok(Value::Null),
-        Some(cond) => {
-            let kind = quantifier_text(cond.quantifier);
-            let truth = truth_asked(cond.quantifier);
-            Ok(json!(in alloc; {"kind": kind, "truth": truth})?)
-        }
-    }
-}
-
-/// `Ok` or `No`, or `null`.
-///
-/// Errors: out of memory only.
-pub fn verdict_value(alloc: Global, test: &Test, allowed: bool) -> Result<Value, NoMemory>
-    ensures { IfOk result (λ value. view value ≡ spec.verdict_value test.now.condition allowed) }
-{
-    match test.cond() {
-        None => Ok(Value::Null),
-        Some(cond) => Ok(Value::try_from_str(alloc, verdict_word(cond.quantifier, allowed))?),
-    }
 }
 
 fn steps_value(alloc: Global, test: &Test, steps: &[Step]) -> Result<Value, NoMemory>
@@ -418,12 +387,4 @@ fn words_value(alloc: Global, words: &[u32]) -> Result<Value, NoMemory>
         values.push(Value::from(*word))?;
     }
     Ok(Value::Array(values))
-}
-
-fn key_text(alloc: Global, test: &Test, named: Named) -> Result<String, NoMemory>
-    ensures { IfOk result (λ text. string_bytes text ≡ key_of test.now named) }
-{
-    let mut text = String::new(alloc);
-    write_key(&mut text, test, named)?;
-    Ok(text)
 }

@@ -295,7 +295,7 @@ fn write_bars(text: &mut String, values: &[u32]) -> Result<(), NoMemory>
 }
 
 /// `c:EAX`, or `x`.
-pub fn write_key(text: &mut String, test: &Test, named: Named) -> Result<(), NoMemory>
+fn write_key(text: &mut String, test: &Test, named: Named) -> Result<(), NoMemory>
     ensures { OnOk result (string_bytes text.new ≡ string_bytes text.old ++ key_of test.now named) }
 {
     match named {
@@ -306,6 +306,17 @@ pub fn write_key(text: &mut String, test: &Test, named: Named) -> Result<(), NoM
         Named::Location(loc) => text.push_str(name_of(test, loc))?,
     }
     Ok(())
+}
+
+/// The same as a text of its own.
+///
+/// Errors: out of memory only.
+pub fn key_text(alloc: Global, test: &Test, named: Named) -> Result<String, NoMemory>
+    ensures { IfOk result (λ text. string_bytes text ≡ key_of test.now named) }
+{
+    let mut text = String::new(alloc);
+    write_key(&mut text, test, named)?;
+    Ok(text)
 }
 
 /// The name of a location, if the test has it.

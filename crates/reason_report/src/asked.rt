@@ -1,9 +1,13 @@
 //! What a test asks, and herd's verdict, as they are printed.
 
-ghost use Rattle.std.specs.Prelude.{◌≡◌, ◌++◌, OnOk, string_bytes};
+ghost use Rattle.std.specs.Prelude.{◌≡◌, ◌++◌, IfOk, OnOk, string_bytes};
+ghost use Rattle.serde_json.specs.View.{view};
 ghost use Rattle.reason_report.specs.ReasonText as spec;
+ghost use Rattle.reason_report.specs.ReasonJson as values;
 
 use refutation_laws::Model;
+use serde_json::{Value, json};
+use std::alloc::Global;
 use tso_model::{NoMemory, Quantifier, Test};
 use tso_report::report::quantifier_text;
 
@@ -72,4 +76,32 @@ pub fn write_verdict(text: &mut String, test: &Test, allowed: bool) -> Result<()
         write!(text, "Verdict {word}\n")?;
     }
     Ok(())
+}
+
+/// The quantifier of the condition and the truth that it asks for, or `null`.
+///
+/// Errors: out of memory only.
+pub fn asked_value(alloc: Global, test: &Test) -> Result<Value, NoMemory>
+    ensures { IfOk result (λ value. view value ≡ values.asked_value test.now.condition) }
+{
+    match test.cond() {
+        None => Ok(Value::Null),
+        Some(cond) => {
+            let kind = quantifier_text(cond.quantifier);
+            let truth = truth_asked(cond.quantifier);
+            Ok(json!(in alloc; {"kind": kind, "truth": truth})?)
+        }
+    }
+}
+
+/// `Ok` or `No`, or `null`.
+///
+/// Errors: out of memory only.
+pub fn verdict_value(alloc: Global, test: &Test, allowed: bool) -> Result<Value, NoMemory>
+    ensures { IfOk result (λ value. view value ≡ values.verdict_value test.now.condition allowed) }
+{
+    match test.cond() {
+        None => Ok(Value::Null),
+        Some(cond) => Ok(Value::try_from_str(alloc, verdict_word(cond.quantifier, allowed))?),
+    }
 }
