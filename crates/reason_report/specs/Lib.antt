@@ -2,9 +2,9 @@ pub mod Places
 pub mod Steps
 pub mod ReasonText
 pub mod ReasonJson
-pub mod Printed
 pub mod Worked
 pub mod inner
+pub mod Views
 pub use Rattle.refutation_laws.specs.Known
 pub use Rattle.refutation_laws.specs.Refutations
 pub use Rattle.relational_model.specs.Candidates

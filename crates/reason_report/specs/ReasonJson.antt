@@ -20,10 +20,10 @@ use Rattle.outcome_report.specs.OutcomesJson.{key_of, value_members}
 use Rattle.reason_report.specs.Places.{Place}
 use Rattle.reason_report.specs.declared.steps.Event.{Event}
 use Rattle.reason_report.specs.declared.steps.Edge.{Edge}
-use Rattle.reason_report.specs.Steps.{Answer, From, Before, Closing, Uniproc, Cycle, Amid, False}
-use Rattle.reason_report.specs.Steps.{Step, Case, So, Leaf, Endcases, steps_of, leaves_in}
-use Rattle.reason_report.specs.ReasonText.{model_name, truth_asked, is_well, verdict_word, event_text, relation_text, source_text}
-use Rattle.reason_report.specs.ReasonText.{read_source, reads_of, values_left}
+use Rattle.reason_report.specs.Steps.{Answer, From, Before, Closing, Uniproc, Cycle, Amid, False, Step, Case, So, Leaf}
+use Rattle.reason_report.specs.Steps.{Endcases, steps_of, leaves_in}
+use Rattle.reason_report.specs.ReasonText.{model_name, truth_asked, is_well, verdict_word, event_text, relation_text}
+use Rattle.reason_report.specs.ReasonText.{source_text, read_source, reads_of, values_left}
 
 -- ---- what is asked, and herd's verdict
 
@@ -40,7 +40,6 @@ verdict_value None allowed = null
 verdict_value (Some c) allowed = string (verdict_word (is_well c.quantifier allowed))
 
 -- ---- steps
-
 abbrev pub event_value : Litmus → Event → Data
 event_value t e = string (event_text t e)
 
@@ -113,7 +112,6 @@ never_value_of model t steps =
     (member (codes "verdict") (verdict_value t.condition false) no_members)))))))
 
 -- ---- what can be
-
 abbrev pub from_value : Litmus → Candidate → Entry → Data
 from_value t c r =
     object (member (codes "read") (string (printed_entry t r))
@@ -141,15 +139,7 @@ allowed_value model t c choices =
     (member (codes "values") (object (value_members t (looked_at t) (values_left t c)))
     (member (codes "verdict") (verdict_value t.condition true) no_members)))))))))
 
--- ---- too many cases
-
-abbrev pub unfinished_value : Litmus → ℕ → Data
-unfinished_value t limit =
-    object (member (codes "test") (string t.name)
-    (member (codes "unfinished") (object (member (codes "cases") (count limit) no_members)) no_members))
-
 -- ---- what is printed: the compact text of the value, on one line
-
 abbrev pub never_line : Model → Litmus → List Step → List ℕ
 never_line model t steps = line (compact_text (never_value_of model t steps))
 
@@ -158,6 +148,3 @@ never_json model t nodes = never_line model t (steps_of model t (asked t.conditi
 
 abbrev pub allowed_json : Model → Litmus → Candidate → List Choice → List ℕ
 allowed_json model t c choices = line (compact_text (allowed_value model t c choices))
-
-abbrev pub unfinished_json : Litmus → ℕ → List ℕ
-unfinished_json t limit = line (compact_text (unfinished_value t limit))

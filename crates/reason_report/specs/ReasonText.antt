@@ -1,6 +1,6 @@
 -- What `why` prints as lines of text: why what a test asks is never so, or an execution in which it is.
-use Rattle.std.specs.Prelude.{ℕ, suc, Bool, true, false, not, List, [], ◌∷◌, ◌++◌, filter, Option, Some, None, slice_index_or, codes}
-use Rattle.std.specs.Prelude.{replicate}
+use Rattle.std.specs.Prelude.{ℕ, suc, Bool, true, false, not, List, [], ◌∷◌, ◌++◌, filter, Option, Some, None}
+use Rattle.std.specs.Prelude.{slice_index_or, codes, replicate}
 use Rattle.std.specs.List.{flat_map}
 use Rattle.std.specs.Fmt.{decimal}
 use Rattle.tso_model.specs.Litmus.{Litmus}
@@ -18,7 +18,8 @@ use Rattle.refutation_laws.specs.Refutations.{Node, asked}
 use Rattle.refutation_laws.specs.declared.model.Model.{Model}
 use Rattle.refutation_laws.specs.declared.model.Model.TheVariants.{Tso, Sequential}
 use Rattle.refutation_laws.specs.declared.model.Relation.{Relation}
-use Rattle.refutation_laws.specs.declared.model.Relation.TheVariants.{Po, PoLoc, PoGhb, Mfence, Implied, Rf, Rfe, Co, Fr}
+use Rattle.refutation_laws.specs.declared.model.Relation.TheVariants.{Po, PoLoc, PoGhb, Mfence, Implied, Rf, Rfe, Co}
+use Rattle.refutation_laws.specs.declared.model.Relation.TheVariants.{Fr}
 use Rattle.order_builder.specs.PrintedOrder.{letters_of, printed_entry}
 use Rattle.tso_report.specs.Report.{line, test_line, printed_quantifier, printed_truth}
 use Rattle.tso_report.specs.Tally.{values_in}
@@ -27,11 +28,10 @@ use Rattle.outcome_report.specs.OutcomesJson.{key_of}
 use Rattle.reason_report.specs.Places.{Place}
 use Rattle.reason_report.specs.declared.steps.Event.{Event}
 use Rattle.reason_report.specs.declared.steps.Edge.{Edge}
-use Rattle.reason_report.specs.Steps.{Answer, From, Before, Closing, Uniproc, Cycle, Amid, False}
-use Rattle.reason_report.specs.Steps.{Step, Case, So, Leaf, Endcases, steps_of, leaves_in}
+use Rattle.reason_report.specs.Steps.{Answer, From, Before, Closing, Uniproc, Cycle, Amid, False, Step, Case, So, Leaf}
+use Rattle.reason_report.specs.Steps.{Endcases, steps_of, leaves_in}
 
 -- ---- what is asked, and herd's verdict
-
 abbrev pub model_name : Model → List ℕ
 model_name Tso = codes "tso"
 model_name Sequential = codes "sc"
@@ -202,9 +202,3 @@ allowed_text model t c choices =
     test_line t ++ (codes "Allowed " ++ (line (model_name model) ++ (asked_line t.condition
     ++ (flat_map (from_line t c) (reads_of t c) ++ (coherence_lines t c 0 t.locations
     ++ (by_line choices ++ (state_line t (values_left t c) ++ verdict_line t.condition true)))))))
-
--- ---- too many cases
-
--- `Unfinished cases=N`: the search met its limit, and all that is printed is this line
-abbrev pub unfinished_line : ℕ → List ℕ
-unfinished_line limit = codes "Unfinished cases=" ++ line (decimal limit)

@@ -2,7 +2,7 @@
 
 ghost use Rattle.std.specs.Prelude.{◌≡◌, IfOk};
 ghost use Rattle.refutation_laws.specs.Known.{events_of};
-ghost use Rattle.refutations.specs.Trees.{known_of, relations_of};
+ghost use Rattle.refutations.specs.inner.Trees.{known_of, relations_of};
 ghost use Rattle.refutations.specs.inner.Facts.{AreFacts};
 ghost use Rattle.reason_report.specs.Steps as spec;
 

@@ -3,7 +3,8 @@
 ghost use Rattle.std.specs.Prelude.{◌≡◌, IfOk, map};
 ghost use Rattle.refutation_laws.specs.Known.{events_of};
 ghost use Rattle.refutation_laws.specs.Refutations.{sources_of};
-ghost use Rattle.refutations.specs.Trees.{known_of, node_of};
+ghost use Rattle.refutations.specs.Trees.{node_of};
+ghost use Rattle.refutations.specs.inner.Trees.{known_of};
 ghost use Rattle.reason_report.specs.Steps as spec;
 ghost use Rattle.reason_report.specs.declared.replies.Reply.TheVariants.{Reads};
 

@@ -2,7 +2,7 @@
 
 ghost use Rattle.std.specs.Prelude.{◌≡◌, if◌then◌else◌, map};
 ghost use Rattle.reason_report.specs.Steps as spec;
-ghost use Rattle.reason_report.specs.inner.Views.{step_of};
+ghost use Rattle.reason_report.specs.Views.{step_of};
 
 use refutation_laws::Relation;
 use tso_model::Entry;

@@ -13,7 +13,8 @@ use Rattle.refutation_laws.specs.declared.model.Model.{Model}
 use Rattle.refutation_laws.specs.inner.FullCases.{IsPossible, has_source, may_ask, is_answered, IsSound}
 use Rattle.refutation_laws.proofs.Standing.{same-bare}
 use Rattle.refutation_laws.proofs.Soundness.{bare-same}
-use Rattle.refutations.specs.Trees.{known_of, node_of}
+use Rattle.refutations.specs.Trees.{node_of}
+use Rattle.refutations.specs.inner.Trees.{known_of}
 use Rattle.refutations.specs.inner.Stack.{cases_of}
 use Rattle.refutations.specs.declared.answers.Answers.{Answers}
 use Rattle.refutations.specs.declared.tree.Node as code

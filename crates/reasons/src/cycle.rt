@@ -5,7 +5,7 @@ ghost use Rattle.tso_model.specs.declared.execution.Entry as declared;
 ghost use Rattle.relational_model.specs.Events.{IsIn};
 ghost use Rattle.refutation_laws.specs.Known.{events_of};
 ghost use Rattle.refutation_laws.specs.Edges as edges;
-ghost use Rattle.refutations.specs.Trees.{known_of, relations_of};
+ghost use Rattle.refutations.specs.inner.Trees.{known_of, relations_of};
 ghost use Rattle.reasons.specs.inner.Cycles.{up_to, CycleOrRow};
 
 use crate::sorting::{Precedence, sort};

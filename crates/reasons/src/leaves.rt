@@ -1,7 +1,7 @@
 //! The leaf that closes a case, where there is one.
 ghost use Rattle.std.specs.Prelude.{◌≡◌, IfOk};
 ghost use Rattle.refutation_laws.specs.Known.{events_of};
-ghost use Rattle.refutations.specs.Trees.{known_of};
+ghost use Rattle.refutations.specs.inner.Trees.{known_of};
 ghost use Rattle.reasons.specs.inner.Cases as spec;
 
 use crate::cycle::find_cycle;

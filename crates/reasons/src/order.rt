@@ -3,7 +3,7 @@ ghost use Rattle.std.specs.Prelude.{◌≡◌, ◌++◌, not, IfOk, filter, map}
 ghost use Rattle.refutation_laws.specs.Known.{events_of};
 ghost use Rattle.refutation_laws.specs.Edges.{are_parts};
 ghost use Rattle.refutation_laws.specs.inner.Orders as spec;
-ghost use Rattle.refutations.specs.Trees.{known_of};
+ghost use Rattle.refutations.specs.inner.Trees.{known_of};
 ghost use Rattle.refutations.specs.inner.Facts.{AreFacts};
 ghost use Rattle.refutation_laws.specs.Refutations.{asked};
 ghost use Rattle.refutation_laws.specs.Models.{IsMet};

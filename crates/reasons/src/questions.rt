@@ -4,7 +4,7 @@ ghost use Rattle.tso_model.specs.ProgramOrder as program_order;
 ghost use Rattle.refutation_laws.specs.Known.{events_of};
 ghost use Rattle.refutation_laws.specs.Known as known;
 ghost use Rattle.refutation_laws.specs.inner.FullCases.{has_source, are_ordered};
-ghost use Rattle.refutations.specs.Trees.{known_of};
+ghost use Rattle.refutations.specs.inner.Trees.{known_of};
 ghost use Rattle.reasons.specs.inner.Questions as spec;
 
 use refutation_laws::Pair;

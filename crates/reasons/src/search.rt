@@ -2,7 +2,7 @@
 ghost use Rattle.std.specs.Prelude.{◌≡◌, IfOk};
 ghost use Rattle.refutation_laws.specs.Known.{events_of};
 ghost use Rattle.refutation_laws.specs.inner.FullCases.{IsSound};
-ghost use Rattle.refutations.specs.Trees.{known_of};
+ghost use Rattle.refutations.specs.inner.Trees.{known_of};
 ghost use Rattle.reasons.specs.Reasons.{IsReason};
 ghost use Rattle.reasons.specs.inner.Cases.{IsLeafless, IsStep};
 

@@ -9,7 +9,8 @@ use Rattle.tso_model.specs.declared.execution.Entry.{Entry}
 use Rattle.refutation_laws.specs.Refutations.{is_node, branches, close}
 use Rattle.refutation_laws.specs.declared.model.Model.{Model}
 use Rattle.refutation_laws.specs.Known.{Known}
-use Rattle.refutations.specs.Trees.{known_of, node_of}
+use Rattle.refutations.specs.Trees.{node_of}
+use Rattle.refutations.specs.inner.Trees.{known_of}
 use Rattle.refutations.specs.inner.Stack.{cases_of}
 use Rattle.refutations.specs.declared.answers.Answers.{Answers}
 use Rattle.refutations.specs.declared.tree.Node.{Node}

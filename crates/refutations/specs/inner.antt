@@ -1,3 +1,4 @@
 -- Words of contracts inside the crate.
 pub mod Facts
 pub mod Stack
+pub mod Trees

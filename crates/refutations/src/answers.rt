@@ -2,7 +2,7 @@
 //! alone. (Herding Cats, section 4: rf, co and fr.)
 ghost use Rattle.std.specs.Prelude.{◌≡◌, IfOk};
 ghost use Rattle.refutation_laws.specs.Known as spec;
-ghost use Rattle.refutations.specs.Trees.{known_of};
+ghost use Rattle.refutations.specs.inner.Trees.{known_of};
 
 use crate::events::{same_event, writes_to};
 use refutation_laws::{Pair, Source};

@@ -3,7 +3,8 @@ ghost use Rattle.std.specs.Prelude.{◌≡◌, ◌∷◌, ◌&&◌, ◌++◌, no
 ghost use Rattle.tso_model.specs.ProgramOrder as program_order;
 ghost use Rattle.refutation_laws.specs.Known as known;
 ghost use Rattle.refutation_laws.specs.Refutations as spec;
-ghost use Rattle.refutations.specs.Trees.{known_of, node_of};
+ghost use Rattle.refutations.specs.Trees.{node_of};
+ghost use Rattle.refutations.specs.inner.Trees.{known_of};
 ghost use Rattle.refutations.specs.inner.Stack.{cases_of};
 
 use crate::answers::{Answers, no_answers, with_pair, with_source};

@@ -8,7 +8,7 @@ ghost use Rattle.relational_model.specs.Relations as access;
 ghost use Rattle.refutation_laws.specs.Known.{events_of};
 ghost use Rattle.refutation_laws.specs.Edges as spec;
 ghost use Rattle.refutation_laws.specs.Shown as shown;
-ghost use Rattle.refutations.specs.Trees.{known_of, relations_of};
+ghost use Rattle.refutations.specs.inner.Trees.{known_of, relations_of};
 
 use crate::answers::{Answers, comes_before, from_reads, reads_from};
 use crate::events::{

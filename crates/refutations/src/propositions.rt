@@ -8,7 +8,7 @@ ghost use Rattle.refutation_laws.specs.Known as known;
 ghost use Rattle.refutation_laws.specs.Refutations.{asked};
 ghost use Rattle.refutation_laws.specs.Values as spec;
 ghost use Rattle.refutation_laws.specs.declared.known.Pair as declared;
-ghost use Rattle.refutations.specs.Trees.{known_of};
+ghost use Rattle.refutations.specs.inner.Trees.{known_of};
 ghost use Rattle.refutations.specs.inner.Facts.{AreFacts};
 
 use crate::answers::Answers;

@@ -3,7 +3,8 @@ use Rattle.std.specs.Prelude.{ℕ, ◌≡◌, ◌<◌, ◌≤◌, List, [], ◌�
 use Rattle.tso_model.specs.Litmus.{Litmus}
 use Rattle.refutation_laws.specs.Refutations as refutations
 use Rattle.refutation_laws.specs.declared.model.Model.{Model}
-use Rattle.refutations.specs.Trees.{known_of, node_of}
+use Rattle.refutations.specs.Trees.{node_of}
+use Rattle.refutations.specs.inner.Trees.{known_of}
 use Rattle.refutations.specs.declared.tree.Node.{Node}
 use Rattle.reason_report.specs.Steps as spec
 use Rattle.reason_report.specs.declared.replies.Branch.{Branch}

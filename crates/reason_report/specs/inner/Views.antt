@@ -1,38 +1,10 @@
 -- Steps as the code holds them, and the definitions' own that they stand for.
-use Rattle.std.specs.Prelude.{ℕ, ◌++◌, List, [], map, Option, Some, None, codes}
+use Rattle.std.specs.Prelude.{ℕ, ◌++◌, List, [], Option, Some, None, codes}
 use Rattle.std.specs.Fmt.{decimal}
 use Rattle.tso_model.specs.Litmus.{Litmus}
 use Rattle.tso_model.specs.declared.execution.Kind.{Kind}
 use Rattle.order_builder.specs.PrintedOrder.{printed_access}
-use Rattle.reason_report.specs.Places as places
-use Rattle.reason_report.specs.Steps as spec
 use Rattle.reason_report.specs.ReasonText.{location_text}
-use Rattle.reason_report.specs.declared.steps.Answer.{Answer}
-use Rattle.reason_report.specs.declared.steps.Answer.TheVariants as answer
-use Rattle.reason_report.specs.declared.steps.Place.{Place}
-use Rattle.reason_report.specs.declared.steps.Closing.{Closing}
-use Rattle.reason_report.specs.declared.steps.Closing.TheVariants as closing
-use Rattle.reason_report.specs.declared.steps.Step.{Step}
-use Rattle.reason_report.specs.declared.steps.Step.TheVariants as step
-
-abbrev pub answer_of : Answer → spec.Answer
-answer_of (answer.From r writes) = spec.From r writes.items
-answer_of (answer.Before w v) = spec.Before w v
-
-abbrev pub place_of : Place → places.Place
-place_of p = record { named = p.named; values = p.values.items }
-
-abbrev pub closing_of : Closing → spec.Closing
-closing_of (closing.Uniproc edges) = spec.Uniproc edges.items
-closing_of (closing.Cycle edges) = spec.Cycle edges.items
-closing_of (closing.Between r v w) = spec.Amid r v w
-closing_of (closing.False ps) = spec.False (map place_of ps.items)
-
-abbrev pub step_of : Step → spec.Step
-step_of (step.Case depth a) = spec.Case depth (answer_of a)
-step_of (step.So depth a) = spec.So depth (answer_of a)
-step_of (step.Leaf depth c) = spec.Leaf depth (closing_of c)
-step_of (step.Endcases depth) = spec.Endcases depth
 
 -- ` x=v`, or ` x` where the value isn't known
 abbrev pub known_access : Litmus → Kind → ℕ → Option ℕ → List ℕ

@@ -6,7 +6,7 @@ use Rattle.tso_model.specs.declared.execution.Entry.{Entry}
 use Rattle.relational_model.proofs.Sorting.{Ordered}
 use Rattle.refutation_laws.specs.Known.{Known, same_event, events_of}
 use Rattle.refutation_laws.specs.Edges.{is_edge, is_cycle}
-use Rattle.refutations.specs.Trees.{relations_of}
+use Rattle.refutations.specs.inner.Trees.{relations_of}
 use Rattle.refutations.specs.declared.edges.Acyclic.{Acyclic}
 
 abbrev pub CycleOrRow : Litmus → Known → Acyclic → Option (Vec Entry) → Type 0

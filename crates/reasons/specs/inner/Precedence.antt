@@ -9,7 +9,7 @@ use Rattle.relational_model.proofs.Sorting.{GoesForward}
 use Rattle.refutation_laws.specs.Known.{Known}
 use Rattle.refutation_laws.specs.Edges.{is_edge}
 use Rattle.refutation_laws.specs.inner.Orders.{comes_toward}
-use Rattle.refutations.specs.Trees.{relations_of}
+use Rattle.refutations.specs.inner.Trees.{relations_of}
 use Rattle.reasons.specs.declared.sorting.Precedence.{Precedence}
 use Rattle.reasons.specs.declared.sorting.Precedence.TheVariants.{Edges, Order}
 

@@ -1,5 +1,5 @@
 use Rattle.std.proofs.Common.{◌≡◌, ◌++◌, drop}
-use Rattle.refutations.specs.Trees.{known_of, relations_of}
+use Rattle.refutations.specs.inner.Trees.{known_of, relations_of}
 use Rattle.reason_report.specs.Steps as spec
 use Rattle.reason_report.proofs.leaves.edges_of.Given as goal
 

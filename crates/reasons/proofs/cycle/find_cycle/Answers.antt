@@ -3,7 +3,7 @@ use Rattle.std.specs.List.{list_any}
 use Rattle.relational_model.specs.Events.{IsIn}
 use Rattle.relational_model.proofs.Sorting.{Ordered}
 use Rattle.refutation_laws.specs.Edges.{is_edge}
-use Rattle.refutations.specs.Trees.{known_of, relations_of}
+use Rattle.refutations.specs.inner.Trees.{known_of, relations_of}
 use Rattle.reasons.proofs.Parting.{no-items}
 use Rattle.reasons.proofs.Walking.{all-in-row}
 use Rattle.reasons.proofs.cycle.find_cycle.Goals as goal

@@ -1,7 +1,7 @@
 use Rattle.std.proofs.Common.{◌≡◌, true, drop}
 use Rattle.std.specs.List.{list_any}
 use Rattle.refutation_laws.specs.Edges.{is_edge}
-use Rattle.refutations.specs.Trees.{known_of, relations_of}
+use Rattle.refutations.specs.inner.Trees.{known_of, relations_of}
 use Rattle.reasons.proofs.cycle.predecessor.Given as goal
 
 -- it is still to come

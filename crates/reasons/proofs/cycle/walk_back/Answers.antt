@@ -1,6 +1,6 @@
 use Rattle.std.proofs.Common.{◌<◌, ◌-◌, length, None, Some, sym, subst}
 use Rattle.refutation_laws.specs.Edges.{is_edge}
-use Rattle.refutations.specs.Trees.{known_of, relations_of}
+use Rattle.refutations.specs.inner.Trees.{known_of, relations_of}
 use Rattle.reasons.proofs.Walking.{IsWalk, around, shorter, walk-on, smaller, told}
 use Rattle.reasons.proofs.cycle.walk_back.Goals as goal
 

@@ -1,5 +1,5 @@
 use Rattle.std.proofs.Common.{sym, ◌∙◌, subst}
-use Rattle.refutations.specs.Trees.{known_of}
+use Rattle.refutations.specs.inner.Trees.{known_of}
 use Rattle.refutations.specs.declared.edges.Acyclic.TheVariants.{OnLocation, Globally}
 use Rattle.reasons.specs.inner.Cycles.{CycleOrRow}
 use Rattle.reasons.proofs.Rowing.{leaf-or-none}

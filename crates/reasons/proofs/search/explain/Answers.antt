@@ -1,7 +1,8 @@
 use Rattle.std.proofs.Common.{◌<◌, ◌+◌, ◌∷◌, arith, map, sym, ap, ◌∙◌, subst}
 use Rattle.std.proofs.lemmas.List.{nil_from_length}
 use Rattle.std.specs.Global.{Vec}
-use Rattle.refutations.specs.Trees.{known_of, node_of}
+use Rattle.refutations.specs.Trees.{node_of}
+use Rattle.refutations.specs.inner.Trees.{known_of}
 use Rattle.refutations.specs.inner.Stack.{cases_of}
 use Rattle.refutations.specs.declared.answers.Answers.{Answers}
 use Rattle.refutations.specs.declared.tree.Node.{Node}

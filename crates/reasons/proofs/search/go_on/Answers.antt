@@ -1,5 +1,5 @@
 use Rattle.std.proofs.Common.{sym, ap, ◌∙◌}
-use Rattle.refutations.specs.Trees.{known_of}
+use Rattle.refutations.specs.inner.Trees.{known_of}
 use Rattle.reasons.specs.inner.Questions.{next_question}
 use Rattle.reasons.proofs.Answered.{open-question, no-question}
 use Rattle.reasons.proofs.search.go_on.Goals as goal

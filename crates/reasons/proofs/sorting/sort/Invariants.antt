@@ -1,5 +1,5 @@
 use Rattle.std.proofs.Common.{length}
-use Rattle.refutations.specs.Trees.{known_of}
+use Rattle.refutations.specs.inner.Trees.{known_of}
 use Rattle.reasons.specs.inner.Precedence.{edge_in, IsParted}
 use Rattle.reasons.proofs.sorting.sort.Given as goal
 

@@ -1,6 +1,6 @@
 use Rattle.std.proofs.Common.{◌≡◌, ◌++◌, not, drop}
 use Rattle.std.specs.Prelude.{filter}
-use Rattle.refutations.specs.Trees.{known_of}
+use Rattle.refutations.specs.inner.Trees.{known_of}
 use Rattle.reasons.specs.inner.Precedence.{edge_in, is_first}
 use Rattle.reasons.proofs.sorting.split.Given as goal
 

@@ -2,7 +2,7 @@ use Rattle.std.proofs.Common.{◌≡◌, ◌≤◌, ◌++◌, map, drop, length,
 use Rattle.std.specs.Prelude.{filter}
 use Rattle.tso_model.specs.ProgramOrder as program_order
 use Rattle.refutation_laws.specs.Known as known
-use Rattle.refutations.specs.Trees.{known_of}
+use Rattle.refutations.specs.inner.Trees.{known_of}
 use Rattle.refutations.specs.inner.Stack.{cases_of}
 use Rattle.refutations.proofs.checking.add_sources.Given as goal
 

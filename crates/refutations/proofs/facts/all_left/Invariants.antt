@@ -1,6 +1,6 @@
 use Rattle.std.proofs.Common.{ℕ, ◌≡◌, ◌<◌, [], length, slice_index_or}
 use Rattle.refutation_laws.specs.Values as spec
-use Rattle.refutations.specs.Trees.{known_of}
+use Rattle.refutations.specs.inner.Trees.{known_of}
 use Rattle.refutations.proofs.facts.all_left.Given as goal
 
 abbrev pub invariant-loop-number : goal.invariant-loop-number

@@ -7,8 +7,10 @@ use Rattle.relational_model.specs.Candidates.{Candidate}
 use Rattle.relational_model.specs.CandidatesOfOrders.{IsCandidateOf}
 use Rattle.refutation_laws.specs.Refutations.{Node}
 use Rattle.refutation_laws.specs.declared.model.Model.{Model}
-use Rattle.reason_report.specs.ReasonText.{never_text, allowed_text, unfinished_line}
-use Rattle.reason_report.specs.ReasonJson.{never_json, allowed_json, unfinished_json}
+use Rattle.reason_report.specs.ReasonText.{never_text, allowed_text}
+use Rattle.reason_report.specs.inner.ReasonText.{unfinished_line}
+use Rattle.reason_report.specs.ReasonJson.{never_json, allowed_json}
+use Rattle.reason_report.specs.inner.ReasonJson.{unfinished_json}
 
 -- of a refutation of what the test asks
 abbrev pub never_in : Bool → Model → Litmus → List Node → List ℕ
