@@ -35,6 +35,7 @@ pub mod tallies;
 pub mod telling_calls;
 pub mod threads;
 pub mod told_choices;
+pub mod told_cores;
 pub mod told_steps;
 pub mod told_texts;
 pub mod traced;

@@ -1,0 +1,75 @@
+//! What a step tells of its core, of a stall, of the other caches and of the line that gave way, each said again.
+
+ghost use Rattle.std.specs.Prelude.{◌/◌, ◌<◌, ◌≡◌, ◌≢◌, List, None, Some, length, true, ℕ};
+ghost use Rattle.machine_core.specs.Caches.{at_access};
+ghost use Rattle.machine_core.specs.Configuration.{Configuration};
+ghost use Rattle.machine_core.specs.Running.{Running, machine_after, new_machine, table_in};
+ghost use Rattle.protocol_tables.specs.Tables.{Table};
+ghost use Rattle.snoop_bus.specs.Asks.{tag_at};
+ghost use Rattle.snoop_bus.specs.CacheContents.{sets_of, tags_at};
+ghost use Rattle.snoop_bus.specs.Tags.{leaving};
+ghost use Rattle.tso_model.specs.FlatMachine.{after_choice, chosen, core_of};
+ghost use Rattle.tso_model.specs.Litmus.{IsTest, Litmus};
+ghost use Rattle.tso_model.specs.MemoryAccess.{access_of};
+ghost use Rattle.tso_model.specs.declared.choice.Bus.TheVariants.{Atomic};
+ghost use Rattle.tso_model.specs.declared.choice.Choice.{Choice};
+ghost use Rattle.tso_model.specs.declared.choice.Outcome.TheVariants.{Moved, Stalled};
+ghost use Rattle.tso_model.specs.declared.choice.Stall.{Stall};
+ghost use Rattle.trace_report.specs.Lines.{stall_name};
+ghost use Rattle.trace_report.specs.StepLaws.{GaveWay, IsWordOfStallOn, KeepsWays, after_choices, with_buffer, with_moved, with_seen};
+ghost use Rattle.trace_report.specs.Steps.{step_of};
+ghost use Rattle.trace_report.specs.TraceLaws.{KeepsNoCopyInI};
+
+use trace_report::laws::steps_are_told;
+
+/// The register and the pending stores that a step tells are those of its core, on the atomic bus of the flat machine's.
+pub fn a_step_tells_its_core()
+    ensures moved { (m : Running) (choice : Choice) → (step_of m choice).outcome ≡ Moved
+        → (core_of (machine_after m choice).state.flat (chosen choice)).registers
+        ≡ with_moved (step_of m choice).moved (core_of m.state.flat (chosen choice)).registers }
+    ensures unmoved { (m : Running) (choice : Choice) → (step_of m choice).outcome ≢ Moved → (step_of m choice).moved ≡ None }
+    ensures pending { (m : Running) (choice : Choice) → (core_of (machine_after m choice).state.flat (chosen choice)).pending
+        ≡ with_buffer (step_of m choice).buffer (core_of m.state.flat (chosen choice)).pending }
+    ensures flat { (m : Running) (choice : Choice) → m.bus ≡ Atomic
+        → (machine_after m choice).state.flat ≡ after_choice m.test m.depth m.state.flat choice }
+{
+    steps_are_told();
+}
+
+/// The word of a stall is its reason.
+pub fn a_stall_tells_its_reason()
+    ensures reason { (m : Running) (choice : Choice) (why : Stall) → (step_of m choice).outcome ≡ Stalled why
+        → IsWordOfStallOn m choice (stall_name why) }
+{
+    steps_are_told();
+}
+
+/// The copies of another core change as it sees the request that is told, and the line of a write-back is the one that gave way.
+pub fn a_step_tells_the_caches()
+    ensures others { (table : Table) (c : Configuration) (t : Litmus) (choices : List Choice) (choice : Choice) (core : ℕ)
+        → core ≢ chosen choice
+        → sets_of (machine_after (after_choices (new_machine table c t) choices) choice).statistics.caches.contents core
+        ≡ with_seen (table_in (after_choices (new_machine table c t) choices))
+        (step_of (after_choices (new_machine table c t) choices) choice).request
+        (sets_of (after_choices (new_machine table c t) choices).statistics.caches.contents core) }
+    ensures gave_way { (table : Table) (c : Configuration) (t : Litmus) (choices : List Choice) (choice : Choice) (line : ℕ)
+        → IsTest t → 0 < c.shape.words → KeepsNoCopyInI table → chosen choice < length t.programs
+        → KeepsWays (after_choices (new_machine table c t) choices) (chosen choice)
+        → (step_of (after_choices (new_machine table c t) choices) choice).wrote_back ≡ Some line
+        → GaveWay (after_choices (new_machine table c t) choices) choice line }
+{
+    steps_are_told();
+}
+
+/// A line that gave way was the last of its set when another came in, and dirty.
+pub fn a_line_gives_way()
+    ensures accessed { (m : Running) (choice : Choice) (line : ℕ) (gave : GaveWay m choice line)
+        → at_access None (λ loc write. Some (loc.0 / m.statistics.caches.shape.words)) (access_of m.test m.depth m.state.flat choice)
+        ≡ Some gave.came }
+    ensures absent { (m : Running) (choice : Choice) (line : ℕ) (gave : GaveWay m choice line)
+        → tag_at (chosen choice) gave.came m.statistics.caches.contents ≡ None }
+    ensures last { (m : Running) (choice : Choice) (line : ℕ) (gave : GaveWay m choice line)
+        → leaving (tags_at (sets_of m.statistics.caches.contents (chosen choice)) gave.came) ≡ Some (line, gave.state) }
+    ensures dirty { (m : Running) (choice : Choice) (line : ℕ) (gave : GaveWay m choice line)
+        → (table_in m).evicts_dirty gave.state ≡ true }
+{}
