@@ -3,3 +3,4 @@ mod ExactSearches
 mod LinesAgain
 mod NoMore
 mod Waiting
+mod Refuting
