@@ -22,6 +22,7 @@ pub mod order_texts;
 pub mod orders;
 pub mod printed_texts;
 pub mod readings;
+pub mod reasons;
 pub mod refutations;
 pub mod run_calls;
 pub mod runs_so_far;
