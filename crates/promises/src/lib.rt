@@ -42,3 +42,4 @@ pub mod told_steps;
 pub mod told_texts;
 pub mod traced;
 pub mod witnesses;
+pub mod words_of_outcomes;

@@ -1,0 +1,115 @@
+//! What the word of `outcomes` means, what its lines and its object tell, and which registers need not be looked at.
+
+ghost use Rattle.std.specs.Prelude.{◌<◌, ◌≡◌, ◌≤◌, ◌^◌, Bool, IfOk, List, codes, false, length, map, true, ℕ};
+ghost use Rattle.explorer.specs.FinalStates.{HasMoreStates};
+ghost use Rattle.command_line.specs.Search.{Search};
+ghost use Rattle.outcome_report.specs.Hidden.{AreNotShown};
+ghost use Rattle.outcome_report.specs.Laws.{AreAlike};
+ghost use Rattle.outcome_report.specs.Outcomes.{Outcome};
+ghost use Rattle.outcome_report.specs.Printed.{outcomes_in, unfinished_search_in};
+ghost use Rattle.outcome_laws.specs.Outcomes.{IsSequentiallyConsistent};
+ghost use Rattle.printed_laws.specs.Observed.{IsSoEverywhere, IsSoSomewhere, WordMeans, truth_after, truth_after_run};
+ghost use Rattle.printed_laws.specs.Outcomes.{OutcomesFit, ShowTheSame};
+ghost use Rattle.scheduler.specs.Printed.{printed_choices};
+ghost use Rattle.tso_cli.specs.OneSearch.{ShowOneSearch, ShowsNoState, without_choices};
+ghost use Rattle.tso_laws.specs.Depth.{needed};
+ghost use Rattle.tso_model.specs.Axioms.{IsTsoExecution};
+ghost use Rattle.tso_model.specs.Condition.{Claim};
+ghost use Rattle.tso_model.specs.Litmus.{IsTest, Litmus};
+ghost use Rattle.tso_model.specs.Runs.{CoresExist, run};
+ghost use Rattle.tso_model.specs.declared.choice.Choice.{Choice};
+ghost use Rattle.tso_model.specs.declared.execution.Entry.{Entry};
+
+use outcome_report::hidden_registers;
+use printed_laws::{
+    outcomes_tell_their_states, outcomes_tell_their_tests, words_mean_what_they_say,
+};
+use std::alloc::Global;
+use tso_model::{NoMemory, Test};
+
+/// `Never` is so nowhere, `Always` everywhere, and `Sometimes` here and not there.
+pub fn a_word_means_what_it_says()
+    ensures never { WordMeans (codes "Never") (λ t depth claim. IsSoEverywhere t depth claim false) }
+    ensures always { WordMeans (codes "Always") (λ t depth claim. IsSoEverywhere t depth claim true) }
+    ensures sometimes { WordMeans (codes "Sometimes") (λ t depth claim. IsSoSomewhere t depth claim true × IsSoSomewhere t depth claim false) }
+{
+    words_mean_what_they_say();
+}
+
+/// What is so everywhere is so after each run at that depth, after each TSO execution that needs no more, at depth 32 after each,
+/// and at depth 0 after each that is sequentially consistent.
+pub fn what_is_so_everywhere()
+    ensures runs { (t : Litmus) (depth : ℕ) (claim : Claim) (truth : Bool) → IsSoEverywhere t depth claim truth → (choices : List Choice)
+        → CoresExist (length t.programs) choices → (run t depth choices).ended ≡ true → truth_after_run t depth claim choices ≡ truth }
+    ensures buffered { (t : Litmus) (depth : ℕ) (claim : Claim) (truth : Bool) → IsSoEverywhere t depth claim truth → 0 < depth
+        → (order : List Entry) → IsTsoExecution t order → needed order ≤ depth → truth_after t claim order ≡ truth }
+    ensures tso { (t : Litmus) (claim : Claim) (truth : Bool) → IsSoEverywhere t 32 claim truth
+        → (order : List Entry) → IsTsoExecution t order → truth_after t claim order ≡ truth }
+    ensures sequential { (t : Litmus) (claim : Claim) (truth : Bool) → IsSoEverywhere t 0 claim truth
+        → (order : List Entry) → IsSequentiallyConsistent t order → truth_after t claim order ≡ truth }
+{}
+
+/// What is so somewhere is so after a run at that depth, after a TSO execution that needs no more, and at depth 0 after one that is
+/// sequentially consistent.
+pub fn what_is_so_somewhere()
+    ensures runs { (t : Litmus) (depth : ℕ) (claim : Claim) (truth : Bool) → IsSoSomewhere t depth claim truth
+        → (choices : List Choice) × CoresExist (length t.programs) choices × ((run t depth choices).ended ≡ true)
+        × (truth_after_run t depth claim choices ≡ truth) }
+    ensures buffered { (t : Litmus) (depth : ℕ) (claim : Claim) (truth : Bool) → IsSoSomewhere t depth claim truth → 0 < depth
+        → (order : List Entry) × IsTsoExecution t order × (needed order ≤ depth) × (truth_after t claim order ≡ truth) }
+    ensures sequential { (t : Litmus) (claim : Claim) (truth : Bool) → IsSoSomewhere t 0 claim truth
+        → (order : List Entry) × IsSequentiallyConsistent t order × (truth_after t claim order ≡ truth) }
+{}
+
+/// Of one test, what is printed alike was found at one depth and shows the same, as lines and as JSON; and of any two tests it is
+/// of one name.
+pub fn what_is_printed_alike_is_the_same()
+    ensures lines { (t : Litmus) (depth other_depth : ℕ) (outcomes others : List Outcome)
+        → IsTest t → depth < 2 ^ 64 → other_depth < 2 ^ 64 → OutcomesFit t outcomes → OutcomesFit t others
+        → outcomes_in false t depth outcomes ≡ outcomes_in false t other_depth others
+        → (depth ≡ other_depth) × ShowTheSame t outcomes others }
+    ensures object { (t : Litmus) (depth other_depth : ℕ) (outcomes others : List Outcome)
+        → IsTest t → depth < 2 ^ 64 → other_depth < 2 ^ 64 → OutcomesFit t outcomes → OutcomesFit t others
+        → outcomes_in true t depth outcomes ≡ outcomes_in true t other_depth others
+        → (depth ≡ other_depth) × ShowTheSame t outcomes others }
+    ensures lines_name { (t u : Litmus) (depth other_depth : ℕ) (outcomes others : List Outcome)
+        → IsTest t → IsTest u → depth < 2 ^ 64 → other_depth < 2 ^ 64 → OutcomesFit t outcomes → OutcomesFit u others
+        → outcomes_in false t depth outcomes ≡ outcomes_in false u other_depth others → (t.name ≡ u.name) × (depth ≡ other_depth) }
+    ensures object_names { (t u : Litmus) (depth other_depth : ℕ) (outcomes others : List Outcome)
+        → IsTest t → IsTest u → depth < 2 ^ 64 → other_depth < 2 ^ 64 → OutcomesFit t outcomes → OutcomesFit u others
+        → outcomes_in true t depth outcomes ≡ outcomes_in true u other_depth others → (t.name ≡ u.name) × (depth ≡ other_depth) }
+{
+    outcomes_tell_their_states();
+    outcomes_tell_their_tests();
+}
+
+/// What shows the same is alike in its values and counts, and prints the same choices.
+pub fn what_shows_the_same()
+    ensures alike { (t : Litmus) (outcomes others : List Outcome) → ShowTheSame t outcomes others → AreAlike t outcomes others }
+    ensures choices { (t : Litmus) (outcomes others : List Outcome) → ShowTheSame t outcomes others
+        → map (λ o. printed_choices o.choices) outcomes ≡ map (λ o. printed_choices o.choices) others }
+{}
+
+/// Texts of one search show states that are alike, and are one text but for the choices; a text without states says that there are
+/// more than may be kept.
+pub fn texts_of_one_search()
+    ensures first { (t : Litmus) (depth : ℕ) (json again : Bool) (out other : List ℕ) (said : ShowOneSearch t depth json again out other)
+        → out ≡ outcomes_in json t depth said.outcomes }
+    ensures second { (t : Litmus) (depth : ℕ) (json again : Bool) (out other : List ℕ) (said : ShowOneSearch t depth json again out other)
+        → other ≡ outcomes_in again t depth said.others }
+    ensures alike { (t : Litmus) (depth : ℕ) (json again : Bool) (out other : List ℕ) (said : ShowOneSearch t depth json again out other)
+        → AreAlike t said.outcomes said.others }
+    ensures but_for_choices { (t : Litmus) (depth : ℕ) (json again : Bool) (out other : List ℕ)
+        (said : ShowOneSearch t depth json again out other) → (form : Bool)
+        → outcomes_in form t depth (map without_choices said.outcomes) ≡ outcomes_in form t depth (map without_choices said.others) }
+    ensures more { (t : Litmus) (s : Search) (json : Bool) (out : List ℕ) → ShowsNoState t s json out → HasMoreStates t s.depth s.states }
+    ensures unfinished { (t : Litmus) (s : Search) (json : Bool) (out : List ℕ) → ShowsNoState t s json out
+        → out ≡ unfinished_search_in json t s.states }
+{}
+
+/// Final states that differ in hidden registers alone look alike.
+pub fn what_is_hidden_is_not_shown(alloc: Global, test: &Test) -> Result<Vec<[bool; 6]>, NoMemory>
+    ensures not_shown { IfOk result (λ hidden. AreNotShown test.now hidden.items) }
+{
+    hidden_registers(alloc, test)
+}
