@@ -10,7 +10,7 @@ ghost use Rattle.tso_io.specs.Streams.{ConsumesAtMost};
 
 use std::alloc::Global;
 use std::io::{Read, Write};
-use tso_cli::{Answered, Counted, RunFault, Settings, answer_command};
+use tso_cli::{Answered, Counted, RunFault, Settings, Status, answer_command, run_command};
 
 /// What the program writes is the answer, and keeps the headline; each fault of a device is told, and nothing or a beginning is
 /// written then.
@@ -34,6 +34,21 @@ pub fn a_command_is_answered<R: Read, W: Write>(
     ensures most { ConsumesAtMost (R.remaining reader.old.0) (R.remaining reader.new.0) (most_read settings.now) }
 {
     answer_command(alloc, reader, writer, settings)
+}
+
+/// Of a command that is run, at most one call of its streams fails.
+pub fn a_command_fails_once<R: Read, W: Write>(
+    alloc: Global,
+    reader: &mut Counted<R>,
+    writer: &mut Counted<W>,
+    settings: &Settings,
+) -> Result<Status, RunFault>
+    requires depth { HasDepth settings.now }
+    requires reader { reader.old.1 < 2 ^ 32 - 1 }
+    requires writer { writer.old.1 < 2 ^ 32 - 1 }
+    ensures once { reader.new.1 + writer.new.1 ≤ reader.old.1 + writer.old.1 + 1 }
+{
+    run_command(alloc, reader, writer, settings)
 }
 
 /// A stream is counted from zero on.
