@@ -38,8 +38,8 @@ pub struct Told {
 
 /// Answers what is asked of an input, as the program with these settings answers it on its standard input: the answer
 /// into one room, the hint beside it into another. What a room holds after them is left open. Of a trace the last step
-/// alone is answered too, with the status and the hint of the trace: so that one more choice costs the same however many
-/// were made before it.
+/// alone is answered too, with the status and the hint of the trace: all choices are made anew for it, and what is handed
+/// over is one step, however many there are.
 ///
 /// `told` has the status [`NOTHING_ASKED`] where the numbers ask for nothing that there is, [`NO_MEMORY`] where memory
 /// was refused, and else the command's own. Where there is an answer, its length and that of its hint are told, whether
