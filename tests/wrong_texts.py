@@ -171,7 +171,7 @@ def has_other_register(parts):
 
 
 def has_other_register_in_cell(parts):
-    return parts.put_cell("MOV RAX,[x]", "MOV [x],r8d", "MOV R9,$1", "XCHG [y],RBX", "LOCK XADD [x],r10d", "MOV al,[x]", "MOV EAX,x")
+    return parts.put_cell("MOV RAX,[x]", "MOV [x],r8d", "MOV r9,$1", "XCHG [y],RBX", "LOCK XADD [x],r10d", "MOV al,[x]", "MOV EAX,x")
 
 
 def has_other_header(parts):
