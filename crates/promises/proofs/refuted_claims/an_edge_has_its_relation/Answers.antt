@@ -1,4 +1,4 @@
-use Rattle.promises.proofs.refutations.an_edge_has_its_relation.Goals as goal
+use Rattle.promises.proofs.refuted_claims.an_edge_has_its_relation.Goals as goal
 
 pub returns-clause-edge : goal.returns-clause-edge
 returns-clause-edge c = c.edges_have_relations.ensures.edge

@@ -1,4 +1,4 @@
-use Rattle.promises.proofs.refutations.no_run_meets_a_refuted_claim.Goals as goal
+use Rattle.promises.proofs.refuted_claims.no_run_meets_a_refuted_claim.Goals as goal
 
 pub returns-clause-tso : goal.returns-clause-tso
 returns-clause-tso c = c.no_run_makes_a_refuted_claim_true.ensures.tso

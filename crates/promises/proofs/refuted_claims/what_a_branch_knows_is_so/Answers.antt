@@ -1,4 +1,4 @@
-use Rattle.promises.proofs.refutations.what_a_branch_knows_is_so.Goals as goal
+use Rattle.promises.proofs.refuted_claims.what_a_branch_knows_is_so.Goals as goal
 
 pub returns-clause-events : goal.returns-clause-events
 returns-clause-events c = c.known_values_are_right.ensures.events

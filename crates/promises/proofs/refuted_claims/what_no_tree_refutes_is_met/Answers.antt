@@ -1,5 +1,5 @@
 use Rattle.promises.proofs.Refuting.{candidate-of, execution-of, run-of}
-use Rattle.promises.proofs.refutations.what_no_tree_refutes_is_met.Goals as goal
+use Rattle.promises.proofs.refuted_claims.what_no_tree_refutes_is_met.Goals as goal
 
 pub returns-clause-candidate : goal.returns-clause-candidate
 returns-clause-candidate c = λ model t claim test names none. candidate-of model t claim none (c.claims_are_refuted_or_met.ensures.candidates model t claim test names)

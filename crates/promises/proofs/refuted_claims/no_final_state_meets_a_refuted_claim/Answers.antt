@@ -1,5 +1,5 @@
 use Rattle.refutation_laws.specs.declared.model.Model.TheVariants.{Sequential, Tso}
-use Rattle.promises.proofs.refutations.no_final_state_meets_a_refuted_claim.Goals as goal
+use Rattle.promises.proofs.refuted_claims.no_final_state_meets_a_refuted_claim.Goals as goal
 
 pub returns-clause-tso : goal.returns-clause-tso
 returns-clause-tso c = c.refuted_claims_are_false.ensures.states Tso

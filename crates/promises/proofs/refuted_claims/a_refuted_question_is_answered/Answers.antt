@@ -1,4 +1,4 @@
-use Rattle.promises.proofs.refutations.a_refuted_question_is_answered.Goals as goal
+use Rattle.promises.proofs.refuted_claims.a_refuted_question_is_answered.Goals as goal
 
 pub returns-clause-names : goal.returns-clause-names
 returns-clause-names c = c.refuted_questions_are_answered.ensures.names
