@@ -51,8 +51,8 @@ def dask():
         pass
     for other in ["/usr/bin/python3"] + sorted(glob.glob("/usr/bin/python3.*[0-9]")):
         if os.path.exists(other) and subprocess.run([other, "-c", "import distributed"], capture_output=True).returncode == 0:
-            raise NoCluster("this Python, %s, has no Dask distributed, but %s has: run `%s tools/campaign ..`" % (
-                sys.executable, other, other))
+            raise NoCluster("this Python, %s, has no Dask distributed, but %s has: run `%s %s ..`" % (
+                sys.executable, other, other, sys.argv[0]))
     raise NoCluster("this Python, %s, has no Dask distributed; Debian's package python3-distributed has it, for /usr/bin/python3"
                     % sys.executable)
 
