@@ -24,12 +24,26 @@ _tso_values() {
   esac
 }
 
+# What the script ./tso has beside its program's words, after nothing and after each of its own.
+_tso_script() {
+  case ${1-} in
+    --install) echo --verbose ;;
+    --prove | --uninstall) echo ;;
+    *) echo --prove --install --uninstall ;;
+  esac
+}
+
 _tso() {
   local word=${COMP_WORDS[COMP_CWORD]} before=${COMP_WORDS[COMP_CWORD - 1]} command= words
   [ "$COMP_CWORD" -lt 2 ] || command=${COMP_WORDS[1]}
   words=$(_tso_values "$before") || words=$(_tso_options "$command")
+  # The script is called by a path. After a word of its own a folder is wanted, but where an option was begun.
+  [[ ${COMP_WORDS[0]} != */* ]] || case $command in
+    '') words+=" $(_tso_script)" ;;
+    --prove | --install | --uninstall) [[ $word == -* ]] && words=$(_tso_script "$command") || words= ;;
+  esac
   COMPREPLY=($(compgen -W "$words" -- "$word"))
 }
 
-# After < a file is wanted, which is no word of tso.
+# After < a file is wanted, which is no word of tso; after --install a folder.
 complete -o bashdefault -o default -F _tso tso

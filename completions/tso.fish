@@ -10,6 +10,14 @@ complete -c tso -f -n __fish_use_subcommand -a check
 complete -c tso -f -n __fish_use_subcommand -a witness
 complete -c tso -f -n __fish_use_subcommand -a tables
 complete -c tso -f -n __fish_use_subcommand -a help
+# The script ./tso, which is called by a path, has words of its own, before a folder.
+complete -c tso -f -n "__fish_use_subcommand; and string match -q '*/*' -- (commandline -opc)[1]" -l prove
+complete -c tso -f -n "__fish_use_subcommand; and string match -q '*/*' -- (commandline -opc)[1]" -l install
+complete -c tso -f -n "__fish_use_subcommand; and string match -q '*/*' -- (commandline -opc)[1]" -l uninstall
+complete -c tso -f -n "contains -- --install (commandline -opc)" -l verbose
+complete -c tso -f -n "contains -- --install (commandline -opc)" -a "(__fish_complete_directories)"
+complete -c tso -f -n "contains -- --uninstall (commandline -opc)" -a "(__fish_complete_directories)"
+
 complete -c tso -f -n "__fish_seen_subcommand_from help" -a "run trace sweep outcomes check witness tables help"
 
 complete -c tso -f -n "__fish_seen_subcommand_from run" -l protocol -x -a "msi mesi moesi mosi"

@@ -4,8 +4,9 @@
     tests/completions.py PROGRAM [FOLDER]
 
 FOLDER has the completions, completions/ if none is named. Each command of --help, each option of a command, and each value of an
-option that takes some values alone must be offered, and nothing else. Bash is started and completes; the files of zsh and fish are
-read, and where these shells are there they check the syntax. The last line is 'N passed, M failed'.
+option that takes some values alone must be offered, and nothing else; and where the command is called by a path, as the script ./tso is,
+the words that this has of its own. Bash is started and completes; the files of zsh and fish are read, and where these shells are there
+they check the syntax. The last line is 'N passed, M failed'.
 """
 import os
 import re
@@ -48,9 +49,15 @@ def wanted(program):
     return after, values
 
 
-def offered_by_bash(file, words):
-    script = ('. "$0"; COMP_WORDS=(tso "$@"); COMP_CWORD=$#; _tso; printf "%s\\n" "${COMPREPLY[@]}"')
-    out = subprocess.run(["bash", "-c", script, file, *words], capture_output=True, text=True).stdout
+def words_of_script():
+    """What is offered beside the program's words where the script is called: after nothing, and after each of its words."""
+    said = re.findall(r"^#   \./tso (--\w+)(?: \[(--\w+)\])?", judging.content(os.path.join(judging.TOP, "tso")), re.M)
+    return {"": sorted(word for word, _ in said), **{word: [option] if option else [] for word, option in said}}
+
+
+def offered_by_bash(file, words, called="tso"):
+    script = ('. "$0"; COMP_WORDS=("$@"); COMP_CWORD=$(($# - 1)); _tso; printf "%s\\n" "${COMPREPLY[@]}"')
+    out = subprocess.run(["bash", "-c", script, file, called, *words], capture_output=True, text=True).stdout
     return sorted(out.split())
 
 
@@ -64,9 +71,24 @@ def cases_of(text, function):
     return found
 
 
+# A line for the words of the script, and one for what comes after such a word.
+FISH_SCRIPT = re.compile(r'complete -c tso -f -n "(?:__fish_use_subcommand; and string match -q \'\*/\*\' -- \(commandline -opc\)\[1\]|'
+                         r'contains -- (--\w+) \(commandline -opc\))" (?:-l (\w+)|-a "\(__fish_complete_directories\)")$', re.M)
+
+
+def script_in_fish(text):
+    """What the file of fish offers where the script is called, as `words_of_script` has it."""
+    found = {}
+    for before, word in FISH_SCRIPT.findall(text):
+        found.setdefault(before, []).extend(["--" + word] if word else [])
+    return {before: sorted(words) for before, words in found.items()}
+
+
 def read_fish(text):
     after, values = {"": []}, {}
     for line in text.splitlines():
+        if FISH_SCRIPT.match(line):
+            continue
         match = re.fullmatch(r'complete -c tso -f -n (__fish_use_subcommand|"__fish_seen_subcommand_from (\w+)")'
                              r'(?: -l ([\w-]+))?( -x)?(?: -a "?([^"]*)"?)?', line)
         if not match:
@@ -92,13 +114,14 @@ def differences(shell, kind, want, have):
 
 
 def read_file(shell, file):
-    """What a shell's file offers after each command, and for each option."""
+    """What a shell's file offers after each command, for each option, and where the script is called."""
     text = judging.content(file)
     if shell == "fish":
-        return read_fish(text)
+        # After --prove nothing comes, so no line has it.
+        return *read_fish(text), {"--prove": [], **script_in_fish(text)}
     after, values = cases_of(text, "_tso_options"), cases_of(text, "_tso_values")
     values.pop("", None)
-    return after, values
+    return after, values, cases_of(text, "_tso_script")
 
 
 def rows_of_file(shell, file, after, values):
@@ -106,6 +129,7 @@ def rows_of_file(shell, file, after, values):
     have = read_file(shell, file)
     yield from differences(shell, "after", after, have[0])
     yield from differences(shell, "values of", values, have[1])
+    yield from differences(shell, "the script's words after", words_of_script(), have[2])
     if shutil.which(shell):
         syntax = subprocess.run([shell, "-n", file], capture_output=True, text=True)
         yield "%s: its syntax" % shell, [] if syntax.returncode == 0 else [syntax.stderr.strip()]
@@ -119,6 +143,10 @@ def rows_of_bash(file, after, values):
     for option, words in values.items():
         have = offered_by_bash(file, ["run", option, ""])
         yield from differences("bash, started", "values of", {option: words}, {option: have})
+    for word, words in words_of_script().items():
+        have = offered_by_bash(file, [word, "-"] if word else [""], "./tso")
+        wanted_here = words if word else sorted(after[""] + words)
+        yield from differences("bash, started", "the script's words after", {word: wanted_here}, {word: have})
 
 
 def main():
