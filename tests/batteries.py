@@ -18,6 +18,8 @@
 - tools/compare: logs of herd7's, litmus7's and this project's forms, and what is said of two of them.
 - tools/import: forms that are read, each with what it becomes, and forms that are refused, each with its line and why; a test of the
   gallery is imported as itself.
+- tools/theory, tools/hardware and tools/campaign read each form that tools/import reads; a text that is no test is named, and the others
+  go on; a folder without a test is an error; each that is interrupted ends with one line.
 - tools/hardware: short runs of the gallery on this machine's processor; a wrong table of allowed states is noticed.
 - tools/campaign: tests of a folder, a list and a stream; seeds cut in two ways, a torn line, a wrong verdict, calls that fail, stops; on a
   cluster, where Dask is there: the same with workers that end or are paused, and a test that ends its workers is named.
@@ -45,6 +47,7 @@ import gallery_shapes
 import hardware_runs
 import judging
 import litmus
+import source_runs
 import verdicts
 from import_forms import READ, REFUSED
 from log_forms import COMPARED
@@ -194,7 +197,7 @@ def main():
     judge_imports(tally)
     judge_comparisons(tally)
     judge_program(program, tally)
-    for part in (cycle_meanings, gallery_shapes, hardware_runs, campaign_runs, cluster_runs):
+    for part in (cycle_meanings, gallery_shapes, source_runs, hardware_runs, campaign_runs, cluster_runs):
         part.judge(program, tally)
     return tally.end()
 

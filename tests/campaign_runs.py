@@ -1,12 +1,10 @@
 """tools/campaign on this machine, for tests/batteries.py."""
 import os
-import signal
-import subprocess
-import sys
 import tempfile
 import time
 
-from tool_runs import GALLERY, TOOLS, described, gallery, heed_interrupts, sorted_lines, stand_in, test_file, tool, write
+from tool_runs import GALLERY, described, gallery, interrupted, sorted_lines, stand_in, test_file, tool, write
+from scripts import INTERRUPTED
 
 
 def judge_sweeps(program, tally, room):
@@ -15,7 +13,8 @@ def judge_sweeps(program, tally, room):
     write(source, "".join(text for name, text in gallery() if name in ("SB", "MP")))
 
     def table(cut, place):
-        done = tool("campaign", "sweep", program, "--results", place, "--seeds", "1000", "--range", str(cut), "--buses", "atomic,split", source)
+        words = ["--results", place, "--seeds", "1000", "--range", str(cut), "--buses", "atomic,split", source]
+        done = tool("campaign", "sweep", program, *words)
         return done.returncode, done.stdout
 
     whole = table(100, results)
@@ -84,18 +83,20 @@ def judge_tries(program, tally, room):
 def judge_stops(program, tally, room):
     """A campaign that was stopped goes on where it was."""
     place, slow = os.path.join(room, "stopped"), stand_in(os.path.join(room, "slow"), program, "sleep 0.1")
-    words = [sys.executable, os.path.join(TOOLS, "campaign"), "outcomes", slow, "--processes", "2", "--results", place, GALLERY]
-    with subprocess.Popen(words, stdout=subprocess.DEVNULL, stderr=subprocess.DEVNULL, preexec_fn=heed_interrupts) as running:
+
+    def wait_for_results(_):
         until = time.monotonic() + 30
         while time.monotonic() < until and (not os.path.exists(place) or len(sorted_lines(place)) < 5):
             time.sleep(0.05)
-        running.send_signal(signal.SIGINT)
-        status = running.wait(30)
+
+    stopped = interrupted("campaign", "outcomes", slow, "--processes", "2", "--results", place, GALLERY, ready=wait_for_results)
     before = sorted_lines(place)
     done = tool("campaign", "outcomes", slow, "--processes", "8", "--results", place, GALLERY)
     after = sorted_lines(place)
     count = len(list(gallery()))
-    tally.add("a campaign that was stopped", None if status == 1 and 5 <= len(before) < count else "status %d, %d results" % (status, len(before)))
+    told = stopped.returncode == INTERRUPTED and stopped.stderr.endswith("\ncampaign: stopped; the same words go on\n")
+    told = told and 5 <= len(before) < count
+    tally.add("a campaign that was stopped", None if told else "%d results; %s" % (len(before), described(stopped)))
     kept = set(before) <= set(after) and len(after) == len(set(after)) == count
     tally.add("and went on", None if done.returncode == 0 and kept else "%d results; %s" % (len(after), described(done)))
 

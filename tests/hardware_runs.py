@@ -4,7 +4,8 @@ import shutil
 import tempfile
 
 from log_forms import OUTCOMES
-from tool_runs import GALLERY, described, test_file, tool, write
+from tool_runs import GALLERY, described, interrupted, test_file, tool, write
+from scripts import COULD_NOT, INTERRUPTED
 
 # Of each test of the gallery.
 SECONDS = "0.05"
@@ -24,11 +25,26 @@ def why_not():
     return None
 
 
+def judge_ends(program, tally):
+    """Where there is no C compiler, or the log is none, the status is 2, and one line says why. One line says that it is interrupted."""
+    for name, words, environment, told in (
+            ("no C compiler", ["--program", program], dict(os.environ, CC="/no/compiler"), "without a C compiler"),
+            ("a log that is none", ["--allowed", test_file("SB")], os.environ, "no line `Test NAME`")):
+        done = tool("hardware", *words, test_file("SB"), env=environment)
+        one_line = done.stderr.startswith("hardware: ") and told in done.stderr and done.stderr.count("\n") == 1
+        tally.add(name, None if done.returncode == COULD_NOT and one_line else described(done))
+    words = ["--program", program, "--seconds", "0.2"] + [test_file(name) for name in ("SB", "MP", "LB", "S", "R")]
+    done = interrupted("hardware", *words, ready=lambda running: running.stdout.readline())
+    tally.add("tests on this processor are stopped",
+              None if (done.returncode, done.stderr) == (INTERRUPTED, "hardware: stopped\n") else described(done))
+
+
 def judge(program, tally):
     missing = why_not()
     if missing:
         print("not tried: tests on this machine's processor: %s" % missing)
         return
+    judge_ends(program, tally)
     done = tool("hardware", "--program", program, "--seconds", SECONDS, GALLERY)
     tally.add("the gallery on this processor", None if done.returncode == 0 and "NOT ALLOWED" not in done.stdout else described(done))
     print("on this machine's processor: " + done.stdout.splitlines()[-1] if done.stdout else described(done))

@@ -1,6 +1,4 @@
 """What the parts of tests/batteries.py share: calling tools/, and the gallery."""
-import importlib.machinery
-import importlib.util
 import os
 import signal
 import subprocess
@@ -11,6 +9,7 @@ from judging import GALLERY, TESTS, TOP
 
 TOOLS = os.path.join(TOP, "tools")
 sys.path.insert(0, TOOLS)
+from scripts import script
 
 
 class Tally(judging.Tally):
@@ -18,15 +17,6 @@ class Tally(judging.Tally):
 
     def add(self, name, fault=None):
         super().add("batteries", [(name, [fault] if fault else [])])
-
-
-def script(name):
-    """A script of tools/, as a module."""
-    if name not in sys.modules:
-        loader = importlib.machinery.SourceFileLoader(name, os.path.join(TOOLS, name))
-        sys.modules[name] = importlib.util.module_from_spec(importlib.util.spec_from_loader(name, loader))
-        loader.exec_module(sys.modules[name])
-    return sys.modules[name]
 
 
 def heed_interrupts():
@@ -43,12 +33,23 @@ def gallery():
 
 
 def test_file(name):
+    """The path of a test of the gallery."""
     return os.path.join(GALLERY, name + ".litmus")
 
 
 def tool(name, *words, python=sys.executable, **how):
     """What a tool answers."""
     return subprocess.run([python, os.path.join(TOOLS, name), *words], capture_output=True, text=True, **how)
+
+
+def interrupted(name, *words, ready):
+    """How a tool ended that was interrupted once `ready`, given the process, returned."""
+    with subprocess.Popen([sys.executable, os.path.join(TOOLS, name), *words], stdout=subprocess.PIPE, stderr=subprocess.PIPE, text=True,
+                          preexec_fn=heed_interrupts) as running:
+        ready(running)
+        running.send_signal(signal.SIGINT)
+        said, errors = running.communicate(timeout=30)
+    return subprocess.CompletedProcess([], running.returncode, said, errors)
 
 
 def described(done):

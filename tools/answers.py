@@ -1,43 +1,14 @@
-"""Texts of tests from files, folders, lists and streams, and what the program `tso` answers to one of them."""
+"""What a test's text says of itself, and what the program `tso` answers to it."""
 import json
-import os
 import re
 import subprocess
-import sys
 
 # What `tso` ends with: it answered, or some run or search had no end within its limit.
 ENDED, UNFINISHED = 0, 3
 
 
-def texts_in(path):
-    """The texts of tests, without what follows each: of a file, which may hold several, one after the other; of standard input, where
-    the path is -; of all files *.litmus below a folder; or of the files that a list names, a line each, where the path is @LIST."""
-    if path == "-":
-        yield from split_stream(sys.stdin.read())
-    elif path.startswith("@"):
-        with open(path[1:], encoding="utf-8") as file:
-            for line in file.read().splitlines():
-                if line.strip() and not line.startswith("#"):
-                    yield from texts_in(os.path.join(os.path.dirname(path[1:]), line.strip()))
-    elif os.path.isdir(path):
-        for folder, folders, names in os.walk(path):
-            folders.sort()
-            for name in sorted(names):
-                if name.endswith(".litmus"):
-                    yield from texts_in(os.path.join(folder, name))
-    else:
-        with open(path, encoding="latin-1") as file:
-            yield from split_stream(file.read())
-
-
-def split_stream(text):
-    """The tests of a text that has several one after the other, each from its line `X86 ..` on, without choices or orders."""
-    for piece in re.split(r"^(?=X86[ \t])", text, flags=re.M):
-        if piece.startswith("X86"):
-            yield re.split(r"^====\r?$", piece, flags=re.M)[0]
-
-
 def name_of(text):
+    """The name in a test's first line."""
     return re.match(r"X86[ \t]+([^\r\n]*)", text).group(1).strip()
 
 

@@ -28,7 +28,11 @@ def by_processes(program, waiting, processes):
                 task = waiting.popleft()
                 tried[task.key] += 1
                 running[pool.submit(task.carry_out, program)] = task
-            done, _ = concurrent.futures.wait(running, return_when=concurrent.futures.FIRST_COMPLETED)
+            try:
+                done, _ = concurrent.futures.wait(running, return_when=concurrent.futures.FIRST_COMPLETED)
+            except KeyboardInterrupt:
+                pool.shutdown(wait=False, cancel_futures=True)
+                raise
             for future in done:
                 task, one = running.pop(future), future.result()
                 if "fault" in one and tried[task.key] < TRIES:

@@ -187,9 +187,10 @@ class Reader:
 
     def number(self):
         token = self.take()
-        if not token.isdigit() or int(token) >= WORD:
+        digits = token.lstrip("0")[:len(str(WORD)) + 1] or "0"
+        if not token.isdecimal() or int(digits) >= WORD:
             raise BadTest("%r is no number of 32 bits" % token)
-        return int(token)
+        return int(digits)
 
     def register(self, token):
         if token.upper() not in REGISTERS:
@@ -209,7 +210,7 @@ class Reader:
             name = self.location()
             self.take("]")
             return name
-        if self.peek().isdigit():
+        if self.peek().isdecimal():
             core = self.number()
             self.take(":")
             return core, self.register(self.take())
@@ -232,6 +233,9 @@ class Reader:
         condition = self.condition() if self.peek() else None
         if self.peek():
             raise BadTest("%r after the condition" % self.peek())
+        for place in [*initial, *(claim_places(condition[1]) if condition else ())]:
+            if not isinstance(place, str) and place[0] >= cores:
+                raise BadTest("there is no core %d" % place[0])
         return Test(name, programs, initial, facts, condition)
 
     def initial(self):
@@ -264,6 +268,8 @@ class Reader:
             return move(first, second)
         if first[0] == "register":
             first, second = second, first
+        if (first[0], second[0]) != ("location", "register"):
+            raise BadTest("%s of such operands" % word)
         return Instruction(word.lower(), location=first[1], register=second[1])
 
     def operand(self):
@@ -272,7 +278,7 @@ class Reader:
         if self.peek() == "$":
             self.take()
             return "number", self.number()
-        if self.peek().isdigit():
+        if self.peek().isdecimal():
             return "number", self.number()
         return "register", self.register(self.take())
 

@@ -6,8 +6,8 @@ import litmus
 import tasks
 
 # What a row of the table begins with; those that want to be looked at come first.
-DIFFERS, FAULT, OPEN, SAME = "DIFFERS", "FAULT", "OPEN", "same"
-RANKS = (DIFFERS, FAULT, OPEN, SAME)
+DIFFERS, FAULT, REFUSED, OPEN, SAME = "DIFFERS", "FAULT", "REFUSED", "OPEN", "same"
+RANKS = (DIFFERS, FAULT, REFUSED, OPEN, SAME)
 
 # No program has so many stores that a deeper buffer allows more.
 DEEPEST = 32
@@ -17,12 +17,15 @@ MANY_CANDIDATES = 200_000
 
 
 def read_expected(path):
-    """Verdicts by the tests' names: of lines `NAME: ..: VERDICT`, as `tools/cycles --list` prints, or `VERDICT NAME`, as tools/theory."""
+    """Verdicts by the tests' names: of lines `NAME: ..: VERDICT`, as `tools/cycles --list` prints, or `VERDICT NAME`, as tools/theory.
+    What theory refuses has none."""
     found = {}
     with open(path, encoding="latin-1") as file:
         for line in filter(str.strip, file):
             listed = re.fullmatch(r"([^:]*):.*: *(allowed|forbidden)\s*", line)
             said = re.fullmatch(r"(allowed|forbidden)\s+(.*?)\s*", line)
+            if line.startswith("refused "):
+                continue
             if not listed and not said:
                 raise ValueError("%s has a line without a verdict: %s" % (path, line.rstrip()))
             name, verdict = listed.groups() if listed else said.groups()[::-1]
@@ -62,11 +65,11 @@ def by_theory(theory, text):
 
 
 class Line:
-    """A line of the table: how the row is judged, and the members of its JSON line."""
+    """A line of the table: of what it is, how that is judged, and the members of its JSON line."""
 
-    def __init__(self, row, rank, members):
-        self.rank, self.row = rank, row
-        self.members = dict(members, test=answers.name_of(row.text), options=" ".join(row.words), judged=rank)
+    def __init__(self, name, words, rank, members):
+        self.rank = rank
+        self.members = dict(members, test=name, options=" ".join(words), judged=rank)
 
     def order(self):
         return RANKS.index(self.rank), self.members["test"], self.members["options"]
@@ -81,12 +84,21 @@ class Line:
         return " ".join(filter(None, shown + ["- " + why for why in self.members.get("why", [])]))
 
 
+def refused_line(source):
+    """The line of a text that is no test."""
+    return Line(source.place, [], REFUSED, {"why": [source.why]})
+
+
+def line_of_row(row, rank, members):
+    return Line(answers.name_of(row.text), row.words, rank, members)
+
+
 def line_of(row, parts, verdict, theory):
     """The line of a row whose tasks have these results; TSO's own verdict is this one, where something says so."""
     faults = sorted({part["fault"] for part in parts if "fault" in part})
     due = expected(row.text, row.depth, verdict)
     if faults:
-        return Line(row, FAULT, {"expected": due, "why": faults})
+        return line_of_row(row, FAULT, {"expected": due, "why": faults})
     if row.depth is None:
         return sweep_line(row, tasks.merged(parts), due)
     return outcomes_line(row, parts[0], due, theory)
@@ -95,12 +107,12 @@ def line_of(row, parts, verdict, theory):
 def sweep_line(row, total, due):
     """A sweep claims no 'never': it differs only where something forbidden was seen."""
     wrong = due == "forbidden" and total["true"]
-    return Line(row, DIFFERS if wrong else SAME, dict(total, expected=due))
+    return line_of_row(row, DIFFERS if wrong else SAME, dict(total, expected=due))
 
 
 def outcomes_line(row, one, due, theory):
     if "unfinished" in one:
-        return Line(row, OPEN, {"expected": due, "why": ["more than %d states" % one["unfinished"]]})
+        return line_of_row(row, OPEN, {"expected": due, "why": ["more than %d states" % one["unfinished"]]})
     found = None if one["true"] + one["false"] == 0 else "allowed" if one["true"] else "forbidden"
     why = [] if due in (None, found) else ["the verdict differs"]
     if theory is not None and theory.states is not None and row.depth == DEEPEST:
@@ -108,7 +120,7 @@ def outcomes_line(row, one, due, theory):
         why += ["not by theory: " + state_text(state) for state in sorted(states - theory.states, key=sorted)]
         why += ["only by theory: " + state_text(state) for state in sorted(theory.states - states, key=sorted)]
     members = {"expected": due, "found": found, "true": one["true"], "false": one["false"], "states": one["states"], "why": why}
-    return Line(row, DIFFERS if why else SAME, members)
+    return line_of_row(row, DIFFERS if why else SAME, members)
 
 
 def state_text(state):

@@ -1,0 +1,104 @@
+"""The tests that words of a command line name, in this project's form; and of a text that is no test, its place and why it is none."""
+import os
+import re
+import sys
+from dataclasses import dataclass
+
+import answers
+import litmus
+import scripts
+
+importing = scripts.script("import")
+
+HEADER = re.compile(r"^(?=X86(?:_64)?[ \t])", re.M)
+BEFORE_HEADER = re.compile(r"(?:\s|\(\*.*?\*\))*", re.S)
+DIVIDER = re.compile(r"^====\r?$", re.M)
+
+
+class NoTests(Exception):
+    """A word that stands for no file at all."""
+
+
+@dataclass(frozen=True)
+class Source:
+    """A text that should be a test: its text in this project's form; or, with `why` it is no test, the place FILE:LINE of its fault."""
+
+    text: str = None
+    place: str = None
+    why: str = None
+
+    def name(self):
+        """The test's name, or the place of the fault."""
+        return answers.name_of(self.text) if self.why is None else self.place
+
+
+def sources_in(words):
+    """The sources that these words stand for, one after the other."""
+    return [source_of(path, line, text) for word in words for path, whole in files_in(word) for line, text in pieces_of(whole)]
+
+
+def files_in(word, lists=()):
+    """Paths and contents: of a file; of standard input, where the word is -; of all files *.litmus below a folder; or of what a list
+    names, such a word a line, where the word is @LIST. `lists` are those that this word stands in."""
+    if word == "-":
+        sys.stdin.reconfigure(encoding="latin-1")
+        yield word, sys.stdin.read()
+    elif word.startswith("@"):
+        if word in lists:
+            raise NoTests("%s names itself" % word)
+        for inner in words_of_list(word[1:]):
+            yield from files_in(inner, (*lists, word))
+    else:
+        for path in files_below(word) if os.path.isdir(word) else [word]:
+            with open(path, encoding="latin-1") as file:
+                yield path, file.read()
+
+
+def words_of_list(path):
+    """The words of a list, a line each. Its paths begin where it stands."""
+    with open(path, encoding="utf-8") as file:
+        lines = [line.strip() for line in file if line.strip() and not line.startswith("#")]
+    if not lines:
+        raise NoTests("@%s names no file" % path)
+    folder = os.path.dirname(path)
+    for line in lines:
+        yield "@" + os.path.join(folder, line[1:]) if line.startswith("@") else line if line == "-" else os.path.join(folder, line)
+
+
+def files_below(folder):
+    """All files *.litmus below a folder, in the order of their names."""
+    found = []
+    for inner, folders, names in os.walk(folder):
+        folders.sort()
+        found += [os.path.join(inner, name) for name in sorted(names) if name.endswith(".litmus")]
+    if not found:
+        raise NoTests("%s has no file *.litmus" % folder)
+    return found
+
+
+def pieces_of(text):
+    """The tests of a text that has several, one after the other, each with how many lines are before it; without choices or orders. Where
+    no line begins a test, the whole text is one piece."""
+    begins = [found.start() for found in HEADER.finditer(text)] or [BEFORE_HEADER.match(text).end()]
+    line, before = 0, 0
+    for begin, end in zip(begins, begins[1:] + [len(text)]):
+        line, before = line + text.count("\n", before, begin), begin
+        yield line, DIVIDER.split(text[begin:end], maxsplit=1)[0]
+
+
+def source_of(path, lines_before, text):
+    """The source of a piece of a file. A text that isn't in this project's form is imported."""
+    try:
+        litmus.read_test(text)
+        return Source(text)
+    except (litmus.BadTest, RecursionError):
+        pass
+    try:
+        return Source(importing.Importer(text).test().text())
+    except importing.Refused as fault:
+        line, why = fault.line, fault
+    except RecursionError:
+        line, why = 1, "its condition is nested too deeply"
+    except ValueError:
+        line, why = 1, "one of its numbers has thousands of digits"
+    return Source(place="%s:%d" % (path, lines_before + line), why=str(why))
