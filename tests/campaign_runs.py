@@ -1,5 +1,7 @@
 """tools/campaign on this machine, for tests/batteries.py."""
+import hashlib
 import os
+import re
 import tempfile
 import time
 
@@ -64,6 +66,31 @@ def judge_differences(program, tally, room):
         tally.add(name, None if done.returncode == status and done.stdout.startswith(begin) else described(done))
 
 
+def judge_totals(program, tally, room):
+    """Rows of which nothing says what to expect are unjudged, and no difference; the end tells of what and by which program they are."""
+    known, other = write(os.path.join(room, "known"), "allowed SB\n"), [test_file(name) for name in ("SB", "MP")]
+    with open(program, "rb") as file:
+        digest = hashlib.sha256(file.read()).hexdigest()
+    for command, words, rows in (("outcomes", ["--theory", "--depths", "2,32"], "unjudged SB --depth 2|same    MP|same    MP|same    SB"),
+                                 ("outcomes", [], "unjudged MP|same    SB"), ("sweep", ["--seeds", "9"], "unjudged MP|same    SB")):
+        place = os.path.join(room, "totals")
+        given = [without_facts(path, room) for path in other] if "--theory" in words else ["--expected", known, *other]
+        done = tool("campaign", command, program, "--results", place, *words, *given)
+        lines, begins = done.stdout.splitlines(), rows.split("|")
+        same = len(lines) == len(begins) and all(map(str.startswith, lines, begins))
+        states = sum(int(line.rsplit("states=", 1)[1]) for line in lines)
+        end = r"campaign: %d rows, 0 of them want to be looked at, 1 unjudged\n" % len(lines)
+        end += r"campaign: 2 tests, %d states, \d+\.\d s, by tso \d+\.\d+\.\d+, sha256 %s\n\Z" % (states, digest)
+        tally.add("an unjudged row", None if done.returncode == 0 and same and re.search(end, done.stderr) else described(done))
+
+
+def without_facts(path, room):
+    """The path of this test without its lines KEY=VALUE."""
+    with open(path, encoding="ascii") as file:
+        text = re.sub(r"^[A-Z]\w*=.*\n", "", file.read(), flags=re.M)
+    return write(os.path.join(room, os.path.basename(path)), text)
+
+
 def judge_tries(program, tally, room):
     """A task whose first call fails, or doesn't end, is given out again."""
     tests = [test_file(name) for name in ("SB", "MP", "CoRR")]
@@ -103,5 +130,5 @@ def judge_stops(program, tally, room):
 
 def judge(program, tally):
     with tempfile.TemporaryDirectory() as room:
-        for part in (judge_sweeps, judge_sources, judge_differences, judge_tries, judge_stops):
+        for part in (judge_sweeps, judge_sources, judge_differences, judge_totals, judge_tries, judge_stops):
             part(program, tally, room)

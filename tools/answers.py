@@ -22,6 +22,16 @@ def word_of(true, false):
     return "Never" if not true else "Sometimes" if false else "Always"
 
 
+def version_of(program):
+    """The program's name and version, or None. Like its help it is on standard error."""
+    try:
+        done = subprocess.run([program, "--version"], stdin=subprocess.DEVNULL, capture_output=True, timeout=10)
+    except (OSError, subprocess.TimeoutExpired):
+        return None
+    found = re.match(r"tso \d+\.\d+\.\d+", (done.stdout or done.stderr).decode("latin-1"))
+    return found.group() if found else None
+
+
 def ask(program, words, text, limit):
     """The status and standard output of the program, or a fault: a record of what went wrong."""
     try:

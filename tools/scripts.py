@@ -3,6 +3,7 @@ import importlib.machinery
 import importlib.util
 import os
 import sys
+import traceback
 
 TOOLS = os.path.dirname(os.path.abspath(__file__))
 
@@ -21,7 +22,8 @@ def script(name):
 
 
 def end_with(main, name, faults, stopped="stopped"):
-    """Ends with the status of `main`. Where that is interrupted, or meets one of these faults, one line says so."""
+    """Ends with the status of `main`. Where that is interrupted, or meets one of these faults, one line says so. Any other fault is the
+    tool's own: it is told in full, and the tool couldn't answer."""
     try:
         sys.exit(main(sys.argv[1:]))
     except KeyboardInterrupt:
@@ -31,5 +33,8 @@ def end_with(main, name, faults, stopped="stopped"):
         sys.exit(COULD_NOT)
     except faults as fault:
         status, why = COULD_NOT, fault
+    except Exception:
+        traceback.print_exc()
+        sys.exit(COULD_NOT)
     print("%s: %s" % (name, why), file=sys.stderr)
     sys.exit(status)

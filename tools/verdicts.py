@@ -6,8 +6,8 @@ import litmus
 import tasks
 
 # What a row of the table begins with; those that want to be looked at come first.
-DIFFERS, FAULT, REFUSED, OPEN, SAME = "DIFFERS", "FAULT", "REFUSED", "OPEN", "same"
-RANKS = (DIFFERS, FAULT, REFUSED, OPEN, SAME)
+DIFFERS, FAULT, REFUSED, OPEN, UNJUDGED, SAME = "DIFFERS", "FAULT", "REFUSED", "OPEN", "unjudged", "same"
+RANKS = (DIFFERS, FAULT, REFUSED, OPEN, UNJUDGED, SAME)
 
 # No program has so many stores that a deeper buffer allows more.
 DEEPEST = 32
@@ -24,7 +24,7 @@ def read_expected(path):
         for line in filter(str.strip, file):
             listed = re.fullmatch(r"([^:]*):.*: *(allowed|forbidden)\s*", line)
             said = re.fullmatch(r"(allowed|forbidden)\s+(.*?)\s*", line)
-            if line.startswith("refused "):
+            if not listed and not said and line.startswith("refused "):
                 continue
             if not listed and not said:
                 raise ValueError("%s has a line without a verdict: %s" % (path, line.rstrip()))
@@ -71,7 +71,12 @@ class Line:
         self.rank = rank
         self.members = dict(members, test=name, options=" ".join(words), judged=rank)
 
+    def wants_a_look(self):
+        """Whether something is wrong with the row, or open."""
+        return self.rank not in (UNJUDGED, SAME)
+
     def order(self):
+        """What the lines of a table are sorted by."""
         return RANKS.index(self.rank), self.members["test"], self.members["options"]
 
     def text(self):
@@ -90,6 +95,7 @@ def refused_line(source):
 
 
 def line_of_row(row, rank, members):
+    """The line of a row that is judged so."""
     return Line(answers.name_of(row.text), row.words, rank, members)
 
 
@@ -107,20 +113,27 @@ def line_of(row, parts, verdict, theory):
 def sweep_line(row, total, due):
     """A sweep claims no 'never': it differs only where something forbidden was seen."""
     wrong = due == "forbidden" and total["true"]
-    return line_of_row(row, DIFFERS if wrong else SAME, dict(total, expected=due))
+    return line_of_row(row, rank_of(wrong, due is not None), dict(total, expected=due))
+
+
+def rank_of(wrong, held):
+    """How a row is judged that is wrong or not, and that was held against something or nothing."""
+    return DIFFERS if wrong else SAME if held else UNJUDGED
 
 
 def outcomes_line(row, one, due, theory):
+    """All outcomes differ where the verdict isn't the one that is due, or where theory has other final states."""
     if "unfinished" in one:
         return line_of_row(row, OPEN, {"expected": due, "why": ["more than %d states" % one["unfinished"]]})
     found = None if one["true"] + one["false"] == 0 else "allowed" if one["true"] else "forbidden"
     why = [] if due in (None, found) else ["the verdict differs"]
-    if theory is not None and theory.states is not None and row.depth == DEEPEST:
+    by_states = theory is not None and theory.states is not None and row.depth == DEEPEST
+    if by_states:
         states = {frozenset(state.items()) for state in one["states"]}
         why += ["not by theory: " + state_text(state) for state in sorted(states - theory.states, key=sorted)]
         why += ["only by theory: " + state_text(state) for state in sorted(theory.states - states, key=sorted)]
     members = {"expected": due, "found": found, "true": one["true"], "false": one["false"], "states": one["states"], "why": why}
-    return line_of_row(row, DIFFERS if why else SAME, members)
+    return line_of_row(row, rank_of(why, due is not None or by_states), members)
 
 
 def state_text(state):
