@@ -169,6 +169,15 @@ judge_documents() {
   judge "the examples are those of the checkout" $?
 }
 
+# A release whose sources are older than what stands is installed, and that is said.
+judge_older() {
+  cp crates.txt "$room/crates" && echo "# Another line." >> crates.txt
+  ./tso --install "$room/older" > "$room/said" 2>&1 && [ "$(wc -l < "$room/said")" -eq 2 ] \
+    && grep -q "^tso: this is the program of release 9.9.9; the documents here are of newer sources" "$room/said"
+  judge "newer sources" $?
+  cp "$room/crates" crates.txt
+}
+
 # A second version, which has one file less, over the first; then all of it goes, but what is another's.
 judge_removal() {
   local prefix=$1
@@ -193,6 +202,7 @@ judge_refusals
 judge_read_only
 judge_tools "$room/a folder/of programs"
 judge_documents "$room/a folder/of programs"
+judge_older
 judge_removal "$room/a folder/of programs"
 echo "$passed passed, $failed failed"
 [ "$failed" -eq 0 ]
