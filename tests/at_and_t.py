@@ -6,11 +6,10 @@ nothing is read.
 import random
 
 import tool_runs
+import importer
 import litmus
 from cures import followed
 from import_forms import x86
-
-importing = tool_runs.script("import")
 
 SEED, COUNT = 1, 200
 
@@ -125,7 +124,7 @@ def faults_of(program, text):
     read, hints = followed(program, text)
     if read is None:
         return ["isn't read in the end: " + hints[-1]] + text.split("\n")
-    wanted, found = importing.Importer(text).test(), litmus.read_test(read)
+    wanted, found = importer.Importer(text).test(), litmus.read_test(read)
     if meaning(wanted) == meaning(found):
         return []
     return ["is read as another test:"] + read.split("\n") + ["where tools/import makes of it"] + wanted.text().split("\n") + hints

@@ -42,9 +42,11 @@ import campaign_runs
 import cluster_runs
 import cycle_meanings
 import edges
+import faults
 import flat_machine
 import gallery_shapes
 import hardware_runs
+import importer
 import judging
 import litmus
 import source_runs
@@ -52,7 +54,7 @@ import verdicts
 from import_forms import READ, REFUSED
 from log_forms import COMPARED
 
-theory, cycles, importing = script("theory"), script("cycles"), script("import")
+theory, cycles = script("theory"), script("cycles")
 
 COUNTS = {(4, False): 21, (5, False): 96, (6, False): 386, (4, True): 300, (5, True): 3072, (6, True): 24128}
 JUDGED = ((4, True), (5, True), (6, False))
@@ -125,7 +127,7 @@ def judge_gallery(tally):
         tally.add(name, None if said == named[name] else "theory says " + said)
         if theory.candidates_in(test) <= FEW_CANDIDATES:
             tally.add(name, fault_of_states(text.split("\n====")[0]))
-        imported = importing.Importer(text).test()
+        imported = importer.Importer(text).test()
         same = (imported.programs, imported.initial, imported.condition) == (test.programs, test.initial, test.condition)
         tally.add(name, None if same else "isn't imported as itself")
     for length, locked in JUDGED:
@@ -139,7 +141,7 @@ def judge_gallery(tally):
 def judge_program(program, tally):
     """The program takes what the tools print: no test is refused."""
     texts = [cycles.test_of(cycle).text() for cycle in edges.cycles(4, True)]
-    texts += [importing.Importer(text).test().text() for _, text, _ in READ]
+    texts += [importer.Importer(text).test().text() for _, text, _ in READ]
     for text in texts:
         ended = subprocess.run([program, "sweep"], input=text.encode(), capture_output=True)
         tally.add(text.split("\n")[0], None if ended.returncode in (0, 3) else ended.stdout.decode().strip())
@@ -148,16 +150,16 @@ def judge_program(program, tally):
 def judge_imports(tally):
     for name, text, wanted in READ:
         try:
-            printed = importing.Importer(text).test().text()
+            printed = importer.Importer(text).test().text()
             missing = [line for line in wanted if line not in printed]
             tally.add(name, "has no %r in\n%s" % (missing, printed) if missing else None)
-        except importing.Refused as fault:
+        except faults.Refused as fault:
             tally.add(name, "refused: line %d, %s" % (fault.line, fault))
     for name, text, line, why in REFUSED:
         try:
-            importing.Importer(text).test()
+            importer.Importer(text).test()
             tally.add(name, "isn't refused")
-        except importing.Refused as fault:
+        except faults.Refused as fault:
             told = "line %d, %s" % (fault.line, fault)
             tally.add(name, None if fault.line == line and why in str(fault) else "refused: " + told)
 

@@ -50,7 +50,7 @@ def judge(program, tally):
     print("on this machine's processor: " + done.stdout.splitlines()[-1] if done.stdout else described(done))
     with tempfile.TemporaryDirectory() as room:
         log = write(os.path.join(room, "log"), OUTCOMES)
-        wrong = write(os.path.join(room, "wrong"), OUTCOMES.replace(SEEN_SOON, ""))
+        wrong = write(os.path.join(room, "wrong"), OUTCOMES.replace(SEEN_SOON, "").replace("states=4", "states=3"))
         for name, table, status in (("a table of allowed states", log, 0), ("a wrong table of allowed states", wrong, 1)):
             done = tool("hardware", "--allowed", table, "--seconds", "2", "--runs", "100000", test_file("SB"))
             told = "NOT ALLOWED, AND SEEN: SB: 0:EAX=0 1:EAX=1\n" in done.stdout
@@ -58,5 +58,9 @@ def judge(program, tally):
         seen = write(os.path.join(room, "seen"), done.stdout)
         compared = tool("compare", "--within", seen, log)
         tally.add("a processor's log beside that of all outcomes", None if compared.returncode == 0 else described(compared))
+        cut = write(os.path.join(room, "cut"), OUTCOMES.replace(SEEN_SOON, ""))
+        done = tool("hardware", "--allowed", cut, test_file("SB"))
+        told = "hardware: SB isn't judged: the log is to have 4 states and has 3\n"
+        tally.add("a table that was cut", None if (done.returncode, done.stderr) == (COULD_NOT, told) else described(done))
         done = tool("hardware", "--allowed", log, test_file("MP"))
         tally.add("a test that the table hasn't", None if done.returncode == 2 else described(done))

@@ -22,7 +22,7 @@ FILES = (("1.litmus", X86_64 + "\n" + HALF_WORDS), ("2.litmus", OTHER_MACHINE), 
          ("5.litmus", AT_AND_T), ("6.litmus", "X86 Digits\n{ }\n P0 ;\n MOV [x],$%s ;\n" % ("9" * 5000)))
 NO_HEADER = "a test begins with X86 NAME or X86_64 NAME"
 REFUSED = (("1.litmus:13", "movw $1,(y): words of 32 bits alone are read"), ("2.litmus:1", NO_HEADER), ("3.litmus:1", NO_HEADER),
-           ("4.litmus:1", NO_HEADER), ("6.litmus:1", "one of its numbers has thousands of digits"))
+           ("4.litmus:1", NO_HEADER), ("6.litmus:4", "a number of 5000 digits doesn't fit 32 bits"))
 
 # A test that theory tries for long: so many orders of stores, none of which makes the condition true.
 LONG = "X86 Long\n{ }\n P0 ;\n%sexists (x=10)\n" % "".join(" MOV [x],$%d ;\n" % value for value in range(1, 10))

@@ -1,7 +1,10 @@
 """What a test's text says of itself, and what the program `tso` answers to it."""
+import functools
 import json
 import re
 import subprocess
+
+import litmus
 
 # What `tso` ends with: it answered, or some run or search had no end within its limit.
 ENDED, UNFINISHED = 0, 3
@@ -32,6 +35,24 @@ def version_of(program):
     return found.group() if found else None
 
 
+@functools.lru_cache(maxsize=None)
+def knows_show(program):
+    """Whether the program's `outcomes` has the option --show."""
+    try:
+        done = subprocess.run([program, "outcomes", "--help"], stdin=subprocess.DEVNULL, capture_output=True, timeout=10)
+    except (OSError, subprocess.TimeoutExpired):
+        return False
+    return b"--show" in done.stdout + done.stderr
+
+
+def words_of_show(program, text):
+    """The words that have `outcomes` show what a test's line `Show=..` asks for, where the program knows them."""
+    if "\n%s=" % litmus.SHOW not in text:
+        return []
+    show = litmus.show_of(litmus.read_test(text).facts)
+    return ["--show", show] if show and knows_show(program) else []
+
+
 def ask(program, words, text, limit):
     """The status and standard output of the program, or a fault: a record of what went wrong."""
     try:
@@ -47,7 +68,7 @@ def ask(program, words, text, limit):
 def outcomes(program, text, options, limit):
     """All final states: `states`, a list of values by place, and how many of them make the condition `true` and `false`;
     `unfinished`, the limit, where there are too many states; or `fault`."""
-    status, said = ask(program, ["outcomes", "--json", *options], text, limit)
+    status, said = ask(program, ["outcomes", "--json", *words_of_show(program, text), *options], text, limit)
     if status is None:
         return said
     answer = json.loads(said)

@@ -6,6 +6,7 @@ and says of a few others, in less detail than the program, that they are none.
 import re
 from dataclasses import dataclass, field
 
+SHOW = "Show"
 REGISTERS = ("EAX", "EBX", "ECX", "EDX", "ESI", "EDI")
 WORD = 2 ** 32
 
@@ -140,6 +141,24 @@ def observed(test):
     asked = set(claim_places(test.condition[1]))
     registers = sorted((place for place in asked if not isinstance(place, str)), key=lambda place: (place[0], REGISTERS.index(place[1])))
     return registers + [name for name in test.locations() if name in asked]
+
+
+def shown(test):
+    """The places that a final state names where its line `Show=..` is obeyed: those of the condition; with `registers` each register
+    that an instruction of its core writes, and with `all` each location too."""
+    asked = observed(test)
+    show = show_of(test.facts)
+    if show is None:
+        return asked
+    written = {(core, one.register) for core, program in enumerate(test.programs) for one in program if one.register}
+    found = written | {place for place in asked if not isinstance(place, str)}
+    locations = [name for name in test.locations() if show == "all" or name in asked]
+    return sorted(found, key=lambda place: (place[0], REGISTERS.index(place[1]))) + locations
+
+
+def show_of(facts):
+    """What the line `Show=..` of a test asks `tso outcomes --show` for: registers or all; or None."""
+    return next((line.partition("=")[2] for line in facts if line in (SHOW + "=registers", SHOW + "=all")), None)
 
 
 # ---- reading

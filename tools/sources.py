@@ -5,12 +5,13 @@ import sys
 from dataclasses import dataclass
 
 import answers
+import faults
+import importer
 import litmus
-import scripts
 
-importing = scripts.script("import")
-
-HEADER = re.compile(r"^(?=X86(?:_64)?[ \t])", re.M)
+# A test's first line with its lines of facts, in which no other test begins.
+HEADER = re.compile(r'^X86(?:_64)?[ \t][^\n]*\n?(?:\s+|"[^"]*"|[A-Za-z][\w \t-]*=[^\n]*)*', re.M)
+COMMENT = re.compile(r"\(\*.*?\*\)", re.S)
 BEFORE_HEADER = re.compile(r"(?:\s|\(\*.*?\*\))*", re.S)
 DIVIDER = re.compile(r"^====\r?$", re.M)
 
@@ -79,7 +80,8 @@ def files_below(folder):
 def pieces_of(text):
     """The tests of a text that has several, one after the other, each with how many lines are before it; without choices or orders. Where
     no line begins a test, the whole text is one piece."""
-    begins = [found.start() for found in HEADER.finditer(text)] or [BEFORE_HEADER.match(text).end()]
+    without_comments = COMMENT.sub(lambda found: re.sub(r"[^\n]", " ", found.group()), text)
+    begins = [found.start() for found in HEADER.finditer(without_comments)] or [BEFORE_HEADER.match(text).end()]
     line, before = 0, 0
     for begin, end in zip(begins, begins[1:] + [len(text)]):
         line, before = line + text.count("\n", before, begin), begin
@@ -94,11 +96,9 @@ def source_of(path, lines_before, text):
     except (litmus.BadTest, RecursionError):
         pass
     try:
-        return Source(importing.Importer(text).test().text())
-    except importing.Refused as fault:
+        return Source(importer.Importer(text).test().text())
+    except faults.Refused as fault:
         line, why = fault.line, fault
     except RecursionError:
         line, why = 1, "its condition is nested too deeply"
-    except ValueError:
-        line, why = 1, "one of its numbers has thousands of digits"
     return Source(place="%s:%d" % (path, lines_before + line), why=str(why))

@@ -3,6 +3,7 @@ import re
 
 import answers
 import litmus
+import registers
 import tasks
 
 # What a row of the table begins with; those that want to be looked at come first.
@@ -44,8 +45,8 @@ def expected(text, depth, verdict):
 
 
 class Theory:
-    """What tools/theory says of a test: its verdict, and all its final states, as sets of pairs; None for these where there are too many
-    candidates to try all."""
+    """What tools/theory says of a test: its verdict, and all its final states, as sets of pairs of whatever may be shown; None for these
+    where there are too many candidates to try all."""
 
     def __init__(self, verdict, states):
         self.verdict, self.states = verdict, states
@@ -106,8 +107,24 @@ def line_of(row, parts, verdict, theory):
     if faults:
         return line_of_row(row, FAULT, {"expected": due, "why": faults})
     if row.depth is None:
-        return sweep_line(row, tasks.merged(parts), due)
-    return outcomes_line(row, parts[0], due, theory)
+        return in_names_of_file(row.text, sweep_line(row, tasks.merged(parts), due))
+    return in_names_of_file(row.text, outcomes_line(row, parts[0], due, theory))
+
+
+def in_names_of_file(text, line):
+    """The line with what an imported test calls otherwise than its file by the file's name."""
+    names = {ours: theirs for theirs, ours in registers.names_in(litmus.read_test(text).facts).items()}
+
+    def renamed(said):
+        return re.sub(r"\S+(?==\d)", lambda found: names.get(found.group(), found.group()), said)
+    for key, found in line.members.items() if names else ():
+        if key == "states" and isinstance(found, list):
+            line.members[key] = [{names.get(place, place): value for place, value in state.items()} for state in found]
+        elif key == "states":
+            line.members[key] = {renamed(state): count for state, count in found.items()}
+        elif key == "why":
+            line.members[key] = [renamed(why) for why in found]
+    return line
 
 
 def sweep_line(row, total, due):

@@ -1,0 +1,348 @@
+"""A test of herd or diy, for X86 or X86_64, in this project's form; or all that can't be said in it, each with its line."""
+import contextlib
+import re
+
+import claims
+import litmus
+import registers
+import words
+from cells import Memory, cell_in
+from faults import ADDRESSES, INITIAL, NUMBER, OPERANDS, ROWS, TWICE, Fault, Refused, number_in
+from litmus import Instruction
+
+HEADER = re.compile(r"(X86(?:_64)?)[ \t]+([^\n]*)(?:\n|\Z)")
+INFORMATION = re.compile(r'"[^"]*"|[A-Za-z][\w \t-]*=[^\n]*')
+ARRAY = re.compile(r"([A-Za-z_][\w ]*?)\s+(\w+)\s*\[\s*(\d+)\s*\]\s*(?:=\s*\{([^{}]*)\})?")
+ITEM = re.compile(r"(?:([A-Za-z_][\w ]*?)\s+)?(?:P?(\d+)\s*:\s*(%?\w+)|\[?\s*(\w+)\s*\]?)(?:\s*=\s*(\S+))?")
+
+
+class Importer:
+    """One text on its way: lines are counted by what stands before."""
+
+    def __init__(self, text):
+        self.text = re.split(r"^====$", text.replace("\r", ""), flags=re.M)[0]
+        self.faults, self.names, self.words = [], {}, None
+
+    def test(self):
+        """The test, or Refused."""
+        name, facts, opened = self.beginning()
+        closed = self.closing(opened)
+        items = self.items(opened + 1, closed)
+        end = self.end_of_rows(closed + 1)
+        columns = self.columns(closed + 1, end)
+        tokens, shown = self.condition_tokens(end)
+        self.want_registers(items, columns, tokens, shown)
+        initial = self.initial(items)
+        programs = [self.program(core, column) for core, column in enumerate(columns)]
+        condition = self.condition(tokens)
+        for location, line in self.words.too_narrow():
+            with self.at(line):
+                raise Fault("%s has words of 4 bytes, and 8 are used: one size alone is read" % location, "more bytes than a word has")
+        initial.update(self.words.first_words())
+        test = litmus.Test(name, programs, initial, facts, condition)
+        self.keep_limits(test)
+        if self.faults:
+            raise Refused(self.faults)
+        test.facts = self.facts(test, shown)
+        return test
+
+    # ---- lines and faults
+
+    def line(self, place):
+        return 1 + self.text.count("\n", 0, place)
+
+    def last_line(self):
+        return self.line(len(self.text.rstrip()))
+
+    @contextlib.contextmanager
+    def at(self, line):
+        """What is refused within stands on this line, and the rest of the text is looked at all the same."""
+        try:
+            yield
+        except Fault as fault:
+            self.faults.append((line, fault))
+
+    def refuse(self, line, why, kind):
+        """Ends the reading: nothing more of this text can be looked at."""
+        raise Refused(self.faults + [(line, Fault(why, kind))])
+
+    # ---- what stands before the initial state
+
+    def beginning(self):
+        """The test's name, its lines of facts, and the place of the initial state. What follows has blanks for comments."""
+        at = self.behind_comments(0)
+        header = HEADER.match(self.text, at)
+        if not header:
+            self.refuse(self.line(at) if self.text[at:] else 1, "a test begins with X86 NAME or X86_64 NAME", "no header of X86 or X86_64")
+        self.words = words.Words(self.text, header.group(1) == "X86_64")
+        name = re.sub(r"\(\*.*?\*\)", "", header.group(2)).strip()
+        if not name or len(name) > litmus.LONGEST_NAME or not re.fullmatch(r"[ -~]+", name):
+            with self.at(self.line(header.start(1))):
+                raise Fault("a name has 1 to %d printable bytes" % litmus.LONGEST_NAME, "names of tests")
+        facts, at = [], self.behind_comments(header.end())
+        while self.text[at:at + 1] != "{":
+            if at == len(self.text):
+                self.refuse(self.last_line(), "there is no initial state { .. }", "no initial state")
+            found = INFORMATION.match(self.text, at)
+            if found:
+                facts.append(found.group().rstrip())
+            at = self.behind_comments(found.end() if found else re.compile(r"[^\n{]*").match(self.text, at).end())
+        self.blank_comments(at)
+        return name, facts, at
+
+    def comment_end(self, begin):
+        """The end of the comment that begins here. herd's stand within one another; here they don't, and an end too few says so."""
+        depth = 0
+        for mark in re.compile(r"\(\*|\*\)").finditer(self.text, begin):
+            depth += 1 if mark.group() == "(*" else -1
+            if depth == 0:
+                return mark.end()
+        end = self.text.find("*)", begin)
+        if end < 0:
+            self.refuse(self.line(begin), "a comment isn't closed", "comments that aren't closed")
+        return end + 2
+
+    def behind_comments(self, at):
+        """The first place from here on where no white space and no comment stands."""
+        while True:
+            at = re.compile(r"\s*").match(self.text, at).end()
+            if not self.text.startswith("(*", at):
+                return at
+            at = self.comment_end(at)
+
+    def blank_comments(self, at):
+        while (at := self.text.find("(*", at)) >= 0:
+            end = self.comment_end(at)
+            self.text = self.text[:at] + re.sub(r"[^\n]", " ", self.text[at:end]) + self.text[end:]
+
+    # ---- the initial state
+
+    def closing(self, opened):
+        """The place of the brace that ends the initial state."""
+        depth = 0
+        for mark in re.compile(r"[{}]").finditer(self.text, opened):
+            depth += 1 if mark.group() == "{" else -1
+            if depth == 0:
+                return mark.start()
+        return self.refuse(self.last_line(), "there is no initial state { .. }", "no initial state")
+
+    def items(self, begin, end):
+        """The items of the initial state but for arrays: a place, a text (None where it says a type alone), and a line."""
+        found, place = [], begin
+        for item in self.text[begin:end].split(";"):
+            line = self.line(place + len(item) - len(item.lstrip()))
+            place += len(item) + 1
+            with self.at(line):
+                read = self.item(" ".join(item.split()))
+                if read is not None:
+                    found.append((*read, line))
+        return found
+
+    def item(self, item):
+        """The place and the text of an item; None where it is empty, or an array."""
+        array = ARRAY.fullmatch(item)
+        if array:
+            self.words.add_array(item, *array.groups())
+        if array or not item:
+            return None
+        if "*" in item or re.search(r"\w\s*\[", item):
+            raise Fault("%s: arrays and pointers aren't read" % item, "pointers, or arrays of another form")
+        form = ITEM.fullmatch(item)
+        if not form:
+            raise Fault("%s is no item of an initial state that is read here" % item, INITIAL)
+        kind, core, register, location, value = form.groups()
+        size = words.size_of_type(item, kind)
+        if kind is None and value is None:
+            raise Fault("%s has no value" % item, INITIAL)
+        if value is not None and not re.fullmatch(NUMBER, value):
+            self.address(item, register, value)
+        if core is not None:
+            return (int(core), register), value
+        self.words.state(self.words.location(location), size)
+        return location, value
+
+    def address(self, item, register, value):
+        """Refuses an address that isn't that of a location in a whole register."""
+        if register is None or not re.fullmatch(r"[A-Za-z_]\w*", value):
+            raise Fault("%s: addresses aren't read, a word begins as a number" % item, ADDRESSES)
+        if self.words.wide and (registers.whole(register) or ("", 8))[1] == 4:
+            raise Fault("%s: an address has a whole register" % item, ADDRESSES)
+
+    def initial(self, items):
+        """First words and registers; those of elements come later."""
+        found, valued = {}, set()
+        for place, value, line in items:
+            if isinstance(place, tuple):
+                if self.is_address(place) or place[0] not in self.names or value is None:
+                    continue
+                place = place[0], self.names[place[0]].given.get(registers.whole(place[1])[0]) if registers.whole(place[1]) else place[1]
+            with self.at(line):
+                if isinstance(place, str):
+                    found.setdefault(self.words.location(place), 0)
+                if value is not None:
+                    if place in valued:
+                        raise Fault("%s is given twice" % litmus.place_text(place), TWICE)
+                    valued.add(place)
+                    found[place] = number_in(value)
+        return found
+
+    # ---- the programs
+
+    def end_of_rows(self, begin):
+        """The place where the condition begins, or a list of locations."""
+        form = re.compile(r"^\s*(?:~\s*exists|locations|exists|forall|filter|final|forbidden|allowed)\b", re.M)
+        found = form.search(self.text, begin)
+        return found.start() if found else len(self.text)
+
+    def columns(self, begin, end):
+        """Each core's cells, pairs of a Cell and its line."""
+        found, place = None, begin
+        for row in self.text[begin:end].split(";"):
+            cells, at = row.split("|"), place
+            place += len(row) + 1
+            if not row.strip():
+                continue
+            first = self.line(at + len(row) - len(row.lstrip()))
+            if found is None:
+                if [cell.strip() for cell in cells] != ["P%d" % core for core in range(len(cells))]:
+                    self.refuse(first, "the cores are P0, P1 and so on, with | between them", ROWS)
+                found = [[] for _ in cells]
+                continue
+            with self.at(first):
+                if len(cells) != len(found):
+                    raise Fault("a row has one cell for each core", ROWS)
+            for column, cell in zip(found, cells):
+                line = self.line(at + len(cell) - len(cell.lstrip()))
+                at += len(cell) + 1
+                if cell.strip():
+                    with self.at(line):
+                        column.append((cell_in(" ".join(cell.split())), line))
+        if found is None:
+            self.refuse(self.line(end), "there are no cores", ROWS)
+        return found
+
+    def want_registers(self, items, columns, tokens, shown):
+        """Gives each register a name: those of the initial state, of the programs, of the condition, and of the list of locations."""
+        self.names = {core: registers.Names() for core in range(len(columns))}
+        held = [item for item in items if item[1] is not None and not re.fullmatch(NUMBER, item[1])]
+        for place, value, line in held:
+            with self.at(line):
+                self.names_of(place[0]).hold(place[1], value)
+        wanted = [(place, line) for place, value, line in items if (place, value, line) not in held]
+        wanted += [((core, one), line) for core, column in enumerate(columns) for cell, line in column for one in cell.operands
+                   if isinstance(one, str)]
+        wanted += tokens + [one for one in shown if not self.is_address(one[0])]
+        lines = {}
+        for (core, name), line in [one for one in wanted if isinstance(one[0], tuple)]:
+            with self.at(line):
+                self.names_of(core).want(name)
+                lines.setdefault((core, registers.whole(name)[0]), line)
+        for core, names in self.names.items():
+            without = names.settle()
+            if without:
+                with self.at(lines[core, without]):
+                    raise Fault("%s is the core's seventh register: there are %d" % (without, len(litmus.REGISTERS)),
+                                "a seventh register of a core")
+
+    def names_of(self, core):
+        if core not in self.names:
+            raise Fault("there is no core %d" % core, "cores that aren't there")
+        return self.names[core]
+
+    def is_address(self, place):
+        """Whether a place is a register that holds an address."""
+        if not isinstance(place, tuple) or place[0] not in self.names or not registers.whole(place[1]):
+            return False
+        return registers.whole(place[1])[0] in self.names[place[0]].addresses
+
+    def program(self, core, column):
+        found = []
+        for cell, line in column:
+            with self.at(line):
+                found.append(self.instruction(cell, [self.operand(core, cell, one, line) for one in cell.operands]))
+        return found
+
+    def operand(self, core, cell, operand, line):
+        """What an operand becomes: a number, a register's name, or a location's."""
+        names = self.names[core]
+        if isinstance(operand, Memory):
+            return self.words.place(cell, operand, names.addresses, line)
+        if isinstance(operand, str):
+            return names.given.get((registers.whole(operand) or [None])[0])
+        return operand
+
+    def instruction(self, cell, values):
+        kinds = cell.kinds()
+        if cell.mnemonic == "mfence":
+            return Instruction("fence")
+        if cell.mnemonic == "mov":
+            if kinds in (("memory", "number"), ("memory", "register")):
+                return Instruction("store", values[0], operand=values[1])
+            if kinds == ("register", "memory"):
+                return Instruction("load", values[1], values[0])
+            if kinds in (("register", "number"), ("register", "register")):
+                return Instruction("move", register=values[0], operand=values[1])
+        elif kinds == ("memory", "register"):
+            return Instruction(cell.mnemonic, *values)
+        elif cell.mnemonic == "xchg" and kinds == ("register", "memory"):
+            return Instruction(cell.mnemonic, values[1], values[0])
+        raise Fault("%s: such operands aren't read" % cell.text, OPERANDS)
+
+    # ---- the condition, and what is shown
+
+    def condition_tokens(self, begin):
+        """The tokens of the condition, and what the list of locations names, each with its line."""
+        found, shown, at = [], [], begin
+        while self.text[at:].strip():
+            asked = claims.LIST.match(self.text, at)
+            token = asked or claims.TOKEN.match(self.text, at)
+            at = token.end()
+            line = self.line(at - 1)
+            with self.at(line):
+                if asked:
+                    shown += [(place, line) for place in claims.listed(asked.group(1))]
+                else:
+                    found.append((claims.token_in(token.groups(), self.words), line))
+        return found, shown
+
+    def condition(self, tokens):
+        """The condition; None where there is none, or where it can't be looked at since something is refused."""
+        if not tokens or self.faults:
+            return None
+        found, at = claims.claim_in([token for token, _ in tokens], self.names, self.words)
+        if at is None:
+            return found
+        self.faults.append((tokens[at][1], found))
+        return None
+
+    def facts(self, test, shown):
+        """The lines of facts: those of the file, and what the test calls otherwise, and what its list of locations asks for."""
+        own = ("%s=" % registers.RENAMED, "%s=" % registers.ELEMENTS, "%s=" % litmus.SHOW)
+        kept = [line for line in test.facts if not line.startswith(own)]
+        renamed = {"%d:%s" % (core, theirs): "%d:%s" % (core, ours) for core, names in self.names.items() for theirs, ours in names.renamed()}
+        before = registers.names_in(test.facts)
+        renamed = {**{theirs: renamed.pop(ours, ours) for theirs, ours in before.items()}, **renamed}
+        elements = {"%s[%d]" % one: name for one, name in self.words.elements.items()}
+        for key, names in ((registers.RENAMED, {one: renamed[one] for one in renamed if ":" in one}),
+                           (registers.ELEMENTS, {**{one: renamed[one] for one in renamed if ":" not in one}, **elements})):
+            kept += [registers.line_of(key, names)] if names else []
+        show = self.shown(test, [place for place, _ in shown]) or litmus.show_of(test.facts)
+        return kept + (["%s=%s" % (litmus.SHOW, show)] if show else [])
+
+    def shown(self, test, places):
+        """What `tso outcomes --show` has to show more than the condition's values: registers, all, or None."""
+        asked, known = set(litmus.observed(test)), set(test.locations()) | set(self.words.arrays)
+        if any(place is None or place in known - asked for place in places):
+            return "all"
+        registers_of = [(place[0], self.names[place[0]].name(place[1])) for place in places
+                        if isinstance(place, tuple) and not self.is_address(place)]
+        return "registers" if set(registers_of) - asked else None
+
+    def keep_limits(self, test):
+        for fault, of in ((len(test.programs) > litmus.MOST_CORES, "a test has at most %d cores" % litmus.MOST_CORES),
+                          (any(len(program) > litmus.MOST_INSTRUCTIONS for program in test.programs),
+                           "a core has at most %d instructions" % litmus.MOST_INSTRUCTIONS),
+                          (len(test.locations()) > litmus.MOST_LOCATIONS, "a test has at most %d locations" % litmus.MOST_LOCATIONS)):
+            with self.at(self.last_line()):
+                if fault:
+                    raise Fault(of, "limits of a test")
