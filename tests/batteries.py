@@ -15,9 +15,11 @@
 - Cycles of ten names have the gallery's states, up to names of cores, locations and registers, and stored values.
 - Theory has the gallery's verdict of each of its tests; and of those with few candidates it allows just the final states that
   the plain search finds.
-- tools/compare: logs of herd7's, litmus7's and this project's forms, and what is said of two of them.
+- tools/compare: logs of herd7's, litmus7's and this project's forms, and what is said of two of them, or of three.
 - tools/import: forms that are read, each with what it becomes, and forms that are refused, each with its line and why; a test of the
-  gallery is imported as itself.
+  gallery is imported as itself. Files in the forms of diy7, litmus7 and herd's libraries (imported_files.py): what is read has the same
+  final states as the same test written by hand, and a log of the file compares with the answer to what is imported. Tests with words of
+  two sizes, arrays and addresses in registers have the final states of a plain machine whose memory has bytes (byte_machine.py).
 - tools/theory, tools/hardware and tools/campaign read each form that tools/import reads; a text that is no test is named, and the others
   go on; a folder without a test is an error; each that is interrupted ends with one line.
 - tools/hardware: short runs of the gallery on this machine's processor; a wrong table of allowed states is noticed.
@@ -35,9 +37,10 @@ import tempfile
 
 sys.dont_write_bytecode = True
 import tool_runs
-from tool_runs import TOP, TOOLS, Tally, gallery, script
+from tool_runs import TOP, TOOLS, Tally, gallery, script, tool, write
 
 import answers
+import byte_machine
 import campaign_runs
 import cluster_runs
 import cycle_meanings
@@ -46,13 +49,14 @@ import faults
 import flat_machine
 import gallery_shapes
 import hardware_runs
+import imported_files
 import importer
 import judging
 import litmus
 import source_runs
 import verdicts
 from import_forms import READ, REFUSED
-from log_forms import COMPARED
+from log_forms import COMPARED, LAID_SIDE_BY_SIDE
 
 theory, cycles = script("theory"), script("cycles")
 
@@ -175,6 +179,11 @@ def judge_comparisons(tally):
             done = subprocess.run(words, capture_output=True, text=True)
             same = (done.stdout.splitlines(), done.returncode) == (wanted, status)
             tally.add(name, None if same else "%d, %s" % (done.returncode, done.stdout))
+        for name, words, texts, wanted, status in LAID_SIDE_BY_SIDE:
+            paths = [write(os.path.join(room, "log%d" % (number + 1)), text) for number, text in enumerate(texts)]
+            done = tool("compare", *words, *[os.path.basename(path) for path in paths], cwd=room)
+            same = (done.stdout.splitlines(), done.returncode) == (wanted, status)
+            tally.add(name, None if same else "%d, %s%s" % (done.returncode, done.stdout, done.stderr))
 
 
 def main():
@@ -199,7 +208,7 @@ def main():
     judge_imports(tally)
     judge_comparisons(tally)
     judge_program(program, tally)
-    for part in (cycle_meanings, gallery_shapes, source_runs, hardware_runs, campaign_runs, cluster_runs):
+    for part in (imported_files, byte_machine, cycle_meanings, gallery_shapes, source_runs, hardware_runs, campaign_runs, cluster_runs):
         part.judge(program, tally)
     return tally.end()
 

@@ -33,6 +33,8 @@ class Cell:
 
 def cell_in(text):
     """The cell of a text without needless blanks."""
+    if re.match(r"[\w.]+\s*:", text):
+        raise Fault("%s: labels aren't read, programs are straight lines" % text, "labels")
     word = re.fullmatch(r"(?i)(lock\s*;?\s*)?([a-z]\w*)\s*(.*)", text)
     if not word:
         raise Fault("%s is no instruction that is read here" % text, "cells that are no instruction")

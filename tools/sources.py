@@ -9,9 +9,8 @@ import faults
 import importer
 import litmus
 
-# A test's first line with its lines of facts, in which no other test begins.
-HEADER = re.compile(r'^X86(?:_64)?[ \t][^\n]*\n?(?:\s+|"[^"]*"|[A-Za-z][\w \t-]*=[^\n]*)*', re.M)
-COMMENT = re.compile(r"\(\*.*?\*\)", re.S)
+# A comment, or a test's first line with its lines of facts: no other test begins within.
+HEADER = re.compile(r'\(\*.*?\*\)|^(X86(?:_64)?[ \t])[^\n]*\n?(?:\s+|\(\*.*?\*\)|"[^"]*"|[A-Za-z][\w \t-]*=[^\n]*)*', re.M | re.S)
 BEFORE_HEADER = re.compile(r"(?:\s|\(\*.*?\*\))*", re.S)
 DIVIDER = re.compile(r"^====\r?$", re.M)
 
@@ -80,8 +79,7 @@ def files_below(folder):
 def pieces_of(text):
     """The tests of a text that has several, one after the other, each with how many lines are before it; without choices or orders. Where
     no line begins a test, the whole text is one piece."""
-    without_comments = COMMENT.sub(lambda found: re.sub(r"[^\n]", " ", found.group()), text)
-    begins = [found.start() for found in HEADER.finditer(without_comments)] or [BEFORE_HEADER.match(text).end()]
+    begins = [found.start() for found in HEADER.finditer(text) if found.group(1)] or [BEFORE_HEADER.match(text).end()]
     line, before = 0, 0
     for begin, end in zip(begins, begins[1:] + [len(text)]):
         line, before = line + text.count("\n", before, begin), begin

@@ -73,7 +73,9 @@ class Words:
     def address(self, cell, register, addresses):
         """The location whose address a register holds."""
         found = registers.whole(register)
-        if found is None or self.wide and found[1] == 4:
+        if found is None:
+            raise Fault("%s: addresses in %s aren't read" % (cell.text, register), ADDRESSES)
+        if self.wide and found[1] == 4:
             raise Fault("%s: an address has a whole register" % cell.text, ADDRESSES)
         if found[0] not in addresses:
             raise Fault("%s: %s has no address in the initial state: addresses in registers that change aren't read" % (
