@@ -3,7 +3,7 @@ import os
 import shutil
 import tempfile
 
-from log_forms import OUTCOMES
+from log_forms import OTHER_NAME, OTHER_NAME_LOG, OUTCOMES
 from tool_runs import GALLERY, described, interrupted, test_file, tool, write
 from scripts import COULD_NOT, INTERRUPTED
 
@@ -58,6 +58,9 @@ def judge(program, tally):
         seen = write(os.path.join(room, "seen"), done.stdout)
         compared = tool("compare", "--within", seen, log)
         tally.add("a processor's log beside that of all outcomes", None if compared.returncode == 0 else described(compared))
+        named, file = write(os.path.join(room, "named"), OTHER_NAME_LOG), write(os.path.join(room, "SB.litmus"), OTHER_NAME)
+        done = tool("hardware", "--allowed", named, "--seconds", "0.2", file)
+        tally.add("a table in the names of the file", None if done.returncode == 0 and "1 tests, " in done.stdout else described(done))
         cut = write(os.path.join(room, "cut"), OUTCOMES.replace(SEEN_SOON, ""))
         done = tool("hardware", "--allowed", cut, test_file("SB"))
         told = "hardware: SB isn't judged: the log is to have 4 states and has 3\n"

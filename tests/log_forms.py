@@ -196,6 +196,17 @@ IRIW_STATES = [(first, second, third, last) for first in (0, 1) for second in (0
 IRIW_LOG = "Test IRIW Allowed\nStates %d\n%sNo\nWitnesses\nPositive: 0 Negative: 15\nObservation IRIW Never 0 15\n" % (
     len(IRIW_STATES), "".join("1:r8=%d; 1:r9=%d; 3:r14=%d; 3:r15=%d; [x]=1; [y]=1;\n" % state for state in IRIW_STATES))
 
+# A test with a register that has another name here, and herd's log of it.
+OTHER_NAME = """X86_64 SB
+{ }
+ P0            | P1            ;
+ movl $1,(x)   | movl $1,(y)   ;
+ movl (y),%r8d | movl (x),%eax ;
+exists (0:r8=0 /\\ 1:rax=0)
+"""
+
+OTHER_NAME_LOG = SHOWN_MORE.replace("0:rax", "0:r8")
+
 # Tests with a list of locations, and what a program that knows --show is asked.
 SHOWN = [
     ("a location of a list", IRIW, "outcomes --json --show all\n"),

@@ -3,7 +3,7 @@ import re
 from dataclasses import dataclass
 
 import registers
-from faults import NUMBER, OPERANDS, SIZES, Fault, location_in, number_in
+from faults import ADDRESSES, NUMBER, OPERANDS, SIZES, Fault, location_in, number_in
 
 LETTERS = {"l": 4, "q": 8}
 
@@ -89,6 +89,8 @@ def size_of(cell, size, operands, pointers):
 def is_source_first(cell, text, operands):
     """Whether operands stand in AT&T's order: by their signs, or since a number is no destination."""
     at_and_t = "%" in text or "(" in text
+    if at_and_t and any(re.fullmatch(NUMBER, word.strip()) for word in text.split(",")):
+        raise Fault("%s: in AT&T's order a number without $ is an address" % cell, ADDRESSES)
     intel = "[" in text or any(isinstance(one, str) and "%" not in one for one in operands)
     if at_and_t and intel:
         raise Fault("%s: this has signs of Intel's order of operands and of AT&T's: which one it has isn't known" % cell,

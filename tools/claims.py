@@ -18,7 +18,7 @@ def listed(text):
     for item in filter(str.strip, text.split(";")):
         form = re.fullmatch(r"\s*(?:P?(\d+)\s*:\s*(%?\w+)|\[?\s*(\w+)\s*\]?)\s*", item)
         core, register, location = form.groups() if form else (None, None, None)
-        found.append(location if core is None else (int(core), register) if registers.whole(register) else None)
+        found.append(location if core is None else (number_in(core), register) if registers.whole(register) else None)
     return found
 
 
@@ -26,9 +26,9 @@ def token_in(groups, words):
     """A token of a condition: a word, or a register as a pair of a core and a name. An element of an array is its location."""
     core, register, array, number, value, word, other = groups
     if core is not None:
-        return int(core), register
+        return number_in(core), register
     if array is not None:
-        return words.element(array, int(number))
+        return words.element(array, number_in(number))
     if value is not None:
         return str(number_in(value))
     if (word or other) in OTHER_WORDS:

@@ -32,6 +32,8 @@ class Refused(Exception):
 
 def number_in(text):
     """A number of 32 bits, decimal or hexadecimal."""
+    if not re.fullmatch(NUMBER, text, re.ASCII):
+        raise Fault("%s is no number" % (text or "nothing"), "numbers of another form")
     if text.startswith("-"):
         raise Fault("%s is negative: words here are numbers from 0 to 4294967295" % text, "negative numbers")
     digits, base = (text[2:], 16) if text[:2].lower() == "0x" else (text, 10)
@@ -44,6 +46,6 @@ def number_in(text):
 
 def location_in(name):
     """A location's name, where it can be one."""
-    if not re.fullmatch(r"[A-Za-z_]\w{0,31}", name) or name.lower() in RESERVED:
+    if not re.fullmatch(r"[A-Za-z_]\w{0,31}", name, re.ASCII) or name.lower() in RESERVED:
         raise Fault("%s is no name of a location here" % name, "names of locations")
     return name

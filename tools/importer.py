@@ -16,6 +16,11 @@ ARRAY = re.compile(r"([A-Za-z_][\w ]*?)\s+(\w+)\s*\[\s*(\d+)\s*\]\s*(?:=\s*\{([^
 ITEM = re.compile(r"(?:([A-Za-z_][\w ]*?)\s+)?(?:P?(\d+)\s*:\s*(%?\w+)|\[?\s*(\w+)\s*\]?)(?:\s*=\s*(\S+))?")
 
 
+def is_address(value):
+    """Whether the text of an item's value, or None, is no number."""
+    return value is not None and not re.fullmatch(NUMBER, value)
+
+
 class Importer:
     """One text on its way: lines are counted by what stands before."""
 
@@ -31,7 +36,7 @@ class Importer:
         end = self.end_of_rows(closed + 1)
         columns = self.columns(closed + 1, end)
         tokens, shown = self.condition_tokens(end)
-        self.want_registers(items, columns, tokens, shown)
+        self.name_registers(items, columns, tokens, shown)
         initial = self.initial(items)
         programs = [self.program(core, column) for core, column in enumerate(columns)]
         condition = self.condition(tokens)
@@ -154,14 +159,14 @@ class Importer:
         size = words.size_of_type(item, kind)
         if kind is None and value is None:
             raise Fault("%s has no value" % item, INITIAL)
-        if value is not None and not re.fullmatch(NUMBER, value):
-            self.address(item, register, value)
+        if is_address(value):
+            self.keep_address(item, register, value)
         if core is not None:
-            return (int(core), register), value
+            return (number_in(core), register), value
         self.words.state(self.words.location(location), size)
         return location, value
 
-    def address(self, item, register, value):
+    def keep_address(self, item, register, value):
         """Refuses an address that isn't that of a location in a whole register."""
         if register is None or not re.fullmatch(r"[A-Za-z_]\w*", value):
             raise Fault("%s: addresses aren't read, a word begins as a number" % item, ADDRESSES)
@@ -172,19 +177,26 @@ class Importer:
         """First words and registers; those of elements come later."""
         found, valued = {}, set()
         for place, value, line in items:
-            if isinstance(place, tuple):
-                if self.is_address(place) or place[0] not in self.names or value is None:
-                    continue
-                place = place[0], self.names[place[0]].given.get(registers.whole(place[1])[0]) if registers.whole(place[1]) else place[1]
             with self.at(line):
+                place = self.named(place)
                 if isinstance(place, str):
-                    found.setdefault(self.words.location(place), 0)
-                if value is not None:
-                    if place in valued:
-                        raise Fault("%s is given twice" % litmus.place_text(place), TWICE)
-                    valued.add(place)
-                    found[place] = number_in(value)
+                    found.setdefault(place, 0)
+                if value is None or place is None:
+                    continue
+                if place in valued:
+                    raise Fault("%s is given twice" % litmus.place_text(place), TWICE)
+                valued.add(place)
+                found[place] = number_in(value)
         return found
+
+    def named(self, place):
+        """A place of the initial state with the name that it has here; None for a register that holds an address, or that has no name
+        since something is refused."""
+        if isinstance(place, str):
+            return self.words.location(place)
+        found = registers.whole(place[1])
+        name = self.names[place[0]].given.get(found[0]) if found and place[0] in self.names else None
+        return None if name is None or self.holds_address(place) else (place[0], name)
 
     # ---- the programs
 
@@ -221,22 +233,28 @@ class Importer:
             self.refuse(self.line(end), "there are no cores", ROWS)
         return found
 
-    def want_registers(self, items, columns, tokens, shown):
+    def name_registers(self, items, columns, tokens, shown):
         """Gives each register a name: those of the initial state, of the programs, of the condition, and of the list of locations."""
         self.names = {core: registers.Names() for core in range(len(columns))}
-        held = [item for item in items if item[1] is not None and not re.fullmatch(NUMBER, item[1])]
-        for place, value, line in held:
+        for place, address, line in [item for item in items if is_address(item[1])]:
             with self.at(line):
-                self.names_of(place[0]).hold(place[1], value)
-        wanted = [(place, line) for place, value, line in items if (place, value, line) not in held]
+                self.names_of(place[0]).hold(place[1], address)
+        wanted = [(place, line) for place, value, line in items if not is_address(value)]
         wanted += [((core, one), line) for core, column in enumerate(columns) for cell, line in column for one in cell.operands
                    if isinstance(one, str)]
-        wanted += tokens + [one for one in shown if not self.is_address(one[0])]
-        lines = {}
-        for (core, name), line in [one for one in wanted if isinstance(one[0], tuple)]:
+        wanted += tokens + [one for one in shown if not self.holds_address(one[0])]
+        self.settle(self.want([one for one in wanted if isinstance(one[0], tuple)]))
+
+    def want(self, places):
+        """Wants a name for each of these registers. Answers the line where each was first wanted."""
+        found = {}
+        for (core, name), line in places:
             with self.at(line):
                 self.names_of(core).want(name)
-                lines.setdefault((core, registers.whole(name)[0]), line)
+                found.setdefault((core, registers.whole(name)[0]), line)
+        return found
+
+    def settle(self, lines):
         for core, names in self.names.items():
             without = names.settle()
             if without:
@@ -249,11 +267,10 @@ class Importer:
             raise Fault("there is no core %d" % core, "cores that aren't there")
         return self.names[core]
 
-    def is_address(self, place):
+    def holds_address(self, place):
         """Whether a place is a register that holds an address."""
-        if not isinstance(place, tuple) or place[0] not in self.names or not registers.whole(place[1]):
-            return False
-        return registers.whole(place[1])[0] in self.names[place[0]].addresses
+        found = registers.whole(place[1]) if isinstance(place, tuple) and place[0] in self.names else None
+        return found is not None and found[0] in self.names[place[0]].addresses
 
     def program(self, core, column):
         found = []
@@ -316,27 +333,29 @@ class Importer:
         return None
 
     def facts(self, test, shown):
-        """The lines of facts: those of the file, and what the test calls otherwise, and what its list of locations asks for."""
-        own = ("%s=" % registers.RENAMED, "%s=" % registers.ELEMENTS, "%s=" % litmus.SHOW)
+        """The lines of facts: those of the file, what the test calls otherwise, and what its list of locations asks for."""
+        own = tuple(key + "=" for key in (registers.RENAMED, registers.ELEMENTS, litmus.SHOW))
         kept = [line for line in test.facts if not line.startswith(own)]
-        renamed = {"%d:%s" % (core, theirs): "%d:%s" % (core, ours) for core, names in self.names.items() for theirs, ours in names.renamed()}
-        before = registers.names_in(test.facts)
-        renamed = {**{theirs: renamed.pop(ours, ours) for theirs, ours in before.items()}, **renamed}
-        elements = {"%s[%d]" % one: name for one, name in self.words.elements.items()}
-        for key, names in ((registers.RENAMED, {one: renamed[one] for one in renamed if ":" in one}),
-                           (registers.ELEMENTS, {**{one: renamed[one] for one in renamed if ":" not in one}, **elements})):
-            kept += [registers.line_of(key, names)] if names else []
+        names = self.renamed(registers.names_in(test.facts))
+        for key, is_register in ((registers.RENAMED, True), (registers.ELEMENTS, False)):
+            of_key = {theirs: ours for theirs, ours in names.items() if (":" in theirs) == is_register}
+            kept += [registers.line_of(key, of_key)] if of_key else []
         show = self.shown(test, [place for place, _ in shown]) or litmus.show_of(test.facts)
         return kept + (["%s=%s" % (litmus.SHOW, show)] if show else [])
+
+    def renamed(self, before):
+        """What the test calls otherwise than its file; a file that was imported itself says so of its own file `before`."""
+        now = {"%d:%s" % (core, theirs): "%d:%s" % (core, ours) for core, names in self.names.items() for theirs, ours in names.renamed()}
+        now.update(("%s[%d]" % one, name) for one, name in self.words.elements.items())
+        return {**{theirs: now.pop(ours, ours) for theirs, ours in before.items()}, **now}
 
     def shown(self, test, places):
         """What `tso outcomes --show` has to show more than the condition's values: registers, all, or None."""
         asked, known = set(litmus.observed(test)), set(test.locations()) | set(self.words.arrays)
         if any(place is None or place in known - asked for place in places):
             return "all"
-        registers_of = [(place[0], self.names[place[0]].name(place[1])) for place in places
-                        if isinstance(place, tuple) and not self.is_address(place)]
-        return "registers" if set(registers_of) - asked else None
+        listed = {self.named(place) for place in places if isinstance(place, tuple)} - {None}
+        return "registers" if listed - asked else None
 
     def keep_limits(self, test):
         for fault, of in ((len(test.programs) > litmus.MOST_CORES, "a test has at most %d cores" % litmus.MOST_CORES),

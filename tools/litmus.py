@@ -264,6 +264,8 @@ class Reader:
             if self.peek() != ";":
                 place = self.place()
                 self.take("=")
+                if place in initial:
+                    raise BadTest("%s is given twice" % place_text(place))
                 initial[place] = self.number()
             if self.peek() != "}":
                 self.take(";")

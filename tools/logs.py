@@ -11,6 +11,7 @@ VALUE = re.compile(PLACE + r"\s*=\s*(\S.*)")
 # litmus7 puts how often, and `*>` or `:>`, before a state; `tso sweep` and tools/hardware put how often after the word State
 STATE = re.compile(r"(?:State(?: (\d+))?(?= |$)|(\d+)\s*[*:]>|(?=" + PLACE.replace("(\\d+)", "\\d+").replace("(\\w+)", "\\w+") + r"\s*=))(.*)")
 TABLE = re.compile(r"States (\d+)|Histogram \((\d+) states?\)|Sweep .* ended=(\d+) .*|Outcomes .* states=(\d+)(?: .*)?")
+NO_TABLE = "has no table of states"
 WORDS = ("Never", "Sometimes", "Always")
 NUMBER = re.compile(r"-?(?:0[xX][0-9a-fA-F]+|\d+)")
 
@@ -24,7 +25,7 @@ class Outcome:
     with its table of states, or None. A state is a tuple of pairs, each of a place and a value."""
 
     def __init__(self):
-        self.states, self.verdict, self.cut = {}, None, "has no table of states"
+        self.states, self.verdict, self.cut = {}, None, NO_TABLE
 
     def add(self, state, count):
         self.states[state] = None if count is None else (self.states.get(state) or 0) + count
@@ -147,7 +148,8 @@ class Reader:
         if self.in_states:
             there = self.runs if self.counts_runs else self.lines
             of = "runs" if self.counts_runs else "states"
-            self.outcome.cut = None if there == self.due else "is to have %d %s and has %d" % (self.due, of, there)
+            if self.outcome.cut in (None, NO_TABLE):
+                self.outcome.cut = None if there == self.due else "is to have %d %s and has %d" % (self.due, of, there)
             self.in_states = False
 
 

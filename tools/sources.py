@@ -11,6 +11,7 @@ import litmus
 
 # A comment, or a test's first line with its lines of facts: no other test begins within.
 HEADER = re.compile(r'\(\*.*?\*\)|^(X86(?:_64)?[ \t])[^\n]*\n?(?:\s+|\(\*.*?\*\)|"[^"]*"|[A-Za-z][\w \t-]*=[^\n]*)*', re.M | re.S)
+LIST = re.compile(r"\blocations\s*\[")
 BEFORE_HEADER = re.compile(r"(?:\s|\(\*.*?\*\))*", re.S)
 DIVIDER = re.compile(r"^====\r?$", re.M)
 
@@ -87,12 +88,28 @@ def pieces_of(text):
 
 
 def source_of(path, lines_before, text):
-    """The source of a piece of a file. A text that isn't in this project's form is imported."""
+    """The source of a piece of a file. A text that isn't in this project's form is imported; so is one whose list of locations asks that
+    more is shown than its condition names."""
+    test = native_test(text)
+    if test is None:
+        return imported(path, lines_before, text)
+    if LIST.search(text) and not litmus.show_of(test.facts):
+        source = imported(path, lines_before, text)
+        if source.why is None and litmus.show_of(litmus.read_test(source.text).facts):
+            return source
+    return Source(text)
+
+
+def native_test(text):
+    """The test of a text in this project's form; None of another one."""
     try:
-        litmus.read_test(text)
-        return Source(text)
+        return litmus.read_test(text)
     except (litmus.BadTest, RecursionError):
-        pass
+        return None
+
+
+def imported(path, lines_before, text):
+    """The source of a text that is imported."""
     try:
         return Source(importer.Importer(text).test().text())
     except faults.Refused as fault:

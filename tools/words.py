@@ -38,10 +38,11 @@ class Words:
     def add_array(self, item, kind, name, count, values):
         """Takes an item `TYPE NAME[COUNT]={VALUES}` of an initial state."""
         size, name = size_of_type(item, kind), self.location(name)
-        found = [number_in(value.strip()) for value in (values or "").split(",") if value.strip()]
-        if len(found) > int(count):
+        found = [number_in(value.strip()) for value in values.split(",")] if values and values.strip() else []
+        count = number_in(count)
+        if len(found) > count:
             raise Fault("%s has more values than elements" % item, INITIAL)
-        self.arrays[name] = size, int(count), found
+        self.arrays[name] = size, count, found
 
     def element(self, array, number):
         """The location that an element of an array becomes."""
