@@ -4,16 +4,19 @@ Those of refused/ are refused, each fault with its line and words. Those of read
 it finds for the same test written by hand (hand/), as tools/compare says, in the names of the files; and so is theory's verdict.
 """
 import collections
+import json
 import os
+import sys
 import tempfile
 
 import answers
 import faults
+import hardware_runs
 import importer
 import litmus
 import verdicts
-from log_forms import IRIW, IRIW_LOG, SHOWN
-from tool_runs import TESTS, described, stand_in, tool, write
+from log_forms import IRIW, IRIW_LOG, OTHER_NAME, SHOWN
+from tool_runs import TESTS, TOOLS, described, stand_in, tool, write
 from scripts import script
 
 FOLDER = os.path.join(TESTS, "data", "imports")
@@ -93,6 +96,38 @@ set -- outcomes --json""" % asked)
         tally.add(name, None if content(asked) == words else content(asked))
 
 
+# A program that knows --show: it answers by the plain search of all runs.
+SHOWS_MORE = """#!%s
+import json, sys
+sys.path[:0] = %r
+import flat_machine, litmus
+if "--help" in sys.argv:
+    sys.exit("--show")
+text = sys.stdin.read()
+test = litmus.read_test(text)
+test.facts = ["Show=" + sys.argv[sys.argv.index("--show") + 1]] if "--show" in sys.argv else []
+named = [(litmus.place_text(place), place) for place in litmus.shown(test)]
+found = {tuple(dict(end).get(name, 0) for name, _ in named) for end in flat_machine.final_states(flat_machine.Test(text), 32)}
+true = sum(litmus.holds(test.condition[1], dict(zip([place for _, place in named], values))) for values in found)
+states = [{"choices": "", "values": dict(zip([name for name, _ in named], values))} for values in found]
+print(json.dumps({"depth": 32, "observation": {"true": true, "false": len(found) - true}, "states": states, "test": test.name}))
+"""
+
+
+def judge_more_shown(tally, room):
+    """Where a program shows more than the condition's values, theory and the processor are held against these too."""
+    knows = write(os.path.join(room, "knows"), SHOWS_MORE % (sys.executable, [TESTS, TOOLS]))
+    os.chmod(knows, 0o755)
+    file = write(os.path.join(room, "SB.litmus"), OTHER_NAME.replace("exists", "locations [x; y;]\nexists"))
+    done = tool("campaign", "outcomes", knows, "--theory", "--json", "--results", os.path.join(room, "results"), file)
+    row = json.loads(done.stdout) if done.returncode == 0 else {"judged": described(done), "states": [{}]}
+    places = ["0:R8", "1:EAX", "x", "y"]
+    tally.add("a campaign of all that is shown", None if (row["judged"], sorted(row["states"][0])) == ("same", places) else str(row))
+    if hardware_runs.why_not() is None:
+        done = tool("hardware", "--program", knows, "--seconds", "0.2", file)
+        tally.add("all that is shown, on the processor", None if done.returncode == 0 and " x=1 y=1\n" in done.stdout else described(done))
+
+
 def judge_targets(tally, room):
     """What `-o` writes, what it refuses to write, and how refused tests are summed up."""
     two = [write(os.path.join(room, name, "one.litmus"), IRIW) for name in ("a", "b") if not os.makedirs(os.path.join(room, name))]
@@ -115,5 +150,6 @@ def judge(program, tally):
     for part in (judge_read, judge_names, judge_shown):
         with tempfile.TemporaryDirectory() as room:
             part(program, tally, room)
-    with tempfile.TemporaryDirectory() as room:
-        judge_targets(tally, room)
+    for part in (judge_more_shown, judge_targets):
+        with tempfile.TemporaryDirectory() as room:
+            part(tally, room)

@@ -57,7 +57,7 @@ def by_theory(theory, text):
     test = litmus.read_test(text)
     if theory.candidates_in(test) > MANY_CANDIDATES:
         return Theory(theory.verdict(test) if test.condition else None, None)
-    places = litmus.observed(test)
+    places = litmus.shown(test)
     ends = list(theory.allowed_ends(test, True))
     states = {frozenset((litmus.place_text(place), end.get(place, 0)) for place in places) for end in ends}
     if not test.condition:
@@ -147,10 +147,17 @@ def outcomes_line(row, one, due, theory):
     by_states = theory is not None and theory.states is not None and row.depth == DEEPEST
     if by_states:
         states = {frozenset(state.items()) for state in one["states"]}
-        why += ["not by theory: " + state_text(state) for state in sorted(states - theory.states, key=sorted)]
-        why += ["only by theory: " + state_text(state) for state in sorted(theory.states - states, key=sorted)]
+        by_theory = those_shown(theory.states, one["states"])
+        why += ["not by theory: " + state_text(state) for state in sorted(states - by_theory, key=sorted)]
+        why += ["only by theory: " + state_text(state) for state in sorted(by_theory - states, key=sorted)]
     members = {"expected": due, "found": found, "true": one["true"], "false": one["false"], "states": one["states"], "why": why}
     return line_of_row(row, rank_of(why, due is not None or by_states), members)
+
+
+def those_shown(states, shown):
+    """Theory's states by the places that the program shows: one that doesn't know --show has those of the condition alone."""
+    places = set(shown[0]) if shown else None
+    return {frozenset(pair for pair in state if places is None or pair[0] in places) for state in states}
 
 
 def state_text(state):

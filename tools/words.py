@@ -4,8 +4,8 @@ import re
 import registers
 from faults import ADDRESSES, BEYOND, INITIAL, SIZES, TWICE, Fault, location_in, number_in
 
-TYPES = {"int": 4, "unsigned": 4, "unsigned int": 4, "int32_t": 4, "uint32_t": 4, "long": 8, "unsigned long": 8, "int64_t": 8,
-         "uint64_t": 8, "atomic_int": 4}
+TYPES = {"int": 4, "unsigned": 4, "unsigned int": 4, "int32_t": 4, "uint32_t": 4, "long": 8, "unsigned long": 8, "long long": 8,
+         "unsigned long long": 8, "int64_t": 8, "uint64_t": 8, "atomic_int": 4}
 
 
 def size_of_type(item, kind):
