@@ -134,6 +134,10 @@ def judge_targets(tally, room):
     done = tool("import", "-o", os.path.join(room, "out"), *two)
     told = "import: two files would be %s\n" % os.path.join(room, "out", "one.litmus")
     tally.add("two files of one name", None if (done.returncode, done.stderr) == (2, told) and not os.path.exists(os.path.join(room, "out")) else described(done))
+    listed = write(os.path.join(room, "all"), "a\nb/one.litmus\n")
+    done = tool("import", "-o", os.path.join(room, "of-list"), "@" + listed)
+    there = [os.path.exists(os.path.join(room, "of-list", name, "one.litmus")) for name in ("a", "b")]
+    tally.add("a list is imported", None if done.returncode == 0 and all(there) else described(done))
     done = tool("import", "-o", os.path.join(room, "out"), FOLDER)
     sums = [line for line in done.stderr.splitlines() if line.startswith("import:")]
     counts = [len(os.listdir(folder)) - (folder == REFUSED) for folder in (READ, HAND, REFUSED)]

@@ -6,10 +6,9 @@ import answers
 import litmus
 import registers
 
-PLACE = r"(?:P?(\d+):%?(\w+)|\[?([A-Za-z_]\w*(?:\[\d+\])?)\]?)"
-VALUE = re.compile(PLACE + r"\s*=\s*(\S.*)")
+VALUE = re.compile(r"(?:P?(\d+):%?(\w+)|\[?([A-Za-z_]\w*(?:\[\d+\])?)\]?)\s*=\s*(\S.*)")
 # litmus7 puts how often, and `*>` or `:>`, before a state; `tso sweep` and tools/hardware put how often after the word State
-STATE = re.compile(r"(?:State(?: (\d+))?(?= |$)|(\d+)\s*[*:]>|(?=" + PLACE.replace("(\\d+)", "\\d+").replace("(\\w+)", "\\w+") + r"\s*=))(.*)")
+STATE = re.compile(r"(?:State(?: (\d+))?(?= |$)|(\d+)\s*[*:]>|(?=P?\d+:%?\w+\s*=|\[?[A-Za-z_]\w*(?:\[\d+\])?\]?\s*=))(.*)")
 TABLE = re.compile(r"States (\d+)|Histogram \((\d+) states?\)|Sweep .* ended=(\d+) .*|Outcomes .* states=(\d+)(?: .*)?")
 NO_TABLE = "has no table of states"
 WORDS = ("Never", "Sometimes", "Always")
@@ -123,7 +122,7 @@ class Reader:
         elif line.startswith("Observation "):
             self.outcome.verdict = next((word for word in words[2:] if word in WORDS), None)
             self.end_table()
-        elif line in ("Ok", "No") or line.startswith(("Witnesses", "Condition")):
+        elif line in ("Ok", "No") or line.startswith(("Witnesses", "Condition", "Hash=", "Time ")):
             self.end_table()
         elif line.startswith("Unfinished "):
             raise BadLog("%s has no answer: %s" % (self.name, line))
@@ -139,7 +138,7 @@ class Reader:
         if not found and (line or self.lines or self.due != 1):
             return
         count = found and (found.group(1) or found.group(2))
-        text = re.sub(r" against=(?:yes|no)$| NOT ALLOWED$", "", found.groups()[-1]) if found else ""
+        text = re.sub(r" against=(?:yes|no)$| NOT ALLOWED$", "", found.group(3)) if found else ""
         self.outcome.add(state_in(text), int(count) if count else None)
         self.lines += 1
         self.runs += int(count or 0)
