@@ -28,8 +28,8 @@ _tso_values() {
 _tso_script() {
   case ${1-} in
     --install) echo --verbose ;;
-    --prove | --uninstall) echo ;;
-    *) echo --prove --install --uninstall ;;
+    --prove | --uninstall | --program) echo ;;
+    *) echo --prove --install --uninstall --program ;;
   esac
 }
 
@@ -40,7 +40,7 @@ _tso() {
   # The script is called by a path. After a word of its own a folder is wanted, but where an option was begun.
   [[ ${COMP_WORDS[0]} != */* ]] || case $command in
     '') words+=" $(_tso_script)" ;;
-    --prove | --install | --uninstall) [[ $word == -* ]] && words=$(_tso_script "$command") || words= ;;
+    --prove | --install | --uninstall | --program) [[ $word == -* ]] && words=$(_tso_script "$command") || words= ;;
   esac
   COMPREPLY=($(compgen -W "$words" -- "$word"))
 }

@@ -14,6 +14,7 @@ complete -c tso -f -n __fish_use_subcommand -a help
 complete -c tso -f -n "__fish_use_subcommand; and string match -q '*/*' -- (commandline -opc)[1]" -l prove
 complete -c tso -f -n "__fish_use_subcommand; and string match -q '*/*' -- (commandline -opc)[1]" -l install
 complete -c tso -f -n "__fish_use_subcommand; and string match -q '*/*' -- (commandline -opc)[1]" -l uninstall
+complete -c tso -f -n "__fish_use_subcommand; and string match -q '*/*' -- (commandline -opc)[1]" -l program
 complete -c tso -f -n "contains -- --install (commandline -opc)" -l verbose
 complete -c tso -f -n "contains -- --install (commandline -opc)" -a "(__fish_complete_directories)"
 complete -c tso -f -n "contains -- --uninstall (commandline -opc)" -a "(__fish_complete_directories)"

@@ -117,8 +117,8 @@ def read_file(shell, file):
     """What a shell's file offers after each command, for each option, and where the script is called."""
     text = judging.content(file)
     if shell == "fish":
-        # After --prove nothing comes, so no line has it.
-        return *read_fish(text), {"--prove": [], **script_in_fish(text)}
+        # After these words nothing comes, so no line has them.
+        return *read_fish(text), {"--prove": [], "--program": [], **script_in_fish(text)}
     after, values = cases_of(text, "_tso_options"), cases_of(text, "_tso_values")
     values.pop("", None)
     return after, values, cases_of(text, "_tso_script")

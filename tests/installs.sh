@@ -73,6 +73,10 @@ judge_where() {
   says 0 "its programs are in $room/checkout/here/bin" "${bare[@]}" ./tso --install here \
     && "${bare[@]}" ./tso --uninstall here && rmdir here
   judge "a folder named from here" $?
+  [ "$("${bare[@]}" ./tso --program)" = "$PWD/release/tso" ] && [ "$(cd / && "$room/checkout/tso" --program)" = "$PWD/release/tso" ]
+  judge "--program prints the path of the program that is run" $?
+  says 2 "--program takes no further word" ./tso --program x
+  judge "--program with another word" $?
 }
 
 judge_refusals() {
