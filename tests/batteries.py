@@ -22,6 +22,7 @@
   two sizes, arrays and addresses in registers have the final states of a plain machine whose memory has bytes (byte_machine.py).
 - tools/theory, tools/hardware and tools/campaign read each form that tools/import reads; a text that is no test is named, and the others
   go on; a folder without a test is an error; each that is interrupted ends with one line.
+- tools/tso, the module: each of its answers is what the program prints, and what is no answer is an exception (module_runs.py).
 - tools/hardware: short runs of the gallery on this machine's processor; a wrong table of allowed states is noticed.
 - tools/campaign: tests of a folder, a list and a stream; seeds cut in two ways, a torn line, a wrong verdict, calls that fail, stops; on a
   cluster, where Dask is there: the same with workers that end or are paused, and a test that ends its workers is named.
@@ -53,6 +54,7 @@ import imported_files
 import importer
 import judging
 import litmus
+import module_runs
 import source_runs
 import verdicts
 from import_forms import READ, REFUSED
@@ -208,7 +210,8 @@ def main():
     judge_imports(tally)
     judge_comparisons(tally)
     judge_program(program, tally)
-    for part in (imported_files, byte_machine, cycle_meanings, gallery_shapes, source_runs, hardware_runs, campaign_runs, cluster_runs):
+    for part in (imported_files, byte_machine, cycle_meanings, gallery_shapes, source_runs, module_runs, hardware_runs, campaign_runs,
+                 cluster_runs):
         part.judge(program, tally)
     return tally.end()
 

@@ -134,6 +134,8 @@ judge_tools() {
     | tso-import - 2> "$room/said" | tso outcomes > one.log && tso outcomes < sb.litmus > two.log \
     && tso-compare one.log two.log > "$room/said"
   judge "tso-import and tso-compare" $?
+  [ "$(PYTHONPATH=$1/share/tso/tools python3 -B -c 'import tso; print(tso.find())' 2> "$room/said")" = "$(readlink -f "$1/bin/tso")" ]
+  judge "the module finds the program that was installed with it" $?
   if command -v cc > /dev/null && [ "$(nproc)" -ge 2 ]; then
     tso-hardware --runs 1000 sb.litmus > "$room/said" 2>&1 && grep -q "^Observation SB" "$room/said"
     judge "tso-hardware asks the program beside it" $?

@@ -10,6 +10,7 @@ import time
 
 import answers
 import tasks
+import tso
 
 # Seconds for a result to come from the worker that has it.
 FETCH = 5
@@ -88,9 +89,9 @@ class Placer:
 
 def function_for(digest):
     """What a worker is to call. It is no name of a module, and gets plain data: only so Dask sends it by value."""
-    def at_worker(text, words, limit, seeds):
+    def at_worker(text, words, limit, seeds, show):
         import distributed
-        return tasks.Task(digest, text, words, limit, seeds).carry_out(place_of(distributed.get_worker(), digest))
+        return tasks.Task(digest, text, words, limit, seeds, show).carry_out(place_of(distributed.get_worker(), digest))
     return at_worker
 
 
@@ -110,7 +111,7 @@ class Cluster:
 
     def __init__(self, address, program, digest):
         self.distributed, cloudpickle = dask()
-        for module in (answers, tasks, sys.modules[__name__]):
+        for module in (answers, tasks, tso, sys.modules[__name__]):
             cloudpickle.register_pickle_by_value(module)
         try:
             self.client = self.distributed.Client(address, timeout=10, set_as_default=False)
@@ -162,7 +163,7 @@ class Cluster:
         one.since = time.monotonic()
         key = "%s-%d" % (one.task.key, one.times)
         task = one.task
-        future = self.client.submit(self.function, task.text, task.words, task.limit, task.seeds, key=key, pure=False,
+        future = self.client.submit(self.function, task.text, task.words, task.limit, task.seeds, task.show, key=key, pure=False,
                                     workers=others or None)
         one.futures.append(future)
         self.given[one.task.key] = one

@@ -10,16 +10,16 @@ MOST_SEEDS = 1000
 
 
 class Task:
-    """One call of the program. Its key is a digest of all that its answer depends on."""
+    """One call of the program. Its key is a digest of all that its answer depends on. `words` name its row too, `show` doesn't."""
 
-    def __init__(self, digest, text, words, limit, seeds=None):
-        self.text, self.words, self.limit, self.seeds = text, words, limit, seeds
-        self.key = hashlib.sha256(json.dumps([digest, text, words, seeds]).encode()).hexdigest()[:32]
+    def __init__(self, digest, text, words, limit, seeds=None, show=()):
+        self.text, self.words, self.limit, self.seeds, self.show = text, words, limit, seeds, list(show)
+        self.key = hashlib.sha256(json.dumps([digest, text, words, seeds, self.show]).encode()).hexdigest()[:32]
 
     def carry_out(self, program):
         """The result of this task: a record for a line of the file of results."""
         if self.seeds is None:
-            found = answers.outcomes(program, self.text, self.words, self.limit)
+            found = answers.outcomes(program, self.text, self.words + self.show, self.limit)
         else:
             found = answers.sweep(program, self.text, self.words, *self.seeds, self.limit)
             found = dict(found, seeds="%d+%d" % self.seeds)
@@ -33,13 +33,13 @@ class Row:
         self.text, self.words, self.depth, self.keys = text, words, depth, keys
 
 
-def plan_outcomes(digest, texts, depths, states, limit):
-    """Tasks by key, and rows: each test at each depth."""
+def plan_outcomes(digest, texts, depths, states, limit, show):
+    """Tasks by key, and rows: each test at each depth. `show` says of a text which words show what it asks for."""
     tasks, rows = {}, []
     for text in texts:
         for depth in depths:
             words = ["--depth", str(depth)] + (["--states", str(states)] if states else [])
-            task = Task(digest, text, words, limit)
+            task = Task(digest, text, words, limit, show=show(text))
             tasks[task.key] = task
             rows.append(Row(text, words, depth, [task.key]))
     return tasks, rows

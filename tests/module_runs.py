@@ -1,0 +1,149 @@
+"""The module tso, tools/tso, for tests/batteries.py: its answers are what the program prints, and what is no answer is an exception."""
+import json
+import os
+import subprocess
+import sys
+import tempfile
+
+import why_forms
+from tool_runs import TOP, TOOLS, described, gallery, stand_in, test_file, write
+
+import litmus
+import tso
+
+CHOICES = "seed 1 1000"
+
+# Of the gallery every so many tests is asked.
+EVERY = 4
+
+
+def printed(program, words, given):
+    """What the program prints."""
+    return subprocess.run([program, *words], input=given, capture_output=True, text=True).stdout
+
+
+def plain(answer):
+    """An answer as the JSON that it was made of: None stands where a member may be null."""
+    if hasattr(answer, "__dataclass_fields__"):
+        return {name.rstrip("_"): plain(getattr(answer, name)) for name in answer.__dataclass_fields__}
+    if isinstance(answer, dict):
+        return {name: plain(one) for name, one in answer.items()}
+    return [plain(one) for one in answer] if isinstance(answer, list) else answer
+
+
+def fits(whole, said):
+    """Whether an answer has just what was said; what wasn't said is None, or the bus that needs no word."""
+    if isinstance(said, dict):
+        same = isinstance(whole, dict) and set(said) <= set(whole) and all(fits(whole[name], said[name]) for name in said)
+        return same and all(whole[name] in (None, "atomic") for name in set(whole) - set(said))
+    if isinstance(said, list):
+        return isinstance(whole, list) and len(whole) == len(said) and all(map(fits, whole, said))
+    return whole == said
+
+
+def judge_json(program, tally):
+    """Answers have all that the JSON has, and no more."""
+    for name, text in list(gallery())[::EVERY]:
+        alone = text.split("\n====")[0]
+        asked = alone + "\n====\n" + CHOICES
+        for function, answer, words, given in (
+                ("outcomes", tso.outcomes(text, program=program), ["outcomes"], alone),
+                ("run", tso.run(text, CHOICES, bus="split", depth=2, program=program), ["run", "--bus", "split", "--depth", "2"], asked),
+                ("trace", tso.trace(litmus.read_test(text), CHOICES, program=program), ["trace"], asked)):
+            said = json.loads(printed(program, words + ["--json"], given))
+            tally.add("tso.%s of %s" % (function, name), None if fits(plain(answer), said) else "%s is not %s" % (answer, said))
+
+
+def judge_lines(program, tally):
+    """Answers of commands that print lines are these lines."""
+    for name, text in list(gallery())[1::EVERY]:
+        met = tso.sweep(text, seeds=20, from_=3, depth=1, program=program)
+        lines = ["State %d" % one.runs + "".join(" %s=%d" % pair for pair in one.values.items()) for one in met.states]
+        if met.observation:
+            lines.append("Observation %s %s %d %d" % (met.test, met.observation.word, met.observation.true, met.observation.false))
+        said = printed(program, ["sweep", "--seeds", "20", "--from", "3", "--depth", "1"], text).splitlines()
+        same = said[3:] == lines and " ended=%d " % met.ended in said[2]
+        tally.add("tso.sweep of " + name, None if same else "%s is not %s" % (met, said))
+        order = tso.run(text, CHOICES, depth=32, program=program).order
+        judged = tso.check(text, order, program=program), tso.check(text, order[1:], program=program)
+        found = tso.witness(text, order, depth=32, program=program)
+        same = tso.run(text, found.choices, depth=32, program=program).order == order
+        tally.add("tso.check and tso.witness of " + name, None if judged[0].valid and judged[1].breach[0] == "C" and same else str(judged))
+    with open(test_file("SB+stores-2"), encoding="ascii") as file:
+        text = file.read()
+    deep = [state.choices for state in tso.outcomes(text, program=program).states if not any(state.values.values())]
+    order = tso.run(text, deep[0], depth=32, program=program).order
+    needed = tso.witness(text, "\n".join(["Order", *order, "Endorder %d" % len(order)]), depth=1, program=program)
+    tally.add("tso.witness tells the depth", None if needed == tso.Witness(needed=2) else str(needed))
+    broken = tso.witness(text, order[1:], program=program)
+    tally.add("tso.witness tells a breach", None if broken.breach and broken.breach.startswith("C1 missing") else str(broken))
+
+
+def judge_faults(program, tally, room):
+    """What is no answer is an exception that says why."""
+    with open(test_file("SB"), encoding="ascii") as file:
+        text = file.read()
+    broken, slow = (stand_in(os.path.join(room, name), program, first) for name, first in (("broken", "echo {; exit 0"), ("slow", "sleep 9")))
+    for call, kind, members in (
+            (lambda: tso.outcomes("X86 SB\n{ }\n P0 ;\n MOV [x],$4294967296 ;\n", program=program), tso.Refused,
+             {"text": "test", "line": 4, "word": None, "name": "BadNumber",
+              "hint": "line 4: 4294967296 is over 4294967295, the greatest value"}),
+            (lambda: tso.run(text, "0s 9s", program=program), tso.Refused, {"text": "choices", "line": None, "word": 2, "name": "NoSuchCore"}),
+            (lambda: tso.check(text, "", program=program), tso.Refused, {"text": "order", "line": None, "word": None, "name": "NoOrder"}),
+            (lambda: tso.outcomes("(*" + "x" * 2_000_000, program=program), tso.Refused, {"text": "input", "name": "TooLarge"}),
+            (lambda: tso.outcomes(text, states=2, program=program), tso.Unfinished, {"states": 2, "used": None, "trace": None}),
+            (lambda: tso.run(text, "0s", program=program), tso.Unfinished, {"used": 1, "stalled": 0, "trace": None}),
+            (lambda: tso.outcomes(text, depth=99, program=program), tso.BadWords, {}),
+            (lambda: tso.sweep(text, further=["--nothing"], program=program), tso.BadWords, {}),
+            (lambda: tso.outcomes(text, program=broken), tso.Failed, {"status": 0}),
+            (lambda: tso.outcomes(text, limit=0.2, program=slow), tso.TookTooLong, {"seconds": 0.2}),
+            (lambda: tso.outcomes(text, program=os.path.join(room, "none")), tso.NoProgram, {}),
+            (lambda: tso.find(os.path.join(room, "none")), tso.NoProgram, {})):
+        try:
+            fault = "no exception, but %s" % (call(),)
+        except tso.NoAnswer as met:
+            same = type(met) is kind and all(getattr(met, name) == value for name, value in members.items())
+            fault = None if same else "%s: %s, %s" % (type(met).__name__, met, vars(met))
+        tally.add("%s %s" % (kind.__name__, members), fault)
+    try:
+        tso.trace(text, "0s 1s", program=program)
+        tally.add("the trace of a run that doesn't end", "isn't unfinished")
+    except tso.Unfinished as met:
+        tally.add("the trace of a run that doesn't end", None if [step.choice for step in met.trace.steps] == ["0s", "1s"] else str(vars(met)))
+
+
+def judge_reasons(program, tally, room):
+    """Answers of why are the objects of their JSON; a program without the command has none."""
+    program = why_forms.program(room, program)
+    for given, kind in ((why_forms.NEVER, tso.Never), (why_forms.ALLOWED, tso.Allowed)):
+        answer = tso.why("X86 %s\n" % given["test"], model="tso", program=program)
+        said = {name: value for name, value in given.items() if name != "answer"}
+        tally.add("tso.why of " + given["test"], None if type(answer) is kind and fits(plain(answer), said) else str(answer))
+    try:
+        tally.add("why without an end", str(tso.why("X86 LB\n", program=program)))
+    except tso.Unfinished as met:
+        tally.add("why without an end", None if met.cases == 100000 else str(vars(met)))
+    named = tso.commands(program)
+    tally.add("the commands of a program", None if {"outcomes", "why"} <= set(named) else str(named))
+
+
+def judge_places(program, tally, room):
+    """The program is found: where it is named, of a script that tells it, and beside the module."""
+    real, link, script = os.path.realpath(program), os.path.join(room, "tso"), os.path.join(room, "script")
+    os.symlink(real, link)
+    write(script, "#!/bin/sh\n[ \"$*\" = --program ] && echo '%s' && exit\nexit 9\n" % real)
+    os.chmod(script, 0o755)
+    for name, named in (("a program's path", link), ("a script that tells its program", script)):
+        tally.add(name, None if tso.find(named) == real else tso.find(named))
+    told = subprocess.run([os.path.join(TOP, "tso"), "--program"], capture_output=True, text=True).stdout.strip()
+    done = subprocess.run([sys.executable, "-c", "import tso; print(tso.find())"], capture_output=True, text=True, cwd="/",
+                          env=dict(os.environ, PYTHONPATH=TOOLS))
+    tally.add("the program of a checkout", None if told and done.stdout.strip() == told else "%s, not %s" % (described(done), told))
+
+
+def judge(program, tally):
+    judge_json(program, tally)
+    judge_lines(program, tally)
+    with tempfile.TemporaryDirectory() as room:
+        for part in (judge_faults, judge_reasons, judge_places):
+            part(program, tally, room)

@@ -1,0 +1,207 @@
+"""The program `tso` from Python: each command is a function of a test, and each answer an object.
+
+    import tso
+
+    found = tso.outcomes(text)
+    print(found.observation.word, [state.values for state in found.states])
+
+A test is its text, or an object whose method `text` gives that. What stands behind a line ==== in it is read by commands that read
+choices or an order, where these aren't given. Options are the command's own, with their defaults: `depth=1`, `protocol="mesi"`.
+Members of answers have the names of docs/schemas/, but for `from`, which is `from_` here. Texts are ASCII.
+
+Each function takes `program`, a path or a command's name (else `find()` says which), `limit`, after how many seconds it gives up, and
+`further`, a list of words for the command line. What is no answer is an exception, a kind of NoAnswer: Refused has the line and the
+hint, Unfinished the limit that was met. The folder stands alone, with the standard library; docs/PYTHON.md has examples.
+"""
+import json
+import os
+import re
+import shutil
+import subprocess
+import sys
+
+from .faults import BadWords, Failed, NoAnswer, NoProgram, Refused, TookTooLong, Unfinished
+from .records import (Allowed, Asked, Cache, Check, Choices, Condition, Copy, Core, Edge, Holder, Machine, Met, Moment, Never, Observation,
+                      Outcomes, Reason, Run, Source, State, Step, Sweep, Trace, Traced, Witness, made)
+
+# Statuses of the program.
+ANSWERED, REFUSED, BAD_WORDS, UNFINISHED, NOT_VALID = 0, 1, 2, 3, 4
+
+# The status of ./tso, the script, where it has no program.
+NO_PROGRAM = 70
+
+# The program that a call without `program` asks: its path, once it was looked for.
+default = []
+
+
+# ---- the program
+
+def find(program=None):
+    """The path of the program: of this file or command, or else of the one that stands beside the folder of tools, as in a checkout and
+    where it was installed, or of `tso` on the path. Of a script that tells the program that it runs, as ./tso does, it is that one."""
+    name = program or next(filter(os.path.isfile, map(beside, (os.path.abspath(__file__), os.path.realpath(__file__)))), "tso")
+    path = os.path.realpath(name) if os.path.isfile(name) else shutil.which(name)
+    if path is None:
+        raise NoProgram("there is no program %s" % name)
+    return told_by_script(path) if is_script(path) else path
+
+
+def beside(path):
+    """What is called tso beside the folder of tools in which this file of the module is."""
+    return os.path.join(os.path.dirname(os.path.dirname(os.path.dirname(path))), "tso")
+
+
+def is_script(path):
+    with open(path, "rb") as file:
+        return file.read(2) == b"#!"
+
+
+def told_by_script(path):
+    """The program that a script runs, where it tells that; else the script."""
+    try:
+        done = subprocess.run([path, "--program"], stdin=subprocess.DEVNULL, capture_output=True, text=True)
+    except OSError as fault:
+        raise NoProgram(str(fault)) from None
+    if done.returncode == NO_PROGRAM:
+        raise NoProgram(done.stderr.strip())
+    told = done.stdout.strip()
+    if done.returncode != 0 or not os.path.isfile(told):
+        return path
+    sys.stderr.write(done.stderr)
+    return told
+
+
+def chosen(program):
+    """The program to call: this one, or the one that is found, which is looked for once."""
+    if program is None and not default:
+        default.append(find())
+    return program or default[0]
+
+
+def version(program=None):
+    """The program's name and version, or None where it tells none."""
+    try:
+        done = subprocess.run([chosen(program), "--version"], stdin=subprocess.DEVNULL, capture_output=True, timeout=10)
+    except (OSError, subprocess.TimeoutExpired):
+        return None
+    # as its help, it is on standard error
+    found = re.match(r"tso \d+\.\d+\.\d+", (done.stdout or done.stderr).decode("latin-1"))
+    return found.group() if found else None
+
+
+def commands(program=None):
+    """The names of the program's commands."""
+    listed = re.search(r"^Commands:\n((?:  .*\n)*)", help_of([], program), re.M)
+    return re.findall(r"^  (\w+)", listed.group(1), re.M) if listed else []
+
+
+def options(command, program=None):
+    """The names of a command's options."""
+    return re.findall(r"^ +(?:-\w, )?--([\w-]+)", help_of([command], program), re.M)
+
+
+def help_of(words, program):
+    """What the program says of itself, or of a command."""
+    try:
+        done = subprocess.run([chosen(program), *words, "--help"], stdin=subprocess.DEVNULL, capture_output=True)
+    except OSError as fault:
+        raise NoProgram(str(fault)) from None
+    return (done.stdout + done.stderr).decode("latin-1")
+
+
+def call(words, given, program=None, limit=None):
+    """What the program prints of this command line and input, and the status: ANSWERED, UNFINISHED or NOT_VALID. All else is raised."""
+    try:
+        done = subprocess.run([chosen(program), *map(str, words)], input=given.encode("latin-1", "replace"), capture_output=True,
+                              timeout=limit)
+    except subprocess.TimeoutExpired:
+        raise TookTooLong(limit) from None
+    except OSError as fault:
+        raise NoProgram(str(fault)) from None
+    said, errors = done.stdout.decode("latin-1"), done.stderr.decode("latin-1")
+    hint = re.search(r"^hint: (.*)", errors, re.M)
+    if done.returncode == REFUSED and said.startswith("Refused "):
+        raise Refused(said.strip(), hint and hint.group(1))
+    if done.returncode == BAD_WORDS:
+        raise BadWords(errors.split("\n\n")[0].strip())
+    if done.returncode not in (ANSWERED, UNFINISHED, NOT_VALID):
+        raise Failed(done.returncode, said or errors)
+    if done.returncode == UNFINISHED and said.startswith("{"):
+        raise Unfinished(json.loads(said), hint and hint.group(1))
+    return said, done.returncode
+
+
+# ---- its commands
+
+def text_of(test, more=None):
+    """An input: a test, and behind ==== this text, if it is given, in place of what stands there."""
+    text = test if isinstance(test, str) else test.text()
+    return text if more is None else re.split(r"^====\r?$", text, flags=re.M)[0].rstrip("\n") + "\n====\n" + more
+
+
+def order_text(order):
+    """An order as check and witness read it: a text, or the entries of Run.order."""
+    return order if order is None or isinstance(order, str) else "\n".join(["Order", *order, "Endorder %d" % len(order), ""])
+
+
+def answer(command, given, how, kind=None):
+    """What a command says of an input; with `kind` its JSON as that. `how` has options, and program, limit and further words."""
+    how = dict(how)
+    program, limit, further = how.pop("program", None), how.pop("limit", None), how.pop("further", ())
+    words = [command] + ["--json"] * (kind is not None)
+    words += [word for name, value in how.items() if value is not None for word in ("--" + name.rstrip("_"), value)]
+    said, status = call(words + list(further), given, program, limit)
+    try:
+        return made(kind, json.loads(said)) if kind else said.splitlines()
+    except (ValueError, KeyError, TypeError):
+        raise Failed(status, said) from None
+
+
+def run(test, choices=None, **options):
+    """The run of a test under choices, a text (`0s 1s 0d`, `seed 1 1000`)."""
+    return answer("run", text_of(test, choices), options, Run)
+
+
+def trace(test, choices=None, **options):
+    """The same run, and what each choice did."""
+    return answer("trace", text_of(test, choices), options, Traced)
+
+
+def outcomes(test, **options):
+    """All final states that a test can reach: of TSO, or at the depth that is given."""
+    return answer("outcomes", text_of(test), options, Outcomes)
+
+
+def sweep(test, **options):
+    """What the runs of many seeds met: `seeds=1000`; the first is `from_`."""
+    lines = answer("sweep", text_of(test), options)
+    ended, unfinished = map(int, re.search(r" ended=(\d+) unfinished=(\d+)", lines[2]).groups())
+    met = [line.split(" ", 2) for line in lines if line.startswith("State ")]
+    states = [Met(int(runs), {place: int(word) for place, word in (value.split("=") for value in " ".join(values).split())})
+              for _, runs, *values in met]
+    seen = [line.split()[-3:] for line in lines if line.startswith("Observation ")]
+    observation = Observation(seen[0][0], int(seen[0][1]), int(seen[0][2])) if seen else None
+    return Sweep(lines[0][len("Test "):], states, ended, unfinished, observation)
+
+
+def why(test, **options):
+    """Allowed, an execution in which what the test asks is so, or Never, a proof that there is none; `model` is tso or sc, `cases` the most
+    leaves of a proof."""
+    found = answer("why", text_of(test), options, dict)
+    return made({"never": Never, "allowed": Allowed}[found["answer"]], found)
+
+
+def check(test, order=None, **options):
+    """Whether an order, a text or a list of entries, is an execution of the test."""
+    line = answer("check", text_of(test, order_text(order)), options)[0]
+    return Check(True) if line == "Check valid" else Check(False, line[len("Check invalid "):])
+
+
+def witness(test, order=None, **options):
+    """Choices that reach an order."""
+    line = answer("witness", text_of(test, order_text(order)), options)[0]
+    if line.startswith("Depth needed="):
+        return Witness(needed=int(line[len("Depth needed="):]))
+    if line.startswith("Check invalid "):
+        return Witness(breach=line[len("Check invalid "):])
+    return Witness(choices=line)

@@ -1,0 +1,282 @@
+"""The answers of the program `tso` as objects. Members have the names of docs/schemas/, but for `from`, which is `from_`."""
+import dataclasses
+import typing
+
+Word, Place = int, str
+
+
+@dataclasses.dataclass(frozen=True)
+class Observation:
+    """In how many states, or runs, the condition's proposition is `true` and `false`; the word is Never, Sometimes or Always."""
+
+    word: str
+    true: int
+    false: int
+
+
+@dataclasses.dataclass(frozen=True)
+class State:
+    """A final state: values by places, as 0:EAX and x, and choices that lead there."""
+
+    values: dict[Place, Word]
+    choices: str
+
+
+@dataclasses.dataclass(frozen=True)
+class Outcomes:
+    """All final states at a depth of the buffers. Without a condition there is no observation."""
+
+    test: str
+    depth: int
+    states: list[State]
+    observation: typing.Optional[Observation]
+
+
+@dataclasses.dataclass(frozen=True)
+class Machine:
+    """The machine of a run. The bus is atomic or split."""
+
+    protocol: str
+    depth: int
+    sets: int
+    ways: int
+    words: int
+    bus: str = "atomic"
+
+
+@dataclasses.dataclass(frozen=True)
+class Condition:
+    """A condition: its kind, exists, ~exists or forall, and whether its proposition holds."""
+
+    kind: str
+    holds: bool
+
+
+@dataclasses.dataclass(frozen=True)
+class Choices:
+    """How many choices were used, how many of these stalled, and how many stood after the end."""
+
+    used: int
+    stalled: int
+    unused: int
+
+
+@dataclasses.dataclass(frozen=True)
+class Cache:
+    """What a core's accesses were."""
+
+    hits: int
+    misses: int
+    upgrades: int
+    forwards: int
+    write_backs: int
+    flushes: int
+
+
+@dataclasses.dataclass(frozen=True)
+class Run:
+    """A run that ended: the order that memory saw, entry by entry, each core's registers, and each location's word."""
+
+    test: str
+    machine: Machine
+    order: list[str]
+    registers: list[dict[str, Word]]
+    memory: dict[Place, Word]
+    condition: typing.Optional[Condition]
+    choices: Choices
+    cache: list[Cache]
+
+
+@dataclasses.dataclass(frozen=True)
+class Copy:
+    """A core's copy of a line of the caches: its state, and the words of its locations."""
+
+    line: str
+    state: str
+    words: list[Word]
+
+
+@dataclasses.dataclass(frozen=True)
+class Core:
+    """A core: how many instructions are done, its registers, its pending stores, the oldest first, and its cache, set by set."""
+
+    place: int
+    registers: dict[str, Word]
+    buffer: list[str]
+    lines: list[list[Copy]]
+
+
+@dataclasses.dataclass(frozen=True)
+class Holder:
+    """The action that holds the split bus."""
+
+    core: int
+    choice: str
+    line: str
+    state: typing.Optional[str]
+    words: list[Word]
+
+
+@dataclasses.dataclass(frozen=True)
+class Moment:
+    """A machine between two choices: memory's own words, and those that the machine means."""
+
+    cores: list[Core]
+    memory: dict[Place, Word]
+    seen: dict[Place, Word]
+    bus: typing.Optional[Holder]
+
+
+@dataclasses.dataclass(frozen=True)
+class Step:
+    """What a choice did. docs/TRACE.md has each member."""
+
+    choice: str
+    outcome: str
+    entries: list[str]
+    forwarded: bool
+    states: list[str]
+    after: Moment
+    access: typing.Optional[str]
+    flush: typing.Optional[str]
+    moved: typing.Optional[str]
+    stall: typing.Optional[str]
+    transaction: typing.Optional[str]
+    write_back: typing.Optional[str]
+
+
+@dataclasses.dataclass(frozen=True)
+class Trace:
+    """The machine at the start, and what each choice did."""
+
+    start: Moment
+    steps: list[Step]
+
+
+@dataclasses.dataclass(frozen=True)
+class Traced(Run):
+    """A run with its trace, each core's instructions, and the condition's proposition as text."""
+
+    programs: list[list[str]]
+    proposition: typing.Optional[str]
+    trace: Trace
+
+
+@dataclasses.dataclass(frozen=True)
+class Met:
+    """A final state that so many runs of a sweep met."""
+
+    runs: int
+    values: dict[Place, Word]
+
+
+@dataclasses.dataclass(frozen=True)
+class Sweep:
+    """What the runs of many seeds met, and how many of them ended and didn't. A state that isn't met may still be possible."""
+
+    test: str
+    states: list[Met]
+    ended: int
+    unfinished: int
+    observation: typing.Optional[Observation]
+
+
+@dataclasses.dataclass(frozen=True)
+class Check:
+    """Whether an order is an execution; else `breach`, the words of the first breach: a letter and what it names."""
+
+    valid: bool
+    breach: typing.Optional[str] = None
+
+
+@dataclasses.dataclass(frozen=True)
+class Witness:
+    """Choices that reach an order; else the depth of the buffers that it `needed`, or its first `breach`."""
+
+    choices: typing.Optional[str] = None
+    needed: typing.Optional[int] = None
+    breach: typing.Optional[str] = None
+
+
+@dataclasses.dataclass(frozen=True)
+class Asked:
+    """Which truth of its condition's proposition a test asks for."""
+
+    kind: str
+    truth: bool
+
+
+@dataclasses.dataclass(frozen=True)
+class Source:
+    """The write that a read reads from, or `initial`."""
+
+    read: str
+    write: str
+
+
+@dataclasses.dataclass(frozen=True)
+class Allowed:
+    """An execution in which what is asked is so: the source of each read, each location's writes in their order, choices that lead there,
+    and the last values."""
+
+    test: str
+    model: str
+    asked: typing.Optional[Asked]
+    verdict: typing.Optional[str]
+    choices: str
+    sources: list[Source]
+    coherence: dict[Place, list[str]]
+    values: dict[Place, Word]
+
+
+@dataclasses.dataclass(frozen=True)
+class Edge:
+    """An edge of the model's relations between two events: po, mfence, implied, rf, co or fr."""
+
+    from_: str
+    relation: str
+    to: str
+
+
+@dataclasses.dataclass(frozen=True)
+class Reason:
+    """A step of a proof: a case or what is so (of a read, `from_` which writes; or of two writes, which is `first`); a leaf (cycle, uniproc,
+    between or false); or endcases. What a step hasn't is None."""
+
+    step: str
+    depth: int
+    read: typing.Optional[str] = None
+    from_: typing.Optional[list[str]] = None
+    first: typing.Optional[str] = None
+    second: typing.Optional[str] = None
+    cycle: typing.Optional[list[Edge]] = None
+    between: typing.Optional[str] = None
+    write: typing.Optional[str] = None
+    places: typing.Optional[dict[Place, list[Word]]] = None
+
+
+@dataclasses.dataclass(frozen=True)
+class Never:
+    """Why what is asked is so in no execution: a proof with so many leaves."""
+
+    test: str
+    model: str
+    asked: typing.Optional[Asked]
+    verdict: typing.Optional[str]
+    leaves: int
+    steps: list[Reason]
+
+
+def made(kind, value):
+    """A value of JSON as this kind. Members that a later version has more are passed over."""
+    if dataclasses.is_dataclass(kind) and value is not None:
+        named = {one.name: (one.type, one.name.rstrip("_")) for one in dataclasses.fields(kind)}
+        return kind(**{name: made(inner, value[key]) for name, (inner, key) in named.items() if key in value})
+    parts = typing.get_args(kind)
+    if not parts or value is None:
+        return value
+    if isinstance(value, list):
+        return [made(parts[0], one) for one in value]
+    if isinstance(value, dict) and typing.get_origin(kind) is dict:
+        return {name: made(parts[1], one) for name, one in value.items()}
+    return made(parts[0], value)
