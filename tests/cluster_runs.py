@@ -1,16 +1,20 @@
-"""tools/campaign on a cluster of Dask's, for tests/batteries.py and tests/cluster.py: four workers of this machine, one of which is ended and
-one paused."""
+"""tools/campaign on a cluster of Dask's, for tests/batteries.py and tests/cluster.py: four workers of this machine, of which one is
+ended, one paused, and one ended with its nanny; no workers, and a scheduler that ends."""
 import os
+import re
 import signal
 import subprocess
 import sys
 import tempfile
 import time
 
-from tool_runs import TESTS, TOOLS, described, heed_interrupts, sorted_lines, stand_in, test_file, tool, write
+from tool_runs import GALLERY, TESTS, TOOLS, described, heed_interrupts, sorted_lines, stand_in, test_file, tool, write
 
 # So many cycles of six edges in the gate; tests/cluster.py takes another number.
 CYCLES, SEED = 120, 1
+
+# The cluster's workers.
+WORKERS = 4
 
 # Seconds that a task may take here: a paused worker has its task for twice as long. Where a worker is ended by its task, others'
 # tasks are lost with it, and wait as long; no task of those may be ended because the machine is busy.
@@ -26,26 +30,34 @@ def dask_python():
 
 
 class LocalCluster:
-    """A scheduler and four workers, each a process of its own that is begun anew where it ends."""
+    """A scheduler and some workers, each of which a process of its own, its nanny, begins anew where it ends."""
 
-    def __init__(self, python):
+    def __init__(self, python, how_many):
         self.python = python
+        self.scheduler = self.begin("scheduler")
+        self.address = self.scheduler.stdout.readline().strip()
+        self.nannies = [self.begin("nanny", self.address) for _ in range(how_many)]
+        self.workers = [int(nanny.stdout.readline()) for nanny in self.nannies]
+
+    def begin(self, *words):
         # two deaths make a task suspect, so that this is soon tried
         environment = dict(os.environ, DASK_DISTRIBUTED__SCHEDULER__ALLOWED_FAILURES="1")
-        self.running = subprocess.Popen([python, os.path.join(TESTS, "local_cluster.py")], stdin=subprocess.PIPE,
-                                        stdout=subprocess.PIPE, stderr=subprocess.DEVNULL, text=True, env=environment)
-        self.address = self.running.stdout.readline().strip()
-        self.workers = [int(word) for word in self.running.stdout.readline().split()]
+        return subprocess.Popen([self.python, os.path.join(TESTS, "local_cluster.py"), *words], stdin=subprocess.DEVNULL,
+                                stdout=subprocess.PIPE, stderr=subprocess.DEVNULL, text=True, env=environment)
 
     def __enter__(self):
         return self
 
     def __exit__(self, *_):
-        self.running.stdin.close()
-        try:
-            self.running.wait(20)
-        except subprocess.TimeoutExpired:
-            self.running.kill()
+        for one in [*self.nannies, self.scheduler]:
+            one.send_signal(signal.SIGINT)
+        for one in [*self.nannies, self.scheduler]:
+            try:
+                one.wait(10)
+            except subprocess.TimeoutExpired:
+                one.kill()
+                one.wait()
+            one.stdout.close()
 
 
 class Campaign:
@@ -73,16 +85,18 @@ class Campaign:
 
 
 def judge_deaths(cluster, words, whole, tally, room):
-    """One worker is ended in the middle, one paused: the results are those of one process."""
+    """One worker is ended in the middle, one paused, one ended with its nanny: the results are those of one process."""
     place, count = os.path.join(room, "cluster"), len(whole)
     campaign = Campaign(cluster.python, words + ["--scheduler", cluster.address, "--limit", LIMIT], place)
     campaign.wait_for(count // 4)
     os.kill(cluster.workers[0], signal.SIGKILL)
+    campaign.wait_for(count // 3)
+    cluster.nannies[1].kill()
     campaign.wait_for(count // 2)
-    os.kill(cluster.workers[1], signal.SIGSTOP)
+    os.kill(cluster.workers[2], signal.SIGSTOP)
     before = len(sorted_lines(place))
     done = campaign.end()
-    os.kill(cluster.workers[1], signal.SIGCONT)
+    os.kill(cluster.workers[2], signal.SIGCONT)
     tally.add("workers were ended and paused in the middle", None if 0 < before < count else "there were %d results" % before)
     same = sorted_lines(place) == whole
     tally.add("the same results by one process and by a cluster", None if done.returncode == 0 and same else described(done))
@@ -112,6 +126,26 @@ def judge_killer(cluster, program, tally, room):
     tally.add("a test that ends its workers", None if done.returncode == 1 and named else described(done))
 
 
+def judge_absences(python, program, tally, room):
+    """A cluster without workers is said, and a scheduler that ends, each in one line; then the same words go on."""
+    slow, place = stand_in(os.path.join(room, "slow"), program, "sleep 0.1"), os.path.join(room, "absences")
+    with LocalCluster(python, 0) as cluster:
+        words = ["outcomes", slow, "--scheduler", cluster.address, GALLERY]
+        campaign = Campaign(python, words, place)
+        told = campaign.running.stderr.readline()
+        tally.add("no workers", None if told == "campaign: no workers at %s; the tasks wait for them\n" % cluster.address else told)
+        cluster.nannies.append(cluster.begin("nanny", cluster.address))
+        campaign.wait_for(3)
+        cluster.scheduler.kill()
+        done = campaign.end(60)
+    told = [line for line in done.stderr.splitlines() if line and not re.match(r"\d+ of \d+ tasks, ", line)]
+    same = done.returncode == 2 and told == ["campaign: the scheduler is gone; the same words go on"]
+    tally.add("a scheduler that is ended", None if same else described(done))
+    before = sorted_lines(place)
+    done = Campaign(python, ["outcomes", slow, GALLERY], place).end()
+    tally.add("and without a cluster", None if done.returncode == 0 and set(before) < set(sorted_lines(place)) else described(done))
+
+
 def judge_other_python(python, program, tally, room):
     """Where another Python is first on the path, the tool says which has Dask."""
     words = ["outcomes", program, "--results", os.path.join(room, "none"), "--scheduler", "tcp://127.0.0.1:1", test_file("SB")]
@@ -135,11 +169,12 @@ def judge(program, tally, how_many=CYCLES, seed=SEED):
         whole = sorted_lines(place)
         tally.add("a campaign by one process", None if done.returncode == 0 and len(whole) == how_many else described(done))
         took = [time.monotonic() - begun]
-        with LocalCluster(python) as cluster:
+        judge_absences(python, program, tally, room)
+        with LocalCluster(python, WORKERS) as cluster:
             for part in (judge_deaths, judge_stops):
                 begun = time.monotonic()
                 part(cluster, words, whole, tally, room)
                 took.append(time.monotonic() - begun)
             judge_killer(cluster, program, tally, room)
-    print("%d cycles of six edges: by one process %d s, by a cluster of which one worker was ended and one paused %d s, "
+    print("%d cycles of six edges: by one process %d s, by a cluster of which workers were ended and paused %d s, "
           "and stopped and gone on with %d s" % (how_many, *took))

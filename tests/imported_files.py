@@ -14,6 +14,7 @@ import faults
 import hardware_runs
 import importer
 import litmus
+import shows
 import verdicts
 from log_forms import IRIW, IRIW_LOG, OTHER_NAME, SHOWN
 from tool_runs import TESTS, TOOLS, described, stand_in, tool, write
@@ -91,7 +92,8 @@ set -- outcomes --json""" % asked)
     for name, text, words in SHOWN:
         write(asked, "")
         for one in (knows, program):
-            found = answers.outcomes(one, importer.Importer(text).test().text(), [], 60)
+            test = importer.Importer(text).test().text()
+            found = answers.outcomes(one, test, shows.words_of_show(one, test), 60)
             tally.add(name, None if "states" in found else str(found))
         tally.add(name, None if content(asked) == words else content(asked))
 

@@ -1,11 +1,22 @@
-"""A scheduler of Dask's and four workers, for tests/cluster_runs.py: prints the address, then the workers' processes, and ends with its
-standard input."""
+"""A part of a cluster of Dask's, for tests/cluster_runs.py: `scheduler`, which prints its address; or `nanny ADDRESS`, which has one worker,
+begins it anew where it ends, and prints its process. Either runs until it is ended."""
+import asyncio
 import sys
 
-from distributed import LocalCluster
+from distributed import Nanny, Scheduler
+
+
+async def run_scheduler():
+    async with Scheduler(host="127.0.0.1", port=0, dashboard=False) as scheduler:
+        print(scheduler.address, flush=True)
+        await scheduler.finished()
+
+
+async def run_nanny(address):
+    async with Nanny(address, nthreads=1, host="127.0.0.1") as nanny:
+        print(nanny.pid, flush=True)
+        await nanny.finished()
+
 
 if __name__ == "__main__":
-    with LocalCluster(n_workers=4, threads_per_worker=1, processes=True, dashboard_address=None, silence_logs=60) as cluster:
-        print(cluster.scheduler_address)
-        print(*(worker.pid for worker in cluster.workers.values()), flush=True)
-        sys.stdin.read()
+    asyncio.run(run_scheduler() if sys.argv[1] == "scheduler" else run_nanny(sys.argv[2]))

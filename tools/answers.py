@@ -42,6 +42,21 @@ def sweep(program, text, options, first, seeds, limit):
     return dict(observed(found), states=states, unfinished=found.unfinished)
 
 
+def why(program, text, options, limit):
+    """Whether what the condition asks for can be so: `answer`, never or allowed, of what is `asked` (a quantifier and a truth, None without a
+    condition); `leaves`, those of the proof, of a never; `unfinished`, the limit, where there are too many cases; or `fault`."""
+    try:
+        found = tso.why(text, program=program, further=options, limit=limit)
+    except tso.Unfinished as met:
+        return {"unfinished": met.cases}
+    except tso.NoAnswer as fault:
+        return {"fault": str(fault)}
+    asked = found.asked and [found.asked.kind, found.asked.truth]
+    if isinstance(found, tso.Never):
+        return {"answer": "never", "asked": asked, "leaves": found.leaves}
+    return {"answer": "allowed", "asked": asked}
+
+
 def observed(found):
     """How many states or runs make the condition `true` and `false`; of a test without a condition none does."""
     return {"true": found.observation.true, "false": found.observation.false} if found.observation else {"true": 0, "false": 0}

@@ -2,6 +2,7 @@
 import collections
 import concurrent.futures
 import glob
+import logging
 import os
 import queue
 import subprocess
@@ -14,6 +15,12 @@ import tso
 
 # Seconds for a result to come from the worker that has it.
 FETCH = 5
+
+# Seconds without a worker until that is said.
+ALONE = 5
+
+# What a campaign whose scheduler ends is told.
+GONE = "the scheduler is gone; the same words go on"
 
 # A task that failed is tried so often before its fault is the result.
 TRIES = 2
@@ -89,10 +96,32 @@ class Placer:
 
 def function_for(digest):
     """What a worker is to call. It is no name of a module, and gets plain data: only so Dask sends it by value."""
-    def at_worker(text, words, limit, seeds, show):
+    def at_worker(command, text, words, limit, seeds, show):
         import distributed
-        return tasks.Task(digest, text, words, limit, seeds, show).carry_out(place_of(distributed.get_worker(), digest))
+        return tasks.Task(digest, command, text, words, limit, seeds, show).carry_out(place_of(distributed.get_worker(), digest))
     return at_worker
+
+
+class Workers:
+    """How many threads the workers of a cluster have, which is looked at each second; where there are none for some seconds, that is
+    said once."""
+
+    def __init__(self, count, address, say):
+        self.count, self.address, self.say = count, address, say
+        self.threads, self.looked, self.since, self.said = 0, None, time.monotonic(), False
+
+    def looked_at(self):
+        """Looks, where the last look is a second ago; whether it did."""
+        now = time.monotonic()
+        if self.looked is not None and now - self.looked < 1:
+            return False
+        self.threads, self.looked = self.count(), now
+        if self.threads:
+            self.since, self.said = now, False
+        elif now - self.since >= ALONE and not self.said:
+            self.said = True
+            self.say("no workers at %s; the tasks wait for them" % self.address)
+        return True
 
 
 class Given:
@@ -107,16 +136,20 @@ class Given:
 
 
 class Cluster:
-    """A cluster of Dask's. Program and functions travel by value, so workers need nothing of this project."""
+    """A cluster of Dask's. Program and functions travel by value, so workers need nothing of this project. What people are to know, it
+    tells `say`."""
 
-    def __init__(self, address, program, digest):
+    def __init__(self, address, program, digest, say):
         self.distributed, cloudpickle = dask()
+        self.address, self.say = address, say
+        # what Dask says of connections that end is told in one line here
+        logging.disable(logging.CRITICAL)
         for module in (answers, tasks, tso, sys.modules[__name__]):
             cloudpickle.register_pickle_by_value(module)
         try:
             self.client = self.distributed.Client(address, timeout=10, set_as_default=False)
         except (OSError, ValueError) as fault:
-            raise NoCluster("no scheduler answers at %s: %s" % (address, fault)) from None
+            raise NoCluster("no scheduler answers at %s: %s" % (address, " ".join(str(fault).split()))) from None
         self.check_versions()
         self.function, self.done, self.given = function_for(digest), queue.SimpleQueue(), {}
         self.waiting, self.suspects, self.alone = collections.deque(), collections.deque(), False
@@ -163,7 +196,7 @@ class Cluster:
         one.since = time.monotonic()
         key = "%s-%d" % (one.task.key, one.times)
         task = one.task
-        future = self.client.submit(self.function, task.text, task.words, task.limit, task.seeds, task.show, key=key, pure=False,
+        future = self.client.submit(self.function, task.command, task.text, task.words, task.limit, task.seeds, task.show, key=key, pure=False,
                                     workers=others or None)
         one.futures.append(future)
         self.given[one.task.key] = one
@@ -228,18 +261,24 @@ class Cluster:
     def run(self, waiting):
         """The results of these tasks, as they come."""
         self.waiting.extend(map(Given, waiting))
-        threads, looked = self.threads(), time.monotonic()
+        workers = Workers(self.threads, self.address, self.say)
         while self.waiting or self.suspects or self.given:
-            if time.monotonic() - looked > 1:
-                threads, looked = self.threads(), time.monotonic()
-                self.give_again()
-            if self.client.status != "running":
-                raise NoCluster("the scheduler is gone; the same words go on")
-            self.give_more(threads)
-            found = self.settled(0.5)
-            result = None if found is None else self.judge(*found)
+            result = self.next_result(workers)
             if result is not None:
                 yield result
+
+    def next_result(self, workers):
+        """Keeps the workers with tasks, and waits a moment for a result; None where none comes. NoCluster where the scheduler is gone."""
+        try:
+            if workers.looked_at():
+                self.give_again()
+            if self.client.status != "running":
+                raise NoCluster(GONE)
+            self.give_more(workers.threads)
+            found = self.settled(0.5)
+        except (OSError, self.distributed.CancelledError, self.distributed.TimeoutError, RuntimeError):
+            raise NoCluster(GONE) from None
+        return None if found is None else self.judge(*found)
 
     def close(self):
         self.client.close(timeout=2)

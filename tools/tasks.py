@@ -9,21 +9,37 @@ import answers
 MOST_SEEDS = 1000
 
 
-class Task:
-    """One call of the program. Its key is a digest of all that its answer depends on. `words` name its row too, `show` doesn't."""
+# The models of `tso why`, each with the depth at which `tso outcomes` answers for it.
+DEPTH_OF_MODEL = {"tso": 32, "sc": 0}
 
-    def __init__(self, digest, text, words, limit, seeds=None, show=()):
-        self.text, self.words, self.limit, self.seeds, self.show = text, words, limit, seeds, list(show)
-        self.key = hashlib.sha256(json.dumps([digest, text, words, seeds, self.show]).encode()).hexdigest()[:32]
+
+class Task:
+    """What is asked of the program at once. Its key is a digest of all that its answer depends on. `words` name its row too, `show`
+    doesn't."""
+
+    def __init__(self, digest, command, text, words, limit, seeds=None, show=()):
+        self.command, self.text, self.words, self.limit, self.seeds, self.show = command, text, words, limit, seeds, list(show)
+        self.key = hashlib.sha256(json.dumps([digest, command, text, words, seeds, self.show]).encode()).hexdigest()[:32]
 
     def carry_out(self, program):
         """The result of this task: a record for a line of the file of results."""
-        if self.seeds is None:
-            found = answers.outcomes(program, self.text, self.words + self.show, self.limit)
-        else:
-            found = answers.sweep(program, self.text, self.words, *self.seeds, self.limit)
-            found = dict(found, seeds="%d+%d" % self.seeds)
+        found = {"outcomes": self.outcomes, "sweep": self.sweep, "why": self.why}[self.command](program)
         return dict(found, task=self.key, test=answers.name_of(self.text), options=" ".join(self.words))
+
+    def outcomes(self, program):
+        return answers.outcomes(program, self.text, self.words + self.show, self.limit)
+
+    def sweep(self, program):
+        return dict(answers.sweep(program, self.text, self.words, *self.seeds, self.limit), seeds="%d+%d" % self.seeds)
+
+    def why(self, program):
+        """The answer of `why`, and beside it all final states, where their search ends."""
+        found = answers.why(program, self.text, self.words, self.limit)
+        if "fault" in found:
+            return found
+        depth = DEPTH_OF_MODEL[self.words[self.words.index("--model") + 1]]
+        beside = answers.outcomes(program, self.text, ["--depth", str(depth)], self.limit)
+        return dict(found, **{name: beside[name] for name in ("states", "true", "false") if name in beside})
 
 
 class Row:
@@ -39,9 +55,20 @@ def plan_outcomes(digest, texts, depths, states, limit, show):
     for text in texts:
         for depth in depths:
             words = ["--depth", str(depth)] + (["--states", str(states)] if states else [])
-            task = Task(digest, text, words, limit, show=show(text))
+            task = Task(digest, "outcomes", text, words, limit, show=show(text))
             tasks[task.key] = task
             rows.append(Row(text, words, depth, [task.key]))
+    return tasks, rows
+
+
+def plan_why(digest, texts, models, cases, limit):
+    """Tasks by key, and rows: each test by each model."""
+    tasks, rows = {}, []
+    for text, model in itertools.product(texts, models):
+        words = ["--model", model] + (["--cases", str(cases)] if cases else [])
+        task = Task(digest, "why", text, words, limit)
+        tasks[task.key] = task
+        rows.append(Row(text, words, DEPTH_OF_MODEL[model], [task.key]))
     return tasks, rows
 
 
@@ -51,7 +78,7 @@ def plan_sweep(digest, texts, machines, first, seeds, cut, limit):
     for text, words in itertools.product(texts, machines):
         keys = []
         for begin in range(first, first + seeds, cut):
-            task = Task(digest, text, words, limit, (begin, min(cut, first + seeds - begin)))
+            task = Task(digest, "sweep", text, words, limit, (begin, min(cut, first + seeds - begin)))
             tasks[task.key] = task
             keys.append(task.key)
         rows.append(Row(text, words, None, keys))

@@ -1,5 +1,6 @@
 """What is expected of tests, and how what was found differs from it."""
 import re
+import signal
 
 import answers
 import litmus
@@ -46,10 +47,25 @@ def expected(text, depth, verdict):
 
 class Theory:
     """What tools/theory says of a test: its verdict, and all its final states, as sets of pairs of whatever may be shown; None for these
-    where there are too many candidates to try all."""
+    where there are too many candidates to try all; and why it says nothing, where that is so."""
 
-    def __init__(self, verdict, states):
-        self.verdict, self.states = verdict, states
+    def __init__(self, verdict, states, why=None):
+        self.verdict, self.states, self.why = verdict, states, why
+
+
+def by_theory_within(seconds, theory, text):
+    """What theory says of a test, or that it doesn't within so many seconds. For the main thread of a process."""
+    def stop(*_):
+        raise TimeoutError
+
+    signal.signal(signal.SIGALRM, stop)
+    try:
+        signal.setitimer(signal.ITIMER_REAL, seconds)
+        found = by_theory(theory, text)
+        signal.setitimer(signal.ITIMER_REAL, 0)
+        return found
+    except TimeoutError:
+        return Theory(None, None, "theory took over %g seconds" % seconds)
 
 
 def by_theory(theory, text):
@@ -76,13 +92,19 @@ class Line:
         """Whether something is wrong with the row, or open."""
         return self.rank not in (UNJUDGED, SAME)
 
+    def without_theory(self, why):
+        """The same line, open where nothing else is to be looked at: theory was asked and has said nothing."""
+        self.rank = OPEN if self.rank in (UNJUDGED, SAME) else self.rank
+        self.members.update(judged=self.rank, why=[*self.members.get("why", []), why])
+        return self
+
     def order(self):
         """What the lines of a table are sorted by."""
         return RANKS.index(self.rank), self.members["test"], self.members["options"]
 
     def text(self):
         shown = ["%-7s %s" % (self.rank, self.members["test"]), self.members["options"]]
-        for name in ("expected", "found", "true", "false", "unfinished"):
+        for name in ("expected", "found", "leaves", "true", "false", "unfinished"):
             if self.members.get(name) is not None:
                 shown.append("%s=%s" % (name, self.members[name]))
         if "states" in self.members:
@@ -107,8 +129,13 @@ def line_of(row, parts, verdict, theory):
     if faults:
         return line_of_row(row, FAULT, {"expected": due, "why": faults})
     if row.depth is None:
-        return in_names_of_file(row.text, sweep_line(row, tasks.merged(parts), due))
-    return in_names_of_file(row.text, outcomes_line(row, parts[0], due, theory))
+        line = sweep_line(row, tasks.merged(parts), due)
+    elif "--model" in row.words:
+        line = why_line(row, parts[0], due)
+    else:
+        line = outcomes_line(row, parts[0], due, theory)
+    line = line if theory is None or theory.why is None else line.without_theory(theory.why)
+    return in_names_of_file(row.text, line)
 
 
 def in_names_of_file(text, line):
@@ -158,6 +185,22 @@ def those_shown(states, shown):
     """Theory's states by the places that the program shows: one that doesn't know --show has those of the condition alone."""
     places = set(shown[0]) if shown else None
     return {frozenset(pair for pair in state if places is None or pair[0] in places) for state in states}
+
+
+def why_line(row, one, due):
+    """An answer of why is held against all final states, where these are known, and against the verdict that is due, where the test asks for
+    what makes its condition true."""
+    if "unfinished" in one:
+        return line_of_row(row, OPEN, {"expected": due, "why": ["more than %d cases" % one["unfinished"]]})
+    found, asked = {"never": "forbidden", "allowed": "allowed"}[one["answer"]], one["asked"]
+    due = due if asked and asked[1] else None
+    why = [] if due in (None, found) else ["the verdict differs"]
+    if "states" in one:
+        can_be = one["true" if asked[1] else "false"] if asked else len(one["states"])
+        why += [] if found == ("allowed" if can_be else "forbidden") else ["not by outcomes"]
+    members = {"expected": due, "found": found, "leaves": one.get("leaves"), "why": why}
+    members.update({name: one[name] for name in ("true", "false", "states") if name in one})
+    return line_of_row(row, rank_of(why, due is not None or "states" in one), members)
 
 
 def state_text(state):

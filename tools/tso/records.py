@@ -270,7 +270,8 @@ class Never:
 def made(kind, value):
     """A value of JSON as this kind. Members that a later version has more are passed over."""
     if dataclasses.is_dataclass(kind) and value is not None:
-        named = {one.name: (one.type, one.name.rstrip("_")) for one in dataclasses.fields(kind)}
+        # dataclasses.fields finds none of a class that came by value from another process
+        named = {one.name: (one.type, one.name.rstrip("_")) for one in kind.__dataclass_fields__.values()}
         return kind(**{name: made(inner, value[key]) for name, (inner, key) in named.items() if key in value})
     parts = typing.get_args(kind)
     if not parts or value is None:
