@@ -24,7 +24,8 @@
   go on; a folder without a test is an error; each that is interrupted ends with one line.
 - tools/tso, the module: each of its answers is what the program prints, and what is no answer is an exception (module_runs.py).
 - tools/hardware: short runs of the gallery on this machine's processor; a wrong table of allowed states is noticed.
-- tools/campaign: tests of a folder, a list and a stream; seeds cut in two ways, a torn line, a wrong verdict, calls that fail, stops; on a
+- tools/campaign: tests of a folder, a list and a stream; seeds cut in two ways, a torn line, a wrong verdict, calls that fail, stops, theory
+  that takes long, answers of why, logs and pages; on a
   cluster, where Dask is there: the same with workers that end or are paused, and a test that ends its workers is named.
 
 The last line is 'N passed, M failed'.

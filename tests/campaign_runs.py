@@ -1,10 +1,13 @@
 """tools/campaign on this machine, for tests/batteries.py."""
 import hashlib
+import html.parser
 import os
 import re
+import subprocess
 import tempfile
 import time
 
+import why_forms
 from tool_runs import GALLERY, described, gallery, interrupted, sorted_lines, stand_in, test_file, tool, write
 from scripts import INTERRUPTED
 
@@ -91,6 +94,89 @@ def without_facts(path, room):
     return write(os.path.join(room, os.path.basename(path)), text)
 
 
+# Both cores store four times, so there are 40,320 orders of the stores. It names a value that nobody stores.
+MANY_ORDERS = "X86 Orders\n{ }\n P0 | P1 ;\n%s MOV EAX,[x] | MOV EAX,[x] ;\nexists (x=9)\n" % "".join(
+    " MOV [x],$%d | MOV [x],$%d ;\n" % (value, value + 4) for value in (1, 2, 3, 4))
+
+
+def judge_limits(program, tally, room):
+    """Theory that takes longer than a task may is said: the row is open, and the others are judged."""
+    many = write(os.path.join(room, "orders"), MANY_ORDERS)
+    words = ["--theory", "--limit", "1", "--results", os.path.join(room, "limits"), many, test_file("SB")]
+    done = tool("campaign", "outcomes", program, *words)
+    told = re.match(r"OPEN    Orders --depth 32 found=forbidden .* - theory took over 1 seconds\nsame    SB", done.stdout)
+    tally.add("theory within a limit", None if done.returncode == 1 and told else described(done))
+
+
+def judge_why(program, tally, room):
+    """Answers of why are held against what is expected, and against all outcomes; a program without the command is refused."""
+    known, place = why_forms.program(room, program), os.path.join(room, "reasons")
+    done = tool("campaign", "why", known, "--results", place, *map(test_file, ("SB", "MP", "LB")))
+    wanted = ("OPEN    LB --model tso expected=forbidden - more than 100000 cases\n"
+              "same    MP --model tso expected=forbidden found=forbidden leaves=3 true=0 false=3 states=3\n"
+              "same    SB --model tso expected=allowed found=allowed true=1 false=3 states=4\n")
+    tally.add("answers of why", None if (done.returncode, done.stdout) == (1, wanted) else described(done))
+    # by the name of MP, a test whose condition can be
+    with open(test_file("SB"), encoding="ascii") as file:
+        other = write(os.path.join(room, "other"), re.sub(r"^TSO=.*\n", "", file.read(), flags=re.M).replace("X86 SB", "X86 MP"))
+    done = tool("campaign", "why", known, "--results", place, other)
+    told = done.stdout.startswith("DIFFERS MP --model tso found=forbidden leaves=3 true=1") and done.stdout.endswith("- not by outcomes\n")
+    tally.add("an answer of why that all outcomes contradict", None if done.returncode == 1 and told else described(done))
+    bare = stand_in(os.path.join(room, "bare"), program, "case $1 in --help) printf 'Commands:\\n  outcomes  all\\n' >&2; exit 2;; esac")
+    done = tool("campaign", "why", bare, "--results", place, other)
+    tally.add("a program without why", None if done.returncode == 2 and done.stderr.endswith("has no command why\n") else described(done))
+
+
+class Page(html.parser.HTMLParser):
+    """The names of a page's elements that are open, and how many rows it has."""
+
+    def __init__(self, text):
+        super().__init__()
+        self.open, self.rows, self.faults = [], 0, []
+        self.feed(text)
+
+    def handle_starttag(self, tag, attributes):
+        self.rows += tag == "details"
+        if tag != "meta":
+            self.open.append(tag)
+
+    def handle_endtag(self, tag):
+        if not self.open or self.open.pop() != tag:
+            self.faults.append(tag)
+
+
+def judge_reports(program, tally, room):
+    """The log has the states that the program prints, and a page has each row; neither tells of a text that is no test but its place."""
+    log, page, own = (os.path.join(room, name) for name in ("all.log", "all.html", "own.log"))
+    bad = write(os.path.join(room, "bad"), "X86 <b>\n{ }\n P0 ;\n NOP & ;\n")
+    tests = [test_file(name) for name, _ in gallery()]
+    words = ["--log", log, "--page", page, "--results", os.path.join(room, "reported")]
+    done = tool("campaign", "outcomes", program, *words, *tests, bad)
+    said = [answer("outcomes", program, path) for path in tests]
+    write(own, "".join(said))
+    compared = tool("compare", log, own)
+    tally.add("the log of a campaign", None if compared.returncode == 0 and "campaign: 1 rows have no states" in done.stderr
+              else described(compared) + described(done))
+    with open(page, encoding="utf-8") as file:
+        text = file.read()
+    read = Page(text)
+    same = read.rows == len(tests) + 1 and not read.open and not read.faults and text.index("REFUSED") < text.index(">same<")
+    tally.add("the page of a campaign", None if same and "<td>" in text else "%s %s %d" % (read.open, read.faults, read.rows))
+    swept = os.path.join(room, "swept.log")
+    tool("campaign", "sweep", program, "--log", swept, "--results", os.path.join(room, "met"), *tests[:9])
+    write(own, "".join(said[:9]))
+    compared = tool("compare", "--within", swept, own)
+    tally.add("the log of a sweep", None if compared.returncode == 0 else described(compared))
+    done = tool("campaign", "outcomes", program, "--depths", "0,32", *words, *tests[:2])
+    tally.add("a log with a test twice", None if done.returncode == 2 and "--log has each test once" in done.stderr else described(done))
+
+
+def answer(command, program, path):
+    """What the program prints of a file."""
+    with open(path, "rb") as file:
+        return subprocess.run([program, command], stdin=file, capture_output=True).stdout.decode("ascii")
+
+
 def judge_tries(program, tally, room):
     """A task whose first call fails, or doesn't end, is given out again."""
     tests = [test_file(name) for name in ("SB", "MP", "CoRR")]
@@ -130,5 +216,6 @@ def judge_stops(program, tally, room):
 
 def judge(program, tally):
     with tempfile.TemporaryDirectory() as room:
-        for part in (judge_sweeps, judge_sources, judge_differences, judge_totals, judge_tries, judge_stops):
+        for part in (judge_sweeps, judge_sources, judge_differences, judge_totals, judge_limits, judge_why, judge_reports, judge_tries,
+                     judge_stops):
             part(program, tally, room)

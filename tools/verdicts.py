@@ -82,10 +82,10 @@ def by_theory(theory, text):
 
 
 class Line:
-    """A line of the table: of what it is, how that is judged, and the members of its JSON line."""
+    """A line of the table: of what it is, how that is judged, the members of its JSON line, and its test's text, None where it has none."""
 
-    def __init__(self, name, words, rank, members):
-        self.rank = rank
+    def __init__(self, name, words, rank, members, test=None):
+        self.rank, self.test = rank, test
         self.members = dict(members, test=name, options=" ".join(words), judged=rank)
 
     def wants_a_look(self):
@@ -119,7 +119,7 @@ def refused_line(source):
 
 def line_of_row(row, rank, members):
     """The line of a row that is judged so."""
-    return Line(answers.name_of(row.text), row.words, rank, members)
+    return Line(answers.name_of(row.text), row.words, rank, members, row.text)
 
 
 def line_of(row, parts, verdict, theory):
