@@ -11,6 +11,7 @@
 - Cycles given by hand (cycle_meanings.py): all of two to four edges, and drawn ones of five and six, with and without locked accesses.
   One that contradicts itself is refused. Of the others each candidate that makes the condition true has every edge, some candidate
   does, and the verdict is that of the candidates that have the cycle.
+- Wildcards, lists of edges, draws and folders of tools/cycles (cycle_runs.py).
 - The battery that ships, examples/cycles.list, has just the cycles of length 4 and 5 with locked accesses, with these verdicts.
 - Cycles of ten names have the gallery's states, up to names of cores, locations and registers, and stored values.
 - Theory has the gallery's verdict of each of its tests; and of those with few candidates it allows just the final states that
@@ -46,6 +47,7 @@ import byte_machine
 import campaign_runs
 import cluster_runs
 import cycle_meanings
+import cycle_runs
 import edges
 import faults
 import flat_machine
@@ -211,8 +213,8 @@ def main():
     judge_imports(tally)
     judge_comparisons(tally)
     judge_program(program, tally)
-    for part in (imported_files, byte_machine, cycle_meanings, gallery_shapes, source_runs, module_runs, hardware_runs, campaign_runs,
-                 cluster_runs):
+    for part in (imported_files, byte_machine, cycle_meanings, cycle_runs, gallery_shapes, source_runs, module_runs, hardware_runs,
+                 campaign_runs, cluster_runs):
         part.judge(program, tally)
     return tally.end()
 

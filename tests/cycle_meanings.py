@@ -7,13 +7,14 @@ import random
 import tool_runs
 
 import answers
+import cycle_tests
 import edges
 import litmus
 
 theory, cycles = tool_runs.script("theory"), tool_runs.script("cycles")
 
 WORDS = ("Rfe Rfi Fre Fri Coe Coi PodRR PodRW PodWR PodWW PosRR PosRW PosWR PosWW MFencedRR MFencedRW MFencedWR MFencedWW "
-         "MFencedsRR MFencedsRW MFencedsWR MFencedsWW")
+         "MFencedsRR MFencedsRW MFencedsWR MFencedsWW DpdW DpsW Rmw")
 NAMES = [edges.edge_named(word) for word in WORDS.split()]
 
 # All cycles of so many edges are held, and so many drawn ones of the longer ones, every second with locked accesses.
@@ -33,6 +34,11 @@ SHOWN = (
     ("Coe Coe PodWW Coe Coe PodWW", "forbidden", r"exists (4:EAX=1 /\ 4:EBX=2 /\ 5:EAX=1 /\ 5:EBX=2 /\ x=3 /\ y=3)"),
     ("PosWR PodRR Fre PosWR PodRR Fre", "allowed", r"exists (0:EAX=1 /\ 0:EBX=0 /\ 1:EAX=1 /\ 1:EBX=0)"),
     ("MFencedsWR PodRR Fre MFencedsWR PodRR Fre", "forbidden", r"exists (0:EAX=1 /\ 0:EBX=0 /\ 1:EAX=1 /\ 1:EBX=0)"),
+    ("PodWW Rfe DpdW Coe", "forbidden", r"exists (1:EAX=1 /\ x=2)"),
+    ("PodWW Rfe DpdW Rfe PodRR Fre", "forbidden", r"exists (1:EAX=1 /\ 2:EAX=1 /\ 2:EBX=0)"),
+    ("Coe PodWW Rfe DpdW Rfe PodRR Fre", "forbidden", r"exists (2:EAX=1 /\ 3:EAX=1 /\ 3:EBX=0 /\ x=2)"),
+    ("PodWW Rfe Rmw PodWR Fre", "forbidden", r"exists (1:EAX=1 /\ 1:EBX=0 /\ y=2)"),
+    ("Rfe Rmw PodWR Fre PodWR Fre", "allowed", r"exists (0:EAX=0 /\ 2:EAX=1 /\ 2:EBX=0 /\ y=2)"),
 )
 
 # Words that are refused, and why.
@@ -42,6 +48,15 @@ REFUSED = (
     ("Rfi Fre Coe Coe", "edges of communication alone contradict themselves: a store would come before itself in coherence"),
     ("Coe Coe Coe PodWR Fre PodWR Fre PodWR Fre PodWR Fre PodWR Fre",
      "a test has at most 8 cores, those that see the order of stores with them, and 16 locations"),
+    ("Rmw Rfe Rmw Rfe", "Rmw and edges of communication alone contradict themselves: a store would come before itself in coherence"),
+    ("DpdW Rfe DpdW Rfe", "the values of data dependencies would depend on themselves"),
+    ("PosWW Rfe DpsW Coe",
+     "two stores of x, or a store and its first word, would have one value, since a data dependency stores what it read"),
+    ("DpdR Fre PodWW Rfe", "DpdR: straight lines of instructions have no address dependencies; DpdW is a data dependency"),
+    ("DpAddrdW Rfe DpAddrdW Rfe", "DpAddrdW: straight lines of instructions have no address dependencies; DpdW is a data dependency"),
+    ("DpCtrldW Rfe DpCtrldW Rfe", "DpCtrldW: straight lines of instructions have no control dependencies; DpdW is a data dependency"),
+    ("Pod** Pod**", "no cycle has these edges"),
+    ("Pax** Fre", "no edge: Pax**"),
     ("PosWW Coi Coi Coi Coi Coi Coe Coe", "a core has 6 registers, one that sees the order of stores too"),
 )
 
@@ -72,9 +87,14 @@ def drawn_cycles():
 
 
 def with_locked(path, chance):
-    """The same edges with some accesses locked, one at least."""
+    """The same edges with some accesses locked, one at least where one may be: the store of a data dependency is plain, and Rmw is one locked
+    instruction by itself."""
     marks = [chance.random() < 0.5 for _ in path]
     marks[chance.randrange(len(path))] = True
+    for at, edge in enumerate(path):
+        after = (at + 1) % len(path)
+        marks[at] = marks[at] and edge.kind != "Rmw"
+        marks[after] = marks[after] and edge.kind not in ("Dp", "Rmw")
     return [dataclasses.replace(edge, locked=(mark, after)) for edge, mark, after in zip(path, marks, marks[1:] + marks[:1])]
 
 
@@ -84,11 +104,32 @@ def contradicts(cycle):
     """Whether no order of all stores has each edge of coherence and of from-reads, where each load has the source that reads-from gives
     it, or else the first word."""
     before = [(at, at + 1) for at, edge in enumerate(cycle) if edge.kind == "Co"]
-    before += [(at - 1, at + 1) for at, edge in enumerate(cycle) if edge.kind == "Fr" and cycle[at - 1].kind == "Rf"]
+    before += [(at - 1, at + 1) for at, edge in enumerate(cycle) if edge.kind in ("Fr", "Rmw") and cycle[at - 1].kind == "Rf"]
     before = [(first % len(cycle), second % len(cycle)) for first, second in before]
     stores = [at for at, edge in enumerate(cycle) if edge.source == "W"]
     return not any(all(order.index(first) < order.index(second) for first, second in before) for order in itertools.permutations(stores))
 
+
+def without_data(cycle):
+    """The same cycle, each data dependency as plain program order."""
+    return tuple(edges.Edge("Po", False, edge.leaves_location, "R", "W", edge.locked) if edge.kind == "Dp" else edge for edge in cycle)
+
+
+def values_agree(cycle):
+    """Whether two stores of a location, or one and its first word, would have one value, or one has none, where each store of a data
+    dependency has the value of the store that the load before it reads, and others have values of their own."""
+    accesses = cycle_tests.accesses_of(edges.cycle_of(list(cycle)))
+    at_number = {(access.location, access.number): at for at, access in enumerate(accesses) if access.number}
+    values = {at: (access.location, access.number) for at, access in enumerate(accesses) if access.number and not access.copies}
+    for _ in accesses:
+        for at, access in enumerate(accesses):
+            source = access.copies and at_number.get((access.copies.location, access.copies.read))
+            if access.copies and (source is None or source in values):
+                values[at] = "first" if source is None else values[source]
+    written = [(access.location, values.get(at)) for at, access in enumerate(accesses) if access.number]
+    # the value of a plain store is its number: those of two locations are the same
+    written = [(location, value[1] if isinstance(value, tuple) else value) for location, value in written]
+    return len(set(written)) < len(written) or any(value in (None, "first") for _, value in written)
 
 class Asked:
     """The test of a cycle, with its events and, of each edge in the test's order, those at its two ends."""
@@ -100,7 +141,8 @@ class Asked:
         places, core, place = [], 0, 0
         for edge in self.edges:
             places.append(at_place.get((core, place, edge.source == "W")))
-            core, place = (core + 1, 0) if edge.leaves_core else (core, place + 1 + (edge.kind == "MFence"))
+            steps = {"MFence": 2, "Rmw": 0}.get(edge.kind, 1)
+            core, place = (core + 1, 0) if edge.leaves_core else (core, place + steps)
         self.cores = core
         self.ends = list(zip(places, places[1:] + places[:1]))
 
@@ -112,10 +154,16 @@ class Asked:
             first, second = self.events[at], self.events[after]
             program = self.test.programs[first.core]
             fenced = not edge.leaves_core and any(i.kind == "fence" for i in program[first.place:second.place])
-            joined = first.core != second.core, first.location != second.location, fenced, (first.locked, second.locked)
-            if joined != (edge.leaves_core, edge.leaves_location, edge.kind == "MFence", edge.locked):
+            at_once = (first.core, first.place) == (second.core, second.place)
+            joined = first.core != second.core, first.location != second.location, fenced, at_once
+            if joined != (edge.leaves_core, edge.leaves_location, edge.kind == "MFence", edge.kind == "Rmw"):
                 return "has other accesses than those of " + edge.name()
-        return None
+            stores = program[second.place].operand if edge.kind == "Dp" else None
+            if edge.kind == "Dp" and stores != program[first.place].register:
+                return "doesn't store what was read"
+        locked = [event.locked for event in (self.events[at] for at, _ in self.ends)]
+        due = [edge.locked[0] or edge.kind == "Rmw" or self.edges[at - 1].kind == "Rmw" for at, edge in enumerate(self.edges)]
+        return None if locked == due else "has other locked accesses"
 
     def has_edges(self, candidate):
         """Whether a candidate has each edge: reads-from by its sources, coherence and from-reads by its order of stores."""
@@ -162,7 +210,9 @@ def judge_cycle(work):
     try:
         test = cycles.test_of(edges.cycle_named(words.split()))
     except edges.BadCycle as refusal:
-        return words, None if contradicts(cycle) else "is refused: %s" % refusal
+        plain = without_data(cycle)
+        due = contradicts(cycle) or plain != cycle and values_agree(cycle)
+        return words, None if due else "is refused: %s" % refusal
     if contradicts(cycle):
         return words, "isn't refused, and contradicts itself"
     asked = Asked(test)
