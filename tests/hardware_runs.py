@@ -1,10 +1,16 @@
-"""tools/hardware, for tests/batteries.py: short runs of the gallery on this machine's processor, and a wrong table that must be noticed."""
+"""tools/hardware, for tests/batteries.py: short runs of the gallery on this machine's processor, a wrong table that must be
+noticed, and the C program that is kept."""
 import os
+import re
 import shutil
+import subprocess
 import tempfile
 
 from log_forms import OTHER_NAME, OTHER_NAME_LOG, OUTCOMES
-from tool_runs import GALLERY, described, interrupted, test_file, tool, write
+from tool_runs import GALLERY, described, gallery, interrupted, test_file, tool, write
+
+import answers
+import litmus
 from scripts import COULD_NOT, INTERRUPTED
 
 # Of each test of the gallery.
@@ -39,12 +45,80 @@ def judge_ends(program, tally):
               None if (done.returncode, done.stderr) == (INTERRUPTED, "hardware: stopped\n") else described(done))
 
 
+# Conditions of each kind, of registers and locations.
+ASKED = ("forall (0:EAX=0 \\/ ~(x=1) \\/ 1:EAX=1)", "~exists (not (0:EAX=0 /\\ y=0) /\\ (1:EAX=0 \\/ x=7))", "exists true", "forall false", "")
+
+
+def judge_program_alone(program, tally, room):
+    """The C program that is kept: cc alone builds it, and its log has allowed states alone, and of each condition what its states say."""
+    with open(test_file("SB"), encoding="ascii") as file:
+        text = file.read().split("exists")[0]
+    asked = [write(os.path.join(room, "asked%d" % at), text.replace("X86 SB", 'X86 SB"%d\\?' % at) + claim + "\n")
+             for at, claim in enumerate(ASKED)]
+    tests = [test_file(name) for name, text in gallery() if "P2" not in text][::3] + asked
+    source, made = os.path.join(room, "kept.c"), os.path.join(room, "kept")
+    done = tool("hardware", "-o", source, *tests)
+    tally.add("a C program is kept", None if (done.returncode, done.stdout, done.stderr) == (0, "", "") else described(done))
+    compiler = (os.environ.get("CC") or "cc").split()
+    built = subprocess.run([*compiler, "-Wall", "-Wextra", "-o", made, source], capture_output=True, text=True)
+    tally.add("cc alone builds it", None if built.returncode == 0 and not built.stderr else described(built))
+    ran = subprocess.run([made, "512", "1000"], capture_output=True, text=True)
+    tally.add("and it ends", None if ran.returncode == 0 and ran.stdout.count("Test ") == len(tests) else described(ran))
+    seen = write(os.path.join(room, "kept.log"), ran.stdout)
+    own = write(os.path.join(room, "own.log"), "".join(printed(program, path) for path in tests))
+    compared = tool("compare", "--within", seen, own)
+    counted = [line for line in compared.stdout.splitlines() if "only in the first log" in line]
+    tally.add("its log beside that of all outcomes", described(compared) if counted or not compared.stdout else None)
+    for path, block in zip(tests, ran.stdout.split("\n\n")):
+        with open(path, encoding="ascii") as file:
+            fault = fault_of_log(litmus.read_test(file.read()), block.splitlines())
+        tally.add("the log of " + os.path.basename(path), fault)
+
+
+def printed(program, path):
+    with open(path, "rb") as file:
+        return subprocess.run([program, "outcomes"], stdin=file, capture_output=True).stdout.decode("ascii")
+
+
+def fault_of_log(test, lines):
+    """What is wrong with a test's block of a log, if anything is: its states tell how often the condition was so."""
+    counts = {True: 0, False: 0}
+    for line in lines:
+        found = re.match(r"(\d+) *([*:])>(.*)", line)
+        if found:
+            values = re.findall(r"(\d+):(\w+)=(\d+);|\[(\w+)\]=(\d+);", found.group(3))
+            state = {location or (int(core), register): int(value or word) for core, register, value, location, word in values}
+            holds = litmus.holds(test.condition[1], state) if test.condition else False
+            counts[holds] += int(found.group(1))
+            if "*:"[not holds] != found.group(2):
+                return "a state is marked as it isn't: " + line
+    wanted = ["Test %s %s" % (test.name, litmus.QUANTIFIERS[test.condition[0] if test.condition else "forall"])]
+    if test.condition:
+        is_so = {"exists": counts[True] > 0, "~exists": counts[True] == 0, "forall": counts[False] == 0}[test.condition[0]]
+        wanted += ["Ok" if is_so else "No", "Positive: %d Negative: %d" % (counts[True], counts[False])]
+        wanted += ["Observation %s %s %d %d" % (test.name, answers.word_of(counts[True], counts[False]), counts[True], counts[False])]
+    return next(("no line %r in %s" % (line, lines) for line in wanted if line not in lines), None)
+
+
+def judge_few_processors(program, tally):
+    """A test of more cores than there are processors is run without pinning, and that is said."""
+    two = sorted(os.sched_getaffinity(0))[:2]
+    words = ["--program", program, "--runs", "256", "--seconds", "1", test_file("3.SB"), test_file("SB")]
+    done = tool("hardware", *words, preexec_fn=lambda: os.sched_setaffinity(0, two))
+    told = "hardware: there are 2 processors; not pinned, with their cores: 3.SB (3)\n"
+    same = (done.returncode, done.stderr) == (0, told) and done.stdout.splitlines()[-1].startswith("2 tests, ")
+    tally.add("more cores than processors", None if same else described(done))
+
+
 def judge(program, tally):
     missing = why_not()
     if missing:
         print("not tried: tests on this machine's processor: %s" % missing)
         return
     judge_ends(program, tally)
+    judge_few_processors(program, tally)
+    with tempfile.TemporaryDirectory() as room:
+        judge_program_alone(program, tally, room)
     done = tool("hardware", "--program", program, "--seconds", SECONDS, GALLERY)
     tally.add("the gallery on this processor", None if done.returncode == 0 and "NOT ALLOWED" not in done.stdout else described(done))
     print("on this machine's processor: " + done.stdout.splitlines()[-1] if done.stdout else described(done))

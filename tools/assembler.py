@@ -1,5 +1,7 @@
 """Tests as C programs that run them on the processor: one block of assembler a core, and hardware.c, which runs the blocks."""
 import os
+import re
+import string
 
 import litmus
 
@@ -7,6 +9,9 @@ TOOLS = os.path.dirname(os.path.abspath(__file__))
 
 # Bytes from one location to the next: two cache lines, since processors fetch lines in pairs.
 APART = 128
+
+# What stands for itself in a string of C, whatever stands beside it.
+PLAIN = set(string.ascii_letters + string.digits + string.punctuation + " ") - set('\\"?')
 
 # How a block names its two operands: where the locations begin, and where the core's registers are kept.
 BASE, BANK = "%[memory]", "%[bank]"
@@ -45,17 +50,44 @@ def block_of(name, program, locations):
         name, "\n".join('    "%s\\n\\t"' % line for line in lines), '[memory] "r"(memory)', '[bank] "r"(bank)', clobbered)
 
 
+def text_of(words):
+    """A text as a string of C."""
+    return '"%s"' % "".join(letter if letter in PLAIN else "\\%03o" % ord(letter) for letter in words)
+
+
+def claim_of(claim, places):
+    """What a claim says of an array of values, as an expression of C."""
+    if isinstance(claim, bool):
+        return str(int(claim))
+    kind, *parts = claim
+    if kind == "is":
+        return "values[%d] == %du" % (places.index(parts[0]), parts[1])
+    if kind == "not":
+        return "!(%s)" % claim_of(parts[0], places)
+    return (" && " if kind == "and" else " || ").join("(%s)" % claim_of(part, places) for part in parts[0])
+
+
+def claim_function(name, test, places):
+    """The C function that says whether the condition's claim holds of a state; without a condition it does of none."""
+    claim = claim_of(test.condition[1], places) if test.condition else "0"
+    return "static int %s(const uint32_t *values) {\n  (void)values;\n  return %s;\n}\n" % (name, claim)
+
+
 def table_row(number, test, places):
-    """The row of the table of tests: functions, first words and registers, and the places that a state names."""
+    """The row of the table of tests: names, what is asked, functions, first words and registers, and the places that a state names."""
     locations = test.locations()
+    quantifier, claim = test.condition or (None, None)
+    condition = "NULL" if quantifier is None else text_of("%s (%s)" % (quantifier, litmus.claim_text(claim)))
     functions = ", ".join("core_%d_%d" % (number, core) for core in range(len(test.programs)))
     words = ", ".join("%du" % test.initial.get(name, 0) for name in locations) or "0"
     banks = ", ".join("{%s}" % ", ".join("%du" % test.initial.get((core, name), 0) for name in litmus.REGISTERS)
                       for core in range(len(test.programs)))
     shown = ", ".join("{-1, %d}" % locations.index(place) if isinstance(place, str) else
                       "{%d, %d}" % (place[0], litmus.REGISTERS.index(place[1])) for place in places) or "{-1, 0}"
-    return "  {%d, %d, %d, {%s}, {%s}, {%s}, {%s}}," % (
-        len(test.programs), len(locations), len(places), functions, words, banks, shown)
+    names = ", ".join(text_of("[%s]" % place if isinstance(place, str) else litmus.place_text(place)) for place in places) or "NULL"
+    return "  {%s, %s, %s, claim_%d, %d, %d, %d, {%s}, {%s}, {%s}, {%s}, {%s}}," % (
+        text_of(test.name), text_of(litmus.QUANTIFIERS[quantifier or "forall"]), condition, number, len(test.programs), len(locations),
+        len(places), functions, words, banks, shown, names)
 
 
 def source_of(tests):
@@ -64,19 +96,21 @@ def source_of(tests):
         harness = file.read()
     blocks = [block_of("core_%d_%d" % (number, core), program, test.locations())
               for number, (test, _) in enumerate(tests) for core, program in enumerate(test.programs)]
+    blocks += [claim_function("claim_%d" % number, *one) for number, one in enumerate(tests)]
     most = max([1] + [len(places) for _, places in tests])
     sizes = "#define APART %d\n#define PLACES %d\n" % (APART, most)
     rows = "\n".join(table_row(number, *one) for number, one in enumerate(tests))
     table = "%s\nstatic const struct test tests[] = {\n%s\n};" % ("\n".join(blocks), rows)
-    return (sizes + harness).replace("/* the tests */", table)
+    return harness.replace("/* the sizes */", sizes.rstrip()).replace("/* the tests */", table)
 
 
 def read_counts(lines):
-    """How often each tuple of values was seen, of the harness's next test: lines `COUNT VALUE..`, and an empty line at the end."""
+    """How often each tuple of values was seen, by the log of the harness's next test, which an empty line ends."""
     seen = {}
     for line in lines:
         if line == "\n":
             return seen
-        count, *values = map(int, line.split())
-        seen[tuple(values)] = count
+        found = re.match(r"(\d+) *[*:]>", line)
+        if found:
+            seen[tuple(map(int, re.findall(r"=(\d+);", line)))] = int(found.group(1))
     raise ValueError("the program that runs the tests ended early")

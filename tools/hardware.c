@@ -1,8 +1,10 @@
-/* Runs litmus tests on the processor. tools/hardware puts its tests where the words `the tests` stand, and builds and runs this:
+/* Runs litmus tests on an x86-64 processor under Linux, and prints a log of what it saw, in litmus7's form.
  *
- *     PROGRAM RUNS MILLISECONDS SEED PROCESSOR..
+ *     cc -O2 -pthread -o PROGRAM THIS-FILE
+ *     PROGRAM [RUNS [MILLISECONDS [SEED [PROCESSOR..]]]]
  *
- * Of each test a line `COUNT VALUE..` is printed for each state that was seen, then an empty line. */
+ * Each test is run so often (1,000,000 times), or for so long (10,000). Its threads are pinned to these processors (all that this process
+ * may use); where it has more threads than there are, they aren't pinned. tools/hardware made this file of hardware.c and the tests. */
 #define _GNU_SOURCE
 #include <pthread.h>
 #include <sched.h>
@@ -13,7 +15,9 @@
 #include <time.h>
 #include <x86intrin.h>
 
-enum { CORES = 8, LOCATIONS = 16, REGISTERS = 6, LINE = 64, ROUND = 256, STATES = 1 << 14 };
+/* the sizes */
+
+enum { CORES = 8, LOCATIONS = 16, REGISTERS = 6, LINE = 64, ROUND = 256, STATES = 1 << 14, MOST_PROCESSORS = 1024 };
 
 /* A place that a state names: a core's register, or of core -1 a location. */
 struct place {
@@ -21,10 +25,13 @@ struct place {
 };
 
 struct test {
+  const char *name, *kind, *condition; /* herd's word of the kind; no condition is NULL */
+  int (*claim)(const uint32_t *values);
   int cores, locations, places;
   void (*programs[CORES])(char *memory, uint32_t *bank);
   uint32_t words[LOCATIONS], registers[CORES][REGISTERS];
   struct place shown[PLACES];
+  const char *names[PLACES];
 };
 
 /* the tests */
@@ -41,7 +48,7 @@ static struct state states[STATES];
 static uint64_t begins[ROUND];
 static uint64_t arrived __attribute__((aligned(LINE)));
 static uint64_t most_runs, most_nanoseconds, seed;
-static int processors[1024], processor_count;
+static int processors[MOST_PROCESSORS], processor_count;
 static int stopped __attribute__((aligned(LINE)));
 
 static void end_with(const char *why) {
@@ -68,10 +75,13 @@ static uint32_t *word(int run, int location) {
   return (uint32_t *)(memory_of(run) + (size_t)location * APART);
 }
 
-/* Waits a moment; after many of them another process may have the processor, since what is waited for may need it. */
+static int is_pinned(void) { return test->cores <= processor_count; }
+
+/* Waits a moment; after many of them, or few where threads share processors, another one may have the processor, since what is waited for
+ * may need it. */
 static void wait_a_moment(unsigned *waits) {
   _mm_pause();
-  if (++*waits % 4096 == 0) sched_yield();
+  if (++*waits % (is_pinned() ? 4096 : 64) == 0) sched_yield();
 }
 
 /* The nth meeting of all threads. Whoever comes last is told so. */
@@ -144,7 +154,7 @@ static void *run_core(void *given) {
   int core = (int)(intptr_t)given;
   uint64_t random = (seed * 8 + core + 1) * 0x9e3779b97f4a7c15u, meetings = 0, from = now(), done = 0;
   for (uint64_t round = 0; !__atomic_load_n(&stopped, __ATOMIC_ACQUIRE); round++) {
-    pin(core + (int)(round % processor_count));
+    if (is_pinned()) pin(core + (int)(round % processor_count));
     /* each thread prepares its share of the runs: their lines begin in its cache */
     for (int run = core; run < ROUND; run += test->cores) prepare(run);
     meet(++meetings);
@@ -163,6 +173,37 @@ static void *run_core(void *given) {
   return NULL;
 }
 
+/* Orders states by their values, those that weren't seen last. */
+static int by_values(const void *one, const void *other) {
+  const struct state *first = one, *second = other;
+  if ((first->count == 0) != (second->count == 0)) return first->count == 0 ? 1 : -1;
+  for (int place = 0; place < test->places; place++)
+    if (first->values[place] != second->values[place]) return first->values[place] < second->values[place] ? -1 : 1;
+  return 0;
+}
+
+/* Prints what was seen. */
+static void print_log(void) {
+  unsigned long long seen = 0, met[2] = {0, 0};
+  qsort(states, STATES, sizeof states[0], by_values);
+  while (seen < STATES && states[seen].count != 0) seen++;
+  printf("Test %s %s\nHistogram (%llu states)\n", test->name, test->kind, seen);
+  for (unsigned long long at = 0; at < seen; at++) {
+    int holds = test->claim(states[at].values) != 0;
+    met[holds] += states[at].count;
+    printf("%-6llu%c>", (unsigned long long)states[at].count, holds ? '*' : ':');
+    for (int place = 0; place < test->places; place++) printf("%s%s=%u;", place == 0 ? "" : " ", test->names[place], states[at].values[place]);
+    printf("\n");
+  }
+  if (test->condition != NULL) {
+    int is_so = test->kind[0] == 'A' ? met[1] > 0 : test->kind[0] == 'F' ? met[1] == 0 : met[0] == 0;
+    printf("%s\nWitnesses\nPositive: %llu Negative: %llu\nCondition %s\n", is_so ? "Ok" : "No", met[1], met[0], test->condition);
+    printf("Observation %s %s %llu %llu\n", test->name, met[1] == 0 ? "Never" : met[0] == 0 ? "Always" : "Sometimes", met[1], met[0]);
+  }
+  printf("\n");
+  fflush(stdout);
+}
+
 static void run_test(void) {
   pthread_t threads[CORES];
   memset(states, 0, sizeof states);
@@ -171,21 +212,23 @@ static void run_test(void) {
   for (int core = 0; core < test->cores; core++)
     if (pthread_create(&threads[core], NULL, run_core, (void *)(intptr_t)core) != 0) end_with("a thread can't be made");
   for (int core = 0; core < test->cores; core++) pthread_join(threads[core], NULL);
-  for (int at = 0; at < STATES; at++) {
-    if (states[at].count == 0) continue;
-    printf("%llu", (unsigned long long)states[at].count);
-    for (int place = 0; place < test->places; place++) printf(" %u", states[at].values[place]);
-    printf("\n");
-  }
-  printf("\n");
-  fflush(stdout);
+  print_log();
+}
+
+/* The processors that this process may use. */
+static void find_processors(void) {
+  cpu_set_t set;
+  if (sched_getaffinity(0, sizeof set, &set) != 0) end_with("the processors aren't known");
+  for (int processor = 0; processor < CPU_SETSIZE && processor_count < MOST_PROCESSORS; processor++)
+    if (CPU_ISSET(processor, &set)) processors[processor_count++] = processor;
 }
 
 int main(int words, char **given) {
-  most_runs = strtoull(given[1], NULL, 10);
-  most_nanoseconds = strtoull(given[2], NULL, 10) * 1000000u;
-  seed = strtoull(given[3], NULL, 10);
-  for (int at = 4; at < words && processor_count < 1024; at++) processors[processor_count++] = atoi(given[at]);
+  most_runs = words > 1 ? strtoull(given[1], NULL, 10) : 1000000;
+  most_nanoseconds = (words > 2 ? strtoull(given[2], NULL, 10) : 10000) * 1000000u;
+  seed = words > 3 ? strtoull(given[3], NULL, 10) : 1;
+  for (int at = 4; at < words && processor_count < MOST_PROCESSORS; at++) processors[processor_count++] = atoi(given[at]);
+  if (processor_count == 0) find_processors();
   for (size_t at = 0; at < sizeof tests / sizeof tests[0]; at++) {
     test = &tests[at];
     run_test();

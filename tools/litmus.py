@@ -15,6 +15,9 @@ MOST_CORES, MOST_LOCATIONS, MOST_INSTRUCTIONS, LONGEST_NAME = 8, 16, 32, 64
 
 DIVIDER = "===="
 
+# What herd's logs say of a test by its condition.
+QUANTIFIERS = {"exists": "Allowed", "~exists": "Forbidden", "forall": "Required"}
+
 
 class BadTest(Exception):
     """A text that is no test."""

@@ -5,9 +5,6 @@ import answers
 import litmus
 import verdicts
 
-# What herd says of a test by its condition, and what of runs makes the condition so.
-QUANTIFIERS = {"exists": "Allowed", "~exists": "Forbidden", "forall": "Required"}
-
 
 class Totals:
     """How the rows of a campaign were judged, of what they are, how long it took, and by which program."""
@@ -37,7 +34,7 @@ def log_of_line(line):
     """What a log says of a row."""
     test, states = litmus.read_test(line.test), line.members["states"]
     quantifier, claim = test.condition or ("forall", True)
-    told = ["Test %s %s" % (test.name, QUANTIFIERS[quantifier])]
+    told = ["Test %s %s" % (test.name, litmus.QUANTIFIERS[quantifier])]
     if isinstance(states, dict):
         told.append("Histogram (%d states)" % len(states))
         told += [histogram_line(claim, state, count) for state, count in states.items()]
