@@ -1,8 +1,10 @@
 """What a campaign tells beside its table: totals, a log in herd's form of all states, and a page for a browser."""
 import html
+import re
 
 import answers
 import litmus
+import registers
 import verdicts
 
 
@@ -31,34 +33,40 @@ def log_of(lines):
 
 
 def log_of_line(line):
-    """What a log says of a row."""
+    """What a log says of a row, in the names that an imported test's file has."""
     test, states = litmus.read_test(line.test), line.members["states"]
+    names = registers.names_in(test.facts)
     quantifier, claim = test.condition or ("forall", True)
     told = ["Test %s %s" % (test.name, litmus.QUANTIFIERS[quantifier])]
     if isinstance(states, dict):
         told.append("Histogram (%d states)" % len(states))
-        told += [histogram_line(claim, state, count) for state, count in states.items()]
+        told += [histogram_line(claim, state, count, names) for state, count in states.items()]
     else:
         told += ["States %d" % len(states)] + [state_line(state) for state in states]
     if test.condition:
         true, false = line.members["true"], line.members["false"]
         is_so = {"exists": true > 0, "~exists": true == 0, "forall": false == 0}[quantifier]
         told += ["Ok" if is_so else "No", "Witnesses", "Positive: %d Negative: %d" % (true, false),
-                 "Condition %s (%s)" % (quantifier, litmus.claim_text(claim)),
+                 "Condition %s (%s)" % (quantifier, claim_in(claim, {ours: theirs for theirs, ours in names.items()})),
                  "Observation %s %s %d %d" % (test.name, answers.word_of(true, false), true, false)]
     return "\n".join(told) + "\n"
 
 
+def claim_in(claim, names):
+    """A claim's text, with these names in place of those that the test has."""
+    return re.sub(r"[^\s()~=]+(?==\d)", lambda found: names.get(found.group(), found.group()), litmus.claim_text(claim))
+
+
 def state_line(state):
     """A state as herd writes it."""
-    return " ".join("%s=%d;" % (place if ":" in place else "[%s]" % place, value) for place, value in state.items())
+    return " ".join("%s=%d;" % ("[%s]" % place if place.isidentifier() else place, value) for place, value in state.items())
 
 
-def histogram_line(claim, words, count):
-    """A state, given as words PLACE=VALUE, as litmus7 writes it with how often it was met."""
+def histogram_line(claim, words, count, names):
+    """A state, given as words PLACE=VALUE, as litmus7 writes it with how often it was met. `names` are the test's for those of its file."""
     state = {place: int(value) for place, value in (word.split("=") for word in words.split())}
-    mark = "*" if litmus.holds(claim, {place_named(place): value for place, value in state.items()}) else ":"
-    return "%-6d%s>%s" % (count, mark, state_line(state))
+    holds = litmus.holds(claim, {place_named(names.get(place, place)): value for place, value in state.items()})
+    return "%-6d%s>%s" % (count, "*" if holds else ":", state_line(state))
 
 
 def place_named(text):
