@@ -15,6 +15,7 @@ import hardware_runs
 import importer
 import litmus
 import shows
+import tso
 import verdicts
 from log_forms import IRIW, IRIW_LOG, OTHER_NAME, SHOWN
 from tool_runs import TESTS, TOOLS, described, stand_in, tool, write
@@ -57,7 +58,7 @@ def judge_read(program, tally, room):
         here, by_hand = content(folder, name), content(HAND, name)
         said, due = verdicts.by_theory(theory, here), verdicts.by_theory(theory, by_hand)
         tally.add(name, None if said.verdict == due.verdict else "theory says %s, and by hand %s" % (said.verdict, due.verdict))
-        logs = [log + answers.ask(program, ["outcomes"], text, 60)[1] for log, text in zip(logs, (here, by_hand))]
+        logs = [log + tso.call(["outcomes"], text, program, 60)[0] for log, text in zip(logs, (here, by_hand))]
         again = importer.Importer(here).test().text()
         tally.add(name, None if again == here else "isn't imported as itself:\n" + again)
     paths = [write(os.path.join(room, "log %d" % number), log) for number, log in enumerate(logs)]
@@ -69,7 +70,7 @@ def judge_read(program, tally, room):
 def judge_names(program, tally, room):
     """IRIW with r8 to r15: herd's log of the file, and the program's answer to the imported test."""
     file, log = write(os.path.join(room, "iriw.litmus"), IRIW), write(os.path.join(room, "herd"), IRIW_LOG)
-    found = write(os.path.join(room, "found"), answers.ask(program, ["outcomes"], importer.Importer(IRIW).test().text(), 60)[1])
+    found = write(os.path.join(room, "found"), tso.call(["outcomes"], importer.Importer(IRIW).test().text(), program, 60)[0])
     done = tool("compare", found, log, "--tests", file)
     same = done.stdout == "IRIW: x is shown in the second log alone\nIRIW: y is shown in the second log alone\n1 tests in both logs, 0 differences\n"
     tally.add("IRIW with r8 to r15", None if done.returncode == 0 and same else described(done))

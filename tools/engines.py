@@ -281,4 +281,8 @@ class Cluster:
         return None if found is None else self.judge(*found)
 
     def close(self):
-        self.client.close(timeout=2)
+        """Ends the connection, if it doesn't end by itself: a scheduler that is gone says nothing more."""
+        try:
+            self.client.close(timeout=2)
+        except (OSError, self.distributed.TimeoutError):
+            pass
