@@ -50,7 +50,7 @@ class LocalCluster:
 
     def __exit__(self, *_):
         for one in [*self.nannies, self.scheduler]:
-            one.send_signal(signal.SIGINT)
+            one.terminate()
         for one in [*self.nannies, self.scheduler]:
             try:
                 one.wait(10)

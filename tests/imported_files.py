@@ -113,7 +113,8 @@ named = [(litmus.place_text(place), place) for place in litmus.shown(test)]
 found = {tuple(dict(end).get(name, 0) for name, _ in named) for end in flat_machine.final_states(flat_machine.Test(text), 32)}
 true = sum(litmus.holds(test.condition[1], dict(zip([place for _, place in named], values))) for values in found)
 states = [{"choices": "", "values": dict(zip([name for name, _ in named], values))} for values in found]
-print(json.dumps({"depth": 32, "observation": {"true": true, "false": len(found) - true}, "states": states, "test": test.name}))
+observation = {"true": true, "false": len(found) - true, "word": "Sometimes"}
+print(json.dumps({"depth": 32, "observation": observation, "states": states, "test": test.name}))
 """
 
 
