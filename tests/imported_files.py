@@ -87,7 +87,7 @@ def judge_names(program, tally, room):
 def judge_shown(program, tally, room):
     """`Show=..` is handed to a program that knows --show, and to no other one."""
     asked = os.path.join(room, "asked")
-    knows = stand_in(os.path.join(room, "knows"), program, """case "$*" in *--help*) echo '--show'; exit 2 ;; esac
+    knows = stand_in(os.path.join(room, "knows"), program, """case "$*" in *--help*) echo '  --show'; exit 2 ;; esac
 echo "$*" >> '%s'
 set -- outcomes --json""" % asked)
     for name, text, words in SHOWN:
@@ -105,7 +105,7 @@ import json, sys
 sys.path[:0] = %r
 import flat_machine, litmus
 if "--help" in sys.argv:
-    sys.exit("--show")
+    sys.exit("  --show")
 text = sys.stdin.read()
 test = litmus.read_test(text)
 test.facts = ["Show=" + sys.argv[sys.argv.index("--show") + 1]] if "--show" in sys.argv else []

@@ -97,7 +97,7 @@ def commands(program=None):
 
 def options(command, program=None):
     """The names of a command's options."""
-    return re.findall(r"^ *(?:-\w, )?--([\w-]+)", help_of([command], program), re.M)
+    return re.findall(r"^ +(?:-\w, )?--([\w-]+)", help_of([command], program), re.M)
 
 
 def help_of(words, program):
