@@ -15,6 +15,7 @@ SEED, COUNT = 1, 150
 # Registers of 64 bits, with the names of their lower halves.
 WORDS = {"rax": "eax", "rbx": "ebx", "rcx": "ecx", "rdx": "edx", "rbp": "ebp", "r8": "r8d", "r9": "r9d", "r14": "r14d"}
 ADDRESSES = ("rsi", "rdi", "r10", "r11")
+MNEMONICS = {"store": "mov", "copy": "mov", "load": "mov", "xchg": "xchg", "xadd": "lock xadd"}
 MASK = {4: 2 ** 32 - 1, 8: 2 ** 64 - 1}
 
 
@@ -38,33 +39,26 @@ class Made:
                 end += size
             if kind:
                 self.items.append("%s%s%s" % (kind, name, "[%d]" % count if count > 1 else ""))
-        self.first = {}
         self.cores = [self.core() for _ in range(2)]
 
     def core(self):
         chance = self.chance
         used, found = chance.sample(sorted(WORDS), 3), []
         for _ in range(chance.randint(2, 3)):
-            kind, word, register = chance.choice(("store", "store", "copy", "load", "load", "load", "xchg", "xadd", "mfence")), chance.choice(self.words), chance.choice(used)
+            kind = chance.choice(("store", "store", "copy", "load", "load", "load", "xchg", "xadd", "mfence"))
+            word, register = chance.choice(self.words), chance.choice(used)
             size = 4 if kind == "xadd" or word.widest == 4 else chance.choice((4, 8))
             found.append((kind, word, size, chance.randint(1, 3) if kind == "store" else register))
         return found
 
     def text(self, name):
-        chance, items, columns = self.chance, list(self.items), []
+        spelled, items, columns = self.chance.choice((at_and_t, at_and_t, intel)), list(self.items), []
         for core, accesses in enumerate(self.cores):
             held, cells = {}, []
             for kind, word, size, value in accesses:
-                if kind == "mfence":
-                    cells.append(kind)
-                    continue
-                if word.offset or word.base not in held and chance.random() < 0.5:
+                if word.offset or word.base not in held and self.chance.random() < 0.5:
                     held.setdefault(word.base, ADDRESSES[len(held)])
-                inner = "%" + held[word.base] if word.base in held else word.base
-                place = "%s(%s)" % (word.offset or chance.choice(("", "0")) if word.base in held else "", inner)
-                spelled = "$%d" % value if kind == "store" else "%" + (value if size == 8 else WORDS[value])
-                mnemonic = {"store": "mov", "copy": "mov", "load": "mov", "xchg": "xchg", "xadd": "lock xadd"}[kind] + "lq"[size == 8]
-                cells.append("%s %s" % (mnemonic, ",".join((place, spelled) if kind == "load" else (spelled, place))))
+                cells.append(kind if kind == "mfence" else spelled(kind, held.get(word.base), word, size, value))
             columns.append(cells)
             items += ["%d:%s=%s" % (core, register, base) for base, register in held.items()]
         height = max(map(len, columns))
@@ -74,8 +68,24 @@ class Made:
 
     def places(self):
         """All that a final state names: each core's registers, and each word."""
-        used = {"%d:%s" % (core, value) for core, accesses in enumerate(self.cores) for kind, _, _, value in accesses if kind not in ("store", "mfence")}
+        used = {"%d:%s" % (core, value) for core, accesses in enumerate(self.cores) for kind, _, _, value in accesses
+                if kind not in ("store", "mfence")}
         return sorted(used) + [word.name for word in self.words]
+
+
+def at_and_t(kind, held, word, size, value):
+    """An access in AT&T's order of operands; `held` is the register that holds the address, or None."""
+    place = "%s(%%%s)" % (word.offset or "", held) if held else "(%s)" % word.base
+    other = "$%d" % value if kind == "store" else "%" + (value if size == 8 else WORDS[value])
+    return "%s%s %s" % (MNEMONICS[kind], "lq"[size == 8], ",".join((place, other) if kind == "load" else (other, place)))
+
+
+def intel(kind, held, word, size, value):
+    """The same in Intel's order."""
+    inner = "%s+%d" % (held, word.offset) if held and word.offset else held or word.base
+    other = str(value) if kind == "store" else value if size == 8 else WORDS[value]
+    place = "%sword ptr [%s]" % ("dq"[size == 8], inner)
+    return "%s %s" % (MNEMONICS[kind], ",".join((other, place) if kind == "load" else (place, other)))
 
 
 def seen(buffer, memory, at, size):

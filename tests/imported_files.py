@@ -72,8 +72,8 @@ def judge_names(program, tally, room):
     file, log = write(os.path.join(room, "iriw.litmus"), IRIW), write(os.path.join(room, "herd"), IRIW_LOG)
     found = write(os.path.join(room, "found"), tso.call(["outcomes"], importer.Importer(IRIW).test().text(), program, 60)[0])
     done = tool("compare", found, log, "--tests", file)
-    same = done.stdout == "IRIW: x is shown in the second log alone\nIRIW: y is shown in the second log alone\n1 tests in both logs, 0 differences\n"
-    tally.add("IRIW with r8 to r15", None if done.returncode == 0 and same else described(done))
+    said = "IRIW: x is shown in the second log alone\nIRIW: y is shown in the second log alone\n1 tests in both logs, 0 differences\n"
+    tally.add("IRIW with r8 to r15", None if (done.returncode, done.stdout) == (0, said) else described(done))
     done = tool("compare", found, log)
     tally.add("IRIW with other names", None if done.returncode == 1 and "10 differences" in done.stdout else described(done))
     results = os.path.join(room, "results")
@@ -81,7 +81,8 @@ def judge_names(program, tally, room):
     rows = write(os.path.join(room, "rows"), done.stdout)
     tally.add("a campaign has the file's names", None if '"1:R8": 0' in done.stdout and "1:EAX" not in done.stdout else described(done))
     done = tool("compare", found, results, rows, log, "--tests", file)
-    tally.add("a campaign's results and herd's log", None if done.returncode == 0 and "1 tests in all logs, 0" in done.stdout else described(done))
+    same = done.returncode == 0 and "1 tests in all logs, 0" in done.stdout
+    tally.add("a campaign's results and herd's log", None if same else described(done))
 
 
 def judge_shown(program, tally, room):
@@ -137,7 +138,8 @@ def judge_targets(tally, room):
     two = [write(os.path.join(room, name, "one.litmus"), IRIW) for name in ("a", "b") if not os.makedirs(os.path.join(room, name))]
     done = tool("import", "-o", os.path.join(room, "out"), *two)
     told = "import: two files would be %s\n" % os.path.join(room, "out", "one.litmus")
-    tally.add("two files of one name", None if (done.returncode, done.stderr) == (2, told) and not os.path.exists(os.path.join(room, "out")) else described(done))
+    nothing = not os.path.exists(os.path.join(room, "out"))
+    tally.add("two files of one name", None if nothing and (done.returncode, done.stderr) == (2, told) else described(done))
     listed = write(os.path.join(room, "all"), "a\nb/one.litmus\n")
     done = tool("import", "-o", os.path.join(room, "of-list"), "@" + listed)
     there = [os.path.exists(os.path.join(room, "of-list", name, "one.litmus")) for name in ("a", "b")]

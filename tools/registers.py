@@ -13,6 +13,8 @@ OTHERS = re.compile(r"[er]?(?:sp|ip)|[er]?flags|[xyz]mm\d+|st\d?|mm[0-7]|[cdefgs
 
 # The keys of the lines of facts that say what a test calls otherwise than its file.
 RENAMED, ELEMENTS = "Registers", "Elements"
+NAMES = {RENAMED: re.compile(r"(?P<theirs>(?P<core>\d+:)\w+)=(?P<ours>\w+)"),
+         ELEMENTS: re.compile(r"(?P<theirs>\w+\[\d+\])(?P<core>)=(?P<ours>\w+)")}
 
 
 def whole(text):
@@ -112,8 +114,7 @@ def names_in(facts):
     found = {}
     for line in facts:
         key, _, words = line.partition("=")
-        form = {RENAMED: r"(?P<theirs>(?P<core>\d+:)\w+)=(?P<ours>\w+)", ELEMENTS: r"(?P<theirs>\w+\[\d+\])(?P<core>)=(?P<ours>\w+)"}.get(key)
-        for word in re.finditer(form, words) if form else ():
+        for word in NAMES[key].finditer(words) if key in NAMES else ():
             found[word["theirs"]] = word["core"] + word["ours"]
     return found
 

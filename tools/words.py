@@ -90,4 +90,5 @@ class Words:
 
     def first_words(self):
         """The first words of those elements that the text names, by their locations."""
-        return {name: self.arrays[array][2][number] for (array, number), name in self.elements.items() if number < len(self.arrays[array][2])}
+        return {name: self.arrays[array][2][number] for (array, number), name in self.elements.items()
+                if number < len(self.arrays[array][2])}
