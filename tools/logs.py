@@ -6,13 +6,13 @@ import answers
 import litmus
 import registers
 
-VALUE = re.compile(r"(?:P?(\d+):%?(\w+)|\[?([A-Za-z_]\w*(?:\[\d+\])?)\]?)\s*=\s*(\S.*)")
+VALUE = re.compile(r"(?:P?(\d+):%?(\w+)|\[?([A-Za-z_]\w*(?:\[\d+\])?)\]?)\s*=\s*(-?\w[\w+.\[\]]*|\{[^{}]*\})")
 # litmus7 puts how often, and `*>` or `:>`, before a state; `tso sweep` and tools/hardware put how often after the word State
-STATE = re.compile(r"(?:State(?: (\d+))?(?= |$)|(\d+)\s*[*:]>|(?=P?\d+:%?\w+\s*=|\[?[A-Za-z_]\w*(?:\[\d+\])?\]?\s*=))(.*)")
-TABLE = re.compile(r"States (\d+)|Histogram \((\d+) states?\)|Sweep .* ended=(\d+) .*|Outcomes .* states=(\d+)(?: .*)?")
+STATE = re.compile(r"(?:State(?: (\d{1,40}))?(?= |$)|(\d{1,40})\s*[*:]>|(?=P?\d+:%?\w+\s*=|\[?[A-Za-z_]\w*(?:\[\d+\])?\]?\s*=))(.*)")
+TABLE = re.compile(r"States (\d{1,40})|Histogram \((\d{1,40}) states?\)|Sweep .* ended=(\d{1,40}) .*|Outcomes .* states=(\d{1,40})(?: .*)?")
 NO_TABLE = "has no table of states"
 WORDS = ("Never", "Sometimes", "Always")
-NUMBER = re.compile(r"-?(?:0[xX][0-9a-fA-F]+|\d+)")
+NUMBER = re.compile(r"-?(?:0[xX][0-9a-fA-F]{1,40}|\d{1,40})")
 
 
 class BadLog(Exception):
@@ -52,8 +52,8 @@ class Outcome:
 def state_of(pairs):
     """The state of these pairs, in a form that can be compared."""
     if len({place for place, _ in pairs}) < len(pairs):
-        raise BadLog("one place stands twice in a state: %s" % state_text(sorted(pairs)))
-    return tuple(sorted(pairs))
+        raise BadLog("one place stands twice in a state: %s" % state_text(pairs))
+    return tuple(sorted(pairs, key=lambda pair: pair[0]))
 
 
 def state_text(state):
@@ -158,18 +158,17 @@ def read_records(lines):
     for line in filter(str.strip, lines):
         try:
             one = json.loads(line)
-            found.setdefault((one["test"], one.get("options", "")), []).append(one)
-        except (ValueError, KeyError, TypeError, AttributeError):
+            found.setdefault((one["test"], one.get("options", "")), []).append(outcome_in(one))
+        except (ValueError, KeyError, TypeError, AttributeError, RecursionError):
             raise BadLog("a line that is no result: %s" % line[:60]) from None
     many = [test for at, (test, _) in enumerate(found) if test in [other for other, _ in list(found)[:at]]]
-    return {"%s %s" % key if key[0] in many else key[0]: outcome_of(key[0], records) for key, records in found.items()}
+    return {"%s %s" % key if key[0] in many else key[0]: merged(key[0], outcomes) for key, outcomes in found.items()}
 
 
-def outcome_of(test, records):
+def merged(test, outcomes):
     """What records of one test with the same options say: the counts of sweeps are added, and else all say the same."""
-    found = [outcome_in(test, record) for record in records]
-    total = found[0]
-    for one in found[1:]:
+    total = outcomes[0]
+    for one in outcomes[1:]:
         if None in total.states.values() or None in one.states.values():
             if (one.states, one.verdict) != (total.states, total.verdict):
                 raise BadLog("%s has two answers" % test)
@@ -180,11 +179,12 @@ def outcome_of(test, records):
     return total
 
 
-def outcome_in(test, record):
+def outcome_in(record):
+    """What one record says."""
     outcome, states = Outcome(), record.get("states")
     if states is None:
         if "depth" in record:
-            raise BadLog("%s has no answer" % test)
+            raise BadLog("%s has no answer" % record["test"])
         return outcome
     outcome.cut = None
     if isinstance(states, dict):
