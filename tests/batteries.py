@@ -19,7 +19,8 @@
 - tools/compare: logs of herd7's, litmus7's and this project's forms, and what is said of two of them, or of three.
 - tools/import: forms that are read, each with what it becomes, and forms that are refused, each with its line and why; a test of the
   gallery is imported as itself. Files in the forms of diy7, litmus7 and herd's libraries (imported_files.py): what is read has the same
-  final states as the same test written by hand, and a log of the file compares with the answer to what is imported. Tests with words of
+  final states as the same test written by hand, and a log of the file compares with the answer to what is imported. The gallery's tests in
+  nine such forms are imported as the gallery's own, up to names of registers (foreign_forms.py). Tests with words of
   two sizes, arrays and addresses in registers have the final states of a plain machine whose memory has bytes (byte_machine.py).
 - tools/theory, tools/hardware and tools/campaign read each form that tools/import reads; a text that is no test is named, and the others
   go on; a folder without a test is an error; each that is interrupted ends with one line.
@@ -51,6 +52,7 @@ import cycle_runs
 import edges
 import faults
 import flat_machine
+import foreign_forms
 import gallery_shapes
 import hardware_runs
 import imported_files
@@ -213,8 +215,8 @@ def main():
     judge_imports(tally)
     judge_comparisons(tally)
     judge_program(program, tally)
-    for part in (imported_files, byte_machine, cycle_meanings, cycle_runs, gallery_shapes, source_runs, module_runs, hardware_runs,
-                 campaign_runs, cluster_runs):
+    for part in (imported_files, foreign_forms, byte_machine, cycle_meanings, cycle_runs, gallery_shapes, source_runs, module_runs,
+                 hardware_runs, campaign_runs, cluster_runs):
         part.judge(program, tally)
     return tally.end()
 
