@@ -169,6 +169,11 @@ def judge_reports(program, tally, room):
     tally.add("the log of a sweep", None if compared.returncode == 0 else described(compared))
     done = tool("campaign", "outcomes", program, "--depths", "0,32", *words, *tests[:2])
     tally.add("a log with a test twice", None if done.returncode == 2 and "--log has each test once" in done.stderr else described(done))
+    with open(test_file("MP"), encoding="ascii") as file:
+        other = write(os.path.join(room, "named"), file.read().replace("X86 MP", "X86 SB"))
+    done = tool("campaign", "outcomes", program, *words, other, test_file("SB"))
+    told = done.returncode == 2 and done.stderr == "campaign: --log can't tell two tests of one name apart: SB\n"
+    tally.add("a log of two tests of one name", None if told else described(done))
 
 
 def answer(command, program, path):

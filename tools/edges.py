@@ -206,13 +206,15 @@ def drawn_cycles(lengths, with_locked, cores, draw):
     among all, and the cycle. `draw` is a random.Random."""
     plain = [cycle for length in lengths for cycle in plain_cycles(length) if sum(edge.leaves_core for edge in cycle) <= cores]
     ends = list(itertools.accumulate(ways_to_mark(cycle) if with_locked else 1 for cycle in plain))
-    seen = set()
+    ways, seen = {}, set()
     while plain and len(seen) < ends[-1]:
         place = draw.randrange(ends[-1])
         if place not in seen:
             seen.add(place)
             at = bisect.bisect_right(ends, place)
-            yield place, marked(plain[at])[place - ends[at]] if with_locked else plain[at]
+            if at not in ways:
+                ways[at] = marked(plain[at]) if with_locked else [plain[at]]
+            yield place, ways[at][place - ends[at]]
 
 
 def plain_cycles(length):

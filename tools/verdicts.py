@@ -61,11 +61,11 @@ def by_theory_within(seconds, theory, text):
     signal.signal(signal.SIGALRM, stop)
     try:
         signal.setitimer(signal.ITIMER_REAL, seconds)
-        found = by_theory(theory, text)
-        signal.setitimer(signal.ITIMER_REAL, 0)
-        return found
+        return by_theory(theory, text)
     except TimeoutError:
         return Theory(None, None, "theory took over %g seconds" % seconds)
+    finally:
+        signal.setitimer(signal.ITIMER_REAL, 0)
 
 
 def by_theory(theory, text):
@@ -104,9 +104,9 @@ class Line:
 
     def text(self):
         shown = ["%-7s %s" % (self.rank, self.members["test"]), self.members["options"]]
-        for name in ("expected", "found", "leaves", "true", "false", "unfinished"):
+        for name in ("asked", "expected", "found", "leaves", "true", "false", "unfinished"):
             if self.members.get(name) is not None:
-                shown.append("%s=%s" % (name, self.members[name]))
+                shown.append("%s=%s" % (name, str(self.members[name]).replace(" ", "-")))
         if "states" in self.members:
             shown.append("states=%d" % len(self.members["states"]))
         return " ".join(filter(None, shown + ["- " + why for why in self.members.get("why", [])]))
@@ -198,7 +198,8 @@ def why_line(row, one, due):
     if "states" in one:
         can_be = one["true" if asked[1] else "false"] if asked else len(one["states"])
         why += [] if found == ("allowed" if can_be else "forbidden") else ["not by outcomes"]
-    members = {"expected": due, "found": found, "leaves": one.get("leaves"), "why": why}
+    members = {"asked": " ".join([asked[0], str(asked[1]).lower()]) if asked and not asked[1] else None, "expected": due, "found": found,
+               "leaves": one.get("leaves"), "why": why}
     members.update({name: one[name] for name in ("true", "false", "states") if name in one})
     return line_of_row(row, rank_of(why, due is not None or "states" in one), members)
 
