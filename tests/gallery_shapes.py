@@ -5,6 +5,8 @@ import litmus
 import tool_runs
 
 import answers
+import cycle_tests
+import edges
 
 # These cycles have the gallery's tests.
 SHARED = ("SB", "MP", "LB", "R", "S", "2+2W", "IRIW", "WRC", "ISA2", "RWC")
@@ -69,9 +71,9 @@ def all_states(program, test):
 
 def judge(program, tally):
     """Tests that tools/cycles makes have the gallery's states, up to names of cores, locations and registers, and stored values."""
-    texts, cycles = dict(tool_runs.gallery()), tool_runs.script("cycles")
+    texts = dict(tool_runs.gallery())
     for name in SHARED:
-        ours = cycles.test_of(cycles.edges.cycle_named(cycles.LITERATURE[name].split()))
+        ours = cycle_tests.test_of(edges.cycle_named(cycle_tests.LITERATURE[name].split()))
         theirs = litmus.read_test(texts[name])
         here, there, from_where = all_states(program, ours), all_states(program, theirs), read_from(ours)
         same = any({found.state(state, from_where) for state in here} == there for found in renamings(ours, theirs))
