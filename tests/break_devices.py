@@ -1,5 +1,6 @@
 #!/usr/bin/env python3
-"""Breaks a built program's standard input and output, and looks for the word 'fault device' and the status 5.
+"""Breaks a built program's standard input and output, and looks for the word 'fault device', for the hint which of the two
+failed, and for the status 5.
 
     tests/break_devices.py PROGRAM [--also PROGRAM]
 
@@ -9,7 +10,10 @@ of the answer, and nothing where standard input failed. A signal must not end th
 
 Then each call on standard input and on standard output fails in turn, and none comes after it on the same side; and both
 move one byte a call, which is enough for the whole answer. A small library does that, tests/failing_calls.c, which is built
-with the C compiler and preloaded; without a C compiler that counts as a failure. The last line is 'N passed, M failed'.
+with the C compiler and preloaded; without a C compiler that counts as a failure.
+
+At a terminal a command says that it reads from there, once, and only where standard error is a terminal too. The last line is
+'N passed, M failed'.
 """
 import fcntl
 import os
@@ -23,7 +27,7 @@ import time
 sys.dont_write_bytecode = True
 import failing
 import judging
-from judging import BAD_LINE, DEVICE_FAULT, DIVIDER, ENDED, FAULT, INVALID, REFUSED, UNFINISHED
+from judging import BAD_LINE, DIVIDER, ENDED, FAULT, INPUT_FAULT, INVALID, OUTPUT_FAULT, REFUSED, UNFINISHED
 
 BOTH_LOADS = judging.STORE_BUFFERING + DIVIDER + judging.BOTH_LOADS_PASS
 
@@ -58,14 +62,27 @@ PAGE = 4096
 
 ONE_BYTE = {"FAIL_SHORT": ""}
 
+# What a terminal takes for the end of what is typed.
+END_OF_INPUT = b"\x04"
+
+READING = b"reading a test from the terminal; Ctrl-D ends it\n"
+
+# A command line, whether standard error is a terminal too, and what is told there.
+TERMINALS = [
+    ("run", True, READING),
+    ("outcomes", True, READING),
+    ("run", False, b""),
+    ("tables", True, b""),
+]
+
 
 def redirected(redirection):
     """A command that starts the program named after it with this redirection."""
     return ["sh", "-c", 'exec "$0" "$@" ' + redirection]
 
 
-def fault_of(done, output=b""):
-    return judging.difference(done, FAULT, output, DEVICE_FAULT)
+def fault_of(done, output=b"", told=OUTPUT_FAULT):
+    return judging.difference(done, FAULT, output, told)
 
 
 def unseen_fault_of(done):
@@ -142,7 +159,7 @@ INPUTS = [
 def input_faults(program, words, redirection):
     """What differs where standard input can't be read: `tables` reads none, and so prints its table."""
     done = judging.started(redirected(redirection) + [program.path] + words, None, stdin=subprocess.DEVNULL)
-    errors = b"" if "2>" in redirection else DEVICE_FAULT
+    errors = b"" if "2>" in redirection else INPUT_FAULT
     if words[0] == "tables":
         return judging.difference(done, ENDED, program.run(words, b"").stdout)
     return judging.difference(done, FAULT, b"", errors)
@@ -208,6 +225,42 @@ def judge_devices(program, jobs, tally):
     tally.add("a refused line", [(to, refused_line(program, to)) for to in ("2>&-", "2> /dev/full", ">&- 2>&-")])
 
 
+def at_a_terminal(program, words, typed, error_too):
+    """The answer where standard input, and with error_too standard error, is a terminal at which this is typed; and what stands there."""
+    ours, theirs = os.openpty()
+    modes = termios.tcgetattr(theirs)
+    modes[3] &= ~termios.ECHO
+    termios.tcsetattr(theirs, termios.TCSANOW, modes)
+    os.write(ours, typed + END_OF_INPUT)
+    try:
+        done = subprocess.run([program.path] + words, stdin=theirs, stdout=subprocess.PIPE, stderr=theirs if error_too else subprocess.PIPE,
+                              timeout=judging.PATIENCE, check=False)
+        os.set_blocking(ours, False)
+        try:
+            shown = os.read(ours, PAGE)
+        except BlockingIOError:
+            shown = b""
+    finally:
+        os.close(ours)
+        os.close(theirs)
+    return done, shown.replace(b"\r\n", b"\n")
+
+
+def terminal_faults(program, words, error_too, told):
+    """What differs from the answer to the same input from a pipe; this is told at the terminal beside it."""
+    typed = b"" if words[0] == "tables" else BOTH_LOADS
+    whole = program.run(words, typed)
+    done, shown = at_a_terminal(program, words, typed, error_too)
+    faults = [] if shown == told else ["at the terminal stands %r" % shown]
+    if done.stdout != whole.stdout or done.returncode != whole.returncode or done.stderr:
+        faults.append("another answer, or words on standard error: %r" % done.stderr)
+    return faults
+
+
+def judge_terminals(program, tally):
+    tally.add("at a terminal", [(line, terminal_faults(program, line.split(), error_too, told)) for line, error_too, told in TERMINALS])
+
+
 def with_calls(program, words, given, told):
     """The answer under the library, which is told so, and its notes of calls that failed or came after such a one."""
     done, noted = failing.answer(program, words, given, told)
@@ -229,7 +282,7 @@ def judged(call, found, output_before):
     """For each call that failed its faults; what was taken before is given by the number of the call."""
     results = []
     for at, (done, noted) in enumerate(found, 1):
-        faults = fault_of(done, output_before(at))
+        faults = fault_of(done, output_before(at), INPUT_FAULT if call == "input" else OUTPUT_FAULT)
         if noted != ["failed"]:
             faults.append("a call came after the one that failed")
         results.append(("%s, call %d" % (call, at), faults))
@@ -261,6 +314,8 @@ def main():
     for program in programs:
         judge_devices(program, JOBS, tally)
     print("devices broken: %d" % (tally.passed + tally.failed - len(programs) * len(JOBS)))
+    for program in programs:
+        judge_terminals(program, tally)
     jobs = [(program, *job) for program in programs for job in JOBS] if failing.is_there(tally) else []
     for job, results in zip(jobs, judging.in_processes(lambda job: judge_calls(*job), jobs, at_once=1)):
         calls += tally.add(job[1], results)

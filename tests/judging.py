@@ -28,7 +28,13 @@ WITH_HINT = (REFUSED, UNFINISHED)
 # Answers with status 0 that have one too: that of a sweep that never saw what the condition asks for.
 MISLEADING = (re.compile(rb"^Sweep .*\n(?:State .*\n)*Observation .* Never 0 [1-9][0-9]*\n\Z", re.MULTILINE),)
 
-MEMORY_FAULT, DEVICE_FAULT = b"fault memory\n", b"fault device\n"
+MEMORY_FAULT = b"fault memory\n"
+
+# A device that failed: which one it is, and what is likely, stands on a second line.
+INPUT_FAULT = (b"fault device\nhint: standard input can't be read: is it closed, a folder, open for writing alone, or a stream that "
+               b"doesn't block?\n")
+OUTPUT_FAULT = (b"fault device\nhint: standard output can't be written: is it closed, is the disk full, has the reader of the pipe "
+                b"left, or is it a stream that doesn't block?\n")
 
 LONGEST_INPUT, LONGEST_TEST = 1_048_576, 65_536
 

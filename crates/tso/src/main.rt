@@ -8,7 +8,7 @@ ghost use Rattle.std.specs.Prelude.{◌≡◌, IfOk};
 ghost use Rattle.command_line.specs.Limits.{HasDepth};
 
 use std::alloc::AllocError;
-use std::io::Write;
+use std::io::{IsTerminal, Write};
 use std::process::ExitCode;
 use std::{env, io};
 use tso_cli::{
@@ -21,6 +21,17 @@ const BAD_LINE: u8 = 2;
 
 /// The exit status where memory or a device failed.
 const FAULT: u8 = 5;
+
+/// What a command says that waits for what a person types.
+const READING: &str = "reading a test from the terminal; Ctrl-D ends it";
+
+/// What is likely where standard input can't be read.
+const INPUT_HINT: &str =
+    "hint: standard input can't be read: is it closed, a folder, open for writing alone, or a stream that doesn't block?";
+
+/// What is likely where standard output can't be written.
+const OUTPUT_HINT: &str =
+    "hint: standard output can't be written: is it closed, is the disk full, has the reader of the pipe left, or is it a stream that doesn't block?";
 
 fn main(rt: HostRuntime) -> ExitCode {
     let status = match settings_of_line(&rt) {
@@ -113,6 +124,7 @@ fn words_of_line(rt: &HostRuntime) -> Result<Settings, LineError>
 fn run(rt: &HostRuntime, settings: &Settings) -> u8
     requires { HasDepth settings.now }
 {
+    tell_reading(rt, settings);
     let mut reader = Counted::new(rt.reader());
     let mut writer = Counted::new(io::writer(rt));
     match answer_command(rt.alloc(), &mut reader, &mut writer, settings) {
@@ -121,10 +133,19 @@ fn run(rt: &HostRuntime, settings: &Settings) -> u8
                 tell_hint(rt, settings, &answered);
                 exit_status(answered.answer.status)
             }
-            Err(_) => fault(rt, "fault device", FAULT),
+            Err(_) => device_fault(rt, OUTPUT_HINT),
         },
-        Err(RunFault::Device) => fault(rt, "fault device", FAULT),
+        Err(RunFault::Device) if reader.failures() > 0 => device_fault(rt, INPUT_HINT),
+        Err(RunFault::Device) => device_fault(rt, OUTPUT_HINT),
         Err(RunFault::NoMemory) => fault(rt, "fault memory", FAULT),
+    }
+}
+
+/// Tells a person at a terminal that the command waits for its input; `tables` reads none.
+fn tell_reading(rt: &HostRuntime, settings: &Settings) {
+    let reads = !matches!(settings, Settings::Tables(_));
+    if reads && rt.stdin().is_terminal() && rt.stderr().is_terminal() {
+        let _ = rt.eprintln(READING);
     }
 }
 
@@ -157,6 +178,13 @@ fn exit_status(status: Status) -> u8
         Status::Unended => 3,
         Status::Invalid => 4,
     }
+}
+
+/// Tells on standard error that a device failed, and of which one what is likely.
+fn device_fault(rt: &HostRuntime, hint: &str) -> u8 {
+    let status = fault(rt, "fault device", FAULT);
+    let _ = rt.eprintln(hint);
+    status
 }
 
 /// Tells a fault on standard error; nothing can be done where that fails too.
