@@ -126,7 +126,10 @@ CHARACTERS = {" ": "\u00a0\u2003\u202f", "/\\": "\u2227", "exists": "\u2203", '"
 def is_not_ascii(parts):
     """A character of other texts stands for one of these, or shows nothing."""
     chance = parts.chance
-    kind = chance.randrange(5)
+    kind = chance.randrange(6)
+    if kind == 5:
+        parts.header = parts.header.replace(" ", chance.choice(CHARACTERS[" "]))
+        return parts.text()
     if kind == 0:
         return parts.put_item("%s=\u22121" % chance.choice(("a", "b")))
     if kind == 1:

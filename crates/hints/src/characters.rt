@@ -6,8 +6,8 @@ use crate::quotes::first_bytes;
 use crate::tables::{Alike, said_of_front};
 use crate::words::{Piece, Words, around, six};
 
-/// Characters, and what stands for them.
-static CHARACTERS: [Alike; 9] = [
+/// Characters of a test's signs, and what stands for them.
+static SIGNS: [Alike; 7] = [
     Alike {
         words: &["\u{2227}"],
         said: "write /\\",
@@ -29,18 +29,22 @@ static CHARACTERS: [Alike; 9] = [
         said: "write forall",
     },
     Alike {
-        words: &[
-            "\u{a0}", "\u{2002}", "\u{2003}", "\u{2009}", "\u{202f}", "\u{3000}",
-        ],
-        said: "write a space",
-    },
-    Alike {
         words: &["\u{201c}", "\u{201d}", "\u{201e}", "\u{ab}", "\u{bb}"],
         said: "write \" here and at its other end",
     },
     Alike {
         words: &["\u{2212}", "\u{2010}", "\u{2011}", "\u{2013}", "\u{2014}"],
         said: "a number has no sign, and -1 is written 4294967295",
+    },
+];
+
+/// Characters that look like a space or like nothing, and what stands for them, in any text.
+static BLANKS: [Alike; 2] = [
+    Alike {
+        words: &[
+            "\u{a0}", "\u{2002}", "\u{2003}", "\u{2009}", "\u{202f}", "\u{3000}",
+        ],
+        said: "write a space",
     },
     Alike {
         words: &["\u{feff}", "\u{200b}", "\u{200c}", "\u{200d}", "\u{2060}"],
@@ -51,22 +55,37 @@ static CHARACTERS: [Alike; 9] = [
 /// Of a byte that isn't printable, and of the character that it begins.
 pub fn foreign_character<'a>(place: Place<'a>, byte: u8) -> Words<'a> {
     match character_at(place.rest) {
-        Some(character) => six([
-            Piece::Character(character),
-            Piece::Text(", in column "),
-            Piece::Number(place.column()),
-            Piece::Text(", isn't ASCII: "),
-            Piece::Text(said_of_front(&CHARACTERS, place.rest).unwrap_or(
-                "only a comment may have it",
-            )),
-            Piece::Text(""),
-        ]),
+        Some(character) => cured(
+            place,
+            character,
+            said_of_front(&SIGNS, place.rest).unwrap_or("only a comment may have it"),
+        ),
         None => around(
             "the byte ",
             Piece::Number(usize::from(byte)),
             " begins nothing that a test has",
         ),
     }
+}
+
+/// Of the first character of a word or a line that isn't ASCII, if one is there: what is blank is told as such, and of any other
+/// this is said.
+pub fn foreign_in<'a>(text: &'a [u8], said: &'static str) -> Option<Words<'a>> {
+    let at = text.iter().position(|byte| !byte.is_ascii())?;
+    let place = Place::new(text, text.len().saturating_sub(at));
+    Some(cured(place, character_at(place.rest)?, said))
+}
+
+/// Of a character that isn't ASCII: what stands for it where it is blank, and else what is said.
+fn cured<'a>(place: Place<'a>, character: char, said: &'static str) -> Words<'a> {
+    six([
+        Piece::Character(character),
+        Piece::Text(", in column "),
+        Piece::Number(place.column()),
+        Piece::Text(", isn't ASCII: "),
+        Piece::Text(said_of_front(&BLANKS, place.rest).unwrap_or(said)),
+        Piece::Text(""),
+    ])
 }
 
 /// The character at the front of a text, if it is in UTF-8 and not ASCII.

@@ -1,5 +1,6 @@
 //! What is said of choices: the word at fault, and which words may stand there.
 
+use crate::characters::foreign_in;
 use crate::faults::ONE_TEST;
 use crate::printing::Where;
 use crate::quotes::{SPACES, is_all_digits};
@@ -112,6 +113,9 @@ fn words_before<'a, 'b>(words: &'b [&'a [u8]], number: usize) -> &'b [&'a [u8]] 
 
 fn bad_word<'a>(words: &[&'a [u8]], number: usize) -> Words<'a> {
     let word = nth(words, number);
+    if let Some(words) = foreign_in(word, "choices are 0s, 0d and seed N M") {
+        return words;
+    }
     match part_after(words_before(words, number)) {
         Part::First => bad_first(word),
         Part::Seed => naming(

@@ -2,13 +2,13 @@
 //! doesn't end.
 
 use crate::cause::SecondPart;
-use crate::characters::foreign_character;
+use crate::characters::{foreign_character, foreign_in};
 use crate::divider::missing_divider;
 use crate::faults::{COMMENT, CONNECTIVES, foreign_register};
 use crate::numbers::GREATEST;
 use crate::operands::percent;
 use crate::place::Place;
-use crate::quotes::{begins_with_letter, is_bare, word};
+use crate::quotes::{begins_with_letter, is_bare, up_to, word};
 use crate::tables::{Alike, is_one_of, named_in, said_of_front};
 use crate::words::{Piece, Words, around, naming, plain, six};
 use tso_model::limits::MAX_NAME;
@@ -86,6 +86,8 @@ pub fn no_header<'a>(place: Place<'a>) -> Words<'a> {
         plain("no test: give one on standard input, as in: tso run < FILE")
     } else if rest.starts_with(b"\xef\xbb\xbf") {
         plain("a byte order mark stands before X86: save the file without it")
+    } else if let Some(words) = foreign_in(up_to(rest, b'\n'), "a test's name is in ASCII") {
+        words
     } else if word == b"X86".as_slice() {
         plain("after X86 stands a space and then the test's name, in printable ASCII")
     } else if let Some(words) = named_in(&HEADERS, word) {

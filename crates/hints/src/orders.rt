@@ -1,5 +1,6 @@
 //! What is said of orders: the line at fault, and what an order's text needs there.
 
+use crate::characters::foreign_in;
 use crate::printing::Where;
 use crate::quotes::{after_byte, is_all_digits, is_choice, up_to, word};
 use crate::words::{Piece, Words, around, listed, naming, plain};
@@ -93,6 +94,9 @@ fn from_line(text: &[u8], number: usize) -> &[u8] {
 fn bad_line<'a>(unknown_location: bool, line: &'a [u8]) -> Words<'a> {
     if line.is_empty() {
         return plain("an empty line stands in the order");
+    }
+    if let Some(words) = foreign_in(line, "an order has none, as run prints it") {
+        return words;
     }
     if line.starts_with(b"Endorder") {
         return naming(
