@@ -120,13 +120,13 @@ no-deeper k w (member l d ms) flat = by_order (slice_cmp nat_cmp k l) (no-deeper
     by_order Equal further = omega (arith, flat)
     by_order Greater further = omega (arith, flat, further)
 
-memory-numbers : (names : List (List ℕ)) (words : List ℕ) → All IsWord words → MembersHaveNumbers (members_outline (memory_members names words))
+pub memory-numbers : (names : List (List ℕ)) (words : List ℕ) → All IsWord words → MembersHaveNumbers (members_outline (memory_members names words))
 memory-numbers [] words all = tt
 memory-numbers (name ∷ names) [] all = tt
 memory-numbers (name ∷ names) (word ∷ words) all =
     one-more name word (memory_members names words) (All-head IsWord word words all) (memory-numbers names words (All-tail IsWord word words all))
 
-memory-depth : (names : List (List ℕ)) (words : List ℕ) → members_depth (members_outline (memory_members names words)) ≤ 0
+pub memory-depth : (names : List (List ℕ)) (words : List ℕ) → members_depth (members_outline (memory_members names words)) ≤ 0
 memory-depth [] words = omega arith
 memory-depth (name ∷ names) [] = omega arith
 memory-depth (name ∷ names) (word ∷ words) = no-deeper name word (memory_members names words) (memory-depth names words)

@@ -1,5 +1,5 @@
 -- The JSON object of a run that ended tells the run.
-use Rattle.std.proofs.Common.{length, arith, subst, ◌++◌, ◌≡◌, ℕ, ◌-◌, ◌^◌, Bool, true, false, List, [], ◌∷◌, map, All, Option, Some, None, is_some, refl, sym, ap, ◌∙◌}
+use Rattle.std.proofs.Common.{length, arith, subst, ◌++◌, ◌≡◌, ℕ, ◌-◌, ◌^◌, Bool, true, List, [], ◌∷◌, map, All, Option, Some, None, is_some, refl, sym, ap, ◌∙◌}
 use Rattle.std.specs.Fmt.{decimal}
 use Rattle.std.proofs.lemmas.Fmt.{decimal_injective}
 use Rattle.std.proofs.lemmas.List.{append_cancel_right}
@@ -32,17 +32,13 @@ use Rattle.tso_report.specs.Json.{counts_value, condition_value, registers_value
 use Rattle.printed_laws.specs.Telling.{ReportsTellTheirRuns}
 use Rattle.printed_laws.proofs.Lines.{value-small, same-registers}
 use Rattle.printed_laws.proofs.Counted.{same-counts}
-use Rattle.printed_laws.proofs.JsonTexts.{value-told, members_in, items_in, text_in, truth_in, value_at, text_at, first_item, more_items, has_item}
+use Rattle.printed_laws.proofs.JsonTexts.{value-told, members_in, items_in, text_in, truth_in, value_at, text_at, first_item, more_items, has_item, uneven}
 use Rattle.printed_laws.proofs.JsonNumbers.{small, run-numbers, run-depth}
 use Rattle.printed_laws.proofs.JsonMemory.{memory-told}
 
 -- what a law of order texts says: what is printed of an order spells it
 abbrev pub PrintedOrderIsSpelled : Type 0
 PrintedOrderIsSpelled = (t : Litmus) (order : List Entry) → IsTest t → IsOrderFor t order → SpellsOrder t (printed_order t order) order
-
--- one array has an item, and the other none
-uneven : {A : Type 0} → true ≡ false → A
-uneven e = absurd cc
 
 count-told : (a b : Counts) → IsAtMost (2 ^ 32 - 1) a → IsAtMost (2 ^ 32 - 1) b → outline (counts_value a) ≡ outline (counts_value b) → a ≡ b
 count-told a b p q same =

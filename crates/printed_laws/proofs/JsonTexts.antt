@@ -57,3 +57,7 @@ more_items (json.item j js) = js
 abbrev pub has_item : json.Items → Bool
 has_item json.no_items = false
 has_item (json.item j js) = true
+
+-- one array has an item, and the other none
+pub uneven : {A : Type 0} → true ≡ false → A
+uneven e = absurd cc

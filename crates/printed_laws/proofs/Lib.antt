@@ -18,3 +18,12 @@ pub mod Keys
 pub mod OutcomeLines
 pub mod OutcomeObjects
 pub mod StatesFit
+pub mod TraceWords
+pub mod TraceParts
+pub mod TraceLines
+pub mod TraceObjects
+pub mod MachinesFit
+pub mod StepsFit
+pub mod TraceNumbers
+pub mod TraceRuns
+pub mod PrintedTraces

@@ -1,5 +1,5 @@
 -- The JSON object of `outcomes` tells the states, and in how many the condition's proposition is true and false.
-use Rattle.std.proofs.Common.{◌≡◌, ◌∙◌, ℕ, ◌^◌, ◌<◌, ◌≤◌, true, false, List, [], ◌∷◌, ◌++◌, map, length, All, Option, Some, None, refl, sym, ap, arith}
+use Rattle.std.proofs.Common.{◌≡◌, ◌∙◌, ℕ, ◌^◌, ◌<◌, ◌≤◌, true, List, [], ◌∷◌, ◌++◌, map, length, All, Option, Some, None, refl, sym, ap, arith}
 use Rattle.std.proofs.lemmas.Fmt.{decimal_injective}
 use Rattle.std.proofs.lemmas.List.{append_cancel_right, length-map}
 use Rattle.std.proofs.lemmas.List.Elements.{All-head, All-tail}
@@ -19,15 +19,11 @@ use Rattle.outcome_report.specs.Outcomes.{Outcome, shown_values}
 use Rattle.outcome_report.specs.OutcomesJson.{key_of, value_members, state_value, observation_value, outcomes_value}
 use Rattle.tso_cli.specs.Fitting.{IsStateOf}
 use Rattle.printed_laws.specs.Outcomes.{OutcomesFit, OutcomesTellTheirStates, OutcomesTellTheirTests}
-use Rattle.printed_laws.proofs.JsonTexts.{value-told, members_in, items_in, value_at, text_at, first_item, more_items, has_item}
+use Rattle.printed_laws.proofs.JsonTexts.{value-told, members_in, items_in, value_at, text_at, first_item, more_items, has_item, uneven}
 use Rattle.printed_laws.proofs.JsonNumbers.{one-more, no-deeper}
 use Rattle.printed_laws.proofs.JsonMemory.{memory-told}
 use Rattle.printed_laws.proofs.Keys.{keys-distinct}
 use Rattle.printed_laws.proofs.OutcomeLines.{choices_of, CountAlike, of-one-condition, held-few, failed-few}
-
--- one array has an item, and the other none
-uneven : {A : Type 0} → true ≡ false → A
-uneven e = absurd cc
 
 -- ---- numbers, and how deep
 

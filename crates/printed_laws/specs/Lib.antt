@@ -2,3 +2,4 @@ pub mod Telling
 pub mod OfRuns
 pub mod Outcomes
 pub mod Observed
+pub mod Traces

@@ -1,0 +1,285 @@
+-- The object of a step tells the step: each member is read as the part of a line that has the same words.
+use Rattle.std.proofs.Common.{◌≡◌, ◌∙◌, ℕ, ◌+◌, ◌<◌, ◌≤◌, ◌==◌, if◌then◌else◌, List, [], ◌∷◌, ◌++◌, map, get_or, Option, Some, None, refl, sym, ap, arith}
+use Rattle.std.specs.Prelude.{codes}
+use Rattle.std.specs.Option.{option_map}
+use Rattle.json.specs.Json as json
+use Rattle.json.specs.Json.{max_depth}
+use Rattle.json.specs.Tree.{depth as depth_of, items_depth, HasNumbers, ItemsHaveNumbers}
+use Rattle.serde_json.specs.Data.{Data, string}
+use Rattle.serde_json.specs.View.{items_of}
+use Rattle.serde_json.specs.Written.{outline, items_outline}
+use Rattle.tso_model.specs.Litmus.{Litmus, IsTest}
+use Rattle.tso_model.specs.declared.choice.Stall.{Stall}
+use Rattle.tso_model.specs.declared.choice.Stall.TheVariants.{Done, Full, Fence, Lock, Empty, Bus}
+use Rattle.tso_model.specs.declared.choice.Outcome.{Outcome}
+use Rattle.tso_model.specs.declared.choice.Outcome.TheVariants.{Committed, Buffered, Moved, Asked, Stalled}
+use Rattle.tso_model.specs.declared.execution.Entry.{Entry}
+use Rattle.tso_model.specs.declared.instruction.Core.{Core}
+use Rattle.scheduler.specs.Printed.{printed_choice}
+use Rattle.order_builder.specs.PrintedOrder.{printed_entry}
+use Rattle.snoop_bus.specs.declared.access.AccessKind.{AccessKind}
+use Rattle.trace_report.specs.Lines.{stall_name, line_name, access_name, printed_move, printed_request, printed_core, printed_change}
+use Rattle.trace_report.specs.Lines.{entries_text, moved_text, access_text, request_text, flush_text, write_back_text, changes_text}
+use Rattle.trace_report.specs.Shown.{Shown}
+use Rattle.trace_report.specs.declared.step.LineRequest.{LineRequest}
+use Rattle.trace_report.specs.declared.step.StateChange.{StateChange}
+use Rattle.trace_report.specs.declared.step.Moved as move
+use Rattle.trace_json.specs.Values.{text_or_null}
+use Rattle.trace_json.specs.StepJson.{outcome_word, stall_in, step_json}
+use Rattle.printed_laws.specs.Traces.{told_by_object, StepFits, ObjectsTellTheirSteps}
+use Rattle.printed_laws.proofs.JsonTexts.{value-told, items_in, text_in, truth_in, value_at, text_at}
+use Rattle.printed_laws.proofs.TraceWords.{choice-cut}
+use Rattle.printed_laws.proofs.TraceParts.{Follows, entries-cut, moved-cut, access-cut, request-cut, flush-cut, write-back-cut, changes-cut}
+use Rattle.printed_laws.proofs.TraceLines.{core-small, changes-fit, stall_by}
+
+-- ---- what stands in a value
+
+-- a text, or none
+abbrev text_of : json.Json → Option (List ℕ)
+text_of (json.string s) = Some s
+text_of _ = None
+
+text-there : (o : Option (List ℕ)) → text_of (outline (text_or_null o)) ≡ o
+text-there None = refl
+text-there (Some text) = refl
+
+option-told : (a b : Option (List ℕ)) → outline (text_or_null a) ≡ outline (text_or_null b) → a ≡ b
+option-told a b e = sym (text-there a) ∙ (ap text_of e ∙ text-there b)
+
+-- the texts of a list
+abbrev texts_of : json.Items → List (List ℕ)
+texts_of json.no_items = []
+texts_of (json.item j js) = text_in j ∷ texts_of js
+
+texts-there : {A : Type 0} (print : A → List ℕ) (xs : List A) → texts_of (items_outline (items_of (map (λ x. string (print x)) xs))) ≡ map print xs
+texts-there print [] = refl
+texts-there print (x ∷ xs) = ap (λ (l : List (List ℕ)). print x ∷ l) (texts-there print xs)
+
+words-there : (xs : List (List ℕ)) → texts_of (items_outline (items_of (map string xs))) ≡ xs
+words-there [] = refl
+words-there (x ∷ xs) = ap (λ (l : List (List ℕ)). x ∷ l) (words-there xs)
+
+-- ---- each member as a part of a line
+
+-- a part that may be missing, after a space
+abbrev spaced : Option (List ℕ) → List ℕ
+spaced None = []
+spaced (Some text) = codes " " ++ text
+
+-- parts, each after a space
+abbrev each_spaced : List (List ℕ) → List ℕ
+each_spaced [] = []
+each_spaced (x ∷ xs) = codes " " ++ (x ++ each_spaced xs)
+
+abbrev each_grouped : List (List ℕ) → List ℕ
+each_grouped [] = []
+each_grouped (x ∷ xs) = (codes " " ++ x) ++ each_grouped xs
+
+nothing-follows : (number : ℕ) → number ≤ 10 → Follows number []
+nothing-follows number small = record { ends = tt; later = small }
+
+access-part : (a : Option AccessKind) → access_text a ≡ spaced (option_map access_name a)
+access-part None = refl
+access-part (Some a) = refl
+
+moved-part : (m : Option move.Moved) → moved_text m ≡ spaced (option_map printed_move m)
+moved-part None = refl
+moved-part (Some m) = refl
+
+request-part : (t : Litmus) (words : ℕ) (r : Option LineRequest) → request_text t words r ≡ spaced (option_map (printed_request t words) r)
+request-part t words None = refl
+request-part t words (Some r) = refl
+
+-- ` flush P1`
+abbrev flush_of : Option (List ℕ) → List ℕ
+flush_of None = []
+flush_of (Some core) = codes " flush " ++ core
+
+flush-part : (core : Option Core) → flush_text core ≡ flush_of (option_map printed_core core)
+flush-part None = refl
+flush-part (Some core) = refl
+
+abbrev write_back_of : Option (List ℕ) → List ℕ
+write_back_of None = []
+write_back_of (Some line) = codes " write-back " ++ line
+
+write-back-part : (t : Litmus) (words : ℕ) (line : Option ℕ) → write_back_text t words line ≡ write_back_of (option_map (line_name t words) line)
+write-back-part t words None = refl
+write-back-part t words (Some line) = refl
+
+entries-part : (t : Litmus) (es : List Entry) → entries_text t es ≡ each_spaced (map (printed_entry t) es)
+entries-part t [] = refl
+entries-part t (e ∷ es) = ap (λ (l : List ℕ). codes " " ++ (printed_entry t e ++ l)) (entries-part t es)
+
+changes-part : (t : Litmus) (words : ℕ) (cs : List StateChange) → changes_text t words cs ≡ each_grouped (map (printed_change t words) cs)
+changes-part t words [] = refl
+changes-part t words (c ∷ cs) = ap (λ (l : List ℕ). (codes " " ++ printed_change t words c) ++ l) (changes-part t words cs)
+
+-- texts that are alike are alike with nothing behind them
+alone : (xs ys : List ℕ) → xs ≡ ys → xs ++ [] ≡ ys ++ []
+alone xs ys same = ap (λ (l : List ℕ). l ++ []) same
+
+-- ---- the outcome
+
+abbrev read_stall : List ℕ → Stall
+read_stall text = stall_by (get_or text 0 0) (get_or text 1 0)
+
+stall-again : (why : Stall) → read_stall (stall_name why) ≡ why
+stall-again Done = refl
+stall-again Full = refl
+stall-again Fence = refl
+stall-again Lock = refl
+stall-again Empty = refl
+stall-again Bus = refl
+
+-- of its word and the word of its stall
+abbrev outcome_from : List ℕ → Option (List ℕ) → Outcome
+outcome_from word (Some why) = Stalled (read_stall why)
+outcome_from word None =
+    let first = get_or word 0 0 in
+    if first == 99 then Committed else if first == 98 then Buffered else if first == 109 then Moved else Asked
+
+outcome-there : (o : Outcome) → outcome_from (outcome_word o) (option_map stall_name (stall_in o)) ≡ o
+outcome-there Committed = refl
+outcome-there Buffered = refl
+outcome-there Moved = refl
+outcome-there Asked = refl
+outcome-there (Stalled why) = ap Stalled (stall-again why)
+
+outcome-told : (a b : Outcome) → outcome_word a ≡ outcome_word b → option_map stall_name (stall_in a) ≡ option_map stall_name (stall_in b) → a ≡ b
+outcome-told a b word stall = sym (outcome-there a) ∙ ((λ i. outcome_from (word i) (stall i)) ∙ outcome-there b)
+
+-- ---- the object
+
+pub step-told : (t : Litmus) (words : ℕ) (a b : Shown) (after other : Data) → IsTest t → StepFits t words a → StepFits t words b
+    → outline (step_json t words a after) ≡ outline (step_json t words b other) → (told_by_object a ≡ told_by_object b) × (outline after ≡ outline other)
+step-told t words a b after other test p q same =
+    let texts = λ (n : ℕ) (x y : Option (List ℕ)) (e : outline (text_or_null x) ≡ outline (text_or_null y)). option-told x y e in
+    let access_same = texts 0 (option_map access_name a.access) (option_map access_name b.access) (ap (value_at 0) same) in
+    let access = access-cut a.access b.access [] [] (nothing-follows 5 (omega arith)) (nothing-follows 5 (omega arith))
+    (alone (access_text a.access) (access_text b.access) (access-part a.access ∙ (ap spaced access_same ∙ sym (access-part b.access)))) in
+    let choice = choice-cut a.choice b.choice [] [] (core-small t words a.choice p.chosen_core) (core-small t words b.choice q.chosen_core)
+    (alone (printed_choice a.choice) (printed_choice b.choice) (ap (text_at 2) same)) in
+    let entries_same : map (printed_entry t) a.entries ≡ map (printed_entry t) b.entries =
+    sym (texts-there (printed_entry t) a.entries) ∙ (ap (λ (j : json.Json). texts_of (items_in (value_at 3 j))) same ∙ texts-there (printed_entry t) b.entries) in
+    let entries = entries-cut t a.entries b.entries [] [] test p.entries q.entries (nothing-follows 2 (omega arith)) (nothing-follows 2 (omega arith))
+    (alone (entries_text t a.entries) (entries_text t b.entries) (entries-part t a.entries ∙ (ap each_spaced entries_same ∙ sym (entries-part t b.entries)))) in
+    let flushed_same = texts 4 (option_map printed_core a.flushed) (option_map printed_core b.flushed) (ap (value_at 4) same) in
+    let flushed = flush-cut a.flushed b.flushed [] [] p.flushed q.flushed (nothing-follows 7 (omega arith)) (nothing-follows 7 (omega arith))
+    (alone (flush_text a.flushed) (flush_text b.flushed) (flush-part a.flushed ∙ (ap flush_of flushed_same ∙ sym (flush-part b.flushed)))) in
+    let forwarded : a.forwarded ≡ b.forwarded = ap (λ (j : json.Json). truth_in (value_at 5 j)) same in
+    let moved_same = texts 6 (option_map printed_move a.moved) (option_map printed_move b.moved) (ap (value_at 6) same) in
+    let moved = moved-cut a.moved b.moved [] [] p.moved q.moved (nothing-follows 3 (omega arith)) (nothing-follows 3 (omega arith))
+    (alone (moved_text a.moved) (moved_text b.moved) (moved-part a.moved ∙ (ap spaced moved_same ∙ sym (moved-part b.moved)))) in
+    let stall_same = texts 8 (option_map stall_name (stall_in a.outcome)) (option_map stall_name (stall_in b.outcome)) (ap (value_at 8) same) in
+    let outcome = outcome-told a.outcome b.outcome (ap (text_at 7) same) stall_same in
+    let changes_same : map (printed_change t words) a.changes ≡ map (printed_change t words) b.changes =
+    sym (words-there (map (printed_change t words) a.changes)) ∙ (ap (λ (j : json.Json). texts_of (items_in (value_at 9 j))) same ∙ words-there (map (printed_change t words) b.changes)) in
+    let changes = changes-cut t words a.changes b.changes [] [] test (changes-fit t words a p) (changes-fit t words b q) (nothing-follows 9 (omega arith)) (nothing-follows 9 (omega arith))
+    (alone (changes_text t words a.changes) (changes_text t words b.changes) (changes-part t words a.changes ∙ (ap each_grouped changes_same ∙ sym (changes-part t words b.changes)))) in
+    let request_same = texts 10 (option_map (printed_request t words) a.request) (option_map (printed_request t words) b.request) (ap (value_at 10) same) in
+    let request = request-cut t words a.request b.request [] [] test p.known.request q.known.request (nothing-follows 6 (omega arith)) (nothing-follows 6 (omega arith))
+    (alone (request_text t words a.request) (request_text t words b.request) (request-part t words a.request ∙ (ap spaced request_same ∙ sym (request-part t words b.request)))) in
+    let wrote_back_same = texts 11 (option_map (line_name t words) a.wrote_back) (option_map (line_name t words) b.wrote_back) (ap (value_at 11) same) in
+    let wrote_back = write-back-cut t words a.wrote_back b.wrote_back [] [] test p.known.wrote_back q.known.wrote_back (nothing-follows 8 (omega arith)) (nothing-follows 8 (omega arith))
+    (alone (write_back_text t words a.wrote_back) (write_back_text t words b.wrote_back)
+    (write-back-part t words a.wrote_back ∙ (ap write_back_of wrote_back_same ∙ sym (write-back-part t words b.wrote_back)))) in (
+      (λ i. record {
+        choice = choice.0 i;
+        outcome = outcome i;
+        entries = entries.0 i;
+        moved = moved.0 i;
+        forwarded = forwarded i;
+        access = access.0 i;
+        request = request.0 i;
+        flushed = flushed.0 i;
+        wrote_back = wrote_back.0 i;
+        changes = changes.0 i;
+        buffer = None;
+      }),
+      ap (value_at 1) same,
+    )
+
+-- ---- its text is read back
+
+pub text-numbers : (o : Option (List ℕ)) → HasNumbers (outline (text_or_null o))
+text-numbers None = tt
+text-numbers (Some text) = tt
+
+pub text-depth : (o : Option (List ℕ)) → depth_of (outline (text_or_null o)) ≤ 0
+text-depth None = omega arith
+text-depth (Some text) = omega arith
+
+list-numbers : {A : Type 0} (print : A → List ℕ) (xs : List A) → ItemsHaveNumbers (items_outline (items_of (map (λ x. string (print x)) xs)))
+list-numbers print [] = tt
+list-numbers print (x ∷ xs) = (tt, list-numbers print xs)
+
+list-depth : {A : Type 0} (print : A → List ℕ) (xs : List A) → items_depth (items_outline (items_of (map (λ x. string (print x)) xs))) ≤ 0
+list-depth print [] = omega arith
+list-depth print (x ∷ xs) = omega (arith, list-depth print xs)
+
+pub words-numbers : (xs : List (List ℕ)) → ItemsHaveNumbers (items_outline (items_of (map string xs)))
+words-numbers [] = tt
+words-numbers (x ∷ xs) = (tt, words-numbers xs)
+
+pub words-depth : (xs : List (List ℕ)) → items_depth (items_outline (items_of (map string xs))) ≤ 0
+words-depth [] = omega arith
+words-depth (x ∷ xs) = omega (arith, words-depth xs)
+
+pub step-numbers : (t : Litmus) (words : ℕ) (s : Shown) (after : Data) → HasNumbers (outline after) → HasNumbers (outline (step_json t words s after))
+step-numbers t words s after numbers = (
+  text-numbers (option_map access_name s.access),
+  (
+    numbers,
+    (
+      tt,
+      (
+        list-numbers (printed_entry t) s.entries,
+        (
+          text-numbers (option_map printed_core s.flushed),
+          (
+            tt,
+            (
+              text-numbers (option_map printed_move s.moved),
+              (
+                tt,
+                (
+                  text-numbers (option_map stall_name (stall_in s.outcome)),
+                  (
+                    words-numbers (map (printed_change t words) s.changes),
+                    (text-numbers (option_map (printed_request t words) s.request), (text-numbers (option_map (line_name t words) s.wrote_back), tt)),
+                  ),
+                ),
+              ),
+            ),
+          ),
+        ),
+      ),
+    ),
+  ),
+)
+
+pub step-depth : (t : Litmus) (words : ℕ) (s : Shown) (after : Data) (levels : ℕ) → 0 < levels → depth_of (outline after) ≤ levels → depth_of (outline (step_json t words s after)) ≤ levels + 1
+step-depth t words s after levels some deep =
+    omega (
+      arith,
+      some,
+      deep,
+      text-depth (option_map access_name s.access),
+      list-depth (printed_entry t) s.entries,
+      text-depth (option_map printed_core s.flushed),
+      text-depth (option_map printed_move s.moved),
+      text-depth (option_map stall_name (stall_in s.outcome)),
+      words-depth (map (printed_change t words) s.changes),
+      text-depth (option_map (printed_request t words) s.request),
+      text-depth (option_map (line_name t words) s.wrote_back),
+    )
+
+pub objects-tell : ObjectsTellTheirSteps
+objects-tell t words a b after other test p q readable readable' e =
+    let deep = step-depth t words a after 100 (omega arith) readable.depth in
+    let deep' = step-depth t words b other 100 (omega arith) readable'.depth in
+    let x = step_json t words a after in
+    let y = step_json t words b other in
+    step-told t words a b after other test p q
+    (value-told x y (step-numbers t words a after readable.numbers) (step-numbers t words b other readable'.numbers) (omega (arith, deep)) (omega (arith, deep')) e)

@@ -1,0 +1,140 @@
+-- The steps of two traces of a test are the same where their choices are, and the JSON value of a trace tells its steps.
+use Rattle.std.proofs.Common.{◌≡◌, ◌∙◌, ℕ, Bool, true, false, if◌then◌else◌, List, [], ◌∷◌, map, length, refl, sym, ap, arith}
+use Rattle.json.specs.Json as json
+use Rattle.serde_json.specs.Data.{Data}
+use Rattle.serde_json.specs.View.{items_of}
+use Rattle.serde_json.specs.Written.{outline, items_outline}
+use Rattle.tso_model.specs.Litmus.{Litmus, IsTest}
+use Rattle.tso_model.specs.Runs.{has_ended, CoresExist}
+use Rattle.tso_model.specs.declared.choice.Choice.{Choice}
+use Rattle.protocol_tables.specs.Tables.{table_of}
+use Rattle.protocol_tables.specs.declared.kind.ProtocolKind.{ProtocolKind}
+use Rattle.machine_core.specs.Configuration.{Configuration, IsConfigurationWithinLimits}
+use Rattle.machine_core.specs.Running.{Running, new_machine, machine_after}
+use Rattle.trace_report.specs.Shown.{Shown}
+use Rattle.trace_report.specs.Steps.{step_of, steps_from, trace_under}
+use Rattle.trace_report.specs.Told.{IsTraced}
+use Rattle.trace_report.proofs.Traced.{traced-first}
+use Rattle.trace_report.proofs.Whole.{traced-next}
+use Rattle.trace_json.specs.MachineJson.{words_in, machine_json}
+use Rattle.trace_json.specs.StepJson.{step_json}
+use Rattle.trace_json.specs.OwnWords.{own_words}
+use Rattle.trace_json.specs.TraceJson.{step_to, steps_json, trace_json}
+use Rattle.printed_laws.specs.Traces.{told_by_object}
+use Rattle.printed_laws.proofs.JsonTexts.{value_at, items_in, first_item, more_items, has_item, uneven}
+use Rattle.printed_laws.proofs.StepsFit.{MachineFits, fits-first, fits-next, step-fits}
+use Rattle.printed_laws.proofs.TraceObjects.{step-told}
+
+-- ---- the choices of steps make them again
+
+abbrev pub choices_of : List Shown → List Choice
+choices_of steps = map (λ s. s.choice) steps
+
+chosen-is : (m : Running) (choice : Choice) → (step_of m choice).choice ≡ choice
+unfolding step_of
+chosen-is m choice = refl
+
+again : (m : Running) (choices : List Choice) → steps_from m (choices_of (steps_from m choices)) ≡ steps_from m choices
+again m [] = refl
+again m (choice ∷ choices) = by_end (has_ended m.test m.state.flat) refl (again (machine_after m choice) choices)
+  where
+    by_end : (ended : Bool) → has_ended m.test m.state.flat ≡ ended → steps_from (machine_after m choice) (choices_of (steps_from (machine_after m choice) choices)) ≡ steps_from (machine_after m choice) choices
+        → steps_from m (choices_of (if ended then [] else step_of m choice ∷ steps_from (machine_after m choice) choices)) ≡ (if ended then [] else step_of m choice ∷ steps_from (machine_after m choice) choices)
+    by_end true is further = refl
+    by_end false is further =
+        let next = machine_after m choice in
+        let later = choices_of (steps_from next choices) in
+        ap (λ (c : Choice). steps_from m (c ∷ later)) (chosen-is m choice)
+        ∙ (ap (λ (b : Bool). if b then [] else step_of m choice ∷ steps_from next later) is ∙ ap (λ (ss : List Shown). step_of m choice ∷ ss) further)
+
+pub same-steps : (t : Litmus) (kind : ProtocolKind) (c : Configuration) (choices other : List Choice) → choices_of (trace_under t kind c choices) ≡ choices_of (trace_under t kind c other)
+    → trace_under t kind c choices ≡ trace_under t kind c other
+same-steps t kind c choices other same =
+    let m = new_machine (table_of kind) c t in
+    sym (again m choices) ∙ (ap (steps_from m) same ∙ again m other)
+
+-- a view of a step that tells its choice
+pub choices-told : (view : Shown → Shown) → ((s : Shown) → (view s).choice ≡ s.choice) → (xs ys : List Shown) → map view xs ≡ map view ys → choices_of xs ≡ choices_of ys
+choices-told view keeps xs ys same = sym (kept xs) ∙ (ap choices_of same ∙ kept ys)
+  where
+    kept : (ss : List Shown) → choices_of (map view ss) ≡ choices_of ss
+    kept [] = refl
+    kept (s ∷ ss) = λ i. keeps s i ∷ kept ss i
+
+-- ---- the steps in a value
+
+-- a step with the machine after it, by the test and the configuration
+as-step : (t : Litmus) (c : Configuration) (s : Shown) (next : Running) (own : List ℕ) → IsTraced t c next → step_to s next own ≡ step_json t c.shape.words s (machine_json next own)
+as-step t c s next own traced =
+    ap (λ (u : Litmus). step_json u (words_in next) s (machine_json next own)) traced.test
+    ∙ ap (λ (x : Configuration). step_json t x.shape.words s (machine_json next own)) traced.config
+
+module _ (t : Litmus) (c : Configuration) (test : IsTest t) (within : IsConfigurationWithinLimits c) where
+  -- a machine on which choices of the test's cores are made
+  record Follows (m : Running) (choices : List Choice) : Type 0 where
+    traced : IsTraced t c m
+    exist : CoresExist (length t.programs) choices
+    fits : MachineFits m
+
+  follows-next : (m : Running) (choice : Choice) (choices : List Choice) → Follows m (choice ∷ choices) → Follows (machine_after m choice) choices
+  follows-next m choice choices f =
+      let few = test.cores in
+      let here = f.exist.0 in
+      record { traced = traced-next t c m choice test f.traced; exist = f.exist.1; fits = fits-next m choice (omega (arith, few, here)) f.fits }
+
+  abbrev Value : Running → List ℕ → List Choice → json.Items
+  Value m own choices = items_outline (items_of (steps_json m own choices))
+
+  first-told : (m n : Running) (x y : Choice) (xs ys : List Choice) (own other : List ℕ) → Follows m (x ∷ xs) → Follows n (y ∷ ys)
+      → outline (step_to (step_of m x) (machine_after m x) own) ≡ outline (step_to (step_of n y) (machine_after n y) other) → told_by_object (step_of m x) ≡ told_by_object (step_of n y)
+  first-told m n x y xs ys own other f g same =
+      let a = as-step t c (step_of m x) (machine_after m x) own (follows-next m x xs f).traced in
+      let b = as-step t c (step_of n y) (machine_after n y) other (follows-next n y ys g).traced in
+      (step-told t c.shape.words (step_of m x) (step_of n y) (machine_json (machine_after m x) own) (machine_json (machine_after n y) other) test
+      (step-fits t c m x test within f.traced f.exist.0 f.fits) (step-fits t c n y test within g.traced g.exist.0 g.fits)
+      (sym (ap outline a) ∙ (same ∙ ap outline b))).0
+
+  abbrev Items : Bool → Data → List Data → json.Items
+  Items ended d ds = items_outline (items_of (if ended then [] else d ∷ ds))
+
+  abbrev Told : Bool → Shown → List Shown → List Shown
+  Told ended s ss = map told_by_object (if ended then [] else s ∷ ss)
+
+  -- of two machines, each of which has ended or goes on
+  either : (a b : Bool) (d e : Data) (ds es : List Data) (s u : Shown) (ss us : List Shown) → (outline d ≡ outline e → told_by_object s ≡ told_by_object u)
+      → (items_outline (items_of ds) ≡ items_outline (items_of es) → map told_by_object ss ≡ map told_by_object us) → Items a d ds ≡ Items b e es → Told a s ss ≡ Told b u us
+  either true true d e ds es s u ss us first further same = refl
+  either true false d e ds es s u ss us first further same = uneven (sym (ap has_item same))
+  either false true d e ds es s u ss us first further same = uneven (ap has_item same)
+  either false false d e ds es s u ss us first further same = λ i. first (ap first_item same) i ∷ further (ap more_items same) i
+
+  -- nothing, and a machine that has ended or goes on
+  nothing : (b : Bool) (e : Data) (es : List Data) (u : Shown) (us : List Shown) → json.no_items ≡ Items b e es → [] ≡ Told b u us
+  nothing true e es u us same = refl
+  nothing false e es u us same = uneven (sym (ap has_item same))
+
+  steps-told : (m n : Running) (own other : List ℕ) (xs ys : List Choice) → Follows m xs → Follows n ys → Value m own xs ≡ Value n other ys
+      → map told_by_object (steps_from m xs) ≡ map told_by_object (steps_from n ys)
+  steps-told m n own other [] [] f g same = refl
+  steps-told m n own other [] (y ∷ ys) f g same =
+      let next = machine_after n y in
+      nothing (has_ended n.test n.state.flat) (step_to (step_of n y) next (own_words next other)) (steps_json next (own_words next other) ys) (step_of n y) (steps_from next ys) same
+  steps-told m n own other (x ∷ xs) [] f g same =
+      let next = machine_after m x in
+      sym (nothing (has_ended m.test m.state.flat) (step_to (step_of m x) next (own_words next own)) (steps_json next (own_words next own) xs) (step_of m x) (steps_from next xs) (sym same))
+  steps-told m n own other (x ∷ xs) (y ∷ ys) f g same =
+      let p = machine_after m x in
+      let q = machine_after n y in
+      either (has_ended m.test m.state.flat) (has_ended n.test n.state.flat) (step_to (step_of m x) p (own_words p own)) (step_to (step_of n y) q (own_words q other))
+      (steps_json p (own_words p own) xs) (steps_json q (own_words q other) ys) (step_of m x) (step_of n y) (steps_from p xs) (steps_from q ys)
+      (first-told m n x y xs ys (own_words p own) (own_words q other) f g)
+      (steps-told p q (own_words p own) (own_words q other) xs ys (follows-next m x xs f) (follows-next n y ys g)) same
+
+  pub trace-told : (kind : ProtocolKind) (xs ys : List Choice) → CoresExist (length t.programs) xs → CoresExist (length t.programs) ys
+      → outline (trace_json t kind c xs) ≡ outline (trace_json t kind c ys) → map told_by_object (trace_under t kind c xs) ≡ map told_by_object (trace_under t kind c ys)
+  trace-told kind xs ys exist exist' same =
+      let m = new_machine (table_of kind) c t in
+      let first = traced-first (table_of kind) c t in
+      let fits = fits-first (table_of kind) c t test in
+      steps-told m m t.words t.words xs ys (record { traced = first; exist = exist; fits = fits }) (record { traced = first; exist = exist'; fits = fits })
+      (ap (λ (j : json.Json). items_in (value_at 1 j)) same)
