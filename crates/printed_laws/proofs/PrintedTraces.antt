@@ -31,7 +31,7 @@ use Rattle.simulator.specs.Runs.{run_under, counts_under}
 use Rattle.tso_cli.specs.Fitting.{FitsTest, shown_under, EndedRunsFit, ChoicesAreCounted}
 use Rattle.printed_laws.specs.OfRuns.{PrintedRunsAreTold}
 use Rattle.printed_laws.specs.Telling.{ReportsTellTheirMachines}
-use Rattle.printed_laws.specs.Traces.{told_by_line, told_by_object, PrintedTracesAreTold, PrintedTracesNameTheSame}
+use Rattle.printed_laws.specs.Traces.{told_by_line, told_by_object, TraceValuesTellTheirSteps, PrintedTracesAreTold, PrintedTracesNameTheSame}
 use Rattle.printed_laws.proofs.Heads.{head-cut}
 use Rattle.printed_laws.proofs.JsonNumbers.{run-numbers, run-depth}
 use Rattle.printed_laws.proofs.JsonTexts.{value-told, value_at}
@@ -200,8 +200,18 @@ objects-told runs fits counted t kind c choices other test within p q same =
     record {
       run = runs t kind c true choices other test within p.few q.few p.answers q.answers told.0;
       steps = same-steps t kind c choices other
-          (choices-told told_by_object (λ s. refl) (trace_under t kind c choices) (trace_under t kind c other) (trace-told t c test within kind choices other p.exist q.exist told.1));
+          (choices-told told_by_object (λ s. refl) (trace_under t kind c choices) (trace_under t kind c other) (trace-told t c c test refl kind kind choices other within within p.exist q.exist told.1));
     }
+
+pub values-told : TraceValuesTellTheirSteps
+values-told t kind other_kind c d choices other test within within' words exist exist' same =
+    let a = trace_json t kind c choices in
+    let b = trace_json t other_kind d other in
+    let p = trace-readable t kind c choices test exist in
+    let q = trace-readable t other_kind d other test exist' in
+    let deep = p.depth in
+    let deep' = q.depth in
+    trace-told t c d test (sym words) kind other_kind choices other within within' exist exist' (value-told a b p.numbers q.numbers (omega (arith, deep)) (omega (arith, deep')) same)
 
 pub objects-named : ReportsTellTheirMachines true → EndedRunsFit → PrintedTracesNameTheSame true
 objects-named names fits t u kind other_kind c d choices other test test' within within' p q ended same =

@@ -1,5 +1,5 @@
 -- The steps of two traces of a test are the same where their choices are, and the JSON value of a trace tells its steps.
-use Rattle.std.proofs.Common.{◌≡◌, ◌∙◌, ℕ, Bool, true, false, if◌then◌else◌, List, [], ◌∷◌, map, length, refl, sym, ap, arith}
+use Rattle.std.proofs.Common.{◌≡◌, ◌∙◌, ℕ, Bool, true, false, if◌then◌else◌, List, [], ◌∷◌, map, length, refl, sym, ap, subst, arith}
 use Rattle.json.specs.Json as json
 use Rattle.serde_json.specs.Data.{Data}
 use Rattle.serde_json.specs.View.{items_of}
@@ -20,7 +20,7 @@ use Rattle.trace_json.specs.MachineJson.{words_in, machine_json}
 use Rattle.trace_json.specs.StepJson.{step_json}
 use Rattle.trace_json.specs.OwnWords.{own_words}
 use Rattle.trace_json.specs.TraceJson.{step_to, steps_json, trace_json}
-use Rattle.printed_laws.specs.Traces.{told_by_object}
+use Rattle.printed_laws.specs.Traces.{told_by_object, StepFits}
 use Rattle.printed_laws.proofs.JsonTexts.{value_at, items_in, first_item, more_items, has_item, uneven}
 use Rattle.printed_laws.proofs.StepsFit.{MachineFits, fits-first, fits-next, step-fits}
 use Rattle.printed_laws.proofs.TraceObjects.{step-told}
@@ -69,30 +69,37 @@ as-step t c s next own traced =
     ap (λ (u : Litmus). step_json u (words_in next) s (machine_json next own)) traced.test
     ∙ ap (λ (x : Configuration). step_json t x.shape.words s (machine_json next own)) traced.config
 
-module _ (t : Litmus) (c : Configuration) (test : IsTest t) (within : IsConfigurationWithinLimits c) where
-  -- a machine on which choices of the test's cores are made
-  record Follows (m : Running) (choices : List Choice) : Type 0 where
-    traced : IsTraced t c m
-    exist : CoresExist (length t.programs) choices
-    fits : MachineFits m
+-- a machine on which choices of the test's cores are made
+record Makes (t : Litmus) (c : Configuration) (m : Running) (choices : List Choice) : Type 0 where
+  within : IsConfigurationWithinLimits c
+  traced : IsTraced t c m
+  exist : CoresExist (length t.programs) choices
+  fits : MachineFits m
 
-  follows-next : (m : Running) (choice : Choice) (choices : List Choice) → Follows m (choice ∷ choices) → Follows (machine_after m choice) choices
-  follows-next m choice choices f =
+module _ (t : Litmus) (c d : Configuration) (test : IsTest t) (words : d.shape.words ≡ c.shape.words) where
+  makes-next : (x : Configuration) (m : Running) (choice : Choice) (choices : List Choice) → Makes t x m (choice ∷ choices) → Makes t x (machine_after m choice) choices
+  makes-next x m choice choices f =
       let few = test.cores in
       let here = f.exist.0 in
-      record { traced = traced-next t c m choice test f.traced; exist = f.exist.1; fits = fits-next m choice (omega (arith, few, here)) f.fits }
+      record {
+        within = f.within;
+        traced = traced-next t x m choice test f.traced;
+        exist = f.exist.1;
+        fits = fits-next m choice (omega (arith, few, here)) f.fits;
+      }
 
   abbrev Value : Running → List ℕ → List Choice → json.Items
   Value m own choices = items_outline (items_of (steps_json m own choices))
 
-  first-told : (m n : Running) (x y : Choice) (xs ys : List Choice) (own other : List ℕ) → Follows m (x ∷ xs) → Follows n (y ∷ ys)
+  first-told : (m n : Running) (x y : Choice) (xs ys : List Choice) (own other : List ℕ) → Makes t c m (x ∷ xs) → Makes t d n (y ∷ ys)
       → outline (step_to (step_of m x) (machine_after m x) own) ≡ outline (step_to (step_of n y) (machine_after n y) other) → told_by_object (step_of m x) ≡ told_by_object (step_of n y)
   first-told m n x y xs ys own other f g same =
-      let a = as-step t c (step_of m x) (machine_after m x) own (follows-next m x xs f).traced in
-      let b = as-step t c (step_of n y) (machine_after n y) other (follows-next n y ys g).traced in
-      (step-told t c.shape.words (step_of m x) (step_of n y) (machine_json (machine_after m x) own) (machine_json (machine_after n y) other) test
-      (step-fits t c m x test within f.traced f.exist.0 f.fits) (step-fits t c n y test within g.traced g.exist.0 g.fits)
-      (sym (ap outline a) ∙ (same ∙ ap outline b))).0
+      let after = machine_json (machine_after m x) own in
+      let after' = machine_json (machine_after n y) other in
+      let a = as-step t c (step_of m x) (machine_after m x) own (makes-next c m x xs f).traced in
+      let b = as-step t d (step_of n y) (machine_after n y) other (makes-next d n y ys g).traced ∙ ap (λ (k : ℕ). step_json t k (step_of n y) after') words in
+      let fits = subst (λ (k : ℕ). StepFits t k (step_of n y)) words (step-fits t d n y test g.within g.traced g.exist.0 g.fits) in
+      (step-told t c.shape.words (step_of m x) (step_of n y) after after' test (step-fits t c m x test f.within f.traced f.exist.0 f.fits) fits (sym (ap outline a) ∙ (same ∙ ap outline b))).0
 
   abbrev Items : Bool → Data → List Data → json.Items
   Items ended d ds = items_outline (items_of (if ended then [] else d ∷ ds))
@@ -113,7 +120,7 @@ module _ (t : Litmus) (c : Configuration) (test : IsTest t) (within : IsConfigur
   nothing true e es u us same = refl
   nothing false e es u us same = uneven (sym (ap has_item same))
 
-  steps-told : (m n : Running) (own other : List ℕ) (xs ys : List Choice) → Follows m xs → Follows n ys → Value m own xs ≡ Value n other ys
+  steps-told : (m n : Running) (own other : List ℕ) (xs ys : List Choice) → Makes t c m xs → Makes t d n ys → Value m own xs ≡ Value n other ys
       → map told_by_object (steps_from m xs) ≡ map told_by_object (steps_from n ys)
   steps-told m n own other [] [] f g same = refl
   steps-told m n own other [] (y ∷ ys) f g same =
@@ -128,13 +135,14 @@ module _ (t : Litmus) (c : Configuration) (test : IsTest t) (within : IsConfigur
       either (has_ended m.test m.state.flat) (has_ended n.test n.state.flat) (step_to (step_of m x) p (own_words p own)) (step_to (step_of n y) q (own_words q other))
       (steps_json p (own_words p own) xs) (steps_json q (own_words q other) ys) (step_of m x) (step_of n y) (steps_from p xs) (steps_from q ys)
       (first-told m n x y xs ys (own_words p own) (own_words q other) f g)
-      (steps-told p q (own_words p own) (own_words q other) xs ys (follows-next m x xs f) (follows-next n y ys g)) same
+      (steps-told p q (own_words p own) (own_words q other) xs ys (makes-next c m x xs f) (makes-next d n y ys g)) same
 
-  pub trace-told : (kind : ProtocolKind) (xs ys : List Choice) → CoresExist (length t.programs) xs → CoresExist (length t.programs) ys
-      → outline (trace_json t kind c xs) ≡ outline (trace_json t kind c ys) → map told_by_object (trace_under t kind c xs) ≡ map told_by_object (trace_under t kind c ys)
-  trace-told kind xs ys exist exist' same =
+  pub trace-told : (kind other_kind : ProtocolKind) (xs ys : List Choice) → IsConfigurationWithinLimits c → IsConfigurationWithinLimits d → CoresExist (length t.programs) xs → CoresExist (length t.programs) ys
+      → outline (trace_json t kind c xs) ≡ outline (trace_json t other_kind d ys) → map told_by_object (trace_under t kind c xs) ≡ map told_by_object (trace_under t other_kind d ys)
+  trace-told kind other_kind xs ys within within' exist exist' same =
       let m = new_machine (table_of kind) c t in
-      let first = traced-first (table_of kind) c t in
-      let fits = fits-first (table_of kind) c t test in
-      steps-told m m t.words t.words xs ys (record { traced = first; exist = exist; fits = fits }) (record { traced = first; exist = exist'; fits = fits })
+      let n = new_machine (table_of other_kind) d t in
+      steps-told m n t.words t.words xs ys
+      (record { within = within; traced = traced-first (table_of kind) c t; exist = exist; fits = fits-first (table_of kind) c t test })
+      (record { within = within'; traced = traced-first (table_of other_kind) d t; exist = exist'; fits = fits-first (table_of other_kind) d t test })
       (ap (λ (j : json.Json). items_in (value_at 1 j)) same)

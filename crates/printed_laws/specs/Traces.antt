@@ -21,6 +21,7 @@ use Rattle.trace_report.specs.Lines.{trace_text}
 use Rattle.trace_report.specs.Shown.{Shown}
 use Rattle.trace_report.specs.Steps.{trace_under}
 use Rattle.trace_json.specs.StepJson.{step_json}
+use Rattle.trace_json.specs.TraceJson.{trace_json}
 use Rattle.commands.specs.Trace.{traced_in}
 use Rattle.simulator.specs.Runs.{run_under, AnswersFit}
 use Rattle.printed_laws.specs.OfRuns.{LeaveTheSame}
@@ -99,6 +100,15 @@ ObjectsTellTheirSteps =
     → (told_by_object s ≡ told_by_object other) × (outline after ≡ outline other_after)
 
 -- ---- of runs
+
+-- the JSON value of a trace tells its steps, also under another protocol and on another machine whose lines have as many words
+abbrev pub TraceValuesTellTheirSteps : Type 0
+TraceValuesTellTheirSteps =
+    (t : Litmus) (kind other_kind : ProtocolKind) (c d : Configuration) (choices other : List Choice)
+    → IsTest t → IsConfigurationWithinLimits c → IsConfigurationWithinLimits d → c.shape.words ≡ d.shape.words
+    → CoresExist (length t.programs) choices → CoresExist (length t.programs) other
+    → compact_text (trace_json t kind c choices) ≡ compact_text (trace_json t other_kind d other)
+    → map told_by_object (trace_under t kind c choices) ≡ map told_by_object (trace_under t other_kind d other)
 
 -- the steps of a trace of the test fit the test
 abbrev pub TracedStepsFit : Type 0

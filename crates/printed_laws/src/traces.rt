@@ -1,20 +1,21 @@
 //! What `trace` prints tells what each choice did, line by line and as JSON.
 
 ghost use Rattle.std.specs.Prelude.{true, false};
-ghost use Rattle.printed_laws.specs.Traces.{TracesTellTheirSteps, ObjectsTellTheirSteps, TracedStepsFit};
-ghost use Rattle.printed_laws.specs.Traces.{PrintedTracesAreTold, PrintedTracesNameTheSame};
+ghost use Rattle.printed_laws.specs.Traces.{TracesTellTheirSteps, ObjectsTellTheirSteps, TraceValuesTellTheirSteps};
+ghost use Rattle.printed_laws.specs.Traces.{TracedStepsFit, PrintedTracesAreTold, PrintedTracesNameTheSame};
 
 use crate::{printed_runs_are_told, reports_tell_their_machines};
 use tso_cli::laws::runs_fit_their_tests;
 
-/// The lines of a trace tell its steps, and the object of a step tells the step: the choice and its outcome, with the reason of
-/// a stall; the entries; the register and its value; whether the core's own stores answered; the access, the request and its
-/// line; whose copy went to memory; the line that was written back; and each line whose state changed, with both states. A line
-/// also tells the location and the value of each store that is pending, where that changed; an object tells the machine after
-/// the step.
+/// The lines of a trace tell its steps, the object of a step tells the step, and the JSON value of a trace its steps: the choice
+/// and its outcome, with the reason of a stall; the entries; the register and its value; whether the core's own stores answered;
+/// the access, the request and its line; whose copy went to memory; the line that was written back; and each line whose state
+/// changed, with both states. A line also tells the location and the value of each store that is pending, where that changed; an
+/// object tells the value of the machine after the step.
 pub fn traces_tell_their_steps()
     ensures lines { TracesTellTheirSteps }
-    ensures json { ObjectsTellTheirSteps }
+    ensures object { ObjectsTellTheirSteps }
+    ensures json { TraceValuesTellTheirSteps }
 {}
 
 /// Each step that `trace` tells of a run fits the run's test: it names lines and locations of the test, and its numbers are those

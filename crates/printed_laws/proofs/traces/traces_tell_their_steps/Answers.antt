@@ -1,3 +1,4 @@
+use Rattle.printed_laws.proofs.PrintedTraces.{values-told}
 use Rattle.printed_laws.proofs.TraceLines.{lines-tell}
 use Rattle.printed_laws.proofs.TraceObjects.{objects-tell}
 use Rattle.printed_laws.proofs.traces.traces_tell_their_steps.Goals as goal
@@ -5,5 +6,8 @@ use Rattle.printed_laws.proofs.traces.traces_tell_their_steps.Goals as goal
 pub returns-clause-lines : goal.returns-clause-lines
 returns-clause-lines c = lines-tell
 
+pub returns-clause-object : goal.returns-clause-object
+returns-clause-object c = objects-tell
+
 pub returns-clause-json : goal.returns-clause-json
-returns-clause-json c = objects-tell
+returns-clause-json c = values-told
