@@ -27,3 +27,4 @@ pub mod StepsFit
 pub mod TraceNumbers
 pub mod TraceRuns
 pub mod PrintedTraces
+pub mod MachineValues

@@ -77,7 +77,7 @@ later-end : (t : Litmus) (es : List Entry) (rest : List ℕ) → Ends (later_sto
 later-end t [] rest = refl
 later-end t (e ∷ es) rest = refl
 
-same-store : (x y : Entry) → x.loc.0 ≡ y.loc.0 → x.value ≡ y.value → bare_store x ≡ bare_store y
+pub same-store : (x y : Entry) → x.loc.0 ≡ y.loc.0 → x.value ≡ y.value → bare_store x ≡ bare_store y
 same-store x y loc value =
     let locs = same-loc x.loc y.loc loc in
     λ i. bare_store (record { core = x.core; place = x.place; kind = x.kind; loc = locs i; value = value i })

@@ -47,7 +47,7 @@ option-told : (a b : Option (List ℕ)) → outline (text_or_null a) ≡ outline
 option-told a b e = sym (text-there a) ∙ (ap text_of e ∙ text-there b)
 
 -- the texts of a list
-abbrev texts_of : json.Items → List (List ℕ)
+abbrev pub texts_of : json.Items → List (List ℕ)
 texts_of json.no_items = []
 texts_of (json.item j js) = text_in j ∷ texts_of js
 
@@ -55,7 +55,7 @@ texts-there : {A : Type 0} (print : A → List ℕ) (xs : List A) → texts_of (
 texts-there print [] = refl
 texts-there print (x ∷ xs) = ap (λ (l : List (List ℕ)). print x ∷ l) (texts-there print xs)
 
-words-there : (xs : List (List ℕ)) → texts_of (items_outline (items_of (map string xs))) ≡ xs
+pub words-there : (xs : List (List ℕ)) → texts_of (items_outline (items_of (map string xs))) ≡ xs
 words-there [] = refl
 words-there (x ∷ xs) = ap (λ (l : List (List ℕ)). x ∷ l) (words-there xs)
 

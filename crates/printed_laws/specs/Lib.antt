@@ -3,3 +3,4 @@ pub mod OfRuns
 pub mod Outcomes
 pub mod Observed
 pub mod Traces
+pub mod TracedMachines

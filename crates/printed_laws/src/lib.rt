@@ -20,7 +20,7 @@ pub use outcomes::{
 };
 pub use traces::{
     printed_traces_are_told, printed_traces_tell_their_machines, traced_steps_fit_their_test,
-    traces_tell_their_steps,
+    traces_tell_their_steps, values_of_machines_tell_them,
 };
 use tso_cli::laws::runs_fit_their_tests;
 use tso_report::laws::{report_spells_its_order, reports_are_short};

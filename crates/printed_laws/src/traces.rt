@@ -2,6 +2,7 @@
 
 ghost use Rattle.std.specs.Prelude.{true, false};
 ghost use Rattle.printed_laws.specs.Traces.{TracesTellTheirSteps, ObjectsTellTheirSteps, TraceValuesTellTheirSteps};
+ghost use Rattle.printed_laws.specs.TracedMachines.{MachinesAreTold};
 ghost use Rattle.printed_laws.specs.Traces.{TracedStepsFit, PrintedTracesAreTold, PrintedTracesNameTheSame};
 
 use crate::{printed_runs_are_told, reports_tell_their_machines};
@@ -16,6 +17,12 @@ pub fn traces_tell_their_steps()
     ensures lines { TracesTellTheirSteps }
     ensures object { ObjectsTellTheirSteps }
     ensures json { TraceValuesTellTheirSteps }
+{}
+
+/// The JSON value of a machine, as it stands in a trace before the first choice and after each step, tells of each core its place,
+/// its registers, and the location and the value of each pending store, and of memory its own words and those that a program sees.
+pub fn values_of_machines_tell_them()
+    ensures { MachinesAreTold }
 {}
 
 /// Each step that `trace` tells of a run fits the run's test: it names lines and locations of the test, and its numbers are those
