@@ -1,6 +1,7 @@
 -- The JSON value of a machine tells its cores and its memory.
-use Rattle.std.proofs.Common.{◌≡◌, ◌∙◌, ℕ, zero, suc, ◌+◌, ◌^◌, ◌<◌, ◌≤◌, List, [], ◌∷◌, ◌++◌, map, length, get_or, drop, All, refl, sym, ap, subst, arith}
+use Rattle.std.proofs.Common.{◌≡◌, ◌∙◌, ℕ, zero, suc, ◌+◌, ◌/◌, ◌==◌, ◌<◌, Bool, true, false, if◌then◌else◌, Option, Some, None, IfSome, List, [], ◌∷◌, ◌++◌, map, length, get_or, take, drop, All, refl, sym, ap, subst, arith}
 use Rattle.std.specs.Prelude.{codes}
+use Rattle.std.specs.Option.{option_map}
 use Rattle.std.specs.Fmt.{decimal}
 use Rattle.std.proofs.lemmas.Fmt.{decimal_injective}
 use Rattle.std.proofs.lemmas.List.{append-nil}
@@ -8,7 +9,7 @@ use Rattle.std.proofs.lemmas.List.Elements.{All-head, All-tail}
 use Rattle.json.specs.Json as json
 use Rattle.serde_json.specs.Data.{Data, array}
 use Rattle.serde_json.specs.View.{items_of}
-use Rattle.serde_json.specs.Written.{outline, items_outline, members_outline}
+use Rattle.serde_json.specs.Written.{outline, items_outline}
 use Rattle.tso_model.specs.Litmus.{Litmus, IsTest}
 use Rattle.tso_model.specs.FlatMachine.{CoreState, core_of, chosen}
 use Rattle.tso_model.specs.Registers.{IsWord, index_of}
@@ -19,27 +20,35 @@ use Rattle.tso_model.specs.declared.execution.Entry.{Entry}
 use Rattle.tso_model.specs.declared.register.Reg.{Reg}
 use Rattle.tso_model.specs.declared.register.Reg.TheVariants.{Eax, Ebx, Ecx, Edx, Esi, Edi}
 use Rattle.protocol_tables.specs.Tables.{table_of}
+use Rattle.protocol_tables.specs.declared.requests.Transient.{Transient}
+use Rattle.protocol_tables.specs.declared.requests.Transient.TheVariants.{IsD, ImD, SmD}
+use Rattle.snoop_bus.specs.declared.looking.CachedLine.{CachedLine}
+use Rattle.machine_core.specs.Looking.{bus_holder_of}
+use Rattle.machine_core.specs.declared.looking.BusHolder.{BusHolder}
 use Rattle.machine_core.specs.Configuration.{Configuration}
 use Rattle.machine_core.specs.Running.{Running, new_machine, machine_after}
-use Rattle.tso_report.specs.Json.{registers_value, memory_value, memory_members}
-use Rattle.trace_report.specs.Lines.{store_text}
+use Rattle.tso_report.specs.Json.{count, registers_value, memory_value}
+use Rattle.trace_report.specs.Lines.{names_in_line, line_name, store_text, transient_name}
 use Rattle.trace_report.specs.StepLaws.{after_choices}
+use Rattle.trace_report.specs.Steps.{line_state}
 use Rattle.trace_report.specs.Told.{IsTraced}
+use Rattle.trace_report.specs.declared.step.LineState.{LineState}
 use Rattle.trace_report.proofs.Traced.{traced-first}
 use Rattle.trace_report.proofs.Whole.{traced-next}
 use Rattle.trace_json.specs.Values.{texts}
-use Rattle.trace_json.specs.MachineJson.{sets_json, core_with, core_json, cores_json, machine_json}
+use Rattle.trace_json.specs.MachineJson.{words_in, copy_json, copies_in, sets_json, words_in_line, kept_words, bus_json, core_with, core_json, cores_json, machine_json}
 use Rattle.trace_json.proofs.Tracing.{each-after}
 use Rattle.printed_laws.specs.Traces.{bare_store}
-use Rattle.printed_laws.specs.TracedMachines.{ShowTheSameMachine, AreWordsOf, MachinesAreTold}
+use Rattle.printed_laws.specs.TracedMachines.{copy_shown, copies_shown, holder_shown, ShowTheSameMachine, AreWordsOf, MachinesAreTold}
 use Rattle.printed_laws.proofs.JsonMemory.{memory-told}
-use Rattle.printed_laws.proofs.JsonTexts.{value-told, members_in, items_in, value_at, text_at, first_item, more_items}
+use Rattle.printed_laws.proofs.JsonTexts.{value-told, members_in, items_in, text_in, value_at, text_at, first_item, more_items, uneven}
 use Rattle.printed_laws.proofs.MachinesFit.{word-at, PendingFits, CoreFits}
 use Rattle.printed_laws.proofs.StepsFit.{MachineFits, fits-first, fits-next}
-use Rattle.printed_laws.proofs.TraceLines.{same-store}
-use Rattle.printed_laws.proofs.TraceNumbers.{machine-readable}
-use Rattle.printed_laws.proofs.TraceObjects.{texts_of, words-there}
-use Rattle.printed_laws.proofs.TraceWords.{value-cut}
+use Rattle.printed_laws.proofs.TraceLines.{core-small, same-store}
+use Rattle.printed_laws.proofs.TraceNumbers.{holder-small, machine-readable}
+use Rattle.printed_laws.proofs.TraceObjects.{texts_of, words-there, option-told}
+use Rattle.printed_laws.proofs.TraceParts.{read_state, state-again}
+use Rattle.printed_laws.proofs.TraceWords.{value-cut, choice-cut}
 
 -- ---- a core
 
@@ -90,6 +99,82 @@ core-told t lines others s u test p q same =
     by_register told Edx = told Edx (ap (λ (j : json.Json). text_at 4 (value_at 3 j)) same)
     by_register told Esi = told Esi (ap (λ (j : json.Json). text_at 5 (value_at 3 j)) same)
     by_register told Edi = told Edi (ap (λ (j : json.Json). text_at 3 (value_at 3 j)) same)
+
+-- ---- the copies in its cache
+
+-- the digits of numbers
+abbrev digits_in : json.Items → List (List ℕ)
+digits_in json.no_items = []
+digits_in (json.item j js) = text_in j ∷ digits_in js
+
+digits-there : (numbers : List ℕ) → digits_in (items_outline (items_of (map count numbers))) ≡ map decimal numbers
+digits-there [] = refl
+digits-there (n ∷ ns) = ap (λ (l : List (List ℕ)). decimal n ∷ l) (digits-there ns)
+
+abbrev Shown : Type 0
+Shown = List ℕ × LineState × List (List ℕ)
+
+-- what a copy's value shows, a set's, and those of all sets
+abbrev copy_in : json.Json → Shown
+copy_in j = (text_at 0 j, read_state (text_at 1 j), digits_in (items_in (value_at 2 j)))
+
+abbrev set_in : json.Items → List Shown
+set_in json.no_items = []
+set_in (json.item j js) = copy_in j ∷ set_in js
+
+abbrev sets_in : json.Items → List (List Shown)
+sets_in json.no_items = []
+sets_in (json.item j js) = set_in (items_in j) ∷ sets_in js
+
+set-there : (m : Running) (core : ℕ) (copies : List CachedLine) → set_in (items_outline (items_of (map (copy_json m core) copies))) ≡ map (copy_shown m core) copies
+set-there m core [] = refl
+set-there m core (c ∷ cs) =
+    let state = state-again (line_state m core c.line) in
+    let words = digits-there (take (length (names_in_line m.test.locations (words_in m) c.line)) c.words) in
+    let further = set-there m core cs in
+    λ i. (line_name m.test (words_in m) c.line, state i, words i) ∷ further i
+
+sets-there : (m : Running) (core set count : ℕ) → sets_in (items_outline (items_of (sets_json m core set count))) ≡ copies_shown m core set count
+sets-there m core set zero = refl
+sets-there m core set (suc rest) =
+    let first = set-there m core (copies_in m core set) in
+    let further = sets-there m core (set + 1) rest in
+    λ i. first i ∷ further i
+
+-- ---- the bus
+
+abbrev read_transient : List ℕ → Transient
+read_transient text = if get_or text 0 0 == 83 then SmD else if get_or text 1 0 == 83 then IsD else ImD
+
+transient-again : (x : Transient) → read_transient (transient_name x) ≡ x
+transient-again IsD = refl
+transient-again ImD = refl
+transient-again SmD = refl
+
+transient-told : (a b : Option Transient) → option_map transient_name a ≡ option_map transient_name b → a ≡ b
+transient-told a b same = sym (there a) ∙ (ap (option_map read_transient) same ∙ there b)
+  where
+    there : (o : Option Transient) → option_map read_transient (option_map transient_name o) ≡ o
+    there None = refl
+    there (Some x) = ap Some (transient-again x)
+
+abbrev is_object : json.Json → Bool
+is_object (json.object ms) = true
+is_object _ = false
+
+bus-told : (m n : Running) (h k : Option BusHolder) → IfSome h (λ b. chosen b.choice < 256) → IfSome k (λ b. chosen b.choice < 256) → outline (bus_json m h) ≡ outline (bus_json n k)
+    → option_map (holder_shown m) h ≡ option_map (holder_shown n) k
+bus-told m n None None p q same = refl
+bus-told m n None (Some k) p q same = uneven (sym (ap is_object same))
+bus-told m n (Some h) None p q same = uneven (ap is_object same)
+bus-told m n (Some h) (Some k) p q same =
+    let choice = choice-cut h.choice k.choice [] [] (core-small m.test 1 h.choice p) (core-small m.test 1 k.choice q) (ap (λ (j : json.Json). text_at 0 j ++ []) same) in
+    let state = transient-told h.transient k.transient (option-told (option_map transient_name h.transient) (option_map transient_name k.transient) (ap (value_at 3) same)) in
+    let line : line_name m.test (words_in m) (h.loc.0 / words_in m) ≡ line_name n.test (words_in n) (k.loc.0 / words_in n) = ap (text_at 2) same in
+    let kept = λ (x : Running) (b : BusHolder). kept_words b.transient (words_in_line (words_in x) x.state.flat.memory (b.loc.0 / words_in x)) in
+    let words : map decimal (kept m h) ≡ map decimal (kept n k) =
+    sym (digits-there (kept m h)) ∙ (ap (λ (j : json.Json). digits_in (items_in (value_at 4 j))) same ∙ digits-there (kept n k)) in
+    λ i. Some (choice.0 i, line i, state i, words i)
 
 -- ---- the cores
 
@@ -150,7 +235,14 @@ machine-told t c d m n own other test f g p q same =
     let y = ap (λ (u : Litmus). outline (core-value u (lines n k) (core_of n.state.flat k))) g.traced.test in
     core-told t (lines m k) (lines n k) (core_of m.state.flat k) (core_of n.state.flat k) test (subst (λ (u : Litmus). CoreFits u (core_of m.state.flat k)) f.traced.test (f.fits.cores k))
     (subst (λ (u : Litmus). CoreFits u (core_of n.state.flat k)) g.traced.test (g.fits.cores k)) (sym x ∙ (values ∙ y)) in
+    let copies : (k : ℕ) → k < length t.programs → copies_shown m k 0 m.statistics.caches.shape.sets ≡ copies_shown n k 0 n.statistics.caches.shape.sets = λ k small.
+    let zero_plus : 0 + k ≡ k = omega arith in
+    let values = subst (λ (i : ℕ). outline (core_json m i) ≡ outline (core_json n i)) zero_plus (each-core m n 0 (length t.programs) k cores small) in
+    sym (sets-there m k 0 m.statistics.caches.shape.sets) ∙ (ap (λ (j : json.Json). sets_in (items_in (value_at 1 j))) values ∙ sets-there n k 0 n.statistics.caches.shape.sets) in
     record {
+      bus = bus-told m n (bus_holder_of m) (bus_holder_of n) (holder-small m.test m m.state.holder m.statistics.caches.awaited f.fits.holder)
+          (holder-small n.test n n.state.holder n.statistics.caches.awaited g.fits.holder) (ap (value_at 0) same);
+      copies = copies;
       places = λ k small. (core k small).place;
       registers = λ k small. (core k small).registers;
       buffers = λ k small. (core k small).buffer;

@@ -182,7 +182,7 @@ module _ (m : Running) (memory : All IsWord m.state.flat.memory) where
 
 -- ---- the bus
 
-holder-small : (t : Litmus) (m : Running) (h : Holder) (awaited : Option Awaited) → HolderFits t h → IfSome (bus_holder_as m.test m.depth m.state.flat awaited h) (λ b. chosen b.choice < 256)
+pub holder-small : (t : Litmus) (m : Running) (h : Holder) (awaited : Option Awaited) → HolderFits t h → IfSome (bus_holder_as m.test m.depth m.state.flat awaited h) (λ b. chosen b.choice < 256)
 holder-small t m Free awaited fits = tt
 holder-small t m (HeldBetween e) awaited fits = fits.0
 holder-small t m (HeldBy choice) awaited fits = at (access_of m.test m.depth m.state.flat choice)

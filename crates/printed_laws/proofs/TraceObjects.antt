@@ -43,7 +43,7 @@ text-there : (o : Option (List ℕ)) → text_of (outline (text_or_null o)) ≡ 
 text-there None = refl
 text-there (Some text) = refl
 
-option-told : (a b : Option (List ℕ)) → outline (text_or_null a) ≡ outline (text_or_null b) → a ≡ b
+pub option-told : (a b : Option (List ℕ)) → outline (text_or_null a) ≡ outline (text_or_null b) → a ≡ b
 option-told a b e = sym (text-there a) ∙ (ap text_of e ∙ text-there b)
 
 -- the texts of a list

@@ -280,7 +280,7 @@ write-back-cut t words (Some a) (Some b) rest other test p q f f' e =
 
 -- ---- the lines whose states changed
 
-abbrev read_state : List ℕ → LineState
+abbrev pub read_state : List ℕ → LineState
 read_state text =
     let first = get_or text 0 0 in
     let second = get_or text 1 0 in
@@ -302,7 +302,7 @@ state-plain (state.Transient IsD) = refl
 state-plain (state.Transient ImD) = refl
 state-plain (state.Transient SmD) = refl
 
-state-again : (s : LineState) → read_state (state_name s) ≡ s
+pub state-again : (s : LineState) → read_state (state_name s) ≡ s
 state-again (state.Stable tag.I) = refl
 state-again (state.Stable tag.S) = refl
 state-again (state.Stable tag.E) = refl

@@ -1,5 +1,7 @@
 -- What the JSON value of a machine tells, as it stands in a trace before the first choice and after each step.
-use Rattle.std.specs.Prelude.{ℕ, ◌≡◌, ◌<◌, List, map, length, All}
+use Rattle.std.specs.Prelude.{ℕ, zero, suc, ◌+◌, ◌/◌, ◌≡◌, ◌<◌, List, [], ◌∷◌, map, length, take, All, Option}
+use Rattle.std.specs.Fmt.{decimal}
+use Rattle.std.specs.Option.{option_map}
 use Rattle.serde_json.specs.Written.{compact_text}
 use Rattle.tso_model.specs.Litmus.{Litmus, IsTest}
 use Rattle.tso_model.specs.FlatMachine.{core_of}
@@ -10,20 +12,53 @@ use Rattle.tso_model.specs.declared.choice.Choice.{Choice}
 use Rattle.tso_model.specs.declared.register.Reg.{Reg}
 use Rattle.protocol_tables.specs.Tables.{table_of}
 use Rattle.protocol_tables.specs.declared.kind.ProtocolKind.{ProtocolKind}
+use Rattle.protocol_tables.specs.declared.requests.Transient.{Transient}
+use Rattle.snoop_bus.specs.declared.looking.CachedLine.{CachedLine}
 use Rattle.machine_core.specs.Configuration.{Configuration}
+use Rattle.machine_core.specs.Looking.{bus_holder_of}
 use Rattle.machine_core.specs.Running.{Running, new_machine}
+use Rattle.machine_core.specs.declared.looking.BusHolder.{BusHolder}
+use Rattle.trace_report.specs.Lines.{names_in_line, line_name}
 use Rattle.trace_report.specs.StepLaws.{after_choices}
-use Rattle.trace_json.specs.MachineJson.{machine_json}
+use Rattle.trace_report.specs.Steps.{line_state}
+use Rattle.trace_report.specs.declared.step.LineState.{LineState}
+use Rattle.trace_json.specs.MachineJson.{words_in, copies_in, words_in_line, kept_words, machine_json}
 use Rattle.printed_laws.specs.Traces.{bare_store}
 
--- two machines of the test, whose memories have these words, show the same: each core's place, registers and pending stores, those by
--- location and value; memory's own words; and the words that a program sees
+-- a copy of a line, as it is shown: the names of the line's locations, what it is in, and the words of these locations in digits
+abbrev pub copy_shown : Running → ℕ → CachedLine → List ℕ × LineState × List (List ℕ)
+copy_shown m core copy = (
+  line_name m.test (words_in m) copy.line,
+  line_state m core copy.line,
+  map decimal (take (length (names_in_line m.test.locations (words_in m) copy.line)) copy.words),
+)
+
+-- the copies in a core's sets from this number on, so many, in each set the most recently used first
+abbrev pub copies_shown : Running → ℕ → ℕ → ℕ → List (List (List ℕ × LineState × List (List ℕ)))
+copies_shown m core set zero = []
+copies_shown m core set (suc rest) = map (copy_shown m core) (copies_in m core set) ∷ copies_shown m core (set + 1) rest
+
+-- who holds the bus, as it is shown: its next choice, the names of its line, what that is in while its words are awaited, and the
+-- words that the bus keeps then, in digits
+abbrev pub holder_shown : Running → BusHolder → Choice × List ℕ × Option Transient × List (List ℕ)
+holder_shown m h = (
+  h.choice,
+  line_name m.test (words_in m) (h.loc.0 / words_in m),
+  h.transient,
+  map decimal (kept_words h.transient (words_in_line (words_in m) m.state.flat.memory (h.loc.0 / words_in m))),
+)
+
+-- two machines of the test, whose memories have these words, show the same: who holds the bus; each core's place, registers, pending
+-- stores, those by location and value, and copies; memory's own words; and the words that a program sees
 pub record ShowTheSameMachine (t : Litmus) (m n : Running) (own other : List ℕ) : Type 0 where
+  pub bus : option_map (holder_shown m) (bus_holder_of m) ≡ option_map (holder_shown n) (bus_holder_of n)
   pub places : (core : ℕ) → core < length t.programs → (core_of m.state.flat core).place ≡ (core_of n.state.flat core).place
   pub registers : (core : ℕ) → core < length t.programs → (reg : Reg)
       → value_in (core_of m.state.flat core).registers reg ≡ value_in (core_of n.state.flat core).registers reg
   pub buffers : (core : ℕ) → core < length t.programs
       → map bare_store (core_of m.state.flat core).pending ≡ map bare_store (core_of n.state.flat core).pending
+  pub copies : (core : ℕ) → core < length t.programs
+      → copies_shown m core 0 m.statistics.caches.shape.sets ≡ copies_shown n core 0 n.statistics.caches.shape.sets
   pub memory : own ≡ other
   pub seen : m.state.flat.memory ≡ n.state.flat.memory
 
