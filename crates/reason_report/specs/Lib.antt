@@ -2,6 +2,7 @@ pub mod Places
 pub mod Steps
 pub mod ReasonText
 pub mod ReasonJson
+pub mod Printed
 pub mod Worked
 pub mod inner
 pub mod Views

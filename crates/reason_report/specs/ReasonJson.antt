@@ -139,6 +139,12 @@ allowed_value model t c choices =
     (member (codes "values") (object (value_members t (looked_at t) (values_left t c)))
     (member (codes "verdict") (verdict_value t.condition true) no_members)))))))))
 
+-- ---- too many cases
+abbrev pub unfinished_value : Litmus → ℕ → Data
+unfinished_value t limit =
+    object (member (codes "test") (string t.name)
+    (member (codes "unfinished") (object (member (codes "cases") (count limit) no_members)) no_members))
+
 -- ---- what is printed: the compact text of the value, on one line
 abbrev pub never_line : Model → Litmus → List Step → List ℕ
 never_line model t steps = line (compact_text (never_value_of model t steps))
@@ -148,3 +154,6 @@ never_json model t nodes = never_line model t (steps_of model t (asked t.conditi
 
 abbrev pub allowed_json : Model → Litmus → Candidate → List Choice → List ℕ
 allowed_json model t c choices = line (compact_text (allowed_value model t c choices))
+
+abbrev pub unfinished_json : Litmus → ℕ → List ℕ
+unfinished_json t limit = line (compact_text (unfinished_value t limit))

@@ -202,3 +202,9 @@ allowed_text model t c choices =
     test_line t ++ (codes "Allowed " ++ (line (model_name model) ++ (asked_line t.condition
     ++ (flat_map (from_line t c) (reads_of t c) ++ (coherence_lines t c 0 t.locations
     ++ (by_line choices ++ (state_line t (values_left t c) ++ verdict_line t.condition true)))))))
+
+-- ---- too many cases
+
+-- `Unfinished cases=N`: the search met its limit, and all that is printed is this line
+abbrev pub unfinished_line : ℕ → List ℕ
+unfinished_line limit = codes "Unfinished cases=" ++ line (decimal limit)

@@ -134,37 +134,51 @@ abbrev pub is_source : Reply → Bool
 is_source (Reads r w) = true
 is_source (First w v) = false
 
+-- the answer is a source of a read, and the leaf says that the proposition is false
+abbrev pub is_false_source : Branch → Bool
+is_false_source b = is_source b.reply && is_false b.part.root
+
 -- one line `False` closes both: they are sources of a read, and the same places are named
 abbrev pub are_alike : Litmus → Claim → Branch → Branch → Bool
-are_alike t claim b c = is_source b.reply && is_false b.part.root && is_false c.part.root && name_the_same t claim b.known c.known
+are_alike t claim b c = is_false_source b && is_false_source c && name_the_same t claim b.known c.known
 
 -- each branch with those after it that are alike; none that is alike to one before it
 abbrev pub groups : Litmus → Claim → List Branch → List Branch → List (List Branch)
 groups t claim before [] = []
 groups t claim before (b ∷ bs) =
     if list_any (are_alike t claim b) before
-    then groups t claim before bs
-    else (b ∷ filter (are_alike t claim b) bs) ∷ groups t claim (b ∷ before) bs
+    then groups t claim (before ++ (b ∷ [])) bs
+    else (b ∷ filter (are_alike t claim b) bs) ∷ groups t claim (before ++ (b ∷ [])) bs
 
 -- What a case shows of values: what is known with its answer; a case of several answers, what is known without them.
 abbrev pub known_of_case : Known → List Branch → Known
 known_of_case k (b ∷ []) = b.known
 known_of_case k _ = k
 
+-- the answer of a case that a leaf closes: of this branch, and of those that are alike
+abbrev pub answer_of_case : Litmus → Known → Branch → List Branch → Answer
+answer_of_case t k b bs = answer_at t (known_of_case k (b ∷ bs)) b.reply (map (λ (c : Branch). c.reply) (b ∷ bs))
+
 -- a case that a leaf closes
 abbrev pub closed_case : Model → Litmus → Claim → ℕ → Known → List Branch → List Step
 closed_case model t claim depth k [] = []
 closed_case model t claim depth k (b ∷ bs) =
-    Case depth (answer_at t (known_of_case k (b ∷ bs)) b.reply (map (λ (c : Branch). c.reply) (b ∷ bs)))
-    ∷ leaf_steps model t claim (depth + 1) b.known (map (λ (c : Branch). c.known) (b ∷ bs)) b.part.root
+    Case depth (answer_of_case t k b bs) ∷ leaf_steps model t claim (depth + 1) b.known (map (λ (c : Branch). c.known) (b ∷ bs)) b.part.root
 
--- one with a part of its own
+-- what is printed of the answer of one branch
+abbrev pub answer_of_branch : Litmus → Branch → Answer
+answer_of_branch t b = answer_at t b.known b.reply (b.reply ∷ [])
+
+-- one with a part of its own; the only one that is left
 abbrev pub case_steps : Litmus → ℕ → Branch → List Step
-case_steps t depth b = Case depth (answer_at t b.known b.reply (b.reply ∷ [])) ∷ b.part.steps (depth + 1) b.known
+case_steps t depth b = Case depth (answer_of_branch t b) ∷ b.part.steps (depth + 1) b.known
+
+abbrev pub so_steps : Litmus → ℕ → Branch → List Step
+so_steps t depth b = So depth (answer_of_branch t b) ∷ b.part.steps depth b.known
 
 -- what comes after the cases that are closed at once
 abbrev pub rest_steps : Litmus → ℕ → List Branch → List Step
-rest_steps t depth (b ∷ []) = So depth (answer_at t b.known b.reply (b.reply ∷ [])) ∷ b.part.steps depth b.known
+rest_steps t depth (b ∷ []) = so_steps t depth b
 rest_steps t depth bs = flat_map (case_steps t depth) bs ++ (Endcases depth ∷ [])
 
 abbrev pub question_steps : Model → Litmus → Claim → ℕ → Known → List Branch → List Step

@@ -1,6 +1,6 @@
 -- Words of contracts inside the crate.
 pub mod Views
 pub mod Parts
-pub mod Printed
-pub mod ReasonJson
-pub mod ReasonText
+pub mod Closed
+pub mod Tasks
+pub mod Shown

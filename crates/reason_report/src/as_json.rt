@@ -7,7 +7,6 @@ ghost use Rattle.serde_json.specs.View.{view, items_of};
 ghost use Rattle.tso_report.specs.Json.{count};
 ghost use Rattle.reason_report.specs.ReasonText as text;
 ghost use Rattle.reason_report.specs.ReasonJson as spec;
-ghost use Rattle.reason_report.specs.inner.ReasonJson as inner;
 ghost use Rattle.reason_report.specs.Steps as steps;
 ghost use Rattle.reason_report.specs.Views.{answer_of, place_of, closing_of, step_of};
 
@@ -38,15 +37,15 @@ pub fn never_json(
 /// The line of a search that met its limit, as JSON: the test, and how many cases that is.
 ///
 /// Errors: out of memory only.
-pub fn unfinished_json(alloc: Global, test: &Test, limit: usize) -> Result<String, NoMemory>
-    ensures { IfOk result (λ line. string_bytes line ≡ inner.unfinished_json test.now limit) }
+pub fn unfinished_json(alloc: Global, test: &Test, limit: u32) -> Result<String, NoMemory>
+    ensures { IfOk result (λ line. string_bytes line ≡ spec.unfinished_json test.now limit) }
 {
     let value = unfinished_value(alloc, test, limit)?;
     line_of(alloc, &value)
 }
 
-fn unfinished_value(alloc: Global, test: &Test, limit: usize) -> Result<Value, NoMemory>
-    ensures { IfOk result (λ value. view value ≡ inner.unfinished_value test.now limit) }
+fn unfinished_value(alloc: Global, test: &Test, limit: u32) -> Result<Value, NoMemory>
+    ensures { IfOk result (λ value. view value ≡ spec.unfinished_value test.now limit) }
 {
     let name = Value::try_from_str(alloc, test.name())?;
     let mut members = Map::new(alloc);

@@ -4,7 +4,6 @@ ghost use Rattle.std.specs.Prelude.{◌≡◌, ◌++◌, ◌∷◌, OnOk, IfOk, 
 ghost use Rattle.std.specs.List.{flat_map};
 ghost use Rattle.outcome_report.specs.OutcomesJson.{key_of};
 ghost use Rattle.reason_report.specs.ReasonText as spec;
-ghost use Rattle.reason_report.specs.inner.ReasonText as inner;
 ghost use Rattle.reason_report.specs.inner.Views.{known_access};
 ghost use Rattle.reason_report.specs.Views.{answer_of, place_of, closing_of, step_of};
 ghost use Rattle.reason_report.specs.inner.Views.{value_text};
@@ -42,8 +41,8 @@ pub fn never_text(
 /// The line of a search that met its limit.
 ///
 /// Errors: out of memory only.
-pub fn unfinished_text(alloc: Global, limit: usize) -> Result<String, NoMemory>
-    ensures { IfOk result (λ text. string_bytes text ≡ inner.unfinished_line limit) }
+pub fn unfinished_text(alloc: Global, limit: u32) -> Result<String, NoMemory>
+    ensures { IfOk result (λ text. string_bytes text ≡ spec.unfinished_line limit) }
 {
     let mut text = String::new(alloc);
     write!(text, "Unfinished cases={limit}\n")?;

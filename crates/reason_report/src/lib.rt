@@ -5,16 +5,27 @@
 //! that a leaf closes at once, so that most reasons read as a chain.
 #![tactic(auto)]
 
+pub mod allowed_json;
+pub mod allowed_text;
 pub mod as_json;
 pub mod as_text;
 pub mod asked;
+pub mod cases;
+pub mod closed;
+pub mod closing;
+pub mod layout;
 pub mod leaves;
+pub mod made;
 pub mod parts;
 pub mod places;
+pub mod readings;
 pub mod replies;
+pub mod report;
 pub mod steps;
 mod worked;
 
 pub use as_json::{never_json, unfinished_json};
 pub use as_text::{never_text, unfinished_text};
+pub use layout::steps_of;
+pub use report::{allowed_report, refutation_report, unfinished_cases_report};
 pub use worked::worked_reasons;

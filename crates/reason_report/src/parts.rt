@@ -1,8 +1,55 @@
 //! Where the part of each node ends, and so where the part of each branch of a question begins.
 
-ghost use Rattle.std.specs.Prelude.{ℕ, ◌≡◌, ◌≤◌, List, length, drop};
+ghost use Rattle.std.specs.Prelude.{ℕ, ◌≡◌, ◌≤◌, ◌+◌, ◌<◌, ◌∷◌, List, length, drop, map, slice_index, EachIndex, IfOk};
+ghost use Rattle.refutation_laws.specs.Known.{Known, events_of};
+ghost use Rattle.refutation_laws.specs.declared.model.Model.{Model};
+ghost use Rattle.refutations.specs.Trees.{node_of};
+ghost use Rattle.reason_report.specs.Steps as spec;
 ghost use Rattle.reason_report.specs.Steps.{Part};
-ghost use Rattle.reason_report.specs.inner.Parts.{AreNext};
+ghost use Rattle.reason_report.specs.inner.Parts.{AreNext, IsReady, parts_at, branch_of};
+
+use crate::replies::{Branch, replies, reply_count};
+use refutation_laws::Model;
+use refutations::Node;
+use std::alloc::Global;
+use tso_model::{Entry, NoMemory, Test};
+use tso_report::named::Named;
+
+/// A refutation, with what is needed to lay it out.
+#[derive(Clone, Copy)]
+pub struct Refutation<'a> {
+    pub test: &'a Test,
+    /// The events of the test.
+    pub events: &'a [Entry],
+    pub model: Model,
+    pub nodes: &'a [Node],
+    /// Of each node the place behind its part.
+    pub next: &'a [usize],
+    /// What is looked at of a final state.
+    pub places: &'a [Named],
+}
+
+/// Of each node the place behind its part.
+///
+/// Errors: out of memory only.
+pub fn next_parts(
+    alloc: Global,
+    test: &Test,
+    events: &[Entry],
+    nodes: &[Node],
+) -> Result<Vec<usize>, NoMemory>
+    requires { events.now ≡ events_of test.now }
+    ensures count { IfOk result (λ next. length next.items ≡ length nodes.now) }
+    ensures next { IfOk result (λ next. (model : Model) → AreNext (parts_at model test.now nodes.now) 0 next.items) }
+{
+    let mut next = vec![in alloc; 0usize; nodes.len()]?;
+    for at in (0..nodes.len()).rev() {
+        let count = reply_count(test, events, &nodes[at]);
+        let after = after_parts(&next, at + 1, count);
+        next[at] = after;
+    }
+    Ok(next)
+}
 
 /// The place behind so many parts, of which the first begins at this place.
 pub fn after_parts(next: &[usize], first: usize, count: usize) -> usize
@@ -17,4 +64,31 @@ pub fn after_parts(next: &[usize], first: usize, count: usize) -> usize
         }
     }
     after
+}
+
+/// The branches of the question that stands here, as far as the nodes have parts for them.
+///
+/// Errors: out of memory only.
+pub fn branches(alloc: Global, tree: Refutation<'_>, at: usize) -> Result<Vec<Branch>, NoMemory>
+    requires tree { IsReady tree }
+    requires at { at < length tree.nodes.now }
+    ensures branches { IfOk result (λ all. (k : Known) → map (branch_of tree.model tree.test.now tree.nodes.now k) all.items
+        ≡ spec.branches_with k (spec.replies tree.test.now (node_of (slice_index tree.nodes.now at)))
+        (parts_at tree.model tree.test.now tree.nodes.now (at + 1))) }
+    ensures within { IfOk result (λ all. EachIndex all.items (λ i. (slice_index all.items i).at < length tree.nodes.now)) }
+{
+    let mut all = Vec::new(alloc);
+    let answers = replies(alloc, tree.test, tree.events, &tree.nodes[at])?;
+    let mut from = at + 1;
+    for reply in &answers {
+        if from >= tree.nodes.len() {
+            return Ok(all);
+        }
+        all.push(Branch {
+            reply: *reply,
+            at: from,
+        })?;
+        from = tree.next[from];
+    }
+    Ok(all)
 }

@@ -1,6 +1,6 @@
 //! Why a proposition is false by the values that are known: the registers and locations that suffice to tell it.
 
-ghost use Rattle.std.specs.Prelude.{◌≡◌, IfOk, length, true, is_some};
+ghost use Rattle.std.specs.Prelude.{◌≡◌, All, IfOk, OnOk, length, map, true, is_some};
 ghost use Rattle.std.specs.List.{list_all};
 ghost use Rattle.tso_model.specs.Condition.{NamesExist, claim_of, RegClaim, LocClaim};
 ghost use Rattle.refutation_laws.specs.Known.{events_of};
@@ -9,6 +9,7 @@ ghost use Rattle.refutations.specs.inner.Trees.{known_of};
 ghost use Rattle.refutations.specs.inner.Facts.{AreFacts};
 ghost use Rattle.tso_report.specs.inner.Tally.{IsKnown};
 ghost use Rattle.reason_report.specs.Places as spec;
+ghost use Rattle.reason_report.specs.inner.Views.{with_word};
 
 use refutations::propositions::{allows, register_at_end, words_at_end};
 use refutations::{Answers, Facts};
@@ -163,4 +164,53 @@ pub fn suffices(
     }
     let words = words_at(alloc, test, events, answers, facts, place)?;
     Ok(are_known(&words))
+}
+
+/// Of each place that is looked at, whether it is named.
+///
+/// Errors: out of memory only.
+pub fn named_among(
+    alloc: Global,
+    test: &Test,
+    events: &[Entry],
+    answers: &Answers,
+    facts: &Facts,
+    places: &[Named],
+) -> Result<Vec<bool>, NoMemory>
+    requires events { events.now ≡ events_of test.now }
+    requires facts { AreFacts test.now (known_of answers.now) facts.now }
+    requires places { All (IsKnown (length test.now.programs) (length test.now.locations)) places.now }
+    ensures { IfOk result (λ named. named.items
+        ≡ map (spec.suffices test.now (asked test.now.condition) (known_of answers.now)) places.now) }
+{
+    let mut named = Vec::new(alloc);
+    for place in places {
+        named.push(suffices(alloc, test, events, answers, facts, *place)?)?;
+    }
+    Ok(named)
+}
+
+/// Those of the words that are known, each once, where it first stands.
+///
+/// Errors: out of memory only.
+pub fn distinct_words(alloc: Global, words: &[Option<u32>]) -> Result<Vec<u32>, NoMemory>
+    ensures { IfOk result (λ values. values.items ≡ spec.distinct (spec.known_among words.now)) }
+{
+    let mut values = Vec::new(alloc);
+    for word in words {
+        if let Some(value) = word {
+            add_word(&mut values, *value)?;
+        }
+    }
+    Ok(values)
+}
+
+/// Adds a word that doesn't stand there yet.
+fn add_word(values: &mut Vec<u32>, value: u32) -> Result<(), NoMemory>
+    ensures { OnOk result (values.new.items ≡ with_word values.old.items value) }
+{
+    if !values.contains(&value) {
+        values.push(value)?;
+    }
+    Ok(())
 }

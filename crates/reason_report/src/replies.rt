@@ -1,6 +1,7 @@
-//! The answers to a question, as the branches of a refutation stand, and where the part of each branch begins among the nodes.
+//! The answers to a question, as the branches of a refutation stand.
 
-ghost use Rattle.std.specs.Prelude.{◌≡◌, IfOk, map};
+ghost use Rattle.std.specs.Prelude.{◌≡◌, ◌≤◌, IfOk, map, filter, length};
+ghost use Rattle.tso_model.specs.ProgramOrder as program_order;
 ghost use Rattle.refutation_laws.specs.Known.{events_of};
 ghost use Rattle.refutation_laws.specs.Refutations.{sources_of};
 ghost use Rattle.refutations.specs.Trees.{node_of};
@@ -23,13 +24,37 @@ pub enum Reply {
 }
 
 /// A branch of a question.
-#[derive(Drop)]
+#[derive(Clone, Copy)]
 pub struct Branch {
     pub reply: Reply,
-    /// All answers that are given then.
-    pub answers: Answers,
     /// Where its part begins among the nodes.
     pub at: usize,
+}
+
+/// How many answers a question has; a leaf has none.
+pub fn reply_count(test: &Test, events: &[Entry], node: &Node) -> usize
+    requires { events.now ≡ events_of test.now }
+    ensures { result ≡ length (spec.replies test.now (node_of node.now)) }
+{
+    match node {
+        Node::ReadsFrom(read) => 1 + write_count(events, read.loc.0),
+        Node::ComesFirst(..) => 2,
+        _ => 0,
+    }
+}
+
+/// How many of the events write to the location with this number.
+fn write_count(events: &[Entry], loc: u8) -> usize
+    ensures value { result ≡ length (filter (program_order.writes_to loc) events.now) }
+    ensures within { result ≤ length events.now }
+{
+    let mut count = 0;
+    for w in events {
+        if writes_to(loc, w) {
+            count += 1;
+        }
+    }
+    count
 }
 
 /// The answers to a question; none to a leaf.

@@ -1,13 +1,16 @@
 -- Where the parts of a refutation's nodes stand among the nodes, as the code goes by it.
-use Rattle.std.specs.Prelude.{ℕ, ◌≡◌, ◌<◌, ◌≤◌, List, [], ◌∷◌, map, drop, length, slice_index}
+use Rattle.std.specs.Prelude.{ℕ, ◌≡◌, ◌<◌, ◌≤◌, All, List, [], ◌∷◌, map, drop, length, slice_index}
 use Rattle.tso_model.specs.Litmus.{Litmus}
+use Rattle.refutation_laws.specs.Known.{Known, events_of}
 use Rattle.refutation_laws.specs.Refutations as refutations
 use Rattle.refutation_laws.specs.declared.model.Model.{Model}
 use Rattle.refutations.specs.Trees.{node_of}
-use Rattle.refutations.specs.inner.Trees.{known_of}
 use Rattle.refutations.specs.declared.tree.Node.{Node}
+use Rattle.tso_report.specs.Tally.{looked_at}
+use Rattle.tso_report.specs.inner.Tally.{IsKnown}
 use Rattle.reason_report.specs.Steps as spec
 use Rattle.reason_report.specs.declared.replies.Branch.{Branch}
+use Rattle.reason_report.specs.declared.parts.Refutation.{Refutation}
 
 -- the parts of the nodes from this place on
 abbrev pub parts_at : Model → Litmus → List Node → ℕ → List spec.Part
@@ -17,9 +20,10 @@ abbrev pub first_part : List spec.Part → spec.Part
 first_part [] = record { root = refutations.FalseClaim; steps = λ depth k. [] }
 first_part (p ∷ ps) = p
 
--- the branch whose part begins at a place
-abbrev pub branch_of : Model → Litmus → List Node → Branch → spec.Branch
-branch_of model t nodes b = record { reply = b.reply; known = known_of b.answers; part = first_part (parts_at model t nodes b.at) }
+-- the branch whose part begins at a place, of a question where these answers are given
+abbrev pub branch_of : Model → Litmus → List Node → Known → Branch → spec.Branch
+branch_of model t nodes k b =
+    record { reply = b.reply; known = spec.with_reply k b.reply; part = first_part (parts_at model t nodes b.at) }
 
 -- the parts from this place on are those from the other one on without the first
 pub record IsNext (parts : ℕ → List spec.Part) (count i next : ℕ) : Type 0 where
@@ -31,3 +35,11 @@ pub record IsNext (parts : ℕ → List spec.Part) (count i next : ℕ) : Type 0
 pub record AreNext (parts : ℕ → List spec.Part) (from : ℕ) (next : List ℕ) : Type 0 where
   pub each : (i : ℕ) → from ≤ i → i < length next → IsNext parts (length next) i (slice_index next i)
   pub none : parts (length next) ≡ []
+
+-- what a layout needs is as it should be
+pub record IsReady (tree : Refutation) : Type 0 where
+  pub events : tree.events.now ≡ events_of tree.test.now
+  pub count : length tree.next.now ≡ length tree.nodes.now
+  pub next : AreNext (parts_at tree.model tree.test.now tree.nodes.now) 0 tree.next.now
+  pub places : tree.places.now ≡ looked_at tree.test.now
+  pub known : All (IsKnown (length tree.test.now.programs) (length tree.test.now.locations)) tree.places.now

@@ -1,10 +1,14 @@
 -- Steps as the code holds them, and the definitions' own that they stand for.
-use Rattle.std.specs.Prelude.{ℕ, ◌++◌, List, [], Option, Some, None, codes}
+use Rattle.std.specs.Prelude.{ℕ, ◌==◌, if◌then◌else◌, ◌++◌, List, [], ◌∷◌, Option, Some, None, codes}
 use Rattle.std.specs.Fmt.{decimal}
+use Rattle.std.specs.List.{list_any}
 use Rattle.tso_model.specs.Litmus.{Litmus}
 use Rattle.tso_model.specs.declared.execution.Kind.{Kind}
 use Rattle.order_builder.specs.PrintedOrder.{printed_access}
+use Rattle.reason_report.specs.declared.steps.Closing.{Closing}
 use Rattle.reason_report.specs.ReasonText.{location_text}
+use Rattle.reason_report.specs.Steps as spec
+use Rattle.reason_report.specs.Views.{closing_of}
 
 -- ` x=v`, or ` x` where the value isn't known
 abbrev pub known_access : Litmus → Kind → ℕ → Option ℕ → List ℕ
@@ -15,3 +19,12 @@ known_access t kind loc (Some value) = printed_access t kind loc value
 abbrev pub value_text : Option ℕ → List ℕ
 value_text None = []
 value_text (Some value) = codes "=" ++ decimal value
+
+-- the line of a leaf, if there is one
+abbrev pub leaf_of : ℕ → Option Closing → List spec.Step
+leaf_of depth None = []
+leaf_of depth (Some c) = spec.Leaf depth (closing_of c) ∷ []
+
+-- one more word, if it doesn't stand there yet
+abbrev pub with_word : List ℕ → ℕ → List ℕ
+with_word values value = if list_any (λ v. v == value) values then values else values ++ (value ∷ [])

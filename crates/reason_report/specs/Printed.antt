@@ -7,28 +7,26 @@ use Rattle.relational_model.specs.Candidates.{Candidate}
 use Rattle.relational_model.specs.CandidatesOfOrders.{IsCandidateOf}
 use Rattle.refutation_laws.specs.Refutations.{Node}
 use Rattle.refutation_laws.specs.declared.model.Model.{Model}
-use Rattle.reason_report.specs.ReasonText.{never_text, allowed_text}
-use Rattle.reason_report.specs.inner.ReasonText.{unfinished_line}
-use Rattle.reason_report.specs.ReasonJson.{never_json, allowed_json}
-use Rattle.reason_report.specs.inner.ReasonJson.{unfinished_json}
+use Rattle.reason_report.specs.ReasonText.{never_text, allowed_text, unfinished_line}
+use Rattle.reason_report.specs.ReasonJson.{never_json, allowed_json, unfinished_json}
 
 -- of a refutation of what the test asks
-abbrev pub never_in : Bool → Model → Litmus → List Node → List ℕ
-never_in false model t nodes = never_text model t nodes
-never_in true model t nodes = never_json model t nodes
+abbrev pub refutation_in : Bool → Model → Litmus → List Node → List ℕ
+refutation_in false model t nodes = never_text model t nodes
+refutation_in true model t nodes = never_json model t nodes
 
--- of a candidate in which what the test asks is so, and choices that lead there
+-- of a candidate in which what the test asks is so, and of choices that lead there
 abbrev pub allowed_in : Bool → Model → Litmus → Candidate → List Choice → List ℕ
 allowed_in false model t c choices = allowed_text model t c choices
 allowed_in true model t c choices = allowed_json model t c choices
 
 -- of a search that met its limit
-abbrev pub unfinished_in : Bool → Litmus → ℕ → List ℕ
-unfinished_in false t limit = unfinished_line limit
-unfinished_in true t limit = unfinished_json t limit
+abbrev pub unfinished_cases_in : Bool → Litmus → ℕ → List ℕ
+unfinished_cases_in false t limit = unfinished_line limit
+unfinished_cases_in true t limit = unfinished_json t limit
 
 -- what was printed is the candidate of this order, and these choices
-pub record PrintsAllowed (model : Model) (t : Litmus) (json : Bool) (order : List Entry) (choices : List Choice) (out : List ℕ) : Type 0 where
+pub record ShowsExecution (json : Bool) (model : Model) (t : Litmus) (order : List Entry) (choices : List Choice) (out : List ℕ) : Type 0 where
   pub candidate : Candidate
   pub of_order : IsCandidateOf t order candidate
-  pub text : out ≡ allowed_in json model t candidate choices
+  pub printed : out ≡ allowed_in json model t candidate choices

@@ -1,0 +1,53 @@
+-- The cases of a question that leaves close at once, as the code has them.
+use Rattle.std.specs.Prelude.{ℕ, ◌≡◌, ◌<◌, ◌&&◌, not, Bool, true, false, if◌then◌else◌, List, [], ◌∷◌, map, filter, length}
+use Rattle.tso_model.specs.Litmus.{Litmus}
+use Rattle.refutation_laws.specs.Known.{Known}
+use Rattle.refutation_laws.specs.Refutations.{asked}
+use Rattle.refutations.specs.inner.Trees.{known_of}
+use Rattle.refutations.specs.inner.Facts.{AreFacts}
+use Rattle.reason_report.specs.Places.{suffices}
+use Rattle.reason_report.specs.Steps as spec
+use Rattle.reason_report.specs.declared.parts.Refutation.{Refutation}
+use Rattle.reason_report.specs.declared.closed.Given.{Given}
+use Rattle.reason_report.specs.declared.closed.Leaf.{Leaf}
+use Rattle.reason_report.specs.declared.closed.Closed.{Closed}
+use Rattle.reason_report.specs.inner.Parts.{parts_at, first_part}
+
+abbrev pub IsGiven : Litmus → Given → Type 0
+IsGiven t g = AreFacts t (known_of g.answers) g.facts
+
+-- the branch that is closed
+abbrev pub closed_branch : Refutation → Closed → spec.Branch
+closed_branch tree c = record {
+  reply = c.reply;
+  known = known_of c.leaf.given.answers;
+  part = first_part (parts_at tree.model tree.test.now tree.nodes.now c.leaf.at);
+}
+
+pub record IsLeaf (tree : Refutation) (l : Leaf) : Type 0 where
+  pub given : IsGiven tree.test.now l.given
+  pub within : l.at < length tree.nodes.now
+  pub named : l.shares ≡ true
+      → l.named.items ≡ map (suffices tree.test.now (asked tree.test.now.condition) (known_of l.given.answers)) tree.places.now
+
+pub record IsClosed (tree : Refutation) (c : Closed) : Type 0 where
+  pub leaf : IsLeaf tree c.leaf
+  pub shares : c.leaf.shares ≡ spec.is_false_source (closed_branch tree c)
+
+abbrev pub AreClosed : Refutation → List Closed → Type 0
+AreClosed tree [] = Unit {0}
+AreClosed tree (c ∷ cs) = IsClosed tree c × AreClosed tree cs
+
+-- the same truths, as far as the first ones go
+abbrev pub same_truths : List Bool → List Bool → Bool
+same_truths [] qs = true
+same_truths (p ∷ ps) [] = false
+same_truths (p ∷ ps) (q ∷ qs) = (if p then q else not q) && same_truths ps qs
+
+-- one line closes both
+abbrev pub alike : Leaf → Leaf → Bool
+alike l m = l.shares && m.shares && same_truths l.named.items m.named.items
+
+-- what is given in a case, and in those of these that are alike
+abbrev pub known_alike : Leaf → List Closed → List Known
+known_alike l cs = known_of l.given.answers ∷ map (λ (c : Closed). known_of c.leaf.given.answers) (filter (λ (c : Closed). alike l c.leaf) cs)

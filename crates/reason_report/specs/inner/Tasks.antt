@@ -1,0 +1,78 @@
+-- What is still to be laid out, as the code keeps it: tasks, of which the first stands for the next part.
+use Rattle.std.specs.Prelude.{ℕ, ◌+◌, ◌≤◌, Bool, true, false, if◌then◌else◌, List, [], ◌∷◌, ◌++◌, Option, Some, None}
+use Rattle.std.specs.List.{flat_map}
+use Rattle.tso_model.specs.Litmus.{Litmus}
+use Rattle.refutation_laws.specs.Known.{Known, nothing}
+use Rattle.refutations.specs.inner.Trees.{known_of}
+use Rattle.reason_report.specs.Steps as spec
+use Rattle.reason_report.specs.declared.replies.Reply.{Reply}
+use Rattle.reason_report.specs.declared.layout.Wanted.{Wanted}
+use Rattle.reason_report.specs.declared.layout.Wanted.TheVariants as wanted
+use Rattle.reason_report.specs.declared.layout.Task as declared
+use Rattle.reason_report.specs.declared.layout.Task.TheVariants as code
+
+-- a task, with the answers that are given
+pub data Task : Type 0 where
+  -- the part's lines stand already
+  Passed : Task
+  -- the part is that of one answer of several, or of the only one that is left
+  Case : ℕ → Reply → Known → Task
+  So : ℕ → Reply → Known → Task
+  -- no part, but the end of cases
+  Endcases : ℕ → Task
+
+abbrev pub wanted_of : Wanted → Task
+wanted_of wanted.Passed = Passed
+wanted_of (wanted.Case depth reply answers) = Case depth reply (known_of answers)
+wanted_of (wanted.So depth reply answers) = So depth reply (known_of answers)
+
+abbrev pub task_of : declared.Task → Task
+task_of (code.Part w) = wanted_of w
+task_of (code.Endcases depth) = Endcases depth
+
+-- before these tasks the one of the next part, if it has one
+abbrev pub with_wanted : Option Wanted → List Task → List Task
+with_wanted None ts = ts
+with_wanted (Some w) ts = wanted_of w ∷ ts
+
+-- a stack of tasks, the last one first
+abbrev pub tasks_of : List declared.Task → List Task
+tasks_of [] = []
+tasks_of (a ∷ rest) = tasks_of rest ++ (task_of a ∷ [])
+
+-- the tasks of a question's branches, one for each, and the end of its cases
+abbrev pub branch_task : Bool → ℕ → spec.Branch → Task
+branch_task single depth b =
+    if spec.is_closed b then Passed else (if single then So depth b.reply b.known else Case depth b.reply b.known)
+
+abbrev pub end_of : Bool → ℕ → List Task
+end_of single depth = if single then [] else Endcases depth ∷ []
+
+abbrev pub branch_tasks : Bool → ℕ → List spec.Branch → List Task
+branch_tasks single depth [] = end_of single depth
+branch_tasks single depth (b ∷ bs) = branch_task single depth b ∷ branch_tasks single depth bs
+
+-- the answer, all answers that are given with it, and its part, as a branch
+abbrev pub as_branch : Reply → Known → spec.Part → spec.Branch
+as_branch reply k part = record { reply = reply; known = k; part = part }
+
+-- the steps of these parts, where these tasks are open; a part without a task is a tree of its own
+abbrev pub emit : Litmus → List Task → List spec.Part → List spec.Step
+emit t [] ps = flat_map (λ (p : spec.Part). p.steps 0 nothing) ps
+emit t (Endcases depth ∷ ts) ps = spec.Endcases depth ∷ emit t ts ps
+emit t (_ ∷ ts) [] = emit t ts []
+emit t (Passed ∷ ts) (p ∷ ps) = emit t ts ps
+emit t (Case depth reply k ∷ ts) (p ∷ ps) = spec.case_steps t depth (as_branch reply k p) ++ emit t ts ps
+emit t (So depth reply k ∷ ts) (p ∷ ps) = spec.so_steps t depth (as_branch reply k p) ++ emit t ts ps
+
+-- how deep the lines of a task stand at most
+abbrev pub depth_of : Task → ℕ
+depth_of Passed = 0
+depth_of (Case depth reply k) = depth + 1
+depth_of (So depth reply k) = depth
+depth_of (Endcases depth) = depth
+
+-- none stands deeper than this
+abbrev pub AreWithin : ℕ → List Task → Type 0
+AreWithin most [] = Unit {0}
+AreWithin most (a ∷ rest) = (depth_of a ≤ most) × AreWithin most rest

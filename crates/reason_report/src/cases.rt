@@ -1,0 +1,147 @@
+//! The lines of the cases that a leaf closes at once: they come first of a question's cases.
+
+ghost use Rattle.std.specs.Prelude.{◌≡◌, ◌<◌, ◌-◌, ◌^◌, ◌∷◌, ◌++◌, [], IfOk, OnOk, map, filter, slice_index};
+ghost use Rattle.std.specs.List.{flat_map};
+ghost use Rattle.refutation_laws.specs.Refutations.{asked};
+ghost use Rattle.refutations.specs.Trees.{node_of};
+ghost use Rattle.refutations.specs.inner.Trees.{known_of};
+ghost use Rattle.reason_report.specs.Steps as spec;
+ghost use Rattle.reason_report.specs.Views.{answer_of, step_of};
+ghost use Rattle.reason_report.specs.declared.closed.Closed as declared;
+ghost use Rattle.reason_report.specs.inner.Parts.{IsReady};
+ghost use Rattle.reason_report.specs.inner.Closed.{IsGiven, IsLeaf, IsClosed, AreClosed, closed_branch, alike, known_alike};
+
+use crate::closed::{Closed, Given, Leaf, are_alike, is_alike_to_some};
+use crate::closing::{answer_at, why_closed};
+use crate::parts::Refutation;
+use crate::replies::Reply;
+use crate::steps::{Answer, Step};
+use std::alloc::Global;
+use tso_model::NoMemory;
+
+/// Adds the line of a leaf, which closes its case, and those of the others that are alike.
+///
+/// Errors: out of memory only.
+pub fn add_leaf(
+    alloc: Global,
+    tree: Refutation<'_>,
+    steps: &mut Vec<Step>,
+    depth: usize,
+    leaf: &Leaf,
+    others: &[Closed],
+) -> Result<(), NoMemory>
+    requires tree { IsReady tree }
+    requires leaf { IsLeaf tree leaf.now }
+    requires others { AreClosed tree others.now }
+    ensures { OnOk result (map step_of steps.new.items ≡ map step_of steps.old.items
+        ++ spec.leaf_steps tree.model tree.test.now (asked tree.test.now.condition) depth (known_of leaf.now.given.answers)
+        (known_alike leaf.now others.now) (node_of (slice_index tree.nodes.now leaf.now.at))) }
+{
+    if let Some(closing) = why_closed(alloc, tree, leaf, others)? {
+        steps.push(Step::Leaf(depth, closing))?;
+    }
+    Ok(())
+}
+
+fn replies_alike(alloc: Global, first: &Closed, others: &[Closed]) -> Result<Vec<Reply>, NoMemory>
+    ensures { IfOk result (λ all. all.items
+        ≡ map (λ (c : declared.Closed). c.reply) (first.now ∷ filter (λ (c : declared.Closed). alike first.now.leaf c.leaf) others.now)) }
+{
+    let mut all = Vec::new(alloc);
+    all.push(first.reply)?;
+    for other in others {
+        if are_alike(&first.leaf, &other.leaf) {
+            all.push(other.reply)?;
+        }
+    }
+    Ok(all)
+}
+
+/// The answer of a case. One answer is shown with what is known under it, several with what is known without them.
+///
+/// Errors: out of memory only.
+fn case_answer(
+    alloc: Global,
+    tree: Refutation<'_>,
+    question: &Given,
+    first: &Closed,
+    others: &[Closed],
+) -> Result<Answer, NoMemory>
+    requires tree { IsReady tree }
+    requires question { IsGiven tree.test.now question.now }
+    requires first { IsClosed tree first.now }
+    requires others { AreClosed tree others.now }
+    ensures { IfOk result (λ answer. answer_of answer ≡ spec.answer_of_case tree.test.now (known_of question.now.answers)
+        (closed_branch tree first.now) (filter (spec.are_alike tree.test.now (asked tree.test.now.condition) (closed_branch tree first.now))
+        (map (closed_branch tree) others.now))) }
+{
+    let replies = replies_alike(alloc, first, others)?;
+    if replies.len() == 1 {
+        answer_at(alloc, tree, &first.leaf.given, first.reply, &replies)
+    } else {
+        answer_at(alloc, tree, question, first.reply, &replies)
+    }
+}
+
+/// Adds the lines of a case that a leaf closes at once, and of the others that are alike.
+///
+/// Errors: out of memory only.
+fn add_case(
+    alloc: Global,
+    tree: Refutation<'_>,
+    steps: &mut Vec<Step>,
+    depth: usize,
+    question: &Given,
+    first: &Closed,
+    others: &[Closed],
+) -> Result<(), NoMemory>
+    requires tree { IsReady tree }
+    requires depth { depth < 2 ^ 64 - 1 }
+    requires question { IsGiven tree.test.now question.now }
+    requires first { IsClosed tree first.now }
+    requires others { AreClosed tree others.now }
+    ensures { OnOk result (map step_of steps.new.items ≡ map step_of steps.old.items
+        ++ spec.closed_case tree.model tree.test.now (asked tree.test.now.condition) depth (known_of question.now.answers)
+        (closed_branch tree first.now ∷ filter (spec.are_alike tree.test.now (asked tree.test.now.condition) (closed_branch tree first.now))
+        (map (closed_branch tree) others.now))) }
+{
+    let answer = case_answer(alloc, tree, question, first, others)?;
+    steps.push(Step::Case(depth, answer))?;
+    add_leaf(alloc, tree, steps, depth + 1, &first.leaf, others)
+}
+
+/// Adds the lines of all cases of a question that a leaf closes at once. Those that are alike stand with the first of them.
+///
+/// Errors: out of memory only.
+pub fn add_closed(
+    alloc: Global,
+    tree: Refutation<'_>,
+    steps: &mut Vec<Step>,
+    depth: usize,
+    question: &Given,
+    closed: &[Closed],
+) -> Result<(), NoMemory>
+    requires tree { IsReady tree }
+    requires depth { depth < 2 ^ 64 - 1 }
+    requires question { IsGiven tree.test.now question.now }
+    requires closed { AreClosed tree closed.now }
+    ensures { OnOk result (map step_of steps.new.items ≡ map step_of steps.old.items
+        ++ flat_map (spec.closed_case tree.model tree.test.now (asked tree.test.now.condition) depth (known_of question.now.answers))
+        (spec.groups tree.test.now (asked tree.test.now.condition) [] (map (closed_branch tree) closed.now))) }
+{
+    for at in 0..closed.len() {
+        let first = &closed[at];
+        if !is_alike_to_some(&first.leaf, &closed[..at]) {
+            add_case(
+                alloc,
+                tree,
+                steps,
+                depth,
+                question,
+                first,
+                &closed[at + 1..],
+            )?;
+        }
+    }
+    Ok(())
+}

@@ -1,0 +1,258 @@
+//! What is shown of an answer, and why a leaf closes a case.
+
+ghost use Rattle.std.specs.Prelude.{ℕ, ◌≡◌, IfOk, map, length, slice_index};
+ghost use Rattle.std.specs.List.{flat_map};
+ghost use Rattle.refutation_laws.specs.Refutations.{asked};
+ghost use Rattle.refutations.specs.Trees.{node_of};
+ghost use Rattle.refutations.specs.inner.Trees.{known_of, relations_of};
+ghost use Rattle.tso_report.specs.inner.Tally.{IsKnown};
+ghost use Rattle.reason_report.specs.Places as places;
+ghost use Rattle.reason_report.specs.Steps as spec;
+ghost use Rattle.reason_report.specs.Views.{answer_of, place_of};
+ghost use Rattle.reason_report.specs.inner.Views.{leaf_of};
+ghost use Rattle.reason_report.specs.inner.Parts.{IsReady};
+ghost use Rattle.reason_report.specs.inner.Closed.{IsGiven, IsLeaf, AreClosed, known_alike};
+
+use crate::closed::{Closed, Given, Leaf, are_alike};
+use crate::leaves::{edges_of, event_at};
+use crate::parts::Refutation;
+use crate::places::{distinct_words, suffices, words_at};
+use crate::replies::Reply;
+use crate::steps::{Answer, Closing, Edge, Event, Place};
+use refutations::{Acyclic, Node};
+use std::alloc::Global;
+use tso_model::{Entry, NoMemory};
+use tso_report::named::Named;
+
+/// What is shown of one answer, or of several to which source a read has, where this is given.
+///
+/// Errors: out of memory only.
+pub fn answer_at(
+    alloc: Global,
+    tree: Refutation<'_>,
+    given: &Given,
+    reply: Reply,
+    all: &[Reply],
+) -> Result<Answer, NoMemory>
+    requires tree { IsReady tree }
+    requires given { IsGiven tree.test.now given.now }
+    ensures { IfOk result (λ answer. answer_of answer ≡ spec.answer_at tree.test.now (known_of given.now.answers) reply all.now) }
+{
+    match reply {
+        Reply::Reads(read, _) => {
+            let writes = writes_in(alloc, tree, given, all)?;
+            Ok(Answer::From(shown(tree, given, &read), writes))
+        }
+        Reply::First(first, second) => {
+            Ok(Answer::Before(shown(tree, given, &first), shown(tree, given, &second)))
+        }
+    }
+}
+
+fn shown(tree: Refutation<'_>, given: &Given, e: &Entry) -> Event
+    requires tree { IsReady tree }
+    requires given { IsGiven tree.test.now given.now }
+    ensures { result ≡ spec.event_at tree.test.now (known_of given.now.answers) e.now }
+{
+    event_at(tree.test, tree.events, &given.answers, &given.facts, e)
+}
+
+fn writes_in(
+    alloc: Global,
+    tree: Refutation<'_>,
+    given: &Given,
+    all: &[Reply],
+) -> Result<Vec<Option<Event>>, NoMemory>
+    requires tree { IsReady tree }
+    requires given { IsGiven tree.test.now given.now }
+    ensures { IfOk result (λ writes. writes.items ≡ map (spec.write_in tree.test.now (known_of given.now.answers)) all.now) }
+{
+    let mut writes = Vec::new(alloc);
+    for reply in all {
+        writes.push(write_in(tree, given, *reply))?;
+    }
+    Ok(writes)
+}
+
+fn write_in(tree: Refutation<'_>, given: &Given, reply: Reply) -> Option<Event>
+    requires tree { IsReady tree }
+    requires given { IsGiven tree.test.now given.now }
+    ensures { result ≡ spec.write_in tree.test.now (known_of given.now.answers) reply }
+{
+    match reply {
+        Reply::Reads(_, Some(write)) => Some(shown(tree, given, &write)),
+        Reply::Reads(_, None) | Reply::First(..) => None,
+    }
+}
+
+/// The words that a place may have in these cases: in that of a leaf, and in those that are alike.
+///
+/// Errors: out of memory only.
+fn words_in(
+    alloc: Global,
+    tree: Refutation<'_>,
+    leaf: &Leaf,
+    others: &[Closed],
+    place: Named,
+) -> Result<Vec<Option<u32>>, NoMemory>
+    requires tree { IsReady tree }
+    requires given { IsGiven tree.test.now leaf.now.given }
+    requires others { AreClosed tree others.now }
+    requires place { IsKnown (length tree.test.now.programs) (length tree.test.now.locations) place }
+    ensures { IfOk result (λ words. words.items
+        ≡ flat_map (λ k. places.words_at tree.test.now k place) (known_alike leaf.now others.now)) }
+{
+    let mut words = words_of(alloc, tree, &leaf.given, place)?;
+    for other in others {
+        if are_alike(leaf, &other.leaf) {
+            let more = words_of(alloc, tree, &other.leaf.given, place)?;
+            words.extend_from_slice(&more)?;
+        }
+    }
+    Ok(words)
+}
+
+fn words_of(
+    alloc: Global,
+    tree: Refutation<'_>,
+    given: &Given,
+    place: Named,
+) -> Result<Vec<Option<u32>>, NoMemory>
+    requires tree { IsReady tree }
+    requires given { IsGiven tree.test.now given.now }
+    requires place { IsKnown (length tree.test.now.programs) (length tree.test.now.locations) place }
+    ensures { IfOk result (λ words. words.items ≡ places.words_at tree.test.now (known_of given.now.answers) place) }
+{
+    words_at(
+        alloc,
+        tree.test,
+        tree.events,
+        &given.answers,
+        &given.facts,
+        place,
+    )
+}
+
+fn is_named(
+    alloc: Global,
+    tree: Refutation<'_>,
+    given: &Given,
+    place: Named,
+) -> Result<bool, NoMemory>
+    requires tree { IsReady tree }
+    requires given { IsGiven tree.test.now given.now }
+    requires place { IsKnown (length tree.test.now.programs) (length tree.test.now.locations) place }
+    ensures { IfOk result (λ b. b ≡ places.suffices tree.test.now (asked tree.test.now.condition) (known_of given.now.answers) place) }
+{
+    suffices(
+        alloc,
+        tree.test,
+        tree.events,
+        &given.answers,
+        &given.facts,
+        place,
+    )
+}
+
+fn place_in(
+    alloc: Global,
+    tree: Refutation<'_>,
+    leaf: &Leaf,
+    others: &[Closed],
+    named: Named,
+) -> Result<Place, NoMemory>
+    requires tree { IsReady tree }
+    requires given { IsGiven tree.test.now leaf.now.given }
+    requires others { AreClosed tree others.now }
+    requires place { IsKnown (length tree.test.now.programs) (length tree.test.now.locations) named }
+    ensures { IfOk result (λ place. place_of place ≡ places.place_in tree.test.now (known_alike leaf.now others.now) named) }
+{
+    let words = words_in(alloc, tree, leaf, others, named)?;
+    Ok(Place {
+        named,
+        values: distinct_words(alloc, &words)?,
+    })
+}
+
+/// The places that a leaf's case names, with the values that they have in it and in those that are alike.
+///
+/// Errors: out of memory only.
+fn places_in(
+    alloc: Global,
+    tree: Refutation<'_>,
+    leaf: &Leaf,
+    others: &[Closed],
+) -> Result<Vec<Place>, NoMemory>
+    requires tree { IsReady tree }
+    requires given { IsGiven tree.test.now leaf.now.given }
+    requires others { AreClosed tree others.now }
+    ensures { IfOk result (λ all. map place_of all.items
+        ≡ places.places_in tree.test.now (asked tree.test.now.condition) (known_of leaf.now.given.answers) (known_alike leaf.now others.now)) }
+{
+    let mut all = Vec::new(alloc);
+    for named in tree.places {
+        if is_named(alloc, tree, &leaf.given, *named)? {
+            all.push(place_in(alloc, tree, leaf, others, *named)?)?;
+        }
+    }
+    Ok(all)
+}
+
+fn edges(
+    alloc: Global,
+    tree: Refutation<'_>,
+    given: &Given,
+    acyclic: Acyclic,
+    cycle: &[Entry],
+) -> Result<Vec<Edge>, NoMemory>
+    requires tree { IsReady tree }
+    requires given { IsGiven tree.test.now given.now }
+    ensures { IfOk result (λ edges. edges.items
+        ≡ spec.edges_of tree.test.now (known_of given.now.answers) (relations_of acyclic) cycle.now) }
+{
+    edges_of(
+        alloc,
+        tree.test,
+        tree.events,
+        &given.answers,
+        &given.facts,
+        acyclic,
+        cycle,
+    )
+}
+
+/// Why a leaf closes its case, and others that are alike; none of a question.
+///
+/// Errors: out of memory only.
+pub fn why_closed(
+    alloc: Global,
+    tree: Refutation<'_>,
+    leaf: &Leaf,
+    others: &[Closed],
+) -> Result<Option<Closing>, NoMemory>
+    requires tree { IsReady tree }
+    requires leaf { IsLeaf tree leaf.now }
+    requires others { AreClosed tree others.now }
+    ensures { IfOk result (λ closing. (depth : ℕ) → leaf_of depth closing
+        ≡ spec.leaf_steps tree.model tree.test.now (asked tree.test.now.condition) depth (known_of leaf.now.given.answers)
+        (known_alike leaf.now others.now) (node_of (slice_index tree.nodes.now leaf.now.at))) }
+{
+    let given = &leaf.given;
+    Ok(Some(match &tree.nodes[leaf.at] {
+        Node::OnLocation(cycle) => {
+            Closing::Uniproc(edges(alloc, tree, given, Acyclic::OnLocation, cycle)?)
+        }
+        Node::Globally(cycle) => {
+            Closing::Cycle(edges(alloc, tree, given, Acyclic::Globally(tree.model), cycle)?)
+        }
+        Node::Between(read, between, write) => {
+            Closing::Between(
+                shown(tree, given, read),
+                shown(tree, given, between),
+                shown(tree, given, write),
+            )
+        }
+        Node::FalseClaim => Closing::False(places_in(alloc, tree, leaf, others)?),
+        Node::ReadsFrom(_) | Node::ComesFirst(..) => return Ok(None),
+    }))
+}
