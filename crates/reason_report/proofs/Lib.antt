@@ -1,2 +1,7 @@
+pub mod Cutting
+pub mod Grouping
+pub mod Laying
 pub mod Moving
 pub mod NoFloats
+pub mod Shown
+pub mod Threads

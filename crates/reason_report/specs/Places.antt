@@ -1,8 +1,8 @@
 -- Why a proposition is false by the values that are known: the registers and locations that suffice to tell it, and what stands
 -- there at the end.
-use Rattle.std.specs.Prelude.{ℕ, ◌==◌, ◌&&◌, ◌||◌, Bool, true, false, not, if◌then◌else◌, List, [], ◌∷◌, map, filter, Option, Some, None}
+use Rattle.std.specs.Prelude.{ℕ, ◌==◌, ◌&&◌, ◌||◌, Bool, true, false, not, if◌then◌else◌, List, [], ◌∷◌, ◌++◌, map, filter, Option, Some, None}
 use Rattle.std.specs.Prelude.{is_some}
-use Rattle.std.specs.List.{list_all, flat_map}
+use Rattle.std.specs.List.{list_all, list_any, flat_map}
 use Rattle.tso_model.specs.Litmus.{Litmus}
 use Rattle.tso_model.specs.Condition.{Claim, TruthClaim, RegClaim, LocClaim, NotClaim, AndClaim, OrClaim}
 use Rattle.refutation_laws.specs.Known.{Known}
@@ -52,10 +52,13 @@ known_among [] = []
 known_among (None ∷ ws) = known_among ws
 known_among (Some v ∷ ws) = v ∷ known_among ws
 
--- each value once, where it first stands
+-- each value once, where it first stands, but for those that were seen before
+abbrev pub unseen : List ℕ → List ℕ → List ℕ
+unseen seen [] = []
+unseen seen (v ∷ vs) = if list_any (λ u. u == v) seen then unseen seen vs else v ∷ unseen (seen ++ (v ∷ [])) vs
+
 abbrev pub distinct : List ℕ → List ℕ
-distinct [] = []
-distinct (v ∷ vs) = v ∷ filter (λ u. not (u == v)) (distinct vs)
+distinct vs = unseen [] vs
 
 -- ---- both
 

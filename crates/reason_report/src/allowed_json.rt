@@ -1,17 +1,16 @@
 //! An execution in which what a test asks is so, as JSON: one line, and its objects have their keys in the order of their bytes.
 
-ghost use Rattle.std.specs.Prelude.{◌≡◌, All, IfOk, OnOk, string_bytes, length, filter, map};
+ghost use Rattle.std.specs.Prelude.{◌≡◌, ◌<◌, [], IfOk, OnOk, string_bytes, length, filter, map, slice_index_or};
 ghost use Rattle.serde_json.specs.Data.{object, array, string};
 ghost use Rattle.serde_json.specs.View.{view, members_view, items_of};
 ghost use Rattle.tso_model.specs.ProgramOrder as program_order;
 ghost use Rattle.relational_model.specs.Candidates.{Candidate};
 ghost use Rattle.order_builder.specs.PrintedOrder.{printed_entry};
-ghost use Rattle.tso_report.specs.inner.Tally.{IsKnown};
 ghost use Rattle.tso_report.specs.Tally.{looked_at};
 ghost use Rattle.outcome_report.specs.OutcomesJson.{value_members};
 ghost use Rattle.reason_report.specs.ReasonJson as spec;
 ghost use Rattle.reason_report.specs.ReasonText as text;
-ghost use Rattle.reason_report.specs.inner.Shown.{IsShown, reading_value, coherence_members_by};
+ghost use Rattle.reason_report.specs.inner.Shown.{IsShown, reading_value, coherence_members_by, shown_value};
 
 use crate::allowed_text::{has_write, write_entry, write_read_source};
 use crate::as_text::key_text;

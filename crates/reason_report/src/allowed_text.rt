@@ -1,7 +1,8 @@
 //! An execution in which what a test asks is so, as lines of text.
 
-ghost use Rattle.std.specs.Prelude.{◌≡◌, ◌++◌, ◌<◌, All, IfOk, OnOk, string_bytes, length, filter, codes};
-ghost use Rattle.std.specs.List.{flat_map};
+ghost use Rattle.std.specs.Prelude.{◌≡◌, ◌++◌, ◌<◌, [], All, IfOk, OnOk, string_bytes, length, filter, codes, slice_index_or};
+ghost use Rattle.std.specs.List.{flat_map, list_any};
+ghost use Rattle.tso_model.specs.declared.execution.Entry as declared;
 ghost use Rattle.tso_model.specs.ProgramOrder as program_order;
 ghost use Rattle.relational_model.specs.Candidates.{Candidate};
 ghost use Rattle.order_builder.specs.PrintedOrder.{printed_entry};
@@ -9,7 +10,7 @@ ghost use Rattle.tso_report.specs.inner.Tally.{IsKnown};
 ghost use Rattle.tso_report.specs.Tally.{looked_at};
 ghost use Rattle.outcome_report.specs.Outcomes.{by_line, state_line};
 ghost use Rattle.reason_report.specs.ReasonText as spec;
-ghost use Rattle.reason_report.specs.inner.Shown.{IsShown, reading_line, coherence_by};
+ghost use Rattle.reason_report.specs.inner.Shown.{IsShown, allowed_line, reading_line, coherence_by};
 
 use crate::as_text::write_event;
 use crate::asked::{model_name, write_asked, write_verdict};
@@ -58,7 +59,7 @@ pub fn allowed_text(
 
 /// `Allowed tso`.
 fn write_allowed(text: &mut String, model: Model) -> Result<(), NoMemory>
-    ensures { OnOk result (string_bytes text.new ≡ string_bytes text.old ++ spec.allowed_line model) }
+    ensures { OnOk result (string_bytes text.new ≡ string_bytes text.old ++ allowed_line model) }
 {
     let model = model_name(model);
     write!(text, "Allowed {model}\n")?;

@@ -1,15 +1,14 @@
 //! The lines of the cases that a leaf closes at once: they come first of a question's cases.
 
-ghost use Rattle.std.specs.Prelude.{◌≡◌, ◌<◌, ◌-◌, ◌^◌, ◌∷◌, ◌++◌, [], IfOk, OnOk, map, filter, slice_index};
+ghost use Rattle.std.specs.Prelude.{◌≡◌, ◌<◌, ◌-◌, ◌^◌, ◌∷◌, ◌++◌, [], IfOk, OnOk, map, filter};
 ghost use Rattle.std.specs.List.{flat_map};
 ghost use Rattle.refutation_laws.specs.Refutations.{asked};
-ghost use Rattle.refutations.specs.Trees.{node_of};
 ghost use Rattle.refutations.specs.inner.Trees.{known_of};
 ghost use Rattle.reason_report.specs.Steps as spec;
 ghost use Rattle.reason_report.specs.Views.{answer_of, step_of};
 ghost use Rattle.reason_report.specs.declared.closed.Closed as declared;
-ghost use Rattle.reason_report.specs.inner.Parts.{IsReady};
-ghost use Rattle.reason_report.specs.inner.Closed.{IsGiven, IsLeaf, IsClosed, AreClosed, closed_branch, alike, known_alike};
+ghost use Rattle.reason_report.specs.inner.Parts.{IsReady, root_at};
+ghost use Rattle.reason_report.specs.inner.Closed.{IsGiven, IsLeaf, IsClosed, AreClosed, closed_branch, alike, known_alike, rest_of};
 
 use crate::closed::{Closed, Given, Leaf, are_alike, is_alike_to_some};
 use crate::closing::{answer_at, why_closed};
@@ -34,8 +33,8 @@ pub fn add_leaf(
     requires leaf { IsLeaf tree leaf.now }
     requires others { AreClosed tree others.now }
     ensures { OnOk result (map step_of steps.new.items ≡ map step_of steps.old.items
-        ++ spec.leaf_steps tree.model tree.test.now (asked tree.test.now.condition) depth (known_of leaf.now.given.answers)
-        (known_alike leaf.now others.now) (node_of (slice_index tree.nodes.now leaf.now.at))) }
+        ++ spec.leaf_steps tree.entry.model tree.entry.test.now (asked tree.entry.test.now.condition) depth (known_of leaf.now.given.answers)
+        (known_alike leaf.now others.now) (root_at tree.entry leaf.now.at)) }
 {
     if let Some(closing) = why_closed(alloc, tree, leaf, others)? {
         steps.push(Step::Leaf(depth, closing))?;
@@ -71,9 +70,8 @@ fn case_answer(
     requires question { IsGiven tree.test.now question.now }
     requires first { IsClosed tree first.now }
     requires others { AreClosed tree others.now }
-    ensures { IfOk result (λ answer. answer_of answer ≡ spec.answer_of_case tree.test.now (known_of question.now.answers)
-        (closed_branch tree first.now) (filter (spec.are_alike tree.test.now (asked tree.test.now.condition) (closed_branch tree first.now))
-        (map (closed_branch tree) others.now))) }
+    ensures { IfOk result (λ answer. answer_of answer ≡ spec.answer_of_case tree.entry.test.now (known_of question.now.answers)
+        (closed_branch tree.entry first.now) (rest_of tree.entry first.now others.now)) }
 {
     let replies = replies_alike(alloc, first, others)?;
     if replies.len() == 1 {
@@ -101,9 +99,8 @@ fn add_case(
     requires first { IsClosed tree first.now }
     requires others { AreClosed tree others.now }
     ensures { OnOk result (map step_of steps.new.items ≡ map step_of steps.old.items
-        ++ spec.closed_case tree.model tree.test.now (asked tree.test.now.condition) depth (known_of question.now.answers)
-        (closed_branch tree first.now ∷ filter (spec.are_alike tree.test.now (asked tree.test.now.condition) (closed_branch tree first.now))
-        (map (closed_branch tree) others.now))) }
+        ++ spec.closed_case tree.entry.model tree.entry.test.now (asked tree.entry.test.now.condition) depth (known_of question.now.answers)
+        (closed_branch tree.entry first.now ∷ rest_of tree.entry first.now others.now)) }
 {
     let answer = case_answer(alloc, tree, question, first, others)?;
     steps.push(Step::Case(depth, answer))?;
@@ -126,8 +123,8 @@ pub fn add_closed(
     requires question { IsGiven tree.test.now question.now }
     requires closed { AreClosed tree closed.now }
     ensures { OnOk result (map step_of steps.new.items ≡ map step_of steps.old.items
-        ++ flat_map (spec.closed_case tree.model tree.test.now (asked tree.test.now.condition) depth (known_of question.now.answers))
-        (spec.groups tree.test.now (asked tree.test.now.condition) [] (map (closed_branch tree) closed.now))) }
+        ++ flat_map (spec.closed_case tree.entry.model tree.entry.test.now (asked tree.entry.test.now.condition) depth (known_of question.now.answers))
+        (spec.groups tree.entry.test.now (asked tree.entry.test.now.condition) [] (map (closed_branch tree.entry) closed.now))) }
 {
     for at in 0..closed.len() {
         let first = &closed[at];

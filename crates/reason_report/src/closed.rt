@@ -1,17 +1,15 @@
 //! The cases of a question that a leaf closes at once, and which of them one line closes together.
 
-ghost use Rattle.std.specs.Prelude.{◌≡◌, ◌<◌, ◌∷◌, ◌++◌, All, IfOk, map, filter, length, slice_index};
+ghost use Rattle.std.specs.Prelude.{◌≡◌, ◌<◌, IfOk, map, filter, length};
 ghost use Rattle.std.specs.List.{list_any};
-ghost use Rattle.refutation_laws.specs.Known.{Known};
-ghost use Rattle.refutation_laws.specs.Refutations.{asked};
 ghost use Rattle.refutations.specs.Trees.{node_of};
 ghost use Rattle.refutations.specs.inner.Trees.{known_of};
 ghost use Rattle.reason_report.specs.Steps as spec;
-ghost use Rattle.reason_report.specs.inner.Parts.{IsReady, branch_of};
+ghost use Rattle.reason_report.specs.inner.Parts.{AreBelow, IsReady, branch_in};
 ghost use Rattle.reason_report.specs.declared.closed.Closed as declared;
-ghost use Rattle.reason_report.specs.inner.Closed.{IsGiven, IsLeaf, IsClosed, AreClosed, closed_branch, same_truths, alike};
+ghost use Rattle.reason_report.specs.inner.Closed.{IsGiven, IsClosed, AreClosed, closed_branch, same_truths, alike};
 
-use crate::parts::Refutation;
+use crate::parts::{Refutation, node_at};
 use crate::places::named_among;
 use crate::replies::{Branch, Reply, with_reply};
 use refutations::{Answers, Facts, Node, known_facts};
@@ -50,7 +48,7 @@ pub struct Closed {
 pub fn give(alloc: Global, tree: Refutation<'_>, answers: Answers) -> Result<Given, NoMemory>
     requires { IsReady tree }
     ensures answers { IfOk result (λ given. known_of given.answers ≡ known_of answers) }
-    ensures facts { IfOk result (λ given. IsGiven tree.test.now given) }
+    ensures facts { IfOk result (λ given. IsGiven tree.entry.test.now given) }
 {
     let facts = known_facts(alloc, tree.test, tree.events, &answers)?;
     Ok(Given { answers, facts })
@@ -95,13 +93,13 @@ fn close(
 ) -> Result<Closed, NoMemory>
     requires tree { IsReady tree }
     requires within { branch.at < length tree.nodes.now }
-    ensures closed { IfOk result (λ closed. IsClosed tree closed) }
-    ensures branch { IfOk result (λ closed. closed_branch tree closed
-        ≡ branch_of tree.model tree.test.now tree.nodes.now (known_of question.now.answers) branch) }
+    ensures closed { IfOk result (λ closed. IsClosed tree.entry closed) }
+    ensures branch { IfOk result (λ closed. closed_branch tree.entry closed
+        ≡ branch_in tree.entry (known_of question.now.answers) branch) }
 {
     let answers = with_reply(alloc, &question.answers, branch.reply)?;
     let given = give(alloc, tree, answers)?;
-    let shares = is_source(branch.reply) && is_false(&tree.nodes[branch.at]);
+    let shares = is_source(branch.reply) && is_false(node_at(tree.nodes, branch.at));
     let named = if shares {
         named_among(
             alloc,
@@ -136,14 +134,14 @@ pub fn closed_among(
     branches: &[Branch],
 ) -> Result<Vec<Closed>, NoMemory>
     requires tree { IsReady tree }
-    requires within { All (λ b. b.at < length tree.nodes.now) branches.now }
-    ensures closed { IfOk result (λ all. AreClosed tree all.items) }
-    ensures branches { IfOk result (λ all. map (closed_branch tree) all.items
-        ≡ filter spec.is_closed (map (branch_of tree.model tree.test.now tree.nodes.now (known_of question.now.answers)) branches.now)) }
+    requires within { AreBelow (length tree.nodes.now) branches.now }
+    ensures closed { IfOk result (λ all. AreClosed tree.entry all.items) }
+    ensures branches { IfOk result (λ all. map (closed_branch tree.entry) all.items
+        ≡ filter spec.is_closed (map (branch_in tree.entry (known_of question.now.answers)) branches.now)) }
 {
     let mut all = Vec::new(alloc);
     for branch in branches {
-        if is_leaf(&tree.nodes[branch.at]) {
+        if is_leaf(node_at(tree.nodes, branch.at)) {
             all.push(close(alloc, tree, question, *branch)?)?;
         }
     }
@@ -154,7 +152,10 @@ fn are_same(some: &[bool], others: &[bool]) -> bool
     ensures { result ≡ same_truths some.now others.now }
 {
     for at in 0..some.len() {
-        if at >= others.len() || some[at] != others[at] {
+        if at >= others.len() {
+            return false;
+        }
+        if some[at] != others[at] {
             return false;
         }
     }

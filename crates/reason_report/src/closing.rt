@@ -1,21 +1,20 @@
 //! What is shown of an answer, and why a leaf closes a case.
 
-ghost use Rattle.std.specs.Prelude.{ℕ, ◌≡◌, IfOk, map, length, slice_index};
+ghost use Rattle.std.specs.Prelude.{ℕ, ◌≡◌, IfOk, map, length};
 ghost use Rattle.std.specs.List.{flat_map};
 ghost use Rattle.refutation_laws.specs.Refutations.{asked};
-ghost use Rattle.refutations.specs.Trees.{node_of};
 ghost use Rattle.refutations.specs.inner.Trees.{known_of, relations_of};
 ghost use Rattle.tso_report.specs.inner.Tally.{IsKnown};
 ghost use Rattle.reason_report.specs.Places as places;
 ghost use Rattle.reason_report.specs.Steps as spec;
 ghost use Rattle.reason_report.specs.Views.{answer_of, place_of};
 ghost use Rattle.reason_report.specs.inner.Views.{leaf_of};
-ghost use Rattle.reason_report.specs.inner.Parts.{IsReady};
+ghost use Rattle.reason_report.specs.inner.Parts.{IsReady, root_at};
 ghost use Rattle.reason_report.specs.inner.Closed.{IsGiven, IsLeaf, AreClosed, known_alike};
 
 use crate::closed::{Closed, Given, Leaf, are_alike};
 use crate::leaves::{edges_of, event_at};
-use crate::parts::Refutation;
+use crate::parts::{Refutation, node_at};
 use crate::places::{distinct_words, suffices, words_at};
 use crate::replies::Reply;
 use crate::steps::{Answer, Closing, Edge, Event, Place};
@@ -36,7 +35,7 @@ pub fn answer_at(
 ) -> Result<Answer, NoMemory>
     requires tree { IsReady tree }
     requires given { IsGiven tree.test.now given.now }
-    ensures { IfOk result (λ answer. answer_of answer ≡ spec.answer_at tree.test.now (known_of given.now.answers) reply all.now) }
+    ensures { IfOk result (λ answer. answer_of answer ≡ spec.answer_at tree.entry.test.now (known_of given.now.answers) reply all.now) }
 {
     match reply {
         Reply::Reads(read, _) => {
@@ -52,7 +51,7 @@ pub fn answer_at(
 fn shown(tree: Refutation<'_>, given: &Given, e: &Entry) -> Event
     requires tree { IsReady tree }
     requires given { IsGiven tree.test.now given.now }
-    ensures { result ≡ spec.event_at tree.test.now (known_of given.now.answers) e.now }
+    ensures { result ≡ spec.event_at tree.entry.test.now (known_of given.now.answers) e.now }
 {
     event_at(tree.test, tree.events, &given.answers, &given.facts, e)
 }
@@ -65,7 +64,7 @@ fn writes_in(
 ) -> Result<Vec<Option<Event>>, NoMemory>
     requires tree { IsReady tree }
     requires given { IsGiven tree.test.now given.now }
-    ensures { IfOk result (λ writes. writes.items ≡ map (spec.write_in tree.test.now (known_of given.now.answers)) all.now) }
+    ensures { IfOk result (λ writes. writes.items ≡ map (spec.write_in tree.entry.test.now (known_of given.now.answers)) all.now) }
 {
     let mut writes = Vec::new(alloc);
     for reply in all {
@@ -77,7 +76,7 @@ fn writes_in(
 fn write_in(tree: Refutation<'_>, given: &Given, reply: Reply) -> Option<Event>
     requires tree { IsReady tree }
     requires given { IsGiven tree.test.now given.now }
-    ensures { result ≡ spec.write_in tree.test.now (known_of given.now.answers) reply }
+    ensures { result ≡ spec.write_in tree.entry.test.now (known_of given.now.answers) reply }
 {
     match reply {
         Reply::Reads(_, Some(write)) => Some(shown(tree, given, &write)),
@@ -100,7 +99,7 @@ fn words_in(
     requires others { AreClosed tree others.now }
     requires place { IsKnown (length tree.test.now.programs) (length tree.test.now.locations) place }
     ensures { IfOk result (λ words. words.items
-        ≡ flat_map (λ k. places.words_at tree.test.now k place) (known_alike leaf.now others.now)) }
+        ≡ flat_map (λ k. places.words_at tree.entry.test.now k place) (known_alike leaf.now others.now)) }
 {
     let mut words = words_of(alloc, tree, &leaf.given, place)?;
     for other in others {
@@ -121,7 +120,7 @@ fn words_of(
     requires tree { IsReady tree }
     requires given { IsGiven tree.test.now given.now }
     requires place { IsKnown (length tree.test.now.programs) (length tree.test.now.locations) place }
-    ensures { IfOk result (λ words. words.items ≡ places.words_at tree.test.now (known_of given.now.answers) place) }
+    ensures { IfOk result (λ words. words.items ≡ places.words_at tree.entry.test.now (known_of given.now.answers) place) }
 {
     words_at(
         alloc,
@@ -142,7 +141,7 @@ fn is_named(
     requires tree { IsReady tree }
     requires given { IsGiven tree.test.now given.now }
     requires place { IsKnown (length tree.test.now.programs) (length tree.test.now.locations) place }
-    ensures { IfOk result (λ b. b ≡ places.suffices tree.test.now (asked tree.test.now.condition) (known_of given.now.answers) place) }
+    ensures { IfOk result (λ b. b ≡ places.suffices tree.entry.test.now (asked tree.entry.test.now.condition) (known_of given.now.answers) place) }
 {
     suffices(
         alloc,
@@ -165,7 +164,7 @@ fn place_in(
     requires given { IsGiven tree.test.now leaf.now.given }
     requires others { AreClosed tree others.now }
     requires place { IsKnown (length tree.test.now.programs) (length tree.test.now.locations) named }
-    ensures { IfOk result (λ place. place_of place ≡ places.place_in tree.test.now (known_alike leaf.now others.now) named) }
+    ensures { IfOk result (λ place. place_of place ≡ places.place_in tree.entry.test.now (known_alike leaf.now others.now) named) }
 {
     let words = words_in(alloc, tree, leaf, others, named)?;
     Ok(Place {
@@ -187,7 +186,7 @@ fn places_in(
     requires given { IsGiven tree.test.now leaf.now.given }
     requires others { AreClosed tree others.now }
     ensures { IfOk result (λ all. map place_of all.items
-        ≡ places.places_in tree.test.now (asked tree.test.now.condition) (known_of leaf.now.given.answers) (known_alike leaf.now others.now)) }
+        ≡ places.places_in tree.entry.test.now (asked tree.entry.test.now.condition) (known_of leaf.now.given.answers) (known_alike leaf.now others.now)) }
 {
     let mut all = Vec::new(alloc);
     for named in tree.places {
@@ -208,7 +207,7 @@ fn edges(
     requires tree { IsReady tree }
     requires given { IsGiven tree.test.now given.now }
     ensures { IfOk result (λ edges. edges.items
-        ≡ spec.edges_of tree.test.now (known_of given.now.answers) (relations_of acyclic) cycle.now) }
+        ≡ spec.edges_of tree.entry.test.now (known_of given.now.answers) (relations_of acyclic) cycle.now) }
 {
     edges_of(
         alloc,
@@ -234,11 +233,11 @@ pub fn why_closed(
     requires leaf { IsLeaf tree leaf.now }
     requires others { AreClosed tree others.now }
     ensures { IfOk result (λ closing. (depth : ℕ) → leaf_of depth closing
-        ≡ spec.leaf_steps tree.model tree.test.now (asked tree.test.now.condition) depth (known_of leaf.now.given.answers)
-        (known_alike leaf.now others.now) (node_of (slice_index tree.nodes.now leaf.now.at))) }
+        ≡ spec.leaf_steps tree.entry.model tree.entry.test.now (asked tree.entry.test.now.condition) depth (known_of leaf.now.given.answers)
+        (known_alike leaf.now others.now) (root_at tree.entry leaf.now.at)) }
 {
     let given = &leaf.given;
-    Ok(Some(match &tree.nodes[leaf.at] {
+    Ok(Some(match node_at(tree.nodes, leaf.at) {
         Node::OnLocation(cycle) => {
             Closing::Uniproc(edges(alloc, tree, given, Acyclic::OnLocation, cycle)?)
         }

@@ -1,20 +1,22 @@
 //! A refutation laid out in steps: it goes over the nodes as they stand, with a stack of what is still to be laid out.
 
-ghost use Rattle.std.specs.Prelude.{◌≡◌, ◌≤◌, ◌<◌, ◌+◌, ◌-◌, ◌^◌, ◌==◌, ◌++◌, [], All, IfOk, OnOk, map, filter, length, slice_index, not};
+ghost use Rattle.std.specs.Prelude.{ℕ, ◌≡◌, ◌≤◌, ◌<◌, ◌+◌, ◌∷◌, ◌++◌, List, [], false, IfOk, OnOk, map, filter, length, drop, replicate, not};
 ghost use Rattle.tso_model.specs.Litmus.{Litmus};
+ghost use Rattle.refutation_laws.specs.Known.{Known};
 ghost use Rattle.refutation_laws.specs.Refutations.{asked};
 ghost use Rattle.refutations.specs.Trees.{node_of};
 ghost use Rattle.refutations.specs.inner.Trees.{known_of};
 ghost use Rattle.reason_report.specs.Steps as spec;
+ghost use Rattle.reason_report.specs.Views as views;
 ghost use Rattle.reason_report.specs.Views.{step_of};
-ghost use Rattle.reason_report.specs.inner.Parts.{IsReady, parts_at, branch_of};
+ghost use Rattle.reason_report.specs.inner.Parts.{AreBelow, IsReady, first_part, root_at, parts_of, branch_in};
 ghost use Rattle.reason_report.specs.inner.Closed.{IsGiven};
-ghost use Rattle.reason_report.specs.inner.Tasks.{AreWithin, tasks_of, branch_tasks, emit};
+ghost use Rattle.reason_report.specs.inner.Tasks.{AreWithin, IsUsed, Passed, spec_wanted, task_of, with_wanted, ended_by, tasks_of, branch_task, branch_tasks, emit};
 
 use crate::cases::{add_closed, add_leaf};
 use crate::closed::{Given, Leaf, closed_among, give, is_leaf};
 use crate::closing::answer_at;
-use crate::parts::{Refutation, branches, next_parts};
+use crate::parts::{Refutation, branches, next_parts, node_at};
 use crate::replies::{Branch, Reply, reply_count, with_reply};
 use crate::steps::{Answer, Step};
 use refutation_laws::Model;
@@ -73,7 +75,7 @@ pub fn steps_of(
 fn lay_out(alloc: Global, tree: Refutation<'_>) -> Result<Vec<Step>, NoMemory>
     requires { IsReady tree }
     ensures { IfOk result (λ steps. map step_of steps.items
-        ≡ spec.steps_of tree.model tree.test.now (asked tree.test.now.condition) (map node_of tree.nodes.now)) }
+        ≡ spec.steps_of tree.entry.model tree.entry.test.now (asked tree.entry.test.now.condition) (map node_of tree.entry.nodes.now)) }
 {
     let mut steps = Vec::new(alloc);
     let mut tasks = Vec::new(alloc);
@@ -88,7 +90,13 @@ fn lay_out(alloc: Global, tree: Refutation<'_>) -> Result<Vec<Step>, NoMemory>
 /// How the next part is to be laid out, behind the cases that end before it. None, where it is a tree of its own.
 ///
 /// Errors: out of memory only.
-fn next_wanted(steps: &mut Vec<Step>, tasks: &mut Vec<Task>) -> Result<Option<Wanted>, NoMemory> {
+fn next_wanted(steps: &mut Vec<Step>, tasks: &mut Vec<Task>) -> Result<Option<Wanted>, NoMemory>
+    ensures left { IfOk result (λ wanted. (t : Litmus) (parts : List spec.Part) → map step_of steps.new.items
+        ++ emit t (with_wanted wanted (tasks_of tasks.new.items)) parts ≡ map step_of steps.old.items ++ emit t (tasks_of tasks.old.items) parts) }
+    ensures within { IfOk result (λ wanted. (most : ℕ) → AreWithin most (tasks_of tasks.old.items)
+        → AreWithin most (with_wanted wanted (tasks_of tasks.new.items))) }
+    ensures none { IfOk result (λ wanted. IsUsed wanted (tasks_of tasks.new.items)) }
+{
     while let Some(task) = tasks.pop() {
         match task {
             Task::Endcases(depth) => steps.push(Step::Endcases(depth))?,
@@ -101,11 +109,23 @@ fn next_wanted(steps: &mut Vec<Step>, tasks: &mut Vec<Task>) -> Result<Option<Wa
 /// Adds the lines of the cases that end behind the last part.
 ///
 /// Errors: out of memory only.
-fn end_all(steps: &mut Vec<Step>, tasks: &mut Vec<Task>) -> Result<(), NoMemory> {
+fn end_all(steps: &mut Vec<Step>, tasks: &mut Vec<Task>) -> Result<(), NoMemory>
+    ensures { OnOk result ((t : Litmus) → map step_of steps.new.items ≡ map step_of steps.old.items ++ emit t (tasks_of tasks.old.items) []) }
+{
     while let Some(task) = tasks.pop() {
-        if let Task::Endcases(depth) = task {
-            steps.push(Step::Endcases(depth))?;
-        }
+        end(steps, task)?;
+    }
+    Ok(())
+}
+
+/// Adds the line of cases that end, if this task is their end.
+///
+/// Errors: out of memory only.
+fn end(steps: &mut Vec<Step>, task: Task) -> Result<(), NoMemory>
+    ensures { OnOk result (map step_of steps.new.items ≡ map step_of steps.old.items ++ ended_by (task_of task)) }
+{
+    if let Task::Endcases(depth) = task {
+        steps.push(Step::Endcases(depth))?;
     }
     Ok(())
 }
@@ -120,13 +140,24 @@ fn lay_part(
     tasks: &mut Vec<Task>,
     at: usize,
     wanted: Option<Wanted>,
-) -> Result<(), NoMemory> {
+) -> Result<(), NoMemory>
+    requires tree { IsReady tree }
+    requires at { at < length tree.nodes.now }
+    requires used { IsUsed wanted (tasks_of tasks.old.items) }
+    requires within { AreWithin at (with_wanted wanted (tasks_of tasks.old.items)) }
+    ensures left { OnOk result (map step_of steps.new.items ++ emit tree.entry.test.now (tasks_of tasks.new.items) (parts_of tree.entry (at + 1))
+        ≡ map step_of steps.old.items ++ emit tree.entry.test.now (with_wanted wanted (tasks_of tasks.old.items)) (parts_of tree.entry at)) }
+    ensures within { OnOk result (AreWithin (at + 1) (tasks_of tasks.new.items)) }
+{
     match wanted {
         None => {
             let given = give(alloc, tree, no_answers(alloc))?;
             lay_node(alloc, tree, steps, tasks, at, 0, given)
         }
-        Some(Wanted::Passed) => pass(tasks, reply_count(tree.test, tree.events, &tree.nodes[at])),
+        Some(Wanted::Passed) => {
+            let count = reply_count(tree.test, tree.events, node_at(tree.nodes, at));
+            pass(tasks, count)
+        }
         Some(Wanted::Case(depth, reply, answers)) => {
             let given = give(alloc, tree, answers)?;
             let answer = answer_of(alloc, tree, &given, reply)?;
@@ -150,7 +181,12 @@ fn answer_of(
     tree: Refutation<'_>,
     given: &Given,
     reply: Reply,
-) -> Result<Answer, NoMemory> {
+) -> Result<Answer, NoMemory>
+    requires tree { IsReady tree }
+    requires given { IsGiven tree.test.now given.now }
+    ensures { IfOk result (λ answer. views.answer_of answer
+        ≡ spec.answer_at tree.entry.test.now (known_of given.now.answers) reply (reply ∷ [])) }
+{
     let alone = [reply];
     answer_at(alloc, tree, given, reply, &alone)
 }
@@ -158,7 +194,9 @@ fn answer_of(
 /// Passes over so many parts.
 ///
 /// Errors: out of memory only.
-fn pass(tasks: &mut Vec<Task>, count: usize) -> Result<(), NoMemory> {
+fn pass(tasks: &mut Vec<Task>, count: usize) -> Result<(), NoMemory>
+    ensures { OnOk result (tasks_of tasks.new.items ≡ replicate count Passed ++ tasks_of tasks.old.items) }
+{
     for _part in 0..count {
         tasks.push(Task::Part(Wanted::Passed))?;
     }
@@ -176,8 +214,18 @@ fn lay_node(
     at: usize,
     depth: usize,
     given: Given,
-) -> Result<(), NoMemory> {
-    if is_leaf(&tree.nodes[at]) {
+) -> Result<(), NoMemory>
+    requires tree { IsReady tree }
+    requires at { at < length tree.nodes.now }
+    requires depth { depth ≤ at }
+    requires given { IsGiven tree.test.now given }
+    requires within { AreWithin at (tasks_of tasks.old.items) }
+    ensures left { OnOk result (map step_of steps.new.items ++ emit tree.entry.test.now (tasks_of tasks.new.items) (parts_of tree.entry (at + 1))
+        ≡ map step_of steps.old.items ++ ((first_part (parts_of tree.entry at)).steps depth (known_of given.answers)
+        ++ emit tree.entry.test.now (tasks_of tasks.old.items) (drop 1 (parts_of tree.entry at)))) }
+    ensures within { OnOk result (AreWithin (at + 1) (tasks_of tasks.new.items)) }
+{
+    if is_leaf(node_at(tree.nodes, at)) {
         let leaf = Leaf {
             at,
             given,
@@ -198,7 +246,18 @@ fn lay_question(
     at: usize,
     depth: usize,
     given: &Given,
-) -> Result<(), NoMemory> {
+) -> Result<(), NoMemory>
+    requires tree { IsReady tree }
+    requires at { at < length tree.nodes.now }
+    requires depth { depth ≤ at }
+    requires given { IsGiven tree.test.now given.now }
+    requires within { AreWithin at (tasks_of tasks.old.items) }
+    requires question { spec.is_leaf (root_at tree at) ≡ false }
+    ensures left { OnOk result (map step_of steps.new.items ++ emit tree.entry.test.now (tasks_of tasks.new.items) (parts_of tree.entry (at + 1))
+        ≡ map step_of steps.old.items ++ ((first_part (parts_of tree.entry at)).steps depth (known_of given.now.answers)
+        ++ emit tree.entry.test.now (tasks_of tasks.old.items) (drop 1 (parts_of tree.entry at)))) }
+    ensures within { OnOk result (AreWithin (at + 1) (tasks_of tasks.new.items)) }
+{
     let branches = branches(alloc, tree, at)?;
     let closed = closed_among(alloc, tree, given, &branches)?;
     add_closed(alloc, tree, steps, depth, given, &closed)?;
@@ -207,10 +266,13 @@ fn lay_question(
 }
 
 /// How many of the branches no leaf closes at once.
-fn open_count(tree: Refutation<'_>, branches: &[Branch]) -> usize {
+fn open_count(tree: Refutation<'_>, branches: &[Branch]) -> usize
+    requires { AreBelow (length tree.nodes.now) branches.now }
+    ensures { (k : Known) → result ≡ length (filter (λ b. not (spec.is_closed b)) (map (branch_in tree.entry k) branches.now)) }
+{
     let mut count = 0;
     for branch in branches {
-        if !is_leaf(&tree.nodes[branch.at]) {
+        if !is_leaf(node_at(tree.nodes, branch.at)) {
             count += 1;
         }
     }
@@ -228,12 +290,17 @@ fn add_tasks(
     answers: &Answers,
     branches: &[Branch],
     single: bool,
-) -> Result<(), NoMemory> {
+) -> Result<(), NoMemory>
+    requires { AreBelow (length tree.nodes.now) branches.now }
+    ensures { OnOk result (tasks_of tasks.new.items
+        ≡ branch_tasks single depth (map (branch_in tree.entry (known_of answers.now)) branches.now) ++ tasks_of tasks.old.items) }
+{
     if !single {
         tasks.push(Task::Endcases(depth))?;
     }
     for i in (0..branches.len()).rev() {
-        let wanted = wanted_of(alloc, tree, depth, answers, branches[i], single)?;
+        let branch = &branches[i];
+        let wanted = wanted_of(alloc, tree, depth, answers, branch, single)?;
         tasks.push(Task::Part(wanted))?;
     }
     Ok(())
@@ -244,10 +311,13 @@ fn wanted_of(
     tree: Refutation<'_>,
     depth: usize,
     answers: &Answers,
-    branch: Branch,
+    branch: &Branch,
     single: bool,
-) -> Result<Wanted, NoMemory> {
-    if is_leaf(&tree.nodes[branch.at]) {
+) -> Result<Wanted, NoMemory>
+    requires { branch.now.at < length tree.nodes.now }
+    ensures { IfOk result (λ wanted. spec_wanted wanted ≡ branch_task single depth (branch_in tree.entry (known_of answers.now) branch.now)) }
+{
+    if is_leaf(node_at(tree.nodes, branch.at)) {
         return Ok(Wanted::Passed);
     }
     let answers = with_reply(alloc, answers, branch.reply)?;

@@ -1,7 +1,6 @@
 //! What an order of a test's entries makes of its programs, by the order's own read values: events, registers and words.
 
-ghost use Rattle.std.specs.Prelude.{◌≡◌, ◌<◌, ◌++◌, [], IfOk, OnOk, length, slice_index_or};
-ghost use Rattle.tso_model.specs.ProgramOrder as program_order;
+ghost use Rattle.std.specs.Prelude.{◌≡◌, ◌<◌, ◌∷◌, ◌++◌, [], IfOk, OnOk, length, slice_index_or};
 ghost use Rattle.tso_model.specs.ProgramEntries as spec;
 ghost use Rattle.tso_model.specs.FinalState as final;
 

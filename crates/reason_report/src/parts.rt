@@ -1,12 +1,13 @@
 //! Where the part of each node ends, and so where the part of each branch of a question begins.
 
-ghost use Rattle.std.specs.Prelude.{ℕ, ◌≡◌, ◌≤◌, ◌+◌, ◌<◌, ◌∷◌, List, length, drop, map, slice_index, EachIndex, IfOk};
+ghost use Rattle.std.specs.Prelude.{ℕ, ◌≡◌, ◌≤◌, ◌+◌, ◌<◌, ◌∷◌, List, length, drop, map, IfOk};
+ghost use Rattle.tso_model.specs.Litmus.{Litmus};
 ghost use Rattle.refutation_laws.specs.Known.{Known, events_of};
 ghost use Rattle.refutation_laws.specs.declared.model.Model.{Model};
 ghost use Rattle.refutations.specs.Trees.{node_of};
 ghost use Rattle.reason_report.specs.Steps as spec;
 ghost use Rattle.reason_report.specs.Steps.{Part};
-ghost use Rattle.reason_report.specs.inner.Parts.{AreNext, IsReady, parts_at, branch_of};
+ghost use Rattle.reason_report.specs.inner.Parts.{AreBelow, AreNext, IsReady, parts_at, first_part, root_at, branch_in};
 
 use crate::replies::{Branch, replies, reply_count};
 use refutation_laws::Model;
@@ -29,6 +30,14 @@ pub struct Refutation<'a> {
     pub places: &'a [Named],
 }
 
+/// The node that stands at a place.
+pub fn node_at(nodes: &[Node], at: usize) -> &Node
+    requires { at < length nodes.now }
+    ensures { (model : Model) (t : Litmus) → node_of result.now ≡ (first_part (parts_at model t nodes.now at)).root }
+{
+    &nodes[at]
+}
+
 /// Of each node the place behind its part.
 ///
 /// Errors: out of memory only.
@@ -44,7 +53,7 @@ pub fn next_parts(
 {
     let mut next = vec![in alloc; 0usize; nodes.len()]?;
     for at in (0..nodes.len()).rev() {
-        let count = reply_count(test, events, &nodes[at]);
+        let count = reply_count(test, events, node_at(nodes, at));
         let after = after_parts(&next, at + 1, count);
         next[at] = after;
     }
@@ -72,13 +81,13 @@ pub fn after_parts(next: &[usize], first: usize, count: usize) -> usize
 pub fn branches(alloc: Global, tree: Refutation<'_>, at: usize) -> Result<Vec<Branch>, NoMemory>
     requires tree { IsReady tree }
     requires at { at < length tree.nodes.now }
-    ensures branches { IfOk result (λ all. (k : Known) → map (branch_of tree.model tree.test.now tree.nodes.now k) all.items
-        ≡ spec.branches_with k (spec.replies tree.test.now (node_of (slice_index tree.nodes.now at)))
-        (parts_at tree.model tree.test.now tree.nodes.now (at + 1))) }
-    ensures within { IfOk result (λ all. EachIndex all.items (λ i. (slice_index all.items i).at < length tree.nodes.now)) }
+    ensures branches { IfOk result (λ all. (k : Known) → map (branch_in tree.entry k) all.items
+        ≡ spec.branches_with k (spec.replies tree.entry.test.now (root_at tree.entry at))
+        (parts_at tree.entry.model tree.entry.test.now tree.entry.nodes.now (at + 1))) }
+    ensures within { IfOk result (λ all. AreBelow (length tree.entry.nodes.now) all.items) }
 {
     let mut all = Vec::new(alloc);
-    let answers = replies(alloc, tree.test, tree.events, &tree.nodes[at])?;
+    let answers = replies(alloc, tree.test, tree.events, node_at(tree.nodes, at))?;
     let mut from = at + 1;
     for reply in &answers {
         if from >= tree.nodes.len() {

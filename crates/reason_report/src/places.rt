@@ -1,7 +1,7 @@
 //! Why a proposition is false by the values that are known: the registers and locations that suffice to tell it.
 
-ghost use Rattle.std.specs.Prelude.{◌≡◌, All, IfOk, OnOk, length, map, true, is_some};
-ghost use Rattle.std.specs.List.{list_all};
+ghost use Rattle.std.specs.Prelude.{◌≡◌, ◌==◌, All, IfOk, OnOk, length, map, true, is_some};
+ghost use Rattle.std.specs.List.{list_all, list_any};
 ghost use Rattle.tso_model.specs.Condition.{NamesExist, claim_of, RegClaim, LocClaim};
 ghost use Rattle.refutation_laws.specs.Known.{events_of};
 ghost use Rattle.refutation_laws.specs.Refutations.{asked};
@@ -205,12 +205,18 @@ pub fn distinct_words(alloc: Global, words: &[Option<u32>]) -> Result<Vec<u32>, 
     Ok(values)
 }
 
-/// Adds a word that doesn't stand there yet.
+/// Adds a word, if it doesn't stand there yet.
 fn add_word(values: &mut Vec<u32>, value: u32) -> Result<(), NoMemory>
     ensures { OnOk result (values.new.items ≡ with_word values.old.items value) }
 {
-    if !values.contains(&value) {
+    if !is_among(values, value) {
         values.push(value)?;
     }
     Ok(())
+}
+
+fn is_among(values: &[u32], value: u32) -> bool
+    ensures { result ≡ list_any (λ v. v == value) values.now }
+{
+    values.iter().any(|v| *v == value)
 }

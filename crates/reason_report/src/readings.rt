@@ -1,13 +1,13 @@
 //! Which write each read of an execution reads from: the last one that counts for it, before it in the order or in its own
 //! program.
 
-ghost use Rattle.std.specs.Prelude.{◌≡◌, ◌∷◌, ◌++◌, true, All, IfOk, OnOk, List, map, filter, slice_index, take, drop, ◌+◌, ◌<◌, length};
+ghost use Rattle.std.specs.Prelude.{◌≡◌, ◌↔◌, ◌∷◌, ◌++◌, ◌+◌, ◌<◌, IfOk, IsTrue, filter, take, drop, length};
 ghost use Rattle.tso_model.specs.ProgramOrder as program_order;
 ghost use Rattle.tso_model.specs.Axioms.{counting};
 ghost use Rattle.tso_model.specs.declared.execution.Entry as declared;
 ghost use Rattle.relational_model.specs.Events.{IsIn};
 ghost use Rattle.relational_model.specs.CandidatesOfOrders.{last_in};
-ghost use Rattle.reason_report.specs.inner.Shown.{last_or, ReadsIt, AreReadings};
+ghost use Rattle.reason_report.specs.inner.Shown.{last_or, AreIn, ReadsIt, AreReadings};
 
 use refutations::events::{is_before, is_read, writes_to};
 use std::alloc::Global;
@@ -24,7 +24,7 @@ pub struct Reading {
 ///
 /// Errors: out of memory only.
 pub fn readings(alloc: Global, order: &[Entry], entries: &[Entry]) -> Result<Vec<Reading>, NoMemory>
-    requires { All (IsIn order.now) entries.now }
+    requires { AreIn order.now entries.now }
     ensures { IfOk result (λ all. AreReadings order.now (filter program_order.is_read entries.now) all.items) }
 {
     let mut all = Vec::new(alloc);
@@ -54,11 +54,12 @@ fn place_in(order: &[Entry], e: &Entry) -> usize
     ensures within { result < length order.now }
     ensures place { order.now ≡ take result order.now ++ (e.now ∷ drop (result + 1) order.now) }
 {
-    let mut at = 0;
-    while !is_same(&order[at], e) {
-        at += 1;
+    for at in 0..order.len() {
+        if is_same(&order[at], e) {
+            return at;
+        }
     }
-    at
+    0
 }
 
 fn is_same(x: &Entry, y: &Entry) -> bool

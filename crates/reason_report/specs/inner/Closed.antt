@@ -51,3 +51,8 @@ alike l m = l.shares && m.shares && same_truths l.named.items m.named.items
 -- what is given in a case, and in those of these that are alike
 abbrev pub known_alike : Leaf → List Closed → List Known
 known_alike l cs = known_of l.given.answers ∷ map (λ (c : Closed). known_of c.leaf.given.answers) (filter (λ (c : Closed). alike l c.leaf) cs)
+
+-- the branches among these cases that one line closes together with the first
+unfoldable pub rest_of : Refutation → Closed → List Closed → List spec.Branch
+rest_of tree first others =
+    filter (spec.are_alike tree.test.now (asked tree.test.now.condition) (closed_branch tree first)) (map (closed_branch tree) others)

@@ -25,6 +25,21 @@ abbrev pub branch_of : Model → Litmus → List Node → Known → Branch → s
 branch_of model t nodes k b =
     record { reply = b.reply; known = spec.with_reply k b.reply; part = first_part (parts_at model t nodes b.at) }
 
+-- the same of a refutation: its parts from a place on, the node there, and a branch
+abbrev pub parts_of : Refutation → ℕ → List spec.Part
+parts_of tree i = parts_at tree.model tree.test.now tree.nodes.now i
+
+abbrev pub root_at : Refutation → ℕ → refutations.Node
+root_at tree i = (first_part (parts_of tree i)).root
+
+abbrev pub branch_in : Refutation → Known → Branch → spec.Branch
+branch_in tree k b = branch_of tree.model tree.test.now tree.nodes.now k b
+
+-- each begins before this place
+abbrev pub AreBelow : ℕ → List Branch → Type 0
+AreBelow count [] = Unit {0}
+AreBelow count (b ∷ bs) = (b.at < count) × AreBelow count bs
+
 -- the parts from this place on are those from the other one on without the first
 pub record IsNext (parts : ℕ → List spec.Part) (count i next : ℕ) : Type 0 where
   pub beyond : i < next

@@ -1,12 +1,23 @@
 -- An execution as the code shows it: what its reads read from, by its order.
-use Rattle.std.specs.Prelude.{ℕ, ◌≡◌, List, [], ◌∷◌, ◌++◌, map, filter, Option, Some, None}
+use Rattle.std.specs.Prelude.{ℕ, ◌+◌, ◌≡◌, true, List, [], ◌∷◌, ◌++◌, map, filter, Option, Some, None, codes}
+use Rattle.serde_json.specs.Data.{Data, string, array, object, Members, no_members, member}
+use Rattle.serde_json.specs.View.{items_of}
 use Rattle.tso_model.specs.Litmus.{Litmus}
 use Rattle.tso_model.specs.ProgramOrder.{writes_to}
 use Rattle.tso_model.specs.Axioms.{counting}
 use Rattle.tso_model.specs.declared.execution.Entry.{Entry}
+use Rattle.relational_model.specs.Events.{IsIn}
 use Rattle.relational_model.specs.Candidates.{Candidate}
 use Rattle.relational_model.specs.CandidatesOfOrders.{last_in}
-use Rattle.reason_report.specs.ReasonText.{reads_of, values_left}
+use Rattle.refutation_laws.specs.declared.model.Model.{Model}
+use Rattle.tso_model.specs.declared.choice.Choice.{Choice}
+use Rattle.scheduler.specs.Printed.{printed_choices}
+use Rattle.order_builder.specs.PrintedOrder.{printed_entry}
+use Rattle.tso_report.specs.Report.{line}
+use Rattle.tso_report.specs.Tally.{looked_at}
+use Rattle.outcome_report.specs.OutcomesJson.{value_members}
+use Rattle.reason_report.specs.ReasonText.{model_name, read_source, reads_of, coherence_line, values_left}
+use Rattle.reason_report.specs.ReasonJson.{asked_value, verdict_value, with_coherence}
 use Rattle.reason_report.specs.declared.readings.Reading.{Reading}
 
 -- the last of these, or else this one
@@ -21,14 +32,58 @@ pub record ReadsIt (order : List Entry) (r : Entry) (w : Option Entry) : Type 0 
   pub place : order ≡ front ++ (r ∷ back)
   pub source : w ≡ last_in (counting r front back)
 
+-- each of these stands in the order
+abbrev pub AreIn : List Entry → List Entry → Type 0
+AreIn order [] = Unit {0}
+AreIn order (e ∷ es) = IsIn order e × AreIn order es
+
 -- these reads, each with the write that it reads from
 abbrev pub AreReadings : List Entry → List Entry → List Reading → Type 0
 AreReadings order [] [] = Unit {0}
 AreReadings order (r ∷ rs) (x ∷ xs) = (x.read ≡ r) × ReadsIt order r x.write × AreReadings order rs xs
 AreReadings order _ _ = ⊥
 
+abbrev pub reading_of : Candidate → Entry → Reading
+reading_of c r = record { read = r; write = c.source r }
+
 -- a candidate of which this is shown
-pub record IsShown (t : Litmus) (order : List Entry) (readings : List Reading) (values : List ℕ) (c : Candidate) : Type 0 where
-  pub readings : readings ≡ map (λ r. record { read = r; write = c.source r }) (reads_of t c)
+pub record IsShown (t : Litmus) (order : List Entry) (xs : List Reading) (vs : List ℕ) (c : Candidate) : Type 0 where
+  pub readings : xs ≡ map (reading_of c) (reads_of t c)
   pub coherence : (loc : ℕ) → c.coherence loc ≡ filter (writes_to loc) order
-  pub values : values ≡ values_left t c
+  pub values : vs ≡ values_left t c
+
+-- `Allowed tso`
+abbrev pub allowed_line : Model → List ℕ
+allowed_line model = codes "Allowed " ++ line (model_name model)
+
+-- `From P0:1 R y=0 initial`
+abbrev pub reading_line : Litmus → Reading → List ℕ
+reading_line t x = codes "From " ++ (printed_entry t x.read ++ (codes " " ++ line (read_source t x.write)))
+
+abbrev pub reading_value : Litmus → Reading → Data
+reading_value t x =
+    object (member (codes "read") (string (printed_entry t x.read))
+    (member (codes "write") (string (read_source t x.write)) no_members))
+
+-- the writes of the order to each location from this one on
+abbrev pub coherence_by : Litmus → List Entry → ℕ → List (List ℕ) → List ℕ
+coherence_by t order loc [] = []
+coherence_by t order loc (name ∷ names) = coherence_line t name (filter (writes_to loc) order) ++ coherence_by t order (loc + 1) names
+
+abbrev pub coherence_members_by : Litmus → List Entry → ℕ → List (List ℕ) → Members
+coherence_members_by t order loc [] = no_members
+coherence_members_by t order loc (name ∷ names) =
+    with_coherence t name (filter (writes_to loc) order) (coherence_members_by t order (loc + 1) names)
+
+-- all of it, as `allowed_value` has it of a candidate
+abbrev pub shown_value : Model → Litmus → List Entry → List Reading → List ℕ → List Choice → Data
+shown_value model t order readings values choices =
+    object (member (codes "answer") (string (codes "allowed"))
+    (member (codes "asked") (asked_value t.condition)
+    (member (codes "choices") (string (printed_choices choices))
+    (member (codes "coherence") (object (coherence_members_by t order 0 t.locations))
+    (member (codes "model") (string (model_name model))
+    (member (codes "sources") (array (items_of (map (reading_value t) readings)))
+    (member (codes "test") (string t.name)
+    (member (codes "values") (object (value_members t (looked_at t) values))
+    (member (codes "verdict") (verdict_value t.condition true) no_members)))))))))

@@ -1,5 +1,5 @@
 -- What is still to be laid out, as the code keeps it: tasks, of which the first stands for the next part.
-use Rattle.std.specs.Prelude.{ℕ, ◌+◌, ◌≤◌, Bool, true, false, if◌then◌else◌, List, [], ◌∷◌, ◌++◌, Option, Some, None}
+use Rattle.std.specs.Prelude.{ℕ, ◌≡◌, ◌+◌, ◌≤◌, Bool, true, false, if◌then◌else◌, List, [], ◌∷◌, ◌++◌, Option, Some, None}
 use Rattle.std.specs.List.{flat_map}
 use Rattle.tso_model.specs.Litmus.{Litmus}
 use Rattle.refutation_laws.specs.Known.{Known, nothing}
@@ -21,19 +21,19 @@ pub data Task : Type 0 where
   -- no part, but the end of cases
   Endcases : ℕ → Task
 
-abbrev pub wanted_of : Wanted → Task
-wanted_of wanted.Passed = Passed
-wanted_of (wanted.Case depth reply answers) = Case depth reply (known_of answers)
-wanted_of (wanted.So depth reply answers) = So depth reply (known_of answers)
+abbrev pub spec_wanted : Wanted → Task
+spec_wanted wanted.Passed = Passed
+spec_wanted (wanted.Case depth reply answers) = Case depth reply (known_of answers)
+spec_wanted (wanted.So depth reply answers) = So depth reply (known_of answers)
 
 abbrev pub task_of : declared.Task → Task
-task_of (code.Part w) = wanted_of w
+task_of (code.Part w) = spec_wanted w
 task_of (code.Endcases depth) = Endcases depth
 
 -- before these tasks the one of the next part, if it has one
 abbrev pub with_wanted : Option Wanted → List Task → List Task
 with_wanted None ts = ts
-with_wanted (Some w) ts = wanted_of w ∷ ts
+with_wanted (Some w) ts = spec_wanted w ∷ ts
 
 -- a stack of tasks, the last one first
 abbrev pub tasks_of : List declared.Task → List Task
@@ -76,3 +76,13 @@ depth_of (Endcases depth) = depth
 abbrev pub AreWithin : ℕ → List Task → Type 0
 AreWithin most [] = Unit {0}
 AreWithin most (a ∷ rest) = (depth_of a ≤ most) × AreWithin most rest
+
+-- a part without a task comes only where no task is left
+abbrev pub IsUsed : Option Wanted → List Task → Type 0
+IsUsed None ts = ts ≡ []
+IsUsed (Some w) ts = Unit {0}
+
+-- the line of a task where no part is left
+abbrev pub ended_by : Task → List spec.Step
+ended_by (Endcases depth) = spec.Endcases depth ∷ []
+ended_by _ = []

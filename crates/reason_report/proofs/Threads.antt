@@ -1,0 +1,62 @@
+-- What an order makes of the programs, core by core, place by place and location by location.
+use Rattle.std.proofs.Common.{ℕ, suc, zero, ◌+◌, ◌≡◌, ◌<◌, Bool, cond, List, [], ◌∷◌, ◌++◌, length, drop, get_or, refl, sym, ap, ◌∙◌, append_assoc}
+use Rattle.std.specs.Prelude.{slice_index_or}
+use Rattle.std.proofs.lemmas.List.{at_drop_more}
+use Rattle.tso_model.specs.Actions.{action_of}
+use Rattle.tso_model.specs.Thread.{is_reading, reads_in}
+use Rattle.tso_model.specs.ProgramEntries.{values_by, read_values, made_by, made_from}
+use Rattle.tso_model.specs.FinalState.{word_after, words_from, registers_of, registers_from}
+use Rattle.tso_model.specs.declared.instruction.Instr.{Instr}
+use Rattle.tso_model.specs.declared.action.Action.{Action}
+use Rattle.tso_model.specs.declared.action.Action.TheVariants.{Store, Load, Move, Fence, Lock}
+use Rattle.tso_model.specs.declared.execution.Entry.{Entry}
+
+-- there is a value for each read
+pub reads-count : (core place : ℕ) (program : List Instr) (order : List Entry) → length (read_values core place program order) ≡ reads_in program
+reads-count core place [] order = refl
+reads-count core place (i ∷ rest) order = by-case (action_of i) (reads-count core (place + 1) rest order)
+  where
+    by-case : (a : Action) → length (read_values core (place + 1) rest order) ≡ reads_in rest
+        → length (values_by core place a order ++ read_values core (place + 1) rest order) ≡ cond (is_reading a) (suc (reads_in rest)) (reads_in rest)
+    by-case (Load reg loc) e = ap (λ n. suc n) e
+    by-case (Lock loc reg update) e = ap (λ n. suc n) e
+    by-case (Store loc operand) e = e
+    by-case (Move reg operand) e = e
+    by-case Fence e = e
+
+-- one more, which comes first of what is left
+more : {X Y : Type 0} (xs : List X) (i : ℕ) (d : X) → i < length xs → (F G : List X → List Y) (one done after whole : List Y)
+    → ((rest : List X) → F (get_or xs i d ∷ rest) ≡ one ++ G rest) → after ≡ done ++ one → done ++ F (drop i xs) ≡ whole
+    → after ++ G (drop (i + 1) xs) ≡ whole
+more xs i d within F G one done after whole step is so =
+    ap (λ ys. ys ++ G (drop (i + 1) xs)) is
+    ∙ (append_assoc done one (G (drop (i + 1) xs))
+    ∙ (ap (λ ys. done ++ ys) (sym (at_drop_more F xs i d within ∙ step (drop (i + 1) xs))) ∙ so))
+
+pub core-entries : (n : ℕ) (ps : List (List Instr)) (registers : List (List ℕ)) (order done after whole : List Entry) → n < length ps
+    → after ≡ done ++ made_by n (slice_index_or ps n []) (slice_index_or registers n []) order
+    → done ++ made_from n (drop n ps) registers order ≡ whole → after ++ made_from (n + 1) (drop (n + 1) ps) registers order ≡ whole
+core-entries n ps registers order done after whole within =
+    more ps n [] within (λ qs. made_from n qs registers order) (λ qs. made_from (n + 1) qs registers order)
+    (made_by n (slice_index_or ps n []) (slice_index_or registers n []) order) done after whole (λ rest. refl)
+
+pub core-registers : (n : ℕ) (ps : List (List Instr)) (registers : List (List ℕ)) (order : List Entry) (done after whole : List (List ℕ)) → n < length ps
+    → after ≡ done ++ (registers_of n (slice_index_or ps n []) (slice_index_or registers n []) order ∷ [])
+    → done ++ registers_from n (drop n ps) registers order ≡ whole → after ++ registers_from (n + 1) (drop (n + 1) ps) registers order ≡ whole
+core-registers n ps registers order done after whole within =
+    more ps n [] within (λ qs. registers_from n qs registers order) (λ qs. registers_from (n + 1) qs registers order)
+    (registers_of n (slice_index_or ps n []) (slice_index_or registers n []) order ∷ []) done after whole (λ rest. refl)
+
+pub value-more : (core place : ℕ) (order : List Entry) (is : List Instr) (i : ℕ) (d : Instr) → i < length is → (done after whole : List ℕ)
+    → after ≡ done ++ values_by core place (action_of (get_or is i d)) order
+    → done ++ read_values core place (drop i is) order ≡ whole → after ++ read_values core (place + 1) (drop (i + 1) is) order ≡ whole
+value-more core place order is i d within done after whole =
+    more is i d within (λ ps. read_values core place ps order) (λ ps. read_values core (place + 1) ps order)
+    (values_by core place (action_of (get_or is i d)) order) done after whole (λ rest. refl)
+
+pub word-more : (loc : ℕ) (order : List Entry) (words : List ℕ) (i : ℕ) → i < length words → (done after whole : List ℕ)
+    → after ≡ done ++ (word_after loc order (get_or words i 0) ∷ [])
+    → done ++ words_from loc (drop i words) order ≡ whole → after ++ words_from (loc + 1) (drop (i + 1) words) order ≡ whole
+word-more loc order words i within done after whole =
+    more words i 0 within (λ ws. words_from loc ws order) (λ ws. words_from (loc + 1) ws order)
+    (word_after loc order (get_or words i 0) ∷ []) done after whole (λ rest. refl)

@@ -1,0 +1,7 @@
+use Rattle.std.proofs.Common.{◌≡◌, drop}
+use Rattle.serde_json.specs.View.{members_view}
+use Rattle.reason_report.specs.inner.Shown.{coherence_members_by}
+use Rattle.reason_report.proofs.allowed_json.coherence_value.Given as goal
+
+abbrev pub invariant-loop-loc : goal.invariant-loop-loc
+invariant-loop-loc l = members_view l.members.entries ≡ coherence_members_by l.test l.order l.loc (drop l.loc l.test.locations)

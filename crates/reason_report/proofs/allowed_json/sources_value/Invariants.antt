@@ -1,0 +1,8 @@
+use Rattle.std.proofs.Common.{◌≡◌, ◌++◌, drop, map}
+use Rattle.serde_json.specs.View.{view}
+use Rattle.reason_report.specs.inner.Shown.{reading_value}
+use Rattle.reason_report.proofs.allowed_json.sources_value.Given as goal
+
+abbrev pub invariant-loop-reading : goal.invariant-loop-reading
+invariant-loop-reading l =
+    map view l.values.items ++ map (reading_value l.test) (drop l.reading-index l.readings) ≡ map (reading_value l.test) l.readings

@@ -1,0 +1,8 @@
+use Rattle.std.proofs.Common.{◌≡◌, ◌++◌, drop, string_bytes}
+use Rattle.reason_report.specs.inner.Shown.{coherence_by}
+use Rattle.reason_report.proofs.allowed_text.write_coherence.Given as goal
+
+abbrev pub invariant-loop-loc : goal.invariant-loop-loc
+invariant-loop-loc l =
+    string_bytes l.text ++ coherence_by l.test l.order l.loc (drop l.loc l.test.locations)
+    ≡ string_bytes l.initial.text ++ coherence_by l.test l.order 0 l.test.locations

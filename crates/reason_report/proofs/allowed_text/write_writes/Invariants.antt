@@ -1,0 +1,12 @@
+use Rattle.std.proofs.Common.{◌≡◌, ◌++◌, drop, string_bytes}
+use Rattle.std.specs.Prelude.{filter, codes}
+use Rattle.std.specs.List.{flat_map}
+use Rattle.tso_model.specs.ProgramOrder.{writes_to}
+use Rattle.tso_model.specs.declared.execution.Entry.{Entry}
+use Rattle.order_builder.specs.PrintedOrder.{printed_entry}
+use Rattle.reason_report.proofs.allowed_text.write_writes.Given as goal
+
+abbrev pub invariant-loop-entry : goal.invariant-loop-entry
+invariant-loop-entry l =
+    string_bytes l.text ++ flat_map (λ (v : Entry). codes " " ++ printed_entry l.test v) (filter (writes_to l.loc.0) (drop l.entry-index l.order))
+    ≡ string_bytes l.initial.text ++ flat_map (λ (v : Entry). codes " " ++ printed_entry l.test v) (filter (writes_to l.loc.0) l.order)

@@ -1,0 +1,18 @@
+use Rattle.std.proofs.Common.{◌≡◌, ◌++◌, [], drop, take, map}
+use Rattle.std.specs.List.{flat_map}
+use Rattle.refutation_laws.specs.Refutations.{asked}
+use Rattle.refutations.specs.inner.Trees.{known_of}
+use Rattle.reason_report.specs.Steps as spec
+use Rattle.reason_report.specs.Views.{step_of}
+use Rattle.reason_report.specs.inner.Closed.{closed_branch}
+use Rattle.reason_report.proofs.cases.add_closed.Given as goal
+
+abbrev pub invariant-loop-at : goal.invariant-loop-at
+invariant-loop-at l =
+    map step_of l.steps.items
+    ++ flat_map (spec.closed_case l.tree.model l.tree.test.now (asked l.tree.test.now.condition) l.depth (known_of l.question.answers))
+    (spec.groups l.tree.test.now (asked l.tree.test.now.condition) (map (closed_branch l.tree) (take l.at l.closed))
+    (map (closed_branch l.tree) (drop l.at l.closed)))
+    ≡ map step_of l.fn.steps.items
+    ++ flat_map (spec.closed_case l.tree.model l.tree.test.now (asked l.tree.test.now.condition) l.depth (known_of l.question.answers))
+    (spec.groups l.tree.test.now (asked l.tree.test.now.condition) [] (map (closed_branch l.tree) l.closed))

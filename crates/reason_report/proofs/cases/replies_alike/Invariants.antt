@@ -1,0 +1,10 @@
+use Rattle.std.proofs.Common.{◌≡◌, ◌++◌, ◌∷◌, drop, map}
+use Rattle.std.specs.Prelude.{filter}
+use Rattle.reason_report.specs.declared.closed.Closed.{Closed}
+use Rattle.reason_report.specs.inner.Closed.{alike}
+use Rattle.reason_report.proofs.cases.replies_alike.Given as goal
+
+abbrev pub invariant-loop-other : goal.invariant-loop-other
+invariant-loop-other l =
+    l.all.items ++ map (λ (c : Closed). c.reply) (filter (λ (c : Closed). alike l.first.leaf c.leaf) (drop l.other-index l.others))
+    ≡ map (λ (c : Closed). c.reply) (l.first ∷ filter (λ (c : Closed). alike l.first.leaf c.leaf) l.others)

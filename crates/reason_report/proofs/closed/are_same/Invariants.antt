@@ -1,0 +1,6 @@
+use Rattle.std.proofs.Common.{◌≡◌, drop}
+use Rattle.reason_report.specs.inner.Closed.{same_truths}
+use Rattle.reason_report.proofs.closed.are_same.Given as goal
+
+abbrev pub invariant-loop-at : goal.invariant-loop-at
+invariant-loop-at l = same_truths l.some l.others ≡ same_truths (drop l.at l.some) (drop l.at l.others)

@@ -1,0 +1,16 @@
+use Rattle.std.proofs.Common.{◌≡◌, ◌++◌, drop, map, length}
+use Rattle.std.specs.Prelude.{filter, All}
+use Rattle.refutation_laws.specs.Refutations.{asked}
+use Rattle.refutations.specs.inner.Trees.{known_of}
+use Rattle.reason_report.specs.Places.{suffices, place_in}
+use Rattle.reason_report.specs.Views.{place_of}
+use Rattle.reason_report.specs.inner.Closed.{known_alike}
+use Rattle.reason_report.proofs.closing.places_in.Given as goal
+
+abbrev pub invariant-loop-named : goal.invariant-loop-named
+invariant-loop-named l =
+    map place_of l.all.items
+    ++ map (place_in l.tree.test.now (known_alike l.leaf l.others))
+    (filter (suffices l.tree.test.now (asked l.tree.test.now.condition) (known_of l.leaf.given.answers)) (drop l.named-index l.tree.places.now))
+    ≡ map (place_in l.tree.test.now (known_alike l.leaf l.others))
+    (filter (suffices l.tree.test.now (asked l.tree.test.now.condition) (known_of l.leaf.given.answers)) l.tree.places.now)

@@ -1,0 +1,9 @@
+use Rattle.std.proofs.Common.{◌≡◌, ◌++◌, drop, map}
+use Rattle.refutations.specs.inner.Trees.{known_of}
+use Rattle.reason_report.specs.Steps.{write_in}
+use Rattle.reason_report.proofs.closing.writes_in.Given as goal
+
+abbrev pub invariant-loop-reply : goal.invariant-loop-reply
+invariant-loop-reply l =
+    l.writes.items ++ map (write_in l.tree.test.now (known_of l.given.answers)) (drop l.reply-index l.all)
+    ≡ map (write_in l.tree.test.now (known_of l.given.answers)) l.all

@@ -1,0 +1,10 @@
+use Rattle.std.proofs.Common.{◌≡◌, ◌++◌, drop, map}
+use Rattle.refutations.specs.inner.Trees.{known_of}
+use Rattle.reason_report.specs.inner.Parts.{branch_in}
+use Rattle.reason_report.specs.inner.Tasks.{tasks_of, branch_tasks}
+use Rattle.reason_report.proofs.layout.add_tasks.Given as goal
+
+abbrev pub invariant-loop-i : goal.invariant-loop-i
+invariant-loop-i l =
+    tasks_of l.tasks.items
+    ≡ branch_tasks l.single l.depth (map (branch_in l.tree (known_of l.answers)) (drop l.i l.branches)) ++ tasks_of l.fn.tasks.items

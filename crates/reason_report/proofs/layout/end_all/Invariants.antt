@@ -1,0 +1,12 @@
+use Rattle.std.proofs.Common.{◌≡◌, ◌++◌, [], map, vec_len}
+use Rattle.tso_model.specs.Litmus.{Litmus}
+use Rattle.reason_report.specs.Views.{step_of}
+use Rattle.reason_report.specs.inner.Tasks.{tasks_of, emit}
+use Rattle.reason_report.proofs.layout.end_all.Given as goal
+
+abbrev pub invariant-loop-task : goal.invariant-loop-task
+invariant-loop-task l =
+    (t : Litmus) → map step_of l.steps.items ++ emit t (tasks_of l.tasks.items) [] ≡ map step_of l.fn.steps.items ++ emit t (tasks_of l.fn.tasks.items) []
+
+abbrev pub decreases-loop-task : goal.decreases-loop-task
+decreases-loop-task l = vec_len l.tasks

@@ -1,0 +1,25 @@
+use Rattle.std.proofs.Common.{◌∙◌, ◌+◌, ◌≤◌, ap, sym, refl, arith, map}
+use Rattle.std.proofs.lemmas.Result.{on_ok_weaker}
+use Rattle.refutation_laws.specs.Refutations.{asked}
+use Rattle.refutations.specs.inner.Trees.{known_of}
+use Rattle.reason_report.specs.Steps as spec
+use Rattle.reason_report.specs.Views.{step_of}
+use Rattle.reason_report.specs.inner.Parts.{parts_of, root_at}
+use Rattle.reason_report.specs.inner.Tasks.{tasks_of}
+use Rattle.reason_report.proofs.Cutting.{cut-part}
+use Rattle.reason_report.proofs.Laying.{leaf-laid, within-more}
+use Rattle.reason_report.proofs.layout.lay_node.Goals as goal
+
+pub returns-then-is_leaf-clause-left : goal.returns-then-is_leaf-clause-left
+returns-then-is_leaf-clause-left c =
+    let tree = c.args.tree in
+    let t = tree.test.now in
+    on_ok_weaker c.add_leaf.result
+    (λ e. leaf-laid tree.model t (asked t.condition) (parts_of tree c.args.at) (parts_of tree (c.args.at + 1)) (root_at tree c.args.at)
+    (cut-part tree.model t tree.nodes.now c.args.at (c.args.at + 1) c.requires.at refl) c.args.depth (known_of c.args.given.answers)
+    (map step_of c.args.steps.now.items) (map step_of c.add_leaf.new.steps.items) (tasks_of c.args.tasks.now.items)
+    (sym (ap spec.is_leaf (c.node_at.ensures tree.model t)) ∙ (sym c.is_leaf.ensures ∙ c.if-is_leaf.true)) e) c.add_leaf.ensures
+
+pub returns-then-is_leaf-clause-within : goal.returns-then-is_leaf-clause-within
+returns-then-is_leaf-clause-within c =
+    on_ok_weaker c.add_leaf.result (λ e. within-more c.args.at (c.args.at + 1) (omega arith) (tasks_of c.args.tasks.now.items) c.requires.within) c.add_leaf.ensures

@@ -1,0 +1,15 @@
+use Rattle.std.proofs.Common.{◌≡◌, ◌++◌, map}
+use Rattle.refutation_laws.specs.Refutations.{asked}
+use Rattle.refutations.specs.Trees.{node_of}
+use Rattle.reason_report.specs.Steps as spec
+use Rattle.reason_report.specs.Views.{step_of}
+use Rattle.reason_report.specs.inner.Parts.{parts_of}
+use Rattle.reason_report.specs.inner.Tasks.{AreWithin, tasks_of, emit}
+use Rattle.reason_report.proofs.layout.lay_out.Given as goal
+
+abbrev pub invariant-loop-at : goal.invariant-loop-at
+invariant-loop-at l = record {
+  left : map step_of l.steps.items ++ emit l.tree.test.now (tasks_of l.tasks.items) (parts_of l.tree l.at)
+      ≡ spec.steps_of l.tree.model l.tree.test.now (asked l.tree.test.now.condition) (map node_of l.tree.nodes.now);
+  within : AreWithin l.at (tasks_of l.tasks.items);
+}

@@ -1,0 +1,16 @@
+use Rattle.std.proofs.Common.{ℕ, ◌≡◌, ◌++◌, List, map, vec_len}
+use Rattle.tso_model.specs.Litmus.{Litmus}
+use Rattle.reason_report.specs.Steps.{Part}
+use Rattle.reason_report.specs.Views.{step_of}
+use Rattle.reason_report.specs.inner.Tasks.{AreWithin, tasks_of, emit}
+use Rattle.reason_report.proofs.layout.next_wanted.Given as goal
+
+abbrev pub invariant-loop-task : goal.invariant-loop-task
+invariant-loop-task l = record {
+  left : (t : Litmus) (parts : List Part) → map step_of l.steps.items ++ emit t (tasks_of l.tasks.items) parts
+      ≡ map step_of l.fn.steps.items ++ emit t (tasks_of l.fn.tasks.items) parts;
+  within : (most : ℕ) → AreWithin most (tasks_of l.fn.tasks.items) → AreWithin most (tasks_of l.tasks.items);
+}
+
+abbrev pub decreases-loop-task : goal.decreases-loop-task
+decreases-loop-task l = vec_len l.tasks

@@ -1,0 +1,7 @@
+use Rattle.std.proofs.Common.{◌≡◌, ◌++◌}
+use Rattle.std.specs.Prelude.{replicate}
+use Rattle.reason_report.specs.inner.Tasks.{Passed, tasks_of}
+use Rattle.reason_report.proofs.layout.pass.Given as goal
+
+abbrev pub invariant-loop-part : goal.invariant-loop-part
+invariant-loop-part l = tasks_of l.tasks.items ≡ replicate l._part Passed ++ tasks_of l.fn.tasks.items

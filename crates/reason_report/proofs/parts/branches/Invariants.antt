@@ -1,0 +1,13 @@
+use Rattle.std.proofs.Common.{ℕ, ◌≡◌, ◌≤◌, ◌+◌, ◌++◌, drop, map, length}
+use Rattle.refutation_laws.specs.Known.{Known}
+use Rattle.reason_report.specs.Steps.{branches_with}
+use Rattle.reason_report.specs.inner.Parts.{AreBelow, parts_of, branch_in}
+use Rattle.reason_report.proofs.parts.branches.Given as goal
+
+-- the branches so far, and those of the answers that are left
+abbrev pub invariant-loop-reply : goal.invariant-loop-reply
+invariant-loop-reply l = record {
+  branches : (k : Known) → map (branch_in l.tree k) l.all.items ++ branches_with k (drop l.reply-index l.reply-items) (parts_of l.tree l.from)
+      ≡ branches_with k l.reply-items (parts_of l.tree (l.at + 1));
+  below : AreBelow (length l.tree.nodes.now) l.all.items;
+}

@@ -1,0 +1,10 @@
+use Rattle.std.proofs.Common.{◌≡◌, length}
+use Rattle.refutation_laws.specs.declared.model.Model.{Model}
+use Rattle.reason_report.specs.inner.Parts.{AreNext, parts_at}
+use Rattle.reason_report.proofs.parts.next_parts.Given as goal
+
+abbrev pub invariant-loop-at : goal.invariant-loop-at
+invariant-loop-at l = record {
+  count : length l.next.items ≡ length l.nodes;
+  next : (model : Model) → AreNext (parts_at model l.test l.nodes) l.at l.next.items;
+}

@@ -1,0 +1,11 @@
+use Rattle.std.proofs.Common.{◌≡◌, drop}
+use Rattle.std.specs.Prelude.{filter}
+use Rattle.tso_model.specs.ProgramOrder.{writes_to, is_before}
+use Rattle.tso_model.specs.declared.execution.Entry.{Entry}
+use Rattle.reason_report.specs.inner.Shown.{last_or}
+use Rattle.reason_report.proofs.readings.last_of_program.Given as goal
+
+abbrev pub invariant-loop-e : goal.invariant-loop-e
+invariant-loop-e l =
+    last_or l.before (filter (writes_to l.read.loc.0) (filter (λ (e : Entry). is_before e l.read) l.entries))
+    ≡ last_or l.last (filter (writes_to l.read.loc.0) (filter (λ (e : Entry). is_before e l.read) (drop l.e-index l.entries)))
