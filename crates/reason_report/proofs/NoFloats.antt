@@ -1,5 +1,16 @@
 -- The values that are printed have no float, so that their text is known.
-use Rattle.std.proofs.Common.{◌≡◌, ℕ, Bool, true, false, ◌||◌, List, [], ◌∷◌, map, Option, Some, None, refl}
+use Rattle.std.specs.Prelude.{filter}
+use Rattle.tso_model.specs.ProgramOrder.{writes_to}
+use Rattle.tso_model.specs.declared.choice.Choice.{Choice}
+use Rattle.tso_model.specs.declared.execution.Entry.{Entry}
+use Rattle.order_builder.specs.PrintedOrder.{printed_entry}
+use Rattle.tso_report.specs.declared.named.Named.{Named}
+use Rattle.tso_report.specs.Tally.{looked_at}
+use Rattle.outcome_report.specs.OutcomesJson.{value_members}
+use Rattle.reason_report.specs.declared.readings.Reading.{Reading}
+use Rattle.reason_report.specs.inner.Shown.{reading_value, coherence_members_by, shown_value}
+use Rattle.reason_report.specs.ReasonJson.{with_coherence}
+use Rattle.std.proofs.Common.{◌≡◌, ◌+◌, ℕ, Bool, true, false, ◌||◌, List, [], ◌∷◌, map, Option, Some, None, refl}
 use Rattle.std.specs.Ordering.{nat_cmp, match_ordering}
 use Rattle.std.specs.Cmp.Lexicographic.{slice_cmp}
 use Rattle.std.specs.declared.cmp.Ordering.{Ordering}
@@ -78,3 +89,27 @@ never_has_no_float model t steps =
     neither (has_float (asked_value t.condition)) _ (asked t.condition)
     (neither (items_have_float (items_of (map (step_value t) steps))) _ (each (step_value t) (step t) steps)
     (neither (has_float (verdict_value t.condition false)) false (verdict t.condition false) refl))
+
+with-writes : (t : Litmus) (name : List ℕ) (ws : List Entry) (ms : Members) → members_have_float ms ≡ false → members_have_float (with_coherence t name ws ms) ≡ false
+with-writes t name [] ms h = h
+with-writes t name (w ∷ ws) ms h =
+    one_more name (array (items_of (map (λ v. string (printed_entry t v)) (w ∷ ws)))) ms (each (λ v. string (printed_entry t v)) (λ v. refl) (w ∷ ws)) h
+
+writes : (t : Litmus) (order : List Entry) (loc : ℕ) (names : List (List ℕ)) → members_have_float (coherence_members_by t order loc names) ≡ false
+writes t order loc [] = refl
+writes t order loc (name ∷ names) =
+    with-writes t name (filter (writes_to loc) order) (coherence_members_by t order (loc + 1) names) (writes t order (loc + 1) names)
+
+named : (t : Litmus) (ns : List Named) (vs : List ℕ) → members_have_float (value_members t ns vs) ≡ false
+named t [] vs = refl
+named t (n ∷ ns) [] = refl
+named t (n ∷ ns) (v ∷ vs) = one_more (key_of t n) (count v) (value_members t ns vs) refl (named t ns vs)
+
+pub shown_has_no_float : (model : Model) (t : Litmus) (order : List Entry) (xs : List Reading) (vs : List ℕ) (choices : List Choice)
+    → has_float (shown_value model t order xs vs choices) ≡ false
+shown_has_no_float model t order xs vs choices =
+    neither (has_float (asked_value t.condition)) _ (asked t.condition)
+    (neither (members_have_float (coherence_members_by t order 0 t.locations)) _ (writes t order 0 t.locations)
+    (neither (items_have_float (items_of (map (reading_value t) xs))) _ (each (reading_value t) (λ x. refl) xs)
+    (neither (members_have_float (value_members t (looked_at t) vs)) _ (named t (looked_at t) vs)
+    (neither (has_float (verdict_value t.condition true)) false (verdict t.condition true) refl))))

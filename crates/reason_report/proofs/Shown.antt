@@ -1,15 +1,16 @@
 -- What is shown of an execution is its candidate.
-use Rattle.std.proofs.Common.{ℕ, suc, zero, ◌+◌, ◌≡◌, ◌≤◌, ◌<◌, Bool, true, false, cond, List, [], ◌∷◌, ◌++◌, length, take, drop, get_or, map, Option, Some, None, refl, sym, ap, ◌∙◌, arith, subst, append_assoc}
-use Rattle.std.specs.Prelude.{filter, slice_get, slice_index_or}
-use Rattle.std.specs.List.{flat_map}
-use Rattle.std.proofs.lemmas.List.{at_drop_more}
-use Rattle.serde_json.specs.Data.{Data, Members, no_members, object, array}
+use Rattle.std.proofs.Common.{ℕ, suc, zero, ◌+◌, ◌||◌, ◌≡◌, ◌≤◌, ◌<◌, Bool, true, false, cond, List, [], ◌∷◌, ◌++◌, length, take, drop, get_or, map, Option, Some, None, refl, sym, ap, ◌∙◌, arith, subst, append_assoc}
+use Rattle.std.specs.Prelude.{All, filter, slice_get, slice_index_or, codes}
+use Rattle.std.specs.List.{flat_map, list_any}
+use Rattle.std.proofs.lemmas.List.{at_drop_more, append-nil, drop_all}
+use Rattle.serde_json.specs.Data.{Data, Members, no_members, member, put, object, array, string}
 use Rattle.serde_json.specs.View.{items_of}
 use Rattle.tso_model.specs.Litmus.{Litmus}
 use Rattle.tso_model.specs.ProgramOrder.{is_read, writes_to, is_before}
 use Rattle.tso_model.specs.ProgramEntries.{made}
 use Rattle.tso_model.specs.Axioms.{counting, IsTsoExecution, IsWhole}
-use Rattle.tso_model.specs.FinalState.{final_words, final_registers}
+use Rattle.tso_model.specs.FinalState.{final_words, final_registers, words_from, registers_from}
+use Rattle.tso_model.specs.declared.instruction.Instr.{Instr}
 use Rattle.tso_model.specs.declared.choice.Choice.{Choice}
 use Rattle.tso_model.specs.declared.execution.Entry.{Entry}
 use Rattle.relational_model.specs.Events.{IsIn}
@@ -18,10 +19,18 @@ use Rattle.relational_model.specs.CandidatesOfOrders.{IsCandidateOf, LeaveTheSam
 use Rattle.refutation_laws.specs.Models.{IsExecutionOf}
 use Rattle.refutation_laws.specs.declared.model.Model.{Model}
 use Rattle.refutation_laws.specs.declared.model.Model.TheVariants.{Tso, Sequential}
+use Rattle.scheduler.specs.Printed.{printed_choices}
+use Rattle.outcome_report.specs.Outcomes.{by_line, state_line}
+use Rattle.outcome_report.specs.OutcomesJson.{value_members}
+use Rattle.order_builder.specs.PrintedOrder.{printed_entry}
+use Rattle.tso_report.specs.Report.{line, test_line}
 use Rattle.tso_report.specs.Tally.{looked_at, values_in, shown_value}
-use Rattle.reason_report.specs.ReasonText.{from_line, reads_of, coherence_lines, coherence_line, values_left, allowed_text}
-use Rattle.reason_report.specs.ReasonJson.{from_value, coherence_members, with_coherence, allowed_value}
+use Rattle.reason_report.specs.ReasonText.{model_name, asked_line, verdict_line, from_line, reads_of, coherence_lines, coherence_line, values_left, allowed_text}
+use Rattle.reason_report.specs.ReasonJson.{asked_value, verdict_value, from_value, coherence_members, with_coherence, allowed_value}
 use Rattle.reason_report.specs.declared.readings.Reading.{Reading}
+use Rattle.tso_report.specs.declared.named.Named.{Named}
+use Rattle.tso_report.specs.inner.Tally.{IsKnown}
+use Rattle.reason_report.specs.Printed.{allowed_in, ShowsExecution}
 use Rattle.reason_report.specs.inner.Shown as inner
 use Rattle.reason_report.specs.inner.Shown.{last_or, ReadsIt, AreIn, AreReadings, IsShown, reading_of, reading_line, reading_value, coherence_by, coherence_members_by}
 
@@ -95,16 +104,17 @@ module _ (t : Litmus) (order : List Entry) (c : Candidate) (of : IsCandidateOf t
   readings-are : (es : List Entry) (xs : List Reading) → AreReadings order (filter is_read es) xs → xs ≡ map (reading_of c) (filter is_read es)
   readings-are [] [] h = refl
   readings-are [] (x ∷ xs) h = absurd h
-  readings-are (e ∷ es) xs h = by-case (is_read e) refl xs h
+  readings-are (e ∷ es) xs h = by-case (λ zs. readings-are es zs) (is_read e) refl xs h
     where
-      by-case : (b : Bool) → is_read e ≡ b → (ys : List Reading) → AreReadings order (cond b (e ∷ filter is_read es) (filter is_read es)) ys
+      by-case : ((zs : List Reading) → AreReadings order (filter is_read es) zs → zs ≡ map (reading_of c) (filter is_read es))
+          → (b : Bool) → is_read e ≡ b → (ys : List Reading) → AreReadings order (cond b (e ∷ filter is_read es) (filter is_read es)) ys
           → ys ≡ map (reading_of c) (cond b (e ∷ filter is_read es) (filter is_read es))
-      by-case false is ys k = readings-are es ys k
-      by-case true is [] k = absurd k
-      by-case true is (y ∷ ys) k =
+      by-case ih false is ys k = ih ys k
+      by-case ih true is [] k = absurd k
+      by-case ih true is (y ∷ ys) k =
           let source : y.write ≡ c.source e = k.1.source ∙ sym (of.sources k.1.front e k.1.back k.1.place is) in
           ap (λ (r : Entry). paired r y.write ∷ ys) k.0
-          ∙ (ap (λ (w : Option Entry). paired e w ∷ ys) source ∙ ap (λ zs. reading_of c e ∷ zs) (readings-are es ys k.2))
+          ∙ (ap (λ (w : Option Entry). paired e w ∷ ys) source ∙ ap (λ zs. reading_of c e ∷ zs) (ih ys k.2))
 
   pub shown-is : LeaveTheSame t order c → (xs : List Reading) → AreReadings order (filter is_read (made t order)) xs → (vs : List ℕ)
       → vs ≡ map (shown_value (final_registers t order) (final_words t order)) (looked_at t) → IsShown t order xs vs c
@@ -138,3 +148,165 @@ module _ (t : Litmus) (order : List Entry) (c : Candidate) (same : (loc : ℕ) �
       let next : loc + 1 ≡ suc loc = omega arith in
       ap (λ ws. with_coherence t name ws (coherence_members_by t order (loc + 1) names)) (sym (same loc))
       ∙ ap (λ (ms : Members). with_coherence t name (c.coherence loc) ms) (ap (λ n. coherence_members_by t order n names) next ∙ locations-members names (suc loc))
+
+abbrev lines-with : Model → Litmus → List Choice → List ℕ → List ℕ → List ℕ → List ℕ
+lines-with model t choices r q v =
+    test_line t ++ (codes "Allowed " ++ (line (model_name model) ++ (asked_line t.condition
+    ++ (r ++ (q ++ (by_line choices ++ (state_line t v ++ verdict_line t.condition true)))))))
+
+abbrev value-with : Model → Litmus → List Choice → List Data → Members → List ℕ → Data
+value-with model t choices d m v =
+    object (member (codes "answer") (string (codes "allowed"))
+    (member (codes "asked") (asked_value t.condition)
+    (member (codes "choices") (string (printed_choices choices))
+    (member (codes "coherence") (object m)
+    (member (codes "model") (string (model_name model))
+    (member (codes "sources") (array (items_of d))
+    (member (codes "test") (string t.name)
+    (member (codes "values") (object (value_members t (looked_at t) v))
+    (member (codes "verdict") (verdict_value t.condition true) no_members)))))))))
+
+joined : (a b p c d e f g h : List ℕ) → a ++ (b ++ p) ++ c ++ d ++ e ++ f ++ g ++ h ≡ a ++ (b ++ (p ++ (c ++ (d ++ (e ++ (f ++ (g ++ h)))))))
+joined a b p c d e f g h = simp append_assoc
+
+module _ (model : Model) (t : Litmus) (order : List Entry) (xs : List Reading) (vs : List ℕ) (choices : List Choice) (c : Candidate)
+    (shown : IsShown t order xs vs c) where
+  pub text-is : (e1 e2 e3 e4 e5 e6 e7 e8 : List ℕ) → e1 ≡ test_line t → e2 ≡ e1 ++ inner.allowed_line model → e3 ≡ e2 ++ asked_line t.condition
+      → e4 ≡ e3 ++ flat_map (reading_line t) xs → e5 ≡ e4 ++ coherence_by t order 0 t.locations → e6 ≡ e5 ++ by_line choices
+      → e7 ≡ e6 ++ state_line t vs → e8 ≡ e7 ++ verdict_line t.condition true → e8 ≡ allowed_text model t c choices
+  text-is e1 e2 e3 e4 e5 e6 e7 e8 h1 h2 h3 h4 h5 h6 h7 h8 =
+      h8
+      ∙ (ap (λ z. z ++ verdict_line t.condition true) (h7 ∙ ap (λ z. z ++ state_line t vs) (h6 ∙ ap (λ z. z ++ by_line choices)
+      (h5 ∙ ap (λ z. z ++ coherence_by t order 0 t.locations) (h4 ∙ ap (λ z. z ++ flat_map (reading_line t) xs) (h3 ∙ ap (λ z. z ++ asked_line t.condition)
+      (h2 ∙ ap (λ z. z ++ inner.allowed_line model) h1))))))
+      ∙ (joined (test_line t) (codes "Allowed ") (line (model_name model)) (asked_line t.condition) (flat_map (reading_line t) xs)
+      (coherence_by t order 0 t.locations) (by_line choices) (state_line t vs) (verdict_line t.condition true)
+      ∙ (ap (λ r. lines-with model t choices r (coherence_by t order 0 t.locations) vs) (ap (flat_map (reading_line t)) shown.readings ∙ reads-lines t order c shown.coherence (reads_of t c))
+      ∙ (ap (λ q. lines-with model t choices (flat_map (from_line t c) (reads_of t c)) q vs) (locations-lines t order c shown.coherence t.locations 0)
+      ∙ ap (λ v. lines-with model t choices (flat_map (from_line t c) (reads_of t c)) (coherence_lines t c 0 t.locations) v) shown.values))))
+
+  pub value-is : inner.shown_value model t order xs vs choices ≡ allowed_value model t c choices
+  value-is =
+      ap (λ (d : List Data). value-with model t choices d (coherence_members_by t order 0 t.locations) vs) (ap (map (reading_value t)) shown.readings ∙ reads-values t order c shown.coherence (reads_of t c))
+      ∙ (ap (λ (m : Members). value-with model t choices (map (from_value t c) (reads_of t c)) m vs) (locations-members t order c shown.coherence t.locations 0)
+      ∙ ap (λ v. value-with model t choices (map (from_value t c) (reads_of t c)) (coherence_members t c 0 t.locations) v) shown.values)
+
+-- ---- where no write goes, and where one does
+
+pub none-go : (p : Entry → Bool) (xs : List Entry) → list_any p xs ≡ false → filter p xs ≡ []
+none-go p [] h = refl
+none-go p (x ∷ xs) h = by-case (p x) h (none-go p xs)
+  where
+    by-case : (b : Bool) → (b || list_any p xs) ≡ false → (list_any p xs ≡ false → filter p xs ≡ []) → cond b (x ∷ filter p xs) (filter p xs) ≡ []
+    by-case true k rest = cc
+    by-case false k rest = rest k
+
+pub some-go : (p : Entry → Bool) (xs : List Entry) → list_any p xs ≡ true → (x : Entry) × (ys : List Entry) × (filter p xs ≡ x ∷ ys)
+some-go p [] h = cc
+some-go p (x ∷ xs) h = by-case (p x) h (some-go p xs)
+  where
+    by-case : (b : Bool) → (b || list_any p xs) ≡ true → (list_any p xs ≡ true → (y : Entry) × (ys : List Entry) × (filter p xs ≡ y ∷ ys))
+        → (y : Entry) × (ys : List Entry) × (cond b (x ∷ filter p xs) (filter p xs) ≡ y ∷ ys)
+    by-case true k rest = (x, filter p xs, refl)
+    by-case false k rest = rest k
+
+pub line-is : (t : Litmus) (name : List ℕ) (p : Entry → Bool) (xs : List Entry) → list_any p xs ≡ true
+    → coherence_line t name (filter p xs) ≡ codes "Coherence " ++ (name ++ line (flat_map (λ (v : Entry). codes " " ++ printed_entry t v) (filter p xs)))
+line-is t name p xs h =
+    let some : (x : Entry) × (ys : List Entry) × (filter p xs ≡ x ∷ ys) = some-go p xs h in
+    ap (coherence_line t name) some.2
+    ∙ sym (ap (λ ws. codes "Coherence " ++ (name ++ line (flat_map (λ (v : Entry). codes " " ++ printed_entry t v) ws))) some.2)
+
+pub member-is : (t : Litmus) (name : List ℕ) (p : Entry → Bool) (xs : List Entry) (ms : Members) → list_any p xs ≡ true
+    → with_coherence t name (filter p xs) ms ≡ put name (array (items_of (map (λ v. string (printed_entry t v)) (filter p xs)))) ms
+member-is t name p xs ms h =
+    let some : (x : Entry) × (ys : List Entry) × (filter p xs ≡ x ∷ ys) = some-go p xs h in
+    ap (λ ws. with_coherence t name ws ms) some.2
+    ∙ sym (ap (λ ws. put name (array (items_of (map (λ v. string (printed_entry t v)) ws))) ms) some.2)
+
+-- ---- the readings, one by one
+
+cut-at : {X : Type 0} (xs : List X) (i : ℕ) (d : X) → i < length xs → drop i xs ≡ get_or xs i d ∷ drop (suc i) xs
+cut-at [] i d w = absurd (omega (arith, w))
+cut-at (x ∷ xs) zero d w = refl
+cut-at (x ∷ xs) (suc i) d w = cut-at xs i d (omega (arith, w))
+
+pub in-one : (order es : List Entry) (i : ℕ) (d : Entry) → i < length es → AreIn order es → IsIn order (get_or es i d)
+in-one order es i d w h = in-get order es i d w h
+
+abbrev pub Completes : List Entry → List Entry → ℕ → List Reading → Type 0
+Completes order es i all = (rest : List Reading) → AreReadings order (filter is_read (drop i es)) rest → AreReadings order (filter is_read es) (all ++ rest)
+
+module _ (order es : List Entry) (i j : ℕ) (d : Entry) (within : i < length es) (next : j ≡ i + 1) (b : Bool) (is : b ≡ is_read (get_or es i d))
+    (all news : List Reading) (so : Completes order es i all) where
+  here : filter is_read (drop i es) ≡ cond b (get_or es i d ∷ filter is_read (drop j es)) (filter is_read (drop j es))
+  here =
+      let one-on : suc i ≡ j = omega (arith, next) in
+      ap (filter is_read) (cut-at es i d within ∙ ap (λ n. get_or es i d ∷ drop n es) one-on)
+      ∙ ap (λ (x : Bool). cond x (get_or es i d ∷ filter is_read (drop j es)) (filter is_read (drop j es))) (sym is)
+
+  pub reading-more : b ≡ true → (x : Reading) → x.read ≡ get_or es i d → ReadsIt order (get_or es i d) x.write → news ≡ all ++ (x ∷ [])
+      → Completes order es j news
+  reading-more h x same reads e = λ rest k.
+      let left : filter is_read (drop i es) ≡ get_or es i d ∷ filter is_read (drop j es) =
+      here ∙ ap (λ (y : Bool). cond y (get_or es i d ∷ filter is_read (drop j es)) (filter is_read (drop j es))) h in
+      let together : all ++ (x ∷ rest) ≡ news ++ rest = sym (ap (λ ys. ys ++ rest) e ∙ append_assoc all (x ∷ []) rest) in
+      subst (AreReadings order (filter is_read es)) together
+      (so (x ∷ rest) (subst (λ rs. AreReadings order rs (x ∷ rest)) (sym left) (same, reads, k)))
+
+  pub reading-less : b ≡ false → news ≡ all → Completes order es j news
+  reading-less h e = λ rest k.
+      let left : filter is_read (drop i es) ≡ filter is_read (drop j es) =
+      here ∙ ap (λ (y : Bool). cond y (get_or es i d ∷ filter is_read (drop j es)) (filter is_read (drop j es))) h in
+      subst (λ ys. AreReadings order (filter is_read es) (ys ++ rest)) (sym e)
+      (so rest (subst (λ rs. AreReadings order rs rest) (sym left) k))
+
+pub readings-done : (order es : List Entry) (i : ℕ) (all : List Reading) → length es ≤ i → Completes order es i all
+    → AreReadings order (filter is_read es) all
+readings-done order es i all over so =
+    subst (AreReadings order (filter is_read es)) (append-nil all)
+    (so [] (subst (λ rs. AreReadings order (filter is_read rs) []) (sym (drop_all i es over)) tt))
+
+-- ---- an execution
+
+pub tso-of : (model : Model) (t : Litmus) (order : List Entry) → IsExecutionOf model t order → IsTsoExecution t order
+tso-of Tso t order h = h
+tso-of Sequential t order h = h.execution
+
+pub registers-length : (core : ℕ) (ps : List (List Instr)) (rs : List (List ℕ)) (order : List Entry) → length (registers_from core ps rs order) ≡ length ps
+registers-length core [] rs order = refl
+registers-length core (p ∷ ps) rs order = ap (λ n. suc n) (registers-length (core + 1) ps rs order)
+
+pub words-length : (loc : ℕ) (ws : List ℕ) (order : List Entry) → length (words_from loc ws order) ≡ length ws
+words-length loc [] order = refl
+words-length loc (w ∷ ws) order = ap (λ n. suc n) (words-length (loc + 1) ws order)
+
+pub location-written : (e0 e1 e2 e3 e4 name ws : List ℕ) → e1 ≡ e0 ++ codes "Coherence " → e2 ≡ e1 ++ name → e3 ≡ e2 ++ ws → e4 ≡ e3 ++ (10 ∷ [])
+    → e4 ≡ e0 ++ (codes "Coherence " ++ (name ++ line ws))
+location-written e0 e1 e2 e3 e4 name ws h1 h2 h3 h4 =
+    h4
+    ∙ (ap (λ z. z ++ (10 ∷ [])) (h3 ∙ ap (λ z. z ++ ws) (h2 ∙ ap (λ z. z ++ name) h1))
+    ∙ together e0 (codes "Coherence ") name ws (10 ∷ []))
+  where
+    together : (a b c d e : List ℕ) → (((a ++ b) ++ c) ++ d) ++ e ≡ a ++ (b ++ (c ++ (d ++ e)))
+    together a b c d e = simp append_assoc
+
+pub known-moved : (a b cores locations : ℕ) (ns names : List Named) → cores ≡ a → locations ≡ b → names ≡ ns → All (IsKnown a b) ns
+    → All (IsKnown cores locations) names
+known-moved a b cores locations ns names ea eb en h =
+    subst (λ (x : ℕ). All (IsKnown x locations) names) (sym ea)
+    (subst (λ (y : ℕ). All (IsKnown a y) names) (sym eb) (subst (All (IsKnown a b)) (sym en) h))
+
+pub shows : (json : Bool) (model : Model) (t : Litmus) (order : List Entry) (choices : List Choice) (c : Candidate) → IsCandidateOf t order c → LeaveTheSame t order c
+    → (entries : List Entry) → entries ≡ made t order → (xs ys : List Reading) → AreReadings order (filter is_read entries) xs → ys ≡ xs
+    → (rs : List (List ℕ)) → rs ≡ final_registers t order → (ms : List ℕ) → ms ≡ final_words t order → (ns : List Named) → ns ≡ looked_at t
+    → (vs us : List ℕ) → vs ≡ map (shown_value rs ms) ns → us ≡ vs
+    → (out : List ℕ) → ((d : Candidate) → IsShown t order ys us d → out ≡ allowed_in json model t d choices) → ShowsExecution json model t order choices out
+shows json model t order choices c of same entries es xs ys are ye rs re ms me ns ne vs us ve ue out f = record {
+  candidate = c;
+  of_order = of;
+  printed = f c (shown-is t order c of same ys
+      (subst (AreReadings order (filter is_read (made t order))) (sym ye) (subst (λ (zs : List Entry). AreReadings order (filter is_read zs) xs) es are)) us
+      (ue ∙ (ve ∙ (ap (λ r. map (shown_value r ms) ns) re ∙ (ap (λ m. map (shown_value (final_registers t order) m) ns) me
+      ∙ ap (map (shown_value (final_registers t order) (final_words t order))) ne)))));
+}

@@ -1,10 +1,11 @@
 //! What an order of a test's entries makes of its programs, by the order's own read values: events, registers and words.
 
 ghost use Rattle.std.specs.Prelude.{◌≡◌, ◌<◌, ◌∷◌, ◌++◌, [], IfOk, OnOk, length, slice_index_or};
+ghost use Rattle.tso_model.specs.ProgramOrder as program_order;
 ghost use Rattle.tso_model.specs.ProgramEntries as spec;
 ghost use Rattle.tso_model.specs.FinalState as final;
 
-use refutations::events::writes_to;
+use refutations::events::is_write;
 use std::alloc::Global;
 use tso_model::{Action, Core, Entry, Kind, NoMemory, Test, thread_entries};
 
@@ -115,23 +116,27 @@ pub fn words_after(alloc: Global, test: &Test, order: &[Entry]) -> Result<Vec<u3
     ensures { IfOk result (λ words. words.items ≡ final.final_words test.now order.now) }
 {
     let mut words = Vec::new(alloc);
-    let mut loc = 0;
-    for word in test.initial_words() {
+    for (loc, word) in test.initial_words().iter().enumerate() {
         words.push(word_after(order, loc, *word))?;
-        loc += 1;
     }
     Ok(words)
 }
 
 /// The value of the last write to the location with this number; this word where there is none.
-fn word_after(order: &[Entry], loc: u8, word: u32) -> u32
+fn word_after(order: &[Entry], loc: usize, word: u32) -> u32
     ensures { result ≡ final.word_after loc order.now word }
 {
     let mut last = word;
     for e in order {
-        if writes_to(loc, e) {
+        if is_write_to(e, loc) {
             last = e.value;
         }
     }
     last
+}
+
+fn is_write_to(e: &Entry, loc: usize) -> bool
+    ensures { result ≡ program_order.writes_to loc e.now }
+{
+    is_write(e) && e.loc.0 as usize == loc
 }
