@@ -5,3 +5,4 @@ pub mod Branching
 pub mod Answered
 pub mod Searching
 pub mod Rowing
+pub mod Unstored

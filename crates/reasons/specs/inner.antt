@@ -3,3 +3,4 @@ pub mod Questions
 pub mod Precedence
 pub mod Cycles
 pub mod Cases
+pub mod Steps

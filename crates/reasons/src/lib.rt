@@ -2,6 +2,7 @@
 //! cases are more than the caller allows.
 #![tactic(auto)]
 
+pub mod choices;
 pub mod cycle;
 pub mod leaves;
 pub mod order;
@@ -10,5 +11,6 @@ pub mod reason;
 pub mod search;
 pub mod sorting;
 
+pub use choices::choices_to;
 pub use reason::Reason;
 pub use search::explain;

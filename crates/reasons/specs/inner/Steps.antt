@@ -1,0 +1,8 @@
+-- The choices of a machine without store buffers: steps alone.
+use Rattle.std.specs.Prelude.{Bool, true, false}
+use Rattle.tso_model.specs.declared.choice.Choice.{Choice}
+use Rattle.tso_model.specs.declared.choice.Choice.TheVariants.{Step, Drain}
+
+abbrev pub is_step : Choice → Bool
+is_step (Step core) = true
+is_step (Drain core) = false
