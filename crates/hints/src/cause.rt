@@ -90,6 +90,10 @@ pub enum Cause {
     TooManyStates {
         most: u32,
     },
+    /// A search for a reason may tell no more than so many cases apart.
+    TooManyCases {
+        most: u32,
+    },
 }
 
 impl Cause {

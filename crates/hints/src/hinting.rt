@@ -11,7 +11,7 @@ use crate::orders::order_words;
 use crate::place::Place;
 use crate::printing::{Where, hint};
 use crate::quotes::{first_bytes, last_bytes};
-use crate::unended::{choices_end, never_seen, no_choices, search_ends, sweep_ends};
+use crate::unended::{cases_end, choices_end, never_seen, no_choices, search_ends, sweep_ends};
 use crate::unused::{NamedAt, unused};
 use crate::words::{Piece, Words, around, plain};
 use litmus_reader::Why;
@@ -77,6 +77,7 @@ fn words_of<'a>(
         Cause::NeverSeen { runs, depth } => Ok((Where::Input, never_seen(runs, depth))),
         Cause::UnusedLocation { first, length } => Ok(unused(input, NamedAt { first, length })),
         Cause::TooManyStates { most } => Ok((Where::Input, search_ends(most))),
+        Cause::TooManyCases { most } => Ok((Where::Input, cases_end(most))),
     }
 }
 

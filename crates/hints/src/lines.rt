@@ -10,8 +10,8 @@ use crate::words::{Piece, Words, listed, plain, six};
 use std::alloc::Global;
 use tso_model::NoMemory;
 
-const COMMANDS: [&str; 7] = [
-    "run", "trace", "sweep", "outcomes", "check", "witness", "tables",
+const COMMANDS: [&str; 8] = [
+    "run", "trace", "sweep", "outcomes", "why", "check", "witness", "tables",
 ];
 
 /// The hint of a command line that was refused, by its words, the first of which is the program's name.
@@ -121,7 +121,7 @@ struct Owned {
     owners: &'static str,
 }
 
-static OPTIONS: [Owned; 6] = [
+static OPTIONS: [Owned; 7] = [
     Owned {
         options: &["--protocol"],
         commands: &["run", "trace", "sweep", "tables"],
@@ -148,9 +148,14 @@ static OPTIONS: [Owned; 6] = [
         owners: "outcomes",
     },
     Owned {
+        options: &["--model", "--cases"],
+        commands: &["why"],
+        owners: "why",
+    },
+    Owned {
         options: &["--json"],
-        commands: &["run", "trace", "outcomes"],
-        owners: "run, trace and outcomes",
+        commands: &["run", "trace", "outcomes", "why"],
+        owners: "run, trace, outcomes and why",
     },
 ];
 

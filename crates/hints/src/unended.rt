@@ -53,7 +53,16 @@ pub fn search_ends<'a>(most: u32) -> Words<'a> {
     around(
         "the machine can reach more than ",
         Piece::Number(most as usize),
-        " states, which is --states: raise it, or lower --depth",
+        " states, which is --states: raise it, lower --depth, or use why, which keeps none",
+    )
+}
+
+/// Of a search that may tell no more than so many cases apart.
+pub fn cases_end<'a>(most: u32) -> Words<'a> {
+    around(
+        "more than ",
+        Piece::Number(most as usize),
+        " cases have to be told apart, which is --cases: raise it, or use outcomes",
     )
 }
 
