@@ -4,30 +4,33 @@ use Rattle.tso_model.specs.Limits.{least_depth, most_depth}
 use Rattle.machine_core.specs.Configuration.{IsConfigurationWithinLimits}
 use Rattle.command_line.specs.Plan.{IsPlanWithinLimits}
 use Rattle.command_line.specs.Search.{IsSearchWithinLimits}
+use Rattle.command_line.specs.Explanation.{IsExplanationWithinLimits}
 use Rattle.command_line.specs.declared.settings.Settings.{Settings}
-use Rattle.command_line.specs.declared.settings.Settings.TheVariants.{Run, Trace, Sweep, Outcomes, Check, Witness, Tables}
+use Rattle.command_line.specs.declared.settings.Settings.TheVariants.{Run, Trace, Sweep, Outcomes, Why, Check, Witness, Tables}
 
 -- the depth at which a witness is asked for
 abbrev pub IsDepth : ℕ → Type 0
 IsDepth depth = (least_depth ≤ depth) × (depth ≤ most_depth)
 
--- a test is run on a machine within its limits, a sweep's plan and a search are within their own, and a witness is asked for
--- at a depth within them
+-- a test is run on a machine within its limits, a sweep's plan, a search and the search for a reason are within their own, and a
+-- witness is asked for at a depth within them
 abbrev pub IsWithinLimits : Settings → Type 0
 IsWithinLimits (Run protocol config json) = IsConfigurationWithinLimits config
 IsWithinLimits (Trace protocol config json) = IsConfigurationWithinLimits config
 IsWithinLimits (Sweep protocol config plan) = IsConfigurationWithinLimits config × IsPlanWithinLimits plan
 IsWithinLimits (Outcomes search json) = IsSearchWithinLimits search
+IsWithinLimits (Why plan json) = IsExplanationWithinLimits plan
 IsWithinLimits Check = Unit {0}
 IsWithinLimits (Witness depth) = IsDepth depth
 IsWithinLimits (Tables kind) = Unit {0}
 
--- what a caller has to see to: a configuration, a plan and a search are within their limits, the depth of a witness needn't be
+-- what a caller has to see to: a configuration, a plan and each search are within their limits, the depth of a witness needn't be
 abbrev pub HasDepth : Settings → Type 0
 HasDepth (Run protocol config json) = Unit {0}
 HasDepth (Trace protocol config json) = Unit {0}
 HasDepth (Sweep protocol config plan) = Unit {0}
 HasDepth (Outcomes search json) = Unit {0}
+HasDepth (Why plan json) = Unit {0}
 HasDepth Check = Unit {0}
 HasDepth (Witness depth) = IsDepth depth
 HasDepth (Tables kind) = Unit {0}

@@ -4,14 +4,14 @@
 pub const TSO: &str = "\
 Standard input is read whole, and the answer is written to standard output. An input is a test. For\n\
 run and trace, choices follow it after a line ====; for check and witness, an order as run prints it\n\
-follows after such a line. sweep and outcomes read the test alone, and tables reads nothing.\n\
+follows after such a line. sweep, outcomes and why read the test alone, and tables reads nothing.\n\
 \n\
 Exit status:\n\
 \x20 0  the test ended, the order is valid, choices reach it, or what was asked for is printed\n\
 \x20 1  a text was refused: standard output names the line or word, standard error has a hint\n\
 \x20 2  the command line was refused, or help or the version was asked for\n\
-\x20 3  the choices ended before the test did; of a sweep, those of one seed or more; or outcomes\n\
-\x20    would have to keep more states than --states\n\
+\x20 3  the choices ended before the test did; of a sweep, those of one seed or more; outcomes would\n\
+\x20    have to keep more states than --states, or why to tell more cases apart than --cases\n\
 \x20 4  the order isn't valid, or needs deeper buffers than --depth\n\
 \x20 5  memory was refused, or standard input or output failed\n\
 \n\
@@ -93,6 +93,26 @@ too few, 5 memory, input or output failed.\n\
 \n\
 Example:\n\
 \x20 tso outcomes --depth 0 < FILE";
+
+/// Of `tso why`.
+pub const WHY: &str = "\
+Standard input is a test; what follows a line ==== isn't read. Asked is whether the proposition of\n\
+exists and ~exists can be true, and whether that of forall can be false; without a condition, whether\n\
+there is an execution at all. Where it never is, Never stands first, and the reason follows: cases over\n\
+which write a read reads from (Case R from W) and which of two writes comes first (Case A before B), the\n\
+last of them as So where leaves close the others. Each ends in a leaf: Cycle and Uniproc, events that\n\
+would each have to come before the next; Between, a write between the parts of a locked instruction; or\n\
+False, values by which it isn't so. Where it can be, Allowed stands first, with an execution: From is\n\
+what each read reads from, Coherence the writes to each location in their order, By choices under which\n\
+run ends there at --depth 32, for --model sc at --depth 0, and State the values. Verdict is Ok where\n\
+exists is so of some execution, ~exists of none, forall of each; else No. If more than --cases cases\n\
+would have to be told apart, only Unfinished is printed.\n\
+\n\
+Exit status: 0 the answer is printed, 1 the test was refused, 2 the command line was, 3 --cases was too\n\
+few, 5 memory, input or output failed.\n\
+\n\
+Example:\n\
+\x20 tso why --model sc < FILE";
 
 /// Of `tso check`.
 pub const CHECK: &str = "\

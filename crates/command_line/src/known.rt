@@ -2,9 +2,11 @@
 //! once they are made.
 
 ghost use Rattle.machine_core.specs.Configuration.{IsConfigurationWithinLimits};
+ghost use Rattle.command_line.specs.Explanation.{IsExplanationWithinLimits};
 ghost use Rattle.command_line.specs.Plan.{IsPlanWithinLimits};
 ghost use Rattle.command_line.specs.Search.{IsSearchWithinLimits};
 
+use crate::explanation::ReasonPlan;
 use crate::plan::SweepPlan;
 use crate::search::SearchPlan;
 use machine_core::Config;
@@ -28,4 +30,11 @@ pub(crate) fn know_search(search: SearchPlan)
     ensures { IsSearchWithinLimits search }
 {
     let _depth = search.depth();
+}
+
+/// The search for a reason is within its limits.
+pub(crate) fn know_reason(plan: ReasonPlan)
+    ensures { IsExplanationWithinLimits plan }
+{
+    let _cases = plan.cases();
 }

@@ -2,6 +2,7 @@
 //! again.
 #![tactic(auto)]
 
+pub mod explanation;
 mod help;
 mod known;
 mod options;
@@ -9,6 +10,7 @@ pub mod plan;
 pub mod search;
 pub mod settings;
 
+pub use explanation::ReasonPlan;
 pub use plan::SweepPlan;
 pub use search::SearchPlan;
 pub use settings::{LineFault, Settings, settings_of};

@@ -11,6 +11,9 @@ static PROTOCOLS: [&str; 4] = ["msi", "mesi", "moesi", "mosi"];
 /// The kinds of bus as a command line names them.
 static BUSES: [&str; 2] = ["atomic", "split"];
 
+/// The models of memory as a command line names them.
+static MODELS: [&str; 2] = ["tso", "sc"];
+
 /// What the depth of a machine that is run is.
 static MACHINE_DEPTH: &str =
     "How many stores each core's buffer holds, 0 to 32; 0 is a machine without buffers";
@@ -42,6 +45,7 @@ fn with_runs<'a>(alloc: Global, program: Command<'a>) -> Result<Command<'a>, All
 /// The program with the commands that find or judge what a machine may do.
 fn with_judges<'a>(alloc: Global, program: Command<'a>) -> Result<Command<'a>, AllocError> {
     let program = with(program, outcomes_line(alloc))?;
+    let program = with(program, why_line(alloc))?;
     let program = program.subcommand(check_line(alloc))?;
     let program = with(program, witness_line(alloc))?;
     with(program, tables_line(alloc))
@@ -98,6 +102,12 @@ fn outcomes_line<'a>(alloc: Global) -> Result<Command<'a>, AllocError> {
     command(alloc, "outcomes", about, help::OUTCOMES).args(options)
 }
 
+fn why_line<'a>(alloc: Global) -> Result<Command<'a>, AllocError> {
+    let about = "Tells why what the condition names can't be, or an execution in which it is";
+    let options = reason_options(alloc)?;
+    command(alloc, "why", about, help::WHY).args(options)
+}
+
 fn check_line<'a>(alloc: Global) -> Command<'a> {
     let about = "Judges an order of a test by the axioms of TSO";
     command(alloc, "check", about, help::CHECK)
@@ -146,6 +156,16 @@ fn search_options<'a>(alloc: Global) -> Result<Vec<Arg<'a>>, AllocError> {
     Ok(vec![in alloc;
         depth_option(alloc, 0, SEARCH_DEPTH, "32"),
         word_option(alloc, "states", states, 1, 10000000, "1000000"),
+        json_option(alloc),
+    ]?)
+}
+
+/// The options that say of which model a reason is looked for, and how it is told.
+fn reason_options<'a>(alloc: Global) -> Result<Vec<Arg<'a>>, AllocError> {
+    let cases = "How many cases may be told apart, 1 to 1000000";
+    Ok(vec![in alloc;
+        model_option(alloc),
+        word_option(alloc, "cases", cases, 1, 1000000, "100000"),
         json_option(alloc),
     ]?)
 }
@@ -215,6 +235,18 @@ fn bus_option<'a>(alloc: Global) -> Arg<'a> {
         help,
         ValueParser::Names(&BUSES),
         "atomic",
+    )
+}
+
+fn model_option<'a>(alloc: Global) -> Arg<'a> {
+    let help = "Whose executions: those of TSO (tso), or of sequential consistency (sc)";
+    value_option(
+        alloc,
+        "model",
+        "NAME",
+        help,
+        ValueParser::Names(&MODELS),
+        "tso",
     )
 }
 

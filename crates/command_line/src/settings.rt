@@ -4,13 +4,15 @@
 ghost use Rattle.std.specs.Prelude.{IfOk, IfSome};
 ghost use Rattle.command_line.specs.Limits.{IsWithinLimits, HasDepth};
 
-use crate::known::{know_config, know_plan, know_search};
+use crate::explanation::ReasonPlan;
+use crate::known::{know_config, know_plan, know_reason, know_search};
 use crate::options::command_line;
 use crate::plan::SweepPlan;
 use crate::search::SearchPlan;
 use clap::ArgMatches;
 use machine_core::{Bus, Config, Shape};
 use protocol_tables::ProtocolKind;
+use refutation_laws::Model;
 use std::alloc::Global;
 use thiserror::Error;
 use tso_model::limits::{MAX_DEPTH, MIN_DEPTH};
@@ -45,6 +47,11 @@ pub enum Settings {
         search: SearchPlan,
         json: bool,
     },
+    /// Tell why what a test asks never is, or an execution in which it is, as JSON if that is asked for.
+    Why {
+        plan: ReasonPlan,
+        json: bool,
+    },
     /// Check an order of a test against the axioms.
     Check,
     /// Find choices that reach an order of a test, with store buffers of this depth (1 to 32).
@@ -57,7 +64,7 @@ pub enum Settings {
 
 impl Settings {
     /// Does nothing: from the call on it is known that the settings are within their limits. A
-    /// configuration, a plan and a search always are; the depth of a witness has to be.
+    /// configuration, a plan and each search always are; the depth of a witness has to be.
     pub fn know_limits(&self)
         requires { HasDepth self.now }
         ensures { IsWithinLimits self.now }
@@ -69,6 +76,7 @@ impl Settings {
                 know_plan(*plan);
             }
             Settings::Outcomes { search, .. } => know_search(*search),
+            Settings::Why { plan, .. } => know_reason(*plan),
             Settings::Check | Settings::Witness { .. } | Settings::Tables(_) => {}
         }
     }
@@ -124,6 +132,7 @@ fn settings_named(name: &str, matches: &ArgMatches<'_>) -> Option<Settings>
         "trace" => trace_settings(matches),
         "sweep" => sweep_settings(matches),
         "outcomes" => outcomes_settings(matches),
+        "why" => why_settings(matches),
         "check" => Some(Settings::Check),
         "witness" => witness_settings(matches),
         "tables" => Some(Settings::Tables(protocol_in(matches)?)),
@@ -178,6 +187,14 @@ fn outcomes_settings(matches: &ArgMatches<'_>) -> Option<Settings>
     Some(Settings::Outcomes { search, json })
 }
 
+fn why_settings(matches: &ArgMatches<'_>) -> Option<Settings>
+    ensures { IfSome result HasDepth }
+{
+    let plan = reason_in(matches)?;
+    let json = matches.get_flag("json");
+    Some(Settings::Why { plan, json })
+}
+
 fn witness_settings(matches: &ArgMatches<'_>) -> Option<Settings>
     ensures { IfSome result HasDepth }
 {
@@ -206,6 +223,12 @@ fn search_in(matches: &ArgMatches<'_>) -> Option<SearchPlan> {
     SearchPlan::new(depth, states)
 }
 
+fn reason_in(matches: &ArgMatches<'_>) -> Option<ReasonPlan> {
+    let model = model_in(matches)?;
+    let cases = matches.get_one::<u32>("cases")?;
+    ReasonPlan::new(model, cases)
+}
+
 fn shape_in(matches: &ArgMatches<'_>) -> Option<Shape> {
     let sets = matches.get_one::<u8>("sets")?;
     let ways = matches.get_one::<u8>("ways")?;
@@ -217,6 +240,14 @@ fn bus_in(matches: &ArgMatches<'_>) -> Option<Bus> {
     match matches.get_str("bus")? {
         "atomic" => Some(Bus::Atomic),
         "split" => Some(Bus::Split),
+        _ => None,
+    }
+}
+
+fn model_in(matches: &ArgMatches<'_>) -> Option<Model> {
+    match matches.get_str("model")? {
+        "tso" => Some(Model::Tso),
+        "sc" => Some(Model::Sequential),
         _ => None,
     }
 }

@@ -5,6 +5,7 @@ pub mod Dividing
 pub mod Trace
 pub mod Sweep
 pub mod Outcomes
+pub mod Why
 pub mod Witness
 pub mod Answers
 pub mod inner

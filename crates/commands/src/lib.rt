@@ -4,6 +4,7 @@
 pub mod answer;
 pub mod checking;
 pub mod dividing;
+pub mod explaining;
 pub mod measuring;
 pub mod outcomes;
 pub mod running;
@@ -15,6 +16,7 @@ pub mod witnessing;
 pub use answer::{Answer, Status, refused_input, refused_test};
 pub use checking::check_answer;
 pub use dividing::{Parts, parts_of};
+pub use explaining::why_answer;
 pub use measuring::{Driven, Measured, measure, refused_trace};
 pub use outcomes::outcomes_answer;
 pub use running::{cause_of, refused_choices, run_answer};

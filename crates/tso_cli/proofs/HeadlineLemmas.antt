@@ -40,6 +40,7 @@ use Rattle.tso_cli.proofs.CheckLemmas.{check-means, run-spells}
 use Rattle.tso_cli.specs.inner.ReadOneWay.{AreReadOneWay}
 use Rattle.tso_cli.proofs.OneAnswer.{short_rest}
 use Rattle.tso_cli.proofs.OutcomesLemmas.{Searches, outcomes-mean}
+use Rattle.tso_cli.proofs.WhyLemmas.{Refuting, reasons-mean}
 use Rattle.tso_cli.proofs.SweepLemmas.{sweep-means}
 use Rattle.commands.proofs.TraceLengths.{never-both}
 use Rattle.tso_cli.proofs.WitnessLemmas.{Reaching, witness-means}
@@ -214,54 +215,56 @@ report-spells t kind c false choices out laws test within fit is ended plain =
     run-spells t kind c (run_under t kind c choices) (shown_of t (counts_under t kind c choices) (run_under t kind c choices)) out test depth within.1 laws.report_spells laws.fits
     (laws.executions (table_of kind) c t choices test fit ended) refl (rw ended at is) (laws.words (table_of kind) c t choices test fit ended).values
 
-answer-means : (s : Settings) (t : Litmus) (text out : List ℕ) (status : Status) → AreReadOneWay → Runs → Reaching → Searches → IsWithinLimits s → IsTest t → length text < 2 ^ 64
+answer-means : (s : Settings) (t : Litmus) (text out : List ℕ) (status : Status) → AreReadOneWay → Runs → Reaching → Searches → Refuting → IsWithinLimits s → IsTest t → length text < 2 ^ 64
     → IsAnswerTo s t text out status → HeadlineOf s t text out
-answer-means (settings.Run kind c json) t text out status texts runs reaching searches within test short is =
+answer-means (settings.Run kind c json) t text out status texts runs reaching searches refuting within test short is =
     runs-by-bus t kind c json text out
     (run-means t kind c json text out status (texts.decided (length t.programs) text test.some_core) (λ choices. runs.executions (table_of kind) c t choices test)
     (λ choices none. runs.unbuffered (table_of kind) c t choices none test)
     (λ choices out. report-spells t kind c json choices out runs test within) is)
-answer-means (settings.Trace kind c json) t text out status texts runs reaching searches within test short is =
+answer-means (settings.Trace kind c json) t text out status texts runs reaching searches refuting within test short is =
     traces-by-bus t kind c json text out
     (trace-means t kind c json text out status (texts.decided (length t.programs) text test.some_core) (λ choices. runs.executions (table_of kind) c t choices test)
     (λ choices none. runs.unbuffered (table_of kind) c t choices none test)
     (λ choices out. report-spells t kind c json choices out runs test within) is)
-answer-means (settings.Sweep kind c plan) t text out status texts runs reaching searches within test short is =
+answer-means (settings.Sweep kind c plan) t text out status texts runs reaching searches refuting within test short is =
     sweeps-by-bus t kind c plan out
     (sweep-means t kind c plan out status (λ choices. runs.executions (table_of kind) c t choices test) (λ choices none. runs.unbuffered (table_of kind) c t choices none test) (runs.atomic (table_of kind) c t) is)
-answer-means (settings.Outcomes search json) t text out status texts runs reaching searches within test short is =
+answer-means (settings.Outcomes search json) t text out status texts runs reaching searches refuting within test short is =
     outcomes-mean t search json out status reaching searches test is
-answer-means settings.Check t text out status texts runs reaching searches within test short is =
+answer-means (settings.Why plan json) t text out status texts runs reaching searches refuting within test short is =
+    reasons-mean t plan json out status reaching refuting test is
+answer-means settings.Check t text out status texts runs reaching searches refuting within test short is =
     check-means t text out status texts.real texts.one texts.once texts.never_both test short is
-answer-means (settings.Witness depth) t text out status texts runs reaching searches within test short is =
+answer-means (settings.Witness depth) t text out status texts runs reaching searches refuting within test short is =
     witness-means t depth text out status texts reaching test within short is
-answer-means (settings.Tables kind) t text out status texts runs reaching searches within test short is = is.text
+answer-means (settings.Tables kind) t text out status texts runs reaching searches refuting within test short is = is.text
 
-pub input-means : (s : Settings) (input out : List ℕ) (status : Status) → AreReadOneWay → Runs → Reaching → Searches → IsWithinLimits s
+pub input-means : (s : Settings) (input out : List ℕ) (status : Status) → AreReadOneWay → Runs → Reaching → Searches → Refuting → IsWithinLimits s
     → IsInputAnswer s input out status → InputHeadline s input out
-input-means s input _ _ texts runs reaching searches within (too_large large) = record { within = λ small. absurd (omega arith); above = λ _. refl }
-input-means s input _ _ texts runs reaching searches within (refused fault small is) = record {
+input-means s input _ _ texts runs reaching searches refuting within (too_large large) = record { within = λ small. absurd (omega arith); above = λ _. refl }
+input-means s input _ _ texts runs reaching searches refuting within (refused fault small is) = record {
   within = λ _. record {
     every_test = λ t spelled. absurd (texts.refused_or_not _ t fault spelled is);
     every_other = λ none. (fault, is, refl);
   };
   above = λ large. absurd (omega arith);
 }
-input-means s input _ _ texts runs reaching searches within (answered t out status small spelled is) = record {
+input-means s input _ _ texts runs reaching searches refuting within (answered t out status small spelled is) = record {
   within = λ _. record {
     every_test = λ other too. subst (λ (t : Litmus). HeadlineOf s t (parts_of input).rest out) (texts.one_test _ t other spelled too)
-        (answer-means s t (parts_of input).rest out status texts runs reaching searches within (texts.test _ t spelled) (short_rest input small) is);
+        (answer-means s t (parts_of input).rest out status texts runs reaching searches refuting within (texts.test _ t spelled) (short_rest input small) is);
     every_other = λ none. absurd (none t spelled);
   };
   above = λ large. absurd (omega arith);
 }
 
-known-means : (s : Settings) (known : Option (List ℕ)) (out : List ℕ) (status : Status) → AreReadOneWay → Runs → Reaching → Searches → IsWithinLimits s
+known-means : (s : Settings) (known : Option (List ℕ)) (out : List ℕ) (status : Status) → AreReadOneWay → Runs → Reaching → Searches → Refuting → IsWithinLimits s
     → IfSome known (λ input. IsInputAnswer s input out status) → IfSome known (λ input. InputHeadline s input out)
-known-means s None out status texts runs reaching searches within is = tt
-known-means s (Some input) out status texts runs reaching searches within is = input-means s input out status texts runs reaching searches within is
+known-means s None out status texts runs reaching searches refuting within is = tt
+known-means s (Some input) out status texts runs reaching searches refuting within is = input-means s input out status texts runs reaching searches refuting within is
 
-pub command-means : (s : Settings) (known : Option (List ℕ)) (out : List ℕ) (status : Status) → AreReadOneWay → Runs → Reaching → Searches → IsWithinLimits s
+pub command-means : (s : Settings) (known : Option (List ℕ)) (out : List ℕ) (status : Status) → AreReadOneWay → Runs → Reaching → Searches → Refuting → IsWithinLimits s
     → IsAnswer s known out status → Headline s known out
-command-means (settings.Tables kind) known out status texts runs reaching searches within is = is.text
-command-means s known out status texts runs reaching searches within is = known-means s known out status texts runs reaching searches within is
+command-means (settings.Tables kind) known out status texts runs reaching searches refuting within is = is.text
+command-means s known out status texts runs reaching searches refuting within is = known-means s known out status texts runs reaching searches refuting within is

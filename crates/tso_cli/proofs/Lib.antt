@@ -2,6 +2,7 @@ pub mod SweepLemmas
 pub mod OneAnswer
 pub mod WitnessLemmas
 pub mod OutcomesLemmas
+pub mod WhyLemmas
 pub mod Revisited
 pub mod HeadlineLemmas
 pub mod CheckLemmas
@@ -14,6 +15,7 @@ mod SameStates
 mod SweptLines
 pub mod OneTextLemmas
 mod OneSearchLemmas
+mod OneReasonLemmas
 pub mod FittingRuns
 pub mod FittingSweeps
 pub mod StepLemmas

@@ -14,6 +14,7 @@ use Rattle.commands.specs.Lines.{input_refusal, test_refusal}
 use Rattle.commands.specs.Trace.{IsTraceAnswer}
 use Rattle.commands.specs.Sweep.{IsSweepAnswer}
 use Rattle.commands.specs.Outcomes.{IsOutcomesAnswer}
+use Rattle.commands.specs.Why.{IsWhyAnswer}
 use Rattle.commands.specs.Witness.{IsWitnessAnswer}
 use Rattle.command_line.specs.declared.settings.Settings.{Settings}
 use Rattle.commands.specs.declared.answer.Status.{Status}
@@ -26,13 +27,14 @@ pub record IsTableAnswer (kind : ProtocolKind) (out : List ℕ) (status : Status
   pub text : out ≡ printed_table (protocol_name kind) (table_of kind)
   pub status_is : status ≡ Good
 
--- the answer of a command to a test and the second part of its input; a sweep and a search look at the test alone, and `tables`
--- at neither
+-- the answer of a command to a test and the second part of its input; a sweep and both searches look at the test alone, and
+-- `tables` at neither
 abbrev pub IsAnswerTo : Settings → Litmus → List ℕ → List ℕ → Status → Type 0
 IsAnswerTo (settings.Run kind config json) t text out status = IsRunAnswer t kind config json text out status
 IsAnswerTo (settings.Trace kind config json) t text out status = IsTraceAnswer t kind config json text out status
 IsAnswerTo (settings.Sweep kind config plan) t text out status = IsSweepAnswer t kind config plan out status
 IsAnswerTo (settings.Outcomes search json) t text out status = IsOutcomesAnswer t search json out status
+IsAnswerTo (settings.Why plan json) t text out status = IsWhyAnswer t plan json out status
 IsAnswerTo settings.Check t text out status = IsCheckAnswer t text out status
 IsAnswerTo (settings.Witness depth) t text out status = IsWitnessAnswer t depth text out status
 IsAnswerTo (settings.Tables kind) t text out status = IsTableAnswer kind out status

@@ -16,6 +16,7 @@ use Rattle.tso_cli.specs.RunHeadline.{HeadlineOfRuns}
 use Rattle.tso_cli.specs.TraceHeadline.{HeadlineOfTraces}
 use Rattle.tso_cli.specs.SweepHeadline.{HeadlineOfSweeps}
 use Rattle.tso_cli.specs.OutcomesHeadline.{HeadlineOfOutcomes}
+use Rattle.tso_cli.specs.WhyHeadline.{HeadlineOfReasons}
 use Rattle.tso_cli.specs.Judgement.{JudgesEachOrder, WitnessesEachOrder}
 
 -- the protocol's table is printed
@@ -28,6 +29,7 @@ HeadlineOf (settings.Run kind config json) t text out = HeadlineOfRuns t kind co
 HeadlineOf (settings.Trace kind config json) t text out = HeadlineOfTraces t kind config json text out
 HeadlineOf (settings.Sweep kind config plan) t text out = HeadlineOfSweeps t kind config plan out
 HeadlineOf (settings.Outcomes search json) t text out = HeadlineOfOutcomes t search json out
+HeadlineOf (settings.Why plan json) t text out = HeadlineOfReasons t plan json out
 HeadlineOf settings.Check t text out = JudgesEachOrder t text out
 HeadlineOf (settings.Witness depth) t text out = WitnessesEachOrder t depth text out
 HeadlineOf (settings.Tables kind) t text out = PrintsTable kind out

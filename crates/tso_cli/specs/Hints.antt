@@ -13,6 +13,7 @@ may_mislead (settings.Run kind config json) = not json
 may_mislead (settings.Trace kind config json) = not json
 may_mislead (settings.Sweep kind config plan) = true
 may_mislead (settings.Outcomes search json) = not json
+may_mislead (settings.Why plan json) = not json
 may_mislead settings.Check = false
 may_mislead (settings.Witness depth) = false
 may_mislead (settings.Tables kind) = false

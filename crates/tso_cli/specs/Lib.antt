@@ -7,10 +7,12 @@ pub mod RunHeadline
 pub mod TraceHeadline
 pub mod SweepHeadline
 pub mod OutcomesHeadline
+pub mod WhyHeadline
 pub mod Judgement
 pub mod Headline
 pub mod OneText
 pub mod OneSearch
+pub mod OneReason
 pub mod Revisited
 pub mod Machines
 pub mod Hints

@@ -22,9 +22,10 @@ use Rattle.command_line.specs.declared.settings.Settings.{Settings}
 use Rattle.command_line.specs.declared.settings.Settings.TheVariants as settings
 
 -- its answer is one text; of `outcomes` it isn't said which of the choices that lead to a state are printed, nor of which tests the
--- states are too many, where they are more than may be kept
+-- states are too many, where they are more than may be kept; of `why` not which refutation or which execution is printed
 abbrev pub GivesOneAnswer : Settings → Type 0
 GivesOneAnswer (settings.Outcomes search json) = ⊥
+GivesOneAnswer (settings.Why plan json) = ⊥
 GivesOneAnswer _ = Unit {0}
 
 -- two reports show the same order, registers, memory and verdict of one test; the counts of choices and of accesses may differ

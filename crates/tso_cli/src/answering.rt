@@ -11,7 +11,7 @@ use crate::laws::answers_meet_the_headline;
 use command_line::Settings;
 use commands::{
     Answer, Status, check_answer, outcomes_answer, parts_of, refused_input, refused_test,
-    run_answer, sweep_answer, trace_answer, witness_answer,
+    run_answer, sweep_answer, trace_answer, why_answer, witness_answer,
 };
 use hints::{Cause, SecondPart};
 use litmus_reader::{ReadError, test_or_fault};
@@ -43,6 +43,7 @@ fn exact_answer(alloc: Global, settings: &Settings, input: &[u8]) -> Result<Answ
         | Settings::Trace { .. }
         | Settings::Sweep { .. }
         | Settings::Outcomes { .. }
+        | Settings::Why { .. }
         | Settings::Check
         | Settings::Witness { .. } => judged_answer(alloc, settings, input),
         Settings::Tables(kind) => table_answer(alloc, *kind),
@@ -131,6 +132,7 @@ fn answer_of(
             plan,
         } => sweep_answer(alloc, test, *protocol, *config, *plan),
         Settings::Outcomes { search, json } => outcomes_answer(alloc, test, *search, *json),
+        Settings::Why { plan, json } => why_answer(alloc, test, *plan, *json),
         Settings::Check => check_answer(alloc, test, text),
         Settings::Witness { depth } => witness_answer(alloc, test, *depth, text),
         Settings::Tables(kind) => table_answer(alloc, *kind),
@@ -154,7 +156,9 @@ fn asked(settings: &Settings) -> SecondPart {
     match settings {
         Settings::Run { .. } | Settings::Trace { .. } => SecondPart::Choices,
         Settings::Check | Settings::Witness { .. } => SecondPart::Order,
-        Settings::Sweep { .. } | Settings::Outcomes { .. } | Settings::Tables(_) =>
-            SecondPart::Nothing,
+        Settings::Sweep { .. }
+        | Settings::Outcomes { .. }
+        | Settings::Why { .. }
+        | Settings::Tables(_) => SecondPart::Nothing,
     }
 }

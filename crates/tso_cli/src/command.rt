@@ -118,6 +118,7 @@ fn most_read(settings: &Settings) -> usize
         | Settings::Trace { .. }
         | Settings::Sweep { .. }
         | Settings::Outcomes { .. }
+        | Settings::Why { .. }
         | Settings::Check
         | Settings::Witness { .. } => READ_LIMIT,
         Settings::Tables(_) => 0,

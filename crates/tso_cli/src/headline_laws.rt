@@ -3,10 +3,12 @@
 ghost use Rattle.std.specs.Prelude.{◌≡◌, ℕ, Bool, List};
 ghost use Rattle.protocol_tables.specs.declared.kind.ProtocolKind.{ProtocolKind};
 ghost use Rattle.machine_core.specs.Configuration.{Configuration};
+ghost use Rattle.command_line.specs.Explanation.{Explanation};
 ghost use Rattle.command_line.specs.Plan.{Plan};
 ghost use Rattle.command_line.specs.Search.{Search};
 ghost use Rattle.commands.specs.Dividing.{parts_of};
 ghost use Rattle.tso_cli.specs.Headline.{InputHeadline};
+ghost use Rattle.tso_cli.specs.OneReason.{AreOneReason};
 ghost use Rattle.tso_cli.specs.OneSearch.{AreOneSearch};
 ghost use Rattle.tso_cli.specs.OneText.{AreOneRun, AreOneTrace, AreOneWitness};
 ghost use Rattle.command_line.specs.declared.settings.Settings.{Settings};
@@ -21,7 +23,8 @@ use outcome_report::laws::outcomes_of_the_same_values_are_alike;
 /// ends, and of `witness` where it finds no choices. Of a run that ended it leaves open how many choices were used,
 /// stalled and left over, and the counts of the caches, and nothing else; of choices that lead to an
 /// order, which they are. Of `outcomes` it leaves open which choices lead to each state, and, where the machine can reach more
-/// states than may be kept, whether any are shown; lines and JSON of one test show the same states.
+/// states than may be kept, whether any are shown; lines and JSON of one test show the same states. Of `why` it leaves open which
+/// refutation or which execution is printed, and, where a limit is too small, whether one is; never is it the one and the other.
 pub fn headlines_leave_one_text()
     ensures runs { (kind : ProtocolKind) (c : Configuration) (json : Bool) (input out other : List ℕ)
         → InputHeadline (Settings.Run kind c json) input out → InputHeadline (Settings.Run kind c json) input other
@@ -38,6 +41,9 @@ pub fn headlines_leave_one_text()
     ensures outcomes { (search : Search) (json again : Bool) (input out other : List ℕ)
         → InputHeadline (Settings.Outcomes search json) input out → InputHeadline (Settings.Outcomes search again) input other
         → AreOneSearch (parts_of input).test search json again out other }
+    ensures reasons { (plan another : Explanation) (json again : Bool) (input out other : List ℕ) → plan.model ≡ another.model
+        → InputHeadline (Settings.Why plan json) input out → InputHeadline (Settings.Why another again) input other
+        → AreOneReason (parts_of input).test plan another json again out other }
 {
     texts_are_read_one_way();
     texts_are_decided();

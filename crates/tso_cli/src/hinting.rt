@@ -41,6 +41,7 @@ pub(crate) fn may_mislead(settings: &Settings) -> bool
         | Settings::Trace { json, .. }
         | Settings::Outcomes { json, .. } => !*json,
         Settings::Sweep { .. } => true,
+        Settings::Why { json, .. } => !*json,
         Settings::Check | Settings::Witness { .. } | Settings::Tables(_) => false,
     }
 }

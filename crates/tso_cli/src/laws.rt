@@ -37,6 +37,9 @@ use litmus_reader::laws::test_is_spelled_once;
 use order_builder::laws::{order_can_be_printed, order_is_spelled_once};
 use outcome_laws::{choices_to_an_end_are_counted, ends_are_what_tso_allows};
 use outcome_report::laws::outcomes_of_the_same_values_are_alike;
+use refutation_laws::{
+    no_run_makes_a_refuted_claim_true, refuted_claims_are_false, refuted_questions_are_answered,
+};
 use scheduler::{printed_choices_are_spelled, texts_are_decided};
 use simulator::ended_runs_of_machines_are_executions;
 use split_laws::{atomic_runs_are_flat_runs, runs_on_either_bus_stop_where_they_end};
@@ -75,7 +78,8 @@ pub(crate) fn texts_are_read_one_way()
 
 /// There is one answer to an input: the same bytes, and the same status. Of `outcomes` it isn't said which of the choices that
 /// lead to a state are printed; nor, where the machine can reach more states than may be kept, whether they are told as too many.
-/// Where they aren't, the states are the same, in the same order, and so are the counts.
+/// Where they aren't, the states are the same, in the same order, and so are the counts. Of `why` it isn't said which refutation or
+/// which execution is printed.
 pub fn inputs_have_one_answer()
     ensures commands { (s : Settings) (input out other : List ℕ) (status again : Status)
         → GivesOneAnswer s → IsAnswer s (Some input) out status → IsAnswer s (Some input) other again → (out ≡ other) × (status ≡ again) }
@@ -102,6 +106,9 @@ pub fn answers_meet_the_headline()
     printed_choices_are_spelled();
     ends_are_what_tso_allows();
     choices_to_an_end_are_counted();
+    refuted_questions_are_answered();
+    refuted_claims_are_false();
+    no_run_makes_a_refuted_claim_true();
 }
 
 /// A first part that ends in a line feed and has no dividing line, put before a dividing line and a

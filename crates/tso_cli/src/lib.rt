@@ -12,7 +12,7 @@ mod stepping;
 
 pub use answering::answer_to;
 pub use command::{Answered, answer_command, run_command};
-pub use command_line::{LineFault, SearchPlan, Settings, SweepPlan, settings_of};
+pub use command_line::{LineFault, ReasonPlan, SearchPlan, Settings, SweepPlan, settings_of};
 pub use commands::{Answer, Status};
 pub use hinting::hint;
 pub use hints::line_hint;

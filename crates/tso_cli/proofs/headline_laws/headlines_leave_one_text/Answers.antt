@@ -1,5 +1,6 @@
 use Rattle.tso_cli.proofs.OneTextLemmas.{AreDecided, runs-one, traces-one, sweeps-one, checks-one, witnesses-one}
 use Rattle.tso_cli.proofs.OneSearchLemmas.{searches-one}
+use Rattle.tso_cli.proofs.OneReasonLemmas.{reasons-one}
 use Rattle.tso_cli.proofs.headline_laws.headlines_leave_one_text.Goals as goal
 
 pub returns : goal.returns
@@ -18,4 +19,5 @@ returns c =
       checks = λ input out other. checks-one input out other law decided;
       outcomes = λ search json again input out other.
           searches-one search json again input out other law decided c.outcomes_of_the_same_values_are_alike.ensures;
+      reasons = λ plan another json again input out other. reasons-one plan another json again input out other law decided;
     }

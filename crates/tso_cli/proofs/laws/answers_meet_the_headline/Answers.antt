@@ -2,6 +2,7 @@ use Rattle.tso_cli.proofs.HeadlineLemmas.{Runs, command-means}
 use Rattle.simulator.proofs.SimulationLemmas.{choices-counted}
 use Rattle.tso_cli.proofs.WitnessLemmas.{Reaching}
 use Rattle.tso_cli.proofs.OutcomesLemmas.{Searches}
+use Rattle.tso_cli.proofs.WhyLemmas.{Refuting}
 use Rattle.tso_cli.proofs.laws.answers_meet_the_headline.Goals as goal
 
 pub returns : goal.returns
@@ -25,4 +26,10 @@ returns c =
       ends = c.ends_are_what_tso_allows.ensures;
       counted = c.choices_to_an_end_are_counted.ensures;
     } in
-    λ s known out status. command-means s known out status texts runs reaching searches
+    let refuting : Refuting = record {
+      names = c.refuted_questions_are_answered.ensures.names;
+      executions = c.refuted_claims_are_false.ensures.executions;
+      tso = c.no_run_makes_a_refuted_claim_true.ensures.tso;
+      sequential = c.no_run_makes_a_refuted_claim_true.ensures.sequential;
+    } in
+    λ s known out status. command-means s known out status texts runs reaching searches refuting

@@ -1,0 +1,20 @@
+use Rattle.std.proofs.Common.{string_bytes, subst}
+use Rattle.tso_laws.specs.Along.{LeadTo}
+use Rattle.refutation_laws.specs.Models.{depth_of}
+use Rattle.reason_report.specs.Printed.{ShowsExecution}
+use Rattle.commands.specs.Why.{allowed}
+use Rattle.commands.proofs.explaining.allowed_answer.Goals as goal
+
+pub returns : goal.returns
+returns c =
+    let t = c.args.test.now in
+    let order = c.args.execution.now.order.items in
+    let out = string_bytes c.in_ok-text.text in
+    allowed out (record {
+      order = order;
+      choices = c.in_ok-choices.choices.items;
+      met = c.requires;
+      lead = subst (λ model. LeadTo t (depth_of model) c.in_ok-choices.choices.items order) c.model.ensures c.in_ok-choices.ensures;
+      shown = subst (λ model. ShowsExecution c.args.json model t order c.in_ok-choices.choices.items out) c.model-2.ensures
+          (subst (λ choices. ShowsExecution c.args.json c.model-2.result t order choices out) c.deref.ensures.value c.in_ok-text.ensures);
+    })

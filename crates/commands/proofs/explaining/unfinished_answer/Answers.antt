@@ -1,0 +1,11 @@
+use Rattle.std.proofs.Common.{◌≡◌, ◌∙◌, string_bytes, ap, subst, sym}
+use Rattle.reason_report.specs.Printed.{unfinished_cases_in}
+use Rattle.commands.specs.Why.{IsWhyAnswer, too_many}
+use Rattle.commands.specs.declared.answer.Status.TheVariants.{Unended}
+use Rattle.commands.proofs.explaining.unfinished_answer.Goals as goal
+
+pub returns : goal.returns
+returns c =
+    let is : string_bytes c.in_ok-text.text ≡ unfinished_cases_in c.args.json c.args.test.now c.args.plan.cases =
+    c.in_ok-text.ensures ∙ ap (λ cases. unfinished_cases_in c.args.json c.args.test.now cases) c.cases-most.ensures.value in
+    subst (λ out. IsWhyAnswer c.args.test.now c.args.plan c.args.json out Unended) (sym is) (too_many c.requires.more c.requires.fewer)

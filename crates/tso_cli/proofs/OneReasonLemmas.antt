@@ -1,0 +1,50 @@
+-- What the headline decides of `why`.
+use Rattle.std.proofs.Common.{◌≡◌, ◌∙◌, ◌<◌, ◌≤◌, ◌⊎◌, inl, inr, ℕ, Bool, List, length, sym, ap, subst}
+use Rattle.tso_model.specs.Litmus.{Litmus}
+use Rattle.litmus_reader.specs.Spelling.{SpellsTest, IsRefused as IsRefusedTest}
+use Rattle.litmus_reader.specs.declared.fault.TextFault.{TextFault}
+use Rattle.command_line.specs.Explanation.{Explanation}
+use Rattle.command_line.specs.declared.settings.Settings.TheVariants as settings
+use Rattle.tso_io.specs.Limits.{longest_input}
+use Rattle.commands.specs.Dividing.{Parts, parts_of}
+use Rattle.commands.specs.Lines.{test_refusal}
+use Rattle.tso_cli.specs.WhyHeadline.{PrintsRefutation, PrintsExecutionOf, HeadlineOfReasons, never, allowed, too_many}
+use Rattle.tso_cli.specs.Headline.{PartsHeadline, InputHeadline}
+use Rattle.tso_cli.specs.OneReason.{AreOneReason, one_text, both_never, both_allowed, first_gives_none, second_gives_none}
+use Rattle.tso_cli.specs.inner.ReadOneWay.{AreReadOneWay}
+use Rattle.tso_cli.proofs.OneTextLemmas.{AreDecided, sizes}
+
+one-reason : (test : List ℕ) (t : Litmus) (e f : Explanation) (json again : Bool) (out other : List ℕ) → e.model ≡ f.model → SpellsTest test t
+    → HeadlineOfReasons t e json out → HeadlineOfReasons t f again other → AreOneReason test e f json again out other
+one-reason test t e f json again out other same spelled (too_many more fewer is) q = first_gives_none t spelled (record { more = more; fewer = fewer; printed = is })
+one-reason test t e f json again out other same spelled (never p) (too_many more fewer is) = second_gives_none t spelled (record { more = more; fewer = fewer; printed = is })
+one-reason test t e f json again out other same spelled (allowed p) (too_many more fewer is) = second_gives_none t spelled (record { more = more; fewer = fewer; printed = is })
+one-reason test t e f json again out other same spelled (never p) (never q) = both_never t spelled p q
+one-reason test t e f json again out other same spelled (allowed p) (allowed q) = both_allowed t spelled p q
+one-reason test t e f json again out other same spelled (never p) (allowed q) =
+    let r : PrintsExecutionOf t e.model again other = subst (λ model. PrintsExecutionOf t model again other) (sym same) q in
+    absurd (p.executions r.order r.execution r.holds)
+one-reason test t e f json again out other same spelled (allowed p) (never q) =
+    let r : PrintsRefutation t e.model again other = subst (λ model. PrintsRefutation t model again other) (sym same) q in
+    absurd (r.executions p.order p.execution p.holds)
+
+parts-one-reason : (e f : Explanation) (json again : Bool) (parts : Parts) (out other : List ℕ) → AreReadOneWay → AreDecided → e.model ≡ f.model
+    → PartsHeadline (settings.Why e json) parts out → PartsHeadline (settings.Why f again) parts other → AreOneReason parts.test e f json again out other
+parts-one-reason e f json again parts out other texts decided same p q = by_text (decided.tests parts.test).always
+  where
+    by_text : ((t : Litmus) × SpellsTest parts.test t) ⊎ ((fault : TextFault) × IsRefusedTest parts.test fault) → AreOneReason parts.test e f json again out other
+    by_text (inl spells) = one-reason parts.test spells.0 e f json again out other same spells.1 (p.every_test spells.0 spells.1) (q.every_test spells.0 spells.1)
+    by_text (inr faulty) =
+        let none : (t : Litmus) → ¬ (SpellsTest parts.test t) = λ t spelled. texts.refused_or_not parts.test t faulty.0 spelled faulty.1 in
+        let first = p.every_other none in
+        let second = q.every_other none in
+        one_text (first.2 ∙ ap test_refusal (texts.one_refusal parts.test first.0 second.0 first.1 second.1) ∙ sym second.2)
+
+pub reasons-one : (e f : Explanation) (json again : Bool) (input out other : List ℕ) → AreReadOneWay → AreDecided → e.model ≡ f.model
+    → InputHeadline (settings.Why e json) input out → InputHeadline (settings.Why f again) input other
+    → AreOneReason (parts_of input).test e f json again out other
+reasons-one e f json again input out other texts decided same p q = by_size (sizes (length input) longest_input)
+  where
+    by_size : (length input ≤ longest_input) ⊎ (longest_input < length input) → AreOneReason (parts_of input).test e f json again out other
+    by_size (inl small) = parts-one-reason e f json again (parts_of input) out other texts decided same (p.within small) (q.within small)
+    by_size (inr large) = one_text (p.above large ∙ sym (q.above large))

@@ -1,0 +1,26 @@
+-- What the headline leaves open of `why`: two texts of which it holds, for one model, each as lines or as JSON and with a limit of its own.
+-- Both are refutations, or both are executions; which ones they are may differ.
+use Rattle.std.specs.Prelude.{ℕ, ◌<◌, ◌≡◌, Bool, List}
+use Rattle.tso_model.specs.Litmus.{Litmus}
+use Rattle.litmus_reader.specs.Spelling.{SpellsTest}
+use Rattle.reasons.specs.Reasons.{HasMoreCases, most_cases}
+use Rattle.reason_report.specs.Printed.{unfinished_cases_in}
+use Rattle.command_line.specs.Explanation.{Explanation}
+use Rattle.tso_cli.specs.WhyHeadline.{PrintsRefutation, PrintsExecutionOf}
+
+-- the text gives no reason: it says that more cases have to be told apart than may be
+pub record GivesNoReason (t : Litmus) (e : Explanation) (json : Bool) (out : List ℕ) : Type 0 where
+  pub more : HasMoreCases e.model t e.cases
+  pub fewer : e.cases < most_cases t
+  pub printed : out ≡ unfinished_cases_in json t e.cases
+
+-- two texts are one, the same refusal; or both tell of the test that was given that it never is so; or both tell that it can be; or one of
+-- them gives no reason
+pub data AreOneReason (test : List ℕ) (e f : Explanation) (json again : Bool) (out other : List ℕ) : Type 0 where
+  one_text : out ≡ other → AreOneReason test e f json again out other
+  both_never : (t : Litmus) → SpellsTest test t → PrintsRefutation t e.model json out → PrintsRefutation t f.model again other
+      → AreOneReason test e f json again out other
+  both_allowed : (t : Litmus) → SpellsTest test t → PrintsExecutionOf t e.model json out → PrintsExecutionOf t f.model again other
+      → AreOneReason test e f json again out other
+  first_gives_none : (t : Litmus) → SpellsTest test t → GivesNoReason t e json out → AreOneReason test e f json again out other
+  second_gives_none : (t : Litmus) → SpellsTest test t → GivesNoReason t f again other → AreOneReason test e f json again out other
