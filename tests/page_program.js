@@ -24,9 +24,10 @@ const REFUSED = 2;
 const MACHINE = ['protocol', 'bus', 'depth', 'sets', 'ways', 'words'];
 const OPTIONS = {
   run: [...MACHINE, 'json'], sweep: [...MACHINE, 'from', 'seeds', 'length'], outcomes: ['depth', 'states', 'json'],
+  why: ['model', 'cases', 'json'],
   trace: [...MACHINE, 'json'], step: MACHINE, check: [], witness: ['depth'], tables: ['protocol'],
 };
-const WORDS = { protocol: Tso.PROTOCOLS, bus: Tso.BUSES };
+const WORDS = { protocol: Tso.PROTOCOLS, bus: Tso.BUSES, model: Tso.MODELS };
 const MOST = { depth: 254, sets: 254, ways: 254, words: 254 };
 
 /** What a script of the page gives this name. */

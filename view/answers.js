@@ -4,12 +4,13 @@
 
 /** A module of WebAssembly that answers as the program does. An instance is thrown away after a trap, and the next call has a new one. */
 class Tso {
-  static COMMANDS = ['run', 'sweep', 'check', 'witness', 'tables', 'outcomes', 'trace', 'step'];
+  static COMMANDS = ['run', 'sweep', 'check', 'witness', 'tables', 'outcomes', 'trace', 'step', 'why'];
   static PROTOCOLS = ['msi', 'mesi', 'moesi', 'mosi'];
   static BUSES = ['atomic', 'split'];
+  static MODELS = ['tso', 'sc'];
   static DEFAULTS = {
     command: 'run', protocol: 'msi', bus: 'atomic', depth: 4, sets: 1, ways: 2, words: 1, json: false,
-    from: 0, seeds: 10, length: 1000, states: 1000000,
+    from: 0, seeds: 10, length: 1000, states: 1000000, cases: 100000, model: 'tso',
   };
   static STATUS = { good: 0, refused: 1, nothingAsked: 2, unended: 3, invalid: 4, noMemory: 5 };
 
@@ -50,7 +51,7 @@ class Tso {
       return place;
     };
     try {
-      const asked = room(24), input = room(bytes.length), told = room(24);
+      const asked = room(32), input = room(bytes.length), told = room(24);
       const texts = this.sizes.map(room);
       if (places.length < 5) return { status: Tso.STATUS.noMemory, text: '', hint: '' };
       this.writeAsked(Number(asked), options);
@@ -67,12 +68,13 @@ class Tso {
   }
 
   writeAsked(place, options) {
-    const view = new DataView(this.exports.memory.buffer, place, 24);
-    const { command, protocol, bus, depth, sets, ways, words, json, from, seeds, length, states } = options;
+    const view = new DataView(this.exports.memory.buffer, place, 32);
+    const { command, protocol, bus, depth, sets, ways, words, json, from, seeds, length, states, cases, model } = options;
     const small = [Tso.COMMANDS.indexOf(command), Tso.PROTOCOLS.indexOf(protocol), Tso.BUSES.indexOf(bus), depth, sets, ways, words];
     small.forEach((number, at) => view.setUint8(at, Number.isInteger(number) && number >= 0 && number < 255 ? number : 255));
     view.setUint8(7, json ? 1 : 0);
-    [from, seeds, length, states].forEach((number, at) => view.setUint32(8 + 4 * at, number, true));
+    [from, seeds, length, states, cases].forEach((number, at) => view.setUint32(8 + 4 * at, number, true));
+    view.setUint8(28, Tso.MODELS.indexOf(model) & 255);
   }
 
   readTold(place) {

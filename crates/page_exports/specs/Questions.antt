@@ -4,11 +4,13 @@ use Rattle.std.specs.Prelude.{ℕ, ◌≡◌, ◌<◌, ◌≤◌, ◌⊎◌, tru
 use Rattle.tso_model.specs.declared.choice.Bus.{Bus}
 use Rattle.snoop_bus.specs.Geometry.{geometry, IsShapeWithinLimits}
 use Rattle.protocol_tables.specs.declared.kind.ProtocolKind.{ProtocolKind}
+use Rattle.refutation_laws.specs.declared.model.Model.{Model}
 use Rattle.tso_model.specs.Limits.{most_depth}
 use Rattle.machine_core.specs.Configuration.{Configuration}
 use Rattle.command_line.specs.Limits.{IsDepth}
 use Rattle.command_line.specs.Plan.{IsPlanWithinLimits}
 use Rattle.command_line.specs.Search.{IsSearchWithinLimits}
+use Rattle.command_line.specs.Explanation.{most_told_apart}
 use Rattle.command_line.specs.declared.settings.Settings.{Settings}
 use Rattle.tso_cli.specs.Headline.{Headline}
 use Rattle.tso_cli.specs.Answers.{IsAnswer}
@@ -20,6 +22,7 @@ use Rattle.page_exports.specs.declared.question.Question.{Question}
 use Rattle.page_exports.specs.declared.Told.{Told}
 use Rattle.tso_model.specs.declared.choice.Bus.TheVariants as buses
 use Rattle.protocol_tables.specs.declared.kind.ProtocolKind.TheVariants as kinds
+use Rattle.refutation_laws.specs.declared.model.Model.TheVariants as models
 use Rattle.command_line.specs.declared.settings.Settings.TheVariants as settings
 use Rattle.commands.specs.declared.answer.Status.TheVariants as statuses
 use Rattle.page_exports.specs.declared.question.Question.TheVariants as questions
@@ -33,6 +36,10 @@ kind_number kinds.Mosi = 3
 abbrev pub bus_number : Bus → ℕ
 bus_number buses.Atomic = 0
 bus_number buses.Split = 1
+
+abbrev pub model_number : Model → ℕ
+model_number models.Tso = 0
+model_number models.Sequential = 1
 
 -- the number of a status is the command's exit status
 abbrev pub number_of : Status → ℕ
@@ -58,6 +65,8 @@ Asks a (settings.Tables kind) = (a.command ≡ 4) × (kind_number kind ≡ a.pro
 Asks a (settings.Outcomes search json) =
     (a.command ≡ 5) × (search ≡ record { depth = a.depth; states = a.states }) × (json ≡ a.json)
 Asks a (settings.Trace kind config json) = (a.command ≡ 6) × IsMachineOf a kind config × (json ≡ a.json)
+Asks a (settings.Why plan json) =
+    (a.command ≡ 8) × (model_number plan.model ≡ a.model) × (plan.cases ≡ a.cases) × (json ≡ a.json)
 
 -- the question that the numbers ask: a command's, or for the last step of a trace
 abbrev pub AsksFor : Numbers → Question → Type 0
@@ -78,6 +87,7 @@ IsCommandAskable a =
     ⊎ ((a.command ≡ 4) × (a.protocol < 4))
     ⊎ ((a.command ≡ 5) × IsSearchWithinLimits (record { depth = a.depth; states = a.states }))
     ⊎ ((a.command ≡ 6) × IsMachineAsked a)
+    ⊎ ((a.command ≡ 8) × (a.model < 2) × (1 ≤ a.cases) × (a.cases ≤ most_told_apart))
 
 -- the same of a question
 abbrev pub IsAskable : Numbers → Type 0

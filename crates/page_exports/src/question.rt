@@ -7,11 +7,12 @@ ghost use Rattle.snoop_bus.specs.Geometry.{geometry, IsShapeWithinLimits};
 ghost use Rattle.command_line.specs.Limits.{HasDepth};
 ghost use Rattle.page_exports.specs.Questions.{AsksFor, IsAskable, Asks, IsCommandAskable, settings_of};
 ghost use Rattle.page_exports.specs.inner.Questions.{HasDepthFor};
-ghost use Rattle.page_exports.specs.Questions.{kind_number, bus_number, number_of};
+ghost use Rattle.page_exports.specs.Questions.{kind_number, bus_number, model_number, number_of};
 
-use command_line::{SearchPlan, SweepPlan};
+use command_line::{ReasonPlan, SearchPlan, SweepPlan};
 use machine_core::Config;
 use protocol_tables::ProtocolKind;
+use refutation_laws::Model;
 use snoop_bus::Shape;
 use tso_cli::{Settings, Status};
 use tso_model::Bus;
@@ -21,7 +22,7 @@ use tso_model::limits::{MAX_DEPTH, MIN_DEPTH};
 #[repr(C)]
 #[derive(Clone, Copy)]
 pub struct Numbers {
-    /// 0 run, 1 sweep, 2 check, 3 witness, 4 tables, 5 outcomes, 6 trace; 7 the last step of a trace alone.
+    /// 0 run, 1 sweep, 2 check, 3 witness, 4 tables, 5 outcomes, 6 trace, 8 why; 7 the last step of a trace alone.
     pub command: u8,
     /// 0 msi, 1 mesi, 2 moesi, 3 mosi.
     pub protocol: u8,
@@ -35,7 +36,7 @@ pub struct Numbers {
     pub ways: u8,
     /// Words of a line, 1, 2 or 4.
     pub words: u8,
-    /// Whether the answer of a run, of a trace or of a search is JSON.
+    /// Whether the answer of a run, of a trace or of either search is JSON.
     pub json: bool,
     /// The first seed of a sweep.
     pub from: u32,
@@ -45,6 +46,10 @@ pub struct Numbers {
     pub length: u32,
     /// How many states a search may keep, 1 to 10000000.
     pub states: u32,
+    /// How many cases a search for a reason may tell apart, 1 to 1000000.
+    pub cases: u32,
+    /// 0 tso, 1 sc.
+    pub model: u8,
 }
 
 /// What numbers ask for.
@@ -137,6 +142,13 @@ fn command_of(asked: &Numbers) -> Option<Settings>
                 json: asked.json,
             })
         }
+        8 => {
+            let plan = ReasonPlan::new(model_of(asked.model)?, asked.cases)?;
+            Some(Settings::Why {
+                plan,
+                json: asked.json,
+            })
+        }
         _ => None,
     }
 }
@@ -184,6 +196,17 @@ fn kind_of(number: u8) -> Option<ProtocolKind>
         1 => Some(ProtocolKind::Mesi),
         2 => Some(ProtocolKind::Moesi),
         3 => Some(ProtocolKind::Mosi),
+        _ => None,
+    }
+}
+
+fn model_of(number: u8) -> Option<Model>
+    ensures value { IfSome result (λ m. model_number m ≡ number) }
+    ensures valid { IsSome result ↔ (number < 2) }
+{
+    match number {
+        0 => Some(Model::Tso),
+        1 => Some(Model::Sequential),
         _ => None,
     }
 }
