@@ -6,11 +6,12 @@ _tso_options() {
     trace) echo --protocol --depth --sets --ways --words --bus --json --help ;;
     sweep) echo --protocol --depth --sets --ways --words --bus --from --seeds --length --help ;;
     outcomes) echo --depth --states --json --help ;;
+    why) echo --model --cases --json --help ;;
     check) echo --help ;;
     witness) echo --depth --help ;;
     tables) echo --protocol --help ;;
-    help) echo run trace sweep outcomes check witness tables help ;;
-    *) echo run trace sweep outcomes check witness tables help --help --version ;;
+    help) echo run trace sweep outcomes why check witness tables help ;;
+    *) echo run trace sweep outcomes why check witness tables help --help --version ;;
   esac
 }
 
@@ -19,7 +20,8 @@ _tso_values() {
     --protocol) echo msi mesi moesi mosi ;;
     --bus) echo atomic split ;;
     --words) echo 1 2 4 ;;
-    --depth | --sets | --ways | --from | --seeds | --length | --states) echo ;;
+    --model) echo tso sc ;;
+    --depth | --sets | --ways | --from | --seeds | --length | --states | --cases) echo ;;
     *) return 1 ;;
   esac
 }

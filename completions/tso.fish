@@ -6,6 +6,7 @@ complete -c tso -f -n __fish_use_subcommand -a run
 complete -c tso -f -n __fish_use_subcommand -a trace
 complete -c tso -f -n __fish_use_subcommand -a sweep
 complete -c tso -f -n __fish_use_subcommand -a outcomes
+complete -c tso -f -n __fish_use_subcommand -a why
 complete -c tso -f -n __fish_use_subcommand -a check
 complete -c tso -f -n __fish_use_subcommand -a witness
 complete -c tso -f -n __fish_use_subcommand -a tables
@@ -19,7 +20,7 @@ complete -c tso -f -n "contains -- --install (commandline -opc)" -l verbose
 complete -c tso -f -n "contains -- --install (commandline -opc)" -a "(__fish_complete_directories)"
 complete -c tso -f -n "contains -- --uninstall (commandline -opc)" -a "(__fish_complete_directories)"
 
-complete -c tso -f -n "__fish_seen_subcommand_from help" -a "run trace sweep outcomes check witness tables help"
+complete -c tso -f -n "__fish_seen_subcommand_from help" -a "run trace sweep outcomes why check witness tables help"
 
 complete -c tso -f -n "__fish_seen_subcommand_from run" -l protocol -x -a "msi mesi moesi mosi"
 complete -c tso -f -n "__fish_seen_subcommand_from run" -l depth -x
@@ -54,6 +55,11 @@ complete -c tso -f -n "__fish_seen_subcommand_from outcomes" -l depth -x
 complete -c tso -f -n "__fish_seen_subcommand_from outcomes" -l states -x
 complete -c tso -f -n "__fish_seen_subcommand_from outcomes" -l json
 complete -c tso -f -n "__fish_seen_subcommand_from outcomes" -l help
+
+complete -c tso -f -n "__fish_seen_subcommand_from why" -l model -x -a "tso sc"
+complete -c tso -f -n "__fish_seen_subcommand_from why" -l cases -x
+complete -c tso -f -n "__fish_seen_subcommand_from why" -l json
+complete -c tso -f -n "__fish_seen_subcommand_from why" -l help
 
 complete -c tso -f -n "__fish_seen_subcommand_from check" -l help
 
