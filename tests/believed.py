@@ -7,11 +7,11 @@
     tests/believed.py --misplaced          what stands in the wrong folder, a line for each two files: FROM TO NAME..
     tests/believed.py --arrange            moves these definitions by tests/move_definitions.py
 
-PROMISE is run (on the atomic bus, plain), run-whole (the split bus and JSON too), trace and trace-whole (likewise), sweep, outcomes, check,
-witness, headline, axioms, state (the axioms, final state and verdict), answers, reach, page, models, why or laws (what the contracts name
-of all functions that README.md and docs/PROVED.md name and that are no methods; what a contract cites through another name of a whole
-file, as `spec.reading_of`, is the code's own way said as a definition, and a word of the inside). A line counts where it is neither
-blank, a comment nor an import. tests/declared.py lists the types of the code that the headline names.
+PROMISE is run (on the atomic bus, plain), run-whole (the split bus and JSON too), trace and trace-whole (likewise), sweep, outcomes, why (both
+plain), check, witness, headline, axioms, state (the axioms, final state and verdict), answers, reach, page, models, refutations or laws
+(what the contracts name of all functions that README.md and docs/PROVED.md name and that are no methods; what a contract cites through
+another name of a whole file, as `spec.reading_of`, is the code's own way said as a definition, and a word of the inside). A line counts
+where it is neither blank, a comment nor an import. tests/declared.py lists the types of the code that the headline names.
 
 --arrange gives each definition its folder: specs/ of its crate for what a promise reaches, specs/inner/ for the rest. The last line
 is 'N passed, M failed', M being how many definitions don't stand so.
@@ -37,7 +37,7 @@ BOUND = (
 IMPORT = re.compile(r"^(pub )?use Rattle\.([\w.]+?)(?:\.\{(.*)\})?(?: as (\S+))?$")
 
 # What each command and each promise beside it rests on. Of a definition that goes by commands, only the command's own case counts.
-CASES = {"run": "Run", "trace": "Trace", "sweep": "Sweep", "outcomes": "Outcomes", "check": "Check", "witness": "Witness", "tables": "Tables"}
+CASES = {"run": "Run", "trace": "Trace", "sweep": "Sweep", "outcomes": "Outcomes", "why": "Why", "check": "Check", "witness": "Witness", "tables": "Tables"}
 
 
 class Definition:
@@ -169,6 +169,7 @@ SPLIT = ("tso_cli.specs.SplitRun", "split_run")
 JSON = (("tso_report.specs.Json", "json_report"), ("tso_report.specs.Json", "json_unfinished"))
 TRACED_AS_JSON = (*JSON, ("trace_json.specs.TracedRun", "json_ended"), ("trace_json.specs.TracedRun", "json_unended"))
 FOUND_AS_JSON = (("outcome_report.specs.OutcomesJson", "outcomes_json"), ("outcome_report.specs.OutcomesJson", "unfinished_json"))
+REASONS_AS_JSON = tuple(("reason_report.specs.ReasonJson", name) for name in ("never_json", "allowed_json", "unfinished_json"))
 PROMISES = {
     "run": ([TOP_LEVEL], "Run", (SPLIT, *JSON)),
     "run-whole": ([TOP_LEVEL], "Run", ()),
@@ -176,6 +177,7 @@ PROMISES = {
     "trace-whole": ([TOP_LEVEL], "Trace", ()),
     "sweep": ([TOP_LEVEL], "Sweep", (SPLIT,)),
     "outcomes": ([TOP_LEVEL], "Outcomes", FOUND_AS_JSON),
+    "why": ([TOP_LEVEL], "Why", REASONS_AS_JSON),
     "check": ([TOP_LEVEL], "Check", ()),
     "witness": ([TOP_LEVEL], "Witness", ()),
     "headline": ([TOP_LEVEL], None, ()),
@@ -224,7 +226,7 @@ LAWS = {
         ("abstract_machine", "runs_of_the_abstract_machine_are_executions executions_are_runs_of_the_abstract_machine"
          " bounded_buffers_lose_nothing worked_runs_of_the_abstract_machine"),
     ),
-    "why": (
+    "refutations": (
         ("refutation_laws", "refuted_claims_are_false no_run_makes_a_refuted_claim_true refuted_questions_are_answered"
          " claims_are_refuted_or_met known_values_are_right edges_have_relations worked_refutations"),
     ),
@@ -271,7 +273,7 @@ def topic(module):
         return "caches"
     if crate in ("tso_cli", "commands", "simulator", "sweeper", "tso_io", "command_line", "page_exports"):
         return "commands"
-    if crate in ("tso_report", "outcome_report"):
+    if crate in ("tso_report", "outcome_report", "reason_report"):
         return "printed text"
     return "tests, machine, axioms"
 
@@ -316,10 +318,10 @@ TOPICS = ("tests, machine, axioms", "caches", "choices and orders as texts", "co
 PROMISED = {
     "run": "`run` on the atomic bus, plain", "run-whole": "`run`, on the split bus and as JSON too", "trace": "`trace` on the atomic bus, plain",
     "trace-whole": "`trace`, on the split bus and as JSON too",
-    "sweep": "`sweep` on the atomic bus", "outcomes": "`outcomes`, plain",
+    "sweep": "`sweep` on the atomic bus", "outcomes": "`outcomes`, plain", "why": "`why`, plain",
     "check": "`check`", "witness": "`witness`", "headline": "the headline, all commands", "axioms": "`IsTsoExecution`",
     "state": "axioms, final state and verdict", "answers": "the answers' laws, `exact` among them", "reach": "what runs reach",
-    "page": "the page's answers", "models": "the published models", "why": "refutations",
+    "page": "the page's answers", "models": "the published models", "refutations": "refutations",
     "laws": "all that is named here and in the README",
 }
 

@@ -23,6 +23,7 @@ pub mod order_texts;
 pub mod orders;
 pub mod printed_texts;
 pub mod readings;
+pub mod reasons_told;
 pub mod refuted_claims;
 pub mod run_calls;
 pub mod runs_so_far;
