@@ -1,8 +1,9 @@
 """What a check leaves of each module in crates/*/out/incremental: which fields its proofs project, also those that a tactic found.
 
 A module's file has a table of the names that its terms use, the terms, and the names of all that it rests on. A projection is the
-byte 10 (138 where it is the last of its kind), the number of the node that it is of, and the number of the field's name. The terms
-aren't parsed: such bytes can stand there by chance, so this is for finding users, and no proof that something is one.
+byte 10 (138 where it is the last of its kind), how many nodes before it that one stands which it is of, and the number of the field's
+name: `x.a.b` are two that follow each other, the second at distance 1. The terms aren't parsed: such bytes can stand there by chance, so
+this is for finding users, and no proof that something is one.
 """
 import glob
 import os
@@ -58,16 +59,33 @@ class Module:
         number, at = number_at(self.terms, at)
         return (self.names[number], at) if number < len(self.names) and IDENTIFIER.match(self.names[number]) else (None, at)
 
-    def projected(self):
-        """The names of the fields that its terms may project."""
-        found = set()
+    def projections(self):
+        """Each projection that may stand in its terms: by its place the place after it, its distance, and the field's name."""
+        found = {}
         for place in PROJECTIONS.finditer(self.terms):
             try:
-                _, at = number_at(self.terms, place.end())
-                found.add(self.name_at(at)[0])
+                distance, at = number_at(self.terms, place.end())
+                name, end = self.name_at(at)
             except IndexError:
-                pass
-        return found - {None}
+                continue
+            if name:
+                found[place.start()] = end, distance, name
+        return found
+
+    def projected(self):
+        """The names of the fields that its terms may project."""
+        return {name for _, _, name in self.projections().values()}
+
+    def ensured(self):
+        """The pairs of a step and a clause of which its terms may say `step.ensures.clause`; the step is "" where it stands elsewhere."""
+        found, pairs = self.projections(), set()
+        follows = {end: at for at, (end, _, _) in found.items()}
+        for at, (_, distance, clause) in found.items():
+            of = follows.get(at)
+            if distance == 1 and of is not None and found[of][2] == "ensures":
+                step = follows.get(of) if found[of][1] == 1 else None
+                pairs.add(("" if step is None else found[step][2], clause))
+        return pairs
 
     def built(self):
         """The names of the fields of the records that its terms may build."""

@@ -40,12 +40,15 @@ IMPLEMENTED = re.compile(r"^impl(?:<[^\n]*?>)? ?(?:\w+ for )?(\w+)", re.M)
 
 
 class Clause:
-    """A named clause of a public function: its file below crates/, the function, the name, and what it says in words."""
+    """A named clause of a public function: its file below crates/, its type if it is a method, the function, the name, and what it says."""
 
-    def __init__(self, path, function, label, says):
+    def __init__(self, path, kind, function, label, says):
         self.path, self.function, self.label, self.says = path, function, label, says
         self.crate = path.split("/")[0]
         self.name = "%s %s.%s" % (path, function, label)
+        file = path[:-len(".rt")].partition("/src/")[2]
+        place = [file.replace("/", ".")] * (file != "lib") + [kind] * bool(kind) + [function]
+        self.proofs = ".".join(["Rattle-%s-proofs" % self.crate, *place])
 
     def text_key(self):
         return "call", self.path, self.function, self.label
@@ -124,7 +127,7 @@ def functions():
 @lru_cache(None)
 def clauses():
     words, types = named_in_pages()
-    return [Clause(path, name, label, says) for path, kind, name, said, _ in functions() for label, says in said.items()
+    return [Clause(path, kind, name, label, says) for path, kind, name, said, _ in functions() for label, says in said.items()
             if (name in words or kind in types) and path.split("/")[0] not in USERS_THEMSELVES and not WORKED.match(name)]
 
 
@@ -220,12 +223,15 @@ class Taking:
     """What one checked module takes up."""
 
     def __init__(self, module):
-        self.user, self.projected, self.built = function_of(module.name), module.projected(), module.built()
+        self.user, self.built = function_of(module.name), module.built()
+        self.projected, self.ensured = module.projected(), module.ensured()
         self.fields, self.clauses = {}, {}
-        for name in module.rests_on:
+        for name in {name for names in module.rests_on for name in names.split()}:
             whole, _, last = name.rpartition(".")
             if whole.endswith(".Reads") and last.startswith("ensures-"):
-                self.clauses.setdefault(last[len("ensures-"):-len("-read")], []).append(whole[:-len(".Reads")])
+                function = whole[:-len(".Reads")]
+                if function != module.name.rpartition(".")[0]:
+                    self.clauses.setdefault(last[len("ensures-"):-len("-read")], set()).add(function)
             elif last in self.projected:
                 self.fields.setdefault(last, []).append(whole)
 
@@ -236,14 +242,19 @@ class Taking:
         return not own_file and thing.qualified in records and (len(records) == 1 or thing.field not in self.built)
 
     def takes_clause(self, thing):
-        """The function is the only one with such a clause that is called there, or a step that the terms name is its call."""
-        own_proof = self.user.startswith(thing.path[:-len(".rt")].replace("/src/", "::").replace("::lib", ""))
-        if not {"ensures", thing.label} <= self.projected or own_proof and self.user.endswith("::" + thing.function):
-            return False
+        """The clause is said of what a call ensures; and the function is the only one with such a clause that is called there, or the
+        only one of its name, and the step is named for it."""
         called = self.clauses.get(thing.label, ())
-        own = [name for name in called if name.startswith("Rattle-%s-proofs." % thing.crate) and name.endswith("." + thing.function)]
-        step = re.compile(r"(?:in_ok-|in_err-)?%s(?:-.*)?" % thing.function)
-        return bool(own) and (len(called) == len(own) or any(step.fullmatch(name) for name in self.projected))
+        if thing.proofs not in called:
+            return False
+        alike = [name for name in called if name.endswith("." + thing.function)]
+        steps = {step for step, label in self.ensured if label == thing.label}
+        named = re.compile(r"(?:in_ok-|in_err-)?%s(?:-.*)?" % thing.function)
+        return bool(steps) and (len(called) == 1 or len(alike) == 1 and any(named.fullmatch(step) for step in steps))
+
+    def may_take(self, thing):
+        """The module calls the function, and projects something of the clause's name."""
+        return isinstance(thing, Clause) and thing.proofs in self.clauses.get(thing.label, ()) and thing.label in self.projected
 
     def takes(self, thing):
         return self.takes_field(thing) if isinstance(thing, Field) else self.takes_clause(thing)
@@ -252,21 +263,25 @@ class Taking:
 def renew(trees):
     """Writes the list, from what checks left: a user for each thing that no text takes up."""
     wanted = {thing.name: thing for thing in [*fields(), *clauses()] if not user_in_text(thing)}
-    found = {}
+    found, perhaps = {}, {}
     for tree in trees:
         for module in checked_modules.modules(tree):
             taking = Taking(module)
-            for name in [name for name, thing in wanted.items() if taking.takes(thing)]:
-                found[name] = taking.user
-                del wanted[name]
-    kept = {name: silent()[name] for name, thing in wanted.items() if name in silent() and stands(silent()[name], thing)}
+            for name, thing in wanted.items():
+                if name not in found and taking.takes(thing):
+                    found[name] = taking.user
+                elif name not in perhaps and taking.may_take(thing):
+                    perhaps[name] = taking.user
+    rest = [name for name in wanted if name not in found]
+    said = {name: silent()[name] for name in rest if name in silent() and stands(silent()[name], wanted[name])}
+    found.update({name: said.get(name) or perhaps[name] for name in rest if name in said or name in perhaps})
     with open(SILENT, encoding="utf-8") as file:
         head = [line for line in file if line.startswith("#")]
     with open(SILENT, "w", encoding="utf-8") as file:
-        file.write("".join(head) + "".join("%s = %s\n" % pair for pair in sorted({**found, **kept}.items())))
-    for name, user in kept.items():
-        print("no module says so any more: %s = %s" % (name, user))
-    print("%d have a user that says nothing in its text, %d have none" % (len(found) + len(kept), len(wanted) - len(kept)))
+        file.write("".join(head) + "".join("%s = %s\n" % pair for pair in sorted(found.items())))
+    for name in rest:
+        print("no module says so for certain: %s = %s" % (name, found.get(name, "nothing")))
+    print("%d have a user that says nothing in its text, %d have none" % (len(found), len(wanted) - len(found)))
 
 
 def main():
