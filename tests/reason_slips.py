@@ -168,6 +168,18 @@ def judge():
 
 # ---- slips in what a program prints
 
+# Names, forms of what is changed where it stands first, and what is put in its place.
+IN_A_TREE = (
+    ("a value changed", r"(?<= )(P\d:\d+ \w+ \w+=)(\d+)", r"\g<1>1\2"),
+    ("a place's value changed", r"(False.*=)(\d+)", r"\g<1>1\2"),
+    ("an edge of another kind", r" (po|rf|fr|mfence|implied) (?=P)", " co "),
+    ("a case left out", r"(?m)^( *)Case .*\n\1 (?! ).*\n", ""),
+    ("a leaf left out", r"(?m)^ *(Cycle|Uniproc|Between|False)\b.*\n", ""),
+    ("an answer left out", r"(?m)^ *So .*\n", ""),
+    ("the end of the cases left out", r"(?m)^ *Endcases\n", ""),
+)
+
+
 def of_printed(text):
     """Names and texts: slips that can be made in any reason."""
     yield "the last line left out", text[:text.rindex("\n", 0, -1) + 1]
@@ -175,10 +187,7 @@ def of_printed(text):
         yield from of_allowed(text)
         return
     yield "another number of leaves", re.sub(r"leaves=(\d+)", lambda found: "leaves=%d" % (int(found[1]) + 1), text)
-    for name, form, put in (("a value changed", r"(?<= )(P\d:\d+ \w+ \w+=)(\d+)", r"\g<1>1\2"), ("a place's value changed", r"(False.*=)(\d+)", r"\g<1>1\2"),
-                            ("an edge of another kind", r" (po|rf|co|fr|mfence|implied) (?=P)", " co " if " co P" not in text else " rf "),
-                            ("a case left out", r"(?m)^( *)Case .*\n\1 (?! ).*\n", ""), ("a leaf left out", r"(?m)^ *(Cycle|Uniproc|Between|False)\b.*\n", ""),
-                            ("an answer left out", r"(?m)^ *So .*\n", ""), ("the end of the cases left out", r"(?m)^ *Endcases\n", "")):
+    for name, form, put in IN_A_TREE:
         yield name, re.sub(form, put, text, count=1)
 
 

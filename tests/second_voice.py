@@ -11,7 +11,8 @@ its name. How often each did is printed.
 
 The documents leave two things of `outcomes` open. The second program takes them from the answer, where they are right there: the choices
 beside a state end the test in it, in a run of its own, at that depth, none stalled and none left over; a search gives up only where more
-states can be reached than may be kept.
+states can be reached than may be kept. They leave open which reason `why` prints. It is taken from the answer too, where it is one; it
+gives up only where a tree may have more cases than the limit. tests/why.py has more of it.
 
 The second program answers the rows of tests/data/rows/ too, with their output and their status. Of standard error it has what stands
 beside status 0, and beside `--words 3`. All other hints, `--help`, `--version` and the words on a refused command line aren't its own.

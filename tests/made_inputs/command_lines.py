@@ -1,6 +1,6 @@
 """Command lines: options with values of every kind, and lines that are refused."""
 
-PROTOCOLS, BUSES = ("msi", "mesi", "moesi", "mosi"), ("atomic", "split")
+PROTOCOLS, BUSES, MODELS = ("msi", "mesi", "moesi", "mosi"), ("atomic", "split"), ("tso", "sc")
 
 # Lines that are refused, a word between each two spaces.
 BAD_LINES = [line.split() for line in """
@@ -15,6 +15,7 @@ BAD_LINES = [line.split() for line in """
     check --help
     witness --help
     outcomes --help
+    why --help
     tables --help
     --depth 4 run
     run 4
@@ -73,6 +74,18 @@ BAD_LINES = [line.split() for line in """
     outcomes --json=true
     outcomes --states 5 --states 5
     outcomes SB
+    why SB
+    why --model x86
+    why --model=TSO
+    why --cases 0
+    why --cases 1000001
+    why --cases few
+    why --depth 4
+    why --states 5
+    why --json=true
+    why --cases 5 --cases 5
+    outcomes --model sc
+    run --cases 5
     run --states 5
     sweep --states 5
     check --depth 4
@@ -141,6 +154,15 @@ def outcomes(draw, depth=None, states=None):
     return ["outcomes"] + joined(draw, options)
 
 
+def why(draw, cases=None):
+    """A search for a reason; of its limit nothing is said where it is None."""
+    options = [option(draw, "model", draw.choice(MODELS))] if draw.random() < 0.7 else []
+    options += [] if cases is None else [option(draw, "cases", cases)]
+    if draw.random() < 0.4:
+        options.append(["--json"])
+    return ["why"] + joined(draw, options)
+
+
 def judge(draw, depth=None):
     """`check`, or `witness` at some depth."""
     if depth is None and draw.random() < 0.5:
@@ -155,5 +177,6 @@ def tables(draw, turn):
 
 
 def any_with_a_test(draw, searched=False):
-    """A command that reads a test, with some of its options; `outcomes` too where that is asked for."""
-    return draw.choice([run(draw), ["check"], judge(draw, 4), sweep(draw, 0, 3, 50)] + ([outcomes(draw, 32)] if searched else []))
+    """A command that reads a test, with some of its options; `outcomes` and `why` too where that is asked for."""
+    searches = [outcomes(draw, 32), why(draw)] if searched else []
+    return draw.choice([run(draw), ["check"], judge(draw, 4), sweep(draw, 0, 3, 50)] + searches)

@@ -23,6 +23,9 @@ SEARCHED_KINDS = (["store", "load"], ["store", "load"], ["store", "load", "fence
                   ["exchange", "add", "load"], ["store register", "store", "load", "set", "copy"], None)
 SEARCHED = ((2, (2, 4, 2)), (3, (3, 3, 2)), (4, (4, 3, 3)), (5, (5, 2, 3)), (6, (6, 2, 2)), (7, (7, 2, 2)), (8, (8, 2, 2)), (2, (2, 6, 3)),
             (3, (3, 4, 3)), (1, (1, 8, 4)))
+# The same of tests of which a reason is asked.
+REASONED = ((2, (2, 4, 2)), (3, (3, 3, 2)), (1, (1, 6, 2)), (4, (4, 3, 3)), (2, (2, 3, 1)), (5, (5, 2, 3)), (2, (2, 6, 3)), (6, (6, 2, 2)),
+            (3, (3, 4, 3)), (7, (7, 2, 2)), (8, (8, 2, 2)))
 # What stands between the stores and the loads of a core.
 BETWEEN = ([], [], [], ["fence"], ["exchange"], ["add"])
 
@@ -163,6 +166,17 @@ class Maker:
             return max(1, len(Search(test, depth).reached) - form)
         return (None, None, 10_000_000, self.draw.choice((1, 2, 5, 40)))[form - 2]
 
+    # Reasons.
+
+    def a_reason(self):
+        """`why` of a small test, of which a condition asks for what a run leaves, or for what may never be."""
+        cores, size = REASONED[self.turn % len(REASONED)]
+        text, _ = self.test(size=size, cores=cores, kinds=self.draw.choice(SEARCHED_KINDS), full=self.draw.random() < 0.8,
+                            asked=0.3, most=6, bare=self.turn % 12 == 7)
+        cases = (None, None, 1_000_000, 1, 2, self.draw.randrange(3, 50))[self.turn // len(REASONED) % 6]
+        words = command_lines.why(self.draw, cases)
+        return words, text if self.draw.random() < 0.7 else self.joined(text, "x y z\n====\n")
+
     # Texts with a fault.
 
     def a_faulty_test(self):
@@ -280,13 +294,14 @@ class Maker:
             given += self.draw.choice((b" ", b"\n")) * (litmus.LONGEST_INPUT + over - len(given))
         else:
             given = text + ODD_DIVIDERS[self.turn % len(ODD_DIVIDERS)].replace("?", choices).encode("latin-1")
-        return self.draw.choice((command_lines.run(self.draw), ["check"], command_lines.outcomes(self.draw))), given
+        return self.draw.choice((command_lines.run(self.draw), ["check"], command_lines.outcomes(self.draw),
+                                 command_lines.why(self.draw))), given
 
 
 # Of so many inputs in a row, how many there are of each kind.
 SHARES = (
     (Maker.a_run, 12), (Maker.a_crowded_run, 7), (Maker.a_shallow_run, 5), (Maker.a_split_run, 9), (Maker.a_great_run, 1),
-    (Maker.a_split_trace, 1), (Maker.a_long_trace, 1), (Maker.a_search, 10), (Maker.a_shallow_search, 8),
+    (Maker.a_split_trace, 1), (Maker.a_long_trace, 1), (Maker.a_search, 10), (Maker.a_shallow_search, 8), (Maker.a_reason, 10),
     (Maker.a_faulty_test, 36), (Maker.faulty_choices, 6), (Maker.a_faulty_order, 5),
     (Maker.an_order, 4), (Maker.a_deep_order, 3), (Maker.a_deepest_order, 2), (Maker.a_broken_order, 9),
     (Maker.a_sweep, 6), (Maker.a_bad_line, 4), (Maker.tables, 1), (Maker.a_divided_input, 2),

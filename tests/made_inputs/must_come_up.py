@@ -39,13 +39,14 @@ LINES = ("no command", "--help", "--version", "help of a command", "unknown comm
          "option of another command", "unknown option", "option twice", "option without its value", "flag with a value",
          "value that is no number", "lines of three words") + tuple(
              "value out of range: " + name for name in
-             ("protocol", "depth", "sets", "ways", "words", "bus", "from", "seeds", "length", "states"))
+             ("protocol", "depth", "sets", "ways", "words", "bus", "from", "seeds", "length", "states", "model", "cases"))
 
 # A refusal is told by every command that reads an input, and each has its own further statuses.
-STATUSES = {"run": (0, 1, 3), "trace": (0, 1, 3), "sweep": (0, 1, 3), "outcomes": (0, 1, 3), "check": (0, 1, 4), "witness": (0, 1, 4)}
+STATUSES = {"run": (0, 1, 3), "trace": (0, 1, 3), "sweep": (0, 1, 3), "outcomes": (0, 1, 3), "why": (0, 1, 3), "check": (0, 1, 4),
+            "witness": (0, 1, 4)}
 
 # Commands beside whose answer with status 0 a hint may stand.
-HINTED = ("run", "trace", "sweep", "outcomes")
+HINTED = ("run", "trace", "sweep", "outcomes", "why")
 
 AMOUNTS = ("none", "one", "several")
 
@@ -73,6 +74,14 @@ OUTCOMES = {
     "what a state names": ("registers", "locations", "registers and locations", "nothing"),
     "choices beside a state": ("none", "some"),
     "observation of outcomes": ["%s, %s" % (word, form) for word in ("Never", "Sometimes", "Always", "none") for form in ("text", "JSON")],
+}
+
+REASONS = {
+    "answer of why": ["%s, %s, %s" % (word, model, form) for word in ("never", "allowed") for model in ("tso", "sc")
+                      for form in ("text", "JSON")] + ["too many cases, text", "too many cases, JSON"],
+    "asked": ("exists", "~exists", "forall", "nothing"),
+    "step of a reason": ("case", "so", "cycle", "uniproc", "between", "false", "endcases"),
+    "relation in a reason": ("po", "mfence", "implied", "rf", "co", "fr"),
 }
 
 
@@ -115,6 +124,7 @@ def names():
     }
     wanted.update(TRACES_AS_JSON)
     wanted.update(OUTCOMES)
+    wanted.update(REASONS)
     wanted.update(("status of " + command, statuses) for command, statuses in STATUSES.items())
     for command in STATUSES:
         wanted["cores of " + command] = range(1, litmus.MOST_CORES + 1)

@@ -14,6 +14,9 @@ it follows. tests/second_voice.py holds a built program against it.
     witness      choices along an order, and the depth that it needs
     search       every state that a test can be in
     outcomes     final states with choices that lead there
+    candidates     candidate executions, and which of them a model allows
+    refutations    trees of questions and leaves, and the steps in which they are printed
+    reasons        what is printed of why something can't be, or of an execution in which it is
     caches       the protocols, and the caches of all cores with their words
     machine      cores, store buffers, both buses, runs
     tracing      what each choice of a run did, and the machine after it

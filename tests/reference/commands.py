@@ -3,7 +3,7 @@ input', and docs/MESSAGES.md, 'Command lines'."""
 import re
 import typing
 
-from . import axioms, conditions, hints, litmus, machine, outcomes, printing, seen, tracing, witness
+from . import axioms, candidates, conditions, hints, litmus, machine, outcomes, printing, reasons, seen, tracing, witness
 from .choices import printed_choices, read_choices
 from .machine import Configuration
 from .orders import read_order
@@ -17,19 +17,20 @@ MACHINE_OPTIONS = {
 }
 SWEEP_OPTIONS = {"from": range(2**32), "seeds": range(1, 1001), "length": range(100_001)}
 SEARCH_OPTIONS = {"depth": range(33), "states": range(1, 10_000_001)}
+REASON_OPTIONS = {"model": (candidates.TSO, candidates.SC), "cases": range(1, 1_000_001)}
 
 # The options of each command, and their values; `json` has none.
 OPTIONS = {
     "run": dict(MACHINE_OPTIONS, json=None), "trace": dict(MACHINE_OPTIONS, json=None), "sweep": dict(MACHINE_OPTIONS, **SWEEP_OPTIONS),
-    "outcomes": dict(SEARCH_OPTIONS, json=None), "check": {}, "witness": {"depth": range(1, 33)},
+    "outcomes": dict(SEARCH_OPTIONS, json=None), "why": dict(REASON_OPTIONS, json=None), "check": {}, "witness": {"depth": range(1, 33)},
     "tables": {"protocol": MACHINE_OPTIONS["protocol"]},
 }
 DEFAULTS = {"protocol": "msi", "depth": 4, "sets": 1, "ways": 2, "words": 1, "bus": machine.ATOMIC, "json": False,
-            "from": 0, "seeds": 10, "length": 1000, "states": 1_000_000}
+            "from": 0, "seeds": 10, "length": 1000, "states": 1_000_000, "model": candidates.TSO, "cases": 100_000}
 OWN_DEFAULTS = {"outcomes": {"depth": 32}}
 
 # Options with so many values that their ends alone are told apart.
-GREAT_RANGES = tuple(SWEEP_OPTIONS) + ("states",)
+GREAT_RANGES = tuple(SWEEP_OPTIONS) + ("states", "cases")
 
 # `--words` is read as one of these, and then refused where it isn't one of its values.
 WORDS = (1, 2, 4)
@@ -165,6 +166,9 @@ def answer_to_input(command, settings, given, told):
         return (test,) + judged(test, command, settings["depth"], second)
     if command == "outcomes":
         output, ended = outcomes.answer(test, settings["depth"], settings["states"], settings["json"], told)
+        return test, ENDED if ended else UNFINISHED, output
+    if command == "why":
+        output, ended = reasons.answer(test, settings["model"], settings["cases"], settings["json"], told)
         return test, ENDED if ended else UNFINISHED, output
     configuration = Configuration(*(settings[name] for name in Configuration._fields))
     if command == "sweep":

@@ -15,7 +15,7 @@ NEVER_SEEN = re.compile(r"^Observation .* Never 0 ([1-9][0-9]*)\n\Z", re.MULTILI
 
 def beside(command, json, depth, test, output):
     """All of standard error: the hint, or nothing. `output` is what is printed for the test."""
-    if json or command not in ("run", "trace", "sweep", "outcomes"):
+    if json or command not in ("run", "trace", "sweep", "outcomes", "why"):
         return b""
     if test.unused is not None:
         seen.note("hint beside status 0", "a location that nothing uses, of " + command)

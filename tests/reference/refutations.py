@@ -169,7 +169,7 @@ class Known:
         return not self.allows(self.claim, True)
 
     def places(self):
-        """The places that are named of a false proposition, in the order of a line `State`: they tell it, and what stands there is known."""
+        """The places that are named of a false proposition, in the order of a line `State`: they tell it, and what is there is known."""
         telling = self.telling(self.claim, True)
         looked = printing.Looked(self.test)
         places = [("register",) + place for place in looked.registers] + [("location", place) for place in looked.locations]
