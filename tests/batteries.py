@@ -25,6 +25,8 @@
 - tools/theory, tools/hardware and tools/campaign read each form that tools/import reads; a text that is no test is named, and the others
   go on; a folder without a test is an error; each that is interrupted ends with one line.
 - tools/tso, the module: each of its answers is what the program prints, and what is no answer is an exception (module_runs.py).
+- tools/graph: pictures of the gallery's runs and reasons have the events and edges of the run's candidate, or of the reason's cycle; what
+  can't be drawn is said.
 - tools/hardware: short runs of the gallery on this machine's processor; a wrong table of allowed states is noticed.
 - tools/campaign: tests of a folder, a list and a stream; seeds cut in two ways, a torn line, a wrong verdict, calls that fail, stops, theory
   that takes long, answers of why, logs and pages; on a
@@ -54,6 +56,7 @@ import faults
 import flat_machine
 import foreign_forms
 import gallery_shapes
+import graph_runs
 import hardware_runs
 import imported_files
 import importer
@@ -216,7 +219,7 @@ def main():
     judge_comparisons(tally)
     judge_program(program, tally)
     for part in (imported_files, foreign_forms, byte_machine, cycle_meanings, cycle_runs, gallery_shapes, source_runs, module_runs,
-                 hardware_runs, campaign_runs, cluster_runs):
+                 graph_runs, hardware_runs, campaign_runs, cluster_runs):
         part.judge(program, tally)
     return tally.end()
 

@@ -16,7 +16,7 @@ trap 'chmod -R u+w "$room"; rm -rf "$room"' EXIT
 trap 'exit 130' INT
 passed=0
 failed=0
-tools=(campaign compare cycles hardware import theory)
+tools=(campaign compare cycles graph hardware import theory)
 any=$(IFS='|' && echo "${tools[*]}")
 
 # Counts a name with the status of the test before.
