@@ -52,6 +52,10 @@ JOBS = [
     ("outcomes", judging.OWN_STORE_FIRST, ENDED),
     ("outcomes --json", judging.OWN_STORE_FIRST, ENDED),
     ("outcomes --states 3", judging.STORE_BUFFERING, UNFINISHED),
+    ("why", judging.OWN_STORE_FIRST, ENDED),
+    ("why --json", judging.OWN_STORE_FIRST, ENDED),
+    ("why --model sc", judging.STORE_BUFFERING, ENDED),
+    ("why --model sc --cases 1", judging.STORE_BUFFERING, UNFINISHED),
     ("tables", b"", ENDED),
 ]
 

@@ -19,13 +19,13 @@ import judging
 import rows
 from great_texts import ONE_STORE, great_texts, greatest_test
 from judging import DIVIDER, ENDED, INVALID, REFUSED, UNFINISHED
-from reference import hints, reading
+from reference import hints, reading, reasons
 
 # So many texts a process takes at once.
 AT_ONCE = 64
 
 RUNS = ["run", "run --bus split", "run --depth 0", "trace --bus split"]
-SEARCHES = ["outcomes"]
+SEARCHES = ["outcomes", "why"]
 JUDGES = ["check", "witness"]
 
 SMALL_TEST = b"X86 t\n{x=1;}\nP0;\nMOV [x],2;\nexists x=2\n"
@@ -96,7 +96,7 @@ def is_outcomes(output):
 
 def is_told(command, given, done):
     """Whether standard error is as it must be; beside an answer that tells of final states, as the reference has it."""
-    if done.returncode == ENDED and command in ("run", "outcomes"):
+    if done.returncode == ENDED and command in ("run", "outcomes", "why"):
         test = reading.read_test(parts_of(given)[0])
         return done.stderr == hints.beside(command, False, None, test, done.stdout.decode())
     return judging.is_told(done.returncode, done.stdout, done.stderr)
@@ -109,7 +109,7 @@ def has_form(command, given, done):
         return False
     if status == REFUSED:
         test, rest = parts_of(given)
-        if command == "outcomes":
+        if command in SEARCHES:
             return is_test_refusal(output, test)
         is_refusal_of_rest = is_choice_refusal if command in ("run", "trace") else is_order_refusal
         return is_test_refusal(output, test) or is_refusal_of_rest(output, rest)
@@ -120,6 +120,8 @@ def has_form(command, given, done):
             or status == UNFINISHED and re.fullmatch(rb"Unfinished used=\d+ stalled=\d+\n", output))
     if command == "outcomes":
         return status == ENDED and is_outcomes(output)
+    if command == "why":
+        return status == ENDED and not reasons.faults_of(reading.read_test(parts_of(given)[0]), "tso", output.decode())
     if status == INVALID:
         return re.fullmatch(rb"Check invalid C[1-5] .+\n|Depth needed=[1-9]\d*\n", output) and (
             command == "witness" or output.startswith(b"Check"))

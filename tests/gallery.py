@@ -12,6 +12,7 @@ against them are
 - the page, and the form of each file;
 - `outcomes`: TSO at depth 32, SC at depth 0, and Depth, from which on the outcome is there and at one less isn't; an allowed one
   with choices under which `run` has it;
+- `why`: the same verdicts of TSO and SC; a forbidden one has a cycle, which the page shows;
 - a plain reference, flat_machine.py, which explores all runs: the same verdicts;
 - of an allowed one: `run` at that depth has the outcome, no choice stalled and none left over; `witness` finds
   choices for that run's order at that depth, and at one less it says which depth is needed;
@@ -81,6 +82,10 @@ is in two parts; C5, read value, where a load has another value than is due.
 
     ./tso check < examples/gallery/MP.order
 
+Its **cycle** says why: `./tso why` prints it, and stands [at the end](#the-cycles-of-those-that-are-forbidden) for each.
+
+    ./tso why < examples/gallery/MP.litmus
+
 **Seen** is how many of the seeds 0 to 999 meet the outcome, at the default depth:
 
     ./tso sweep --seeds 1000 < examples/gallery/SB.litmus
@@ -93,6 +98,13 @@ Nor does one refused order: it shows that this order isn't an execution. The **v
 
 which prints all final states that TSO allows, and with `--depth 0` all that sequential consistency allows. `tests/gallery.py PROGRAM`
 holds every row against it, against the program's runs, and against a plain program that explores all runs of a machine of its own.
+"""
+
+CYCLES = """## The cycles of those that are forbidden
+
+What `./tso why` prints of each: the lines that close its cases, but for those that are false by their values. So each line is a cycle of
+the published model, `x86tso.cat`, or a write between the parts of a locked instruction. Of several the first stands here, and how many
+there are. [How to read them](../docs/DEFINITIONS.md#what-is-printed-of-reasons).
 """
 
 SOURCES = """## Sources
@@ -197,6 +209,19 @@ def picture_of(program, piece):
     return "[picture of %s]: ../view/index.html#%s\n" % (piece.name, urllib.parse.quote(line.strip(), safe=":,="))
 
 
+def cycles_of(program, piece):
+    """The lines of a forbidden test's reason that say more than values do."""
+    status, text = answer(program, ["why"], piece.text)
+    found = re.findall(r"^ *((?:Cycle|Uniproc|Between) .*)$", text, re.MULTILINE)
+    return found if status == ENDED and "\nNever tso " in text else []
+
+
+def row_of_cycles(program, piece):
+    found = cycles_of(program, piece)
+    shown = "`%s`" % found[0] if found else "none: false by its values"
+    return piece.link, shown, str(len(found))
+
+
 def page_of(program, all_pieces):
     allowed = [piece for piece in all_pieces if piece.allowed]
     unseen = ", ".join(piece.link for piece in allowed if piece.seen == 0)
@@ -207,7 +232,8 @@ def page_of(program, all_pieces):
         parts += ["## " + family + "\n", about + "\n", table(TITLES, rows)]
     names = table(("Name", "Test", "TSO"), names_of(all_pieces))
     pictures = "".join(picture_of(program, piece) for piece in allowed)
-    return "\n".join(parts + ["## By the names of the manuals and of the x86-TSO papers\n", names, SOURCES, pictures])
+    cycles = table(("Test", "The first", "Of"), [row_of_cycles(program, piece) for piece in all_pieces if not piece.allowed])
+    return "\n".join(parts + [CYCLES, cycles, "## By the names of the manuals and of the x86-TSO papers\n", names, SOURCES, pictures])
 
 
 def faults_of_page(program, all_pieces):
@@ -330,8 +356,18 @@ def faults_of_sweep(program, piece):
     return differs("status of sweep", status, ENDED) + differs("sweep's last line", report.splitlines()[-1:], [observation])
 
 
+def faults_of_why(program, piece):
+    """Of x86-TSO and of sequential consistency: an execution where it is allowed, else a reason, which has a cycle."""
+    words = [(model, verdict, answer(program, ["why", "--model", model], piece.text)[1].splitlines()[1:2])
+             for model, verdict in (("tso", piece.facts["TSO"]), ("sc", piece.facts["SC"]))]
+    faults = ["why --model %s prints %s of what is %s" % (model, line, verdict) for model, verdict, line in words
+              if not re.match("Allowed" if verdict == "allowed" else r"Never \w+ leaves=\d+$", "".join(line))]
+    return faults if piece.allowed or cycles_of(program, piece) else faults + ["its reason has no cycle"]
+
+
 def rows_of(piece):
     yield "form", lambda program: faults_of_form(piece)
+    yield "why", lambda program: faults_of_why(program, piece)
     yield "outcomes", lambda program: faults_of_outcomes(program, piece)
     yield "reference", lambda program: faults_of_verdicts(piece)
     yield "run", lambda program: faults_of_run(program, piece)

@@ -21,6 +21,9 @@ sys.dont_write_bytecode = True
 import judging
 import rows
 
+# The commands that print JSON, each with its schema.
+COMMANDS = ("run", "trace", "outcomes", "why")
+
 MOST_PLACES = 300
 NOTES = {"$schema", "$defs", "title", "description"}
 TYPES = {"object": dict, "array": list, "string": str, "boolean": bool, "integer": int, "null": type(None)}
@@ -190,7 +193,7 @@ def answers(program):
         if "--json" in row.words and row.output.startswith(b"{"):
             yield name, row.words[0], row.output
     for name, given in judging.all_inputs():
-        for command in ("run", "trace", "outcomes"):
+        for command in COMMANDS:
             done = judging.run(program, [command, "--json"], given)
             if done.stdout.startswith(b"{"):
                 yield name, command, done.stdout
@@ -207,7 +210,7 @@ def faults_of(schema, line, is_long):
 
 def main():
     program = judging.asked(__doc__, with_part=False).program
-    schemas = {name: Schema(os.path.join(judging.TOP, "docs", "schemas", name + ".json")) for name in ("run", "trace", "outcomes")}
+    schemas = {name: Schema(os.path.join(judging.TOP, "docs", "schemas", name + ".json")) for name in COMMANDS}
     tally = judging.Tally()
     for name, command, line in answers(program):
         is_long = command == "trace" and name.endswith(".litmus")
