@@ -82,7 +82,7 @@ is in two parts; C5, read value, where a load has another value than is due.
 
     ./tso check < examples/gallery/MP.order
 
-Its **cycle** says why: `./tso why` prints it, and stands [at the end](#the-cycles-of-those-that-are-forbidden) for each.
+Its **cycle** says why. `./tso why` prints it, and [the last table](#the-cycles-of-those-that-are-forbidden) has it for each.
 
     ./tso why < examples/gallery/MP.litmus
 
