@@ -1,0 +1,11 @@
+-- What a test asks names what exists in it.
+use Rattle.std.proofs.Common.{◌≡◌, length, Some, sym, subst}
+use Rattle.tso_model.specs.Litmus.{Litmus, IsTest, IsCondition}
+use Rattle.tso_model.specs.Condition.{NamesExist, claim_of, condition_of}
+use Rattle.tso_model.specs.declared.condition.Cond.{Cond}
+
+pub condition_names : (t : Litmus) (d : Cond) → IsTest t → Some (condition_of d) ≡ t.condition
+    → NamesExist (length t.programs) (length t.words) (claim_of d.prop)
+condition_names t d test e =
+    let f : IsCondition (length t.programs) (length t.locations) (condition_of d) = test.condition_fits (condition_of d) (sym e) in
+    subst (λ n. NamesExist (length t.programs) n (claim_of d.prop)) (sym test.words_given) f.names_known

@@ -1,0 +1,39 @@
+-- An order in which no entry stands behind one that comes later in its program keeps all of program order.
+use Rattle.std.proofs.Common.{◌≡◌, ◌<◌, ◌&&◌, ◌||◌, ℕ, zero, suc, true, false, not, Bool, List, [], ◌∷◌, Some, slice_get, arith, sym, refl, subst}
+use Rattle.std.specs.List.{list_any}
+use Rattle.std.proofs.lemmas.Bool.Decides.{nat_tests}
+use Rattle.tso_model.specs.ProgramOrder.{is_before}
+use Rattle.tso_model.specs.SequentialConsistency.{KeepsAllOrder}
+use Rattle.tso_model.specs.declared.execution.Entry.{Entry}
+use Rattle.execution_check.specs.inner.Orders.{is_preceded_by, keeps}
+
+never-itself : (x : Entry) → is_before x x ≡ true → ⊥
+never-itself x h = grind (arith, nat_tests)
+
+not-both : (a b : Bool) → (not a && b) ≡ true → (a ≡ false) × (b ≡ true)
+not-both true b h = absurd (let z : ⊥ = cc in z)
+not-both false b h = (refl, h)
+
+any-parts : (a b : Bool) → (a || b) ≡ false → (a ≡ false) × (b ≡ false)
+any-parts true b h = absurd (let z : ⊥ = cc in z)
+any-parts false b h = (refl, h)
+
+none-at : (p : Entry → Bool) (xs : List Entry) → list_any p xs ≡ false → (k : ℕ) (y : Entry) → slice_get xs k ≡ Some y → p y ≡ true → ⊥
+none-at p [] h k y e f = let z : ⊥ = cc in z
+none-at p (x ∷ xs) h zero y e f =
+    let s : x ≡ y = cc in
+    let n : p x ≡ false = (any-parts (p x) (list_any p xs) h).0 in
+    let m : p x ≡ true = subst (λ v. p v ≡ true) (sym s) f in
+    let z : ⊥ = cc in z
+none-at p (x ∷ xs) h (suc k) y e f = none-at p xs (any-parts (p x) (list_any p xs) h).1 k y e f
+
+pub keeps_all : (order : List Entry) → keeps order ≡ true → KeepsAllOrder order
+keeps_all [] h i j x y p q b = absurd (let z : ⊥ = cc in z)
+keeps_all (e ∷ es) h zero zero x y p q b =
+    let s : x ≡ y = cc in absurd (never-itself x (subst (λ v. is_before x v ≡ true) (sym s) b))
+keeps_all (e ∷ es) h zero (suc j) x y p q b = omega arith
+keeps_all (e ∷ es) h (suc i) zero x y p q b =
+    let s : e ≡ y = cc in
+    absurd (none-at (λ v. is_before v e) es (not-both (is_preceded_by e es) (keeps es) h).0 i x p (subst (λ v. is_before x v ≡ true) (sym s) b))
+keeps_all (e ∷ es) h (suc i) (suc j) x y p q b =
+    let l : i < j = keeps_all es (not-both (is_preceded_by e es) (keeps es) h).1 i j x y p q b in omega arith

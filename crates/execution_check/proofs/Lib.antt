@@ -1,0 +1,4 @@
+pub mod Walking
+pub mod Asked
+pub mod Counting
+pub mod Keeping

@@ -1,0 +1,195 @@
+//! Why a case is closed: a leaf, and the answers that it uses.
+
+use crate::branch::{Branch, Edge, Label, source_of};
+use crate::paths::{Paths, begin, edge_at, find, start_from};
+use crate::problem::{Problem, Relations};
+use crate::rows::{NONE, add, at, has, put};
+use std::alloc::Global;
+use tso_model::NoMemory;
+
+/// What kind of leaf closes a case.
+#[derive(Clone, Copy, PartialEq, Eq)]
+pub enum Closing {
+    None,
+    OnLocation,
+    Global,
+    Between,
+    Twice,
+    False,
+}
+
+/// A leaf: its cycle, or the three events of a write between, or the two that read one write; and the facts that it uses.
+#[derive(Drop)]
+pub struct Evidence {
+    pub closing: Closing,
+    pub cycle: Vec<usize>,
+    pub cycle_length: usize,
+    pub facts: Vec<usize>,
+    pub facts_length: usize,
+    pub cost: usize,
+}
+
+/// No leaf yet.
+///
+/// Errors: out of memory only.
+pub fn make_evidence(alloc: Global, problem: &Problem) -> Result<Evidence, NoMemory> {
+    let most = problem.size.wrapping_mul(4).wrapping_add(64);
+    Ok(Evidence {
+        closing: Closing::None,
+        cycle: vec![in alloc; NONE; most]?,
+        cycle_length: 0,
+        facts: vec![in alloc; NONE; most]?,
+        facts_length: 0,
+        cost: NONE,
+    })
+}
+
+/// Begins a leaf anew.
+pub fn reset(evidence: &mut Evidence, closing: Closing) {
+    evidence.closing = closing;
+    evidence.cycle_length = 0;
+    evidence.facts_length = 0;
+    evidence.cost = NONE;
+}
+
+/// Adds an event to the cycle.
+pub fn visit(evidence: &mut Evidence, a: usize) {
+    put(&mut evidence.cycle, evidence.cycle_length, a);
+    evidence.cycle_length = evidence.cycle_length.wrapping_add(1);
+}
+
+/// Adds a fact that the leaf uses.
+pub fn need(evidence: &mut Evidence, fact: usize) {
+    if fact == NONE {
+        return;
+    }
+    put(&mut evidence.facts, evidence.facts_length, fact);
+    evidence.facts_length = evidence.facts_length.wrapping_add(1);
+}
+
+/// Adds the facts that one write comes before another one, and the writes that stand between them.
+pub fn need_order(
+    problem: &Problem,
+    branch: &Branch,
+    inner: &mut Paths,
+    evidence: &mut Evidence,
+    s: usize,
+    v: usize,
+    limit: usize,
+    shown: bool,
+) {
+    begin(problem, inner);
+    start_from(inner, s);
+    if !find(problem, branch, inner, Relations::Coherence, v, limit) {
+        return;
+    }
+    for i in 0..inner.length {
+        let place = inner.length.wrapping_sub(1).wrapping_sub(i);
+        if let Some(edge) = edge_at(branch, inner, place) {
+            need(evidence, edge.fact);
+        }
+        if i > 0 && shown {
+            visit(evidence, at(&inner.events, place));
+        }
+    }
+}
+
+/// Adds the facts of an edge; after its first event the writes are shown that stand between a read's source and what it is before.
+fn need_edge(
+    problem: &Problem,
+    branch: &Branch,
+    inner: &mut Paths,
+    evidence: &mut Evidence,
+    edge: &Edge,
+    limit: usize,
+) {
+    need(evidence, edge.fact);
+    if edge.label == Label::FromReads {
+        let s = source_of(branch, edge.from);
+        need_order(problem, branch, inner, evidence, s, edge.to, limit, true);
+    }
+}
+
+/// Adds the path that was found, without its end.
+pub fn follow(
+    problem: &Problem,
+    branch: &Branch,
+    paths: &Paths,
+    inner: &mut Paths,
+    evidence: &mut Evidence,
+) {
+    for i in 0..paths.length {
+        let place = paths.length.wrapping_sub(1).wrapping_sub(i);
+        visit(evidence, at(&paths.events, place));
+        if let Some(edge) = edge_at(branch, paths, place) {
+            need_edge(
+                problem,
+                branch,
+                inner,
+                evidence,
+                &edge,
+                at(&paths.edges, place),
+            );
+        }
+    }
+}
+
+/// The leaf of a cycle that an edge closes.
+pub fn close_cycle(
+    problem: &Problem,
+    branch: &Branch,
+    paths: &mut Paths,
+    inner: &mut Paths,
+    evidence: &mut Evidence,
+    edge: &Edge,
+) {
+    let limit = branch.edges.len();
+    let closing = match edge.relations {
+        Relations::Global => Closing::Global,
+        _ => Closing::OnLocation,
+    };
+    reset(evidence, closing);
+    begin(problem, paths);
+    start_from(paths, edge.to);
+    if edge.to != edge.from && !find(problem, branch, paths, edge.relations, edge.from, limit) {
+        return;
+    }
+    follow(problem, branch, paths, inner, evidence);
+    visit(evidence, edge.from);
+    need_edge(problem, branch, inner, evidence, edge, limit);
+}
+
+/// How many facts a leaf uses that aren't used yet.
+pub fn weigh(evidence: &mut Evidence, used: &[u64], length: usize) {
+    let mut fresh = 0usize;
+    for i in 0..evidence.facts_length {
+        if !has(used, 0, at(&evidence.facts, i)) {
+            fresh = fresh.wrapping_add(1);
+        }
+    }
+    evidence.cost = fresh.wrapping_mul(64).wrapping_add(length);
+}
+
+/// Keeps the better one of two leaves.
+pub fn offer(best: &mut Evidence, other: &Evidence) {
+    if other.cost >= best.cost {
+        return;
+    }
+    best.closing = other.closing;
+    best.cost = other.cost;
+    best.cycle_length = other.cycle_length;
+    best.facts_length = other.facts_length;
+    for i in 0..other.cycle_length {
+        put(&mut best.cycle, i, at(&other.cycle, i));
+    }
+    for i in 0..other.facts_length {
+        put(&mut best.facts, i, at(&other.facts, i));
+    }
+}
+
+/// Adds what a leaf uses to what is used.
+pub fn use_facts(evidence: &Evidence, used: &mut [u64]) {
+    for i in 0..evidence.facts_length {
+        add(used, 0, at(&evidence.facts, i));
+    }
+}

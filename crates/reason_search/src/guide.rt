@@ -1,0 +1,199 @@
+//! What a search proposes: nodes of a tree, from the root on, or the order of an execution. Where more cases are open than it
+//! proposed nodes for, each is looked at for itself.
+
+use crate::branch::{Mark, cell, mark_here, put_before};
+use crate::choosing::{Ask, choose};
+use crate::growing::list_nodes;
+use crate::hunting::{Find, Hunt, hunt_for, make_hunt, start_anew};
+use crate::looking::{deduce, put_source};
+use crate::ordering::make_order;
+use crate::problem::{Problem, event, make_problem};
+use crate::reasoning::{add_conflict, wrap};
+use crate::rows::{NONE, at, clear};
+use refutation_laws::Model;
+use refutations::events::same_event;
+use refutations::{Answers, Node};
+use std::alloc::Global;
+use tso_model::{Entry, Execution, NoMemory, Test};
+
+/// How many cases a search looks at before it gives up.
+const MOST_CASES: u64 = 100_000;
+
+/// A search, and the nodes that it proposes and that aren't taken yet, the first one last.
+#[derive(Drop)]
+pub struct Guide {
+    problem: Problem,
+    hunt: Hunt,
+    start: Mark,
+    is_allowed: bool,
+    nodes: Vec<Node>,
+}
+
+/// Turns a list of nodes round.
+fn turn_round(alloc: Global, nodes: Vec<Node>) -> Result<Vec<Node>, NoMemory> {
+    let mut left = nodes;
+    let mut turned = Vec::new(alloc);
+    for _node in 0..left.len() {
+        if let Some(node) = left.pop() {
+            turned.push(node)?;
+        }
+    }
+    Ok(turned)
+}
+
+fn take_tree(alloc: Global, guide: &mut Guide, root: usize) -> Result<(), NoMemory> {
+    let nodes = list_nodes(alloc, &guide.problem, &guide.hunt.desk.trees, root)?;
+    guide.nodes = turn_round(alloc, nodes)?;
+    Ok(())
+}
+
+/// Searches: a tree, or a branch that is open to the end, or neither.
+///
+/// Errors: out of memory only.
+pub fn make_guide(
+    alloc: Global,
+    test: &Test,
+    events: &[Entry],
+    model: Model,
+) -> Result<Guide, NoMemory> {
+    let problem = make_problem(alloc, test, events, model)?;
+    let hunt = make_hunt(alloc, &problem)?;
+    let start = mark_here(&hunt.branch);
+    let mut guide = Guide {
+        problem,
+        hunt,
+        start,
+        is_allowed: false,
+        nodes: Vec::new(alloc),
+    };
+    match hunt_for(&guide.problem, &mut guide.hunt, test, MOST_CASES)? {
+        Find::Allowed => guide.is_allowed = true,
+        Find::Refuted(root) => take_tree(alloc, &mut guide, root)?,
+        Find::Paused => {}
+    }
+    Ok(guide)
+}
+
+/// The order that is proposed, if one is.
+///
+/// Errors: out of memory only.
+pub fn proposed_order(alloc: Global, guide: &Guide) -> Result<Option<Execution>, NoMemory> {
+    if !guide.is_allowed {
+        return Ok(None);
+    }
+    let order = make_order(alloc, &guide.problem, &guide.hunt.branch)?;
+    Ok(Some(Execution { order }))
+}
+
+/// The number of an event, and `NONE` where there is no such event.
+fn number_of(problem: &Problem, x: &Entry) -> usize {
+    for a in problem.locations..problem.size {
+        if same_event(&event(problem, a), x) {
+            return a;
+        }
+    }
+    NONE
+}
+
+/// Puts the answers of a case on the branch. False where that closes it.
+fn put_answers(guide: &mut Guide, answers: &Answers) -> Result<bool, NoMemory> {
+    for pair in &answers.order {
+        let a = number_of(&guide.problem, &pair.first);
+        let b = number_of(&guide.problem, &pair.second);
+        if a != NONE && b != NONE {
+            let fact = at(&guide.hunt.branch.pairs, cell(&guide.problem, a, b));
+            if let Some(known) = guide.hunt.branch.facts.get_mut(fact) {
+                known.tried = true;
+            }
+            if !put_before(&guide.problem, &mut guide.hunt.branch, a, b, true)? {
+                return Ok(false);
+            }
+        }
+    }
+    for source in &answers.sources {
+        let r = number_of(&guide.problem, &source.read);
+        let s = match &source.write {
+            Some(w) => number_of(&guide.problem, w),
+            None => usize::from(source.read.loc.0),
+        };
+        if r != NONE
+            && s != NONE
+            && !put_source(&guide.problem, &mut guide.hunt.branch, r, s, true)?
+        {
+            return Ok(false);
+        }
+    }
+    Ok(true)
+}
+
+/// Proposes the nodes that close a case, or a question on it.
+fn look_at_case(
+    alloc: Global,
+    guide: &mut Guide,
+    test: &Test,
+    answers: &Answers,
+) -> Result<(), NoMemory> {
+    start_anew(&guide.problem, &mut guide.hunt, &guide.start);
+    for fact in &mut guide.hunt.branch.facts {
+        fact.tried = false;
+    }
+    if put_answers(guide, answers)? && deduce(&guide.problem, &mut guide.hunt.branch, test)? {
+        let asked = choose(
+            &guide.problem,
+            &guide.hunt.branch,
+            &guide.hunt.desk,
+            test,
+            0,
+        );
+        match asked {
+            Ask::Source(r) => guide.nodes.push(Node::ReadsFrom(event(&guide.problem, r)))?,
+            Ask::Order(a, b) => {
+                let first = event(&guide.problem, a);
+                guide
+                    .nodes
+                    .push(Node::ComesFirst(first, event(&guide.problem, b)))?;
+            }
+            Ask::Nothing => {}
+        }
+        return Ok(());
+    }
+    let words = guide.hunt.desk.used.len();
+    clear(&mut guide.hunt.desk.used, 0, words);
+    let tree = add_conflict(
+        &guide.problem,
+        &guide.hunt.branch,
+        &mut guide.hunt.desk,
+        test,
+    )?;
+    let root = wrap(
+        &guide.problem,
+        &guide.hunt.branch,
+        &mut guide.hunt.desk,
+        test,
+        0,
+        tree,
+    )?;
+    take_tree(alloc, guide, root)
+}
+
+/// The node that is proposed for a case, if one is: its nodes stand in the order in which a tree lists them.
+///
+/// Errors: out of memory only.
+pub fn propose(
+    alloc: Global,
+    guide: &mut Guide,
+    test: &Test,
+    answers: &Answers,
+) -> Result<Option<Node>, NoMemory> {
+    if guide.nodes.is_empty() {
+        look_at_case(alloc, guide, test, answers)?;
+    }
+    Ok(guide.nodes.pop())
+}
+
+/// Forgets what was proposed and isn't taken yet.
+pub fn forget(guide: &mut Guide) {
+    for _node in 0..guide.nodes.len() {
+        let _last = guide.nodes.pop();
+    }
+}

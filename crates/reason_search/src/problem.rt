@@ -1,0 +1,404 @@
+//! What a search works on: the events by number, what program order keeps of them, and what each write writes in terms of what is
+//! read. The initial write of each location stands before the events.
+
+ghost use Rattle.std.specs.Prelude.{◌<◌, length};
+
+use crate::rows::{NONE, add, count, has, row};
+use refutation_laws::Model;
+use refutations::events::{are_parts, is_access, is_before, is_locked, is_read, is_write};
+use std::alloc::Global;
+use tso_model::{
+    Action, Core, Entry, Kind, Loc, NoMemory, Operand, Prop, Quantifier, Test, Update,
+};
+
+/// A value in terms of what reads return.
+#[derive(Clone, Copy)]
+pub enum Term {
+    Number(u32),
+    /// What the read returns.
+    Of(usize),
+    /// The sum of what the read returns and a number.
+    Plus(usize, u32),
+    /// The sum of what two reads return.
+    Sum(usize, usize),
+}
+
+/// The relations whose edges are kept: those of one location, the global ones, and coherence.
+#[derive(Clone, Copy, PartialEq, Eq)]
+pub enum Relations {
+    OnLocation,
+    Global,
+    Coherence,
+}
+
+/// What a search works on.
+#[derive(Drop)]
+pub struct Problem {
+    /// How many events there are, with the initial writes.
+    pub size: usize,
+    /// How many words a row of events has.
+    pub width: usize,
+    pub locations: usize,
+    pub sequential: bool,
+    pub events: Vec<Entry>,
+    /// The other part of a locked instruction.
+    pub partner: Vec<usize>,
+    /// The writes to each location but the initial one.
+    pub writes_to: Vec<u64>,
+    /// The reads of each location, and its initial write.
+    pub readers_of: Vec<u64>,
+    /// Edges between accesses of one location that the program alone tells.
+    pub on_location: Vec<u64>,
+    /// Edges of the global relations that the program alone tells.
+    pub global: Vec<u64>,
+    /// What each event writes or returns.
+    pub terms: Vec<Term>,
+    /// What each register holds at the end, six to a core.
+    pub finals: Vec<Term>,
+    pub first_words: Vec<u32>,
+    /// The locations of which something is asked.
+    pub asked: Vec<u64>,
+    /// The reads on whose values what is asked may hang.
+    pub relevant: Vec<u64>,
+    /// Whether what is asked can be true in more ways than one.
+    pub has_choice: bool,
+}
+
+/// An event by its number.
+pub fn event(problem: &Problem, i: usize) -> Entry {
+    problem.events.get(i).copied().unwrap_or(Entry {
+        core: Core(255),
+        place: 0,
+        kind: Kind::F,
+        loc: Loc(0),
+        value: 0,
+    })
+}
+
+/// The location of an event, by its number.
+pub fn location(problem: &Problem, i: usize) -> usize {
+    usize::from(event(problem, i).loc.0)
+}
+
+/// Whether this is the initial write of a location.
+pub fn is_initial(problem: &Problem, i: usize) -> bool {
+    i < problem.locations
+}
+
+/// Whether this is a read.
+pub fn reads(problem: &Problem, i: usize) -> bool {
+    !is_initial(problem, i) && is_read(&event(problem, i))
+}
+
+/// Whether this is a write, and not an initial one.
+pub fn writes(problem: &Problem, i: usize) -> bool {
+    !is_initial(problem, i) && is_write(&event(problem, i))
+}
+
+/// What an event writes or returns.
+pub fn term_of(problem: &Problem, i: usize) -> Term {
+    problem.terms.get(i).copied().unwrap_or(Term::Number(0))
+}
+
+/// What a register holds at the end.
+pub fn final_term(problem: &Problem, core: usize, reg: usize) -> Term {
+    let place = core.wrapping_mul(6).wrapping_add(reg);
+    problem
+        .finals
+        .get(place)
+        .copied()
+        .unwrap_or(Term::Number(0))
+}
+
+fn is_fenced(events: &[Entry], x: &Entry, y: &Entry) -> bool {
+    for f in events {
+        if f.kind == Kind::F && is_before(x, f) && is_before(f, y) {
+            return true;
+        }
+    }
+    false
+}
+
+fn is_kept(events: &[Entry], sequential: bool, x: &Entry, y: &Entry) -> bool {
+    let passes = is_write(x) && is_read(y);
+    sequential || !passes || is_locked(x) || is_locked(y) || is_fenced(events, x, y)
+}
+
+fn is_on_location(x: &Entry, y: &Entry) -> bool {
+    is_access(x) && is_access(y) && x.loc.0 == y.loc.0
+}
+
+/// Adds the edges that the program alone tells.
+fn add_program_order(problem: &mut Problem) {
+    for a in problem.locations..problem.size {
+        let x = event(problem, a);
+        let start = row(a, problem.width);
+        for b in problem.locations..problem.size {
+            let y = event(problem, b);
+            if is_before(&x, &y) && is_access(&x) && is_access(&y) {
+                if is_on_location(&x, &y) {
+                    add(&mut problem.on_location, start, b);
+                }
+                if is_kept(&problem.events, problem.sequential, &x, &y) {
+                    add(&mut problem.global, start, b);
+                }
+            }
+        }
+    }
+}
+
+/// Notes for each location what writes to it and what reads it.
+fn add_accesses(problem: &mut Problem) {
+    for a in 0..problem.size {
+        let loc = location(problem, a);
+        let start = row(loc, problem.width);
+        if writes(problem, a) {
+            add(&mut problem.writes_to, start, a);
+            let initial = row(loc, problem.width);
+            add(&mut problem.on_location, initial, a);
+            add(&mut problem.global, initial, a);
+        }
+        if reads(problem, a) || is_initial(problem, a) {
+            add(&mut problem.readers_of, start, a);
+        }
+    }
+}
+
+fn find_partner(events: &[Entry], a: usize, x: &Entry) -> usize {
+    let mut i = 0usize;
+    for y in events {
+        if i != a && (are_parts(x, y) || are_parts(y, x)) {
+            return i;
+        }
+        i = i.wrapping_add(1);
+    }
+    NONE
+}
+
+fn find_partners(alloc: Global, events: &[Entry]) -> Result<Vec<usize>, NoMemory> {
+    let mut partner = Vec::new(alloc);
+    let mut a = 0usize;
+    for x in events {
+        partner.push(if is_locked(x) {
+            find_partner(events, a, x)
+        } else {
+            NONE
+        })?;
+        a = a.wrapping_add(1);
+    }
+    Ok(partner)
+}
+
+fn held(registers: &[Term; 6], operand: Operand) -> Term {
+    match operand {
+        Operand::Number(value) => Term::Number(value),
+        Operand::Held(reg) => registers[reg.index()],
+    }
+}
+
+fn updated(update: Update, read: usize, held: Term) -> Term {
+    match (update, held) {
+        (Update::Exchange, _) => held,
+        (Update::Add, Term::Number(value)) => Term::Plus(read, value),
+        (Update::Add, Term::Of(other)) => Term::Sum(read, other),
+        (Update::Add, _) => Term::Of(read),
+    }
+}
+
+/// The terms of what an action does, where its first event has this number.
+fn add_terms(
+    terms: &mut Vec<Term>,
+    registers: &mut [Term; 6],
+    next: usize,
+    action: Action,
+) -> Result<(), NoMemory> {
+    match action {
+        Action::Store(_, operand) => terms.push(held(registers, operand))?,
+        Action::Load(reg, _) => {
+            terms.push(Term::Of(next))?;
+            registers[reg.index()] = Term::Of(next);
+        }
+        Action::Move(reg, operand) => registers[reg.index()] = held(registers, operand),
+        Action::Fence => terms.push(Term::Number(0))?,
+        Action::Lock(_, reg, update) => {
+            terms.push(Term::Of(next))?;
+            terms.push(updated(update, next, registers[reg.index()]))?;
+            registers[reg.index()] = Term::Of(next);
+        }
+    }
+    Ok(())
+}
+
+fn first_terms(test: &Test, core: Core) -> [Term; 6]
+    requires { core.0 < length test.now.programs }
+{
+    let first = test.initial_registers(core);
+    [
+        Term::Number(first[0]),
+        Term::Number(first[1]),
+        Term::Number(first[2]),
+        Term::Number(first[3]),
+        Term::Number(first[4]),
+        Term::Number(first[5]),
+    ]
+}
+
+fn run_core(problem: &mut Problem, test: &Test, core: Core) -> Result<(), NoMemory>
+    requires { core.0 < length test.now.programs }
+{
+    let mut registers = first_terms(test, core);
+    for instr in test.program(core) {
+        let next = problem.terms.len();
+        add_terms(&mut problem.terms, &mut registers, next, instr.action())?;
+    }
+    for held in registers {
+        problem.finals.push(held)?;
+    }
+    Ok(())
+}
+
+/// Marks the locations that a proposition names.
+fn mark_asked(asked: &mut [u64], prop: &Prop) {
+    match prop {
+        Prop::Truth(_) | Prop::RegIs(..) => {}
+        Prop::LocIs(loc, _) => add(asked, 0, usize::from(loc.0)),
+        Prop::Not(inner) => mark_asked(asked, inner),
+        Prop::And(left, right) | Prop::Or(left, right) => {
+            mark_asked(asked, left);
+            mark_asked(asked, right);
+        }
+    }
+}
+
+/// Whether a proposition can have this truth in more ways than one.
+fn has_choice(prop: &Prop, truth: bool) -> bool {
+    match prop {
+        Prop::Truth(_) | Prop::RegIs(..) | Prop::LocIs(..) => false,
+        Prop::Not(inner) => has_choice(inner, !truth),
+        Prop::And(left, right) => !truth || has_choice(left, truth) || has_choice(right, truth),
+        Prop::Or(left, right) => truth || has_choice(left, truth) || has_choice(right, truth),
+    }
+}
+
+fn mark_term(problem: &mut Problem, held: Term) {
+    match held {
+        Term::Number(_) => {}
+        Term::Of(r) | Term::Plus(r, _) => add(&mut problem.relevant, 0, r),
+        Term::Sum(r, q) => {
+            add(&mut problem.relevant, 0, r);
+            add(&mut problem.relevant, 0, q);
+        }
+    }
+}
+
+/// Marks the reads whose values stand in registers that a proposition names.
+fn mark_named(problem: &mut Problem, prop: &Prop) {
+    match prop {
+        Prop::Truth(_) | Prop::LocIs(..) => {}
+        Prop::RegIs(core, reg, _) => {
+            let held = final_term(problem, usize::from(core.0), reg.index());
+            mark_term(problem, held);
+        }
+        Prop::Not(inner) => mark_named(problem, inner),
+        Prop::And(left, right) | Prop::Or(left, right) => {
+            mark_named(problem, left);
+            mark_named(problem, right);
+        }
+    }
+}
+
+fn is_location_relevant(problem: &Problem, loc: usize) -> bool {
+    if has(&problem.asked, 0, loc) {
+        return true;
+    }
+    for r in problem.locations..problem.size {
+        if has(&problem.relevant, 0, r) && location(problem, r) == loc {
+            return true;
+        }
+    }
+    false
+}
+
+/// Marks the reads on whose values those hang that the reads that are marked may return.
+fn mark_relevant(problem: &mut Problem) {
+    for _round in 0..problem.size {
+        let before = count(&problem.relevant, 0, problem.width);
+        for w in problem.locations..problem.size {
+            if writes(problem, w) && is_location_relevant(problem, location(problem, w)) {
+                let written = term_of(problem, w);
+                mark_term(problem, written);
+            }
+        }
+        if count(&problem.relevant, 0, problem.width) == before {
+            break;
+        }
+    }
+}
+
+fn initial_writes(alloc: Global, test: &Test) -> Result<Vec<Entry>, NoMemory> {
+    let mut initial = Vec::new(alloc);
+    for number in 0..test.locations() {
+        initial.push(Entry {
+            core: Core(255),
+            place: 0,
+            kind: Kind::W,
+            loc: Loc(number),
+            value: 0,
+        })?;
+    }
+    Ok(initial)
+}
+
+/// What a search for a reason works on.
+///
+/// Errors: out of memory only.
+pub fn make_problem(
+    alloc: Global,
+    test: &Test,
+    events: &[Entry],
+    model: Model,
+) -> Result<Problem, NoMemory> {
+    let mut all = initial_writes(alloc, test)?;
+    let locations = all.len();
+    all.extend_from_slice(events)?;
+    let size = all.len();
+    let width = size / 64 + 1;
+    let mut first_words = Vec::new(alloc);
+    first_words.extend_from_slice(test.initial_words())?;
+    let mut terms = Vec::new(alloc);
+    for word in test.initial_words() {
+        terms.push(Term::Number(*word))?;
+    }
+    let mut problem = Problem {
+        size,
+        width,
+        locations,
+        sequential: matches!(model, Model::Sequential),
+        partner: find_partners(alloc, &all)?,
+        writes_to: vec![in alloc; 0u64; row(locations, width)]?,
+        readers_of: vec![in alloc; 0u64; row(locations, width)]?,
+        on_location: vec![in alloc; 0u64; row(size, width)]?,
+        global: vec![in alloc; 0u64; row(size, width)]?,
+        terms,
+        finals: Vec::new(alloc),
+        first_words,
+        asked: vec![in alloc; 0u64; width]?,
+        relevant: vec![in alloc; 0u64; width]?,
+        has_choice: false,
+        events: all,
+    };
+    if let Some(cond) = test.cond() {
+        mark_asked(&mut problem.asked, &cond.prop);
+        problem.has_choice = has_choice(&cond.prop, !matches!(cond.quantifier, Quantifier::Forall));
+    }
+    add_program_order(&mut problem);
+    add_accesses(&mut problem);
+    for number in 0..test.cores() {
+        run_core(&mut problem, test, Core(number))?;
+    }
+    if let Some(cond) = test.cond() {
+        mark_named(&mut problem, &cond.prop);
+    }
+    mark_relevant(&mut problem);
+    Ok(problem)
+}
