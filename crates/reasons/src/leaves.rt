@@ -2,6 +2,8 @@
 ghost use Rattle.std.specs.Prelude.{◌≡◌, IfOk};
 ghost use Rattle.refutation_laws.specs.Known.{events_of};
 ghost use Rattle.refutations.specs.inner.Trees.{known_of};
+ghost use Rattle.refutations.specs.Trees.{node_of};
+ghost use Rattle.reasons.specs.Reasons.{is_leaf};
 ghost use Rattle.reasons.specs.inner.Cases as spec;
 
 use crate::cycle::find_cycle;
@@ -82,4 +84,18 @@ pub fn find_leaf(
         return Ok(Some(Node::Globally(cycle)));
     }
     Ok(find_between(test, events, answers))
+}
+
+/// Whether a node is a leaf.
+pub fn is_leaf(node: &Node) -> bool
+    ensures { result ≡ is_leaf (node_of node.now) }
+{
+    match node {
+        Node::ReadsFrom(_) => false,
+        Node::ComesFirst(..) => false,
+        Node::OnLocation(_) => true,
+        Node::Globally(_) => true,
+        Node::Between(..) => true,
+        Node::FalseClaim => true,
+    }
 }

@@ -1,18 +1,23 @@
 //! The search: from case to case, depth first. In each a leaf is found, or a question is asked, or an execution is met.
-ghost use Rattle.std.specs.Prelude.{◌≡◌, IfOk};
+ghost use Rattle.std.specs.Prelude.{◌≡◌, IfOk, IfSome, true};
 ghost use Rattle.refutation_laws.specs.Known.{events_of};
 ghost use Rattle.refutation_laws.specs.inner.FullCases.{IsSound};
+ghost use Rattle.refutation_laws.specs.Refutations.{asked, is_node};
+ghost use Rattle.refutation_laws.specs.Models.{IsMet};
+ghost use Rattle.refutations.specs.Trees.{node_of};
 ghost use Rattle.refutations.specs.inner.Trees.{known_of};
-ghost use Rattle.reasons.specs.Reasons.{IsReason};
+ghost use Rattle.reasons.specs.Reasons.{IsReason, is_leaf};
 ghost use Rattle.reasons.specs.inner.Cases.{IsLeafless, IsStep};
 
-use crate::leaves::find_leaf;
+use crate::leaves::{find_leaf, is_leaf};
 use crate::order::make_order;
-use crate::questions::next_question;
+use crate::questions::{is_open_question, next_question};
 use crate::reason::{Reason, Step};
+use execution_check::is_met;
+use reason_search::{Guide, forget, make_guide, propose, proposed_order};
 use refutation_laws::Model;
-use refutations::checking::add_case;
-use refutations::{Answers, add_branches, make_events, no_answers};
+use refutations::checking::{add_case, is_node};
+use refutations::{Answers, Node, add_branches, make_events, no_answers};
 use std::alloc::Global;
 use tso_model::{Entry, Execution, NoMemory, Test};
 
@@ -37,7 +42,47 @@ fn go_on(
     Ok(Step::Allowed(Execution { order }))
 }
 
-/// What is done with an open case.
+/// Whether this is a leaf that closes the case.
+fn is_closed_by(
+    alloc: Global,
+    test: &Test,
+    events: &[Entry],
+    model: Model,
+    answers: &Answers,
+    node: &Node,
+) -> Result<bool, NoMemory>
+    requires events { events.now ≡ events_of test.now }
+    ensures { IfOk result (λ b. b ≡ true → (is_node model test.now (asked test.now.condition) (known_of answers.now) (node_of node.now) ≡ true)
+        × (is_leaf (node_of node.now) ≡ true)) }
+{
+    if !is_leaf(node) {
+        return Ok(false);
+    }
+    is_node(alloc, test, events, model, answers, node)
+}
+
+/// What is done with a case for which this node is proposed: none where the node may not stand there.
+fn take_proposal(
+    alloc: Global,
+    test: &Test,
+    events: &[Entry],
+    model: Model,
+    answers: &Answers,
+    node: Node,
+) -> Result<Option<Step>, NoMemory>
+    requires events { events.now ≡ events_of test.now }
+    ensures { IfOk result (λ r. IfSome r (IsStep model test.now (known_of answers.now))) }
+{
+    if is_closed_by(alloc, test, events, model, answers, &node)? {
+        return Ok(Some(Step::Leaf(node)));
+    }
+    if is_open_question(test, events, answers, &node) {
+        return Ok(Some(Step::Question(node)));
+    }
+    Ok(None)
+}
+
+/// What is done with an open case, whatever is proposed.
 fn next_step(
     alloc: Global,
     test: &Test,
@@ -55,6 +100,46 @@ fn next_step(
     }
 }
 
+/// What is done with an open case: what the guide proposes, if that may be done.
+fn guided_step(
+    alloc: Global,
+    guide: &mut Guide,
+    test: &Test,
+    events: &[Entry],
+    model: Model,
+    answers: &Answers,
+) -> Result<Step, NoMemory>
+    requires events { events.now ≡ events_of test.now }
+    requires sound { IsSound test.now (known_of answers.now) }
+    ensures { IfOk result (IsStep model test.now (known_of answers.now)) }
+{
+    if let Some(node) = propose(alloc, guide, test, answers)? {
+        if let Some(step) = take_proposal(alloc, test, events, model, answers, node)? {
+            return Ok(step);
+        }
+    }
+    forget(guide);
+    next_step(alloc, test, events, model, answers)
+}
+
+/// The execution that the guide proposes, if it is one in which what the test asks is true.
+fn met_execution(
+    alloc: Global,
+    guide: &Guide,
+    test: &Test,
+    model: Model,
+) -> Result<Option<Execution>, NoMemory>
+    ensures { IfOk result (λ r. IfSome r (λ e. IsMet model test.now (asked test.now.condition) e.order.items)) }
+{
+    let Some(execution) = proposed_order(alloc, guide)? else {
+        return Ok(None);
+    };
+    if is_met(alloc, test, model, &execution)? {
+        return Ok(Some(execution));
+    }
+    Ok(None)
+}
+
 /// Why what the test asks never is, or an execution in which it is. One of the two is found where the
 /// cases that it tells apart are at most `limit`; they are never more than `most_cases`.
 ///
@@ -63,12 +148,16 @@ pub fn explain(alloc: Global, test: &Test, model: Model, limit: usize) -> Result
     ensures { IfOk result (IsReason model test.now limit) }
 {
     let events = make_events(alloc, test)?;
+    let mut guide = make_guide(alloc, test, &events, model)?;
+    if let Some(execution) = met_execution(alloc, &guide, test, model)? {
+        return Ok(Reason::Allowed(execution));
+    }
     let mut cases = Vec::new(alloc);
     add_case(&mut cases, no_answers(alloc))?;
     let mut nodes = Vec::new(alloc);
     let mut leaves = 0;
     while let Some(answers) = cases.pop() {
-        match next_step(alloc, test, &events, model, &answers)? {
+        match guided_step(alloc, &mut guide, test, &events, model, &answers)? {
             Step::Leaf(leaf) => {
                 if leaves == limit {
                     return Ok(Reason::TooMany);

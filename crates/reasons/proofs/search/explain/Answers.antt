@@ -21,16 +21,16 @@ loop-answers-init c = record {
   few = omega arith;
 }
 
-pub next_step-requires-clause-sound : goal.next_step-requires-clause-sound
-next_step-requires-clause-sound c =
-    its-sound c.args.model c.args.test.now c.loop-answers.cases.items c.pop.new.self.items c.in-Some.answers c.in-Some.ensures.items
+pub guided_step-requires-clause-sound : goal.guided_step-requires-clause-sound
+guided_step-requires-clause-sound c =
+    its-sound c.args.model c.args.test.now c.loop-answers.cases.items c.pop.new.self.items c.in-Some-pop.answers c.in-Some-pop.ensures.items
     (map node_of c.loop-answers.nodes.items) c.loop-answers.leaves c.loop-answers.invariant.search
 
 pub returns-then-leaves-limit : goal.returns-then-leaves-limit
 returns-then-leaves-limit c =
-    one-too-many c.args.model c.args.test.now c.loop-answers.cases.items c.pop.new.self.items c.in-Some.answers c.in-Some.ensures.items
+    one-too-many c.args.model c.args.test.now c.loop-answers.cases.items c.pop.new.self.items c.in-Some-pop.answers c.in-Some-pop.ensures.items
     c.loop-answers.nodes.items c.loop-answers.leaves c.args.limit c.in-Leaf.leaf c.if-leaves-limit.true c.loop-answers.invariant.search
-    (subst (IsStep c.args.model c.args.test.now (known_of c.in-Some.answers)) c.in-Leaf.is c.in_ok-leaf.ensures)
+    (subst (IsStep c.args.model c.args.test.now (known_of c.in-Some-pop.answers)) c.in-Leaf.is c.in_ok-leaf.ensures)
 
 pub overflow_add-leaves : goal.overflow_add-leaves
 overflow_add-leaves c =
@@ -41,32 +41,32 @@ overflow_add-leaves c =
 
 pub loop-answers-smaller : goal.loop-answers-smaller
 loop-answers-smaller c =
-    elim c.match-branch-4.branch [
+    elim c.match-branch-7.branch [
       | in-Leaf+else-leaves-limit+in_ok-push-in-Leaf w ↦
           subst (λ (v : Vec Answers). total 1 c.args.test.now (cases_of v.items) < total 1 c.args.test.now (cases_of c.loop-answers.cases.items)) (sym w.cases-is)
-          (lighter-by-leaf c.args.model c.args.test.now c.loop-answers.cases.items c.pop.new.self.items c.in-Some.answers c.in-Some.ensures.items)
+          (lighter-by-leaf c.args.model c.args.test.now c.loop-answers.cases.items c.pop.new.self.items c.in-Some-pop.answers c.in-Some-pop.ensures.items)
       | in-Question+in_ok-add_branches-in-Question+in_ok-push-in-Question w ↦
           subst (λ (v : Vec Answers). total 1 c.args.test.now (cases_of v.items) < total 1 c.args.test.now (cases_of c.loop-answers.cases.items)) (sym w.cases-is)
-          (lighter-by-question c.args.model c.args.test.now c.loop-answers.cases.items c.pop.new.self.items c.in-Some.answers c.in-Some.ensures.items
+          (lighter-by-question c.args.model c.args.test.now c.loop-answers.cases.items c.pop.new.self.items c.in-Some-pop.answers c.in-Some-pop.ensures.items
           w.in-Question.question w.add_branches.new.cases.items w.in_ok-add_branches-in-Question.ensures
-          (subst (IsStep c.args.model c.args.test.now (known_of c.in-Some.answers)) w.in-Question.is c.in_ok-leaf.ensures))
+          (subst (IsStep c.args.model c.args.test.now (known_of c.in-Some-pop.answers)) w.in-Question.is c.in_ok-leaf.ensures))
     ]
 
 pub loop-answers-preserved : goal.loop-answers-preserved
 loop-answers-preserved c =
-    elim c.match-branch-4.branch [
+    elim c.match-branch-7.branch [
       | in-Leaf+else-leaves-limit+in_ok-push-in-Leaf w ↦ record {
         search =
-            subst (λ m. IsSearch c.args.model c.args.test.now (cases_of c.match-branch-4.cases.items) (map node_of c.match-branch-4.nodes.items) m)
+            subst (λ m. IsSearch c.args.model c.args.test.now (cases_of c.match-branch-7.cases.items) (map node_of c.match-branch-7.nodes.items) m)
             (sym w.leaves-is)
-            (subst (λ (v : Vec Node). IsSearch c.args.model c.args.test.now (cases_of c.match-branch-4.cases.items) (map node_of v.items)
+            (subst (λ (v : Vec Node). IsSearch c.args.model c.args.test.now (cases_of c.match-branch-7.cases.items) (map node_of v.items)
             (c.loop-answers.leaves + 1)) (sym w.nodes-is)
             (subst (λ (v : Vec Answers). IsSearch c.args.model c.args.test.now (cases_of v.items) (map node_of w.push.new.self.items)
             (c.loop-answers.leaves + 1)) (sym w.cases-is)
-            (after-leaf c.args.model c.args.test.now c.loop-answers.cases.items c.pop.new.self.items c.in-Some.answers c.in-Some.ensures.items
+            (after-leaf c.args.model c.args.test.now c.loop-answers.cases.items c.pop.new.self.items c.in-Some-pop.answers c.in-Some-pop.ensures.items
             c.loop-answers.nodes.items w.push.new.self.items c.loop-answers.leaves w.in-Leaf.leaf w.in_ok-push-in-Leaf.ensures.items
             c.loop-answers.invariant.search
-            (subst (IsStep c.args.model c.args.test.now (known_of c.in-Some.answers)) w.in-Leaf.is c.in_ok-leaf.ensures))));
+            (subst (IsStep c.args.model c.args.test.now (known_of c.in-Some-pop.answers)) w.in-Leaf.is c.in_ok-leaf.ensures))));
         few =
             let few = c.loop-answers.invariant.few in
             let other = w.if-leaves-limit.false in
@@ -75,17 +75,17 @@ loop-answers-preserved c =
       }
       | in-Question+in_ok-add_branches-in-Question+in_ok-push-in-Question w ↦ record {
         search =
-            subst (λ m. IsSearch c.args.model c.args.test.now (cases_of c.match-branch-4.cases.items) (map node_of c.match-branch-4.nodes.items) m)
+            subst (λ m. IsSearch c.args.model c.args.test.now (cases_of c.match-branch-7.cases.items) (map node_of c.match-branch-7.nodes.items) m)
             (sym w.leaves-is)
-            (subst (λ (v : Vec Node). IsSearch c.args.model c.args.test.now (cases_of c.match-branch-4.cases.items) (map node_of v.items)
+            (subst (λ (v : Vec Node). IsSearch c.args.model c.args.test.now (cases_of c.match-branch-7.cases.items) (map node_of v.items)
             c.loop-answers.leaves) (sym w.nodes-is)
             (subst (λ (v : Vec Answers). IsSearch c.args.model c.args.test.now (cases_of v.items) (map node_of w.push-in-Question.new.self.items)
             c.loop-answers.leaves) (sym w.cases-is)
-            (after-question c.args.model c.args.test.now c.loop-answers.cases.items c.pop.new.self.items c.in-Some.answers c.in-Some.ensures.items
+            (after-question c.args.model c.args.test.now c.loop-answers.cases.items c.pop.new.self.items c.in-Some-pop.answers c.in-Some-pop.ensures.items
             c.loop-answers.nodes.items w.push-in-Question.new.self.items c.loop-answers.leaves w.in-Question.question
             w.in_ok-push-in-Question.ensures.items w.add_branches.new.cases.items w.in_ok-add_branches-in-Question.ensures
             c.loop-answers.invariant.search
-            (subst (IsStep c.args.model c.args.test.now (known_of c.in-Some.answers)) w.in-Question.is c.in_ok-leaf.ensures))));
+            (subst (IsStep c.args.model c.args.test.now (known_of c.in-Some-pop.answers)) w.in-Question.is c.in_ok-leaf.ensures))));
         few =
             let few = c.loop-answers.invariant.few in
             let now = w.leaves-is in
@@ -95,7 +95,7 @@ loop-answers-preserved c =
 
 pub returns : goal.returns
 returns c =
-    let none = c.in_default.ensures.cases in
+    let none = c.in_default-pop.ensures.cases in
     let size = c.loop-answers.cases.ok.0 in
     all-done c.args.model c.args.test.now c.loop-answers.cases.items (map node_of c.loop-answers.nodes.items) c.loop-answers.leaves
     (nil_from_length c.loop-answers.cases.items (omega (arith, none, size))) c.loop-answers.invariant.search
