@@ -3,8 +3,8 @@
 
 use crate::branch::{Mark, cell, mark_here, put_before};
 use crate::choosing::{Ask, choose};
-use crate::growing::list_nodes;
-use crate::hunting::{Find, Hunt, hunt_for, make_hunt, start_anew};
+use crate::growing::{leaves_of, list_nodes};
+use crate::hunting::{Find, Hunt, hunt_again, hunt_for, make_hunt, start_anew};
 use crate::looking::{deduce, put_source};
 use crate::ordering::make_order;
 use crate::problem::{Problem, event, make_problem};
@@ -18,6 +18,9 @@ use tso_model::{Entry, Execution, NoMemory, Test};
 
 /// How many cases a search looks at before it gives up.
 const MOST_CASES: u64 = 100_000;
+
+/// How often a search looks for a smaller tree.
+const MOST_TRIES: u64 = 8;
 
 /// A search, and the nodes that it proposes and that aren't taken yet, the first one last.
 #[derive(Drop)]
@@ -47,6 +50,31 @@ fn take_tree(alloc: Global, guide: &mut Guide, root: usize) -> Result<(), NoMemo
     Ok(())
 }
 
+/// Looks for smaller trees, a few times, each time at no more cases than the first tree took.
+fn look_for_smaller(
+    alloc: Global,
+    guide: &mut Guide,
+    test: &Test,
+    root: usize,
+    effort: u64,
+) -> Result<(), NoMemory> {
+    let mut leaves = leaves_of(&guide.hunt.desk.trees, root);
+    for tries in 0..MOST_TRIES {
+        if leaves < 3 || tries.wrapping_mul(effort) > 4_000 {
+            break;
+        }
+        let found = hunt_again(&guide.problem, &mut guide.hunt, test, &guide.start, effort)?;
+        if let Find::Refuted(other) = found {
+            let fewer = leaves_of(&guide.hunt.desk.trees, other);
+            if fewer < leaves {
+                leaves = fewer;
+                take_tree(alloc, guide, other)?;
+            }
+        }
+    }
+    Ok(())
+}
+
 /// Searches: a tree, or a branch that is open to the end, or neither.
 ///
 /// Errors: out of memory only.
@@ -68,7 +96,11 @@ pub fn make_guide(
     };
     match hunt_for(&guide.problem, &mut guide.hunt, test, MOST_CASES)? {
         Find::Allowed => guide.is_allowed = true,
-        Find::Refuted(root) => take_tree(alloc, &mut guide, root)?,
+        Find::Refuted(root) => {
+            take_tree(alloc, &mut guide, root)?;
+            let effort = guide.hunt.cases.wrapping_add(20);
+            look_for_smaller(alloc, &mut guide, test, root, effort)?;
+        }
         Find::Paused => {}
     }
     Ok(guide)

@@ -1,8 +1,9 @@
 //! The search: questions are asked, what follows is noted, and where a branch is closed its tree is made and the next answer tried.
 //! An answer that its tree doesn't use is no question: the tree stands in its place.
 
-use crate::branch::{Branch, Mark, look_at_all, make_branch, mark_here, put_before, undo};
+use crate::branch::{Branch, Mark, look_at, look_at_all, make_branch, mark_here, put_before, undo};
 use crate::choosing::{Ask, choose, lateness, list_sources};
+use crate::deduction::want_asked;
 use crate::looking::{deduce, put_source};
 use crate::problem::{Problem, location, writes};
 use crate::reasoning::{
@@ -344,6 +345,48 @@ pub fn start_anew(problem: &Problem, hunt: &mut Hunt, start: &Mark) {
         let _last = hunt.desk.trees.events.pop();
     }
     hunt.round = hunt.round.wrapping_add(1);
+}
+
+/// Looks at one event after the other in an order of chance, with all that follows. False where that closes the branch.
+fn look_by_chance(problem: &Problem, hunt: &mut Hunt, test: &Test) -> Result<bool, NoMemory> {
+    let width = problem.width;
+    if !want_asked(problem, &mut hunt.branch, test)? {
+        return Ok(false);
+    }
+    hunt.branch.claim_is_dirty = false;
+    clear(&mut hunt.branch.dirty, 0, width);
+    for _event in 0..problem.size {
+        let number = random(hunt);
+        let a = (number % (problem.size.max(1) as u64)) as usize;
+        look_at(&mut hunt.branch, a);
+        if !deduce(problem, &mut hunt.branch, test)? {
+            return Ok(false);
+        }
+    }
+    look_at_all(problem, &mut hunt.branch);
+    Ok(true)
+}
+
+/// Begins anew, with another order in which things follow, and looks at so many cases at most: it may find a smaller tree.
+///
+/// Errors: out of memory only.
+pub fn hunt_again(
+    problem: &Problem,
+    hunt: &mut Hunt,
+    test: &Test,
+    start: &Mark,
+    most: u64,
+) -> Result<Find, NoMemory> {
+    start_anew(problem, hunt, start);
+    hunt.pause = hunt.cases.wrapping_add(most);
+    if look_by_chance(problem, hunt, test)? {
+        return search(problem, hunt, test);
+    }
+    let tree = go_back(problem, hunt, test)?;
+    if tree == NONE {
+        return Ok(Find::Paused);
+    }
+    Ok(Find::Refuted(tree))
 }
 
 /// Searches with pauses, after each of which it begins anew with what it learnt of which questions matter: at most so many cases.
