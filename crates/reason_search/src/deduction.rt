@@ -5,7 +5,7 @@ use crate::branch::{
     Branch, Conflict, UNKNOWN, after, look_at, look_at_readers, note_known, note_wanted,
     put_before, value_known, value_wanted,
 };
-use crate::problem::{Problem, Relations, Term, final_term, is_initial, location, term_of, writes};
+use crate::problem::{Problem, Relations, Term, final_term, location, term_of, writes};
 use crate::rows::{NONE, is_empty, lowest, rest, row, word};
 use std::alloc::Global;
 use tso_model::{Cond, NoMemory, Prop, Quantifier, Test};
@@ -386,10 +386,8 @@ pub fn match_values(
         if is_wrong(problem, branch, test, r, value) {
             return Ok(fail(branch));
         }
-        if !is_initial(problem, r) {
-            note_known(branch, r, value)?;
-            look_at_dependents(problem, branch, r);
-        }
+        note_known(branch, r, value)?;
+        look_at_dependents(problem, branch, r);
     }
     let wanted = value_wanted(problem, branch, r);
     if wanted == UNKNOWN {

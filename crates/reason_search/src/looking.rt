@@ -338,6 +338,9 @@ fn look_at_last(
     test: &Test,
     loc: usize,
 ) -> Result<bool, NoMemory> {
+    if is_empty(&problem.writes_to, row(loc, problem.width), problem.width) {
+        return Ok(true);
+    }
     let (only, some) = only_last(problem, branch, test, loc);
     if !some {
         branch.conflict = Conflict::False;
