@@ -42,6 +42,7 @@ pub mod told_cores;
 pub mod told_steps;
 pub mod told_texts;
 pub mod traced;
+pub mod traced_machines;
 pub mod traces_told;
 pub mod witnesses;
 pub mod words_of_outcomes;
