@@ -136,7 +136,7 @@ PrintedTracesAreTold json =
     → traced_in json t kind c choices ≡ traced_in json t kind c other → TakeTheSameSteps t kind c choices other
 
 -- also of other tests and on other machines: which test, protocol and configuration it was; as JSON of runs that ended, since the
--- object of a run that didn't has neither
+-- object of a run that didn't end names none of them
 abbrev pub PrintedTracesNameTheSame : Bool → Type 0
 PrintedTracesNameTheSame json =
     (t u : Litmus) (kind other_kind : ProtocolKind) (c d : Configuration) (choices other : List Choice)
