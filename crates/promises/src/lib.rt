@@ -21,6 +21,7 @@ pub mod machines_alike;
 pub mod one_text;
 pub mod order_texts;
 pub mod orders;
+pub mod printed_reasons;
 pub mod printed_texts;
 pub mod readings;
 pub mod reasons_told;
