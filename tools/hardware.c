@@ -50,6 +50,7 @@ static uint64_t arrived __attribute__((aligned(LINE)));
 static uint64_t most_runs, most_nanoseconds, seed;
 static int processors[MOST_PROCESSORS], processor_count;
 static int stopped __attribute__((aligned(LINE)));
+static int runs_of_round; /* ROUND, or fewer where the time ends in the middle */
 
 static void end_with(const char *why) {
   fprintf(stderr, "hardware: %s\n", why);
@@ -160,12 +161,15 @@ static void *run_core(void *given) {
     meet(++meetings);
     for (int run = 0; run < ROUND; run++) {
       touch(run, drawn(&random) & drawn(&random));
+      /* what is written before a meeting is read after it, so all threads end their round before the same run */
+      if (core == 0 && run > 0 && run % 32 == 0 && now() - from > most_nanoseconds) runs_of_round = run;
       begin_together(++meetings, run, drawn(&random) % distance_of(round));
+      if (run >= runs_of_round) break;
       test->programs[core](memory_of(run), banks[run][core]);
     }
     meet(++meetings);
     if (core == 0) {
-      for (int run = 0; run < ROUND && done < most_runs; run++, done++) count(run);
+      for (int run = 0; run < runs_of_round && done < most_runs; run++, done++) count(run);
       if (done == most_runs || now() - from > most_nanoseconds) __atomic_store_n(&stopped, 1, __ATOMIC_RELEASE);
     }
     meet(++meetings);
@@ -209,6 +213,7 @@ static void run_test(void) {
   memset(states, 0, sizeof states);
   arrived = 0;
   stopped = 0;
+  runs_of_round = ROUND;
   for (int core = 0; core < test->cores; core++)
     if (pthread_create(&threads[core], NULL, run_core, (void *)(intptr_t)core) != 0) end_with("a thread can't be made");
   for (int core = 0; core < test->cores; core++) pthread_join(threads[core], NULL);
