@@ -1,7 +1,7 @@
 //! What a search proposes: nodes of a tree, from the root on, or the order of an execution. Where more cases are open than it
 //! proposed nodes for, each is looked at for itself.
 
-use crate::branch::{Mark, cell, mark_here, put_before};
+use crate::branch::{Answer, Branch, Mark, cell, mark_here, note, put_before};
 use crate::choosing::{Ask, choose};
 use crate::growing::{leaves_of, list_nodes};
 use crate::hunting::{Find, Hunt, hunt_again, hunt_for, make_hunt, start_anew};
@@ -9,7 +9,7 @@ use crate::looking::{deduce, put_source};
 use crate::ordering::make_order;
 use crate::problem::{Problem, event, make_problem};
 use crate::reasoning::{add_conflict, wrap};
-use crate::rows::{NONE, at, clear};
+use crate::rows::{NONE, at, clear, put};
 use refutation_laws::Model;
 use refutations::events::same_event;
 use refutations::{Answers, Node};
@@ -127,6 +127,19 @@ fn number_of(problem: &Problem, x: &Entry) -> usize {
     NONE
 }
 
+/// Puts a pair of writes on the branch, also where it follows from others. False where that closes the branch.
+fn put_pair(problem: &Problem, branch: &mut Branch, a: usize, b: usize) -> Result<bool, NoMemory> {
+    if !put_before(problem, branch, a, b, true)? {
+        return Ok(false);
+    }
+    let place = cell(problem, a, b);
+    if at(&branch.pairs, place) == NONE {
+        let fact = note(branch, Answer::Before(a, b), true)?;
+        put(&mut branch.pairs, place, fact);
+    }
+    Ok(true)
+}
+
 /// Puts the answers of a case on the branch. False where that closes it.
 fn put_answers(guide: &mut Guide, answers: &Answers) -> Result<bool, NoMemory> {
     for pair in &answers.order {
@@ -137,7 +150,7 @@ fn put_answers(guide: &mut Guide, answers: &Answers) -> Result<bool, NoMemory> {
             if let Some(known) = guide.hunt.branch.facts.get_mut(fact) {
                 known.tried = true;
             }
-            if !put_before(&guide.problem, &mut guide.hunt.branch, a, b, true)? {
+            if !put_pair(&guide.problem, &mut guide.hunt.branch, a, b)? {
                 return Ok(false);
             }
         }

@@ -238,6 +238,7 @@ fn finish(
         let bits = crate::rows::word(&hunt.used, start.wrapping_add(k));
         crate::rows::put_word(&mut hunt.desk.used, k, bits);
     }
+    hunt.desk.above = hunt.branch.facts.len();
     let mut trees = (NONE, NONE);
     for i in frame.trees..hunt.tried.len() {
         if let Some((answer, tree)) = hunt.tried.get(i).copied() {

@@ -1,7 +1,7 @@
 //! Leaves and nodes for what a branch found closed: the shortest reason for each source that a read can't have, and for each order
 //! that follows.
 
-use crate::branch::{Answer, Branch, Conflict, cell, is_known, source_of};
+use crate::branch::{Answer, Branch, Conflict, Edge, cell, is_known, source_of};
 use crate::evidence::{
     Closing, Evidence, close_cycle, follow, make_evidence, need, need_order, offer, reset,
     use_facts, visit, weigh,
@@ -29,6 +29,8 @@ pub struct Desk {
     pub trees: Trees,
     /// The facts that the tree in hand uses.
     pub used: Vec<u64>,
+    /// How many facts stand above the tree in hand, if it uses them.
+    pub above: usize,
     /// For each source its tree, while a question's branches are put together.
     pub branches: Vec<usize>,
     /// How often each event stood in a question that was needed, of late more.
@@ -49,6 +51,7 @@ pub fn make_desk(alloc: Global, problem: &Problem, facts: usize) -> Result<Desk,
         values: make_values(alloc, problem)?,
         trees: no_trees(alloc),
         used: vec![in alloc; 0u64; facts / 64 + 1]?,
+        above: 0,
         branches: vec![in alloc; NONE; problem.size]?,
         weight: vec![in alloc; 0u64; problem.size]?,
         step: 1024,
@@ -399,23 +402,18 @@ pub fn move_on(desk: &mut Desk) {
     }
 }
 
-/// Whether an answer says that one write is before another one, by the first so many edges. `also` is such a pair as well.
+/// Whether an answer above says that one write is before another one. `also` is such a pair as well.
 fn is_direct(
     problem: &Problem,
     branch: &Branch,
+    desk: &Desk,
     a: usize,
     b: usize,
-    limit: usize,
     also: (usize, usize),
 ) -> bool {
-    if is_initial(problem, a) || also.0 == a && also.1 == b {
-        return true;
-    }
-    let fact = at(&branch.pairs, cell(problem, a, b));
-    match branch.facts.get(fact) {
-        None => false,
-        Some(fact) => fact.edges < limit,
-    }
+    is_initial(problem, a)
+        || also.0 == a && also.1 == b
+        || at(&branch.pairs, cell(problem, a, b)) < desk.above
 }
 
 /// A cycle of coherence: a path, and the pair that leads back.
@@ -474,12 +472,12 @@ fn add_between_tree(
     let v = at(&desk.best.cycle, 1);
     let own = at(&desk.best.cycle, 2);
     let mut tree = add_between(&mut desk.trees, r, v, own)?;
-    if !is_direct(problem, branch, v, own, limit, also) {
+    if !is_direct(problem, branch, desk, v, own, also) {
         tree = add_pair_above(problem, branch, desk, v, own, limit, tree)?;
     } else {
         use_pair(problem, branch, desk, v, own, also);
     }
-    if !is_direct(problem, branch, s, v, limit, also) {
+    if !is_direct(problem, branch, desk, s, v, also) {
         tree = add_pair_above(problem, branch, desk, s, v, limit, tree)?;
     } else {
         use_pair(problem, branch, desk, s, v, also);
@@ -507,6 +505,7 @@ fn use_pair(
 /// A leaf, or one below the question which of s and the store part of r comes first.
 fn add_one_read(
     problem: &Problem,
+    branch: &Branch,
     desk: &mut Desk,
     r: usize,
     s: usize,
@@ -514,14 +513,20 @@ fn add_one_read(
     between: usize,
 ) -> Result<usize, NoMemory> {
     let own = at(&problem.partner, r);
-    let leaf = add_between(&mut desk.trees, q, own, between)?;
-    if is_initial(problem, s) {
-        return Ok(leaf);
-    }
+    let open = (NONE, NONE);
     reset(&mut desk.trial, Closing::OnLocation);
     visit(&mut desk.trial, s);
     visit(&mut desk.trial, r);
     visit(&mut desk.trial, own);
+    if is_direct(problem, branch, desk, own, s, open) {
+        use_pair(problem, branch, desk, own, s, open);
+        return add_cycle(&mut desk.trees, &desk.trial);
+    }
+    let leaf = add_between(&mut desk.trees, q, own, between)?;
+    if is_direct(problem, branch, desk, s, own, open) {
+        use_pair(problem, branch, desk, s, own, open);
+        return Ok(leaf);
+    }
     let cycle = add_cycle(&mut desk.trees, &desk.trial)?;
     let question = add_question(&mut desk.trees, Growth::ComesFirst, s, own)?;
     put_branch(&mut desk.trees, question, cycle);
@@ -532,6 +537,7 @@ fn add_one_read(
 /// The tree of two locked instructions that read one write: one store part comes first, and then between the other's parts.
 fn add_twice_tree(
     problem: &Problem,
+    branch: &Branch,
     desk: &mut Desk,
     r: usize,
     q: usize,
@@ -539,8 +545,17 @@ fn add_twice_tree(
 ) -> Result<usize, NoMemory> {
     let first = at(&problem.partner, r);
     let second = at(&problem.partner, q);
-    let second_tree = add_one_read(problem, desk, q, s, r, first)?;
-    let first_tree = add_one_read(problem, desk, r, s, q, second)?;
+    let open = (NONE, NONE);
+    if is_direct(problem, branch, desk, first, second, open) {
+        use_pair(problem, branch, desk, first, second, open);
+        return add_one_read(problem, branch, desk, r, s, q, second);
+    }
+    if is_direct(problem, branch, desk, second, first, open) {
+        use_pair(problem, branch, desk, second, first, open);
+        return add_one_read(problem, branch, desk, q, s, r, first);
+    }
+    let second_tree = add_one_read(problem, branch, desk, q, s, r, first)?;
+    let first_tree = add_one_read(problem, branch, desk, r, s, q, second)?;
     let question = add_question(&mut desk.trees, Growth::ComesFirst, first, second)?;
     put_branch(&mut desk.trees, question, second_tree);
     put_branch(&mut desk.trees, question, first_tree);
@@ -585,7 +600,7 @@ fn add_best(
         Closing::Twice => {
             let second = at(&desk.best.cycle, 1);
             let third = at(&desk.best.cycle, 2);
-            add_twice_tree(problem, desk, first, second, third)
+            add_twice_tree(problem, branch, desk, first, second, third)
         }
     }
 }
@@ -659,6 +674,50 @@ pub fn add_order_question(
     Ok(question)
 }
 
+/// The tree where an order follows and an answer says the other one: why that can't be. `NONE` where no answer does.
+fn add_turned(
+    problem: &Problem,
+    branch: &Branch,
+    desk: &mut Desk,
+    test: &Test,
+    edge: &Edge,
+) -> Result<usize, NoMemory> {
+    let Some(fact) = branch.facts.get(edge.fact).copied() else {
+        return Ok(NONE);
+    };
+    match fact.answer {
+        Answer::Source(..) => Ok(NONE),
+        Answer::Before(a, b) => {
+            let known = at(&branch.pairs, cell(problem, b, a));
+            if known == NONE || fact.tried {
+                return Ok(NONE);
+            }
+            let tree = add_other(problem, branch, desk, test, a, b, edge.fact, fact.edges)?;
+            add(&mut desk.used, 0, known);
+            Ok(tree)
+        }
+    }
+}
+
+/// The tree of b before a, where a fact says that a is before b.
+fn add_other(
+    problem: &Problem,
+    branch: &Branch,
+    desk: &mut Desk,
+    test: &Test,
+    a: usize,
+    b: usize,
+    fact: usize,
+    edges: usize,
+) -> Result<usize, NoMemory> {
+    find_why_before(problem, branch, desk, test, a, b, fact, edges);
+    if desk.best.closing == Closing::None {
+        return add_false_leaf(problem, branch, desk, test);
+    }
+    let s = source_of(branch, at(&desk.best.cycle, 0));
+    add_best(problem, branch, desk, edges, s, (b, a))
+}
+
 /// The tree of a branch that is closed.
 ///
 /// Errors: out of memory only.
@@ -669,8 +728,13 @@ pub fn add_conflict(
     test: &Test,
 ) -> Result<usize, NoMemory> {
     move_on(desk);
+    desk.above = branch.facts.len();
     match branch.conflict {
         Conflict::Cycle(edge) => {
+            let tree = add_turned(problem, branch, desk, test, &edge)?;
+            if tree != NONE {
+                return Ok(tree);
+            }
             close_cycle(
                 problem,
                 branch,
@@ -709,6 +773,7 @@ pub fn wrap(
         if has(&desk.used, 0, number) {
             if let Some(fact) = branch.facts.get(number).copied() {
                 if !fact.tried {
+                    desk.above = number;
                     remove(&mut desk.used, 0, number);
                     whole = wrap_one(
                         problem,
@@ -743,13 +808,7 @@ fn wrap_one(
             add_source_question(problem, branch, desk, test, r)
         }
         Answer::Before(a, b) => {
-            find_why_before(problem, branch, desk, test, a, b, number, edges);
-            let other = if desk.best.closing == Closing::None {
-                add_false_leaf(problem, branch, desk, test)?
-            } else {
-                let s = source_of(branch, at(&desk.best.cycle, 0));
-                add_best(problem, branch, desk, edges, s, (b, a))?
-            };
+            let other = add_other(problem, branch, desk, test, a, b, number, edges)?;
             add_order_question(desk, a, b, tree, other)
         }
     }
