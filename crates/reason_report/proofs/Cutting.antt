@@ -4,7 +4,6 @@ use Rattle.std.proofs.Common.{Bool, true, false, cond, ℕ, suc, zero, ◌+◌, 
 use Rattle.std.proofs.lemmas.List.{drop_all, at_drop_more}
 use Rattle.tso_model.specs.Litmus.{Litmus}
 use Rattle.refutation_laws.specs.Known.{Known}
-use Rattle.refutation_laws.specs.Refutations as refutations
 use Rattle.refutation_laws.specs.Refutations.{asked}
 use Rattle.refutation_laws.specs.declared.model.Model.{Model}
 use Rattle.refutations.specs.Trees.{node_of}

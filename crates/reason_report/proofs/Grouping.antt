@@ -1,14 +1,12 @@
 -- Cases that a leaf closes at once: those that one line closes together, and the groups that they make.
-use Rattle.std.proofs.Common.{ℕ, suc, zero, ◌+◌, ◌-◌, ◌==◌, ◌&&◌, ◌≡◌, ◌≤◌, ◌<◌, Bool, true, false, not, cond, List, [], ◌∷◌, ◌++◌, length, take, drop, get_or, map, refl, sym, ap, ◌∙◌, arith, subst, append_assoc}
-use Rattle.std.proofs.lemmas.List.{append-nil, take_all, drop_all, length-drop}
-use Rattle.std.proofs.lemmas.Bool.Decides.{nat_tests}
+use Rattle.std.proofs.Common.{ℕ, suc, zero, ◌+◌, ◌-◌, ◌&&◌, ◌≡◌, ◌≤◌, ◌<◌, Bool, true, false, not, cond, List, [], ◌∷◌, ◌++◌, length, take, drop, get_or, map, refl, sym, ap, ◌∙◌, arith, subst, append_assoc}
+use Rattle.std.proofs.lemmas.List.{take_all, drop_all, length-drop}
 use Rattle.std.specs.Prelude.{filter}
 use Rattle.std.specs.List.{flat_map, list_any, list_all}
 use Rattle.tso_model.specs.Litmus.{Litmus}
 use Rattle.tso_model.specs.Condition.{Claim}
 use Rattle.refutation_laws.specs.Known.{Known}
 use Rattle.refutation_laws.specs.Refutations.{asked}
-use Rattle.refutation_laws.specs.declared.model.Model.{Model}
 use Rattle.refutations.specs.inner.Trees.{known_of}
 use Rattle.tso_report.specs.declared.named.Named.{Named}
 use Rattle.tso_report.specs.Tally.{looked_at}
@@ -20,7 +18,7 @@ use Rattle.reason_report.specs.declared.steps.Step as declared
 use Rattle.reason_report.specs.declared.replies.Reply.{Reply}
 use Rattle.reason_report.specs.declared.parts.Refutation.{Refutation}
 use Rattle.reason_report.specs.declared.closed.Closed.{Closed}
-use Rattle.reason_report.specs.inner.Closed.{IsClosed, IsLeaf, AreClosed, closed_branch, same_truths, alike, known_alike, rest_of}
+use Rattle.reason_report.specs.inner.Closed.{IsClosed, AreClosed, closed_branch, same_truths, alike, known_alike, rest_of}
 
 -- ---- lists
 

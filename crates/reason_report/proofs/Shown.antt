@@ -1,6 +1,6 @@
 -- What is shown of an execution is its candidate.
-use Rattle.std.proofs.Common.{ℕ, suc, zero, ◌+◌, ◌||◌, ◌≡◌, ◌≤◌, ◌<◌, Bool, true, false, cond, List, [], ◌∷◌, ◌++◌, length, take, drop, get_or, map, Option, Some, None, refl, sym, ap, ◌∙◌, arith, subst, append_assoc}
-use Rattle.std.specs.Prelude.{All, filter, slice_get, slice_index_or, codes}
+use Rattle.std.proofs.Common.{ℕ, suc, zero, ◌+◌, ◌||◌, ◌≡◌, ◌≤◌, ◌<◌, Bool, true, false, cond, List, [], ◌∷◌, ◌++◌, length, drop, get_or, map, Option, Some, None, refl, sym, ap, ◌∙◌, arith, subst, append_assoc}
+use Rattle.std.specs.Prelude.{All, filter, slice_get, codes}
 use Rattle.std.specs.List.{flat_map, list_any}
 use Rattle.std.proofs.lemmas.List.{at_drop_more, append-nil, drop_all}
 use Rattle.serde_json.specs.Data.{Data, Members, no_members, member, put, object, array, string}
@@ -8,7 +8,7 @@ use Rattle.serde_json.specs.View.{items_of}
 use Rattle.tso_model.specs.Litmus.{Litmus}
 use Rattle.tso_model.specs.ProgramOrder.{is_read, writes_to, is_before}
 use Rattle.tso_model.specs.ProgramEntries.{made}
-use Rattle.tso_model.specs.Axioms.{counting, IsTsoExecution, IsWhole}
+use Rattle.tso_model.specs.Axioms.{counting, IsTsoExecution}
 use Rattle.tso_model.specs.FinalState.{final_words, final_registers, words_from, registers_from}
 use Rattle.tso_model.specs.declared.instruction.Instr.{Instr}
 use Rattle.tso_model.specs.declared.choice.Choice.{Choice}
@@ -25,7 +25,7 @@ use Rattle.outcome_report.specs.OutcomesJson.{value_members}
 use Rattle.order_builder.specs.PrintedOrder.{printed_entry}
 use Rattle.tso_report.specs.Report.{line, test_line}
 use Rattle.tso_report.specs.Tally.{looked_at, values_in, shown_value}
-use Rattle.reason_report.specs.ReasonText.{model_name, asked_line, verdict_line, from_line, reads_of, coherence_lines, coherence_line, values_left, allowed_text}
+use Rattle.reason_report.specs.ReasonText.{model_name, asked_line, verdict_line, from_line, reads_of, coherence_lines, coherence_line, allowed_text}
 use Rattle.reason_report.specs.ReasonJson.{asked_value, verdict_value, from_value, coherence_members, with_coherence, allowed_value}
 use Rattle.reason_report.specs.declared.readings.Reading.{Reading}
 use Rattle.tso_report.specs.declared.named.Named.{Named}

@@ -1,5 +1,5 @@
 -- The cases of a question that leaves close at once, as the code has them.
-use Rattle.std.specs.Prelude.{ℕ, ◌≡◌, ◌<◌, ◌&&◌, not, Bool, true, false, if◌then◌else◌, List, [], ◌∷◌, map, filter, length}
+use Rattle.std.specs.Prelude.{◌≡◌, ◌<◌, ◌&&◌, not, Bool, true, false, if◌then◌else◌, List, [], ◌∷◌, map, filter, length}
 use Rattle.tso_model.specs.Litmus.{Litmus}
 use Rattle.refutation_laws.specs.Known.{Known}
 use Rattle.refutation_laws.specs.Refutations.{asked}

@@ -1,5 +1,5 @@
 -- What is still to be laid out, as the code keeps it: tasks, of which the first stands for the next part.
-use Rattle.std.specs.Prelude.{ℕ, ◌≡◌, ◌+◌, ◌≤◌, Bool, true, false, if◌then◌else◌, List, [], ◌∷◌, ◌++◌, Option, Some, None}
+use Rattle.std.specs.Prelude.{ℕ, ◌≡◌, ◌+◌, ◌≤◌, Bool, if◌then◌else◌, List, [], ◌∷◌, ◌++◌, Option, Some, None}
 use Rattle.std.specs.List.{flat_map}
 use Rattle.tso_model.specs.Litmus.{Litmus}
 use Rattle.refutation_laws.specs.Known.{Known, nothing}

@@ -1,4 +1,4 @@
-use Rattle.std.proofs.Common.{◌∙◌, sym, ap, map, length}
+use Rattle.std.proofs.Common.{◌∙◌, sym, ap, length}
 use Rattle.std.proofs.lemmas.Result.{IfOk-weaker}
 use Rattle.refutations.specs.inner.Trees.{known_of}
 use Rattle.reason_report.specs.inner.Closed.{closed_branch, rest_of}

@@ -1,5 +1,5 @@
-use Rattle.std.proofs.Common.{◌≡◌, ◌++◌, drop, map, length}
-use Rattle.std.specs.Prelude.{filter, All}
+use Rattle.std.proofs.Common.{◌≡◌, ◌++◌, drop, map}
+use Rattle.std.specs.Prelude.{filter}
 use Rattle.refutation_laws.specs.Refutations.{asked}
 use Rattle.refutations.specs.inner.Trees.{known_of}
 use Rattle.reason_report.specs.Places.{suffices, place_in}

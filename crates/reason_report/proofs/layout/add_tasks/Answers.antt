@@ -1,4 +1,4 @@
-use Rattle.std.proofs.Common.{◌∙◌, ◌-◌, ◌<◌, ◌≤◌, ap, refl, arith, length}
+use Rattle.std.proofs.Common.{◌∙◌, ◌-◌, ap, refl, arith}
 use Rattle.refutations.specs.inner.Trees.{known_of}
 use Rattle.reason_report.specs.inner.Parts.{branch_in}
 use Rattle.reason_report.proofs.Cutting.{below-get}

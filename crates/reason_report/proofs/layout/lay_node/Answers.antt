@@ -1,4 +1,4 @@
-use Rattle.std.proofs.Common.{◌∙◌, ◌+◌, ◌≤◌, ap, sym, refl, arith, map}
+use Rattle.std.proofs.Common.{◌∙◌, ◌+◌, ap, sym, refl, arith, map}
 use Rattle.std.proofs.lemmas.Result.{on_ok_weaker}
 use Rattle.refutation_laws.specs.Refutations.{asked}
 use Rattle.refutations.specs.inner.Trees.{known_of}

@@ -1,4 +1,4 @@
-use Rattle.std.proofs.Common.{◌∙◌, ◌+◌, ◌++◌, ◌==◌, ◌≤◌, [], ap, sym, subst, refl, arith, map, length, not}
+use Rattle.std.proofs.Common.{◌∙◌, ◌+◌, ◌++◌, ◌==◌, [], ap, sym, subst, refl, arith, map, length, not}
 use Rattle.std.specs.Prelude.{filter}
 use Rattle.std.specs.List.{flat_map}
 use Rattle.std.proofs.lemmas.Result.{on_ok_weaker}

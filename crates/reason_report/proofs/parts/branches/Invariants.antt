@@ -1,4 +1,4 @@
-use Rattle.std.proofs.Common.{ℕ, ◌≡◌, ◌≤◌, ◌+◌, ◌++◌, drop, map, length}
+use Rattle.std.proofs.Common.{◌≡◌, ◌+◌, ◌++◌, drop, map, length}
 use Rattle.refutation_laws.specs.Known.{Known}
 use Rattle.reason_report.specs.Steps.{branches_with}
 use Rattle.reason_report.specs.inner.Parts.{AreBelow, parts_of, branch_in}
