@@ -10,6 +10,7 @@ pub mod CommandLemmas
 pub mod Joined
 pub mod Rechecked
 pub mod Replayed
+mod ExplainedLemmas
 pub mod MachineLemmas
 mod SameStates
 mod SweptLines

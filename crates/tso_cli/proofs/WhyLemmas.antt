@@ -80,7 +80,7 @@ no-run Sequential t nodes depth choices laws test refuted is ended =
     (λ over. never-so t.condition (registers_in (run t 0 choices).state) (run t 0 choices).state.memory
     (laws.sequential t (asked t.condition) nodes choices test (laws.names t test) refuted over)) ended
 
-refutation-means : (t : Litmus) (model : Model) (json : Bool) (nodes : List Node) → Refuting → IsTest t → refutes model t (asked t.condition) nodes ≡ true
+pub refutation-means : (t : Litmus) (model : Model) (json : Bool) (nodes : List Node) → Refuting → IsTest t → refutes model t (asked t.condition) nodes ≡ true
     → PrintsRefutation t model json (refutation_in json model t nodes)
 refutation-means t model json nodes laws test refuted = record {
   nodes = nodes;
@@ -101,7 +101,7 @@ led-choices-spell t depth choices order reaching test lead =
     subst (λ text. SpellsChoices (length t.programs) text choices) (append-nil (printed_choices choices))
     (reaching.spelled (length t.programs) choices [] (omega arith) lead.cores (omega arith) refl)
 
-execution-means : (t : Litmus) (e : Explanation) (json : Bool) (out : List ℕ) → Reaching → IsTest t → IsAllowedAnswer t e json out → PrintsExecutionOf t e.model json out
+pub execution-means : (t : Litmus) (e : Explanation) (json : Bool) (out : List ℕ) → Reaching → IsTest t → IsAllowedAnswer t e json out → PrintsExecutionOf t e.model json out
 execution-means t e json out reaching test is = record {
   order = is.order;
   choices = is.choices;

@@ -14,6 +14,7 @@ pub mod OneText
 pub mod OneSearch
 pub mod OneReason
 pub mod Revisited
+pub mod Explained
 pub mod Machines
 pub mod Hints
 pub mod inner

@@ -11,11 +11,13 @@ ghost use Rattle.tso_model.specs.declared.choice.Choice.{Choice};
 ghost use Rattle.tso_model.specs.declared.execution.Entry.{Entry};
 ghost use Rattle.tso_laws.specs.Along.{choices_along, LeadTo};
 ghost use Rattle.tso_laws.specs.Depth.{needed};
+ghost use Rattle.refutation_laws.specs.Models.{depth_of};
 ghost use Rattle.protocol_tables.specs.declared.kind.ProtocolKind.{ProtocolKind};
 ghost use Rattle.machine_core.specs.Configuration.{Configuration};
 ghost use Rattle.tso_cli.specs.Answers.{IsAnswer};
 ghost use Rattle.commands.specs.Answers.{IsCheckAnswer};
 ghost use Rattle.commands.specs.CheckLines.{valid_line};
+ghost use Rattle.tso_cli.specs.Explained.{IsExplained};
 ghost use Rattle.tso_cli.specs.Fitting.{ChoicesAreCounted, EndedRunsFit, SweptCountsFit};
 ghost use Rattle.tso_cli.specs.Headline.{Headline};
 ghost use Rattle.tso_cli.specs.RunHeadline.{PrintsExecution};
@@ -23,6 +25,7 @@ ghost use Rattle.tso_cli.specs.inner.ReadOneWay.{AreReadOneWay};
 ghost use Rattle.command_line.specs.Limits.{IsWithinLimits};
 ghost use Rattle.tso_cli.specs.OneText.{GivesOneAnswer, ShowTheSameStates};
 ghost use Rattle.tso_cli.specs.Revisited.{AreRevisited};
+ghost use Rattle.command_line.specs.Explanation.{Explanation};
 ghost use Rattle.command_line.specs.Search.{Search};
 ghost use Rattle.commands.specs.Dividing.{parts_of, joined, IsJoinable};
 ghost use Rattle.simulator.specs.Simulation.{IsEndingOf};
@@ -212,4 +215,25 @@ pub fn searches_reach_their_states()
     joined_parts_are_separated();
     ends_are_what_tso_allows();
     choices_to_an_end_are_counted();
+}
+
+/// The choices that `why` prints with an execution, handed to `run` on the atomic bus with the same test, at depth 32 for TSO and 0 for
+/// sequential consistency, are answered with the report of a run that ended with the order of that very execution, and with the status
+/// of success, whatever the protocol and the shape of the caches: no choice stalled, and none was left over. Where none is printed, a
+/// refutation is.
+pub fn reasons_reach_their_executions()
+    ensures { (kind : ProtocolKind) (c : Configuration) (plan : Explanation) (json told : Bool) (input out : List ℕ)
+        → c.bus ≡ Atomic → c.depth ≡ depth_of plan.model → IsWithinLimits (Settings.Run kind c json) → IsJoinable (parts_of input).test
+        → IsAnswer (Settings.Why plan told) (Some input) out Good
+        → IsExplained kind c json plan.model told (parts_of input).test out }
+{
+    texts_are_read_one_way();
+    every_execution_is_reached();
+    smaller_depths_never_reach();
+    runs_are_counted();
+    printed_choices_are_spelled();
+    joined_parts_are_separated();
+    refuted_questions_are_answered();
+    refuted_claims_are_false();
+    no_run_makes_a_refuted_claim_true();
 }

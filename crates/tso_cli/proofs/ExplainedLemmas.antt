@@ -1,0 +1,68 @@
+-- What `run` answers to the choices that `why` prints.
+use Rattle.std.proofs.Common.{◌≡◌, ℕ, Bool, List, length, refl, sym, subst, arith}
+use Rattle.tso_model.specs.Litmus.{Litmus, IsTest}
+use Rattle.tso_model.specs.Runs.{run}
+use Rattle.tso_model.specs.declared.choice.Bus.TheVariants.{Atomic}
+use Rattle.tso_model.specs.declared.choice.Choice.{Choice}
+use Rattle.tso_model.specs.declared.execution.Entry.{Entry}
+use Rattle.tso_laws.specs.Along.{LeadTo}
+use Rattle.litmus_reader.specs.Spelling.{SpellsTest}
+use Rattle.refutation_laws.specs.Models.{depth_of}
+use Rattle.scheduler.specs.Grammar.{SpellsChoices}
+use Rattle.scheduler.specs.Printed.{printed_choices}
+use Rattle.protocol_tables.specs.declared.kind.ProtocolKind.{ProtocolKind}
+use Rattle.machine_core.specs.Configuration.{Configuration}
+use Rattle.simulator.specs.Runs.{counts_under}
+use Rattle.simulator.specs.Simulation.{shown_of}
+use Rattle.command_line.specs.Explanation.{Explanation}
+use Rattle.command_line.specs.declared.settings.Settings.TheVariants as settings
+use Rattle.commands.specs.Dividing.{parts_of, joined}
+use Rattle.commands.specs.Why.{IsWhyAnswer, never, allowed, too_many}
+use Rattle.commands.specs.declared.answer.Status.{Status}
+use Rattle.commands.specs.declared.answer.Status.TheVariants.{Good}
+use Rattle.tso_cli.specs.Answers.{IsInputAnswer, too_large, refused, answered}
+use Rattle.tso_cli.specs.Explained.{AreRunAgain, IsExplained, never, allowed}
+use Rattle.tso_cli.specs.inner.ReadOneWay.{AreReadOneWay}
+use Rattle.tso_cli.proofs.Replayed.{choices-short, replayed-joined}
+use Rattle.tso_cli.proofs.WitnessLemmas.{Reaching, choices-few}
+use Rattle.tso_cli.proofs.WhyLemmas.{Refuting, refutation-means, execution-means}
+
+run-again : (kind : ProtocolKind) (c : Configuration) (json : Bool) (test : List ℕ) (t : Litmus) (choices : List Choice) (order : List Entry) → AreReadOneWay → Reaching → c.bus ≡ Atomic
+    → SpellsTest test t → (parts_of (joined test (printed_choices choices)) ≡ record { test = test; rest = printed_choices choices })
+    → SpellsChoices (length t.programs) (printed_choices choices) choices → LeadTo t c.depth choices order → AreRunAgain kind c json test t choices order
+run-again kind c json test t choices order texts reaching atomic spelled separated spells lead answer status answered_so =
+    let fits = texts.test test t spelled in
+    let cores = fits.cores in
+    let few = choices-few t c.depth choices order reaching fits lead in
+    let short = choices-short (length t.programs) choices (omega arith) lead.cores in
+    let answers = replayed-joined kind c json test (printed_choices choices) (joined test (printed_choices choices)) answer status t choices texts refl separated
+    (omega arith) spelled spells atomic lead.ended answered_so in (
+      record {
+        shown = shown_of t (counts_under t kind c choices) (run t c.depth choices);
+        printed = answers.0;
+        reached = lead.commits;
+        stalled = lead.stalled;
+        unused = lead.unused;
+      },
+      answers.1,
+    )
+
+module _ (kind : ProtocolKind) (c : Configuration) (e : Explanation) (json told : Bool) (input : List ℕ) (texts : AreReadOneWay) (reaching : Reaching) (laws : Refuting)
+    (atomic : c.bus ≡ Atomic) (depth : c.depth ≡ depth_of e.model)
+    (separated : (rest : List ℕ) → parts_of (joined (parts_of input).test rest) ≡ record { test = (parts_of input).test; rest = rest }) where
+  of-a-test : (t : Litmus) (out : List ℕ) (status : Status) → SpellsTest (parts_of input).test t → status ≡ Good → IsWhyAnswer t e told out status
+      → IsExplained kind c json e.model told (parts_of input).test out
+  of-a-test t _ _ spelled good (never nodes refuted) =
+      never t spelled (refutation-means t e.model told nodes laws (texts.test (parts_of input).test t spelled) refuted)
+  of-a-test t _ _ spelled good (allowed out is) =
+      let said = execution-means t e told out reaching (texts.test (parts_of input).test t spelled) is in
+      allowed t spelled said
+      (run-again kind c json (parts_of input).test t said.choices said.order texts reaching atomic spelled (separated (printed_choices said.choices)) said.spelled
+      (subst (λ d. LeadTo t d said.choices said.order) (sym depth) said.lead))
+  of-a-test t _ _ spelled good (too_many more fewer) = absurd (let no : ⊥ = cc in no)
+
+  pub explained : (out : List ℕ) (status : Status) → status ≡ Good → IsInputAnswer (settings.Why e told) input out status
+      → IsExplained kind c json e.model told (parts_of input).test out
+  explained _ _ good (too_large large) = absurd (let no : ⊥ = cc in no)
+  explained _ _ good (refused fault small is) = absurd (let no : ⊥ = cc in no)
+  explained _ _ good (answered t out status small spelled is) = of-a-test t out status spelled good is

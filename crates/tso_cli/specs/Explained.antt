@@ -1,0 +1,39 @@
+-- The choices that `why` prints, handed to `run`: they end with the order of the execution that was printed, so it can be seen to come up.
+use Rattle.std.specs.Prelude.{◌≡◌, ℕ, Bool, List, Some}
+use Rattle.tso_model.specs.Litmus.{Litmus}
+use Rattle.tso_model.specs.declared.choice.Choice.{Choice}
+use Rattle.tso_model.specs.declared.execution.Entry.{Entry}
+use Rattle.litmus_reader.specs.Spelling.{SpellsTest}
+use Rattle.refutation_laws.specs.declared.model.Model.{Model}
+use Rattle.scheduler.specs.Printed.{printed_choices}
+use Rattle.protocol_tables.specs.declared.kind.ProtocolKind.{ProtocolKind}
+use Rattle.machine_core.specs.Configuration.{Configuration}
+use Rattle.tso_report.specs.Shown.{Shown}
+use Rattle.command_line.specs.declared.settings.Settings.TheVariants as settings
+use Rattle.commands.specs.Dividing.{joined}
+use Rattle.commands.specs.RunTexts.{report_in}
+use Rattle.commands.specs.declared.answer.Status.{Status}
+use Rattle.commands.specs.declared.answer.Status.TheVariants.{Good}
+use Rattle.tso_cli.specs.Answers.{IsAnswer}
+use Rattle.tso_cli.specs.WhyHeadline.{PrintsRefutation, PrintsExecutionOf}
+
+-- what is written is the report of a run that ended with this very order; none of its choices stalled, and none was left over
+pub record ReportsExecution (t : Litmus) (kind : ProtocolKind) (c : Configuration) (json : Bool) (order : List Entry) (out : List ℕ) : Type 0 where
+  pub shown : Shown
+  pub printed : out ≡ report_in json t kind c shown
+  pub reached : shown.order ≡ order
+  pub stalled : shown.stalled ≡ 0
+  pub unused : shown.unused ≡ 0
+
+-- whatever `run` answers to these choices, put after the test and a dividing line, is such a report, and a success
+abbrev pub AreRunAgain : ProtocolKind → Configuration → Bool → List ℕ → Litmus → List Choice → List Entry → Type 0
+AreRunAgain kind c json test t choices order =
+    (answer : List ℕ) (status : Status)
+    → IsAnswer (settings.Run kind c json) (Some (joined test (printed_choices choices))) answer status
+    → ReportsExecution t kind c json order answer × (status ≡ Good)
+
+-- of the given test a refutation was printed, or an execution whose choices are run again so
+pub data IsExplained (kind : ProtocolKind) (c : Configuration) (json : Bool) (model : Model) (told : Bool) (test out : List ℕ) : Type 0 where
+  never : (t : Litmus) → SpellsTest test t → PrintsRefutation t model told out → IsExplained kind c json model told test out
+  allowed : (t : Litmus) → SpellsTest test t → (said : PrintsExecutionOf t model told out)
+      → AreRunAgain kind c json test t said.choices said.order → IsExplained kind c json model told test out
