@@ -214,6 +214,7 @@ def contract_of(crate, function):
 LAWS = {
     "answers": (
         ("tso_cli", "answer_to inputs_have_one_answer printed_runs_are_valid witnesses_reach_their_orders"
+         " reasons_reach_their_executions"
          " machines_on_the_atomic_bus_answer_alike"),
         ("litmus_reader", "texts_are_decided"),
     ),

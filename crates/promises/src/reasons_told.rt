@@ -22,6 +22,10 @@ ghost use Rattle.reason_report.specs.Printed.{allowed_in, refutation_in, unfinis
 ghost use Rattle.command_line.specs.Explanation.{Explanation, IsExplanationWithinLimits};
 ghost use Rattle.command_line.specs.declared.settings.Settings.{Settings};
 ghost use Rattle.commands.specs.Dividing.{parts_of};
+ghost use Rattle.protocol_tables.specs.declared.kind.ProtocolKind.{ProtocolKind};
+ghost use Rattle.machine_core.specs.Configuration.{Configuration};
+ghost use Rattle.commands.specs.RunTexts.{report_in};
+ghost use Rattle.tso_cli.specs.Explained.{ReportsExecution};
 ghost use Rattle.tso_cli.specs.Headline.{InputHeadline};
 ghost use Rattle.tso_cli.specs.OneReason.{AreOneReason, GivesNoReason};
 ghost use Rattle.tso_cli.specs.WhyHeadline.{IsSoIn, IsDepthOf, PrintsRefutation, PrintsExecutionOf};
@@ -84,6 +88,18 @@ pub fn a_text_without_a_reason_names_its_limit()
         → HasMoreCases plan.model t plan.cases }
     ensures fewer { (t : Litmus) (plan : Explanation) (json : Bool) (out : List ℕ) (said : GivesNoReason t plan json out)
         → plan.cases < most_cases t }
+{}
+
+/// Choices that were printed with an execution, run again, report that very execution.
+pub fn a_printed_execution_is_run_again()
+    ensures printed { (t : Litmus) (kind : ProtocolKind) (c : Configuration) (json : Bool) (order : List Entry) (out : List ℕ)
+        (said : ReportsExecution t kind c json order out) → out ≡ report_in json t kind c said.shown }
+    ensures reached { (t : Litmus) (kind : ProtocolKind) (c : Configuration) (json : Bool) (order : List Entry) (out : List ℕ)
+        (said : ReportsExecution t kind c json order out) → said.shown.order ≡ order }
+    ensures stalled { (t : Litmus) (kind : ProtocolKind) (c : Configuration) (json : Bool) (order : List Entry) (out : List ℕ)
+        (said : ReportsExecution t kind c json order out) → said.shown.stalled ≡ 0 }
+    ensures unused { (t : Litmus) (kind : ProtocolKind) (c : Configuration) (json : Bool) (order : List Entry) (out : List ℕ)
+        (said : ReportsExecution t kind c json order out) → said.shown.unused ≡ 0 }
 {}
 
 /// A search for a reason tells from 1 to 1,000,000 cases apart.
