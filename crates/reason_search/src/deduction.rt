@@ -1,16 +1,14 @@
 //! What follows from the answers of a branch: orders of writes, edges from reads, sources that a read can't have, and values that a
 //! true proposition wants, backwards through sources and stores.
 
-use crate::branch::{
-    Branch, Conflict, UNKNOWN, after, look_at, look_at_readers, note_known, note_wanted,
-    put_before, value_known, value_wanted,
-};
+use crate::branch::{Branch, Conflict, UNKNOWN, after, look_at, look_at_readers};
+use crate::edges::put_before;
+use crate::notes::{note_known, note_wanted, value_known, value_wanted};
 use crate::problem::{Problem, Relations, Term, final_term, location, term_of, writes};
 use crate::rows::{NONE, is_empty, lowest, rest, row, word};
-use std::alloc::Global;
 use tso_model::{Cond, NoMemory, Prop, Quantifier, Test};
 
-fn sum(first: u64, second: u64) -> u64 {
+pub fn sum(first: u64, second: u64) -> u64 {
     if first == UNKNOWN || second == UNKNOWN {
         UNKNOWN
     } else {
@@ -29,25 +27,6 @@ pub fn written(problem: &Problem, branch: &Branch, w: usize) -> u64 {
         Term::Of(r) => value_known(branch, r),
         Term::Plus(r, value) => sum(value_known(branch, r), u64::from(value)),
         Term::Sum(r, q) => sum(value_known(branch, r), value_known(branch, q)),
-    }
-}
-
-fn likely(problem: &Problem, branch: &Branch, r: usize) -> u64 {
-    let known = value_known(branch, r);
-    if known == UNKNOWN {
-        value_wanted(problem, branch, r)
-    } else {
-        known
-    }
-}
-
-/// What a write writes if each read returns what it has to.
-pub fn likely_written(problem: &Problem, branch: &Branch, w: usize) -> u64 {
-    match term_of(problem, w) {
-        Term::Number(value) => u64::from(value),
-        Term::Of(r) => likely(problem, branch, r),
-        Term::Plus(r, value) => sum(likely(problem, branch, r), u64::from(value)),
-        Term::Sum(r, q) => sum(likely(problem, branch, r), likely(problem, branch, q)),
     }
 }
 
@@ -123,8 +102,6 @@ fn want_written(
         }
     }
 }
-
-// ---- the proposition
 
 fn is_excluded(branch: &Branch, r: usize, value: u64) -> bool {
     for (q, number) in &branch.excluded {
@@ -333,15 +310,6 @@ pub fn is_wrong_value(problem: &Problem, branch: &Branch, test: &Test, r: usize,
     let value = written(problem, branch, w);
     value != UNKNOWN && is_wrong(problem, branch, test, r, value)
 }
-
-/// Whether a write has another value than a read wants, if each read returns what it has to.
-pub fn is_unlikely(problem: &Problem, branch: &Branch, r: usize, w: usize) -> bool {
-    let value = likely_written(problem, branch, w);
-    let wanted = value_wanted(problem, branch, r);
-    value != UNKNOWN && wanted != UNKNOWN && value != wanted
-}
-
-// ---- writes and reads
 
 /// Writes that are after this one by one of the relations are after it in coherence.
 pub fn look_at_write(problem: &Problem, branch: &mut Branch, a: usize) -> Result<bool, NoMemory> {

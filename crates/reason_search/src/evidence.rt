@@ -1,6 +1,7 @@
 //! Why a case is closed: a leaf, and the answers that it uses.
 
-use crate::branch::{Branch, Edge, Label, source_of};
+use crate::branch::{Branch, Edge, Label};
+use crate::notes::source_of;
 use crate::paths::{Paths, begin, edge_at, find, start_from};
 use crate::problem::{Problem, Relations};
 use crate::rows::{NONE, add, at, has, put};

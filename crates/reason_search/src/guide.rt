@@ -1,11 +1,14 @@
 //! What a search proposes: nodes of a tree, from the root on, or the order of an execution. Where more cases are open than it
 //! proposed nodes for, each is looked at for itself.
 
-use crate::branch::{Answer, Branch, Mark, cell, mark_here, note, put_before};
+use crate::again::hunt_again;
+use crate::branch::{Answer, Branch, Mark, cell, mark_here};
 use crate::choosing::{Ask, choose};
+use crate::edges::put_before;
 use crate::growing::{leaves_of, list_nodes};
-use crate::hunting::{Find, Hunt, hunt_again, hunt_for, make_hunt, start_anew};
+use crate::hunting::{Find, Hunt, hunt_for, make_hunt, start_anew};
 use crate::looking::{deduce, put_source};
+use crate::notes::note;
 use crate::ordering::make_order;
 use crate::problem::{Problem, event, make_problem};
 use crate::reasoning::{add_conflict, wrap};

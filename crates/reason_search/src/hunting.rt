@@ -1,15 +1,14 @@
 //! The search: questions are asked, what follows is noted, and where a branch is closed its tree is made and the next answer tried.
 //! An answer that its tree doesn't use is no question: the tree stands in its place.
 
-use crate::branch::{Branch, Mark, look_at, look_at_all, make_branch, mark_here, put_before, undo};
+use crate::branch::{Branch, Mark, look_at_all, make_branch, mark_here, undo};
 use crate::choosing::{Ask, choose, lateness, list_sources};
-use crate::deduction::want_asked;
+use crate::edges::put_before;
 use crate::looking::{deduce, put_source};
+use crate::offers::{Desk, make_desk};
 use crate::problem::{Problem, location, writes};
-use crate::reasoning::{
-    Desk, add_conflict, add_order_question, add_source_question, make_desk, wrap,
-};
-use crate::rows::{NONE, at, clear, has, join, put, remove, row};
+use crate::reasoning::{add_conflict, add_order_question, add_source_question, wrap};
+use crate::rows::{NONE, at, clear, has, join, put, put_word, remove, row, word};
 use std::alloc::Global;
 use tso_model::{NoMemory, Test};
 
@@ -104,7 +103,7 @@ fn put_program_order(problem: &Problem, branch: &mut Branch) -> Result<(), NoMem
     Ok(())
 }
 
-fn random(hunt: &mut Hunt) -> u64 {
+pub fn random(hunt: &mut Hunt) -> u64 {
     let mut seed = hunt.seed;
     seed ^= seed.wrapping_mul(8192);
     seed ^= seed / 128;
@@ -235,8 +234,8 @@ fn finish(
     let start = used_start(hunt);
     let width = hunt.used_width;
     for k in 0..width {
-        let bits = crate::rows::word(&hunt.used, start.wrapping_add(k));
-        crate::rows::put_word(&mut hunt.desk.used, k, bits);
+        let bits = word(&hunt.used, start.wrapping_add(k));
+        put_word(&mut hunt.desk.used, k, bits);
     }
     hunt.desk.above = hunt.branch.facts.len();
     let mut trees = (NONE, NONE);
@@ -275,7 +274,7 @@ fn keep_or_jump(hunt: &mut Hunt, frame: &Frame, tree: usize) -> Result<bool, NoM
 }
 
 /// Goes back from a closed branch to the next answer that is open. The tree where there is none.
-fn go_back(problem: &Problem, hunt: &mut Hunt, test: &Test) -> Result<usize, NoMemory> {
+pub fn go_back(problem: &Problem, hunt: &mut Hunt, test: &Test) -> Result<usize, NoMemory> {
     let width = hunt.used_width;
     clear(&mut hunt.desk.used, 0, width);
     let mut tree = add_conflict(problem, &hunt.branch, &mut hunt.desk, test)?;
@@ -306,7 +305,7 @@ fn go_back(problem: &Problem, hunt: &mut Hunt, test: &Test) -> Result<usize, NoM
 }
 
 /// Searches until all is closed, or a branch is open to the end, or it pauses.
-fn search(problem: &Problem, hunt: &mut Hunt, test: &Test) -> Result<Find, NoMemory> {
+pub fn search(problem: &Problem, hunt: &mut Hunt, test: &Test) -> Result<Find, NoMemory> {
     for _case in 0..u64::MAX {
         hunt.cases = hunt.cases.wrapping_add(1);
         if hunt.cases > hunt.pause || hunt.branch.is_full {
@@ -346,48 +345,6 @@ pub fn start_anew(problem: &Problem, hunt: &mut Hunt, start: &Mark) {
         let _last = hunt.desk.trees.events.pop();
     }
     hunt.round = hunt.round.wrapping_add(1);
-}
-
-/// Looks at one event after the other in an order of chance, with all that follows. False where that closes the branch.
-fn look_by_chance(problem: &Problem, hunt: &mut Hunt, test: &Test) -> Result<bool, NoMemory> {
-    let width = problem.width;
-    if !want_asked(problem, &mut hunt.branch, test)? {
-        return Ok(false);
-    }
-    hunt.branch.claim_is_dirty = false;
-    clear(&mut hunt.branch.dirty, 0, width);
-    for _event in 0..problem.size {
-        let number = random(hunt);
-        let a = (number % (problem.size.max(1) as u64)) as usize;
-        look_at(&mut hunt.branch, a);
-        if !deduce(problem, &mut hunt.branch, test)? {
-            return Ok(false);
-        }
-    }
-    look_at_all(problem, &mut hunt.branch);
-    Ok(true)
-}
-
-/// Begins anew, with another order in which things follow, and looks at so many cases at most: it may find a smaller tree.
-///
-/// Errors: out of memory only.
-pub fn hunt_again(
-    problem: &Problem,
-    hunt: &mut Hunt,
-    test: &Test,
-    start: &Mark,
-    most: u64,
-) -> Result<Find, NoMemory> {
-    start_anew(problem, hunt, start);
-    hunt.pause = hunt.cases.wrapping_add(most);
-    if look_by_chance(problem, hunt, test)? {
-        return search(problem, hunt, test);
-    }
-    let tree = go_back(problem, hunt, test)?;
-    if tree == NONE {
-        return Ok(Find::Paused);
-    }
-    Ok(Find::Refuted(tree))
 }
 
 /// Searches with pauses, after each of which it begins anew with what it learnt of which questions matter: at most so many cases.

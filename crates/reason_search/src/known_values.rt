@@ -1,8 +1,9 @@
 //! Values that answers tell, read by read: and whether what is asked is false by them, with the answers by which it is.
 
-use crate::branch::{Branch, UNKNOWN, cell, source_of};
+use crate::branch::{Branch, UNKNOWN, cell};
 use crate::deduction::asked_truth;
 use crate::evidence::{Evidence, need};
+use crate::notes::source_of;
 use crate::problem::{Problem, Term, final_term, is_initial, reads, term_of};
 use crate::rows::{NONE, add, at, clear, has, is_empty, put_word, row};
 use std::alloc::Global;

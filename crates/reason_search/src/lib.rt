@@ -2,15 +2,23 @@
 //! judged elsewhere. So its contracts say nothing but that it is safe and ends.
 #![tactic(auto)]
 
+pub mod again;
 pub mod branch;
 pub mod choosing;
+pub mod closing;
 pub mod deduction;
+pub mod edges;
 pub mod evidence;
 pub mod growing;
 pub mod guide;
 pub mod hunting;
 pub mod known_values;
+pub mod last_words;
+pub mod likelihood;
 pub mod looking;
+pub mod naming;
+pub mod notes;
+pub mod offers;
 pub mod ordering;
 pub mod paths;
 pub mod problem;

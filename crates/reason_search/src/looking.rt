@@ -1,12 +1,15 @@
 //! What follows at a read and at a location, and all that follows in a branch.
 
 use crate::branch::{
-    Answer, Branch, Conflict, Label, add_edge, after, before, candidates, change, is_known,
-    look_at, look_at_readers, note, note_removed, put_before, source_of,
+    Answer, Branch, Conflict, Label, after, before, candidates, change, is_known, look_at,
+    look_at_readers,
 };
 use crate::deduction::{is_wrong_value, look_at_write, match_values, want_asked};
+use crate::edges::{add_edge, put_before};
+use crate::last_words::look_at_last;
+use crate::notes::{note, note_removed, source_of};
 use crate::problem::{Problem, Relations, event, is_initial, location, reads, writes};
-use crate::rows::{NONE, at, bit, has, is_empty, lowest, put, put_word, rest, row, word};
+use crate::rows::{NONE, at, bit, has, lowest, put, put_word, rest, row, word};
 use tso_model::{Kind, NoMemory, Test};
 
 /// Whether a read from this write is an edge of the global relations.
@@ -98,7 +101,7 @@ fn add_from_reads(
 }
 
 /// Each of these writes but `own` is before `w`.
-fn put_all_before(
+pub fn put_all_before(
     problem: &Problem,
     branch: &mut Branch,
     k: usize,
@@ -179,7 +182,7 @@ fn word_after(problem: &Problem, branch: &Branch, relations: Relations, a: usize
     word(&branch.rows, after(problem, relations, a).wrapping_add(k))
 }
 
-fn word_before(
+pub fn word_before(
     problem: &Problem,
     branch: &Branch,
     relations: Relations,
@@ -304,59 +307,6 @@ fn look_at_open(
         return Ok(true);
     }
     put_source(problem, branch, r, only, false)
-}
-
-/// Whether a write can be the last one to its location.
-pub fn can_be_last(problem: &Problem, branch: &Branch, test: &Test, loc: usize, a: usize) -> bool {
-    is_empty(
-        &branch.rows,
-        after(problem, Relations::Coherence, a),
-        problem.width,
-    ) && !is_wrong_value(problem, branch, test, loc, a)
-}
-
-/// The only write to a location that can be its last one, `NONE` where there are several; and whether there is one.
-fn only_last(problem: &Problem, branch: &Branch, test: &Test, loc: usize) -> (usize, bool) {
-    let mut only = NONE;
-    for a in problem.locations..problem.size {
-        if has(&problem.writes_to, row(loc, problem.width), a)
-            && can_be_last(problem, branch, test, loc, a)
-        {
-            if only != NONE {
-                return (NONE, true);
-            }
-            only = a;
-        }
-    }
-    (only, only != NONE)
-}
-
-/// What follows at a location of which something is asked.
-fn look_at_last(
-    problem: &Problem,
-    branch: &mut Branch,
-    test: &Test,
-    loc: usize,
-) -> Result<bool, NoMemory> {
-    if is_empty(&problem.writes_to, row(loc, problem.width), problem.width) {
-        return Ok(true);
-    }
-    let (only, some) = only_last(problem, branch, test, loc);
-    if !some {
-        branch.conflict = Conflict::False;
-        return Ok(false);
-    }
-    if only == NONE {
-        return Ok(true);
-    }
-    for k in 0..problem.width {
-        let them = word(&problem.writes_to, row(loc, problem.width).wrapping_add(k));
-        let known = word_before(problem, branch, Relations::Coherence, only, k);
-        if !put_all_before(problem, branch, k, them & !known, only)? {
-            return Ok(false);
-        }
-    }
-    match_values(problem, branch, test, loc, only)
 }
 
 fn look_at_one(

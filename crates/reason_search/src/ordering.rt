@@ -1,9 +1,10 @@
 //! The order of an execution, from a branch on which each question has an answer.
 
-use crate::branch::{Branch, UNKNOWN, before, value_known};
+use crate::branch::{Branch, UNKNOWN, before};
 use crate::deduction::written;
-use crate::problem::{Problem, event, reads, writes};
-use crate::rows::{NONE, add, at, has, join, remove, row, word};
+use crate::notes::value_known;
+use crate::problem::{Problem, Relations, event, reads, writes};
+use crate::rows::{NONE, add, at, bit, has, join, remove, row, word};
 use refutations::events::is_before;
 use std::alloc::Global;
 use tso_model::{Entry, Kind, NoMemory};
@@ -15,7 +16,7 @@ fn find_waits(alloc: Global, problem: &Problem, branch: &Branch) -> Result<Vec<u
     for a in problem.locations..problem.size {
         let x = event(problem, a);
         let start = row(a, width);
-        let earlier = before(problem, crate::problem::Relations::Global, a);
+        let earlier = before(problem, Relations::Global, a);
         join(&mut waits, start, &branch.rows, earlier, width);
         for b in problem.locations..problem.size {
             let y = event(problem, b);
@@ -32,7 +33,7 @@ fn is_waiting(problem: &Problem, waits: &[u64], left: &[u64], a: usize, but: usi
     for k in 0..problem.width {
         let mut bits = word(waits, row(a, problem.width).wrapping_add(k)) & word(left, k);
         if but / 64 == k {
-            bits &= !crate::rows::bit(but);
+            bits &= !bit(but);
         }
         if bits != 0 {
             return true;
