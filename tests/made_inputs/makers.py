@@ -169,9 +169,11 @@ class Maker:
     # Reasons.
 
     def a_reason(self):
-        """`why` of a small test, of which a condition asks for what a run leaves, or for what may never be."""
+        """`why` of a small test, of which a condition asks for what a run leaves, or for what may never be. Many locked instructions of many
+        cores are hard to tell apart, so these have none."""
         cores, size = REASONED[self.turn % len(REASONED)]
-        text, _ = self.test(size=size, cores=cores, kinds=self.draw.choice(SEARCHED_KINDS), full=self.draw.random() < 0.8,
+        kinds = SEARCHED_KINDS if cores < 3 else SEARCHED_KINDS[:4 if cores == 3 else 3]
+        text, _ = self.test(size=size, cores=cores, kinds=self.draw.choice(kinds), full=self.draw.random() < 0.8,
                             asked=0.3, most=6, bare=self.turn % 12 == 7)
         cases = (None, None, 1_000_000, 1, 2, self.draw.randrange(3, 50))[self.turn // len(REASONED) % 6]
         words = command_lines.why(self.draw, cases)
