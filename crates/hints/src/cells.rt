@@ -15,7 +15,7 @@ const NO_INSTRUCTION: &str = " is not one of MOV, MFENCE, XCHG, LOCK XADD";
 const NO_REGISTER: &str = " is none of EAX, EBX, ECX, EDX, ESI, EDI; a location is written [x]";
 
 const NO_LOCATION: &str =
-    " names no location, and addresses in registers aren't read: [ ] has a location's own name, as [x]";
+    " names no location, and addresses in registers aren't read: [ ] has a location's own name, as [x]; tools/import turns such a test into this form";
 
 /// Of the cell at the front of a text.
 ///

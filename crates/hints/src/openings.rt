@@ -248,7 +248,7 @@ pub fn bad_init<'a>(place: Place<'a>) -> Words<'a> {
     if last == b"=".as_slice() && begins_with_letter(token) {
         return naming(
             token,
-            " is no number, and addresses in registers aren't read: an instruction has its location's own name, as [x]",
+            " is no number, and addresses in registers aren't read: an instruction has its location's own name, as [x]; tools/import turns such a test into this form",
         );
     }
     naming(

@@ -60,9 +60,9 @@ pub fn search_ends<'a>(most: u32) -> Words<'a> {
 /// Of a search that may tell no more than so many cases apart.
 pub fn cases_end<'a>(most: u32) -> Words<'a> {
     around(
-        "more than ",
+        "the cases to tell apart are more than ",
         Piece::Number(most as usize),
-        " cases have to be told apart, which is --cases: raise it, or use outcomes",
+        ", which is --cases: raise it, or use outcomes",
     )
 }
 
