@@ -103,8 +103,8 @@ holds every row against it, against the program's runs, and against a plain prog
 CYCLES = """## The cycles of those that are forbidden
 
 What `./tso why` prints of each: the lines that close its cases, but for those that are false by their values. So each line is a cycle of
-the published model, `x86tso.cat`, or a write between the parts of a locked instruction. Of several the first stands here, and how many
-there are. [How to read them](../docs/DEFINITIONS.md#what-is-printed-of-reasons).
+the published model, `x86tso.cat`, or a write between the parts of a locked instruction. Of several one stands here, of the global
+relation where there is such a cycle, and how many there are. [How to read them](../docs/DEFINITIONS.md#what-is-printed-of-reasons).
 """
 
 SOURCES = """## Sources
@@ -210,9 +210,9 @@ def picture_of(program, piece):
 
 
 def cycles_of(program, piece):
-    """The lines of a forbidden test's reason that say more than values do."""
+    """The lines of a forbidden test's reason that say more than values do, those of the global relation first."""
     status, text = answer(program, ["why"], piece.text)
-    found = re.findall(r"^ *((?:Cycle|Uniproc|Between) .*)$", text, re.MULTILINE)
+    found = [line for word in ("Cycle", "Between", "Uniproc") for line in re.findall(r"^ *(%s .*)$" % word, text, re.MULTILINE)]
     return found if status == ENDED and "\nNever tso " in text else []
 
 
@@ -232,7 +232,7 @@ def page_of(program, all_pieces):
         parts += ["## " + family + "\n", about + "\n", table(TITLES, rows)]
     names = table(("Name", "Test", "TSO"), names_of(all_pieces))
     pictures = "".join(picture_of(program, piece) for piece in allowed)
-    cycles = table(("Test", "The first", "Of"), [row_of_cycles(program, piece) for piece in all_pieces if not piece.allowed])
+    cycles = table(("Test", "One", "Of"), [row_of_cycles(program, piece) for piece in all_pieces if not piece.allowed])
     return "\n".join(parts + [CYCLES, cycles, "## By the names of the manuals and of the x86-TSO papers\n", names, SOURCES, pictures])
 
 
