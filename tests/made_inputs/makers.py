@@ -1,6 +1,8 @@
 """Inputs of each kind: a command line and what it reads."""
+import functools
 import itertools
 
+import judging
 from reference import litmus, machine
 from reference.choices import STEP, DRAIN, choices_of_seed, printed_choices
 from reference.machine import Configuration
@@ -33,6 +35,12 @@ DIVIDERS = ("====\n",) * 8 + ("====\r\n",)
 # Lines that divide an input, or look so; '?' stands for the choices.
 ODD_DIVIDERS = ("====", "====\r", "====?", "====\r?", "====\r\n?", "====\r\r\n?", " ====\n?", "==== \n?", "=====\n?", "===\n?",
                 "(*\n====\n*)\n?", "\"\n====\n\"?", "====\n====\n?", "\n\n====\n?", "====\n0s\n====\r\n?")
+
+
+@functools.cache
+def gallery_tests():
+    """The texts of the gallery's tests, by their names."""
+    return [test for _, test, _ in judging.tests_in(judging.GALLERY)]
 
 
 def test_of(text):
@@ -169,15 +177,24 @@ class Maker:
     # Reasons.
 
     def a_reason(self):
-        """`why` of a small test, of which a condition asks for what a run leaves, or for what may never be. Many locked instructions of many
-        cores are hard to tell apart, so these have none."""
+        """`why` of a test: every third time one of the gallery, most of which have cycles; else a small one."""
+        text = self.a_test_of_the_gallery() if self.turn % 3 == 2 else self.a_small_test()
+        cases = (None, None, 1_000_000, 1, 2, self.draw.randrange(3, 50))[self.turn // len(REASONED) % 6]
+        words = command_lines.why(self.draw, cases)
+        return words, text if self.draw.random() < 0.7 else self.joined(text, "x y z\n====\n")
+
+    def a_test_of_the_gallery(self):
+        tests = gallery_tests()
+        return tests[self.turn // 3 % len(tests)]
+
+    def a_small_test(self):
+        """A small test, of which a condition asks for what a run leaves, or for what may never be. Many locked instructions of many cores
+        are hard to tell apart, so these have none."""
         cores, size = REASONED[self.turn % len(REASONED)]
         kinds = SEARCHED_KINDS if cores < 3 else SEARCHED_KINDS[:4 if cores == 3 else 3]
         text, _ = self.test(size=size, cores=cores, kinds=self.draw.choice(kinds), full=self.draw.random() < 0.8,
                             asked=0.3, most=6, bare=self.turn % 12 == 7)
-        cases = (None, None, 1_000_000, 1, 2, self.draw.randrange(3, 50))[self.turn // len(REASONED) % 6]
-        words = command_lines.why(self.draw, cases)
-        return words, text if self.draw.random() < 0.7 else self.joined(text, "x y z\n====\n")
+        return text
 
     # Texts with a fault.
 
