@@ -167,7 +167,7 @@ def at(value, place):
 
 def free(place):
     """Whether members at this place have names of the test's own, so that one less or one more still fits."""
-    return bool(place) and place[-1] in ("memory", "seen", "values")
+    return bool(place) and place[-1] in ("coherence", "memory", "places", "seen", "values")
 
 
 def without(name):
