@@ -12,7 +12,45 @@ function currentAddress() {
   const command = currentCommand();
   const pairs = [['test', byId('test').value], ['choices', choicesText()], ['order', byId('given').value], ['command', command]];
   const told = pairs.filter(([name, value]) => name === 'test' || (name === 'command' ? value !== 'run' : value !== ''));
-  return new URLSearchParams([...told, ...changedSettings()]).toString();
+  return new URLSearchParams([...told, ...changedSettings(), ...driven()]).toString();
+}
+
+/** Of a machine that is driven how many of the choices are made, where not all are, and the machine beside it. */
+function driven() {
+  if (!drive.isOn) return [];
+  const position = drive.count < drive.words.length ? [['at', String(drive.count)]] : [];
+  return drive.beside === null ? position : [...position, ['beside', machineName(drive.beside)]];
+}
+
+// What is shown is kept in the address as one goes, so that it is there again after a reload, or when one comes back.
+
+const kept = { timer: null, atFirst: null };
+const KEEP_AFTER = 150; // milliseconds without a change
+
+/** Keeps what is shown in the address, a little later: a browser lets a page change its address some times in a second. */
+function keepAddressSoon() {
+  clearTimeout(kept.timer);
+  kept.timer = setTimeout(keepAddress, KEEP_AFTER);
+}
+
+/** The page as it opens has no address of a test, and a picture's own stays while it is shown. */
+function keepAddress() {
+  if (!bench.tso || (shown.run !== null && !drive.isOn && byId('line').value !== '')) return;
+  drawShare();
+  const address = currentAddress();
+  if (address.length > LONGEST_ADDRESS || (address === kept.atFirst && location.hash === '')) return;
+  window.history.replaceState(null, '', '#' + address);
+}
+
+/** Copies the address of what is shown. */
+async function copyLink() {
+  const address = `${location.href.split('#')[0]}#${currentAddress()}`;
+  try {
+    await navigator.clipboard.writeText(address);
+    byId('copied').textContent = 'Copied.';
+  } catch {
+    byId('copied').textContent = 'The browser lets no page copy here: copy the address above the page.';
+  }
 }
 
 function drawShare() {
@@ -27,12 +65,16 @@ function drawShare() {
 /** Puts what an address of a test tells into the fields. */
 function openTest(fragment) {
   const told = new URLSearchParams(fragment);
+  const why = ['test', 'choices', 'order'].map(name => whyTooLong(told.get(name) ?? '')).find(each => each !== null);
+  if (why) return showSaid({ hint: '' }, why);
   putInput(told.get('test'));
   if (told.has('choices')) putChoices(told.get('choices'));
   if (told.has('order')) byId('given').value = told.get('order');
   putSettings(told);
   putCommand(told.get('command'));
+  drive.beside = otherMachines({ ...Tso.DEFAULTS, ...readSettings('run').options }).slice(1).find(machine => machineName(machine) === told.get('beside')) ?? null;
   answerNow();
+  if (drive.isOn && /^\d{1,4}$/.test(told.get('at') ?? '')) goTo(Number(told.get('at')));
 }
 
 function openPicture(fragment) {

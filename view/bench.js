@@ -30,6 +30,22 @@ function countChoices(text) {
   return drawn + (text.match(/\S+/g)?.length ?? 0);
 }
 
+/** The same choices, but no more than so many: a seed's last number is made smaller. A run that ends within these is the same run. */
+function firstChoices(text, most) {
+  const kept = [];
+  let left = most;
+  for (const [word, number, length] of text.matchAll(/\bseed\s+(\d+)\s+(\d+)|\S+/g)) {
+    if (left === 0) break;
+    const taken = length === undefined ? 1 : Math.min(left, Number(length));
+    kept.push(length === undefined ? word : `seed ${number} ${taken}`);
+    left -= taken;
+  }
+  return kept.join(' ');
+}
+
+/** What is said where nothing is written: no line is at fault. */
+const NO_TEST = { status: Tso.STATUS.refused, text: '', hint: 'There is no test yet: write one, or take one of the examples.' };
+
 /** Answers what is written: at once, or for a long command only whether the test is refused. A run that can be driven begins at its
  * start or is shown at its end. */
 function answerNow(isAtStart = false) {
@@ -37,9 +53,13 @@ function answerNow(isAtStart = false) {
   stopTask();
   const command = currentCommand(), { wrong, options } = readSettings(command);
   drawShare();
+  keepAddressSoon();
+  showTestLine(command);
   byId('words-line').replaceChildren(...commandWords(command).split(' ').flatMap(word => [html('span', { class: 'unbroken' }, word), ' ']));
   byId('begin').disabled = wrong !== undefined;
+  if (wrong) byId('test-part').open = true;
   if (wrong) showSaid({ text: '', hint: '' }, wrong);
+  else if (command !== 'tables' && byId('test').value.trim() === '') showAnswer(NO_TEST);
   else if (LONG.includes(command)) showRefusalAlone();
   else if (command === 'run' && countChoices(choicesText()) > LONG_RUN) begin();
   else if (command === 'run') answerRun(options, isAtStart === true);
@@ -96,6 +116,7 @@ function showAnswer(answer) {
   hideRun();
   byId('states').replaceChildren();
   markRefusal(answer.text);
+  if (answer.status === Tso.STATUS.refused) byId('test-part').open = true;
   showSaid(answer, isText ? '' : answer.text.trim());
   byId('report-part').hidden = !isText;
   byId('report').textContent = isText ? answer.text : '';
@@ -105,6 +126,7 @@ function showAnswer(answer) {
 /** Shows an answer that has no picture. */
 function showOpenAnswer(answer) {
   showAnswer(answer);
+  showJudged(currentCommand(), answer);
   byId('report-part').open = true;
 }
 
@@ -115,7 +137,7 @@ const PLAIN_WORDS = {
 
 function showSaid({ status, hint }, said) {
   byId('said').textContent = PLAIN_WORDS[status] ?? said;
-  byId('hint').textContent = hint.trim();
+  byId('hint').textContent = pageHint(hint);
 }
 
 // Long commands.
@@ -130,14 +152,14 @@ function stopTask() {
 async function begin() {
   const command = currentCommand(), { options } = readSettings(command);
   stopTask();
-  const task = bench.task = beginTask(bench.bytes, questionsOf(command, options), inputOf(command));
+  const input = inputOf(command), task = bench.task = beginTask(bench.bytes, questionsOf(command, options), input);
   if (command === 'run') showAnswer({ status: 0, text: '', hint: '' });
   byId('stop').hidden = byId('busy').hidden = false;
   try {
     const [answer, line] = await task.answers;
     if (bench.task !== task) return;
     stopTask();
-    if (command === 'run') showLongRun(answer, line);
+    if (command === 'run') showLongRun(answer, line, options, input);
     else if (command === 'outcomes' && answer.status === Tso.STATUS.good) showOutcomes(answer);
     else showOpenAnswer(answer);
   } catch (fault) {
@@ -152,7 +174,11 @@ function questionsOf(command, options) {
   return command === 'run' ? [options, { ...options, json: true }] : [{ ...options, json: command === 'outcomes' }];
 }
 
-function showLongRun(answer, line) {
+function showLongRun(answer, line, options, input) {
+  if (answer.status === Tso.STATUS.good && line !== undefined) {
+    showAnswer(answer);
+    if (showDriven(options, input, false)) return;
+  }
   const isDrawn = answer.status === Tso.STATUS.good;
   showAnswer(answer);
   byId('report-part').open = !isDrawn;

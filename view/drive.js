@@ -97,8 +97,10 @@ function stopBefore(words) {
   return false;
 }
 
+const sayOfDriving = sentence => byId('sentence').textContent = sentence;
+
 function refuseMore() {
-  byId('sentence').textContent = `The machine is shown for at most ${MOST_STEPS} choices, which are made. More go into the field of choices: their run is shown without steps.`;
+  sayOfDriving(`The machine is shown for at most ${MOST_STEPS} choices, which are made. More go into the field of choices: their run is shown without steps.`);
   return false;
 }
 
@@ -137,7 +139,7 @@ function putWords() {
 
 function drawRest() {
   writeChoices();
-  drawShare();
+  keepAddress();
 }
 
 /** Shows the machines after so many choices. */
@@ -155,15 +157,17 @@ function moveDriven(name) {
 
 /** Draws choices of a seed: they come next, and aren't made yet. */
 function drawSeed() {
-  const seed = byId('drive-seed').value.trim();
-  if (!drive.isOn || isAtEnd(drive.count) || !/^\d{1,18}$/.test(seed)) return;
+  const seed = byId('drive-seed').value.trim(), isSeed = /^\d{1,18}$/.test(seed);
+  byId('drive-seed').setAttribute('aria-invalid', String(!isSeed));
+  if (!drive.isOn || isAtEnd(drive.count)) return;
+  if (!isSeed) return sayOfDriving('A seed is a whole number of at most 18 digits.');
   const made = drive.words.slice(0, drive.count), length = MOST_STEPS - made.length;
   if (length === 0) return refuseMore();
   const { history } = historyOf(firstHistory().options, inputOfWords([...made, 'seed', seed, length]));
-  if (!history) return;
+  if (!history) return sayOfDriving('The machine takes no choices of this seed.');
   beginDrive(history, { test: drive.test, given: null }, drive.count);
   putWords();
-  byId('sentence').textContent = `Drawn of seed ${seed}. Forward makes its choices one by one, and Play goes through them.`;
+  sayOfDriving(`Drawn of seed ${seed}. Forward makes its choices one by one, and Play goes through them.`);
 }
 
 // Playing.

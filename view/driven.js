@@ -14,6 +14,8 @@ function showDrive() {
   byId('count').textContent = `${count} ${count === 1 ? 'choice' : 'choices'} made`;
   showMoves();
   showEnd(history);
+  showTask(history, count, shown.run);
+  keepAddressSoon();
   keepInSight();
 }
 
@@ -22,9 +24,12 @@ function keepInSight() {
   scrollPicture();
   drive.passes.keepInSight();
   for (const { panel } of drive.machines) panel.keepInSight();
-  const top = `${byId('stepper').offsetHeight}px`; // the lanes' names stand still below it
+  const top = isStepperBelow() ? '0px' : `${byId('stepper').offsetHeight}px`; // the lanes' names stand still below it
   if (byId('names').style.top !== top) byId('names').style.top = top;
 }
+
+/** Whether what one steps by stands at the lower edge of the window, as it does on a narrow one. */
+const isStepperBelow = () => matchMedia('(max-width: 560px)').matches;
 
 const startSentence = () => 'The machine at its start. Choose what a core does: step or drain.';
 
@@ -107,9 +112,18 @@ const conditionSentence = ({ proposition }) => (proposition === null ? 'Conditio
 
 const showOrder = () => byId('order').replaceChildren(...(shown.run ? [orderTable(shown.run)] : []));
 
+/** The history of an input; where it spells more choices than steps are told for, that of the first ones, if the run ends with them. */
+function historyWithin(options, input) {
+  const told = historyOf(options, input);
+  if (!told.tooMany) return told;
+  const { test, rest } = partsOf(input);
+  const { history } = historyOf(options, `${test}${DIVIDING_LINE}\n${firstChoices(rest, MOST_STEPS)}\n`);
+  return history?.hasEnded(history.steps.length) ? { history } : told;
+}
+
 /** Shows a run as a machine that is driven, `isAtStart` before its choices and else after them. Answers whether it can be. */
 function showDriven(options, input, isAtStart) {
-  const { history, tooMany } = bench.tracing ? historyOf(options, input) : {};
+  const { history, tooMany } = bench.tracing ? historyWithin(options, input) : {};
   byId('no-steps').hidden = !tooMany;
   if (!history) return false;
   byId('name').textContent = `Test ${testName()}`;

@@ -72,11 +72,12 @@ function seeChoices(isInSight) {
  * place them the browser has to lay the page out. */
 function drawLines(id, marked) {
   const field = byId(id), [gutter, band] = [byId(id + '-lines'), byId(id + '-band')];
-  const count = field.value.split('\n').length, key = `${count} ${marked}`;
+  const count = countLines(field.value), key = `${count} ${marked}`;
   if (gutter.dataset.key === key) return;
   gutter.dataset.key = key;
-  gutter.replaceChildren(...Array.from({ length: count }, (_, at) =>
-    html('span', at + 1 === marked ? { class: 'refused' } : {}, `${at + 1 === marked ? '▶' : ''}${at + 1}\n`)));
+  const numbers = (from, to) => Array.from({ length: Math.max(0, to - from + 1) }, (_, at) => `${from + at}\n`).join('');
+  if (marked === null || marked > count) gutter.replaceChildren(numbers(1, count));
+  else gutter.replaceChildren(numbers(1, marked - 1), html('span', { class: 'refused' }, `▶${marked}\n`), numbers(marked + 1, count));
   band.hidden = marked === null || marked > count;
   band.dataset.line = marked ?? '';
   placeLines(id);

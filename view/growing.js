@@ -166,8 +166,10 @@ class GrowingPicture {
     const piece = rows > PAPER.whole ? PAPER.piece : Math.max(1, rows);
     return Array.from({ length: Math.max(1, Math.ceil(rows / piece)) }, (_, at) => {
       const y = top(at * piece), end = (at + 1) * piece < rows ? top((at + 1) * piece) : bottom;
-      const parts = placed.filter(([, box]) => box.top - above < end && box.bottom - above > y).map(([part]) => part.cloneNode(true));
-      return svg('svg', { class: 'picture', width, height: end - y, viewBox: `0 ${y} ${width} ${end - y}`, role: 'img', 'aria-label': label }, ...parts);
+      const parts = placed.filter(([part, box]) => !part.matches('.names') && box.top - above < end && box.bottom - above > y).map(([part]) => part.cloneNode(true));
+      const height = end - y + HEAD;
+      return svg('svg', { class: 'picture', width, height, viewBox: `0 ${y - HEAD} ${width} ${height}`, role: 'img', 'aria-label': label },
+        ...parts, ...drawHead(this.history, this.layout, y));
     });
   }
 

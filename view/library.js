@@ -8,13 +8,16 @@ function notesOf(text) {
   return Object.fromEntries([...found].map(([, name, value]) => [name, value]));
 }
 
+/** The words of a text, for a search: letters and digits, in lower case. */
+const wordsOf = text => text.toLowerCase().split(/[^a-z0-9]+/).filter(word => word !== '');
+
 function entriesOf(texts, group) {
   return Object.entries(texts).map(([file, text]) => {
     const notes = notesOf(text);
     const verdicts = [notes.TSO && `TSO: ${notes.TSO}`, notes.SC && `SC: ${notes.SC}`];
     const said = [SHOWS[file]?.replaceAll('`', ''), notes.Asks, ...verdicts].filter(Boolean).join(' ');
     const family = notes.Family ?? group;
-    return { file, text, depth: notes.Depth, group: family, said, words: `${file} ${family} ${said} ${notes.Source ?? ''}`.toLowerCase() };
+    return { file, text, depth: notes.Depth, group: family, said, words: wordsOf(`${file} ${family} ${said} ${notes.Source ?? ''}`) };
   });
 }
 
@@ -25,10 +28,10 @@ function libraryItem(entry) {
   return html('li', {}, button, entry.said === '' ? '' : ` ${entry.said}`);
 }
 
-/** Lists the texts that have all words of the search, by family. */
+/** Lists the texts in which each word of the search begins a word, by family: so `MP` finds no *examples*. */
 function showLibrary() {
-  const words = byId('search').value.toLowerCase().split(/\s+/).filter(word => word !== '');
-  const found = LIBRARY.filter(entry => words.every(word => entry.words.includes(word)));
+  const words = wordsOf(byId('search').value);
+  const found = LIBRARY.filter(entry => words.every(word => entry.words.some(each => each.startsWith(word))));
   const groups = new Map();
   for (const entry of found) groups.set(entry.group, [...(groups.get(entry.group) ?? []), entry]);
   byId('found').textContent = `${found.length} of ${LIBRARY.length}`;

@@ -12,9 +12,19 @@ const hidden = text => html('span', { class: 'unshown' }, text);
 
 // Parts of a core.
 
-/** The registers; those that a step changed stand out. */
-function registerItems(now, before) {
-  return REGISTERS.map(name => html('li', marked(now[name] === 0 && before[name] === 0 ? 'word plain' : 'word', now[name] !== before[name]), `${name}=${now[name]}`));
+/** The registers that an instruction writes. */
+function writtenBy(instruction) {
+  const [, name, operands] = /^(?:LOCK\s+)?(\S+)\s*(.*)$/i.exec(instruction);
+  const written = /^mov$/i.test(name) ? operands.split(',')[0] : /^(xchg|xadd)$/i.test(name) ? operands : '';
+  return REGISTERS.filter(register => new RegExp(`\\b${register}\\b`).test(written.replace(/\[.*?\]/g, '')));
+}
+
+/** The registers: those that a step changed stand out, and those that none has written look faint. */
+function registerItems(now, before, written) {
+  return REGISTERS.map(name => html('li', {
+    ...marked(written.includes(name) ? 'word written' : 'word plain', now[name] !== before[name]),
+    title: written.includes(name) ? `An instruction wrote ${name}.` : `No instruction has written ${name} yet.`,
+  }, `${name}=${now[name]}`));
 }
 
 /** The stores that wait, the oldest first; after the last one that came in or left, and the room that is left. */
@@ -28,7 +38,7 @@ function bufferItems(now, before, depth) {
 }
 
 function stateCell(state, change) {
-  const badge = html('span', { class: `state state-${state[0]}${state.length > 1 ? ' transient' : ''}` }, state);
+  const badge = withMeaning({ class: `state state-${state[0]}${state.length > 1 ? ' transient' : ''}` }, state, state);
   return change ? html('td', { class: 'changed' }, `${change.before}→`, badge) : html('td', {}, badge);
 }
 
@@ -74,7 +84,8 @@ class CorePanel {
     this.step = button('step', 's');
     this.drain = button('drain', 'd');
     const isLong = this.program.length > MOST_LINES;
-    this.list = html('ol', { class: isLong ? 'program long' : 'program', start: 0 }, ...this.program.map((text, at) => html('li', { value: at }, html('code', {}, text))));
+    const named = { 'aria-label': `Program of P${this.core}`, ...(isLong ? { tabindex: 0 } : {}) };
+    this.list = html('ol', { class: isLong ? 'program long' : 'program', start: 0, ...named }, ...this.program.map((text, at) => html('li', { value: at }, html('code', {}, text))));
     this.registers = list('registers', 'Registers', registerItems);
     this.buffer = list('buffer', 'Store buffer, the oldest store first', bufferItems);
     this.lines = new Part(html('tbody', {}), cacheRows);
@@ -87,7 +98,7 @@ class CorePanel {
     const key = JSON.stringify([core, old, bus, changes, hasEnded, isLast]);
     if (key === this.key) return;
     this.key = key;
-    this.registers.show(core.registers, old.registers);
+    this.registers.show(core.registers, old.registers, this.program.slice(0, core.place).flatMap(writtenBy));
     this.buffer.show(core.buffer, old.buffer, this.depth);
     this.lines.show(core.lines, changes, bus?.state?.length > 1 ? { line: bus.line, state: bus.state } : null);
     this.showButtons(core, bus, hasEnded);
@@ -128,7 +139,7 @@ function busItems(kind, bus, step) {
   const held = bus && `P${bus.core} holds the bus for ${bus.line}` + (bus.state?.length > 1 ? `, which it awaits (${bus.state})` : '');
   const idle = kind === 'split' ? 'free' : 'free: each access has it for its own step';
   const passed = [step?.transaction, step?.flush && `flush ${step.flush}`, step?.write_back && `write-back ${step.write_back}`].filter(Boolean);
-  return [html('span', { class: held ? 'holder' : '' }, held ?? idle), ...passed.map(text => html('span', { class: 'word changed' }, text))];
+  return [html('span', { class: held ? 'holder' : '' }, held ?? idle), ...passed.map(text => withMeaning({ class: 'word changed' }, text.split(' ')[0], text))];
 }
 
 /** Each location's word in memory, and beside it the newest word where a cache has another. */

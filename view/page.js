@@ -9,6 +9,8 @@ const WRITTEN = ['test', 'choices', 'given'];
 
 /** A text that came in as a whole: a test goes to the bench, and any other is a line of a run. */
 function takeText(text) {
+  const why = whyTooLong(text);
+  if (why !== null) return saySentence(byId('line'), why);
   if (!bench.tso || !BEGINS_TEST.test(text)) return showText(text);
   const isOrder = putInput(text);
   putCommand(isOrder ? 'check' : 'run');
@@ -16,12 +18,22 @@ function takeText(text) {
   byId('bench').scrollIntoView({ block: 'nearest' });
 }
 
-const takeFile = async file => takeText(await file.text());
+async function takeFile(file) {
+  takeText(file.size > MOST_TEXT.bytes ? ' '.repeat(MOST_TEXT.bytes + 1) : await file.text());
+}
+
+/** Whether an element in which a key goes down scrolls by that key itself. */
+function scrollsBy(key, element) {
+  const scrolled = element.closest('#frame, #report, .program, .scrolls');
+  if (!scrolled) return false;
+  return key.startsWith('Arrow') ? scrolled.scrollWidth > scrolled.clientWidth : scrolled.scrollHeight > scrolled.clientHeight;
+}
 
 document.addEventListener('keydown', event => {
   if (event.ctrlKey && event.key === 'Enter' && bench.tso && !byId('begin').hidden) begin();
   const isForOthers = event.target.matches('textarea, input, select') || event.ctrlKey || event.altKey || event.metaKey || (event.shiftKey && event.key !== '+');
   if (isForOthers || !(shown.run || drive.isOn)) return;
+  if (KEYS[event.key] && scrollsBy(event.key, event.target)) return;
   if (KEYS[event.key]) move(KEYS[event.key]);
   else if (!drive.isOn || !driveByKey(event.key)) return;
   event.preventDefault();
@@ -52,6 +64,7 @@ document.addEventListener('drop', event => {
 });
 new IntersectionObserver(seen => seeChoices(seen.at(-1).isIntersecting)).observe(byId('choices'));
 byId('choices').addEventListener('input', forgetUnwritten);
+document.addEventListener('beforeinput', refuseTooLong);
 for (const id of WRITTEN) byId(id).addEventListener('input', answerNow);
 for (const id of ['test', 'given']) byId(id).addEventListener('scroll', () => placeLines(id));
 byId('commands').addEventListener('change', () => {
@@ -60,6 +73,10 @@ byId('commands').addEventListener('change', () => {
 });
 byId('settings').addEventListener('input', answerNow);
 byId('begin').addEventListener('click', begin);
+byId('skip').addEventListener('click', event => {
+  event.preventDefault(); // what stands after # in the address is a test
+  (document.querySelector('[data-choice]:enabled') ?? byId('frame')).focus();
+});
 byId('play').addEventListener('click', playOrPause);
 byId('draw-seed').addEventListener('click', drawSeed);
 byId('speed').addEventListener('input', () => setSpeed(Number(byId('speed').value)));
@@ -70,17 +87,13 @@ byId('stop').addEventListener('click', () => {
   stopTask();
   byId('said').textContent = 'Stopped.';
 });
+byId('copy-link').addEventListener('click', copyLink);
 byId('search').addEventListener('input', showLibrary);
 byId('comparison').addEventListener('toggle', () => bench.tso && compareNow());
 for (const scrolled of [window, byId('frame')]) scrolled.addEventListener('scroll', () => (shown.run || drive.isOn) && placeNames(), { passive: true });
 window.addEventListener('resize', () => {
   if ((shown.run || drive.isOn) && !matchMedia('print').matches) redraw();
 });
-window.addEventListener('beforeprint', () => {
-  if (drive.isOn) byId('frame').replaceChildren(...drive.picture.onPaper());
-  else if (shown.run?.order.length > PAPER.whole) byId('frame').replaceChildren(...drawPieces(shown.run, shown.layout));
-});
-window.addEventListener('afterprint', () => (shown.run || drive.isOn) && redraw());
 window.addEventListener('hashchange', showAddress);
 
 /** By which element the page says why it has no machine here; null where it has one. */
@@ -111,7 +124,10 @@ async function start() {
     return;
   }
   if (isOfTest) showAddress();
-  else if (!shown.run && byId('message').textContent === '' && byId('line').value === '') answerNow(true);
+  else if (!shown.run && byId('message').textContent === '' && byId('line').value === '') {
+    answerNow(true);
+    kept.atFirst = currentAddress();
+  }
 }
 
 start();

@@ -145,10 +145,16 @@ function drawFrame(layout, load) {
   return svg('rect', { class: 'frame', 'data-locked': load.index, ...place });
 }
 
+/** The lanes' names over a piece of a picture that begins at this height, on a ground that hides what reaches up there. */
+const drawHead = (run, layout, y) => [
+  svg('rect', { class: 'head-ground', x: 0, y: y - HEAD, width: layout.width, height: HEAD }),
+  svg('g', { class: 'names' }, ...coresOf(run).map(core => drawName(layout, core, y - HEAD + 23))),
+];
+
 /** The whole picture, or of it the rows from `first` to before `end` with all that goes through them. */
 function drawPicture(run, layout, first = 0, end = run.order.length) {
   const { width } = layout;
-  const above = first === 0 ? 0 : layout.top(first), height = layout.top(end) + 2 - above;
+  const above = layout.top(first) - HEAD, height = layout.top(end) + 2 - above;
   const isIn = (...indexes) => Math.min(...indexes) < end && Math.max(...indexes) >= first;
   const stores = run.order.filter(entry => entry.track !== undefined && isIn(entry.wait.earliest, entry.index));
   const reads = run.order.filter(entry => isRead(entry) && isIn(entry.index, entry.source?.index ?? entry.index));
@@ -161,6 +167,7 @@ function drawPicture(run, layout, first = 0, end = run.order.length) {
     ...stores.reverse().map(store => drawWait(run, layout, store)), // a store's way goes over the bars of later ones
     ...reads.map(read => drawSource(run, layout, read)),
     ...entries.map(entry => drawEntry(run, layout, entry)),
+    ...(first > 0 ? drawHead(run, layout, layout.top(first)) : []),
     svg('rect', { class: 'unseen', x: 0, width }),
     svg('line', { class: 'cursor', x1: 0, x2: width }));
 }

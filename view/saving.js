@@ -39,13 +39,16 @@ function styledCopy(drawn) {
   return copy;
 }
 
+/** A text of which each character may stand in XML: one that may not, as a name can have, is shown as one that isn't known. */
+const inXml = text => text.replace(/[^\t\n\r\u{20}-\u{d7ff}\u{e000}-\u{fffd}\u{10000}-\u{10ffff}]/gu, '\ufffd');
+
 /** The picture alone, as a text that needs no style. */
 function savedPicture({ parts, label, y, width, height }) {
   const kept = parts.filter(part => !part.matches(OF_THE_SCREEN));
   const ground = svg('rect', { y, width, height, fill: getComputedStyle(document.body).backgroundColor });
   const picture = svg('svg', { class: 'picture', width, height, viewBox: `0 ${y} ${width} ${height}`, role: 'img', 'aria-label': label },
     svg('defs', {}, styledCopy(byId('point'))), ground, ...kept.map(styledCopy));
-  return '<?xml version="1.0" encoding="UTF-8"?>\n' + new XMLSerializer().serializeToString(picture) + '\n';
+  return '<?xml version="1.0" encoding="UTF-8"?>\n' + inXml(new XMLSerializer().serializeToString(picture)) + '\n';
 }
 
 /** The picture in points, at twice its size. */
@@ -78,11 +81,19 @@ function traceNow() {
   return asked({ ...firstHistory().options, command: 'trace' }, inputOfWords(drive.words.slice(0, drive.count))).text;
 }
 
+async function savePoints() {
+  try {
+    saveFile(fileName(pictureName(), '.png'), await pictureInPoints(pictureNow()));
+  } catch (fault) {
+    byId('message').textContent = `The picture isn't saved: ${fault.message}.`;
+  }
+}
+
 const SAVES = {
   input: saveInput,
   report: () => saveText(fileName(testName(), '.txt'), reportNow().text),
   trace: () => saveText(fileName(testName(), '.trace.txt'), traceNow()),
   line: () => saveText(fileName(shown.run.test, '.json'), shown.line + '\n', 'application/json'),
   svg: () => saveText(fileName(pictureName(), '.svg'), savedPicture(pictureNow()), 'image/svg+xml'),
-  png: async () => saveFile(fileName(pictureName(), '.png'), await pictureInPoints(pictureNow())),
+  png: savePoints,
 };

@@ -74,6 +74,13 @@ function putCommand(name) {
   showSettings(commandOf(name));
 }
 
+/** The one line that stands for the test while it is folded: its name, the command where it isn't run, and the machine. */
+function showTestLine(command) {
+  const { options = Tso.DEFAULTS } = readSettings(command);
+  const on = SETTINGS[command].includes('bus') ? machineName(options) : '';
+  putText(byId('test-line'), `${testName()}: ${[command === 'run' ? '' : command, on].filter(Boolean).join(', ')}`);
+}
+
 /** The words of the command line that asks the same. */
 function commandWords(command) {
   const { options = { command } } = readSettings(command);

@@ -51,6 +51,8 @@ def read(*path):
 class Bench:
     """The bench of the page, and the program beside it."""
 
+    IS_UNFOLDED = True  # the test and its settings are open
+
     def __init__(self, page):
         self.page, self.window = page, page.window
 
@@ -58,11 +60,16 @@ class Bench:
         self.window.resize(width, mobile=width < 500)
         self.window.open(self.page.address + ("#" + fragment if fragment else ""))
         self.value(READY)
+        self.value("byId('test-part').open = %s" % ("true" if self.IS_UNFOLDED else "false"))
         self.to_end()
 
     def to_end(self):
         """Makes all choices that are known, where the page drives the machine."""
         self.value("drive.isOn && goTo(drive.words.length)")
+
+    def said(self, hint):
+        """A hint of the program as the page says it, in its own words."""
+        return self.value("pageHint(%s)" % json.dumps(hint))
 
     def load(self, name):
         self.value("loadText(%s)" % json.dumps(name))

@@ -1,8 +1,10 @@
 #!/usr/bin/env python3
 """Opens view/index.html in a browser without a screen, and holds what it shows against the program and against the lines that it is given.
 
-    tests/view/check.py PROGRAM [FOLDER] [--only WORD]      PROGRAM: a built tso; FOLDER: where the pictures go (a new one, named at the
-                                                         end); WORD: the rows alone whose names have it
+    tests/view/check.py PROGRAM [FOLDER] [--only WORD] [--shipped]
+                                                         PROGRAM: a built tso; FOLDER: where the pictures go (a new one, named at the
+                                                         end); WORD: the rows alone whose names have it; --shipped: with the module
+                                                         that ships, where PROGRAM is of its sources
 
 It needs Debian's browser, on a machine that isn't the gate's: apt-get install -y --no-install-recommends chromium
 
@@ -13,10 +15,10 @@ It needs Debian's browser, on a machine that isn't the gate's: apt-get install -
 - A line comes in by the address, the clipboard, a file and a drop; what is no such line is refused with a sentence.
 - Nothing that a name holds is run or becomes an element, nothing is loaded, and no script fails.
 - Nothing is cut or hangs over: two cores at 360 pixels, eight at 1,400, long names too.
-- The machine that is driven is at each step the one that the trace tells, and its picture too: the rows of driving.py. Where the
+- The machine that is driven is at each step the one that the trace tells, and its picture too: the rows of driving.py; and it stands first: those of first.py. Where the
   module tells no steps, or there is none, stand_in.js answers in its place.
 - With the module that tools/page has made of this tree (else that part is left out with a word) the page answers as the program does:
-  the rows of machine.py and looks.py.
+  the rows of machine.py and looks.py; and so it does where it once went wrong: the rows of repairs.py.
 
 The last line is 'N passed, M failed'.
 """
@@ -36,8 +38,10 @@ sys.dont_write_bytecode = True
 import browser
 import drawing
 import driving
+import first
 import given_lines
 import machine
+import repairs
 from bench import READY
 from drawing import read
 
@@ -45,10 +49,12 @@ TOP = os.path.dirname(os.path.dirname(os.path.dirname(os.path.abspath(__file__))
 NO_MODULE = "'use strict';\n\nconst MODULE = null;\n"
 
 
-def folder_with_module(room):
-    """A copy of view/ in this folder, with the module that was made of this tree, if one was; else the reason why not."""
+def folder_with_module(room, is_shipped):
+    """A copy of view/ in this folder, with the module that ships, or that was made of this tree, if one was; else the reason why not."""
     view = os.path.join(room, "view")
     shutil.copytree(os.path.join(TOP, "view"), view)
+    if is_shipped:
+        return view, None
     made = subprocess.run([os.path.join(TOP, "tools", "page"), "--text"], capture_output=True, text=True)
     text = made.stdout if made.returncode == 0 else NO_MODULE
     with open(os.path.join(view, "module.js"), "w") as file:
@@ -126,17 +132,17 @@ def judged(judge):
         return ["%s: %s" % (type(fault).__name__, fault)]
 
 
-def all_rows(window, program, room, folder):
+def all_rows(window, program, room, folder, is_shipped):
     """All rows, each a name and a function of its faults, on the page in this folder with what there is of a module."""
-    view, missing = folder_with_module(room)
+    view, missing = folder_with_module(room, is_shipped)
     page = Page(program, window, view)
     with_steps = Page(program, window, folder_with_stand_in(room, view, missing))
     lines = dict(drawing.program_runs(page))
-    found = [*drawing.rows(page, folder, lines), *given_lines.rows(page, folder, lines), *driving.rows(with_steps, folder)]
+    found = [*drawing.rows(page, folder, lines), *given_lines.rows(page, folder, lines), *driving.rows(with_steps, folder), *first.rows(with_steps, folder)]
     if missing:
         print("left out, what the page answers: " + missing)
         return found
-    found += machine.rows(page, folder)
+    found += [*machine.rows(page, folder), *repairs.rows(page, folder)]
     if not tells_steps(page):
         found += [(name + ", with steps", judge) for name, judge in machine.rows(with_steps, folder) if name not in machine.OF_THE_MODULE]
     return found
@@ -147,12 +153,13 @@ def main():
     parser.add_argument("program", type=os.path.abspath)
     parser.add_argument("folder", type=os.path.abspath, nargs="?")
     parser.add_argument("--only", metavar="WORD", default="", help="the rows alone whose names have this word")
+    parser.add_argument("--shipped", action="store_true", help="with the module that ships")
     asked = parser.parse_args()
     folder = asked.folder or tempfile.mkdtemp(prefix="tso-view-")
     os.makedirs(folder, exist_ok=True)
     passed, failed = 0, 0
     with browser.Browser() as window, tempfile.TemporaryDirectory(prefix="tso-view-folder-") as room:
-        for name, judge in all_rows(window, asked.program, room, folder):
+        for name, judge in all_rows(window, asked.program, room, folder, asked.shipped):
             if asked.only not in name:
                 continue
             window.requests.clear()  # what rows on another folder asked for

@@ -55,7 +55,9 @@ DRAWN = """({
 
 
 class Driver(Bench):
-    """The bench with a machine that is driven."""
+    """The bench with a machine that is driven: it stands first, and the test is folded."""
+
+    IS_UNFOLDED = False
 
     def to_end(self):
         """These rows begin at the start."""

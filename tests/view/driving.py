@@ -242,8 +242,9 @@ def long_picture_row(bench):
 
 
 NAMES_IN_SIGHT = """(() => {
-  const names = byId('names').getBoundingClientRect(), edge = byId('stepper').getBoundingClientRect().bottom;
-  return names.top >= edge - 1 && names.bottom <= innerHeight && names.height > 0;
+  const names = byId('names').getBoundingClientRect(), stepper = byId('stepper').getBoundingClientRect(), isBelow = stepper.top > innerHeight / 2;
+  const [upper, lower] = isBelow ? [0, stepper.top] : [stepper.bottom, innerHeight];
+  return names.top >= upper - 1 && names.bottom <= lower + 1 && names.height > 0;
 })()"""
 
 

@@ -1,0 +1,159 @@
+"""Rows for what one comes to first: the machine in sight, its task, the keys that lead there, and what readers of screens are told."""
+import os
+
+from bench import differs, safety
+from driver import SHARED, Driver
+
+IN_SIGHT = """(() => {
+  const parts = ['.core-buttons button', '.buffer', '.registers', '.cache', '.bus', '.memory', '#frame [data-entry]', '#task', '#sentence'];
+  return parts.flatMap(part => [...document.querySelectorAll(part)]).filter(each => {
+    const { top, bottom, left, right } = each.getBoundingClientRect();
+    return top < 0 || left < 0 || bottom > innerHeight || right > innerWidth;
+  }).map(each => (each.className.baseVal ?? each.className) + ' ' + each.textContent.slice(0, 20) + ' is out of sight');
+})()"""
+FOUR = "X86 four\n{ }\n P0 | P1 | P2 | P3 ;\n MOV [x],$1 | MOV [y],$1 | MOV EAX,[x] | MOV EAX,[y] ;\n | | MOV EBX,[y] | MOV EBX,[x] ;\nexists (2:EAX=1 /\\ 2:EBX=0 /\\ 3:EAX=1 /\\ 3:EBX=0)\n"
+SMALLEST = 24  # pixels, of what is pressed
+
+
+def in_sight_row(bench, folder, width, height):
+    """Of SB all is in sight from its first choice to its sixth, without scrolling, and nothing that is pressed moves."""
+    bench.open(width=width)
+    bench.window.resize(width, height)
+    bench.value("scrollTo(0, 0)")
+    places = "[...document.querySelectorAll('[data-choice]')].map(each => [each.getBoundingClientRect().x, each.getBoundingClientRect().y].map(Math.round))"
+    at_first, faults = bench.value(places), bench.value(IN_SIGHT)
+    for choice in "0s 1s 0s 1s 0d 1d".split():
+        bench.window.click("[data-choice='%s']" % choice)
+        faults += ["after %s: %s" % (choice, fault) for fault in bench.value(IN_SIGHT)]
+        faults += differs("scrolled", bench.value("scrollY"), 0) + differs("the buttons' places", bench.value(places), at_first)
+    bench.window.screenshot(os.path.join(folder, "first-%d.png" % width), whole=False)
+    return faults + safety(bench)
+
+
+def task_row(bench):
+    """Four clicks from the opening to both loads' 0, and the sentence why; another way isn't ticked."""
+    bench.open()
+    faults = differs("the task", bench.text("#task"), "☐ Task: Make both loads read 0.")
+    for choice in "0s 0s 1s 1s".split():
+        bench.window.click("[data-choice='%s']" % choice)
+    faults += differs("the task", bench.text("#task"), "✓ Task: Make both loads read 0. Done. P0 read y before memory saw its store to x (P0:1 passed P0:0). "
+                      "P1 read x before memory saw its store to y (P1:1 passed P1:0).")
+    bench.window.click("[data-move=first]")
+    for choice in "0s 0d 0s 1s 1s".split():
+        bench.window.click("[data-choice='%s']" % choice)
+    faults += [] if "Not so this time" in bench.text("#task") else ["it says " + bench.text("#task")]
+    bench.load(SHARED.replace("exists", "~exists"), "", {})
+    faults += differs("a task where nothing is to be reached", bench.value("byId('task').hidden"), True)
+    return faults + safety(bench)
+
+
+def four_row(bench, folder):
+    """Four cores stand in one row at 1,920 pixels."""
+    bench.load(FOUR, "", {}, 1920)
+    tops = bench.value("[...document.querySelectorAll('.core')].map(each => Math.round(each.getBoundingClientRect().top))")
+    bench.window.screenshot(os.path.join(folder, "four-cores-1920.png"), whole=False)
+    return ([] if len(tops) == 4 and len(set(tops)) == 1 else ["their tops are %s" % tops]) + safety(bench)
+
+
+def folds_row(bench):
+    """The test is folded to one line, and opens where it is refused."""
+    bench.open()
+    faults = differs("open", bench.value("byId('test-part').open"), False)
+    faults += differs("its line", bench.text("#test-line"), "SB: MSI, atomic bus, depth 4")
+    bench.fill("choices", "0s 9s")
+    return faults + differs("open where a choice is refused", bench.value("byId('test-part').open"), True) + safety(bench)
+
+
+def tabs_row(bench):
+    """At most five tabs lead to the first button of a core, and the first stop skips to it."""
+    bench.open()
+    focused, stops = "document.activeElement.dataset.choice ?? document.activeElement.id", []
+    while len(stops) < 12 and "0s" not in stops:
+        bench.window.call("Input.dispatchKeyEvent", type="rawKeyDown", key="Tab", code="Tab", windowsVirtualKeyCode=9)
+        stops.append(bench.value(focused))
+    faults = [] if len(stops) <= 5 else ["the stops are %s" % stops]
+    faults += differs("the first stop", stops[0], "skip")
+    bench.value("byId('skip').focus(); byId('skip').click()")
+    return faults + differs("after the skip", bench.value(focused), "0s") + safety(bench)
+
+
+def sizes_row(bench):
+    """What is pressed is large enough, and its border or ground stands out from what is around it by 3 to 1."""
+    bench.open()
+    bench.value("byId('test-part').open = true")
+    small = bench.value("""[...document.querySelectorAll('button, select, input:not([type=radio]), summary, textarea')].filter(each => each.getClientRects().length > 0)
+      .filter(each => { const { width, height } = each.getBoundingClientRect(); return width < %d || height < %d; }).map(each => each.tagName + '#' + each.id + ' is small')""" % (SMALLEST, SMALLEST))
+    return small + safety(bench)
+
+
+def tree_row(bench):
+    """The browser's tree for readers of screens: each control has a name and its role, and what changes is told."""
+    bench.open()
+    for choice in "0s 0s 0d".split():
+        bench.window.click("[data-choice='%s']" % choice)
+    nodes = [node for node in bench.window.call("Accessibility.getFullAXTree")["nodes"] if not node["ignored"]]
+    named = {(node["role"]["value"], node.get("name", {}).get("value", "")) for node in nodes}
+    wanted = [("link", "To the machine"), ("button", "P1: step MOV [y],$1"), ("button", "P0: drain empty"), ("note", "M. Modified"), ("button", "Forward →"), ("button", "Play"),
+              ("slider", "Speed"), ("textbox", "Seed"), ("region", "Core P0"), ("region", "Core P1"), ("list", "Registers"), ("list", "Memory"),
+              ("list", "Program of P0"), ("table", "Cache"), ("heading", "Memory order so far")]
+    faults = ["the tree has no %s named %s" % each for each in wanted if not any(role == each[0] and name.startswith(each[1]) for role, name in named)]
+    live = bench.value("['sentence', 'verdict', 'task', 'told', 'message', 'busy'].filter(id => !byId(id).matches('[aria-live], [role=status], [role=alert]'))")
+    return faults + differs("parts that tell nothing of their changes", live, []) + safety(bench)
+
+
+def meanings_row(bench):
+    """Each state and request explains itself at the focus and under the pointer."""
+    bench.open()
+    for choice in "0s 0s 0d".split():
+        bench.window.click("[data-choice='%s']" % choice)
+    words = bench.value("[...document.querySelectorAll('[data-means]')].map(each => each.dataset.means)")
+    faults = [] if {"GetM", "M"} <= set(words) else ["the words are %s" % words]
+    for word in sorted(set(words)):
+        bench.value("document.querySelector('[data-means=\"%s\"]').focus()" % word)
+        faults += differs("the meaning of " + word, bench.value("[byId('meaning').hidden, byId('meaning').textContent === MEANINGS['%s']]" % word), [False, True])
+    bench.value("document.activeElement.blur()")
+    return faults + differs("hidden", bench.value("byId('meaning').hidden"), True) + safety(bench)
+
+
+def written_row(bench):
+    """A register that a load has written looks unlike one that none has, where both are 0."""
+    bench.open()
+    for choice in "0s 0s".split():
+        bench.window.click("[data-choice='%s']" % choice)
+    written = bench.value("[...document.querySelectorAll('.registers')].map(each => [...each.querySelectorAll('.written')].map(item => item.textContent))")
+    return differs("written registers", written, [["EAX=0"], []]) + safety(bench)
+
+
+def judged_row(bench, folder):
+    """An order that breaks an axiom is told in a sentence, with its entries marked; a protocol's table has words."""
+    bench.open()
+    faults = []
+    for order, marked, said in (("P0:1 R y=0\nP1:0 W y=1\nP0:0 W x=1\nP1:1 R x=0", ["P1:1 R x=0"], "P1:1 R x=0 should return 1"),
+                                ("P0:1 R y=0\nP1:0 W y=1\nP0:0 W x=1", [], "P1:1 R x stands nowhere"),
+                                ("P0:1 R y=0\nP1:0 W y=2\nP0:0 W x=1\nP1:1 R x=1", ["P1:0 W y=2"], "P1:0 W y=2 should write 1")):
+        bench.value("putCommand('check')")
+        bench.fill("given", "Order\n%s\nEndorder %d\n" % (order, order.count("\n") + 1))
+        faults += differs("marked", bench.value("[...document.querySelectorAll('#states mark')].map(each => each.textContent)"), marked)
+        faults += [] if said in bench.text("#states p") else ["it says " + bench.text("#states p")]
+    bench.window.screenshot(os.path.join(folder, "judged.png"), whole=False)
+    bench.value("putCommand('tables'); settingOf('protocol').value = 'moesi'; answerNow()")
+    rows = bench.value("[...document.querySelectorAll('#states tbody tr')].map(row => row.cells[0].textContent)")
+    faults += differs("states of the table", rows, list("MOES"))
+    bench.window.screenshot(os.path.join(folder, "tables.png"), whole=False)
+    return faults + safety(bench)
+
+
+def rows(page, folder):
+    bench = Driver(page)
+    return [
+        *[("the machine first, at %d by %d" % size, lambda size=size: in_sight_row(bench, folder, *size)) for size in ((1280, 720), (1920, 1080))],
+        ("the task", lambda: task_row(bench)),
+        ("four cores in a row", lambda: four_row(bench, folder)),
+        ("the test in one line", lambda: folds_row(bench)),
+        ("tabs to the first button", lambda: tabs_row(bench)),
+        ("sizes of what is pressed", lambda: sizes_row(bench)),
+        ("the tree of the page", lambda: tree_row(bench)),
+        ("meanings of words", lambda: meanings_row(bench)),
+        ("registers that are written", lambda: written_row(bench)),
+        ("orders and tables in words", lambda: judged_row(bench, folder)),
+    ]

@@ -1,0 +1,218 @@
+"""Rows for what once went wrong on the page, each as it was seen."""
+import json
+import os
+import re
+import subprocess
+import tempfile
+import xml.etree.ElementTree
+
+from bench import DIVIDING_LINE, EXAMPLES, FIRST, READY, differs, read, safety
+from driver import LARGE, Driver
+
+TEST = read(EXAMPLES, FIRST).partition(DIVIDING_LINE)[0]
+LINES = 1_000_000
+PATIENCE = 3000  # milliseconds, on a machine that is busy
+
+
+def printed(bench):
+    """The text of the page as it prints, with its columns kept."""
+    with tempfile.NamedTemporaryFile(suffix=".pdf") as file:
+        file.write(bench.window.printed())
+        file.flush()
+        return subprocess.run(["pdftotext", "-layout", file.name, "-"], capture_output=True, text=True, timeout=60).stdout
+
+
+def has(text, *words):
+    return ["on paper there is no %s" % word for word in words if word not in text]
+
+
+def paper_row(bench, folder):
+    """Eight cores on paper: each piece of the picture has the names over their lanes, programs and choices are whole."""
+    bench.load(LARGE, "seed 3 900", {})
+    bench.value("goTo(400)")
+    with open(os.path.join(folder, "eight-cores-run.pdf"), "wb") as file:
+        file.write(bench.window.printed())
+    text = printed(bench)
+    pieces = bench.value("(drawForPaper(), document.querySelectorAll('#frame svg').length)")
+    bench.value("redraw()")
+    names = re.findall(r"^\s*P0\s+P1\s+P2\s+P3\s+P4\s+P5\s+P6\s+P7\s*$", text, re.MULTILINE)
+    faults = [] if len(names) >= pieces > 10 else ["%d lines of names for %d pieces" % (len(names), pieces)]
+    places = bench.value("[...document.querySelectorAll('.core')].map(core => core.querySelectorAll('.program li').length)")
+    faults += differs("instructions", places, [32] * 8)
+    faults += has(text, "MOV EAX,[a5]", "31.", "Choices: " + " ".join(bench.value("drive.words.slice(0, 3)")))
+    return faults + safety(bench)
+
+
+def answers_on_paper_row(bench):
+    """Outcomes, a check, a sweep and tables have their answer on paper."""
+    faults = []
+    for command, wanted in (("outcomes", "Choices that lead there"), ("sweep", "Sweep"), ("check", "Valid"), ("tables", "Invalid")):
+        bench.open()
+        bench.value("byId('test-part').open = true")
+        bench.value("putCommand('%s'); byId('given').value = asked({ command: 'run' }, inputOf('run')).text; answerNow()" % command)
+        if command in ("outcomes", "sweep"):
+            bench.value("begin()")
+            bench.wait("!bench.task")
+        text = printed(bench)
+        report = bench.text("#report").split("\n")[0].strip()
+        faults += ["%s: %s" % (command, fault) for fault in has(text, "./tso " + command, *([wanted] if command == "outcomes" else [report]))]
+        faults += [] if command == "outcomes" or report else ["%s has no report" % command]
+    return faults + safety(bench)
+
+
+def few_choices_row(bench):
+    """A run that spells many choices and uses few has its steps."""
+    bench.open()
+    for choices in ("seed 1 100000", "0s 1s seed 4 5000", "seed 2 1001"):
+        bench.fill("choices", choices)
+        bench.wait("!bench.task && byId('report').textContent")
+        status, said, _ = bench.program(TEST + DIVIDING_LINE + choices, "run", "--json")
+        faults = differs(choices, bench.value("[drive.isOn, byId('no-steps').hidden, drive.words.length]"), [True, True, json.loads(said)["choices"]["used"]])
+        faults += differs("the report of " + choices, bench.value("reportNow().text"), bench.program(TEST + DIVIDING_LINE + choices, "run")[1])
+        if faults:
+            return faults
+    return safety(bench)
+
+
+def long_text_row(bench):
+    """A text of very many lines is refused before a field has it: pasted, dropped, and by an address."""
+    bench.open()
+    bench.value("byId('test-part').open = true; byId('test').focus()")
+    tried = ("(() => { const start = performance.now(), data = '\\n'.repeat(%d); const event = new InputEvent('beforeinput', { data, inputType: 'insertFromPaste', "
+             "bubbles: true, cancelable: true }); const isTaken = byId('test').dispatchEvent(event); return [isTaken, performance.now() - start]; })()" % LINES)
+    taken, time = bench.value(tried)
+    faults = differs("a paste is taken", taken, False) + ([] if time < PATIENCE else ["it takes %d ms" % time])
+    faults += [] if "too long" in bench.text("#said") else ["it says " + bench.text("#said")]
+    bench.window.type("\n" * 20_000)  # as a keyboard or a clipboard puts it
+    faults += differs("the test", bench.value("byId('test').value"), TEST)
+    bench.value("takeText('\\n'.repeat(%d))" % LINES)
+    faults += differs("the test after a drop", bench.value("byId('test').value"), TEST)
+    bench.value("openTest('test=' + '%%0A'.repeat(%d))" % 20_000)
+    faults += differs("the test after an address", bench.value("byId('test').value"), TEST)
+    return faults + safety(bench)
+
+
+def arrows_row(bench):
+    """A picture that goes on to the side is scrolled by the arrows, when it has the focus; else they go back and forward."""
+    bench.load(LARGE, "seed 3 100", {}, 700)
+    bench.value("goTo(60)")
+    bench.value("byId('frame').focus()")
+    bench.window.press("ArrowLeft")
+    faults = differs("choices made, with the focus on the picture", bench.value("drive.count"), 60)
+    bench.value("document.activeElement.blur()")
+    bench.window.press("ArrowLeft")
+    return faults + differs("choices made, without it", bench.value("drive.count"), 59) + safety(bench)
+
+
+def stops_row(bench):
+    """Each stop of the tab key has a name, and programs of few lines don't overflow."""
+    faults = []
+    for test, width in ((TEST, 1400), (LARGE, 1400), (TEST, 360), (LARGE, 360)):
+        bench.load(test, "", {}, width)
+        faults += bench.value("""[...document.querySelectorAll('.program')].filter(each => !each.matches('.long') && getComputedStyle(each).overflow !== 'visible')
+          .map(each => each.textContent + ' scrolls')""")
+        faults += bench.value("""[...document.querySelectorAll('[tabindex="0"]')].filter(each => !each.getAttribute('aria-label')).map(each => each.className + ' has no name')""")
+        faults += bench.value("""[...document.querySelectorAll('.program.long')].filter(each => parseFloat(getComputedStyle(each).paddingLeft) < 34).map(each => 'numbers are cut')""")
+    return faults + safety(bench)
+
+
+def seed_row(bench):
+    """A seed that is none is said to be none."""
+    bench.open()
+    faults = []
+    for seed in ("", "x", "-1", "1" * 19):
+        bench.fill("drive-seed", seed)
+        bench.value("drawSeed()")
+        faults += [] if "whole number" in bench.text("#sentence") else ["of the seed %r it says %s" % (seed, bench.text("#sentence"))]
+        faults += differs("marked", bench.value("byId('drive-seed').getAttribute('aria-invalid')"), "true")
+    bench.fill("drive-seed", "7")
+    bench.value("drawSeed()")
+    return faults + differs("marked", bench.value("byId('drive-seed').getAttribute('aria-invalid')"), "false") + safety(bench)
+
+
+def control_row(bench):
+    """A control character in a name makes no picture ill-formed."""
+    line = json.loads(bench.program(read(EXAMPLES, FIRST), "run", "--json")[1])
+    line["test"] = "a\u0001b\ufffe\ud800c"
+    bench.open()
+    bench.value("showText(%s)" % json.dumps(json.dumps(line)))
+    bench.value("window.saved = []; saveFile = (name, blob) => saved.push([name, blob.size]); true")
+    picture = xml.etree.ElementTree.fromstring(bench.value("savedPicture(pictureNow())"))
+    faults = [] if "a\ufffdb" in picture.get("aria-label") else ["the picture's name is " + picture.get("aria-label")]
+    bench.value("SAVES.png()")
+    bench.wait("saved.length === 1 || byId('message').textContent")
+    faults += differs("saved", bench.value("saved.length"), 1)
+    bench.value("pictureInPoints = async () => { throw new Error('no room') }; SAVES.png()")
+    bench.wait("byId('message').textContent")
+    return faults + differs("said", bench.text("#message"), "The picture isn't saved: no room.") + safety(bench)
+
+
+def hints_row(bench):
+    """Hints are in the page's own words: no command line, no dividing line, no option."""
+    bench.open()
+    faults = []
+    for command, test, rest in (("run", "", ""), ("run", " \n\n \n", ""), ("run", TEST, ""), ("check", TEST, ""), ("outcomes", " ", ""), ("run", TEST + "0s 1s\n", ""), ("check", TEST, "Order\nP0:7 X\n")):
+        bench.value("putCommand('%s')" % command)
+        bench.fill("given", rest)
+        bench.fill("choices", rest)
+        bench.fill("test", test)
+        said = bench.text("#said") + " " + bench.text("#hint")
+        faults += ["%r of %r: it says %s" % (command, test[:20], said) for foul in ("tso ", "====", "--") if foul in said]
+        faults += [] if test.strip() or not re.search(r"line \d", said) else ["a test of spaces names a line: " + said]
+        faults += [] if bench.text("#hint") else ["%s of %r: it says nothing" % (command, test[:20])]
+    bench.value("putCommand('sweep'); byId('set-length').value = 1; answerNow(); begin()")
+    bench.fill("test", TEST)
+    bench.value("begin()")
+    bench.wait("!bench.task && byId('hint').textContent")
+    faults += [] if "Choices of a seed" in bench.text("#hint") else ["a short sweep says " + bench.text("#hint")]
+    return faults + safety(bench)
+
+
+def search_row(bench):
+    """A search finds words by their beginnings: MP finds no examples."""
+    bench.open()
+    bench.fill("search", "MP")
+    found = bench.value("[...document.querySelectorAll('#texts button')].map(each => each.textContent)")
+    faults = [] if "MP.litmus" in found else ["MP isn't found"]
+    faults += differs("found for another reason", [name for name in found if not re.search(r"mp|message", name.lower())][:3] if len(found) > 40 else [], [])
+    return faults + differs("store-buffering.litmus by MP", "store-buffering.litmus" in found, False) + safety(bench)
+
+
+def reload_row(bench):
+    """What is shown is there again after a reload: test, settings, choices, position, and the machine beside it."""
+    shown = "[byId('test').value, choicesText().trim(), changedSettings(), drive.count, drive.words, drive.machines.length, byId('count').textContent]"
+    bench.open()
+    bench.value("new Promise(done => setTimeout(done, 400))")
+    faults = differs("the address at first", bench.value("location.hash"), "")
+    for act in ("goTo(3)", "makeChoice('0d')", "makeChoice('1s'); goTo(2)", "settingOf('protocol').value = 'moesi'; answerNow(); goTo(4)",
+                "putBeside(JSON.stringify(otherMachines(firstHistory().options)[1])); goTo(3)"):
+        bench.value(act + "; true")
+        before = bench.value("new Promise(done => setTimeout(() => done(%s), 500))" % shown)
+        bench.window.call("Page.reload")
+        bench.value("new Promise(done => document.readyState === 'complete' ? done() : addEventListener('load', () => done()))")
+        bench.value(READY)
+        bench.wait("drive.isOn")
+        faults += differs("after %s and a reload" % act, bench.value("new Promise(done => setTimeout(() => done(%s), 50))" % shown), before)
+    bench.value("window.copied = []; navigator.clipboard.writeText = async text => { copied.push(text); }; copyLink()")
+    bench.wait("copied.length === 1 && byId('copied').textContent")
+    faults += differs("the link", bench.value("copied[0] === location.href"), True)
+    bench.value("navigator.clipboard.writeText = async () => { throw new Error('no') }; copyLink()")
+    bench.wait("byId('copied').textContent !== 'Copied.'")
+    return faults + safety(bench)
+
+
+def rows(page, folder):
+    bench = Driver(page)
+    return [
+        ("eight cores on paper, driven", lambda: paper_row(bench, folder)),
+        ("answers on paper", lambda: answers_on_paper_row(bench)),
+        ("many choices of which few are used", lambda: few_choices_row(bench)),
+        ("texts that are too long", lambda: long_text_row(bench)),
+        ("arrows at a wide picture", lambda: arrows_row(bench)),
+        ("stops of the tab key", lambda: stops_row(bench)),
+        ("seeds that are none", lambda: seed_row(bench)),
+        ("a control character in a name", lambda: control_row(bench)),
+        ("hints in the page's words", lambda: hints_row(bench)),
+        ("a search for MP", lambda: search_row(bench)),
+        ("a reload", lambda: reload_row(bench)),
+    ]
