@@ -156,11 +156,11 @@ async function begin() {
   if (command === 'run') showAnswer({ status: 0, text: '', hint: '' });
   byId('stop').hidden = byId('busy').hidden = false;
   try {
-    const [answer, line] = await task.answers;
+    const [answer, beside] = await task.answers;
     if (bench.task !== task) return;
     stopTask();
-    if (command === 'run') showLongRun(answer, line, options, input);
-    else if (command === 'outcomes' && answer.status === Tso.STATUS.good) showOutcomes(answer);
+    if (command === 'run') showLongRun(answer, beside, options, input);
+    else if (command === 'outcomes' && answer.status === Tso.STATUS.good) showOutcomes(answer, beside, input);
     else showOpenAnswer(answer);
   } catch (fault) {
     if (bench.task !== task) return;
@@ -169,9 +169,11 @@ async function begin() {
   }
 }
 
-/** What a task is asked: of a run its report and its line. */
+/** What a task is asked: of a run its report and its line, of outcomes those of sequential consistency too. */
 function questionsOf(command, options) {
-  return command === 'run' ? [options, { ...options, json: true }] : [{ ...options, json: command === 'outcomes' }];
+  if (command === 'run') return [options, { ...options, json: true }];
+  if (command === 'outcomes') return [{ ...options, json: true }, ...(options.depth > 0 ? [{ ...options, depth: 0, json: true }] : [])];
+  return [options];
 }
 
 function showLongRun(answer, line, options, input) {
@@ -186,11 +188,28 @@ function showLongRun(answer, line, options, input) {
   if (isDrawn) showRun(readLine(line.text.trim()), line.text.trim());
 }
 
-function showOutcomes(answer) {
-  const outcomes = readOutcomes(answer.text);
+function showOutcomes(answer, beside, test) {
+  const outcomes = readOutcomes(answer.text), sequential = beside?.status === Tso.STATUS.good ? readOutcomes(beside.text) : null;
   showAnswer(answer);
   byId('report-part').hidden = true;
-  byId('states').replaceChildren(html('p', { role: 'status' }, observationSentence(outcomes)), outcomesTable(outcomes));
+  const said = [observationSentence(outcomes), sequential ? besideSentence(outcomes, sequential) : ''].join(' ').trim();
+  byId('states').replaceChildren(html('p', { role: 'status' }, said), outcomesTable(outcomes, sequential, truthsOf(outcomes, test)));
+}
+
+/** Finds all outcomes of the test, by one click from its run. */
+function findOutcomes() {
+  putCommand('outcomes');
+  answerNow();
+  begin();
+}
+
+/** Judges the order of the run that is shown: whether it is one of TSO, or which choices lead to it. */
+function judgeOrder(command) {
+  const { text } = reportNow();
+  byId('given').value = text.slice(Math.max(0, text.search(/^Order$/m)));
+  byId('test-part').open = true;
+  putCommand(command);
+  answerNow();
 }
 
 /** Runs choices that a search found, on the machine that it searched: the bus is atomic, and the buffers are as deep. */
@@ -199,7 +218,9 @@ function loadChoices(choices) {
   settingOf('bus').value = 'atomic';
   putChoices(choices + '\n');
   putCommand('run');
+  const table = [...byId('states').children]; // it stays beside the run
   answerNow();
+  byId('states').replaceChildren(...table);
 }
 
 /** Loads a text of the list, at the depth that it needs. */

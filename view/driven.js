@@ -45,10 +45,14 @@ function markCore() {
 }
 
 const SCROLLBAR = 17; // pixels, at most
+const LECTURE_MOST = 0.4; // in a lecture, before the picture is made larger
 const FRAME_MOST = 0.68; // of the window's height, as the style has it
 
+/** By how much the picture is larger than it is drawn, as it is in a lecture. */
+const zoomOfPicture = () => Number(getComputedStyle(byId('frame')).zoom) || 1;
+
 function makePicture() {
-  const room = byId('frame').parentElement.clientWidth - SCROLLBAR;
+  const room = byId('frame').parentElement.clientWidth / zoomOfPicture() - SCROLLBAR;
   const picture = drive.picture = Object.assign(new GrowingPicture(firstHistory(), room), { room });
   shown.layout = picture.layout;
   byId('frame').classList.toggle('whole', picture.layout.width <= room);
@@ -60,7 +64,7 @@ function makePicture() {
 function showPicture() {
   if (drive.picture === null || drive.picture.isTooNarrow()) makePicture();
   drive.picture.show(drive.count);
-  byId('frame').classList.toggle('full', drive.picture.bottom - HEAD > FRAME_MOST * innerHeight);
+  byId('frame').classList.toggle('full', drive.picture.bottom - HEAD > (isLecture() ? LECTURE_MOST : FRAME_MOST) * innerHeight);
 }
 
 /** Brings the last row into sight, and where the picture goes on to the side the lane of the core that acted. */

@@ -4,8 +4,7 @@
 
 const MOST_SLOTS = 8; // of a store buffer that are drawn while they are free
 const MOST_LINES = 8; // of a program that are in sight at a time
-const LINE = 20; // pixels: the height of a program's line, as the style has it
-const CACHED = { most: 4, height: 25 }; // rows of a cache that have room while they aren't there, and a row's pixels
+const CACHED = { most: 4, height: 1.5625 }; // rows of a cache that have room while they aren't there, and a row's height in rem
 
 const marked = (name, isChanged) => (isChanged ? { class: `${name} changed` } : { class: name });
 const hidden = text => html('span', { class: 'unshown' }, text);
@@ -90,7 +89,7 @@ class CorePanel {
     this.buffer = list('buffer', 'Store buffer, the oldest store first', bufferItems);
     this.lines = new Part(html('tbody', {}), cacheRows);
     this.cache = html('div', {}, html('table', { class: 'cache', 'aria-label': 'Cache' }, this.lines.element));
-    this.cache.style.minHeight = `${Math.min(CACHED.most, sets * ways + 1) * CACHED.height}px`; // one row more, for a line that leaves
+    this.cache.style.minHeight = `${Math.min(CACHED.most, sets * ways + 1) * CACHED.height}rem`; // one row more, for a line that leaves
   }
 
   /** Shows the core as it is after a step and what that step changed. `bus` is the bus where this core holds it, and else null. */
@@ -128,7 +127,7 @@ class CorePanel {
   }
 
   keepInSight() {
-    if (this.isOutOfSight && this.program.length > MOST_LINES) this.list.scrollTop = (this.place - 3) * LINE;
+    if (this.isOutOfSight && this.program.length > MOST_LINES) this.list.scrollTop = (this.place - 3) * this.list.firstElementChild.offsetHeight;
     this.isOutOfSight = false;
   }
 }

@@ -19,11 +19,41 @@ function observationSentence({ states, observation, depth }) {
 
 const valuesText = values => Object.entries(values).map(([name, word]) => `${name}=${word}`).join(' ');
 
-/** A row for each state; its button has the choices, which `loadChoices` takes. */
-function outcomesTable({ states }) {
-  const names = Object.keys(states[0].values);
-  return tableOf('Final states', [...names, 'Choices that lead there', ''], states.map(({ values, choices }) => html('tr', {},
+/** What stands beside the states of TSO: how many sequential consistency has, and which are new. */
+function besideSentence(outcomes, sequential) {
+  const isNew = newStates(outcomes, sequential), count = isNew.filter(Boolean).length;
+  const word = sequential.observation === null ? '' : ` (${sequential.observation.word})`;
+  const many = sequential.states.length === 1 ? 'one final state' : `${sequential.states.length} final states`;
+  return `Sequential consistency has ${many}${word}: ${count === 0 ? 'none is new here' : `${count} ${count === 1 ? 'is' : 'are'} new here`}.`;
+}
+
+/** Of each state whether sequential consistency lacks it. */
+function newStates({ states }, sequential) {
+  const there = new Set(sequential.states.map(({ values }) => valuesText(values)));
+  return states.map(({ values }) => !there.has(valuesText(values)));
+}
+
+const MOST_RUN = 100; // states whose choices are run for the table
+
+/** Of each state whether the condition's proposition is true of it, by running its choices; null where that isn't told. */
+function truthsOf({ states, observation, depth }, test) {
+  if (observation === null || states.length > MOST_RUN) return null;
+  const truths = states.map(({ choices }) => {
+    const { status, text } = asked({ command: 'run', json: true, depth }, `${test}${DIVIDING_LINE}\n${choices}\n`);
+    return status === Tso.STATUS.good ? readLine(text.trim()).condition?.holds ?? null : null;
+  });
+  return truths.includes(null) ? null : truths;
+}
+
+/** A row for each state; its button has the choices, which `loadChoices` takes. Beside them, where it is known, whether sequential
+ * consistency has the state too, and whether the condition is true of it. */
+function outcomesTable(outcomes, sequential, truths) {
+  const { states } = outcomes, names = Object.keys(states[0].values), isNew = sequential && newStates(outcomes, sequential);
+  const titles = [...names, ...(sequential ? ['Under'] : []), ...(truths ? ['Condition'] : []), 'Choices that lead there', ''];
+  return tableOf('Final states', titles, states.map(({ values, choices }, at) => html('tr', truths?.[at] ? { class: 'met' } : {},
     ...names.map(name => html('td', { class: 'number' }, String(values[name]))),
-    html('td', { class: 'wraps' }, choices === '' ? '(none)' : choices),
+    ...(sequential ? [html('td', {}, isNew[at] ? html('strong', {}, 'TSO alone') : 'TSO and SC')] : []),
+    ...(truths ? [html('td', {}, truths[at] ? '✓ true' : 'false')] : []),
+    html('td', { class: 'wraps way' }, choices === '' ? '(none)' : choices),
     html('td', {}, html('button', { type: 'button', 'data-choices': choices, 'aria-label': `Run to ${valuesText(values)}` }, 'Run them')))));
 }

@@ -43,13 +43,14 @@ document.addEventListener('pointerdown', event => {
   if (choice !== undefined) askAhead(choice);
 });
 document.addEventListener('click', event => {
-  const { move: way, choices, file, save, machine, choice } = (event.target.closest('[data-choice]') ?? event.target).dataset;
+  const { move: way, choices, file, save, machine, choice, judge } = (event.target.closest('[data-choice]') ?? event.target).dataset;
   if (way !== undefined) move(way);
   else if (choice !== undefined) makeChoice(choice);
   else if (choices !== undefined) loadChoices(choices);
   else if (file !== undefined) loadText(file);
   else if (save !== undefined) SAVES[save]();
   else if (machine !== undefined) takeMachine(machine);
+  else if (judge !== undefined) judgeOrder(judge);
 });
 byId('line').addEventListener('input', event => show(event.target.value));
 byId('file').addEventListener('change', event => {
@@ -87,6 +88,7 @@ byId('stop').addEventListener('click', () => {
   stopTask();
   byId('said').textContent = 'Stopped.';
 });
+byId('find-outcomes').addEventListener('click', findOutcomes);
 byId('copy-link').addEventListener('click', copyLink);
 byId('search').addEventListener('input', showLibrary);
 byId('comparison').addEventListener('toggle', () => bench.tso && compareNow());

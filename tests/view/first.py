@@ -1,7 +1,7 @@
 """Rows for what one comes to first: the machine in sight, its task, the keys that lead there, and what readers of screens are told."""
 import os
 
-from bench import differs, safety
+from bench import OVERHANGING, differs, safety
 from driver import SHARED, Driver
 
 IN_SIGHT = """(() => {
@@ -143,6 +143,37 @@ def judged_row(bench, folder):
     return faults + safety(bench)
 
 
+CODE_SIZES = """[...document.querySelectorAll('.program code, .registers li, .memory li, .core-buttons code')].map(each => parseFloat(getComputedStyle(each).fontSize))"""
+
+
+def lecture_row(bench, folder):
+    """In a lecture hall code is large, nothing hangs over, what isn't taught is out of sight, and the machine goes on."""
+    bench.open(width=1920)
+    bench.window.resize(1920, 1080)
+    bench.value("putLecture(true)")
+    for choice in "0s 0s 1s 1s 0d 1d".split():
+        bench.window.click("[data-choice='%s']" % choice)
+    faults = [] if min(bench.value(CODE_SIZES)) >= 20 else ["code has a size of %s" % min(bench.value(CODE_SIZES))]
+    faults += bench.value(OVERHANGING) + differs("entries", bench.value("document.querySelectorAll('#frame [data-entry]').length"), 4)
+    out = ["header", "#saves", "#input", "footer", "#legend", "#beside-it"]
+    faults += differs("in sight", bench.value("%r.filter(each => document.querySelector(each).getClientRects().length > 0)" % out), [])
+    bench.window.screenshot(os.path.join(folder, "lecture.png"), whole=False)
+    bench.value("putLecture(false)")
+    return faults + differs("after it", bench.value("document.querySelector('header').getClientRects().length"), 1) + safety(bench)
+
+
+def large_text_row(bench, folder):
+    """With a default text of 32 pixels, or 24, nothing hangs over."""
+    faults = []
+    for width in (1280, 768):
+        bench.open(width=width)
+        for size in (24, 32):
+            bench.value("document.documentElement.style.fontSize = '%dpx'; byId('test-part').open = true; redraw(); goTo(4)" % size)
+            faults += ["%d pixels of text at %d: %s" % (size, width, fault) for fault in bench.value(OVERHANGING)]
+        bench.window.screenshot(os.path.join(folder, "text-32-%d.png" % width))
+    return faults + safety(bench)
+
+
 def rows(page, folder):
     bench = Driver(page)
     return [
@@ -156,4 +187,6 @@ def rows(page, folder):
         ("meanings of words", lambda: meanings_row(bench)),
         ("registers that are written", lambda: written_row(bench)),
         ("orders and tables in words", lambda: judged_row(bench, folder)),
+        ("a lecture", lambda: lecture_row(bench, folder)),
+        ("large text", lambda: large_text_row(bench, folder)),
     ]

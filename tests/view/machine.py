@@ -139,10 +139,16 @@ def outcomes_row(bench, folder):
     bench.window.click("#begin")
     bench.wait("document.querySelector('#states table')")
     found = json.loads(bench.program(test, "outcomes", "--json")[1])
-    rows = bench.value("[...document.querySelectorAll('#states tbody tr')].map(row => [...row.cells].slice(0, -1).map(cell => cell.textContent))")
+    rows = bench.value("[...document.querySelectorAll('#states tbody tr')].map(row => [...row.querySelectorAll('.number, .way')].map(cell => cell.textContent))")
     wanted = [[str(word) for word in state["values"].values()] + [state["choices"]] for state in found["states"]]
     faults = differs("the states", rows, wanted)
     faults += [] if "Sometimes" in bench.text("#states p") else ["it says " + bench.text("#states p")]
+    sequential = [state["values"] for state in json.loads(bench.program(test, "outcomes", "--json", "--depth", "0")[1])["states"]]
+    told = bench.value("[...document.querySelectorAll('#states tbody tr')].map(row => [...row.cells].slice(-4, -2).map(cell => cell.textContent))")
+    for state, (under, holds) in zip(found["states"], told):
+        is_met = state["values"]["0:EAX"] == 0 == state["values"]["1:EAX"]
+        faults += differs("of %s" % state["values"], [under, holds], ["TSO and SC" if state["values"] in sequential else "TSO alone", "✓ true" if is_met else "false"])
+    faults += [] if "1 is new here" in bench.text("#states p") else ["it says " + bench.text("#states p")]
     bench.window.screenshot(os.path.join(folder, "outcomes.png"))
     for at, state in enumerate(found["states"]):
         bench.choose("outcomes")
@@ -152,6 +158,7 @@ def outcomes_row(bench, folder):
         registers = bench.value("shown.run.registers.map(file => Object.fromEntries(file))")
         got = {name: registers[int(name[0])][name[2:]] for name in state["values"] if ":" in name}
         faults += differs("the run to state %d" % at, got, {name: word for name, word in state["values"].items() if ":" in name})
+        faults += differs("rows of the table beside the run", bench.value("document.querySelectorAll('#states tbody tr').length"), len(found["states"]))
         faults += differs("its choices", bench.value("Object.fromEntries(shown.run.choices)"), {"used": len(state["choices"].split()), "stalled": 0, "unused": 0})
     bench.choose("outcomes")
     bench.fill("set-states", "3")
