@@ -54,5 +54,5 @@ function compareNow() {
 function takeMachine(text) {
   const machine = JSON.parse(text);
   for (const name of ['protocol', 'bus', 'depth']) settingOf(name).value = machine[name];
-  answerNow();
+  keepPosition(answerNow);
 }

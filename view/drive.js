@@ -236,6 +236,7 @@ const DRIVE_KEYS = {
 
 /** What a key does to the machine that is driven: whether it did anything. */
 function driveByKey(key) {
+  if (!byId('letter-keys').checked) return false;
   if (/^[0-7]$/.test(key) && Number(key) < firstHistory().cores) {
     drive.core = Number(key);
     markCore();

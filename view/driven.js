@@ -125,6 +125,13 @@ function historyWithin(options, input) {
   return history?.hasEnded(history.steps.length) ? { history } : told;
 }
 
+/** Does what makes the machine another, and stays after as many choices, where these are the same. */
+function keepPosition(act) {
+  const { isOn, count, words } = drive, isAmid = isOn && count < words.length;
+  act();
+  if (isAmid && drive.isOn && words.slice(0, count).join() === drive.words.slice(0, count).join()) goTo(count);
+}
+
 /** Shows a run as a machine that is driven, `isAtStart` before its choices and else after them. Answers whether it can be. */
 function showDriven(options, input, isAtStart) {
   const { history, tooMany } = bench.tracing ? historyWithin(options, input) : {};

@@ -78,7 +78,8 @@ class CorePanel {
   }
 
   makeParts({ sets, ways }) {
-    const button = (way, name) => html('button', { type: 'button', 'data-choice': `${this.core}${name}` }, `${way} `, html('code', {}));
+    const button = (way, name) => html('button', { type: 'button', 'data-choice': `${this.core}${name}` },
+      html('kbd', { 'aria-hidden': 'true' }, `${this.core}${name}`), ` ${way} `, html('code', {}));
     const list = (name, label, draw) => new Part(html('ul', { class: name, 'aria-label': label }), draw);
     this.step = button('step', 's');
     this.drain = button('drain', 'd');

@@ -72,7 +72,7 @@ byId('commands').addEventListener('change', () => {
   showSettings(currentCommand());
   answerNow();
 });
-byId('settings').addEventListener('input', answerNow);
+byId('settings').addEventListener('input', () => keepPosition(answerNow));
 byId('begin').addEventListener('click', begin);
 byId('skip').addEventListener('click', event => {
   event.preventDefault(); // what stands after # in the address is a test

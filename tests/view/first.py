@@ -77,6 +77,27 @@ def tabs_row(bench):
     return faults + differs("after the skip", bench.value(focused), "0s") + safety(bench)
 
 
+def keys_row(bench):
+    """A key stands on each button that it presses, and keys of one letter can be switched off."""
+    bench.open()
+    faults = differs("keys", bench.value("[...document.querySelectorAll('.core-buttons kbd')].map(each => each.textContent)"), ["0s", "0d", "1s", "1d"])
+    bench.value("byId('keys').open = true; byId('letter-keys').click(); byId('letter-keys').blur()")
+    bench.key_choice("1s")
+    faults += differs("made with the keys switched off", bench.value("drive.count"), 0)
+    bench.value("byId('letter-keys').click(); byId('letter-keys').blur()")
+    bench.key_choice("1s")
+    return faults + differs("made with them", bench.value("drive.words.slice(0, drive.count)"), ["1s"]) + safety(bench)
+
+
+def settings_row(bench):
+    """Another setting keeps the position, where the choices are the same."""
+    bench.open()
+    bench.value("goTo(3)")
+    bench.value("settingOf('protocol').value = 'mesi'; byId('settings').dispatchEvent(new Event('input'))")
+    faults = differs("after another protocol", bench.value("[drive.count, firstHistory().options.protocol]"), [3, "mesi"])
+    return faults + safety(bench)
+
+
 def sizes_row(bench):
     """What is pressed is large enough, and its border or ground stands out from what is around it by 3 to 1."""
     bench.open()
@@ -182,6 +203,8 @@ def rows(page, folder):
         ("four cores in a row", lambda: four_row(bench, folder)),
         ("the test in one line", lambda: folds_row(bench)),
         ("tabs to the first button", lambda: tabs_row(bench)),
+        ("keys on buttons", lambda: keys_row(bench)),
+        ("a setting in the middle", lambda: settings_row(bench)),
         ("sizes of what is pressed", lambda: sizes_row(bench)),
         ("the tree of the page", lambda: tree_row(bench)),
         ("meanings of words", lambda: meanings_row(bench)),
