@@ -28,3 +28,9 @@ pub mod TraceNumbers
 pub mod TraceRuns
 pub mod PrintedTraces
 pub mod MachineValues
+pub mod ReasonWords
+pub mod ReasonParts
+pub mod ReasonLines
+pub mod KnownWords
+pub mod EventsFit
+pub mod ReasonsFit

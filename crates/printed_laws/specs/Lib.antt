@@ -4,3 +4,4 @@ pub mod Outcomes
 pub mod Observed
 pub mod Traces
 pub mod TracedMachines
+pub mod Reasons

@@ -1,8 +1,8 @@
 //! What is printed tells what it shows: no form of an answer loses a part of it, and none prints two things alike.
 //!
 //! Nothing here computes. Each public function has no code of its own, and its contract is a law on the definitions of what
-//! `run`, `sweep`, `outcomes` and `trace` print. What the laws say stands in `specs/`: of what may be shown and counted, of the
-//! runs of a machine, of final states and what is observed of them, and of the steps of a trace.
+//! `run`, `sweep`, `outcomes`, `trace` and `why` print. What the laws say stands in `specs/`: of what may be shown and counted, of
+//! the runs of a machine, of final states and what is observed of them, of the steps of a trace, and of those of a refutation.
 #![tactic(auto)]
 
 ghost use Rattle.std.specs.Prelude.{true, false};
@@ -11,12 +11,16 @@ ghost use Rattle.printed_laws.specs.Telling.{ReportsTellTheirMachines, ReportsTe
 ghost use Rattle.printed_laws.specs.Telling.{SweepsTellTheirCounts, SweepsTellTheirMachines, UnfinishedRunsAreTold};
 
 pub mod outcomes;
+pub mod printed_reasons;
 pub mod traces;
 
 use order_builder::laws::{order_is_spelled_once, printed_order_is_spelled};
 pub use outcomes::{
     outcomes_tell_their_states, outcomes_tell_their_tests, printed_states_fit_their_test,
     words_mean_what_they_say,
+};
+pub use printed_reasons::{
+    reasons_tell_their_steps, reasons_tell_their_tests, steps_of_reasons_fit_their_test,
 };
 pub use traces::{
     printed_traces_are_told, printed_traces_tell_their_machines, traced_steps_fit_their_test,

@@ -1,0 +1,278 @@
+-- The lines of a reason tell its steps.
+use Rattle.std.proofs.Common.{◌≡◌, ◌∙◌, ℕ, zero, suc, ◌==◌, Bool, true, false, if◌then◌else◌, List, [], ◌∷◌, ◌++◌, map, length, get_or, All, Option, Some, None, refl, sym, ap}
+use Rattle.std.specs.Prelude.{codes}
+use Rattle.std.specs.Fmt.{decimal}
+use Rattle.std.specs.List.{list_all, flat_map}
+use Rattle.std.specs.Char.{is_ascii_digit}
+use Rattle.std.proofs.lemmas.Bool.{and_parts}
+use Rattle.std.proofs.lemmas.List.{append_assoc, append_cancel_left, length-replicate}
+use Rattle.std.proofs.lemmas.List.Elements.{All-head, All-tail}
+use Rattle.tso_model.specs.Litmus.{Litmus, IsTest}
+use Rattle.tso_model.specs.Condition.{Condition}
+use Rattle.tso_model.specs.Names.{is_printable, is_test_name}
+use Rattle.tso_report.specs.Report.{line, test_line}
+use Rattle.refutation_laws.specs.Edges.{on_location, global_in}
+use Rattle.refutation_laws.specs.declared.model.Model.{Model}
+use Rattle.refutation_laws.specs.declared.model.Model.TheVariants.{Tso, Sequential}
+use Rattle.reason_report.specs.declared.steps.Event.{Event}
+use Rattle.reason_report.specs.Steps.{Closing, Uniproc, Cycle, Amid, False, Step, Case, So, Leaf, Endcases, leaves_in}
+use Rattle.reason_report.specs.ReasonText.{model_name, asked_line, verdict_line, event_text, cycle_text, answer_text, place_text}
+use Rattle.reason_report.specs.ReasonText.{closing_text, blanks, step_line, never_line}
+use Rattle.printed_laws.specs.Reasons.{told_closing, told_step, ClosingFits, StepFits}
+use Rattle.printed_laws.specs.Reasons.{ReasonsTellTheirTests, ReasonsTellTheirSteps}
+use Rattle.printed_laws.proofs.Cutting.{run-cut}
+use Rattle.printed_laws.proofs.Digits.{all-digits}
+use Rattle.printed_laws.proofs.TraceWords.{read-cut, apart}
+use Rattle.printed_laws.proofs.ReasonParts.{answer-cut, cycle-cut, places-cut}
+use Rattle.printed_laws.proofs.ReasonWords.{event-cut, uniproc-told, global-told}
+
+-- ---- leaves
+
+amid-flat : (read between write rest : List ℕ) → (codes "Between " ++ (read ++ (codes " " ++ (between ++ (codes " " ++ write))))) ++ rest
+    ≡ codes "Between " ++ (read ++ (codes " " ++ (between ++ (codes " " ++ (write ++ rest)))))
+amid-flat read between write rest = simp append_assoc
+
+headed-flat : (head body rest : List ℕ) → (head ++ body) ++ rest ≡ head ++ (body ++ rest)
+headed-flat head body rest = append_assoc head body rest
+
+closing-cut : (model : Model) (t : Litmus) (a b : Closing) (rest other : List ℕ) → IsTest t → ClosingFits model t a → ClosingFits model t b
+    → closing_text t a ++ 10 ∷ rest ≡ closing_text t b ++ 10 ∷ other → (told_closing a ≡ told_closing b) × (rest ≡ other)
+closing-cut model t (Uniproc es) (Uniproc fs) rest other test p q e =
+    let cut = cycle-cut t on_location es fs rest other test uniproc-told p q (append_cancel_left (codes "Uniproc") (cycle_text t es ++ 10 ∷ rest) (cycle_text t fs ++ 10 ∷ other) e) in
+    (ap Uniproc cut.0, cut.1)
+closing-cut model t (Cycle es) (Cycle fs) rest other test p q e =
+    let cut = cycle-cut t (global_in model) es fs rest other test (global-told model) p q (append_cancel_left (codes "Cycle") (cycle_text t es ++ 10 ∷ rest) (cycle_text t fs ++ 10 ∷ other) e) in
+    (ap Cycle cut.0, cut.1)
+closing-cut model t (Amid a b c) (Amid r v w) rest other test p q e =
+    let after = λ (x : Event) (end : List ℕ). event_text t x ++ 10 ∷ end in
+    let flat = sym (amid-flat (event_text t a) (event_text t b) (event_text t c) (10 ∷ rest)) ∙ (e ∙ amid-flat (event_text t r) (event_text t v) (event_text t w) (10 ∷ other)) in
+    let second = λ (x y : Event) (end : List ℕ). event_text t x ++ (codes " " ++ after y end) in
+    let begun = append_cancel_left (codes "Between ") (event_text t a ++ (codes " " ++ second b c rest)) (event_text t r ++ (codes " " ++ second v w other)) flat in
+    let read = event-cut t a r (codes " " ++ second b c rest) (codes " " ++ second v w other) test p.0 q.0 refl refl begun in
+    let between = event-cut t b v (codes " " ++ after c rest) (codes " " ++ after w other) test p.1 q.1 refl refl (append_cancel_left (codes " ") (second b c rest) (second v w other) read.1) in
+    let write = event-cut t c w (10 ∷ rest) (10 ∷ other) test p.2 q.2 refl refl (append_cancel_left (codes " ") (after c rest) (after w other) between.1) in
+    ((λ i. Amid (read.0 i) (between.0 i) (write.0 i)), append_cancel_left (10 ∷ []) rest other write.1)
+closing-cut model t (False xs) (False ys) rest other test p q e =
+    let cut = places-cut t xs ys rest other test p q (append_cancel_left (codes "False") (flat_map (place_text t) xs ++ 10 ∷ rest) (flat_map (place_text t) ys ++ 10 ∷ other) e) in
+    (ap False cut.0, cut.1)
+closing-cut model t (Uniproc es) (Cycle fs) rest other test p q e = apart 85 67 _ _ refl e
+closing-cut model t (Uniproc es) (Amid r v w) rest other test p q e = apart 85 66 _ _ refl e
+closing-cut model t (Uniproc es) (False ys) rest other test p q e = apart 85 70 _ _ refl e
+closing-cut model t (Cycle es) (Uniproc fs) rest other test p q e = apart 67 85 _ _ refl e
+closing-cut model t (Cycle es) (Amid r v w) rest other test p q e = apart 67 66 _ _ refl e
+closing-cut model t (Cycle es) (False ys) rest other test p q e = apart 67 70 _ _ refl e
+closing-cut model t (Amid a b c) (Uniproc fs) rest other test p q e = apart 66 85 _ _ refl e
+closing-cut model t (Amid a b c) (Cycle fs) rest other test p q e = apart 66 67 _ _ refl e
+closing-cut model t (Amid a b c) (False ys) rest other test p q e = apart 66 70 _ _ refl e
+closing-cut model t (False xs) (Uniproc fs) rest other test p q e = apart 70 85 _ _ refl e
+closing-cut model t (False xs) (Cycle fs) rest other test p q e = apart 70 67 _ _ refl e
+closing-cut model t (False xs) (Amid r v w) rest other test p q e = apart 70 66 _ _ refl e
+
+-- ---- steps
+
+abbrev depth_of : Step → ℕ
+depth_of (Case depth answer) = depth
+depth_of (So depth answer) = depth
+depth_of (Leaf depth closing) = depth
+depth_of (Endcases depth) = depth
+
+-- a step's line behind its blanks, and what follows it
+abbrev body : Litmus → Step → List ℕ → List ℕ
+body t (Case depth answer) after = codes "Case " ++ (answer_text t answer ++ 10 ∷ after)
+body t (So depth answer) after = codes "So " ++ (answer_text t answer ++ 10 ∷ after)
+body t (Leaf depth closing) after = closing_text t closing ++ 10 ∷ after
+body t (Endcases depth) after = codes "Endcases" ++ 10 ∷ after
+
+answer-flat : (front head answer after : List ℕ) → (front ++ (head ++ line answer)) ++ after ≡ front ++ (head ++ (answer ++ 10 ∷ after))
+answer-flat front head answer after = simp append_assoc
+
+leaf-flat : (front closing after : List ℕ) → (front ++ line closing) ++ after ≡ front ++ (closing ++ 10 ∷ after)
+leaf-flat front closing after = simp append_assoc
+
+step-split : (t : Litmus) (s : Step) (after : List ℕ) → step_line t s ++ after ≡ blanks (depth_of s) ++ body t s after
+step-split t (Case depth answer) after = answer-flat (blanks depth) (codes "Case ") (answer_text t answer) after
+step-split t (So depth answer) after = answer-flat (blanks depth) (codes "So ") (answer_text t answer) after
+step-split t (Leaf depth closing) after = leaf-flat (blanks depth) (closing_text t closing) after
+step-split t (Endcases depth) after = leaf-flat (blanks depth) (codes "Endcases") after
+
+abbrev is_blank : ℕ → Bool
+is_blank b = b == 32
+
+-- the first byte behind the blanks
+abbrev first_byte : Step → ℕ
+first_byte (Case depth answer) = 67
+first_byte (So depth answer) = 83
+first_byte (Leaf depth (Uniproc edges)) = 85
+first_byte (Leaf depth (Cycle edges)) = 67
+first_byte (Leaf depth (Amid r v w)) = 66
+first_byte (Leaf depth (False places)) = 70
+first_byte (Endcases depth) = 69
+
+body-begins : (t : Litmus) (s : Step) (after : List ℕ) → (more : List ℕ) × (body t s after ≡ first_byte s ∷ more)
+body-begins t (Case depth answer) after = (_, refl)
+body-begins t (So depth answer) after = (_, refl)
+body-begins t (Leaf depth (Uniproc edges)) after = (_, refl)
+body-begins t (Leaf depth (Cycle edges)) after = (_, refl)
+body-begins t (Leaf depth (Amid r v w)) after = (_, refl)
+body-begins t (Leaf depth (False places)) after = (_, refl)
+body-begins t (Endcases depth) after = (_, refl)
+
+no-blank : (s : Step) → is_blank (first_byte s) ≡ false
+no-blank (Case depth answer) = refl
+no-blank (So depth answer) = refl
+no-blank (Leaf depth (Uniproc edges)) = refl
+no-blank (Leaf depth (Cycle edges)) = refl
+no-blank (Leaf depth (Amid r v w)) = refl
+no-blank (Leaf depth (False places)) = refl
+no-blank (Endcases depth) = refl
+
+no-verdict : (s : Step) → (first_byte s == 86) ≡ false
+no-verdict (Case depth answer) = refl
+no-verdict (So depth answer) = refl
+no-verdict (Leaf depth (Uniproc edges)) = refl
+no-verdict (Leaf depth (Cycle edges)) = refl
+no-verdict (Leaf depth (Amid r v w)) = refl
+no-verdict (Leaf depth (False places)) = refl
+no-verdict (Endcases depth) = refl
+
+all-blank : (n : ℕ) → list_all is_blank (blanks n) ≡ true
+all-blank zero = refl
+all-blank (suc n) = all-blank n
+
+blanks-cut : (m n : ℕ) (x y : ℕ) (xs ys : List ℕ) → is_blank x ≡ false → is_blank y ≡ false → blanks m ++ x ∷ xs ≡ blanks n ++ y ∷ ys → (m ≡ n) × (x ∷ xs ≡ y ∷ ys)
+blanks-cut m n x y xs ys p q e =
+    let cut = run-cut is_blank (blanks m) (blanks n) (x ∷ xs) (y ∷ ys) (all-blank m) (all-blank n) p q e in
+    (sym (length-replicate m 32) ∙ (ap (λ (l : List ℕ). length l) cut.0 ∙ length-replicate n 32), cut.1)
+
+body-cut : (model : Model) (t : Litmus) (a b : Step) (rest other : List ℕ) → IsTest t → StepFits model t a → StepFits model t b → depth_of a ≡ depth_of b
+    → body t a rest ≡ body t b other → (told_step a ≡ told_step b) × (rest ≡ other)
+body-cut model t (Case m a) (Case n b) rest other test p q same e =
+    let cut = answer-cut t a b rest other test p q (append_cancel_left (codes "Case ") (answer_text t a ++ 10 ∷ rest) (answer_text t b ++ 10 ∷ other) e) in
+    ((λ i. Case (same i) (cut.0 i)), cut.1)
+body-cut model t (So m a) (So n b) rest other test p q same e =
+    let cut = answer-cut t a b rest other test p q (append_cancel_left (codes "So ") (answer_text t a ++ 10 ∷ rest) (answer_text t b ++ 10 ∷ other) e) in
+    ((λ i. So (same i) (cut.0 i)), cut.1)
+body-cut model t (Leaf m a) (Leaf n b) rest other test p q same e =
+    let cut = closing-cut model t a b rest other test p q e in
+    ((λ i. Leaf (same i) (cut.0 i)), cut.1)
+body-cut model t (Endcases m) (Endcases n) rest other test p q same e = (ap Endcases same, append_cancel_left (codes "Endcases\n") rest other e)
+body-cut model t (Case m a) (So n b) rest other test p q same e = apart 67 83 _ _ refl e
+body-cut model t (Case m a) (Leaf n (Uniproc es)) rest other test p q same e = apart 67 85 _ _ refl e
+body-cut model t (Case m a) (Leaf n (Cycle es)) rest other test p q same e = apart 97 121 _ _ refl (append_cancel_left (codes "C") (codes "ase " ++ (answer_text t a ++ 10 ∷ rest)) (codes "ycle" ++ (cycle_text t es ++ 10 ∷ other)) e)
+body-cut model t (Case m a) (Leaf n (Amid r v w)) rest other test p q same e = apart 67 66 _ _ refl e
+body-cut model t (Case m a) (Leaf n (False ps)) rest other test p q same e = apart 67 70 _ _ refl e
+body-cut model t (Case m a) (Endcases n) rest other test p q same e = apart 67 69 _ _ refl e
+body-cut model t (So m a) (Case n b) rest other test p q same e = apart 83 67 _ _ refl e
+body-cut model t (So m a) (Leaf n (Uniproc es)) rest other test p q same e = apart 83 85 _ _ refl e
+body-cut model t (So m a) (Leaf n (Cycle es)) rest other test p q same e = apart 83 67 _ _ refl e
+body-cut model t (So m a) (Leaf n (Amid r v w)) rest other test p q same e = apart 83 66 _ _ refl e
+body-cut model t (So m a) (Leaf n (False ps)) rest other test p q same e = apart 83 70 _ _ refl e
+body-cut model t (So m a) (Endcases n) rest other test p q same e = apart 83 69 _ _ refl e
+body-cut model t (Leaf n (Uniproc es)) (Case m a) rest other test p q same e = apart 85 67 _ _ refl e
+body-cut model t (Leaf n (Cycle es)) (Case m a) rest other test p q same e = apart 121 97 _ _ refl (append_cancel_left (codes "C") (codes "ycle" ++ (cycle_text t es ++ 10 ∷ rest)) (codes "ase " ++ (answer_text t a ++ 10 ∷ other)) e)
+body-cut model t (Leaf n (Amid r v w)) (Case m a) rest other test p q same e = apart 66 67 _ _ refl e
+body-cut model t (Leaf n (False ps)) (Case m a) rest other test p q same e = apart 70 67 _ _ refl e
+body-cut model t (Leaf n (Uniproc es)) (So m a) rest other test p q same e = apart 85 83 _ _ refl e
+body-cut model t (Leaf n (Cycle es)) (So m a) rest other test p q same e = apart 67 83 _ _ refl e
+body-cut model t (Leaf n (Amid r v w)) (So m a) rest other test p q same e = apart 66 83 _ _ refl e
+body-cut model t (Leaf n (False ps)) (So m a) rest other test p q same e = apart 70 83 _ _ refl e
+body-cut model t (Leaf n (Uniproc es)) (Endcases m) rest other test p q same e = apart 85 69 _ _ refl e
+body-cut model t (Leaf n (Cycle es)) (Endcases m) rest other test p q same e = apart 67 69 _ _ refl e
+body-cut model t (Leaf n (Amid r v w)) (Endcases m) rest other test p q same e = apart 66 69 _ _ refl e
+body-cut model t (Leaf n (False ps)) (Endcases m) rest other test p q same e = apart 70 69 _ _ refl e
+body-cut model t (Endcases m) (Case n b) rest other test p q same e = apart 69 67 _ _ refl e
+body-cut model t (Endcases m) (So n b) rest other test p q same e = apart 69 83 _ _ refl e
+body-cut model t (Endcases m) (Leaf n (Uniproc es)) rest other test p q same e = apart 69 85 _ _ refl e
+body-cut model t (Endcases m) (Leaf n (Cycle es)) rest other test p q same e = apart 69 67 _ _ refl e
+body-cut model t (Endcases m) (Leaf n (Amid r v w)) rest other test p q same e = apart 69 66 _ _ refl e
+body-cut model t (Endcases m) (Leaf n (False ps)) rest other test p q same e = apart 69 70 _ _ refl e
+
+step-cut : (model : Model) (t : Litmus) (a b : Step) (rest other : List ℕ) → IsTest t → StepFits model t a → StepFits model t b
+    → step_line t a ++ rest ≡ step_line t b ++ other → (told_step a ≡ told_step b) × (rest ≡ other)
+step-cut model t a b rest other test p q e =
+    let flat = sym (step-split t a rest) ∙ (e ∙ step-split t b other) in
+    let x = body-begins t a rest in
+    let y = body-begins t b other in
+    let spelled = ap (λ (l : List ℕ). blanks (depth_of a) ++ l) (sym x.1) ∙ (flat ∙ ap (λ (l : List ℕ). blanks (depth_of b) ++ l) y.1) in
+    let cut = blanks-cut (depth_of a) (depth_of b) (first_byte a) (first_byte b) x.0 y.0 (no-blank a) (no-blank b) spelled in
+    body-cut model t a b rest other test p q cut.0 (x.1 ∙ (cut.1 ∙ sym y.1))
+
+-- ---- all lines
+
+-- the text doesn't begin with a step
+abbrev NoStep : List ℕ → Type 0
+NoStep text = get_or text 0 86 ≡ 86
+
+no-step : {A : Type 0} (t : Litmus) (s : Step) (ss : List Step) (end other : List ℕ) → NoStep other → flat_map (step_line t) (s ∷ ss) ++ end ≡ other → A
+no-step {A} t s ss end other ends e =
+    let after = flat_map (step_line t) ss ++ end in
+    let x = body-begins t s after in
+    by_depth (depth_of s) (first_byte s) x.0 (no-verdict s)
+    (ap (λ (l : List ℕ). blanks (depth_of s) ++ l) (sym x.1) ∙ (sym (step-split t s after) ∙ (sym (append_assoc (step_line t s) (flat_map (step_line t) ss) end) ∙ e)))
+  where
+    by_depth : (n b : ℕ) (more : List ℕ) → (b == 86) ≡ false → blanks n ++ b ∷ more ≡ other → A
+    by_depth zero b more differ same = apart b 86 [] [] differ (ap (λ (n : ℕ). n ∷ []) (ap (λ (l : List ℕ). get_or l 0 86) same ∙ ends))
+    by_depth (suc n) b more differ same = apart 32 86 [] [] refl (ap (λ (n : ℕ). n ∷ []) (ap (λ (l : List ℕ). get_or l 0 86) same ∙ ends))
+
+lines-cut : (model : Model) (t : Litmus) (xs ys : List Step) (end other : List ℕ) → IsTest t → All (StepFits model t) xs → All (StepFits model t) ys → NoStep end → NoStep other
+    → flat_map (step_line t) xs ++ end ≡ flat_map (step_line t) ys ++ other → map told_step xs ≡ map told_step ys
+lines-cut model t [] [] end other test p q ends ends' e = refl
+lines-cut model t [] (y ∷ ys) end other test p q ends ends' e = no-step t y ys other end ends (sym e)
+lines-cut model t (x ∷ xs) [] end other test p q ends ends' e = no-step t x xs end other ends' e
+lines-cut model t (x ∷ xs) (y ∷ ys) end other test p q ends ends' e =
+    let more = flat_map (step_line t) xs ++ end in
+    let more' = flat_map (step_line t) ys ++ other in
+    let flat = sym (append_assoc (step_line t x) (flat_map (step_line t) xs) end) ∙ (e ∙ append_assoc (step_line t y) (flat_map (step_line t) ys) other) in
+    let first = step-cut model t x y more more' test (All-head (StepFits model t) x xs p) (All-head (StepFits model t) y ys q) flat in
+    let further = lines-cut model t xs ys end other test (All-tail (StepFits model t) x xs p) (All-tail (StepFits model t) y ys q) ends ends' first.1 in
+    λ i. first.0 i ∷ further i
+
+verdict-no-step : (c : Option Condition) → NoStep (verdict_line c false)
+verdict-no-step None = refl
+verdict-no-step (Some c) = refl
+
+abbrev read_model : List ℕ → Model
+read_model text = if get_or text 0 0 == 116 then Tso else Sequential
+
+model-again : (model : Model) (after : List ℕ) → read_model (model_name model ++ after) ≡ model
+model-again Tso after = refl
+model-again Sequential after = refl
+
+never-flat : (model leaves rest : List ℕ) → (codes "Never " ++ (model ++ (codes " leaves=" ++ line leaves))) ++ rest ≡ codes "Never " ++ (model ++ (codes " leaves=" ++ (leaves ++ 10 ∷ rest)))
+never-flat model leaves rest = simp append_assoc
+
+never-cut : (model other_model : Model) (m n : ℕ) (rest other : List ℕ) → never_line model m ++ rest ≡ never_line other_model n ++ other → (model ≡ other_model) × (rest ≡ other)
+never-cut model other_model m n rest other e =
+    let x = decimal m ++ 10 ∷ rest in
+    let y = decimal n ++ 10 ∷ other in
+    let flat = sym (never-flat (model_name model) (decimal m) rest) ∙ (e ∙ never-flat (model_name other_model) (decimal n) other) in
+    let name = read-cut model_name read_model model other_model (codes " leaves=" ++ x) (codes " leaves=" ++ y) model-again
+    (append_cancel_left (codes "Never ") (model_name model ++ (codes " leaves=" ++ x)) (model_name other_model ++ (codes " leaves=" ++ y)) flat) in
+    let leaves = run-cut is_ascii_digit (decimal m) (decimal n) (10 ∷ rest) (10 ∷ other) (all-digits m) (all-digits n) refl refl (append_cancel_left (codes " leaves=") x y name.1) in
+    (name.0, append_cancel_left (10 ∷ []) rest other leaves.1)
+
+pub lines-tell : ReasonsTellTheirSteps
+lines-tell model t xs ys test p q e =
+    let end = verdict_line t.condition false in
+    let lines = λ (ss : List Step). flat_map (step_line t) ss ++ end in
+    let after = λ (ss : List Step). asked_line t.condition ++ lines ss in
+    let named = append_cancel_left (test_line t) (never_line model (leaves_in xs) ++ after xs) (never_line model (leaves_in ys) ++ after ys) e in
+    let begun = never-cut model model (leaves_in xs) (leaves_in ys) (after xs) (after ys) named in
+    lines-cut model t xs ys end end test p q (verdict-no-step t.condition) (verdict-no-step t.condition) (append_cancel_left (asked_line t.condition) (lines xs) (lines ys) begun.1)
+
+-- ---- the test
+
+printable-name : (name : List ℕ) → is_test_name name ≡ true → list_all is_printable name ≡ true
+printable-name [] is = absurd cc
+printable-name (c ∷ cs) is = let whole = and_parts _ _ is in let front = and_parts _ _ whole.0 in front.1
+
+test-flat : (name rest : List ℕ) → (codes "Test " ++ line name) ++ rest ≡ codes "Test " ++ (name ++ 10 ∷ rest)
+test-flat name rest = simp append_assoc
+
+pub lines-name : ReasonsTellTheirTests
+lines-name model other t u xs ys test test' e =
+    let after = λ (m : Model) (l : Litmus) (ss : List Step). never_line m (leaves_in ss) ++ (asked_line l.condition ++ (flat_map (step_line l) ss ++ verdict_line l.condition false)) in
+    let flat = sym (test-flat t.name (after model t xs)) ∙ (e ∙ test-flat u.name (after other u ys)) in
+    let begun = append_cancel_left (codes "Test ") (t.name ++ 10 ∷ after model t xs) (u.name ++ 10 ∷ after other u ys) flat in
+    let name = run-cut is_printable t.name u.name (10 ∷ after model t xs) (10 ∷ after other u ys) (printable-name t.name test.name_spelled) (printable-name u.name test'.name_spelled) refl refl begun in
+    (name.0, (never-cut model other (leaves_in xs) (leaves_in ys) _ _ (append_cancel_left (10 ∷ []) (after model t xs) (after other u ys) name.1)).0)

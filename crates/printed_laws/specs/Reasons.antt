@@ -1,0 +1,126 @@
+-- What `why` prints of a refutation tells its steps: of one test, steps that are told alike are the same.
+use Rattle.std.specs.Prelude.{ℕ, ◌≡◌, ◌<◌, true, List, [], ◌∷◌, map, length, All, Option, Some, None, IfSome, ◌⊎◌}
+use Rattle.std.specs.Option.{option_map}
+use Rattle.tso_model.specs.Litmus.{Litmus, IsTest}
+use Rattle.tso_model.specs.Registers.{IsWord}
+use Rattle.tso_model.specs.declared.execution.Kind.{Kind}
+use Rattle.tso_model.specs.declared.execution.Kind.TheVariants.{F}
+use Rattle.order_builder.specs.Spelling.{IsEntryFor}
+use Rattle.tso_report.specs.declared.named.Named.{Named}
+use Rattle.tso_report.specs.declared.named.Named.TheVariants.{Register, Location}
+use Rattle.refutation_laws.specs.Known.{bare}
+use Rattle.refutation_laws.specs.Edges.{on_location, global_in}
+use Rattle.refutation_laws.specs.Refutations.{Node, asked, refutes}
+use Rattle.refutation_laws.specs.declared.model.Model.{Model}
+use Rattle.refutation_laws.specs.declared.model.Relation.{Relation}
+use Rattle.reason_report.specs.Places.{Place}
+use Rattle.reason_report.specs.declared.steps.Event.{Event}
+use Rattle.reason_report.specs.declared.steps.Edge.{Edge}
+use Rattle.reason_report.specs.Steps.{Answer, From, Before, Closing, Uniproc, Cycle, Amid, False, Step, Case, So, Leaf, Endcases, steps_of}
+use Rattle.reason_report.specs.ReasonText.{never_text, never_lines}
+
+-- ---- what is told of a step
+
+-- all of an event but the value that its entry is written with, which doesn't count
+abbrev pub told_event : Event → Event
+told_event e = record { entry = bare e.entry; value = e.value }
+
+abbrev pub told_edge : Edge → Edge
+told_edge e = record { source = told_event e.source; relation = e.relation; target = told_event e.target }
+
+abbrev pub told_answer : Answer → Answer
+told_answer (From r ws) = From (told_event r) (map (option_map told_event) ws)
+told_answer (Before w v) = Before (told_event w) (told_event v)
+
+abbrev pub told_closing : Closing → Closing
+told_closing (Uniproc edges) = Uniproc (map told_edge edges)
+told_closing (Cycle edges) = Cycle (map told_edge edges)
+told_closing (Amid r v w) = Amid (told_event r) (told_event v) (told_event w)
+told_closing (False places) = False places
+
+abbrev pub told_step : Step → Step
+told_step (Case depth answer) = Case depth (told_answer answer)
+told_step (So depth answer) = So depth (told_answer answer)
+told_step (Leaf depth closing) = Leaf depth (told_closing closing)
+told_step (Endcases depth) = Endcases depth
+
+-- ---- steps that fit a test
+
+-- a word, where it is known; a fence has no value
+abbrev pub IsValueFor : Kind → Option ℕ → Type 0
+IsValueFor F value = value ≡ None
+IsValueFor _ value = IfSome value IsWord
+
+-- an event that a test may have
+pub record EventFits (t : Litmus) (e : Event) : Type 0 where
+  pub entry : IsEntryFor t (bare e.entry)
+  pub value : IsValueFor e.entry.kind e.value
+
+abbrev pub IsOneOf : List Relation → Option Relation → Type 0
+IsOneOf [] r = ⊥
+IsOneOf (x ∷ xs) r = (r ≡ Some x) ⊎ IsOneOf xs r
+
+-- edges of these relations, of which the first leads from this event, and each other one from where the one before it leads to
+abbrev pub LeadFrom : Litmus → List Relation → Event → List Edge → Type 0
+LeadFrom t relations source [] = Unit {0}
+LeadFrom t relations source (e ∷ es) =
+    (e.source ≡ source) × IsOneOf relations e.relation × EventFits t e.target × LeadFrom t relations e.target es
+
+abbrev pub CycleFits : Litmus → List Relation → List Edge → Type 0
+CycleFits t relations [] = Unit {0}
+CycleFits t relations (e ∷ es) = EventFits t e.source × LeadFrom t relations e.source (e ∷ es)
+
+abbrev pub AnswerFits : Litmus → Answer → Type 0
+AnswerFits t (From r ws) = EventFits t r × All (λ w. IfSome w (EventFits t)) ws
+AnswerFits t (Before w v) = EventFits t w × EventFits t v
+
+-- a register of a core by its number, or a location of the test
+abbrev pub IsNamed : Litmus → Named → Type 0
+IsNamed t (Register core reg) = core.0 < 256
+IsNamed t (Location loc) = loc.0 < length t.locations
+
+pub record PlaceFits (t : Litmus) (p : Place) : Type 0 where
+  pub named : IsNamed t p.named
+  pub values : All IsWord p.values
+
+abbrev pub ClosingFits : Model → Litmus → Closing → Type 0
+ClosingFits model t (Uniproc edges) = CycleFits t on_location edges
+ClosingFits model t (Cycle edges) = CycleFits t (global_in model) edges
+ClosingFits model t (Amid r v w) = EventFits t r × EventFits t v × EventFits t w
+ClosingFits model t (False places) = All (PlaceFits t) places
+
+-- what a step names is the test's, its values are words, and its edges are of relations of the model
+abbrev pub StepFits : Model → Litmus → Step → Type 0
+StepFits model t (Case depth answer) = AnswerFits t answer
+StepFits model t (So depth answer) = AnswerFits t answer
+StepFits model t (Leaf depth closing) = ClosingFits model t closing
+StepFits model t (Endcases depth) = Unit {0}
+
+-- ---- laws
+
+-- what is printed tells the test's name and the model, of any steps
+abbrev pub ReasonsTellTheirTests : Type 0
+ReasonsTellTheirTests =
+    (model other : Model) (t u : Litmus) (steps others : List Step)
+    → IsTest t → IsTest u → never_lines model t steps ≡ never_lines other u others → (t.name ≡ u.name) × (model ≡ other)
+
+-- the lines tell the steps: how many there are, and what each shows
+abbrev pub ReasonsTellTheirSteps : Type 0
+ReasonsTellTheirSteps =
+    (model : Model) (t : Litmus) (steps others : List Step)
+    → IsTest t → All (StepFits model t) steps → All (StepFits model t) others
+    → never_lines model t steps ≡ never_lines model t others → map told_step steps ≡ map told_step others
+
+-- the steps of a tree that refutes what the test asks fit the test
+abbrev pub StepsOfRefutationsFit : Type 0
+StepsOfRefutationsFit =
+    (model : Model) (t : Litmus) (nodes : List Node)
+    → IsTest t → refutes model t (asked t.condition) nodes ≡ true → All (StepFits model t) (steps_of model t (asked t.condition) nodes)
+
+-- so where the same lines are printed of two trees that refute what the test asks, they show the same steps
+abbrev pub PrintedRefutationsTellTheirSteps : Type 0
+PrintedRefutationsTellTheirSteps =
+    (model : Model) (t : Litmus) (nodes others : List Node)
+    → IsTest t → refutes model t (asked t.condition) nodes ≡ true → refutes model t (asked t.condition) others ≡ true
+    → never_text model t nodes ≡ never_text model t others
+    → map told_step (steps_of model t (asked t.condition) nodes) ≡ map told_step (steps_of model t (asked t.condition) others)

@@ -1,0 +1,51 @@
+//! What the printed lines of a refutation tell of each step, part by part.
+
+ghost use Rattle.std.specs.Prelude.{◌≡◌, ℕ, All, List, map, true};
+ghost use Rattle.printed_laws.specs.Reasons.{StepFits, told_edge, told_event, told_step};
+ghost use Rattle.reason_report.specs.ReasonText.{never_lines, never_text};
+ghost use Rattle.reason_report.specs.Steps.{Step, steps_of};
+ghost use Rattle.reason_report.specs.declared.steps.Edge.{Edge};
+ghost use Rattle.reason_report.specs.declared.steps.Event.{Event};
+ghost use Rattle.refutation_laws.specs.Refutations.{Node, asked, refutes};
+ghost use Rattle.refutation_laws.specs.declared.model.Model.{Model};
+ghost use Rattle.tso_model.specs.Litmus.{IsTest, Litmus};
+
+use printed_laws::{
+    reasons_tell_their_steps, reasons_tell_their_tests, steps_of_reasons_fit_their_test,
+};
+
+/// Lines that are the same tell the same steps, and so they do of trees that refute, whose steps fit the test; and they tell the
+/// test's name and the model.
+pub fn reasons_are_told_apart()
+    ensures steps { (model : Model) (t : Litmus) (steps others : List Step)
+        → IsTest t → All (StepFits model t) steps → All (StepFits model t) others
+        → never_lines model t steps ≡ never_lines model t others → map told_step steps ≡ map told_step others }
+    ensures trees { (model : Model) (t : Litmus) (nodes others : List Node)
+        → IsTest t → refutes model t (asked t.condition) nodes ≡ true → refutes model t (asked t.condition) others ≡ true
+        → never_text model t nodes ≡ never_text model t others
+        → map told_step (steps_of model t (asked t.condition) nodes) ≡ map told_step (steps_of model t (asked t.condition) others) }
+    ensures fit { (model : Model) (t : Litmus) (nodes : List Node)
+        → IsTest t → refutes model t (asked t.condition) nodes ≡ true
+        → All (StepFits model t) (steps_of model t (asked t.condition) nodes) }
+    ensures tests { (model other : Model) (t u : Litmus) (steps others : List Step)
+        → IsTest t → IsTest u → never_lines model t steps ≡ never_lines other u others → t.name ≡ u.name }
+    ensures models { (model other : Model) (t u : Litmus) (steps others : List Step)
+        → IsTest t → IsTest u → never_lines model t steps ≡ never_lines other u others → model ≡ other }
+{
+    reasons_tell_their_steps();
+    reasons_tell_their_tests();
+    steps_of_reasons_fit_their_test();
+}
+
+/// What is told of an event: its core, place, kind and location, and the value that is known; and of an edge both ends and the
+/// relation.
+pub fn an_event_is_told_by_its_parts()
+    ensures core { (e other : Event) → told_event e ≡ told_event other → e.entry.core.0 ≡ other.entry.core.0 }
+    ensures place { (e other : Event) → told_event e ≡ told_event other → e.entry.place ≡ other.entry.place }
+    ensures kind { (e other : Event) → told_event e ≡ told_event other → e.entry.kind ≡ other.entry.kind }
+    ensures loc { (e other : Event) → told_event e ≡ told_event other → e.entry.loc ≡ other.entry.loc }
+    ensures value { (e other : Event) → told_event e ≡ told_event other → e.value ≡ other.value }
+    ensures source { (e other : Edge) → told_edge e ≡ told_edge other → told_event e.source ≡ told_event other.source }
+    ensures relation { (e other : Edge) → told_edge e ≡ told_edge other → e.relation ≡ other.relation }
+    ensures target { (e other : Edge) → told_edge e ≡ told_edge other → told_event e.target ≡ told_event other.target }
+{}
