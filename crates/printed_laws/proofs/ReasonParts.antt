@@ -267,8 +267,17 @@ key-cut t (Location loc) (Location loc') rest other test p q e =
     let locs = same-loc loc loc' cut.0 in
     ((λ i. Location (locs i)), append_cancel_left (61 ∷ []) rest other cut.1)
 
-place-flat : (key words more rest : List ℕ) → ((codes " " ++ (key ++ (codes "=" ++ words))) ++ more) ++ rest ≡ codes " " ++ (key ++ 61 ∷ (words ++ (more ++ rest)))
-place-flat key words more rest = simp append_assoc
+place-flat : (key words rest : List ℕ) → (codes " " ++ (key ++ (codes "=" ++ words))) ++ rest ≡ codes " " ++ (key ++ 61 ∷ (words ++ rest))
+place-flat key words rest = simp append_assoc
+
+place-cut : (t : Litmus) (x y : Place) (rest other : List ℕ) → IsTest t → PlaceFits t x → PlaceFits t y → Gap rest → Gap other
+    → place_text t x ++ rest ≡ place_text t y ++ other → (x ≡ y) × (rest ≡ other)
+place-cut t x y rest other test p q gap gap' e =
+    let flat = sym (place-flat (key_of t x.named) (words_text x.values) rest) ∙ (e ∙ place-flat (key_of t y.named) (words_text y.values) other) in
+    let key = key-cut t x.named y.named (words_text x.values ++ rest) (words_text y.values ++ other) test p.named q.named
+    (append_cancel_left (codes " ") (key_of t x.named ++ 61 ∷ (words_text x.values ++ rest)) (key_of t y.named ++ 61 ∷ (words_text y.values ++ other)) flat) in
+    let words = words-cut x.values y.values rest other p.values q.values gap gap' key.1 in
+    ((λ i. record { named = key.0 i; values = words.0 i }), words.1)
 
 places-gap : (t : Litmus) (ps : List Place) (rest : List ℕ) → Gap (flat_map (place_text t) ps ++ 10 ∷ rest)
 places-gap t [] rest = refl
@@ -282,12 +291,7 @@ places-cut t (x ∷ xs) [] rest other test p q e = apart 32 10 _ other refl e
 places-cut t (x ∷ xs) (y ∷ ys) rest other test p q e =
     let more = flat_map (place_text t) xs ++ 10 ∷ rest in
     let more' = flat_map (place_text t) ys ++ 10 ∷ other in
-    let flat = sym (place-flat (key_of t x.named) (words_text x.values) (flat_map (place_text t) xs) (10 ∷ rest))
-    ∙ (e ∙ place-flat (key_of t y.named) (words_text y.values) (flat_map (place_text t) ys) (10 ∷ other)) in
-    let px = All-head (PlaceFits t) x xs p in
-    let py = All-head (PlaceFits t) y ys q in
-    let key = key-cut t x.named y.named (words_text x.values ++ more) (words_text y.values ++ more') test px.named py.named
-    (append_cancel_left (codes " ") (key_of t x.named ++ 61 ∷ (words_text x.values ++ more)) (key_of t y.named ++ 61 ∷ (words_text y.values ++ more')) flat) in
-    let words = words-cut x.values y.values more more' px.values py.values (places-gap t xs rest) (places-gap t ys other) key.1 in
-    let further = places-cut t xs ys rest other test (All-tail (PlaceFits t) x xs p) (All-tail (PlaceFits t) y ys q) words.1 in
-    ((λ i. record { named = key.0 i; values = words.0 i } ∷ further.0 i), further.1)
+    let flat = sym (append_assoc (place_text t x) (flat_map (place_text t) xs) (10 ∷ rest)) ∙ (e ∙ append_assoc (place_text t y) (flat_map (place_text t) ys) (10 ∷ other)) in
+    let first = place-cut t x y more more' test (All-head (PlaceFits t) x xs p) (All-head (PlaceFits t) y ys q) (places-gap t xs rest) (places-gap t ys other) flat in
+    let further = places-cut t xs ys rest other test (All-tail (PlaceFits t) x xs p) (All-tail (PlaceFits t) y ys q) first.1 in
+    ((λ i. first.0 i ∷ further.0 i), further.1)
