@@ -34,3 +34,4 @@ pub mod ReasonLines
 pub mod KnownWords
 pub mod EventsFit
 pub mod ReasonsFit
+pub mod ReasonValues

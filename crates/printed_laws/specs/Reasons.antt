@@ -1,5 +1,5 @@
 -- What `why` prints of a refutation tells its steps: of one test, steps that are told alike are the same.
-use Rattle.std.specs.Prelude.{ℕ, ◌≡◌, ◌<◌, true, List, [], ◌∷◌, map, length, All, Option, Some, None, IfSome, ◌⊎◌}
+use Rattle.std.specs.Prelude.{ℕ, ◌≡◌, ◌<◌, ◌^◌, true, List, [], ◌∷◌, map, length, All, Option, Some, None, IfSome, ◌⊎◌}
 use Rattle.std.specs.Option.{option_map}
 use Rattle.tso_model.specs.Litmus.{Litmus, IsTest}
 use Rattle.tso_model.specs.Registers.{IsWord}
@@ -16,8 +16,9 @@ use Rattle.refutation_laws.specs.declared.model.Relation.{Relation}
 use Rattle.reason_report.specs.Places.{Place}
 use Rattle.reason_report.specs.declared.steps.Event.{Event}
 use Rattle.reason_report.specs.declared.steps.Edge.{Edge}
-use Rattle.reason_report.specs.Steps.{Answer, From, Before, Closing, Uniproc, Cycle, Amid, False, Step, Case, So, Leaf, Endcases, steps_of}
+use Rattle.reason_report.specs.Steps.{Answer, From, Before, Closing, Uniproc, Cycle, Amid, False, Step, Case, So, Leaf, Endcases, leaves_in, steps_of}
 use Rattle.reason_report.specs.ReasonText.{never_text, never_lines}
+use Rattle.reason_report.specs.ReasonJson as json
 
 -- ---- what is told of a step
 
@@ -124,3 +125,33 @@ PrintedRefutationsTellTheirSteps =
     → IsTest t → refutes model t (asked t.condition) nodes ≡ true → refutes model t (asked t.condition) others ≡ true
     → never_text model t nodes ≡ never_text model t others
     → map told_step (steps_of model t (asked t.condition) nodes) ≡ map told_step (steps_of model t (asked t.condition) others)
+
+-- ---- the same as JSON
+
+-- what the JSON value tells of a step: the same, but where a proposition is false not which places say so
+abbrev pub told_by_value : Step → Step
+told_by_value (Case depth answer) = Case depth (told_answer answer)
+told_by_value (So depth answer) = So depth (told_answer answer)
+told_by_value (Leaf depth (Uniproc edges)) = Leaf depth (Uniproc (map told_edge edges))
+told_by_value (Leaf depth (Cycle edges)) = Leaf depth (Cycle (map told_edge edges))
+told_by_value (Leaf depth (Amid r v w)) = Leaf depth (Amid (told_event r) (told_event v) (told_event w))
+told_by_value (Leaf depth (False places)) = Leaf depth (False [])
+told_by_value (Endcases depth) = Endcases depth
+
+abbrev pub depth_in : Step → ℕ
+depth_in (Case depth answer) = depth
+depth_in (So depth answer) = depth
+depth_in (Leaf depth closing) = depth
+depth_in (Endcases depth) = depth
+
+-- steps that a JSON value holds: there are fewer than 2^64, and none is deeper
+pub record AreCounted (steps : List Step) : Type 0 where
+  pub few : leaves_in steps < 2 ^ 64
+  pub depths : All (λ s. depth_in s < 2 ^ 64) steps
+
+-- the JSON value tells the steps
+abbrev pub ReasonValuesTellTheirSteps : Type 0
+ReasonValuesTellTheirSteps =
+    (model : Model) (t : Litmus) (steps others : List Step)
+    → IsTest t → All (StepFits model t) steps → All (StepFits model t) others → AreCounted steps → AreCounted others
+    → json.never_line model t steps ≡ json.never_line model t others → map told_by_value steps ≡ map told_by_value others

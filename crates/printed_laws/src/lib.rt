@@ -21,6 +21,7 @@ pub use outcomes::{
 };
 pub use printed_reasons::{
     reasons_tell_their_steps, reasons_tell_their_tests, steps_of_reasons_fit_their_test,
+    values_of_reasons_tell_their_steps,
 };
 pub use traces::{
     printed_traces_are_told, printed_traces_tell_their_machines, traced_steps_fit_their_test,

@@ -1,6 +1,6 @@
 //! What `why` prints of a refutation tells its steps: each answer, and why each case is closed.
 
-ghost use Rattle.printed_laws.specs.Reasons.{ReasonsTellTheirTests, ReasonsTellTheirSteps};
+ghost use Rattle.printed_laws.specs.Reasons.{ReasonsTellTheirTests, ReasonsTellTheirSteps, ReasonValuesTellTheirSteps};
 ghost use Rattle.printed_laws.specs.Reasons.{StepsOfRefutationsFit, PrintedRefutationsTellTheirSteps};
 
 /// The lines of a refutation tell its steps, how deep each stands and all that it shows: the events with the values that are known
@@ -9,6 +9,11 @@ ghost use Rattle.printed_laws.specs.Reasons.{StepsOfRefutationsFit, PrintedRefut
 pub fn reasons_tell_their_steps()
     ensures lines { ReasonsTellTheirSteps }
     ensures printed { PrintedRefutationsTellTheirSteps }
+{}
+
+/// The JSON value of a refutation tells its steps in the same way, but where a proposition is false not which places say so.
+pub fn values_of_reasons_tell_their_steps()
+    ensures { ReasonValuesTellTheirSteps }
 {}
 
 /// The lines of a refutation tell the test's name and the model.

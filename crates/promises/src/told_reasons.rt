@@ -1,9 +1,10 @@
 //! What the printed lines of a refutation tell of each step, part by part.
 
-ghost use Rattle.std.specs.Prelude.{◌≡◌, ℕ, All, List, map, true};
-ghost use Rattle.printed_laws.specs.Reasons.{StepFits, told_edge, told_event, told_step};
+ghost use Rattle.std.specs.Prelude.{◌≡◌, ◌<◌, ℕ, All, List, map, true};
+ghost use Rattle.printed_laws.specs.Reasons.{StepFits, depth_in, told_by_value, told_edge, told_event, told_step};
+ghost use Rattle.reason_report.specs.ReasonJson.{never_line};
 ghost use Rattle.reason_report.specs.ReasonText.{never_lines, never_text};
-ghost use Rattle.reason_report.specs.Steps.{Step, steps_of};
+ghost use Rattle.reason_report.specs.Steps.{Step, leaves_in, steps_of};
 ghost use Rattle.reason_report.specs.declared.steps.Edge.{Edge};
 ghost use Rattle.reason_report.specs.declared.steps.Event.{Event};
 ghost use Rattle.refutation_laws.specs.Refutations.{Node, asked, refutes};
@@ -12,10 +13,11 @@ ghost use Rattle.tso_model.specs.Litmus.{IsTest, Litmus};
 
 use printed_laws::{
     reasons_tell_their_steps, reasons_tell_their_tests, steps_of_reasons_fit_their_test,
+    values_of_reasons_tell_their_steps,
 };
 
-/// Lines that are the same tell the same steps, and so they do of trees that refute, whose steps fit the test; and they tell the
-/// test's name and the model.
+/// Lines that are the same tell the same steps, and so they do of trees that refute, whose steps fit the test; so do JSON values, but
+/// not the places of a false proposition. The lines also tell the test's name and the model.
 pub fn reasons_are_told_apart()
     ensures steps { (model : Model) (t : Litmus) (steps others : List Step)
         → IsTest t → All (StepFits model t) steps → All (StepFits model t) others
@@ -27,6 +29,11 @@ pub fn reasons_are_told_apart()
     ensures fit { (model : Model) (t : Litmus) (nodes : List Node)
         → IsTest t → refutes model t (asked t.condition) nodes ≡ true
         → All (StepFits model t) (steps_of model t (asked t.condition) nodes) }
+    ensures values { (model : Model) (t : Litmus) (steps others : List Step)
+        → IsTest t → All (StepFits model t) steps → All (StepFits model t) others
+        → leaves_in steps < 18446744073709551616 → leaves_in others < 18446744073709551616
+        → All (λ s. depth_in s < 18446744073709551616) steps → All (λ s. depth_in s < 18446744073709551616) others
+        → never_line model t steps ≡ never_line model t others → map told_by_value steps ≡ map told_by_value others }
     ensures tests { (model other : Model) (t u : Litmus) (steps others : List Step)
         → IsTest t → IsTest u → never_lines model t steps ≡ never_lines other u others → t.name ≡ u.name }
     ensures models { (model other : Model) (t u : Litmus) (steps others : List Step)
@@ -35,6 +42,7 @@ pub fn reasons_are_told_apart()
     reasons_tell_their_steps();
     reasons_tell_their_tests();
     steps_of_reasons_fit_their_test();
+    values_of_reasons_tell_their_steps();
 }
 
 /// What is told of an event: its core, place, kind and location, and the value that is known; and of an edge both ends and the
