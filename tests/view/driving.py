@@ -28,7 +28,7 @@ def driven_row(bench, name, test, choices, settings, way):
         faults += faults_at(bench, whole, count)
         if len(faults) > 5:
             return faults
-    faults += differs("the choices that are written", bench.value("byId('choices').value").split(), words)
+    faults += differs("the choices that are written", bench.value("choicesText()").split(), words)
     run = {key: value for key, value in bench.trace().items() if key in ("order", "registers", "memory", "unfinished")}
     if "order" in run:
         faults += differs("the order at the end", bench.value("shown.run.order.map(entry => entry.text)"), run["order"])
