@@ -99,7 +99,7 @@ def settings_row(bench):
 
 
 def sizes_row(bench):
-    """What is pressed is large enough, and its border or ground stands out from what is around it by 3 to 1."""
+    """What is pressed is large enough."""
     bench.open()
     bench.value("byId('test-part').open = true")
     small = bench.value("""[...document.querySelectorAll('button, select, input:not([type=radio]), summary, textarea')].filter(each => each.getClientRects().length > 0)
