@@ -154,7 +154,7 @@ sys.path.insert(0, sys.argv[1])
 import documents, judging
 program, folder = sys.argv[2:4]
 # The checkout's names of what is installed, but for the script's own words, and for where hints, and the note on them, name a tool.
-CHECKOUT = re.compile(r"""\./tso(?: (?!--prove|--install|--uninstall)|['"]).*|^(?!hint: |These pages ).*\btools/(?:%s)\b""" % sys.argv[4])
+CHECKOUT = re.compile(r"""\./tso(?: (?!--prove|--program|--install|--uninstall)|['"]).*|^(?!hint: |These pages ).*\btools/(?:%s)\b""" % sys.argv[4])
 paths = sorted(glob.glob(os.path.join(folder, "**", "*.md"), recursive=True))
 faults = [] if len(paths) > 10 else ["there are %d documents" % len(paths)]
 for path in paths + [os.path.join(folder, "view", name) for name in ("index.html", "settings.js")]:

@@ -51,6 +51,15 @@ pub fn a_shape_within_limits_is_made(sets: u8, ways: u8, words: u8) -> Option<Sh
     Shape::new(sets, ways, words)
 }
 
+/// Whoever looks at a shape knows that it is within the limits.
+pub fn a_shape_is_within_limits(shape: &Shape) -> (u8, u8, u8)
+    ensures sets { (1 ≤ result.0) × (result.0 ≤ 8) }
+    ensures ways { (1 ≤ result.1) × (result.1 ≤ 8) }
+    ensures words { (result.2 ≡ 1) ⊎ (result.2 ≡ 2) ⊎ (result.2 ≡ 4) }
+{
+    (shape.sets(), shape.ways(), shape.words())
+}
+
 /// Where nothing else is asked for, a cache has one set of two ways, with lines of one word.
 pub fn the_shape_by_default() -> Shape
     ensures sets { result.sets ≡ 1 }
@@ -70,6 +79,16 @@ pub fn a_configuration_within_limits_is_made(depth: u8, shape: Shape, bus: Bus) 
     Config::new(depth, shape, bus)
 }
 
+/// Whoever looks at a configuration knows that it is within the limits: those of its buffers and those of its caches.
+pub fn a_configuration_is_within_limits(config: &Config) -> u8
+    ensures depth { result ≤ 32 }
+    ensures sets { (1 ≤ config.now.shape.sets) × (config.now.shape.sets ≤ 8) }
+    ensures ways { (1 ≤ config.now.shape.ways) × (config.now.shape.ways ≤ 8) }
+    ensures words { (config.now.shape.words ≡ 1) ⊎ (config.now.shape.words ≡ 2) ⊎ (config.now.shape.words ≡ 4) }
+{
+    config.depth()
+}
+
 /// A sweep has from 1 to 1,000 seeds, each of at most 100,000 choices.
 pub fn a_plan_within_limits_is_made(from: u32, seeds: u32, length: u32) -> Option<SweepPlan>
     ensures made { IsSome result ↔ ((1 ≤ seeds) × (seeds ≤ 1000) × (length ≤ 100000)) }
@@ -80,6 +99,14 @@ pub fn a_plan_within_limits_is_made(from: u32, seeds: u32, length: u32) -> Optio
     SweepPlan::new(from, seeds, length)
 }
 
+/// Whoever looks at a plan knows that it is within the limits.
+pub fn a_plan_is_within_limits(plan: &SweepPlan) -> u32
+    ensures seeds { (1 ≤ result) × (result ≤ 1000) }
+    ensures length { plan.now.length ≤ 100000 }
+{
+    plan.seeds()
+}
+
 /// A search keeps from 1 to 10,000,000 states, with store buffers of from 0 to 32 stores.
 pub fn a_search_within_limits_is_made(depth: u8, states: u32) -> Option<SearchPlan>
     ensures made { IsSome result ↔ ((depth ≤ 32) × (1 ≤ states) × (states ≤ 10000000)) }
@@ -87,4 +114,12 @@ pub fn a_search_within_limits_is_made(depth: u8, states: u32) -> Option<SearchPl
     ensures states { IfSome result (λ p. p.states ≡ states) }
 {
     SearchPlan::new(depth, states)
+}
+
+/// Whoever looks at a search knows that it is within the limits.
+pub fn a_search_is_within_limits(search: &SearchPlan) -> u8
+    ensures depth { result ≤ 32 }
+    ensures states { (1 ≤ search.now.states) × (search.now.states ≤ 10000000) }
+{
+    search.depth()
 }

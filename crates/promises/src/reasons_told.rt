@@ -110,3 +110,10 @@ pub fn a_reason_within_limits_is_looked_for(model: model::Model, cases: u32) -> 
 {
     ReasonPlan::new(model, cases)
 }
+
+/// Whoever looks at a search for a reason knows that it is within the limits.
+pub fn a_search_for_a_reason_is_within_limits(plan: &ReasonPlan) -> u32
+    ensures { (1 ≤ result) × (result ≤ 1000000) }
+{
+    plan.cases()
+}

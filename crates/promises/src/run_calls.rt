@@ -46,14 +46,14 @@ pub fn a_search_has_its_depth(plan: SearchPlan) -> u8
 }
 
 /// A configuration has at least one set, and no more than the limit.
-pub fn sets_are_within_limits(config: Config) -> u8
+pub fn sets_are_within_limits(config: &Config) -> u8
     ensures within { (1 ≤ result) × (result ≤ 8) }
 {
     config.sets()
 }
 
 /// A configuration has at least one way, and no more than the limit.
-pub fn ways_are_within_limits(config: Config) -> u8
+pub fn ways_are_within_limits(config: &Config) -> u8
     ensures within { (1 ≤ result) × (result ≤ 8) }
 {
     config.ways()
