@@ -6,9 +6,9 @@ use Rattle.tso_model.specs.declared.execution.Entry.{Entry}
 use Rattle.relational_model.specs.Events.{IsIn}
 use Rattle.relational_model.proofs.Lists.{in-none, in-first, in-later, in-append, in-left, in-right, in-filter, filter-in}
 use Rattle.relational_model.proofs.KindFacts.{same-number, number-same}
-use Rattle.relational_model.proofs.Sizes.{Once, once-filter}
+use Rattle.relational_model.proofs.Sizes.{once-filter}
 use Rattle.relational_model.proofs.Events.{once-append}
-use Rattle.relational_model.proofs.Sorting.{GoesForward}
+use Rattle.relational_model.specs.inner.Rows.{GoesForward, Once}
 use Rattle.refutation_laws.proofs.Tests.{any-in}
 use Rattle.reasons.specs.inner.Precedence.{is_first, IsParted, IsSorted}
 

@@ -9,19 +9,18 @@ use Rattle.relational_model.specs.Events.{IsIn}
 use Rattle.relational_model.specs.Candidates.{events_from}
 use Rattle.relational_model.proofs.Lists.{in-case, in-none, in-first, in-later, in-filter, filter-in}
 use Rattle.relational_model.proofs.KindFacts.{and-both}
-use Rattle.relational_model.proofs.Sizes.{Once, once-filter}
+use Rattle.relational_model.proofs.Sizes.{once-filter}
 use Rattle.relational_model.proofs.Events.{once-events}
-use Rattle.relational_model.proofs.Sorting.{Ordered}
+use Rattle.relational_model.specs.inner.Rows.{Ordered, Once}
 use Rattle.refutation_laws.specs.Known.{Known, bare, events_of}
 use Rattle.refutation_laws.specs.Edges.{on_location, global_in, is_edge, are_parts, is_between}
 use Rattle.refutation_laws.specs.Values.{allows}
 use Rattle.refutation_laws.specs.Refutations.{is_node, asked, asked_by}
 use Rattle.refutation_laws.specs.Models.{IsMet}
-use Rattle.refutation_laws.specs.inner.FullCases.{IsFull, IsSound}
+use Rattle.refutation_laws.specs.inner.FullCases.{IsFull, IsSound, NoneBetween}
 use Rattle.refutation_laws.specs.declared.model.Model.{Model}
 use Rattle.refutation_laws.specs.inner.Orders.{comes_toward, is_load_part, IsRow, valued, with_loads, order_of}
 use Rattle.refutation_laws.proofs.Building.{one-event}
-use Rattle.refutation_laws.proofs.Allowing.{NoneBetween}
 use Rattle.refutation_laws.proofs.Progress.{never-stuck}
 use Rattle.refutation_laws.proofs.Settling.{IsOpen}
 use Rattle.refutation_laws.proofs.Completeness.{six-of}

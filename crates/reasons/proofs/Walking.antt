@@ -6,8 +6,8 @@ use Rattle.tso_model.specs.Litmus.{Litmus}
 use Rattle.tso_model.specs.declared.execution.Entry.{Entry}
 use Rattle.relational_model.specs.Events.{IsIn}
 use Rattle.relational_model.proofs.Lists.{in-case, in-none, in-first, in-later}
-use Rattle.relational_model.proofs.Sizes.{Once, no-more}
-use Rattle.relational_model.proofs.Sorting.{Ordered}
+use Rattle.relational_model.proofs.Sizes.{no-more}
+use Rattle.relational_model.specs.inner.Rows.{Ordered, Once}
 use Rattle.refutation_laws.specs.Known.{bare, same_event, is_event, events_of}
 use Rattle.refutation_laws.specs.Edges.{leads_back, is_cycle}
 use Rattle.refutation_laws.proofs.Tests.{and-of}

@@ -15,7 +15,7 @@ use Rattle.relational_model.proofs.Found.{kind-itself}
 use Rattle.relational_model.proofs.Sources.{never-itself}
 use Rattle.relational_model.proofs.Order.{stand-once, location}
 use Rattle.relational_model.proofs.Forward.{starts-in}
-use Rattle.relational_model.proofs.Sorting.{Ordered}
+use Rattle.relational_model.specs.inner.Rows.{Ordered}
 use Rattle.relational_model.proofs.Events.{Sound, sound}
 use Rattle.relational_model.specs.SequentialModel as sc
 use Rattle.relational_model.specs.SequentialModel.{IsBeforeSequentially}
@@ -31,7 +31,7 @@ use Rattle.refutation_laws.proofs.Standing.{Of, of-event, same-bare}
 use Rattle.refutation_laws.proofs.Tests.{and-of, or-first, or-second, any-in}
 use Rattle.refutation_laws.proofs.Relating.{OneOf, edge-by, of-bare, fr-bare}
 use Rattle.refutation_laws.proofs.Rows.{Edge, ordered-acyclic, never-back-at}
-use Rattle.refutation_laws.specs.inner.FullCases.{IsPossible}
+use Rattle.refutation_laws.specs.inner.FullCases.{IsPossible, NoneBetween}
 use Rattle.refutation_laws.proofs.Settling.{First, IsOpen, entry_among, entry_of, found, is-event, own_events, own_candidate, writes-row, own-in, place, one-own, first-source, settled}
 
 matched : (xs : List Entry) (w y : Entry) → entry_among xs w ≡ Some y → same_event w y ≡ true
@@ -52,11 +52,6 @@ different m n d = go (m == n) refl
     go : (b : Bool) → (m == n) ≡ b → not b ≡ true
     go true q = absurd (d (same-number m n q))
     go false q = refl
-
--- no write is known to stand between the parts of a locked instruction
-abbrev pub NoneBetween : Litmus → Known → Type 0
-NoneBetween t k =
-    (r v w : Entry) → IsIn (events_of t) r → IsIn (events_of t) v → IsIn (events_of t) w → is_between t k r v w ≡ true → ⊥
 
 module _ (model : Model) (t : Litmus) (k : Known) (o : IsOpen model t k) where
   abbrev es : List Entry

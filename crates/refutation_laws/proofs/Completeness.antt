@@ -14,13 +14,13 @@ use Rattle.refutation_laws.specs.Refutations.{Node, OnLocation, Globally, Betwee
 use Rattle.refutation_laws.specs.Models.{IsRefuted, HasCandidate}
 use Rattle.refutation_laws.proofs.Tests.{any-in, any-holds}
 use Rattle.refutation_laws.proofs.Composing.{HasTrees, EachHasOne, has-tree}
-use Rattle.relational_model.proofs.Sorting.{Ordered}
+use Rattle.relational_model.specs.inner.Rows.{Ordered}
 use Rattle.refutation_laws.proofs.Rows.{HasCycle, Edge, cycle-or-row}
-use Rattle.refutation_laws.specs.inner.FullCases.{IsFull}
+use Rattle.refutation_laws.specs.inner.FullCases.{IsFull, NoneBetween}
 use Rattle.refutation_laws.proofs.Asking.{Answer, all-asked}
 use Rattle.refutation_laws.proofs.Determined.{HaveSix}
 use Rattle.refutation_laws.proofs.Settling.{is-event, IsOpen, own_candidate}
-use Rattle.refutation_laws.proofs.Allowing.{NoneBetween, is-allowed}
+use Rattle.refutation_laws.proofs.Allowing.{is-allowed}
 use Rattle.refutation_laws.proofs.Exactness.{claim-exact}
 
 -- ---- a write between the parts of a locked instruction, among these events

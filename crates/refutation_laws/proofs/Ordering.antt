@@ -25,8 +25,7 @@ use Rattle.relational_model.proofs.KindFacts.{and-both, same-number, number-same
 use Rattle.relational_model.proofs.Found.{equal-kinds, kind-itself}
 use Rattle.relational_model.proofs.Fences.{parts}
 use Rattle.relational_model.proofs.Same.{only}
-use Rattle.relational_model.proofs.Sizes.{Once}
-use Rattle.relational_model.proofs.Sorting.{GoesForward}
+use Rattle.relational_model.specs.inner.Rows.{GoesForward, Once}
 use Rattle.relational_model.proofs.Decisions.{Goes, kinds}
 use Rattle.relational_model.proofs.Together.{Toward, pair, answer, load-of, put, in-put}
 use Rattle.relational_model.proofs.Events.{sound}
@@ -45,7 +44,8 @@ use Rattle.refutation_laws.proofs.Tests.{and-of, or-first, or-second, any-in}
 use Rattle.refutation_laws.proofs.Standing.{Of, of-event, bare-events}
 use Rattle.refutation_laws.proofs.Relating.{rf-bare, fr-bare}
 use Rattle.refutation_laws.proofs.Settling.{IsOpen, own_events, own_candidate, own-in, one-own, all-given, all-known-values}
-use Rattle.refutation_laws.proofs.Allowing.{NoneBetween, different, rf-known, co-known, fr-known, is-allowed}
+use Rattle.refutation_laws.specs.inner.FullCases.{NoneBetween}
+use Rattle.refutation_laws.proofs.Allowing.{different, rf-known, co-known, fr-known, is-allowed}
 use Rattle.refutation_laws.proofs.Exactness.{claim-exact}
 
 -- ---- a fence has no value

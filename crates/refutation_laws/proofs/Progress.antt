@@ -14,7 +14,8 @@ use Rattle.relational_model.proofs.Lists.{in-case, in-none, in-first, in-later, 
 use Rattle.relational_model.proofs.KindFacts.{and-both, or-either, same-number, number-same}
 use Rattle.relational_model.proofs.Order.{location}
 use Rattle.relational_model.proofs.Decisions.{Goes, member}
-use Rattle.relational_model.proofs.Sorting.{GoesForward, Row, in-a-row}
+use Rattle.relational_model.specs.inner.Rows.{GoesForward, Row}
+use Rattle.relational_model.proofs.Sorting.{in-a-row}
 use Rattle.relational_model.proofs.Together.{Toward, toward, pair-goes, way, others, is-other, other-is}
 use Rattle.relational_model.proofs.Events.{Sound, sound}
 use Rattle.relational_model.proofs.Converse.{CanBeKept, goes-kept}
@@ -27,7 +28,7 @@ use Rattle.refutation_laws.specs.declared.known.Source.{Source}
 use Rattle.refutation_laws.specs.declared.known.Pair.{Pair}
 use Rattle.refutation_laws.specs.declared.model.Model.{Model}
 use Rattle.refutation_laws.specs.declared.model.Model.TheVariants.{Tso, Sequential}
-use Rattle.refutation_laws.specs.inner.FullCases.{IsPossible, ArePossible, AreSingle, AreOfReads, ArePairsOfWrites, IsSound}
+use Rattle.refutation_laws.specs.inner.FullCases.{IsPossible, ArePossible, AreSingle, AreOfReads, ArePairsOfWrites, IsSound, NoneBetween}
 use Rattle.refutation_laws.specs.inner.Orders.{is_kept_by, must_precede, comes_toward, is_load_part, valued}
 use Rattle.refutation_laws.proofs.Tests.{and-of, or-first, or-second, any-in, any-holds}
 use Rattle.refutation_laws.proofs.Standing.{Of, of-event, same-bare}
@@ -35,7 +36,7 @@ use Rattle.refutation_laws.proofs.Soundness.{bare-same}
 use Rattle.refutation_laws.proofs.Agreeing.{has-rf, has-co, has-fr}
 use Rattle.refutation_laws.proofs.Rows.{Edge, never-back-at}
 use Rattle.refutation_laws.proofs.Settling.{IsOpen, own_events, own_candidate, writes-row, one-own, entry_of, source_in, found}
-use Rattle.refutation_laws.proofs.Allowing.{NoneBetween, is-allowed}
+use Rattle.refutation_laws.proofs.Allowing.{is-allowed}
 use Rattle.refutation_laws.proofs.Ordering.{BeforeIn, pick, pass, parts-pair, load-kind, From, from, own, in-map}
 
 -- ---- two events

@@ -6,7 +6,8 @@ use Rattle.tso_model.specs.declared.execution.Entry.{Entry}
 use Rattle.relational_model.specs.Events.{IsIn, LeadsTo, at_once, onward, IsAcyclic}
 use Rattle.relational_model.proofs.Decisions.{is-true}
 use Rattle.relational_model.proofs.Forward.{starts-in}
-use Rattle.relational_model.proofs.Sorting.{Decided, GoesForward, Ordered, GoesRound, ordered-or-round}
+use Rattle.relational_model.specs.inner.Rows.{GoesForward, Ordered}
+use Rattle.relational_model.proofs.Sorting.{Decided, GoesRound, ordered-or-round}
 use Rattle.refutation_laws.specs.Known.{events_of, is_event}
 use Rattle.refutation_laws.specs.Edges.{leads_back, is_cycle}
 use Rattle.refutation_laws.proofs.Tests.{and-of}

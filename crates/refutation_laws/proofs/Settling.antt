@@ -16,7 +16,8 @@ use Rattle.relational_model.proofs.KindFacts.{and-both, same-number, write-is-no
 use Rattle.relational_model.proofs.Ranks.{rank-before, before-trans}
 use Rattle.relational_model.proofs.Decisions.{number}
 use Rattle.relational_model.proofs.Order.{location, share}
-use Rattle.relational_model.proofs.Sorting.{Row, in-a-row, Ordered}
+use Rattle.relational_model.specs.inner.Rows.{Row, Ordered}
+use Rattle.relational_model.proofs.Sorting.{in-a-row}
 use Rattle.refutation_laws.specs.Known.{Known, bare, events_of, same_event, is_event, is_write_of, reads_from, comes_before}
 use Rattle.refutation_laws.specs.declared.known.Source.{Source}
 use Rattle.refutation_laws.specs.Edges.{on_location, global_in, is_edge}

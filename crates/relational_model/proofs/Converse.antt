@@ -11,9 +11,10 @@ use Rattle.relational_model.specs.CandidatesOfOrders.{IsCandidateOf, LeaveTheSam
 use Rattle.relational_model.specs.Model.{ArePair, IsAllowed}
 use Rattle.relational_model.proofs.Lists.{in-case, in-first, in-later, in-append}
 use Rattle.basic_laws.specs.Ranks.{part_of}
-use Rattle.relational_model.proofs.Sizes.{Once, once-filter, no-more}
+use Rattle.relational_model.proofs.Sizes.{once-filter, no-more}
 use Rattle.relational_model.proofs.Decisions.{Decision, kinds, Goes, goes}
-use Rattle.relational_model.proofs.Sorting.{Decided, GoesForward, Row, in-a-row}
+use Rattle.relational_model.specs.inner.Rows.{GoesForward, Row, Once}
+use Rattle.relational_model.proofs.Sorting.{Decided, in-a-row}
 use Rattle.relational_model.proofs.Events.{Sound, sound, once-append, pigeons}
 use Rattle.relational_model.proofs.Fences.{goes-acyclic}
 use Rattle.relational_model.proofs.Order.{Placed, stand-once}

@@ -15,7 +15,8 @@ use Rattle.relational_model.specs.Candidates.{Candidate, IsCandidate, events_fro
 use Rattle.basic_laws.specs.Ranks.{part_of}
 use Rattle.relational_model.proofs.Lists.{Cut, cut, in-case, in-none, in-first, in-later, in-append, in-left, in-right, in-filter}
 use Rattle.relational_model.proofs.Same.{here-by, from-place, same-of}
-use Rattle.relational_model.proofs.Sizes.{Once, once-filter, length-middle}
+use Rattle.relational_model.specs.inner.Rows.{Once}
+use Rattle.relational_model.proofs.Sizes.{once-filter, length-middle}
 
 pub once-append : (xs ys : List Entry) → Once xs → Once ys → ((x : Entry) → IsIn xs x → IsIn ys x → ⊥) → Once (xs ++ ys)
 once-append [] ys a b f = b

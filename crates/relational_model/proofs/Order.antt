@@ -17,9 +17,8 @@ use Rattle.basic_laws.specs.Ranks.{rank, part_of}
 use Rattle.relational_model.proofs.Ranks.{rank-before}
 use Rattle.relational_model.proofs.KindFacts.{same-number, number-same, write-is-no-read}
 use Rattle.relational_model.proofs.Sources.{StandOnce, Counts, never-back, one-way, counts-in, in-counts, counting-earlier}
-use Rattle.relational_model.proofs.Sizes.{Once}
 use Rattle.relational_model.proofs.Decisions.{Goes, number}
-use Rattle.relational_model.proofs.Sorting.{GoesForward, Row}
+use Rattle.relational_model.specs.inner.Rows.{GoesForward, Row, Once}
 use Rattle.relational_model.proofs.Events.{Sound, pigeons}
 use Rattle.relational_model.proofs.Fences.{writes, source-writes, goes-acyclic, true-or}
 

@@ -12,7 +12,8 @@ use Rattle.relational_model.specs.SequentialModel.{IsBeforeSequentially, po, rf,
 use Rattle.relational_model.proofs.Lists.{to-precedes}
 use Rattle.relational_model.proofs.Ranks.{before-irreflexive}
 use Rattle.relational_model.proofs.Decisions.{either, is-true, Goes, goes}
-use Rattle.relational_model.proofs.Sorting.{Decided, GoesForward}
+use Rattle.relational_model.specs.inner.Rows.{GoesForward}
+use Rattle.relational_model.proofs.Sorting.{Decided}
 use Rattle.relational_model.proofs.Events.{Sound, sound}
 use Rattle.relational_model.proofs.Order.{forward-never}
 use Rattle.relational_model.proofs.AfterStore.{po-after, after-store}

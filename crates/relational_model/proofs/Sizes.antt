@@ -3,13 +3,9 @@ use Rattle.std.proofs.Common.{◌≡◌, ◌≤◌, ◌+◌, suc, Bool, true, fa
 use Rattle.std.specs.Prelude.{filter}
 use Rattle.tso_model.specs.declared.execution.Entry.{Entry}
 use Rattle.relational_model.specs.Events.{IsIn}
+use Rattle.relational_model.specs.inner.Rows.{Once}
 use Rattle.relational_model.proofs.Lists.{Cut, cut, in-case, in-first, in-later, in-append, in-left, in-right, in-filter, filter-in}
 use Rattle.relational_model.proofs.Sources.{StandOnce}
-
--- no member stands there again
-abbrev pub Once : List Entry → Type 0
-Once [] = Unit {0}
-Once (x ∷ xs) = (IsIn xs x → ⊥) × Once xs
 
 pub once-of : (xs : List Entry) → StandOnce xs → Once xs
 once-of [] h = tt

@@ -1,21 +1,13 @@
 -- Events can be put in a row in which no edge goes back, or some edges lead round: a finite acyclic relation extends to a total order.
-use Rattle.std.proofs.Common.{◌≡◌, suc, List, [], ◌∷◌, refl, ap, ◌∙◌, ◌⊎◌, inl, inr, subst, length}
+use Rattle.std.proofs.Common.{◌≡◌, suc, List, [], ◌∷◌, refl, ap, ◌∙◌, ◌⊎◌, inl, inr, subst}
 use Rattle.tso_model.specs.declared.execution.Entry.{Entry}
 use Rattle.relational_model.specs.Events.{IsIn, LeadsTo, at_once, onward, IsAcyclic}
+use Rattle.relational_model.specs.inner.Rows.{NoneBefore, GoesForward, Row, Ordered}
 use Rattle.relational_model.proofs.Lists.{in-case, in-none, in-first, in-later}
 
 -- a relation that can be decided
 abbrev pub Decided : (Entry → Entry → Type 0) → Type 0
 Decided Before = (x y : Entry) → Before x y ⊎ (Before x y → ⊥)
-
--- none of these is before x
-abbrev pub NoneBefore : (Entry → Entry → Type 0) → Entry → List Entry → Type 0
-NoneBefore Before x ys = (y : Entry) → IsIn ys y → Before y x → ⊥
-
--- no edge goes back
-abbrev pub GoesForward : (Entry → Entry → Type 0) → List Entry → Type 0
-GoesForward Before [] = Unit {0}
-GoesForward Before (y ∷ ys) = NoneBefore Before y ys × GoesForward Before ys
 
 -- past x: an edge, or two that meet in x
 abbrev pub Past : Entry → (Entry → Entry → Type 0) → Entry → Entry → Type 0
@@ -66,13 +58,6 @@ any-before Before d x (y ∷ ys) = go (d y x) (any-before Before d x ys)
         on z (inr i) b = none z i b
 
 -- x put in after the last of these that is before it
-pub record Row (Before : Entry → Entry → Type 0) (xs : List Entry) : Type 0 where
-  pub row : List Entry
-  pub forward : GoesForward Before row
-  pub inside : (y : Entry) → IsIn xs y → IsIn row y
-  pub outside : (y : Entry) → IsIn row y → IsIn xs y
-  pub count : length row ≡ length xs
-
 weaker : (x : Entry) (Before : Entry → Entry → Type 0) (ys : List Entry) → GoesForward (Past x Before) ys → GoesForward Before ys
 weaker x Before [] h = tt
 weaker x Before (y ∷ ys) h = ((λ z i b. h.0 z i (inl b)), weaker x Before ys h.1)
@@ -131,11 +116,6 @@ placed Before d x once (y ∷ ys) twice h =
         out v (inr j) = after-out v (in-case x ys v (rest.outside v j))
 
 -- ---- a row, or a way round
-
--- they stand in a row, and none is before itself
-pub record Ordered (Before : Entry → Entry → Type 0) (xs : List Entry) : Type 0 where
-  pub in_a_row : Row Before xs
-  pub never_itself : (x : Entry) → IsIn xs x → Before x x → ⊥
 
 pub record GoesRound (Before : Entry → Entry → Type 0) (xs : List Entry) : Type 0 where
   pub event : Entry

@@ -6,6 +6,7 @@ pub mod SequentialModel
 pub mod CandidatesOfOrders
 pub mod CandidatesOfRuns
 pub mod WorkedCandidates
+pub mod inner
 pub use Rattle.tso_model.specs.Litmus
 pub use Rattle.tso_model.specs.ProgramEntries
 pub use Rattle.tso_model.specs.Axioms

@@ -8,9 +8,8 @@ use Rattle.refutation_laws.specs.Values.{allows}
 use Rattle.refutation_laws.specs.Refutations.{asked, is_node}
 use Rattle.refutation_laws.specs.Models.{IsMet}
 use Rattle.refutation_laws.specs.declared.model.Model.{Model}
-use Rattle.refutation_laws.specs.inner.FullCases.{may_ask, is_answered}
-use Rattle.relational_model.proofs.Sorting.{Ordered}
-use Rattle.refutation_laws.proofs.Allowing.{NoneBetween}
+use Rattle.refutation_laws.specs.inner.FullCases.{may_ask, is_answered, NoneBetween}
+use Rattle.relational_model.specs.inner.Rows.{Ordered}
 use Rattle.refutations.specs.Trees.{node_of}
 use Rattle.refutations.specs.declared.tree.Node.{Node}
 use Rattle.refutations.specs.declared.tree.Node.TheVariants.{Between}

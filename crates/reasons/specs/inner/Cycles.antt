@@ -3,7 +3,7 @@ use Rattle.std.specs.Prelude.{◌≡◌, true, if◌then◌else◌, List, [], �
 use Rattle.std.specs.Global.{Vec}
 use Rattle.tso_model.specs.Litmus.{Litmus}
 use Rattle.tso_model.specs.declared.execution.Entry.{Entry}
-use Rattle.relational_model.proofs.Sorting.{Ordered}
+use Rattle.relational_model.specs.inner.Rows.{Ordered}
 use Rattle.refutation_laws.specs.Known.{Known, same_event, events_of}
 use Rattle.refutation_laws.specs.Edges.{is_edge, is_cycle}
 use Rattle.refutations.specs.inner.Trees.{relations_of}

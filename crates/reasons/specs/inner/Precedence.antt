@@ -4,8 +4,7 @@ use Rattle.std.specs.List.{list_any}
 use Rattle.tso_model.specs.Litmus.{Litmus}
 use Rattle.tso_model.specs.declared.execution.Entry.{Entry}
 use Rattle.relational_model.specs.Events.{IsIn}
-use Rattle.relational_model.proofs.Sizes.{Once}
-use Rattle.relational_model.proofs.Sorting.{GoesForward}
+use Rattle.relational_model.specs.inner.Rows.{GoesForward, Once}
 use Rattle.refutation_laws.specs.Known.{Known}
 use Rattle.refutation_laws.specs.Edges.{is_edge}
 use Rattle.refutation_laws.specs.inner.Orders.{comes_toward}

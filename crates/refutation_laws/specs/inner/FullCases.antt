@@ -8,6 +8,7 @@ use Rattle.relational_model.specs.Events.{IsIn}
 use Rattle.refutation_laws.specs.Known.{Known, events_of, same_event, is_event, comes_before}
 use Rattle.refutation_laws.specs.declared.known.Source.{Source}
 use Rattle.refutation_laws.specs.declared.known.Pair.{Pair}
+use Rattle.refutation_laws.specs.Edges.{is_between}
 use Rattle.refutation_laws.specs.Refutations.{Node, ReadsFrom, ComesFirst}
 
 -- the initial write, or one of the test's to the location of the read
@@ -66,3 +67,8 @@ pub record IsSound (t : Litmus) (k : Known) : Type 0 where
   pub single : AreSingle k.sources
   pub reads : AreOfReads k.sources
   pub pairs : ArePairsOfWrites k.order
+
+-- no write is known to stand between the parts of a locked instruction
+abbrev pub NoneBetween : Litmus → Known → Type 0
+NoneBetween t k =
+    (r v w : Entry) → IsIn (events_of t) r → IsIn (events_of t) v → IsIn (events_of t) w → is_between t k r v w ≡ true → ⊥

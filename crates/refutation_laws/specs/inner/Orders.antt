@@ -9,8 +9,7 @@ use Rattle.tso_model.specs.declared.execution.Entry.{Entry}
 use Rattle.tso_model.specs.declared.execution.Kind.TheVariants.{LR}
 use Rattle.relational_model.specs.Events.{IsIn}
 use Rattle.relational_model.specs.Relations.{is_access}
-use Rattle.relational_model.proofs.Sizes.{Once}
-use Rattle.relational_model.proofs.Sorting.{GoesForward}
+use Rattle.relational_model.specs.inner.Rows.{GoesForward, Once}
 use Rattle.refutation_laws.specs.Known.{Known, events_of, reads_from, comes_before, from_reads}
 use Rattle.refutation_laws.specs.Edges.{are_parts}
 use Rattle.refutation_laws.specs.Shown.{value_known}
