@@ -18,8 +18,8 @@ abbrev pub IsWithinLimits : Settings → Type 0
 IsWithinLimits (Run protocol config json) = IsConfigurationWithinLimits config
 IsWithinLimits (Trace protocol config json) = IsConfigurationWithinLimits config
 IsWithinLimits (Sweep protocol config plan) = IsConfigurationWithinLimits config × IsPlanWithinLimits plan
-IsWithinLimits (Outcomes search json) = IsSearchWithinLimits search
-IsWithinLimits (Why plan json) = IsExplanationWithinLimits plan
+IsWithinLimits (Outcomes search json assert) = IsSearchWithinLimits search
+IsWithinLimits (Why plan json assert) = IsExplanationWithinLimits plan
 IsWithinLimits Check = Unit {0}
 IsWithinLimits (Witness depth) = IsDepth depth
 IsWithinLimits (Tables kind) = Unit {0}
@@ -29,8 +29,8 @@ abbrev pub HasDepth : Settings → Type 0
 HasDepth (Run protocol config json) = Unit {0}
 HasDepth (Trace protocol config json) = Unit {0}
 HasDepth (Sweep protocol config plan) = Unit {0}
-HasDepth (Outcomes search json) = Unit {0}
-HasDepth (Why plan json) = Unit {0}
+HasDepth (Outcomes search json assert) = Unit {0}
+HasDepth (Why plan json assert) = Unit {0}
 HasDepth Check = Unit {0}
 HasDepth (Witness depth) = IsDepth depth
 HasDepth (Tables kind) = Unit {0}

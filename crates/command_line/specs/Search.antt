@@ -1,11 +1,13 @@
--- Which final states are searched for, and how many states of the machine may be kept meanwhile.
+-- Which final states are searched for, how many states of the machine may be kept meanwhile, and what is shown of the final ones.
 use Rattle.std.specs.Prelude.{ℕ, ◌≤◌}
 use Rattle.tso_model.specs.Limits.{most_depth}
+use Rattle.shown_values.specs.declared.show.Show.{Show}
 
--- the depth of the store buffers, and how many states may be kept
+-- the depth of the store buffers, how many states may be kept, and what is shown of the final ones
 pub record Search : Type 0 where
   pub depth : ℕ
   pub states : ℕ
+  pub show : Show
 
 -- maximum number of states that a search may keep
 abbrev pub most_states : ℕ

@@ -12,7 +12,7 @@ Exit status:\n\
 \x20 2  the command line was refused, or help or the version was asked for\n\
 \x20 3  the choices ended before the test did; of a sweep, those of one seed or more; outcomes would\n\
 \x20    have to keep more states than --states, or why to tell more cases apart than --cases\n\
-\x20 4  the order isn't valid, or needs deeper buffers than --depth\n\
+\x20 4  the order isn't valid, or needs deeper buffers than --depth; with --assert the verdict is No\n\
 \x20 5  memory was refused, or standard input or output failed\n\
 \n\
 Example:\n\
@@ -82,14 +82,17 @@ pub const OUTCOMES: &str = "\
 Standard input is a test; what follows a line ==== isn't read. Printed are the values of what the\n\
 condition names (without one, of all locations) in every final state that the machine can reach at\n\
 --depth: each list of values once, with choices under which run at that depth ends there, and how many\n\
-of them make the condition's proposition true and false. --depth is 32 here and 4 elsewhere: no program\n\
+of them make the condition's proposition true and false. True has the numbers of those that make it\n\
+true, from 1 in the order of the lines. Verdict is Ok where exists is so of some state, ~exists of none,\n\
+forall of each; else No. With --show registers each register that an instruction of its core writes is\n\
+shown too, and with --show all also all locations. --depth is 32 here and 4 elsewhere: no program\n\
 has more than 32 stores, so at 32 these are all values that TSO allows, and at 0 all that sequential\n\
 consistency allows. So Never is a proof here: no run of this machine makes the proposition true, and at\n\
 depth 32 no TSO execution does. If more than --states states of the machine would have to be kept, only\n\
 Unfinished is printed: no values, and no Never.\n\
 \n\
 Exit status: 0 all states are printed, 1 the test was refused, 2 the command line was, 3 --states was\n\
-too few, 5 memory, input or output failed.\n\
+too few, 4 with --assert the verdict is No, 5 memory, input or output failed.\n\
 \n\
 Example:\n\
 \x20 tso outcomes --depth 0 < FILE";
@@ -109,7 +112,7 @@ exists is so of some execution, ~exists of none, forall of each; else No. If mor
 would have to be told apart, only Unfinished is printed.\n\
 \n\
 Exit status: 0 the answer is printed, 1 the test was refused, 2 the command line was, 3 --cases was too\n\
-few, 5 memory, input or output failed.\n\
+few, 4 with --assert the verdict is No, 5 memory, input or output failed.\n\
 \n\
 Example:\n\
 \x20 tso why --model sc < FILE";

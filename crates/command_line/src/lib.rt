@@ -14,3 +14,4 @@ pub use explanation::ReasonPlan;
 pub use plan::SweepPlan;
 pub use search::SearchPlan;
 pub use settings::{LineFault, Settings, settings_of};
+pub use shown_values::Show;

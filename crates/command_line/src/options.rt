@@ -11,6 +11,9 @@ static PROTOCOLS: [&str; 4] = ["msi", "mesi", "moesi", "mosi"];
 /// The kinds of bus as a command line names them.
 static BUSES: [&str; 2] = ["atomic", "split"];
 
+/// What is shown of a final state as a command line names it.
+static SHOWN: [&str; 3] = ["condition", "registers", "all"];
+
 /// The models of memory as a command line names them.
 static MODELS: [&str; 2] = ["tso", "sc"];
 
@@ -156,7 +159,9 @@ fn search_options<'a>(alloc: Global) -> Result<Vec<Arg<'a>>, AllocError> {
     Ok(vec![in alloc;
         depth_option(alloc, 0, SEARCH_DEPTH, "32"),
         word_option(alloc, "states", states, 1, 10000000, "1000000"),
+        show_option(alloc),
         json_option(alloc),
+        assert_option(alloc),
     ]?)
 }
 
@@ -167,6 +172,7 @@ fn reason_options<'a>(alloc: Global) -> Result<Vec<Arg<'a>>, AllocError> {
         model_option(alloc),
         word_option(alloc, "cases", cases, 1, 1000000, "100000"),
         json_option(alloc),
+        assert_option(alloc),
     ]?)
 }
 
@@ -248,6 +254,26 @@ fn model_option<'a>(alloc: Global) -> Arg<'a> {
         ValueParser::Names(&MODELS),
         "tso",
     )
+}
+
+fn show_option<'a>(alloc: Global) -> Arg<'a> {
+    let help =
+        "Values shown: what the condition names, also registers that are written, also all locations";
+    value_option(
+        alloc,
+        "show",
+        "WHAT",
+        help,
+        ValueParser::Names(&SHOWN),
+        "condition",
+    )
+}
+
+fn assert_option<'a>(alloc: Global) -> Arg<'a> {
+    Arg::new(alloc, "assert")
+        .long("assert")
+        .help("End with status 4 where the verdict is No")
+        .action(ArgAction::SetTrue)
 }
 
 fn json_option<'a>(alloc: Global) -> Arg<'a> {

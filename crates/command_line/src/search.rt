@@ -1,9 +1,10 @@
 //! Which final states are searched for: those at a depth of the store buffers, with a limit on the states kept, since their
-//! number can grow beyond any memory.
+//! number can grow beyond any memory; and what is shown of them.
 
 ghost use Rattle.std.specs.Prelude.{◌≡◌, ◌↔◌, IsSome, IfSome};
 ghost use Rattle.command_line.specs.Search.{most_states, IsSearchWithinLimits};
 
+use shown_values::Show;
 use std::marker::Model;
 use tso_model::limits::MAX_DEPTH;
 
@@ -20,6 +21,7 @@ pub fn limits_are_as_defined()
 pub struct SearchPlan {
     depth: u8,
     states: u32,
+    show: Show,
 }
 
 impl Model for SearchPlan {
@@ -27,23 +29,27 @@ impl Model for SearchPlan {
 
     ghost Value = { Search };
 
-    ghost view = { λ p. record { depth = p.depth; states = p.states } };
+    ghost view = { λ p. record { depth = p.depth; states = p.states; show = p.show } };
 
-    ghost inverse = { λ v. record { depth = v.depth; states = v.states } };
+    ghost inverse = { λ v. record { depth = v.depth; states = v.states; show = v.show } };
 
-    ghost invariant = { λ p. IsSearchWithinLimits (record { depth = p.depth; states = p.states }) };
+    ghost invariant = { λ p. IsSearchWithinLimits (record { depth = p.depth; states = p.states; show = p.show }) };
 }
 
 impl SearchPlan {
     /// The search at this depth of the store buffers, which keeps at most so many states of the
-    /// machine. `None` exactly where the depth is more than [`MAX_DEPTH`], or there is room for no
+    /// machine, and shows so much of each final one. `None` exactly where the depth is more than [`MAX_DEPTH`], or there is room for no
     /// state or for more than [`MAX_STATES`].
-    pub fn new(depth: u8, states: u32) -> Option<SearchPlan>
-        ensures value { IfSome result (λ p. p ≡ record { depth = depth; states = states }) }
-        ensures valid { IsSome result ↔ IsSearchWithinLimits (record { depth = depth; states = states }) }
+    pub fn new(depth: u8, states: u32, show: Show) -> Option<SearchPlan>
+        ensures value { IfSome result (λ p. p ≡ record { depth = depth; states = states; show = show }) }
+        ensures valid { IsSome result ↔ IsSearchWithinLimits (record { depth = depth; states = states; show = show }) }
     {
         if depth <= MAX_DEPTH && (1..=MAX_STATES).contains(&states) {
-            Some(SearchPlan { depth, states })
+            Some(SearchPlan {
+                depth,
+                states,
+                show,
+            })
         } else {
             None
         }
@@ -62,5 +68,12 @@ impl SearchPlan {
         ensures { result ≡ self.states }
     {
         self.states
+    }
+
+    /// What is shown of each final state.
+    pub fn show(self) -> Show
+        ensures { result ≡ self.show }
+    {
+        self.show
     }
 }

@@ -13,6 +13,7 @@ use clap::ArgMatches;
 use machine_core::{Bus, Config, Shape};
 use protocol_tables::ProtocolKind;
 use refutation_laws::Model;
+use shown_values::Show;
 use std::alloc::Global;
 use thiserror::Error;
 use tso_model::limits::{MAX_DEPTH, MIN_DEPTH};
@@ -42,15 +43,18 @@ pub enum Settings {
         plan: SweepPlan,
     },
     /// Find all final states of a test, with choices that lead to each, and tell them, as JSON if that
-    /// is asked for.
+    /// is asked for. Whether the status is to say that the test's condition isn't as it claims.
     Outcomes {
         search: SearchPlan,
         json: bool,
+        assert: bool,
     },
     /// Tell why what a test asks never is, or an execution in which it is, as JSON if that is asked for.
+    /// Whether the status is to say that the test's condition isn't as it claims.
     Why {
         plan: ReasonPlan,
         json: bool,
+        assert: bool,
     },
     /// Check an order of a test against the axioms.
     Check,
@@ -184,7 +188,12 @@ fn outcomes_settings(matches: &ArgMatches<'_>) -> Option<Settings>
 {
     let search = search_in(matches)?;
     let json = matches.get_flag("json");
-    Some(Settings::Outcomes { search, json })
+    let assert = matches.get_flag("assert");
+    Some(Settings::Outcomes {
+        search,
+        json,
+        assert,
+    })
 }
 
 fn why_settings(matches: &ArgMatches<'_>) -> Option<Settings>
@@ -192,7 +201,8 @@ fn why_settings(matches: &ArgMatches<'_>) -> Option<Settings>
 {
     let plan = reason_in(matches)?;
     let json = matches.get_flag("json");
-    Some(Settings::Why { plan, json })
+    let assert = matches.get_flag("assert");
+    Some(Settings::Why { plan, json, assert })
 }
 
 fn witness_settings(matches: &ArgMatches<'_>) -> Option<Settings>
@@ -220,7 +230,7 @@ fn plan_in(matches: &ArgMatches<'_>) -> Option<SweepPlan> {
 fn search_in(matches: &ArgMatches<'_>) -> Option<SearchPlan> {
     let depth = matches.get_one::<u8>("depth")?;
     let states = matches.get_one::<u32>("states")?;
-    SearchPlan::new(depth, states)
+    SearchPlan::new(depth, states, show_in(matches)?)
 }
 
 fn reason_in(matches: &ArgMatches<'_>) -> Option<ReasonPlan> {
@@ -240,6 +250,15 @@ fn bus_in(matches: &ArgMatches<'_>) -> Option<Bus> {
     match matches.get_str("bus")? {
         "atomic" => Some(Bus::Atomic),
         "split" => Some(Bus::Split),
+        _ => None,
+    }
+}
+
+fn show_in(matches: &ArgMatches<'_>) -> Option<Show> {
+    match matches.get_str("show")? {
+        "condition" => Some(Show::Condition),
+        "registers" => Some(Show::Registers),
+        "all" => Some(Show::All),
         _ => None,
     }
 }

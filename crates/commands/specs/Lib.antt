@@ -4,6 +4,7 @@ pub mod CheckLines
 pub mod Dividing
 pub mod Trace
 pub mod Sweep
+pub mod Verdicts
 pub mod Outcomes
 pub mod Why
 pub mod Witness

@@ -1,6 +1,6 @@
 -- The answer of `why`: a refutation of what the test asks, an execution in which it is so, or that more cases have to be told apart than
 -- may be.
-use Rattle.std.specs.Prelude.{◌≡◌, ◌<◌, ℕ, Bool, true, List}
+use Rattle.std.specs.Prelude.{◌≡◌, ◌<◌, ℕ, Bool, true, false, List}
 use Rattle.tso_model.specs.Litmus.{Litmus}
 use Rattle.tso_model.specs.declared.choice.Choice.{Choice}
 use Rattle.tso_model.specs.declared.execution.Entry.{Entry}
@@ -8,10 +8,12 @@ use Rattle.tso_laws.specs.Along.{LeadTo}
 use Rattle.refutation_laws.specs.Refutations.{Node, asked, refutes}
 use Rattle.refutation_laws.specs.Models.{IsMet, depth_of}
 use Rattle.reasons.specs.Reasons.{HasMoreCases, most_cases}
+use Rattle.outcome_report.specs.Verdict.{is_as_claimed}
 use Rattle.reason_report.specs.Printed.{refutation_in, ShowsExecution, unfinished_cases_in}
 use Rattle.command_line.specs.Explanation.{Explanation}
 use Rattle.commands.specs.declared.answer.Status.{Status}
-use Rattle.commands.specs.declared.answer.Status.TheVariants.{Good, Unended}
+use Rattle.commands.specs.declared.answer.Status.TheVariants.{Unended}
+use Rattle.commands.specs.Verdicts.{status_of_verdict}
 
 -- what was printed is an execution of the model in which what the test asks is so, with choices that lead there at the model's
 -- depth: none of them stalls, and none is left over
@@ -23,8 +25,10 @@ pub record IsAllowedAnswer (t : Litmus) (e : Explanation) (json : Bool) (out : L
   pub shown : ShowsExecution json e.model t order choices out
 
 -- the answer of `why` to a test: which of the refutations is printed, or which of the executions, no clause says
-pub data IsWhyAnswer (t : Litmus) (e : Explanation) (json : Bool) : List ℕ → Status → Type 0 where
+pub data IsWhyAnswer (t : Litmus) (e : Explanation) (json assert : Bool) : List ℕ → Status → Type 0 where
   never : (nodes : List Node) → refutes e.model t (asked t.condition) nodes ≡ true
-      → IsWhyAnswer t e json (refutation_in json e.model t nodes) Good
-  allowed : (out : List ℕ) → IsAllowedAnswer t e json out → IsWhyAnswer t e json out Good
-  too_many : HasMoreCases e.model t e.cases → e.cases < most_cases t → IsWhyAnswer t e json (unfinished_cases_in json t e.cases) Unended
+      → IsWhyAnswer t e json assert (refutation_in json e.model t nodes) (status_of_verdict assert (is_as_claimed t.condition false))
+  allowed : (out : List ℕ) → IsAllowedAnswer t e json out
+      → IsWhyAnswer t e json assert out (status_of_verdict assert (is_as_claimed t.condition true))
+  too_many : HasMoreCases e.model t e.cases → e.cases < most_cases t
+      → IsWhyAnswer t e json assert (unfinished_cases_in json t e.cases) Unended

@@ -1,10 +1,11 @@
 //! What a command answers: a text, how it ended, and of what a hint can be made; and the answers to inputs that are refused
 //! before a command looks at them.
 
-ghost use Rattle.std.specs.Prelude.{IfOk};
+ghost use Rattle.std.specs.Prelude.{◌≡◌, IfOk};
 ghost use Rattle.litmus_reader.specs.Reading.{refusal};
 ghost use Rattle.commands.specs.inner.Answers.{Says};
 ghost use Rattle.commands.specs.Lines.{test_refusal, input_refusal};
+ghost use Rattle.commands.specs.Verdicts.{status_of_verdict};
 
 use hints::{Cause, SecondPart};
 use litmus_reader::{Fault, Why, refusal_for};
@@ -24,6 +25,23 @@ pub enum Status {
     Unended,
     /// The order isn't valid, or needs deeper store buffers than a witness was asked for.
     Invalid,
+    /// What was asked for was printed, and the test's condition isn't as it claims, of which the status was to
+    /// tell: `exists` is so nowhere, `~exists` somewhere, or `forall` not everywhere.
+    NotAsClaimed,
+}
+
+impl Status {
+    /// The status of an answer that has a verdict: whether the test's condition is as it claims is told where
+    /// that is asserted.
+    pub(crate) fn of_verdict(assert: bool, is_as_claimed: bool) -> Status
+        ensures { result ≡ status_of_verdict assert is_as_claimed }
+    {
+        if assert && !is_as_claimed {
+            Status::NotAsClaimed
+        } else {
+            Status::Good
+        }
+    }
 }
 
 /// What is to be written, how the command ended, and of what a hint can be made.

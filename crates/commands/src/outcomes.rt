@@ -1,8 +1,9 @@
 //! The answer of `outcomes`: every final state that the flat machine can reach, or that it can reach more states than may
 //! be kept. A list with a gap must never look like a whole one.
 
-ghost use Rattle.std.specs.Prelude.{IfOk, string_bytes};
+ghost use Rattle.std.specs.Prelude.{Bool, IfOk, string_bytes};
 ghost use Rattle.explorer.specs.FinalStates.{AreReached, HasMoreStates};
+ghost use Rattle.shown_values.specs.Shown.{named_in};
 ghost use Rattle.commands.specs.Outcomes.{IsOutcomesAnswer};
 ghost use Rattle.commands.specs.inner.Searched.{ShowEveryEnd};
 
@@ -16,7 +17,8 @@ use tso_model::{NoMemory, Test};
 
 /// The answer of `outcomes` to a test: every final state that the machine can reach at the depth of
 /// the search, with choices that lead there; or that it can reach more states than may be kept. The
-/// search doesn't tell states apart by registers that are looked at nowhere.
+/// search doesn't tell states apart by registers that aren't shown. With `assert` the status says where
+/// the test's condition isn't as it claims.
 ///
 /// Errors: out of memory only.
 pub fn outcomes_answer(
@@ -24,10 +26,11 @@ pub fn outcomes_answer(
     test: &Test,
     search: SearchPlan,
     json: bool,
+    assert: bool,
 ) -> Result<Answer, NoMemory>
-    ensures { IfOk result (λ a. IsOutcomesAnswer test.now search json (string_bytes a.text) a.status) }
+    ensures { IfOk result (λ a. IsOutcomesAnswer test.now search json assert (string_bytes a.text) a.status) }
 {
-    let hidden = hidden_registers(alloc, test)?;
+    let hidden = hidden_registers(alloc, test, search.show())?;
     match explore(
         alloc,
         test,
@@ -35,7 +38,7 @@ pub fn outcomes_answer(
         search.states() as usize,
         &hidden,
     ) {
-        Ok(found) => found_answer(alloc, test, search, json, &found.final_states),
+        Ok(found) => found_answer(alloc, test, search, json, assert, &found.final_states),
         Err(ExploreFault::TooMany) => unfinished_answer(alloc, test, search, json),
         Err(ExploreFault::NoMemory) => Err(NoMemory),
     }
@@ -46,16 +49,17 @@ fn found_answer(
     test: &Test,
     search: SearchPlan,
     json: bool,
+    assert: bool,
     finals: &[FinalState],
 ) -> Result<Answer, NoMemory>
     requires reached { AreReached test.now search.depth finals.now }
-    requires complete { ShowEveryEnd test.now search.depth finals.now }
-    ensures { IfOk result (λ a. IsOutcomesAnswer test.now search json (string_bytes a.text) a.status) }
+    requires complete { ShowEveryEnd test.now (named_in search.show test.now) search.depth finals.now }
+    ensures { IfOk result (λ a. IsOutcomesAnswer test.now search json assert (string_bytes a.text) a.status) }
 {
-    let text = outcomes_report(alloc, test, search.depth(), finals, json)?;
+    let printed = outcomes_report(alloc, test, search.depth(), finals, search.show(), json)?;
     Ok(Answer {
-        text,
-        status: Status::Good,
+        text: printed.text,
+        status: Status::of_verdict(assert, printed.is_as_claimed),
         cause: Cause::Nothing,
     })
 }
@@ -67,7 +71,7 @@ fn unfinished_answer(
     json: bool,
 ) -> Result<Answer, NoMemory>
     requires { HasMoreStates test.now search.depth search.states }
-    ensures { IfOk result (λ a. IsOutcomesAnswer test.now search json (string_bytes a.text) a.status) }
+    ensures { IfOk result (λ a. (assert : Bool) → IsOutcomesAnswer test.now search json assert (string_bytes a.text) a.status) }
 {
     let most = search.states();
     let text = unfinished_report(alloc, test, most as usize, json)?;

@@ -52,7 +52,7 @@ pub fn run_answer(
 pub fn cause_of(status: Status, test: &Test, text: &[u8], config: Config, stalls: Stalls) -> Cause {
     match status {
         Status::Unended => Cause::of_unended_run(test, text, config.depth() > 0, stalls),
-        Status::Good | Status::Refused | Status::Invalid => Cause::Nothing,
+        Status::Good | Status::Refused | Status::Invalid | Status::NotAsClaimed => Cause::Nothing,
     }
 }
 

@@ -1,4 +1,4 @@
--- What is looked at isn't hidden, so states that differ in hidden registers alone look alike.
+-- What is shown isn't hidden, so states that differ in hidden registers alone look alike.
 use Rattle.std.proofs.Common.{◌≡◌, ◌<◌, ◌≤◌, ◌⊎◌, ℕ, ◌+◌, zero, suc, Bool, true, false, List, [], ◌∷◌, ◌++◌, map, length, take, drop, Some, slice_get, slice_set, slice_index, slice_index_or, if◌then◌else◌, inl, inr, arith, ap, sym, ◌∙◌, subst, refl}
 use Rattle.std.proofs.Math.ListN.{length-set}
 use Rattle.std.specs.Prelude.{All}
@@ -9,7 +9,7 @@ use Rattle.tso_model.specs.declared.instruction.Core.{Core}
 use Rattle.eager_laws.specs.Dead.{cleared, none_hidden, hidden_of, seen_from, seen}
 use Rattle.tso_report.specs.declared.named.Named.{Named}
 use Rattle.tso_report.specs.declared.named.Named.TheVariants.{Register, Location}
-use Rattle.tso_report.specs.Tally.{looked_at, shown_value, values_in}
+use Rattle.tso_report.specs.Tally.{shown_value}
 use Rattle.tso_report.specs.inner.Tally.{IsKnown}
 use Rattle.outcome_report.specs.Hidden.{AreNotShown}
 use Rattle.outcome_report.specs.inner.Hidden.{IsNotHidden}
@@ -17,7 +17,7 @@ use Rattle.outcome_report.specs.inner.Hidden.{IsNotHidden}
 pub lt-or : (n k : ℕ) → (k < n) ⊎ (n ≤ k)
 lt-or n k = grind arith
 
--- ---- one register more is looked at
+-- ---- one register more is shown
 
 false-stays : (ds : List Bool) (i r : ℕ) → slice_index_or ds r false ≡ false → slice_index_or (slice_set ds i false) r false ≡ false
 false-stays [] i r h = h
@@ -143,6 +143,7 @@ module _ (hidden : List (List Bool)) (registers others : List (List ℕ)) (memor
   values-same [] h = refl
   values-same (n ∷ names) h = rw (one-same n (h 0 n refl), values-same names (λ j. h (suc j))) refl
 
-pub not-shown : (t : Litmus) (hidden : List (List Bool)) (names : List Named) → names ≡ looked_at t → ((j : ℕ) (n : Named) → slice_get names j ≡ Some n → IsNotHidden hidden n) → AreNotShown t hidden
-not-shown t hidden names q h registers others memory same =
+pub not-shown : (shown : List Named) (hidden : List (List Bool)) (names : List Named) → names ≡ shown → ((j : ℕ) (n : Named) → slice_get names j ≡ Some n → IsNotHidden hidden n)
+    → AreNotShown shown hidden
+not-shown shown hidden names q h registers others memory same =
     subst (λ z. map (shown_value registers memory) z ≡ map (shown_value others memory) z) q (values-same hidden registers others memory same names h)

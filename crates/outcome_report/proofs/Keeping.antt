@@ -13,7 +13,7 @@ use Rattle.std.proofs.lemmas.List.Elements.{All-from_recursion, recursion_from_A
 use Rattle.std.proofs.lemmas.List.{get_or-map, length-map, drop_more}
 use Rattle.tso_model.specs.Litmus.{Litmus}
 use Rattle.explorer.specs.declared.final_states.FinalState.{FinalState}
-use Rattle.tso_report.specs.Tally.{looked_at, shown_value}
+use Rattle.tso_report.specs.Tally.{shown_value}
 use Rattle.tso_report.specs.declared.named.Named.{Named}
 use Rattle.outcome_report.specs.Outcomes.{Outcome, outcome_of, shown_values, ArePrinted}
 use Rattle.outcome_report.specs.inner.Shown.{IsOf, is_kept, kept_of, with_outcome, kept_after, AreShown}
@@ -54,41 +54,43 @@ with-there v o kept = by_kept (is_kept v kept) refl
 
 -- ---- all of them
 
-after-ascends : (t : Litmus) (kept : Kept) (finals : List FinalState) → IsStrictlySortedBy R (keys_of kept) → IsStrictlySortedBy R (keys_of (kept_after t kept finals))
-after-ascends t kept [] h = h
-after-ascends t kept (f ∷ rest) h = let o = outcome_of f in after-ascends t (with_outcome (shown_values t o) o kept) rest (with-ascends (shown_values t o) o kept h)
+after-ascends : (names : List Named) (kept : Kept) (finals : List FinalState) → IsStrictlySortedBy R (keys_of kept) → IsStrictlySortedBy R (keys_of (kept_after names kept finals))
+after-ascends names kept [] h = h
+after-ascends names kept (f ∷ rest) h =
+    let o = outcome_of f in after-ascends names (with_outcome (shown_values names o) o kept) rest (with-ascends (shown_values names o) o kept h)
 
-after-each : (P : List ℕ × Outcome → Type 0) (t : Litmus) (kept : Kept) (finals : List FinalState) → AllByRecursion (λ f. P (shown_values t (outcome_of f), outcome_of f)) finals
-    → AllByRecursion P kept → AllByRecursion P (kept_after t kept finals)
-after-each P t kept [] p h = h
-after-each P t kept (f ∷ rest) p h =
-    let o = outcome_of f in after-each P t (with_outcome (shown_values t o) o kept) rest p.1 (with-each P (shown_values t o) o kept p.0 h)
+after-each : (P : List ℕ × Outcome → Type 0) (names : List Named) (kept : Kept) (finals : List FinalState) → AllByRecursion (λ f. P (shown_values names (outcome_of f), outcome_of f)) finals
+    → AllByRecursion P kept → AllByRecursion P (kept_after names kept finals)
+after-each P names kept [] p h = h
+after-each P names kept (f ∷ rest) p h =
+    let o = outcome_of f in after-each P names (with_outcome (shown_values names o) o kept) rest p.1 (with-each P (shown_values names o) o kept p.0 h)
 
-after-still : (w : List ℕ) (t : Litmus) (kept : Kept) (finals : List FinalState) → Contains (keys_of kept) w → Contains (keys_of (kept_after t kept finals)) w
-after-still w t kept [] h = h
-after-still w t kept (f ∷ rest) h = let o = outcome_of f in after-still w t (with_outcome (shown_values t o) o kept) rest (with-still w (shown_values t o) o kept h)
+after-still : (w : List ℕ) (names : List Named) (kept : Kept) (finals : List FinalState) → Contains (keys_of kept) w → Contains (keys_of (kept_after names kept finals)) w
+after-still w names kept [] h = h
+after-still w names kept (f ∷ rest) h =
+    let o = outcome_of f in after-still w names (with_outcome (shown_values names o) o kept) rest (with-still w (shown_values names o) o kept h)
 
-after-there : (t : Litmus) (kept : Kept) (finals : List FinalState) → AllByRecursion (λ f. Contains (keys_of (kept_after t kept finals)) (shown_values t (outcome_of f))) finals
-after-there t kept [] = tt
-after-there t kept (f ∷ rest) =
+after-there : (names : List Named) (kept : Kept) (finals : List FinalState) → AllByRecursion (λ f. Contains (keys_of (kept_after names kept finals)) (shown_values names (outcome_of f))) finals
+after-there names kept [] = tt
+after-there names kept (f ∷ rest) =
     let o = outcome_of f in
-    let more = with_outcome (shown_values t o) o kept in
-    (after-still (shown_values t o) t more rest (with-there (shown_values t o) o kept), after-there t more rest)
+    let more = with_outcome (shown_values names o) o kept in
+    (after-still (shown_values names o) names more rest (with-there (shown_values names o) o kept), after-there names more rest)
 
 -- ---- what is kept in the end
 
-abbrev Stands : Litmus → List FinalState → List ℕ × Outcome → Type 0
-Stands t finals k = (k.0 ≡ shown_values t k.1) × IsOf t k.1 × Contains (map outcome_of finals) k.1
+abbrev Stands : Litmus → List Named → List FinalState → List ℕ × Outcome → Type 0
+Stands t names finals k = (k.0 ≡ shown_values names k.1) × IsOf t k.1 × Contains (map outcome_of finals) k.1
 
-each-stands : (t : Litmus) (finals : List FinalState) → All (λ f. IsOf t (outcome_of f)) finals
-    → All (λ f. Stands t finals (shown_values t (outcome_of f), outcome_of f)) finals
-each-stands t finals h k d lt =
+each-stands : (t : Litmus) (names : List Named) (finals : List FinalState) → All (λ f. IsOf t (outcome_of f)) finals
+    → All (λ f. Stands t names finals (shown_values names (outcome_of f), outcome_of f)) finals
+each-stands t names finals h k d lt =
     (refl, h k d lt, (k, subst (λ n. k < n) (sym (length-map finals outcome_of)) lt, get_or-map outcome_of finals k d (outcome_of (slice_index_or finals k d)) lt))
 
-stand : (t : Litmus) (finals : List FinalState) → All (λ f. IsOf t (outcome_of f)) finals → AllByRecursion (Stands t finals) (kept_after t [] finals)
-stand t finals h =
-    after-each (Stands t finals) t [] finals
-    (recursion_from_All (λ f. Stands t finals (shown_values t (outcome_of f), outcome_of f)) finals (each-stands t finals h)) tt
+stand : (t : Litmus) (names : List Named) (finals : List FinalState) → All (λ f. IsOf t (outcome_of f)) finals → AllByRecursion (Stands t names finals) (kept_after names [] finals)
+stand t names finals h =
+    after-each (Stands t names finals) names [] finals
+    (recursion_from_All (λ f. Stands t names finals (shown_values names (outcome_of f), outcome_of f)) finals (each-stands t names finals h)) tt
 
 -- weaker of each
 weaker : (P Q : List ℕ × Outcome → Type 0) → ((k : List ℕ × Outcome) → P k → Q k) → (kept : Kept) → AllByRecursion P kept → AllByRecursion Q kept
@@ -99,32 +101,32 @@ of-values : (P : Outcome → Type 0) (kept : Kept) → AllByRecursion (λ k. P k
 of-values P [] h = tt
 of-values P (k ∷ kept) h = (h.0, of-values P kept h.1)
 
-pub keys-shown : (t : Litmus) (kept : Kept) → AllByRecursion (λ k. k.0 ≡ shown_values t k.1) kept → keys_of kept ≡ map (shown_values t) (values_of kept)
-keys-shown t [] h = refl
-keys-shown t (k ∷ kept) h = ap (λ v. v ∷ keys_of kept) h.0 ∙ ap (λ rest. shown_values t k.1 ∷ rest) (keys-shown t kept h.1)
+pub keys-shown : (names : List Named) (kept : Kept) → AllByRecursion (λ k. k.0 ≡ shown_values names k.1) kept → keys_of kept ≡ map (shown_values names) (values_of kept)
+keys-shown names [] h = refl
+keys-shown names (k ∷ kept) h = ap (λ v. v ∷ keys_of kept) h.0 ∙ ap (λ rest. shown_values names k.1 ∷ rest) (keys-shown names kept h.1)
 
-pub kept-shown : (t : Litmus) (finals : List FinalState) → All (λ f. IsOf t (outcome_of f)) finals → AreShown t (kept_after t [] finals)
-kept-shown t finals h =
-    let kept = kept_after t [] finals in
-    All-from_recursion (λ k. (k.0 ≡ shown_values t k.1) × IsOf t k.1) kept
-    (weaker (Stands t finals) (λ k. (k.0 ≡ shown_values t k.1) × IsOf t k.1) (λ k s. (s.0, s.1)) kept (stand t finals h))
+pub kept-shown : (t : Litmus) (names : List Named) (finals : List FinalState) → All (λ f. IsOf t (outcome_of f)) finals → AreShown t names (kept_after names [] finals)
+kept-shown t names finals h =
+    let kept = kept_after names [] finals in
+    All-from_recursion (λ k. (k.0 ≡ shown_values names k.1) × IsOf t k.1) kept
+    (weaker (Stands t names finals) (λ k. (k.0 ≡ shown_values names k.1) × IsOf t k.1) (λ k s. (s.0, s.1)) kept (stand t names finals h))
 
 none-ascend : IsStrictlySortedBy R []
 unfolding IsStrictlySortedBy
 none-ascend = tt
 
-pub kept-printed : (t : Litmus) (finals : List FinalState) → All (λ f. IsOf t (outcome_of f)) finals → ArePrinted t finals (values_of (kept_after t [] finals))
-kept-printed t finals h =
-    let kept = kept_after t [] finals in
-    let standing = stand t finals h in
-    let keys : keys_of kept ≡ map (shown_values t) (values_of kept) =
-    keys-shown t kept (weaker (Stands t finals) (λ k. k.0 ≡ shown_values t k.1) (λ k s. s.0) kept standing) in
+pub kept-printed : (t : Litmus) (names : List Named) (finals : List FinalState) → All (λ f. IsOf t (outcome_of f)) finals → ArePrinted names finals (values_of (kept_after names [] finals))
+kept-printed t names finals h =
+    let kept = kept_after names [] finals in
+    let standing = stand t names finals h in
+    let keys : keys_of kept ≡ map (shown_values names) (values_of kept) =
+    keys-shown names kept (weaker (Stands t names finals) (λ k. k.0 ≡ shown_values names k.1) (λ k s. s.0) kept standing) in
     record {
-      ascending = subst (IsStrictlySortedBy R) keys (after-ascends t [] finals none-ascend);
+      ascending = subst (IsStrictlySortedBy R) keys (after-ascends names [] finals none-ascend);
       found = All-from_recursion (Contains (map outcome_of finals)) (values_of kept)
-          (of-values (Contains (map outcome_of finals)) kept (weaker (Stands t finals) (λ k. Contains (map outcome_of finals) k.1) (λ k s. s.2) kept standing));
-      complete = subst (λ values. All (λ f. Contains values (shown_values t (outcome_of f))) finals) keys
-          (All-from_recursion (λ f. Contains (keys_of kept) (shown_values t (outcome_of f))) finals (after-there t [] finals));
+          (of-values (Contains (map outcome_of finals)) kept (weaker (Stands t names finals) (λ k. Contains (map outcome_of finals) k.1) (λ k s. s.2) kept standing));
+      complete = subst (λ values. All (λ f. Contains values (shown_values names (outcome_of f))) finals) keys
+          (All-from_recursion (λ f. Contains (keys_of kept) (shown_values names (outcome_of f))) finals (after-there names [] finals));
     }
 
 -- ---- the map that keeps them
@@ -171,15 +173,14 @@ later-left k f es there found is_there =
 
 -- ---- one final state after the other
 
-pub one-kept : (t : Litmus) (f : FinalState) (finals : List FinalState) (i : ℕ) (old new whole : Kept) (names : List Named) (registers : List (List ℕ)) (memory values : List ℕ)
-    → i < length finals → f ≡ slice_index_or finals i f → registers ≡ f.registers.items → memory ≡ f.memory.items → names ≡ looked_at t
+pub one-kept : (names : List Named) (f : FinalState) (finals : List FinalState) (i : ℕ) (old new whole : Kept) (registers : List (List ℕ)) (memory values : List ℕ)
+    → i < length finals → f ≡ slice_index_or finals i f → registers ≡ f.registers.items → memory ≡ f.memory.items
     → values ≡ map (shown_value registers memory) names → new ≡ with_outcome values (outcome_of f) old
-    → kept_after t old (drop i finals) ≡ whole → kept_after t new (drop (i + 1) finals) ≡ whole
-one-kept t f finals i old new whole names registers memory values small is_f are_registers are_words are_names are is was =
+    → kept_after names old (drop i finals) ≡ whole → kept_after names new (drop (i + 1) finals) ≡ whole
+one-kept names f finals i old new whole registers memory values small is_f are_registers are_words are is was =
     let o = outcome_of f in
     let rest = drop (i + 1) finals in
-    let shown : values ≡ shown_values t o =
-    are ∙ (ap (λ list. map (shown_value registers memory) list) are_names
-    ∙ (ap (λ r. map (shown_value r memory) (looked_at t)) are_registers ∙ ap (λ m. map (shown_value f.registers.items m) (looked_at t)) are_words)) in
+    let shown : values ≡ shown_values names o =
+    are ∙ (ap (λ r. map (shown_value r memory) names) are_registers ∙ ap (λ m. map (shown_value f.registers.items m) names) are_words) in
     let next : drop i finals ≡ f ∷ rest = drop_more finals i f small ∙ ap (λ x. x ∷ rest) (sym is_f) in
-    ap (λ kept. kept_after t kept rest) (is ∙ ap (λ v. with_outcome v o old) shown) ∙ (sym (ap (λ list. kept_after t old list) next) ∙ was)
+    ap (λ kept. kept_after names kept rest) (is ∙ ap (λ v. with_outcome v o old) shown) ∙ (sym (ap (λ list. kept_after names old list) next) ∙ was)

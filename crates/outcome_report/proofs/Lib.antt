@@ -1,6 +1,7 @@
 pub mod Inserting
 pub mod Keeping
 pub mod Truths
+pub mod Numbering
 pub mod Writing
 pub mod NoFloats
 pub mod Printing

@@ -1,19 +1,19 @@
 -- The values that are printed have no float, so that their text is known.
-use Rattle.std.proofs.Common.{◌≡◌, ℕ, Bool, true, false, ◌||◌, List, [], ◌∷◌, Option, Some, None, refl}
+use Rattle.std.proofs.Common.{◌≡◌, ℕ, Bool, true, false, ◌||◌, List, [], ◌∷◌, Option, Some, None, codes, refl}
 use Rattle.std.specs.Ordering.{nat_cmp, match_ordering}
 use Rattle.std.specs.Cmp.Lexicographic.{slice_cmp}
 use Rattle.std.specs.declared.cmp.Ordering.{Ordering}
 use Rattle.std.specs.declared.cmp.Ordering.TheVariants.{Less, Equal, Greater}
 use Rattle.std.proofs.lemmas.Bool.{or_parts}
-use Rattle.serde_json.specs.Data.{Members, no_members, member, put}
+use Rattle.serde_json.specs.Data.{Members, no_members, member, put, object}
 use Rattle.serde_json.specs.Written.{has_float, members_have_float}
 use Rattle.tso_model.specs.Litmus.{Litmus}
 use Rattle.tso_model.specs.Condition.{Condition}
 use Rattle.tso_report.specs.Json.{count}
-use Rattle.tso_report.specs.Tally.{looked_at}
 use Rattle.tso_report.specs.declared.named.Named.{Named}
-use Rattle.outcome_report.specs.Outcomes.{Outcome, shown_values}
-use Rattle.outcome_report.specs.OutcomesJson.{key_of, value_members, state_value, states_value, observation_value, outcomes_value}
+use Rattle.outcome_report.specs.Outcomes.{Outcome, shown_values, is_met_in}
+use Rattle.outcome_report.specs.Verdict.{verdict_value}
+use Rattle.outcome_report.specs.OutcomesJson.{key_of, value_members, with_holds, holds_in, state_value, states_value, observation_value, outcomes_value}
 
 neither : (p q : Bool) → p ≡ false → q ≡ false → p || q ≡ false
 neither true q h k = h
@@ -34,18 +34,30 @@ values t [] list = refl
 values t (named ∷ names) [] = refl
 values t (named ∷ names) (value ∷ list) = one_more (key_of t named) value (value_members t names list) (values t names list)
 
-states : (t : Litmus) (outcomes : List Outcome) → has_float (states_value t outcomes) ≡ false
-states t [] = refl
-states t (o ∷ outcomes) =
-    neither (has_float (state_value t (shown_values t o) o.choices)) (has_float (states_value t outcomes))
-    (neither (members_have_float (value_members t (looked_at t) (shown_values t o))) false (values t (looked_at t) (shown_values t o)) refl)
-    (states t outcomes)
+holds : (h : Option Bool) (members : Members) → members_have_float members ≡ false → members_have_float (with_holds h members) ≡ false
+holds None members none = none
+holds (Some b) members none = none
+
+states : (t : Litmus) (names : List Named) (outcomes : List Outcome) → has_float (states_value t names outcomes) ≡ false
+states t names [] = refl
+states t names (o ∷ outcomes) =
+    let shown = value_members t names (shown_values names o) in
+    neither (has_float (state_value t names (shown_values names o) o.choices (holds_in t.condition o))) (has_float (states_value t names outcomes))
+    (holds (holds_in t.condition o) (member (codes "values") (object shown) no_members)
+    (neither (members_have_float shown) false (values t names (shown_values names o)) refl))
+    (states t names outcomes)
 
 observation : (o : Option Condition) (outcomes : List Outcome) → has_float (observation_value o outcomes) ≡ false
 observation None outcomes = refl
 observation (Some condition) outcomes = refl
 
-pub outcomes_have_no_float : (t : Litmus) (depth : ℕ) (outcomes : List Outcome) → has_float (outcomes_value t depth outcomes) ≡ false
-outcomes_have_no_float t depth outcomes =
+verdict : (o : Option Condition) (allowed : Bool) → has_float (verdict_value o allowed) ≡ false
+verdict None allowed = refl
+verdict (Some condition) allowed = refl
+
+pub outcomes_have_no_float : (t : Litmus) (names : List Named) (depth : ℕ) (outcomes : List Outcome) → has_float (outcomes_value t names depth outcomes) ≡ false
+outcomes_have_no_float t names depth outcomes =
+    let allowed = is_met_in t.condition outcomes in
     neither (has_float (observation_value t.condition outcomes)) _ (observation t.condition outcomes)
-    (neither (has_float (states_value t outcomes)) false (states t outcomes) refl)
+    (neither (has_float (states_value t names outcomes)) _ (states t names outcomes)
+    (neither (has_float (verdict_value t.condition allowed)) false (verdict t.condition allowed) refl))

@@ -1,8 +1,7 @@
 -- What is printed of the final states that a search found.
-use Rattle.std.proofs.Common.{◌≡◌, ◌∙◌, ℕ, suc, ◌+◌, Bool, List, [], ◌∷◌, length, slice_index_or, All, IfOk, Result, refl, sym, ap}
+use Rattle.std.proofs.Common.{◌≡◌, ◌∙◌, ℕ, suc, ◌+◌, Bool, List, [], ◌∷◌, length, slice_index_or, All, refl, sym, ap, subst}
 use Rattle.std.specs.Map.{values_of}
 use Rattle.std.proofs.lemmas.Option.{slice_get-get_or}
-use Rattle.std.proofs.lemmas.Result.{IfOk-weaker}
 use Rattle.tso_model.specs.Litmus.{Litmus, IsTest}
 use Rattle.tso_model.specs.FinalState.{words_from, registers_from}
 use Rattle.tso_model.specs.Runs.{run}
@@ -13,7 +12,9 @@ use Rattle.tso_laws.specs.EndedRuns.{End, IsExecution}
 use Rattle.outcome_laws.specs.Outcomes.{LeadToEnd}
 use Rattle.explorer.specs.FinalStates.{AreReached}
 use Rattle.explorer.specs.declared.final_states.FinalState.{FinalState}
-use Rattle.outcome_report.specs.Outcomes.{Outcome, outcome_of}
+use Rattle.tso_report.specs.declared.named.Named.{Named}
+use Rattle.outcome_report.specs.Verdict.{is_as_claimed}
+use Rattle.outcome_report.specs.Outcomes.{Outcome, outcome_of, is_met_in}
 use Rattle.outcome_report.specs.Printed.{outcomes_in, PrintsOutcomes}
 use Rattle.outcome_report.specs.inner.Shown.{IsOf, kept_after}
 use Rattle.outcome_report.proofs.Keeping.{kept-printed}
@@ -46,13 +47,13 @@ reached-whole t depth finals law test reached k d lt =
 
 -- ---- what was printed are these final states
 
-pub kept-out : {T E : Type 0} (bytes : T → List ℕ) (t : Litmus) (depth : ℕ) (json form : Bool) (finals : List FinalState) (kept : List (List ℕ × Outcome)) (r : Result T E)
-    → All (λ f. IsOf t (outcome_of f)) finals → kept ≡ kept_after t [] finals → json ≡ form
-    → IfOk r (λ x. bytes x ≡ outcomes_in form t depth (values_of kept)) → IfOk r (λ x. PrintsOutcomes t depth json finals (bytes x))
-kept-out bytes t depth json form finals kept r whole is so h =
-    IfOk-weaker r (λ x. bytes x ≡ outcomes_in form t depth (values_of kept)) (λ x. PrintsOutcomes t depth json finals (bytes x))
-    (λ x out. record {
-      outcomes = values_of (kept_after t [] finals);
-      printed = kept-printed t finals whole;
-      text = out ∙ (ap (λ k. outcomes_in form t depth (values_of k)) is ∙ ap (λ j. outcomes_in j t depth (values_of (kept_after t [] finals))) (sym so));
-    }) h
+pub kept-out : (t : Litmus) (shown names : List Named) (depth : ℕ) (json met as_claimed : Bool) (finals : List FinalState) (kept : List (List ℕ × Outcome)) (out : List ℕ)
+    → All (λ f. IsOf t (outcome_of f)) finals → names ≡ shown → kept ≡ kept_after names [] finals → out ≡ outcomes_in json t names depth (values_of kept)
+    → met ≡ is_met_in t.condition (values_of kept) → as_claimed ≡ is_as_claimed t.condition met → PrintsOutcomes t shown depth json finals out as_claimed
+kept-out t shown names depth json met as_claimed finals kept out whole same is printed found claimed =
+    subst (λ n. PrintsOutcomes t n depth json finals out as_claimed) same (record {
+      outcomes = values_of (kept_after names [] finals);
+      printed = kept-printed t names finals whole;
+      text = printed ∙ ap (λ k. outcomes_in json t names depth (values_of k)) is;
+      verdict = claimed ∙ ap (is_as_claimed t.condition) (found ∙ ap (λ k. is_met_in t.condition (values_of k)) is);
+    })

@@ -8,7 +8,9 @@ use Rattle.tso_model.specs.Registers.{index_of}
 use Rattle.tso_model.specs.declared.register.Reg.{Reg}
 use Rattle.tso_model.specs.declared.register.Reg.TheVariants.{Eax, Ebx, Ecx, Edx, Esi, Edi}
 use Rattle.tso_report.specs.Report.{all_registers}
-use Rattle.tso_report.specs.Tally.{names_register, names_location, is_looked_at, register_of, location, named_registers, named_locations, looked_at, shown_value}
+use Rattle.tso_report.specs.Tally.{names_register, names_location, is_looked_at, register_of, location, named_registers, named_locations, shown_value}
+use Rattle.shown_values.specs.Shown.{is_added, is_shown, named_in}
+use Rattle.shown_values.specs.declared.show.Show.{Show}
 use Rattle.tso_report.specs.declared.named.Named.{Named}
 use Rattle.outcome_report.specs.Outcomes.{Outcome, shown_values}
 use Rattle.outcome_report.specs.Laws.{TruthIsShown}
@@ -96,20 +98,20 @@ same-truth o p cores locations (OrClaim left right) exist registers words =
     (same-truth o p cores locations right exist.1 (λ core reg lt named. registers core reg lt (or-right (names_register left core reg) (names_register right core reg) named))
     (λ loc lt named. words loc lt (or-right (names_location left loc) (names_location right loc) named)))
 
-looked-same : (t : Litmus) (condition : Condition) (o p : Outcome) (n : Named) → t.condition ≡ Some condition → shown_values t o ≡ shown_values t p
+looked-same : (show : Show) (t : Litmus) (condition : Condition) (o p : Outcome) (n : Named) → t.condition ≡ Some condition → shown_values (named_in show t) o ≡ shown_values (named_in show t) p
     → is_looked_at (Some condition) n ≡ true → Member n (named_registers 0 (length t.programs) ++ named_locations 0 (length t.locations))
     → shown_value o.registers o.memory n ≡ shown_value p.registers p.memory n
-looked-same t condition o p n is alike looked there =
-    same-at (shown_value o.registers o.memory) (shown_value p.registers p.memory) (looked_at t) n alike
-    (member-filter (is_looked_at t.condition) n (named_registers 0 (length t.programs) ++ named_locations 0 (length t.locations))
-    (ap (λ c. is_looked_at c n) is ∙ looked) there)
+looked-same show t condition o p n is alike looked there =
+    same-at (shown_value o.registers o.memory) (shown_value p.registers p.memory) (named_in show t) n alike
+    (member-filter (is_shown show t) n (named_registers 0 (length t.programs) ++ named_locations 0 (length t.locations))
+    (or-left (is_looked_at t.condition n) (is_added show t n) (ap (λ c. is_looked_at c n) is ∙ looked)) there)
 
 pub truth-shown : TruthIsShown
-truth-shown t condition o p test is alike =
+truth-shown show t condition o p test is alike =
     let cores = length t.programs in
     let locations = length t.locations in
     same-truth o p cores locations condition.claim (test.condition_fits condition is).names_known
-    (λ core reg lt named. looked-same t condition o p (register_of core reg) is alike named
+    (λ core reg lt named. looked-same show t condition o p (register_of core reg) is alike named
     (member-left (register_of core reg) (named_registers 0 cores) (named_locations 0 locations) (register-there 0 cores core reg (omega arith) (omega (arith, lt)))))
-    (λ loc lt named. looked-same t condition o p (location loc) is alike named
+    (λ loc lt named. looked-same show t condition o p (location loc) is alike named
     (member-right (location loc) (named_registers 0 cores) (named_locations 0 locations) (location-there 0 locations loc (omega arith) (omega (arith, lt)))))

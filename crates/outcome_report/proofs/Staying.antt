@@ -1,4 +1,4 @@
--- Every register is hidden at first, and those that aren't looked at stay so.
+-- Every register is hidden at first, and those that aren't shown stay so.
 use Rattle.std.proofs.Common.{◌≡◌, ◌≢◌, ◌∙◌, ◌<◌, ◌≤◌, ◌⊎◌, inl, inr, ℕ, zero, suc, ◌+◌, Bool, true, false, List, [], ◌∷◌, ◌++◌, length, filter, cond, Some, slice_get, slice_set, slice_index_or, arith, ap, sym, subst, refl}
 use Rattle.tso_model.specs.Litmus.{Litmus}
 use Rattle.tso_model.specs.Registers.{index_of}
@@ -8,11 +8,13 @@ use Rattle.tso_model.specs.declared.instruction.Core.{Core}
 use Rattle.eager_laws.specs.Dead.{none_hidden, hidden_of}
 use Rattle.tso_report.specs.declared.named.Named.{Named}
 use Rattle.tso_report.specs.declared.named.Named.TheVariants.{Register, Location}
-use Rattle.tso_report.specs.Tally.{looked_at, is_looked_at, register_of}
-use Rattle.outcome_report.specs.Hidden.{IsHidden, AreAllNotLookedAt}
+use Rattle.tso_report.specs.Tally.{register_of}
+use Rattle.shown_values.specs.Shown.{is_shown, named_in}
+use Rattle.shown_values.specs.declared.show.Show.{Show}
+use Rattle.outcome_report.specs.Hidden.{IsHidden}
 use Rattle.outcome_report.proofs.Hiding.{row-at}
 
--- ---- one register more is looked at
+-- ---- one register more is shown
 
 same-or-not : (n k : ℕ) → (n ≡ k) ⊎ (n ≢ k)
 same-or-not n k = grind arith
@@ -95,7 +97,7 @@ one-row-more [] row all each (suc core) reg l = absurd (let z : ⊥ = omega (ari
 one-row-more (x ∷ rows) row all each zero reg l = all 0 reg (omega arith)
 one-row-more (x ∷ rows) row all each (suc core) reg l = one-row-more rows row (λ c r m. all (suc c) r (omega (arith, m))) each core reg (omega (arith, l))
 
--- ---- what isn't looked at isn't named
+-- ---- what isn't shown isn't named
 
 pub got : {X : Type 0} (xs : List X) (i : ℕ) (d : X) → i < length xs → slice_get xs i ≡ Some (slice_index_or xs i d)
 got [] i d l = absurd (let z : ⊥ = omega (arith, l) in z)
@@ -112,9 +114,9 @@ passes {X} p (y ∷ ys) i x at = by (p y) refl i at (λ j. passes p ys j x)
     by true is (suc i) at further = further i at
     by false isnt i at further = further i at
 
-pub unnamed : (t : Litmus) (names : List Named) (core : ℕ) (reg : Reg) → names ≡ looked_at t → is_looked_at t.condition (register_of core reg) ≡ false
+pub unnamed : (show : Show) (t : Litmus) (names : List Named) (core : ℕ) (reg : Reg) → names ≡ named_in show t → is_shown show t (register_of core reg) ≡ false
     → (j : ℕ) (n : Named) → slice_get names j ≡ Some n → n ≡ register_of core reg → ⊥
-unnamed t names core reg list not_looked j n at is =
-    let looked : is_looked_at t.condition n ≡ true = passes (is_looked_at t.condition) _ j n (subst (λ z. slice_get z j ≡ Some n) list at) in
-    let same : is_looked_at t.condition (register_of core reg) ≡ true = ap (λ z. is_looked_at t.condition z) (sym is) ∙ looked in
+unnamed show t names core reg list not_shown j n at is =
+    let shown : is_shown show t n ≡ true = passes (is_shown show t) _ j n (subst (λ z. slice_get z j ≡ Some n) list at) in
+    let same : is_shown show t (register_of core reg) ≡ true = ap (λ z. is_shown show t z) (sym is) ∙ shown in
     let z : ⊥ = cc in z

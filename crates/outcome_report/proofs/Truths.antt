@@ -9,6 +9,7 @@ use Rattle.tso_model.specs.Litmus.{Litmus, IsTest, IsCondition}
 use Rattle.tso_model.specs.Condition.{Claim, NamesExist, truth_of, claim_of, condition_of}
 use Rattle.tso_model.specs.declared.condition.Cond.{Cond}
 use Rattle.explorer.specs.declared.final_states.FinalState.{FinalState}
+use Rattle.tso_report.specs.declared.named.Named.{Named}
 use Rattle.outcome_report.specs.Outcomes.{Outcome, outcome_of, shown_values, held_in, failed_in}
 use Rattle.outcome_report.specs.inner.Shown.{IsOf, kept_of, outcomes_at, AreShown, AllHave}
 
@@ -28,7 +29,7 @@ others-counted p (x ∷ xs) =
     by_test true = refl
     by_test false = refl
 
-states-kept : (es : Entries) → values_of (kept_of es) ≡ outcomes_at (values_of es)
+pub states-kept : (es : Entries) → values_of (kept_of es) ≡ outcomes_at (values_of es)
 states-kept [] = refl
 states-kept (e ∷ es) = ap (λ rest. outcome_of e.1.now ∷ rest) (states-kept es)
 
@@ -99,16 +100,23 @@ all-counted claim held rest es none counts =
 
 -- ---- what the test's condition names is there
 
-has-names : (t : Litmus) (c : Cond) (o : Outcome) → IsTest t → Some (condition_of c) ≡ t.condition → IsOf t o → NamesExist (length o.registers) (length o.memory) (claim_of c.prop)
+pub has-names : (t : Litmus) (c : Cond) (o : Outcome) → IsTest t → Some (condition_of c) ≡ t.condition → IsOf t o → NamesExist (length o.registers) (length o.memory) (claim_of c.prop)
 has-names t c o test is whole =
     let fits : IsCondition (length t.programs) (length t.locations) (condition_of c) =
     test.condition_fits (condition_of c) (sym is) in
     subst (λ n. NamesExist n (length o.memory) (claim_of c.prop)) (sym whole.registers)
     (subst (λ n. NamesExist (length t.programs) n (claim_of c.prop)) (sym whole.memory) fits.names_known)
 
-pub all-have : (t : Litmus) (c : Cond) (kept : List (List ℕ × Outcome)) → IsTest t → Some (condition_of c) ≡ t.condition → AreShown t kept → AllHave (claim_of c.prop) (values_of kept)
-all-have t c [] test is shown = All-nil (λ o. NamesExist (length o.registers) (length o.memory) (claim_of c.prop))
-all-have t c (k ∷ kept) test is shown =
-    let Is : List ℕ × Outcome → Type 0 = λ x. (x.0 ≡ shown_values t x.1) × IsOf t x.1 in
+pub all-have : (t : Litmus) (names : List Named) (c : Cond) (kept : List (List ℕ × Outcome)) → IsTest t → Some (condition_of c) ≡ t.condition → AreShown t names kept → AllHave (claim_of c.prop) (values_of kept)
+all-have t names c [] test is shown = All-nil (λ o. NamesExist (length o.registers) (length o.memory) (claim_of c.prop))
+all-have t names c (k ∷ kept) test is shown =
+    let Is : List ℕ × Outcome → Type 0 = λ x. (x.0 ≡ shown_values names x.1) × IsOf t x.1 in
     All-cons (λ o. NamesExist (length o.registers) (length o.memory) (claim_of c.prop)) k.1 (values_of kept)
-    (has-names t c k.1 test is (All-head Is k kept shown).1) (all-have t c kept test is (All-tail Is k kept shown))
+    (has-names t c k.1 test is (All-head Is k kept shown).1) (all-have t names c kept test is (All-tail Is k kept shown))
+
+-- the names that the condition has are there in one state
+pub names-there : (t : Litmus) (c : Cond) (f : FinalState) (registers : List (List ℕ)) (memory : List ℕ) → IsTest t → Some (condition_of c) ≡ t.condition → IsOf t (outcome_of f)
+    → registers ≡ f.registers.items → memory ≡ f.memory.items → NamesExist (length registers) (length memory) (claim_of c.prop)
+names-there t c f registers memory test is whole are_registers are_words =
+    subst (λ r. NamesExist (length r) (length memory) (claim_of c.prop)) (sym are_registers)
+    (subst (λ m. NamesExist (length f.registers.items) (length m) (claim_of c.prop)) (sym are_words) (has-names t c (outcome_of f) test is whole))

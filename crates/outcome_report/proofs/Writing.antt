@@ -8,33 +8,33 @@ use Rattle.serde_json.specs.Data.{array}
 use Rattle.serde_json.specs.declared.value.Value.{Value}
 use Rattle.serde_json.specs.View.{view, items_of}
 use Rattle.tso_model.specs.Litmus.{Litmus}
-use Rattle.tso_model.specs.declared.choice.Choice.{Choice}
 use Rattle.explorer.specs.declared.final_states.FinalState.{FinalState}
 use Rattle.tso_report.specs.Report.{test_line}
-use Rattle.tso_report.specs.Tally.{looked_at, shown_value}
+use Rattle.tso_report.specs.Tally.{shown_value}
 use Rattle.tso_report.specs.declared.named.Named.{Named}
-use Rattle.outcome_report.specs.Outcomes.{Outcome, outcome_of, shown_values, state_line, by_line, outcome_lines, outcomes_line, observation_line, outcomes_text}
-use Rattle.outcome_report.specs.OutcomesJson.{state_value, states_value}
+use Rattle.outcome_report.specs.Outcomes.{Outcome, outcome_of, shown_values, state_line, by_line, outcome_lines, outcomes_line, condition_lines, outcomes_text}
+use Rattle.outcome_report.specs.OutcomesJson.{holds_in, state_value, states_value}
 use Rattle.outcome_report.specs.inner.Shown.{IsOf, kept_of, AreShown}
 use Rattle.outcome_report.specs.inner.Written.{kept_lines, kept_values}
 use Rattle.outcome_report.proofs.Truths.{Entries, as-many}
 
-abbrev Is : Litmus → List ℕ × Outcome → Type 0
-Is t k = (k.0 ≡ shown_values t k.1) × IsOf t k.1
+abbrev Is : Litmus → List Named → List ℕ × Outcome → Type 0
+Is t names k = (k.0 ≡ shown_values names k.1) × IsOf t k.1
 
 -- ---- as if the values weren't kept beside the states
 
-lines-shown : (t : Litmus) (kept : List (List ℕ × Outcome)) → AreShown t kept → kept_lines t kept ≡ outcome_lines t (values_of kept)
-lines-shown t [] shown = refl
-lines-shown t (k ∷ kept) shown =
-    ap (λ v. state_line t v ++ (by_line k.1.choices ++ kept_lines t kept)) (All-head (Is t) k kept shown).0
-    ∙ ap (λ rest. state_line t (shown_values t k.1) ++ (by_line k.1.choices ++ rest)) (lines-shown t kept (All-tail (Is t) k kept shown))
+lines-shown : (t : Litmus) (names : List Named) (kept : List (List ℕ × Outcome)) → AreShown t names kept → kept_lines t names kept ≡ outcome_lines t names (values_of kept)
+lines-shown t names [] shown = refl
+lines-shown t names (k ∷ kept) shown =
+    ap (λ v. state_line t names v ++ (by_line k.1.choices ++ kept_lines t names kept)) (All-head (Is t names) k kept shown).0
+    ∙ ap (λ rest. state_line t names (shown_values names k.1) ++ (by_line k.1.choices ++ rest)) (lines-shown t names kept (All-tail (Is t names) k kept shown))
 
-values-shown : (t : Litmus) (kept : List (List ℕ × Outcome)) → AreShown t kept → kept_values t kept ≡ map (λ o. state_value t (shown_values t o) o.choices) (values_of kept)
-values-shown t [] shown = refl
-values-shown t (k ∷ kept) shown =
-    ap (λ v. state_value t v k.1.choices ∷ kept_values t kept) (All-head (Is t) k kept shown).0
-    ∙ ap (λ rest. state_value t (shown_values t k.1) k.1.choices ∷ rest) (values-shown t kept (All-tail (Is t) k kept shown))
+values-shown : (t : Litmus) (names : List Named) (kept : List (List ℕ × Outcome)) → AreShown t names kept
+    → kept_values t names kept ≡ map (λ o. state_value t names (shown_values names o) o.choices (holds_in t.condition o)) (values_of kept)
+values-shown t names [] shown = refl
+values-shown t names (k ∷ kept) shown =
+    ap (λ v. state_value t names v k.1.choices (holds_in t.condition k.1) ∷ kept_values t names kept) (All-head (Is t names) k kept shown).0
+    ∙ ap (λ rest. state_value t names (shown_values names k.1) k.1.choices (holds_in t.condition k.1) ∷ rest) (values-shown t names kept (All-tail (Is t names) k kept shown))
 
 -- ---- the text, put together from its parts
 
@@ -43,48 +43,54 @@ four-parts a b c d first second third all is_first is_second is_third is =
     is ∙ (ap (λ x. x ++ d) (is_third ∙ ap (λ x. x ++ c) (is_second ∙ ap (λ x. x ++ b) is_first))
     ∙ (append_assoc (a ++ b) c d ∙ append_assoc a b (c ++ d)))
 
-pub text-whole : (t : Litmus) (depth n : ℕ) (es : Entries) (empty first second third all : List ℕ) → AreShown t (kept_of es) → n ≡ length es → empty ≡ []
-    → first ≡ empty ++ test_line t → second ≡ first ++ outcomes_line depth n → third ≡ second ++ kept_lines t (kept_of es)
-    → all ≡ third ++ observation_line t.name t.condition (values_of (kept_of es)) → all ≡ outcomes_text t depth (values_of (kept_of es))
-text-whole t depth n es empty first second third all shown many none is_first is_second is_third is =
-    four-parts (test_line t) (outcomes_line depth (length (values_of (kept_of es)))) (outcome_lines t (values_of (kept_of es)))
-    (observation_line t.name t.condition (values_of (kept_of es))) first second third all
+pub text-whole : (t : Litmus) (names : List Named) (depth n : ℕ) (es : Entries) (empty first second third all : List ℕ) → AreShown t names (kept_of es) → n ≡ length es → empty ≡ []
+    → first ≡ empty ++ test_line t → second ≡ first ++ outcomes_line depth n → third ≡ second ++ kept_lines t names (kept_of es)
+    → all ≡ third ++ condition_lines t.name t.condition (values_of (kept_of es)) → all ≡ outcomes_text t names depth (values_of (kept_of es))
+text-whole t names depth n es empty first second third all shown many none is_first is_second is_third is =
+    four-parts (test_line t) (outcomes_line depth (length (values_of (kept_of es)))) (outcome_lines t names (values_of (kept_of es)))
+    (condition_lines t.name t.condition (values_of (kept_of es))) first second third all
     (is_first ∙ ap (λ x. x ++ test_line t) none)
     (is_second ∙ ap (λ k. first ++ outcomes_line depth k) (many ∙ sym (as-many es)))
-    (is_third ∙ ap (λ x. second ++ x) (lines-shown t (kept_of es) shown))
+    (is_third ∙ ap (λ x. second ++ x) (lines-shown t names (kept_of es) shown))
     is
 
 -- ---- the values of one state after the other
 
 -- those that were made, and the others are there to be made
-abbrev pub Made : Litmus → List Value → Entries → Entries → Type 0
-Made t done rest es =
-    (map view done ++ kept_values t (kept_of rest) ≡ kept_values t (kept_of es)) × AreShown t (kept_of rest)
+abbrev pub Made : Litmus → List Named → List Value → Entries → Entries → Type 0
+Made t names done rest es =
+    (map view done ++ kept_values t names (kept_of rest) ≡ kept_values t names (kept_of es)) × AreShown t names (kept_of rest)
 
-pub as-named : (t : Litmus) (done : List Value) (all rest es : Entries) (v : Vec ℕ Global) (s : Bor FinalState) (names : List Named) (values : List ℕ)
-    → all ≡ (v, s) ∷ rest → values ≡ v.items → names ≡ looked_at t → Made t done all es → length values ≡ length names
-as-named t done all rest es v s names values steps are_values are_names made =
+-- the next one has a value for each name, and is a state of the test
+pub as-named : (t : Litmus) (names : List Named) (done : List Value) (all rest es : Entries) (v : Vec ℕ Global) (s : Bor FinalState) (values : List ℕ)
+    → all ≡ (v, s) ∷ rest → values ≡ v.items → Made t names done all es → length values ≡ length names
+as-named t names done all rest es v s values steps are_values made =
     let o = outcome_of s.now in
-    let shown : v.items ≡ shown_values t o = (All-head (Is t) (v.items, o) (kept_of rest) (subst (λ entries. AreShown t (kept_of entries)) steps made.1)).0 in
-    ap length (are_values ∙ shown) ∙ (length-map (looked_at t) (shown_value o.registers o.memory) ∙ ap length (sym are_names))
+    let shown : v.items ≡ shown_values names o = (All-head (Is t names) (v.items, o) (kept_of rest) (subst (λ entries. AreShown t names (kept_of entries)) steps made.1)).0 in
+    ap length (are_values ∙ shown) ∙ length-map names (shown_value o.registers o.memory)
 
-pub one-made : (t : Litmus) (done more : List Value) (all rest es : Entries) (v : Vec ℕ Global) (s : Bor FinalState) (values : List ℕ) (choices : List Choice) (value : Value)
-    → all ≡ (v, s) ∷ rest → values ≡ v.items → choices ≡ s.now.choices.items → view value ≡ state_value t values choices → more ≡ done ++ value ∷ []
-    → Made t done all es → Made t more rest es
-one-made t done more all rest es v s values choices value steps are_values are_choices is pushed made =
-    let one : view value ≡ state_value t v.items s.now.choices.items =
-    is ∙ (ap (λ x. state_value t x choices) are_values ∙ ap (λ x. state_value t v.items x) are_choices) in
-    let moved : map view more ++ kept_values t (kept_of rest) ≡ map view done ++ (view value ∷ kept_values t (kept_of rest)) =
-    ap (λ x. map view x ++ kept_values t (kept_of rest)) pushed
-    ∙ (ap (λ x. x ++ kept_values t (kept_of rest)) (map-append view done (value ∷ [])) ∙ append_assoc (map view done) (view value ∷ []) (kept_values t (kept_of rest))) in (
-      moved ∙ (ap (λ d. map view done ++ (d ∷ kept_values t (kept_of rest))) one
-          ∙ (sym (ap (λ entries. map view done ++ kept_values t (kept_of entries)) steps) ∙ made.0)),
-      All-tail (Is t) (v.items, outcome_of s.now) (kept_of rest) (subst (λ entries. AreShown t (kept_of entries)) steps made.1),
+pub is-whole : (t : Litmus) (names : List Named) (done : List Value) (all rest es : Entries) (v : Vec ℕ Global) (s : Bor FinalState)
+    → all ≡ (v, s) ∷ rest → Made t names done all es → IsOf t (outcome_of s.now)
+is-whole t names done all rest es v s steps made =
+    (All-head (Is t names) (v.items, outcome_of s.now) (kept_of rest) (subst (λ entries. AreShown t names (kept_of entries)) steps made.1)).1
+
+pub one-made : (t : Litmus) (names : List Named) (done more : List Value) (all rest es : Entries) (v : Vec ℕ Global) (s : Bor FinalState) (values : List ℕ) (value : Value)
+    → all ≡ (v, s) ∷ rest → values ≡ v.items → view value ≡ state_value t names values s.now.choices.items (holds_in t.condition (outcome_of s.now)) → more ≡ done ++ value ∷ []
+    → Made t names done all es → Made t names more rest es
+one-made t names done more all rest es v s values value steps are_values is pushed made =
+    let o = outcome_of s.now in
+    let one : view value ≡ state_value t names v.items o.choices (holds_in t.condition o) = is ∙ ap (λ x. state_value t names x o.choices (holds_in t.condition o)) are_values in
+    let moved : map view more ++ kept_values t names (kept_of rest) ≡ map view done ++ (view value ∷ kept_values t names (kept_of rest)) =
+    ap (λ x. map view x ++ kept_values t names (kept_of rest)) pushed
+    ∙ (ap (λ x. x ++ kept_values t names (kept_of rest)) (map-append view done (value ∷ [])) ∙ append_assoc (map view done) (view value ∷ []) (kept_values t names (kept_of rest))) in (
+      moved ∙ (ap (λ d. map view done ++ (d ∷ kept_values t names (kept_of rest))) one
+          ∙ (sym (ap (λ entries. map view done ++ kept_values t names (kept_of entries)) steps) ∙ made.0)),
+      All-tail (Is t names) (v.items, o) (kept_of rest) (subst (λ entries. AreShown t names (kept_of entries)) steps made.1),
     )
 
-pub all-made : (t : Litmus) (done : List Value) (rest es : Entries) → rest ≡ [] → AreShown t (kept_of es) → Made t done rest es
-    → array (items_of (map view done)) ≡ states_value t (values_of (kept_of es))
-all-made t done rest es none shown made =
-    let all : map view done ≡ kept_values t (kept_of es) =
-    sym (append-nil (map view done)) ∙ (sym (ap (λ entries. map view done ++ kept_values t (kept_of entries)) none) ∙ made.0) in
-    ap (λ values. array (items_of values)) (all ∙ values-shown t (kept_of es) shown)
+pub all-made : (t : Litmus) (names : List Named) (done : List Value) (rest es : Entries) → rest ≡ [] → AreShown t names (kept_of es) → Made t names done rest es
+    → array (items_of (map view done)) ≡ states_value t names (values_of (kept_of es))
+all-made t names done rest es none shown made =
+    let all : map view done ≡ kept_values t names (kept_of es) =
+    sym (append-nil (map view done)) ∙ (sym (ap (λ entries. map view done ++ kept_values t names (kept_of entries)) none) ∙ made.0) in
+    ap (λ values. array (items_of values)) (all ∙ values-shown t names (kept_of es) shown)

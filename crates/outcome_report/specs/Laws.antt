@@ -9,33 +9,44 @@ use Rattle.tso_model.specs.Litmus.{Litmus, IsTest}
 use Rattle.tso_model.specs.Condition.{Condition, truth_of}
 use Rattle.explorer.specs.FinalStates.{Have}
 use Rattle.explorer.specs.declared.final_states.FinalState.{FinalState}
+use Rattle.tso_report.specs.declared.named.Named.{Named}
+use Rattle.shown_values.specs.Shown.{named_in}
+use Rattle.shown_values.specs.declared.show.Show.{Show}
 use Rattle.outcome_report.specs.Hidden.{AreNotShown}
-use Rattle.outcome_report.specs.Outcomes.{Outcome, shown_values, ArePrinted, held_in, failed_in}
+use Rattle.outcome_report.specs.Outcomes.{Outcome, shown_values, ArePrinted, held_in, failed_in, true_in}
+use Rattle.outcome_report.specs.OutcomesJson.{holds_in}
 
 -- of two states that look alike the condition's proposition is true in both, or in none
 abbrev pub TruthIsShown : Type 0
 TruthIsShown =
-    (t : Litmus) (condition : Condition) (o p : Outcome) → IsTest t → t.condition ≡ Some condition → shown_values t o ≡ shown_values t p
+    (show : Show) (t : Litmus) (condition : Condition) (o p : Outcome) → IsTest t → t.condition ≡ Some condition
+    → shown_values (named_in show t) o ≡ shown_values (named_in show t) p
     → truth_of o.registers o.memory condition.claim ≡ truth_of p.registers p.memory condition.claim
 
--- they have the same values in the same order, and where there is a condition its proposition is true, and false, in as many
-pub record AreAlike (t : Litmus) (outcomes others : List Outcome) : Type 0 where
-  pub values : map (shown_values t) outcomes ≡ map (shown_values t) others
+-- they have the same values in the same order; and where there is a condition, its proposition is true in the same ones of them, and
+-- true and false in as many
+pub record AreAlike (t : Litmus) (names : List Named) (outcomes others : List Outcome) : Type 0 where
+  pub values : map (shown_values names) outcomes ≡ map (shown_values names) others
+  pub holds : map (holds_in t.condition) outcomes ≡ map (holds_in t.condition) others
   pub held : ForSome t.condition (λ c. held_in c.claim outcomes ≡ held_in c.claim others)
   pub failed : ForSome t.condition (λ c. failed_in c.claim outcomes ≡ failed_in c.claim others)
+  pub numbers : ForSome t.condition (λ c. true_in c.claim outcomes ≡ true_in c.claim others)
 
 -- outcomes whose values ascend and are the same values are alike
 abbrev pub OutcomesOfTheSameValuesAreAlike : Type 0
 OutcomesOfTheSameValuesAreAlike =
-    (t : Litmus) (outcomes others : List Outcome) → IsTest t
-    → IsStrictlySortedBy (slice_cmp nat_cmp) (map (shown_values t) outcomes) → IsStrictlySortedBy (slice_cmp nat_cmp) (map (shown_values t) others)
-    → ((values : List ℕ) → Contains (map (shown_values t) outcomes) values ↔ Contains (map (shown_values t) others) values)
-    → AreAlike t outcomes others
+    (show : Show) (t : Litmus) (outcomes others : List Outcome) → IsTest t
+    → IsStrictlySortedBy (slice_cmp nat_cmp) (map (shown_values (named_in show t)) outcomes)
+    → IsStrictlySortedBy (slice_cmp nat_cmp) (map (shown_values (named_in show t)) others)
+    → ((values : List ℕ) → Contains (map (shown_values (named_in show t)) outcomes) values
+    ↔ Contains (map (shown_values (named_in show t)) others) values)
+    → AreAlike t (named_in show t) outcomes others
 
 -- of final states that are the same but for registers that no value shows, however they are listed and whichever choices stand
 -- with them, what is printed differs in choices alone
 abbrev pub OutcomesAreOneButForChoices : Type 0
 OutcomesAreOneButForChoices =
-    (t : Litmus) (hidden : List (List Bool)) (finals others : List FinalState) (outcomes again : List Outcome) → IsTest t → AreNotShown t hidden
+    (show : Show) (t : Litmus) (hidden : List (List Bool)) (finals others : List FinalState) (outcomes again : List Outcome) → IsTest t
+    → AreNotShown (named_in show t) hidden
     → ((registers : List (List ℕ)) (memory : List ℕ) → Have hidden finals registers memory ↔ Have hidden others registers memory)
-    → ArePrinted t finals outcomes → ArePrinted t others again → AreAlike t outcomes again
+    → ArePrinted (named_in show t) finals outcomes → ArePrinted (named_in show t) others again → AreAlike t (named_in show t) outcomes again

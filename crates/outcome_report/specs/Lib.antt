@@ -1,3 +1,4 @@
+pub mod Verdict
 pub mod Outcomes
 pub mod OutcomesJson
 pub mod Hidden

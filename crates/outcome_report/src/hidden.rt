@@ -1,19 +1,21 @@
 //! Registers that no printed value shows. Of final states that differ in these alone one is enough, so a search need not
-//! tell them apart; a register that is looked at must not be among them.
+//! tell them apart; a register that is shown must not be among them.
 
 ghost use Rattle.std.specs.Prelude.{◌≡◌, ◌<◌, IfOk, length};
-ghost use Rattle.outcome_report.specs.Hidden.{IsHidden, AreNotShown, AreAllNotLookedAt};
+ghost use Rattle.outcome_report.specs.Hidden.{IsHidden, AreNotShown, AreAllNotShown};
 ghost use Rattle.outcome_report.specs.inner.Hidden.{IsNotHidden};
 ghost use Rattle.tso_model.specs.declared.instruction.Core.{Core};
 ghost use Rattle.tso_model.specs.declared.register.Reg.{Reg};
 ghost use Rattle.tso_report.specs.declared.named.Named.{Named};
+ghost use Rattle.shown_values.specs.Shown as shown;
 
+use shown_values::{Show, named_in};
 use std::alloc::Global;
 use tso_model::{NoMemory, Test};
-use tso_report::named::{Named, looked_at};
+use tso_report::named::Named;
 
-/// What is named is looked at: a register of a core isn't hidden then, and every other one stays hidden that was.
-fn show(hidden: &mut [[bool; 6]], named: Named)
+/// What is named is shown: a register of a core isn't hidden then, and every other one stays hidden that was.
+fn reveal(hidden: &mut [[bool; 6]], named: Named)
     requires { (core : Core) (reg : Reg) → named ≡ Named.Register core reg → core.0 < length hidden.old }
     ensures shown { IsNotHidden hidden.new named }
     ensures others { (other : Named) → IsNotHidden hidden.old other → IsNotHidden hidden.new other }
@@ -27,20 +29,20 @@ fn show(hidden: &mut [[bool; 6]], named: Named)
     }
 }
 
-/// Of each core which registers no printed value shows, in the order of `Reg::ALL`: all that aren't looked at.
+/// Of each core which registers no printed value shows, in the order of `Reg::ALL`: all but those that are shown.
 ///
 /// Errors: out of memory only.
-pub fn hidden_registers(alloc: Global, test: &Test) -> Result<Vec<[bool; 6]>, NoMemory>
-    ensures not_shown { IfOk result (λ hidden. AreNotShown test.now hidden.items) }
-    ensures all { IfOk result (λ hidden. AreAllNotLookedAt test.now hidden.items) }
+pub fn hidden_registers(alloc: Global, test: &Test, show: Show) -> Result<Vec<[bool; 6]>, NoMemory>
+    ensures not_shown { IfOk result (λ hidden. AreNotShown (shown.named_in show test.now) hidden.items) }
+    ensures all { IfOk result (λ hidden. AreAllNotShown show test.now hidden.items) }
 {
-    let names = looked_at(alloc, test)?;
+    let names = named_in(alloc, test, show)?;
     let mut hidden = Vec::new(alloc);
     for _core in 0..test.cores() {
         hidden.push([true; 6])?;
     }
     for named in &names {
-        show(&mut hidden, *named);
+        reveal(&mut hidden, *named);
     }
     Ok(hidden)
 }

@@ -1,27 +1,32 @@
 //! The final states of a test as JSON, for programs to read. It is one line, and its objects have their keys in the
 //! order of their bytes.
 
-ghost use Rattle.std.specs.Prelude.{◌≡◌, IfOk, All, string_bytes, length};
+ghost use Rattle.std.specs.Prelude.{◌≡◌, IfOk, OnOk, All, string_bytes, length};
 ghost use Rattle.std.specs.Map.{values_of};
 ghost use Rattle.serde_json.specs.Data.{object};
-ghost use Rattle.serde_json.specs.View.{view};
+ghost use Rattle.serde_json.specs.View.{view, members_view};
+ghost use Rattle.explorer.specs.declared.final_states.FinalState.{FinalState};
 ghost use Rattle.tso_report.specs.inner.Tally.{IsKnown};
-ghost use Rattle.outcome_report.specs.OutcomesJson.{key_of, value_members, state_value, states_value, observed_value};
+ghost use Rattle.outcome_report.specs.Outcomes.{outcome_of};
+ghost use Rattle.outcome_report.specs.OutcomesJson.{key_of, value_members, state_value, states_value, observed_value, holds_in};
 ghost use Rattle.outcome_report.specs.OutcomesJson.{observation_value, outcomes_value, unfinished_value, outcomes_json, unfinished_json};
-ghost use Rattle.outcome_report.specs.inner.Shown.{AreLookedAt, kept_of, AreShown};
+ghost use Rattle.outcome_report.specs.inner.Shown.{AreOf, IsOf, kept_of, AreShown};
+ghost use Rattle.outcome_report.specs.inner.Written.{put_holds};
 
 use crate::counting::counts_of;
 use crate::outcomes::Outcomes;
+use crate::verdict::{is_met_in, verdict_value};
+use explorer::FinalState;
 use scheduler::choices_text;
 use serde_json::{Map, Value, json, put};
 use std::alloc::Global;
-use tso_model::{Choice, NoMemory, Test};
+use tso_model::{NoMemory, Test, cond_holds};
 use tso_report::json::line_of;
 use tso_report::named::Named;
 use tso_report::observation::frequency;
 
-/// The final states of a test as JSON: an object of the depth, the observation, the states and the
-/// test, printed compact, and a line feed.
+/// The final states of a test as JSON: an object of the depth, the observation, the states, the test
+/// and the verdict, printed compact, and a line feed.
 ///
 /// Errors: out of memory only.
 pub fn outcomes_json(
@@ -31,9 +36,9 @@ pub fn outcomes_json(
     names: &[Named],
     outcomes: &Outcomes,
 ) -> Result<String, NoMemory>
-    requires names { AreLookedAt test.now names.now }
-    requires shown { AreShown test.now (kept_of outcomes.now.entries) }
-    ensures { IfOk result (λ text. string_bytes text ≡ outcomes_json test.now depth (values_of (kept_of outcomes.now.entries))) }
+    requires names { AreOf test.now names.now }
+    requires shown { AreShown test.now names.now (kept_of outcomes.now.entries) }
+    ensures { IfOk result (λ text. string_bytes text ≡ outcomes_json test.now names.now depth (values_of (kept_of outcomes.now.entries))) }
 {
     let value = outcomes_value(alloc, test, depth, names, outcomes)?;
     line_of(alloc, &value)
@@ -71,9 +76,9 @@ fn outcomes_value(
     names: &[Named],
     outcomes: &Outcomes,
 ) -> Result<Value, NoMemory>
-    requires names { AreLookedAt test.now names.now }
-    requires shown { AreShown test.now (kept_of outcomes.now.entries) }
-    ensures { IfOk result (λ value. view value ≡ outcomes_value test.now depth (values_of (kept_of outcomes.now.entries))) }
+    requires names { AreOf test.now names.now }
+    requires shown { AreShown test.now names.now (kept_of outcomes.now.entries) }
+    ensures { IfOk result (λ value. view value ≡ outcomes_value test.now names.now depth (values_of (kept_of outcomes.now.entries))) }
 {
     let mut members = Map::new(alloc);
     put(&mut members, alloc, "depth", Value::from(depth))?;
@@ -81,7 +86,7 @@ fn outcomes_value(
         &mut members,
         alloc,
         "observation",
-        observation_value(alloc, test, outcomes)?,
+        observation_value(alloc, test, names, outcomes)?,
     )?;
     put(
         &mut members,
@@ -95,11 +100,22 @@ fn outcomes_value(
         "test",
         Value::try_from_str(alloc, test.name())?,
     )?;
+    put(
+        &mut members,
+        alloc,
+        "verdict",
+        verdict_value(alloc, test, is_met_in(test, names, outcomes))?,
+    )?;
     Ok(Value::Object(members))
 }
 
-fn observation_value(alloc: Global, test: &Test, outcomes: &Outcomes) -> Result<Value, NoMemory>
-    requires { AreShown test.now (kept_of outcomes.now.entries) }
+fn observation_value(
+    alloc: Global,
+    test: &Test,
+    names: &[Named],
+    outcomes: &Outcomes,
+) -> Result<Value, NoMemory>
+    requires { AreShown test.now names.now (kept_of outcomes.now.entries) }
     ensures { IfOk result (λ value. view value ≡ observation_value test.now.condition (values_of (kept_of outcomes.now.entries))) }
 {
     match test.cond() {
@@ -124,13 +140,13 @@ fn states_value(
     names: &[Named],
     outcomes: &Outcomes,
 ) -> Result<Value, NoMemory>
-    requires names { AreLookedAt test.now names.now }
-    requires shown { AreShown test.now (kept_of outcomes.now.entries) }
-    ensures { IfOk result (λ value. view value ≡ states_value test.now (values_of (kept_of outcomes.now.entries))) }
+    requires names { AreOf test.now names.now }
+    requires shown { AreShown test.now names.now (kept_of outcomes.now.entries) }
+    ensures { IfOk result (λ value. view value ≡ states_value test.now names.now (values_of (kept_of outcomes.now.entries))) }
 {
     let mut states = Vec::new(alloc);
     for (values, state) in outcomes.iter() {
-        states.push(state_value(alloc, test, names, values, &state.choices)?)?;
+        states.push(state_value(alloc, test, names, values, state)?)?;
     }
     Ok(Value::Array(states))
 }
@@ -140,22 +156,43 @@ fn state_value(
     test: &Test,
     names: &[Named],
     values: &[u32],
-    choices: &[Choice],
+    state: &FinalState,
 ) -> Result<Value, NoMemory>
-    requires names { AreLookedAt test.now names.now }
+    requires names { AreOf test.now names.now }
     requires values { length values.now ≡ length names.now }
-    ensures { IfOk result (λ value. view value ≡ state_value test.now values.now choices.now) }
+    requires state { IsOf test.now (outcome_of state.now) }
+    ensures { IfOk result (λ value. view value
+        ≡ state_value test.now names.now values.now state.now.choices.items (holds_in test.now.condition (outcome_of state.now))) }
 {
-    let choices = Value::String(choices_text(alloc, choices)?);
+    let choices = Value::String(choices_text(alloc, &state.choices)?);
     let mut members = Map::new(alloc);
-    put(&mut members, alloc, "choices", choices)?;
     put(
         &mut members,
         alloc,
         "values",
         values_value(alloc, test, names, values)?,
     )?;
+    put_holds(&mut members, alloc, test, state)?;
+    put(&mut members, alloc, "choices", choices)?;
     Ok(Value::Object(members))
+}
+
+/// Whether the condition's proposition is true in the state, where the test has a condition.
+fn put_holds(
+    members: &mut Map<String, Value>,
+    alloc: Global,
+    test: &Test,
+    state: &FinalState,
+) -> Result<(), NoMemory>
+    requires { IsOf test.now (outcome_of state.now) }
+    ensures { OnOk result (members_view members.new.entries
+        ≡ put_holds (holds_in test.now.condition (outcome_of state.now)) (members_view members.old.entries)) }
+{
+    if let Some(cond) = test.cond() {
+        let holds = cond_holds(cond, &state.registers, &state.memory);
+        put(members, alloc, "holds", Value::Bool(holds))?;
+    }
+    Ok(())
 }
 
 fn values_value(

@@ -1,9 +1,8 @@
 //! What is printed of all final states of a test: those that look alike once, each with choices that
-//! lead there.
+//! lead there; and what they say of the test's condition.
 //!
-//! Two final states look alike where the registers and locations that the condition names have the same
-//! values (or all locations, where there is no condition). Which registers make no state look different is known before a
-//! search.
+//! Two final states look alike where the registers and locations that are shown have the same values. Which registers make no
+//! state look different is known before a search.
 #![tactic(auto)]
 
 mod counting;
@@ -13,6 +12,7 @@ pub mod laws;
 mod outcomes;
 pub mod report;
 mod text;
+pub mod verdict;
 
 pub use hidden::hidden_registers;
-pub use report::{outcomes_report, unfinished_report};
+pub use report::{Printed, outcomes_report, unfinished_report};

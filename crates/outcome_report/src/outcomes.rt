@@ -3,7 +3,7 @@
 
 ghost use Rattle.std.specs.Prelude.{◌≡◌, [], IfOk, OnOk, All};
 ghost use Rattle.outcome_report.specs.Outcomes.{outcome_of};
-ghost use Rattle.outcome_report.specs.inner.Shown.{AreLookedAt, IsOf, kept_of, with_outcome, kept_after};
+ghost use Rattle.outcome_report.specs.inner.Shown.{AreOf, IsOf, kept_of, with_outcome, kept_after};
 
 use explorer::FinalState;
 use std::alloc::Global;
@@ -11,7 +11,7 @@ use std::collections::BTreeMap;
 use tso_model::{NoMemory, Test};
 use tso_report::named::{Named, values_at};
 
-/// The values of what is looked at, in ascending order, each list with a final state that has them.
+/// The values of what is shown, in ascending order, each list with a final state that has them.
 pub type Outcomes<'a> = BTreeMap<Vec<u32>, &'a FinalState>;
 
 /// The final states of the test, the first of those that look alike.
@@ -23,9 +23,9 @@ pub fn outcomes_of<'a>(
     names: &[Named],
     finals: &'a [FinalState],
 ) -> Result<Outcomes<'a>, NoMemory>
-    requires names { AreLookedAt test.now names.now }
+    requires names { AreOf test.now names.now }
     requires finals { All (λ f. IsOf test.now (outcome_of f)) finals.now }
-    ensures { IfOk result (λ outcomes. kept_of outcomes.entries ≡ kept_after test.now [] finals.now) }
+    ensures { IfOk result (λ outcomes. kept_of outcomes.entries ≡ kept_after names.now [] finals.now) }
 {
     let mut outcomes = BTreeMap::new(alloc);
     for state in finals {

@@ -2,23 +2,37 @@
 //! prints no state at all.
 
 ghost use Rattle.std.specs.Prelude.{◌≡◌, IfOk, string_bytes};
+ghost use Rattle.std.specs.Map.{values_of};
 ghost use Rattle.explorer.specs.FinalStates.{AreReached};
-ghost use Rattle.outcome_report.specs.Printed.{PrintsOutcomes, unfinished_search_in};
+ghost use Rattle.shown_values.specs.Shown as shown;
+ghost use Rattle.outcome_report.specs.Printed.{PrintsOutcomes, outcomes_in, unfinished_search_in};
+ghost use Rattle.outcome_report.specs.inner.Shown.{AreOf, AreShown, kept_of};
 
 use crate::json::{outcomes_json, unfinished_json};
-use crate::outcomes::outcomes_of;
+use crate::outcomes::{Outcomes, outcomes_of};
 use crate::text::{outcomes_text, unfinished_text};
+use crate::verdict::{is_as_claimed, is_met_in};
 use explorer::FinalState;
+use shown_values::{Show, named_in};
 use std::alloc::Global;
 use tso_laws::ended_runs_are_executions;
 use tso_model::{NoMemory, Test};
-use tso_report::named::looked_at;
+use tso_report::named::Named;
+
+/// What is printed of final states, and what they say of the condition.
+#[derive(Drop)]
+pub struct Printed {
+    /// What is printed.
+    pub text: String,
+    /// Whether the test's condition is as it claims; without a condition it is.
+    pub is_as_claimed: bool,
+}
 
 /// What is printed of the final states that a search of the test found at this depth: how many look
-/// different; each of these once, in ascending order of the values of what the condition names (or of
-/// all locations, where there is no condition), with choices that lead there; and, where the test has
-/// a condition, in how many of them its proposition is true and false. Lines of text, or with `json` a
-/// JSON value on one line.
+/// different; each of these once, in ascending order of the values of what is shown, with choices that
+/// lead there; and, where the test has a condition, in how many of them its proposition is true and
+/// false, in which it is true, and whether the condition is as it claims. Lines of text, or with `json`
+/// a JSON value on one line.
 ///
 /// Errors: out of memory only.
 pub fn outcomes_report(
@@ -26,19 +40,39 @@ pub fn outcomes_report(
     test: &Test,
     depth: u8,
     finals: &[FinalState],
+    show: Show,
     json: bool,
-) -> Result<String, NoMemory>
+) -> Result<Printed, NoMemory>
     requires { AreReached test.now depth finals.now }
-    ensures { IfOk result (λ text. PrintsOutcomes test.now depth json finals.now (string_bytes text)) }
+    ensures { IfOk result (λ printed. PrintsOutcomes test.now (shown.named_in show test.now) depth json finals.now
+        (string_bytes printed.text) printed.is_as_claimed) }
 {
     ended_runs_are_executions();
     test.know_limits();
-    let names = looked_at(alloc, test)?;
+    let names = named_in(alloc, test, show)?;
     let outcomes = outcomes_of(alloc, test, &names, finals)?;
+    Ok(Printed {
+        text: text_of(alloc, test, depth, &names, &outcomes, json)?,
+        is_as_claimed: is_as_claimed(test, is_met_in(test, &names, &outcomes)),
+    })
+}
+
+fn text_of(
+    alloc: Global,
+    test: &Test,
+    depth: u8,
+    names: &[Named],
+    outcomes: &Outcomes,
+    json: bool,
+) -> Result<String, NoMemory>
+    requires names { AreOf test.now names.now }
+    requires shown { AreShown test.now names.now (kept_of outcomes.now.entries) }
+    ensures { IfOk result (λ text. string_bytes text ≡ outcomes_in json test.now names.now depth (values_of (kept_of outcomes.now.entries))) }
+{
     if json {
-        outcomes_json(alloc, test, depth, &names, &outcomes)
+        outcomes_json(alloc, test, depth, names, outcomes)
     } else {
-        outcomes_text(alloc, test, depth, &names, &outcomes)
+        outcomes_text(alloc, test, depth, names, outcomes)
     }
 }
 

@@ -1,18 +1,22 @@
 //! The final states of a test as lines of text: its values, and the choices that lead there, in the form in which they can
-//! be run again.
+//! be run again; and what they say of the condition.
 
-ghost use Rattle.std.specs.Prelude.{◌≡◌, ◌++◌, IfOk, OnOk, string_bytes};
+ghost use Rattle.std.specs.Prelude.{◌≡◌, ◌++◌, IfOk, OnOk, string_bytes, codes};
+ghost use Rattle.std.specs.Fmt.{decimal};
+ghost use Rattle.tso_model.specs.Condition.{claim_of};
 ghost use Rattle.std.specs.Map.{values_of};
 ghost use Rattle.outcome_report.specs.Outcomes.{outcomes_line, state_line, by_line, observation_line};
+ghost use Rattle.outcome_report.specs.Outcomes.{printed_numbers, true_in, true_line, condition_lines};
 ghost use Rattle.outcome_report.specs.Outcomes.{outcomes_text, unfinished_line};
-ghost use Rattle.outcome_report.specs.inner.Shown.{AreLookedAt, kept_of, AreShown};
+ghost use Rattle.outcome_report.specs.inner.Shown.{AreOf, AllHave, kept_of, AreShown};
 ghost use Rattle.outcome_report.specs.inner.Written.{kept_lines};
 
 use crate::counting::counts_of;
 use crate::outcomes::Outcomes;
+use crate::verdict::{is_met_in, write_verdict};
 use scheduler::write_after;
 use std::alloc::Global;
-use tso_model::{Choice, NoMemory, Test};
+use tso_model::{Choice, Cond, NoMemory, Test, cond_holds};
 use tso_report::named::Named;
 use tso_report::observation::write_observed;
 use tso_report::printed_values::write_values;
@@ -20,7 +24,7 @@ use tso_report::report::write_test;
 
 /// The final states of a test as lines: the test; the depth and the number of states; two lines for
 /// each state; and, where the test has a condition, in how many of them its proposition is true and
-/// false.
+/// false, in which it is true, and whether the condition is as it claims.
 ///
 /// Errors: out of memory only.
 pub fn outcomes_text(
@@ -30,15 +34,15 @@ pub fn outcomes_text(
     names: &[Named],
     outcomes: &Outcomes,
 ) -> Result<String, NoMemory>
-    requires names { AreLookedAt test.now names.now }
-    requires shown { AreShown test.now (kept_of outcomes.now.entries) }
-    ensures { IfOk result (λ text. string_bytes text ≡ outcomes_text test.now depth (values_of (kept_of outcomes.now.entries))) }
+    requires names { AreOf test.now names.now }
+    requires shown { AreShown test.now names.now (kept_of outcomes.now.entries) }
+    ensures { IfOk result (λ text. string_bytes text ≡ outcomes_text test.now names.now depth (values_of (kept_of outcomes.now.entries))) }
 {
     let mut text = String::new(alloc);
     write_test(&mut text, test)?;
     write_outcomes(&mut text, depth, outcomes.len())?;
     write_states(&mut text, test, names, outcomes)?;
-    write_observation(&mut text, test, outcomes)?;
+    write_condition(&mut text, test, names, outcomes)?;
     Ok(text)
 }
 
@@ -68,8 +72,8 @@ fn write_states(
     names: &[Named],
     outcomes: &Outcomes,
 ) -> Result<(), NoMemory>
-    requires { AreLookedAt test.now names.now }
-    ensures { OnOk result (string_bytes text.new ≡ string_bytes text.old ++ kept_lines test.now (kept_of outcomes.now.entries)) }
+    requires { AreOf test.now names.now }
+    ensures { OnOk result (string_bytes text.new ≡ string_bytes text.old ++ kept_lines test.now names.now (kept_of outcomes.now.entries)) }
 {
     for (values, state) in outcomes.iter() {
         write_state(text, test, names, values)?;
@@ -85,8 +89,8 @@ fn write_state(
     names: &[Named],
     values: &[u32],
 ) -> Result<(), NoMemory>
-    requires { AreLookedAt test.now names.now }
-    ensures { OnOk result (string_bytes text.new ≡ string_bytes text.old ++ state_line test.now values.now) }
+    requires { AreOf test.now names.now }
+    ensures { OnOk result (string_bytes text.new ≡ string_bytes text.old ++ state_line test.now names.now values.now) }
 {
     text.push_str("State")?;
     write_values(text, test, names, values)?;
@@ -104,9 +108,30 @@ fn write_by(text: &mut String, choices: &[Choice]) -> Result<(), NoMemory>
     Ok(())
 }
 
+/// What is said of the condition, where the test has one.
+fn write_condition(
+    text: &mut String,
+    test: &Test,
+    names: &[Named],
+    outcomes: &Outcomes,
+) -> Result<(), NoMemory>
+    requires { AreShown test.now names.now (kept_of outcomes.now.entries) }
+    ensures { OnOk result (string_bytes text.new ≡ string_bytes text.old
+        ++ condition_lines test.now.name test.now.condition (values_of (kept_of outcomes.now.entries))) }
+{
+    write_observation(text, test, names, outcomes)?;
+    write_true(text, test, names, outcomes)?;
+    write_verdict(text, test, is_met_in(test, names, outcomes))
+}
+
 /// `Observation NAME Sometimes P Q`, where the test has a condition.
-fn write_observation(text: &mut String, test: &Test, outcomes: &Outcomes) -> Result<(), NoMemory>
-    requires { AreShown test.now (kept_of outcomes.now.entries) }
+fn write_observation(
+    text: &mut String,
+    test: &Test,
+    names: &[Named],
+    outcomes: &Outcomes,
+) -> Result<(), NoMemory>
+    requires { AreShown test.now names.now (kept_of outcomes.now.entries) }
     ensures { OnOk result (string_bytes text.new ≡ string_bytes text.old
         ++ observation_line test.now.name test.now.condition (values_of (kept_of outcomes.now.entries))) }
 {
@@ -117,4 +142,46 @@ fn write_observation(text: &mut String, test: &Test, outcomes: &Outcomes) -> Res
             write_observed(text, test.name(), held, failed)
         }
     }
+}
+
+/// `True 1 4 7`, where the test has a condition.
+fn write_true(
+    text: &mut String,
+    test: &Test,
+    names: &[Named],
+    outcomes: &Outcomes,
+) -> Result<(), NoMemory>
+    requires { AreShown test.now names.now (kept_of outcomes.now.entries) }
+    ensures { OnOk result (string_bytes text.new ≡ string_bytes text.old
+        ++ true_line test.now.condition (values_of (kept_of outcomes.now.entries))) }
+{
+    if let Some(cond) = test.cond() {
+        text.push_str("True")?;
+        write_numbers(text, cond, outcomes)?;
+        text.push('\n')?;
+    }
+    Ok(())
+}
+
+/// ` 1 4 7`: the numbers of the states, from 1, in which the proposition is true.
+fn write_numbers(text: &mut String, cond: &Cond, outcomes: &Outcomes) -> Result<(), NoMemory>
+    requires { AllHave (claim_of cond.now.prop) (values_of (kept_of outcomes.now.entries)) }
+    ensures { OnOk result (string_bytes text.new ≡ string_bytes text.old
+        ++ printed_numbers (true_in (claim_of cond.now.prop) (values_of (kept_of outcomes.now.entries)))) }
+{
+    let mut number = 0;
+    for state in outcomes.values() {
+        number += 1;
+        if cond_holds(cond, &state.registers, &state.memory) {
+            write_number(text, number)?;
+        }
+    }
+    Ok(())
+}
+
+fn write_number(text: &mut String, number: usize) -> Result<(), NoMemory>
+    ensures { OnOk result (string_bytes text.new ≡ string_bytes text.old ++ (codes " " ++ decimal number)) }
+{
+    write!(text, " {number}")?;
+    Ok(())
 }

@@ -1,6 +1,6 @@
 -- What the numbers of the page ask for, and what answers them: the same settings and answers as those of the program, so
 -- that its promises hold of the page.
-use Rattle.std.specs.Prelude.{ℕ, ◌≡◌, ◌<◌, ◌≤◌, ◌⊎◌, true, List, Some, length, take}
+use Rattle.std.specs.Prelude.{ℕ, ◌≡◌, ◌<◌, ◌≤◌, ◌⊎◌, true, false, List, Some, length, take}
 use Rattle.tso_model.specs.declared.choice.Bus.{Bus}
 use Rattle.snoop_bus.specs.Geometry.{geometry, IsShapeWithinLimits}
 use Rattle.protocol_tables.specs.declared.kind.ProtocolKind.{ProtocolKind}
@@ -23,6 +23,7 @@ use Rattle.page_exports.specs.declared.Told.{Told}
 use Rattle.tso_model.specs.declared.choice.Bus.TheVariants as buses
 use Rattle.protocol_tables.specs.declared.kind.ProtocolKind.TheVariants as kinds
 use Rattle.refutation_laws.specs.declared.model.Model.TheVariants as models
+use Rattle.shown_values.specs.declared.show.Show.TheVariants as shows
 use Rattle.command_line.specs.declared.settings.Settings.TheVariants as settings
 use Rattle.commands.specs.declared.answer.Status.TheVariants as statuses
 use Rattle.page_exports.specs.declared.question.Question.TheVariants as questions
@@ -47,6 +48,7 @@ number_of statuses.Good = 0
 number_of statuses.Refused = 1
 number_of statuses.Unended = 3
 number_of statuses.Invalid = 4
+number_of statuses.NotAsClaimed = 4
 
 -- a machine is the one that the numbers ask for
 abbrev pub IsMachineOf : Numbers → ProtocolKind → Configuration → Type 0
@@ -62,11 +64,12 @@ Asks a (settings.Sweep kind config plan) =
 Asks a settings.Check = a.command ≡ 2
 Asks a (settings.Witness depth) = (a.command ≡ 3) × (depth ≡ a.depth)
 Asks a (settings.Tables kind) = (a.command ≡ 4) × (kind_number kind ≡ a.protocol)
-Asks a (settings.Outcomes search json) =
-    (a.command ≡ 5) × (search ≡ record { depth = a.depth; states = a.states }) × (json ≡ a.json)
+Asks a (settings.Outcomes search json assert) =
+    (a.command ≡ 5) × (search ≡ record { depth = a.depth; states = a.states; show = shows.Condition }) × (json ≡ a.json)
+    × (assert ≡ false)
 Asks a (settings.Trace kind config json) = (a.command ≡ 6) × IsMachineOf a kind config × (json ≡ a.json)
-Asks a (settings.Why plan json) =
-    (a.command ≡ 8) × (model_number plan.model ≡ a.model) × (plan.cases ≡ a.cases) × (json ≡ a.json)
+Asks a (settings.Why plan json assert) =
+    (a.command ≡ 8) × (model_number plan.model ≡ a.model) × (plan.cases ≡ a.cases) × (json ≡ a.json) × (assert ≡ false)
 
 -- the question that the numbers ask: a command's, or for the last step of a trace
 abbrev pub AsksFor : Numbers → Question → Type 0
@@ -85,7 +88,7 @@ IsCommandAskable a =
     ⊎ (a.command ≡ 2)
     ⊎ ((a.command ≡ 3) × IsDepth a.depth)
     ⊎ ((a.command ≡ 4) × (a.protocol < 4))
-    ⊎ ((a.command ≡ 5) × IsSearchWithinLimits (record { depth = a.depth; states = a.states }))
+    ⊎ ((a.command ≡ 5) × IsSearchWithinLimits (record { depth = a.depth; states = a.states; show = shows.Condition }))
     ⊎ ((a.command ≡ 6) × IsMachineAsked a)
     ⊎ ((a.command ≡ 8) × (a.model < 2) × (1 ≤ a.cases) × (a.cases ≤ most_told_apart))
 

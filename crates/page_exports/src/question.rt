@@ -9,7 +9,7 @@ ghost use Rattle.page_exports.specs.Questions.{AsksFor, IsAskable, Asks, IsComma
 ghost use Rattle.page_exports.specs.inner.Questions.{HasDepthFor};
 ghost use Rattle.page_exports.specs.Questions.{kind_number, bus_number, model_number, number_of};
 
-use command_line::{ReasonPlan, SearchPlan, SweepPlan};
+use command_line::{ReasonPlan, SearchPlan, Show, SweepPlan};
 use machine_core::Config;
 use protocol_tables::ProtocolKind;
 use refutation_laws::Model;
@@ -128,10 +128,11 @@ fn command_of(asked: &Numbers) -> Option<Settings>
         }
         4 => Some(Settings::Tables(kind_of(asked.protocol)?)),
         5 => {
-            let search = SearchPlan::new(asked.depth, asked.states)?;
+            let search = SearchPlan::new(asked.depth, asked.states, Show::Condition)?;
             Some(Settings::Outcomes {
                 search,
                 json: asked.json,
+                assert: false,
             })
         }
         6 => {
@@ -147,6 +148,7 @@ fn command_of(asked: &Numbers) -> Option<Settings>
             Some(Settings::Why {
                 plan,
                 json: asked.json,
+                assert: false,
             })
         }
         _ => None,
@@ -162,7 +164,7 @@ pub fn status_number(status: Status) -> u8
         Status::Good => 0,
         Status::Refused => 1,
         Status::Unended => 3,
-        Status::Invalid => 4,
+        Status::Invalid | Status::NotAsClaimed => 4,
     }
 }
 

@@ -16,7 +16,8 @@ use Rattle.refutation_laws.specs.declared.model.Model.{Model}
 use Rattle.refutation_laws.specs.declared.model.Model.TheVariants.{Tso, Sequential}
 use Rattle.reason_report.specs.declared.steps.Event.{Event}
 use Rattle.reason_report.specs.Steps.{Closing, Uniproc, Cycle, Amid, False, Step, Case, So, Leaf, Endcases, leaves_in}
-use Rattle.reason_report.specs.ReasonText.{model_name, asked_line, verdict_line, event_text, cycle_text, answer_text, place_text}
+use Rattle.outcome_report.specs.Verdict.{verdict_line}
+use Rattle.reason_report.specs.ReasonText.{model_name, asked_line, event_text, cycle_text, answer_text, place_text}
 use Rattle.reason_report.specs.ReasonText.{closing_text, blanks, step_line, never_line}
 use Rattle.printed_laws.specs.Reasons.{told_closing, told_step, ClosingFits, StepFits}
 use Rattle.printed_laws.specs.Reasons.{ReasonsTellTheirTests, ReasonsTellTheirSteps}

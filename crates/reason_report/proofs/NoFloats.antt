@@ -7,6 +7,7 @@ use Rattle.order_builder.specs.PrintedOrder.{printed_entry}
 use Rattle.tso_report.specs.declared.named.Named.{Named}
 use Rattle.tso_report.specs.Tally.{looked_at}
 use Rattle.outcome_report.specs.OutcomesJson.{value_members}
+use Rattle.outcome_report.specs.Verdict.{verdict_value}
 use Rattle.reason_report.specs.declared.readings.Reading.{Reading}
 use Rattle.reason_report.specs.inner.Shown.{reading_value, coherence_members_by, shown_value}
 use Rattle.reason_report.specs.ReasonJson.{with_coherence}
@@ -28,7 +29,7 @@ use Rattle.reason_report.specs.declared.steps.Edge.{Edge}
 use Rattle.reason_report.specs.Places.{Place}
 use Rattle.reason_report.specs.Steps.{Answer, From, Before, Closing, Uniproc, Cycle, Amid, False, Step, Case, So, Leaf, Endcases}
 use Rattle.reason_report.specs.ReasonText.{source_text}
-use Rattle.reason_report.specs.ReasonJson.{edge_value, edges_value, answer_value, place_members, closing_value, step_value, asked_value, verdict_value, never_value_of}
+use Rattle.reason_report.specs.ReasonJson.{edge_value, edges_value, answer_value, place_members, closing_value, step_value, asked_value, never_value_of}
 
 neither : (p q : Bool) → p ≡ false → q ≡ false → p || q ≡ false
 neither true q h k = h

@@ -25,8 +25,9 @@ use Rattle.outcome_report.specs.OutcomesJson.{value_members}
 use Rattle.order_builder.specs.PrintedOrder.{printed_entry}
 use Rattle.tso_report.specs.Report.{line, test_line}
 use Rattle.tso_report.specs.Tally.{looked_at, values_in, shown_value}
-use Rattle.reason_report.specs.ReasonText.{model_name, asked_line, verdict_line, from_line, reads_of, coherence_lines, coherence_line, allowed_text}
-use Rattle.reason_report.specs.ReasonJson.{asked_value, verdict_value, from_value, coherence_members, with_coherence, allowed_value}
+use Rattle.outcome_report.specs.Verdict.{verdict_line, verdict_value}
+use Rattle.reason_report.specs.ReasonText.{model_name, asked_line, from_line, reads_of, coherence_lines, coherence_line, allowed_text}
+use Rattle.reason_report.specs.ReasonJson.{asked_value, from_value, coherence_members, with_coherence, allowed_value}
 use Rattle.reason_report.specs.declared.readings.Reading.{Reading}
 use Rattle.tso_report.specs.declared.named.Named.{Named}
 use Rattle.tso_report.specs.inner.Tally.{IsKnown}
@@ -152,7 +153,7 @@ module _ (t : Litmus) (order : List Entry) (c : Candidate) (same : (loc : ℕ) �
 abbrev lines-with : Model → Litmus → List Choice → List ℕ → List ℕ → List ℕ → List ℕ
 lines-with model t choices r q v =
     test_line t ++ (codes "Allowed " ++ (line (model_name model) ++ (asked_line t.condition
-    ++ (r ++ (q ++ (by_line choices ++ (state_line t v ++ verdict_line t.condition true)))))))
+    ++ (r ++ (q ++ (by_line choices ++ (state_line t (looked_at t) v ++ verdict_line t.condition true)))))))
 
 abbrev value-with : Model → Litmus → List Choice → List Data → Members → List ℕ → Data
 value-with model t choices d m v =
@@ -173,14 +174,14 @@ module _ (model : Model) (t : Litmus) (order : List Entry) (xs : List Reading) (
     (shown : IsShown t order xs vs c) where
   pub text-is : (e1 e2 e3 e4 e5 e6 e7 e8 : List ℕ) → e1 ≡ test_line t → e2 ≡ e1 ++ inner.allowed_line model → e3 ≡ e2 ++ asked_line t.condition
       → e4 ≡ e3 ++ flat_map (reading_line t) xs → e5 ≡ e4 ++ coherence_by t order 0 t.locations → e6 ≡ e5 ++ by_line choices
-      → e7 ≡ e6 ++ state_line t vs → e8 ≡ e7 ++ verdict_line t.condition true → e8 ≡ allowed_text model t c choices
+      → e7 ≡ e6 ++ state_line t (looked_at t) vs → e8 ≡ e7 ++ verdict_line t.condition true → e8 ≡ allowed_text model t c choices
   text-is e1 e2 e3 e4 e5 e6 e7 e8 h1 h2 h3 h4 h5 h6 h7 h8 =
       h8
-      ∙ (ap (λ z. z ++ verdict_line t.condition true) (h7 ∙ ap (λ z. z ++ state_line t vs) (h6 ∙ ap (λ z. z ++ by_line choices)
+      ∙ (ap (λ z. z ++ verdict_line t.condition true) (h7 ∙ ap (λ z. z ++ state_line t (looked_at t) vs) (h6 ∙ ap (λ z. z ++ by_line choices)
       (h5 ∙ ap (λ z. z ++ coherence_by t order 0 t.locations) (h4 ∙ ap (λ z. z ++ flat_map (reading_line t) xs) (h3 ∙ ap (λ z. z ++ asked_line t.condition)
       (h2 ∙ ap (λ z. z ++ inner.allowed_line model) h1))))))
       ∙ (joined (test_line t) (codes "Allowed ") (line (model_name model)) (asked_line t.condition) (flat_map (reading_line t) xs)
-      (coherence_by t order 0 t.locations) (by_line choices) (state_line t vs) (verdict_line t.condition true)
+      (coherence_by t order 0 t.locations) (by_line choices) (state_line t (looked_at t) vs) (verdict_line t.condition true)
       ∙ (ap (λ r. lines-with model t choices r (coherence_by t order 0 t.locations) vs) (ap (flat_map (reading_line t)) shown.readings ∙ reads-lines t order c shown.coherence (reads_of t c))
       ∙ (ap (λ q. lines-with model t choices (flat_map (from_line t c) (reads_of t c)) q vs) (locations-lines t order c shown.coherence t.locations 0)
       ∙ ap (λ v. lines-with model t choices (flat_map (from_line t c) (reads_of t c)) (coherence_lines t c 0 t.locations) v) shown.values))))

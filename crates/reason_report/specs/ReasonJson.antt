@@ -16,16 +16,17 @@ use Rattle.order_builder.specs.PrintedOrder.{printed_entry}
 use Rattle.tso_report.specs.Report.{line, printed_quantifier}
 use Rattle.tso_report.specs.Json.{count}
 use Rattle.tso_report.specs.Tally.{looked_at}
+use Rattle.outcome_report.specs.Verdict.{verdict_value}
 use Rattle.outcome_report.specs.OutcomesJson.{key_of, value_members}
 use Rattle.reason_report.specs.Places.{Place}
 use Rattle.reason_report.specs.declared.steps.Event.{Event}
 use Rattle.reason_report.specs.declared.steps.Edge.{Edge}
 use Rattle.reason_report.specs.Steps.{Answer, From, Before, Closing, Uniproc, Cycle, Amid, False, Step, Case, So, Leaf}
 use Rattle.reason_report.specs.Steps.{Endcases, steps_of, leaves_in}
-use Rattle.reason_report.specs.ReasonText.{model_name, truth_asked, is_well, verdict_word, event_text, relation_text}
+use Rattle.reason_report.specs.ReasonText.{model_name, truth_asked, event_text, relation_text}
 use Rattle.reason_report.specs.ReasonText.{source_text, read_source, reads_of, values_left}
 
--- ---- what is asked, and herd's verdict
+-- ---- what is asked
 
 -- the quantifier, and the truth that it asks for; `null` without a condition
 abbrev pub asked_value : Option Condition → Data
@@ -33,11 +34,6 @@ asked_value None = null
 asked_value (Some c) =
     object (member (codes "kind") (string (printed_quantifier c.quantifier))
     (member (codes "truth") (boolean (truth_asked c.quantifier)) no_members))
-
--- `Ok` or `No`; `null` without a condition
-abbrev pub verdict_value : Option Condition → Bool → Data
-verdict_value None allowed = null
-verdict_value (Some c) allowed = string (verdict_word (is_well c.quantifier allowed))
 
 -- ---- steps
 abbrev pub event_value : Litmus → Event → Data

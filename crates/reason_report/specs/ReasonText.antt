@@ -1,5 +1,5 @@
 -- What `why` prints as lines of text: why what a test asks is never so, or an execution in which it is.
-use Rattle.std.specs.Prelude.{ℕ, suc, Bool, true, false, not, List, [], ◌∷◌, ◌++◌, filter, Option, Some, None}
+use Rattle.std.specs.Prelude.{ℕ, suc, Bool, true, false, List, [], ◌∷◌, ◌++◌, filter, Option, Some, None}
 use Rattle.std.specs.Prelude.{slice_index_or, codes, replicate}
 use Rattle.std.specs.List.{flat_map}
 use Rattle.std.specs.Fmt.{decimal}
@@ -22,7 +22,8 @@ use Rattle.refutation_laws.specs.declared.model.Relation.TheVariants.{Po, PoLoc,
 use Rattle.refutation_laws.specs.declared.model.Relation.TheVariants.{Fr}
 use Rattle.order_builder.specs.PrintedOrder.{letters_of, printed_entry}
 use Rattle.tso_report.specs.Report.{line, test_line, printed_quantifier, printed_truth}
-use Rattle.tso_report.specs.Tally.{values_in}
+use Rattle.tso_report.specs.Tally.{looked_at, values_in}
+use Rattle.outcome_report.specs.Verdict.{verdict_line}
 use Rattle.outcome_report.specs.Outcomes.{by_line, state_line}
 use Rattle.outcome_report.specs.OutcomesJson.{key_of}
 use Rattle.reason_report.specs.Places.{Place}
@@ -31,7 +32,7 @@ use Rattle.reason_report.specs.declared.steps.Edge.{Edge}
 use Rattle.reason_report.specs.Steps.{Answer, From, Before, Closing, Uniproc, Cycle, Amid, False, Step, Case, So, Leaf}
 use Rattle.reason_report.specs.Steps.{Endcases, steps_of, leaves_in}
 
--- ---- what is asked, and herd's verdict
+-- ---- what is asked
 abbrev pub model_name : Model → List ℕ
 model_name Tso = codes "tso"
 model_name Sequential = codes "sc"
@@ -46,21 +47,6 @@ truth_asked Forall = false
 abbrev pub asked_line : Option Condition → List ℕ
 asked_line None = []
 asked_line (Some c) = codes "Asked " ++ (printed_quantifier c.quantifier ++ (codes " " ++ line (printed_truth (truth_asked c.quantifier))))
-
--- what is asked can be so: that is well of `exists` alone
-abbrev pub is_well : Quantifier → Bool → Bool
-is_well Exists allowed = allowed
-is_well NotExists allowed = not allowed
-is_well Forall allowed = not allowed
-
-abbrev pub verdict_word : Bool → List ℕ
-verdict_word true = codes "Ok"
-verdict_word false = codes "No"
-
--- `Verdict Ok`: of some execution what `exists` names is so, of none what `~exists` names, of each what `forall` names
-abbrev pub verdict_line : Option Condition → Bool → List ℕ
-verdict_line None allowed = []
-verdict_line (Some c) allowed = codes "Verdict " ++ line (verdict_word (is_well c.quantifier allowed))
 
 -- ---- events and edges
 
@@ -201,7 +187,7 @@ abbrev pub allowed_text : Model → Litmus → Candidate → List Choice → Lis
 allowed_text model t c choices =
     test_line t ++ (codes "Allowed " ++ (line (model_name model) ++ (asked_line t.condition
     ++ (flat_map (from_line t c) (reads_of t c) ++ (coherence_lines t c 0 t.locations
-    ++ (by_line choices ++ (state_line t (values_left t c) ++ verdict_line t.condition true)))))))
+    ++ (by_line choices ++ (state_line t (looked_at t) (values_left t c) ++ verdict_line t.condition true)))))))
 
 -- ---- too many cases
 

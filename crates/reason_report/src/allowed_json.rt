@@ -14,8 +14,9 @@ ghost use Rattle.reason_report.specs.inner.Shown.{IsShown, reading_value, cohere
 
 use crate::allowed_text::{has_write, write_entry, write_read_source};
 use crate::as_text::key_text;
-use crate::asked::{asked_value, model_name, verdict_value};
+use crate::asked::{asked_value, model_name};
 use crate::readings::Reading;
+use outcome_report::verdict::verdict_value;
 use refutation_laws::Model;
 use refutations::events::writes_to;
 use scheduler::choices_text;

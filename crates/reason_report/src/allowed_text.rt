@@ -13,9 +13,10 @@ ghost use Rattle.reason_report.specs.ReasonText as spec;
 ghost use Rattle.reason_report.specs.inner.Shown.{IsShown, allowed_line, reading_line, coherence_by};
 
 use crate::as_text::write_event;
-use crate::asked::{model_name, write_asked, write_verdict};
+use crate::asked::{model_name, write_asked};
 use crate::readings::Reading;
 use crate::steps::Event;
+use outcome_report::verdict::write_verdict;
 use refutation_laws::Model;
 use refutations::events::writes_to;
 use scheduler::write_after;
@@ -178,8 +179,7 @@ fn write_state(
     values: &[u32],
 ) -> Result<(), NoMemory>
     requires known { All (IsKnown (length test.now.programs) (length test.now.locations)) names.now }
-    requires names { names.now ≡ looked_at test.now }
-    ensures { OnOk result (string_bytes text.new ≡ string_bytes text.old ++ state_line test.now values.now) }
+    ensures { OnOk result (string_bytes text.new ≡ string_bytes text.old ++ state_line test.now names.now values.now) }
 {
     text.push_str("State")?;
     write_values(text, test, names, values)?;

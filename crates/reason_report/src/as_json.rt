@@ -11,8 +11,9 @@ ghost use Rattle.reason_report.specs.Steps as steps;
 ghost use Rattle.reason_report.specs.Views.{answer_of, place_of, closing_of, step_of};
 
 use crate::as_text::{key_text, relation_text, write_event, write_source};
-use crate::asked::{asked_value, model_name, verdict_value};
+use crate::asked::{asked_value, model_name};
 use crate::steps::{Answer, Closing, Edge, Event, Place, Step, leaves_in};
+use outcome_report::verdict::verdict_value;
 use refutation_laws::Model;
 use serde_json::{Map, Value, json, put};
 use std::alloc::Global;

@@ -8,9 +8,10 @@ ghost use Rattle.reason_report.specs.inner.Views.{known_access};
 ghost use Rattle.reason_report.specs.Views.{answer_of, place_of, closing_of, step_of};
 ghost use Rattle.reason_report.specs.inner.Views.{value_text};
 
-use crate::asked::{model_name, write_asked, write_verdict};
+use crate::asked::{model_name, write_asked};
 use crate::steps::{Answer, Closing, Edge, Event, Place, Step, leaves_in};
 use order_builder::letters_of;
+use outcome_report::verdict::write_verdict;
 use refutation_laws::{Model, Relation};
 use std::alloc::Global;
 use tso_model::{Kind, Loc, NoMemory, Test};

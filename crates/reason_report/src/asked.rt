@@ -1,4 +1,4 @@
-//! What a test asks, and herd's verdict, as they are printed.
+//! What a test asks, as it is printed.
 
 ghost use Rattle.std.specs.Prelude.{◌≡◌, ◌++◌, IfOk, OnOk, string_bytes};
 ghost use Rattle.serde_json.specs.View.{view};
@@ -31,26 +31,6 @@ pub fn truth_asked(quantifier: Quantifier) -> bool
     }
 }
 
-fn is_well(quantifier: Quantifier, allowed: bool) -> bool
-    ensures { result ≡ spec.is_well quantifier allowed }
-{
-    match quantifier {
-        Quantifier::Exists => allowed,
-        Quantifier::NotExists | Quantifier::Forall => !allowed,
-    }
-}
-
-/// `Ok` or `No`, where what is asked can be, or can't.
-pub fn verdict_word(quantifier: Quantifier, allowed: bool) -> &'static str
-    ensures { result.now ≡ spec.verdict_word (spec.is_well quantifier allowed) }
-{
-    if is_well(quantifier, allowed) {
-        "Ok"
-    } else {
-        "No"
-    }
-}
-
 /// `Asked exists true`; nothing where the test has no condition.
 pub fn write_asked(text: &mut String, test: &Test) -> Result<(), NoMemory>
     ensures { OnOk result (string_bytes text.new ≡ string_bytes text.old ++ spec.asked_line test.now.condition) }
@@ -63,17 +43,6 @@ pub fn write_asked(text: &mut String, test: &Test) -> Result<(), NoMemory>
             "false"
         };
         write!(text, "Asked {quantifier} {truth}\n")?;
-    }
-    Ok(())
-}
-
-/// `Verdict Ok`; nothing where the test has no condition.
-pub fn write_verdict(text: &mut String, test: &Test, allowed: bool) -> Result<(), NoMemory>
-    ensures { OnOk result (string_bytes text.new ≡ string_bytes text.old ++ spec.verdict_line test.now.condition allowed) }
-{
-    if let Some(cond) = test.cond() {
-        let word = verdict_word(cond.quantifier, allowed);
-        write!(text, "Verdict {word}\n")?;
     }
     Ok(())
 }
@@ -91,17 +60,5 @@ pub fn asked_value(alloc: Global, test: &Test) -> Result<Value, NoMemory>
             let truth = truth_asked(cond.quantifier);
             Ok(json!(in alloc; {"kind": kind, "truth": truth})?)
         }
-    }
-}
-
-/// `Ok` or `No`, or `null`.
-///
-/// Errors: out of memory only.
-pub fn verdict_value(alloc: Global, test: &Test, allowed: bool) -> Result<Value, NoMemory>
-    ensures { IfOk result (λ value. view value ≡ values.verdict_value test.now.condition allowed) }
-{
-    match test.cond() {
-        None => Ok(Value::Null),
-        Some(cond) => Ok(Value::try_from_str(alloc, verdict_word(cond.quantifier, allowed))?),
     }
 }

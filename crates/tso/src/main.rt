@@ -171,12 +171,13 @@ fn exit_status(status: Status) -> u8
     ensures refused { status ≡ Status.Refused → result ≡ 1 }
     ensures unended { status ≡ Status.Unended → result ≡ 3 }
     ensures invalid { status ≡ Status.Invalid → result ≡ 4 }
+    ensures not_as_claimed { status ≡ Status.NotAsClaimed → result ≡ 4 }
 {
     match status {
         Status::Good => 0,
         Status::Refused => 1,
         Status::Unended => 3,
-        Status::Invalid => 4,
+        Status::Invalid | Status::NotAsClaimed => 4,
     }
 }
 

@@ -33,8 +33,8 @@ abbrev pub IsAnswerTo : Settings → Litmus → List ℕ → List ℕ → Status
 IsAnswerTo (settings.Run kind config json) t text out status = IsRunAnswer t kind config json text out status
 IsAnswerTo (settings.Trace kind config json) t text out status = IsTraceAnswer t kind config json text out status
 IsAnswerTo (settings.Sweep kind config plan) t text out status = IsSweepAnswer t kind config plan out status
-IsAnswerTo (settings.Outcomes search json) t text out status = IsOutcomesAnswer t search json out status
-IsAnswerTo (settings.Why plan json) t text out status = IsWhyAnswer t plan json out status
+IsAnswerTo (settings.Outcomes search json assert) t text out status = IsOutcomesAnswer t search json assert out status
+IsAnswerTo (settings.Why plan json assert) t text out status = IsWhyAnswer t plan json assert out status
 IsAnswerTo settings.Check t text out status = IsCheckAnswer t text out status
 IsAnswerTo (settings.Witness depth) t text out status = IsWitnessAnswer t depth text out status
 IsAnswerTo (settings.Tables kind) t text out status = IsTableAnswer kind out status

@@ -28,8 +28,8 @@ abbrev pub HeadlineOf : Settings → Litmus → List ℕ → List ℕ → Type 0
 HeadlineOf (settings.Run kind config json) t text out = HeadlineOfRuns t kind config json text out
 HeadlineOf (settings.Trace kind config json) t text out = HeadlineOfTraces t kind config json text out
 HeadlineOf (settings.Sweep kind config plan) t text out = HeadlineOfSweeps t kind config plan out
-HeadlineOf (settings.Outcomes search json) t text out = HeadlineOfOutcomes t search json out
-HeadlineOf (settings.Why plan json) t text out = HeadlineOfReasons t plan json out
+HeadlineOf (settings.Outcomes search json assert) t text out = HeadlineOfOutcomes t search json out
+HeadlineOf (settings.Why plan json assert) t text out = HeadlineOfReasons t plan json out
 HeadlineOf settings.Check t text out = JudgesEachOrder t text out
 HeadlineOf (settings.Witness depth) t text out = WitnessesEachOrder t depth text out
 HeadlineOf (settings.Tables kind) t text out = PrintsTable kind out

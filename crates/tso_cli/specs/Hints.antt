@@ -5,15 +5,15 @@ use Rattle.hints.specs.Hint.{IsHint}
 use Rattle.command_line.specs.declared.settings.Settings.{Settings}
 use Rattle.command_line.specs.declared.settings.Settings.TheVariants as settings
 use Rattle.commands.specs.declared.answer.Status.{Status}
-use Rattle.commands.specs.declared.answer.Status.TheVariants.{Good, Refused, Unended, Invalid}
+use Rattle.commands.specs.declared.answer.Status.TheVariants.{Good, Refused, Unended, Invalid, NotAsClaimed}
 
--- whether an answer of status 0 may mislead: final states in lines that people read may; JSON, a verdict and choices don't
+-- whether an answer that was printed may mislead: final states in lines that people read may; JSON, a verdict and choices don't
 abbrev pub may_mislead : Settings → Bool
 may_mislead (settings.Run kind config json) = not json
 may_mislead (settings.Trace kind config json) = not json
 may_mislead (settings.Sweep kind config plan) = true
-may_mislead (settings.Outcomes search json) = not json
-may_mislead (settings.Why plan json) = not json
+may_mislead (settings.Outcomes search json assert) = not json
+may_mislead (settings.Why plan json assert) = not json
 may_mislead settings.Check = false
 may_mislead (settings.Witness depth) = false
 may_mislead (settings.Tables kind) = false
@@ -22,7 +22,7 @@ may_mislead (settings.Tables kind) = false
 abbrev pub IsHintOrNothing : List ℕ → Type 0
 IsHintOrNothing text = (text ≡ []) ⊎ IsHint text
 
--- beside an answer of status 0 that may mislead, or that may not
+-- beside an answer that was printed and that may mislead, or that may not
 abbrev pub IsToldOfGood : Bool → List ℕ → Type 0
 IsToldOfGood true text = IsHintOrNothing text
 IsToldOfGood false text = text ≡ []
@@ -30,6 +30,7 @@ IsToldOfGood false text = text ≡ []
 -- a hint where a text was refused, or a run or a search didn't end; of an answer that may mislead a hint or nothing; else nothing
 abbrev pub IsTold : Settings → Status → List ℕ → Type 0
 IsTold s Good text = IsToldOfGood (may_mislead s) text
+IsTold s NotAsClaimed text = IsToldOfGood (may_mislead s) text
 IsTold s Invalid text = text ≡ []
 IsTold s Refused text = IsHint text
 IsTold s Unended text = IsHint text

@@ -96,7 +96,7 @@ fn warning_of(
     answer: &Answer,
 ) -> Result<Cause, NoMemory> {
     match answer.status {
-        Status::Good if may_mislead(settings) => {
+        Status::Good | Status::NotAsClaimed if may_mislead(settings) => {
             match Cause::of_unused_location(alloc, test, spelling)? {
                 Some(cause) => Ok(cause),
                 None => Ok(answer.cause),
@@ -131,8 +131,12 @@ fn answer_of(
             config,
             plan,
         } => sweep_answer(alloc, test, *protocol, *config, *plan),
-        Settings::Outcomes { search, json } => outcomes_answer(alloc, test, *search, *json),
-        Settings::Why { plan, json } => why_answer(alloc, test, *plan, *json),
+        Settings::Outcomes {
+            search,
+            json,
+            assert,
+        } => outcomes_answer(alloc, test, *search, *json, *assert),
+        Settings::Why { plan, json, assert } => why_answer(alloc, test, *plan, *json, *assert),
         Settings::Check => check_answer(alloc, test, text),
         Settings::Witness { depth } => witness_answer(alloc, test, *depth, text),
         Settings::Tables(kind) => table_answer(alloc, *kind),

@@ -24,13 +24,18 @@ pub fn hint(
     ensures { IfOk result (λ text. IsTold settings.now answer.now.status (string_bytes text)) }
 {
     match answer.status {
-        Status::Good => good_hint(alloc, may_mislead(settings), answer.cause, input),
+        Status::Good | Status::NotAsClaimed => good_hint(
+            alloc,
+            may_mislead(settings),
+            answer.cause,
+            input,
+        ),
         Status::Invalid => Ok(String::new(alloc)),
         Status::Refused | Status::Unended => hint_of(alloc, answer.cause, input),
     }
 }
 
-/// Whether an answer of status 0 may have a hint: it tells people of final states. What scripts read, JSON, a verdict or
+/// Whether an answer that was printed may have a hint: it tells people of final states. What scripts read, JSON, a verdict or
 /// choices, stands without one.
 #[tactic(auto, unfolding(crate::specs::Hints::may_mislead))]
 pub(crate) fn may_mislead(settings: &Settings) -> bool
@@ -46,7 +51,7 @@ pub(crate) fn may_mislead(settings: &Settings) -> bool
     }
 }
 
-/// The hint beside an answer of status 0: of what may mislead, if something does.
+/// The hint beside an answer that was printed: of what may mislead, if something does.
 fn good_hint(
     alloc: Global,
     may_mislead: bool,

@@ -49,12 +49,16 @@ locations-known cores locations loc zero fits = All-nil (IsKnown cores locations
 locations-known cores locations loc (suc count) fits =
     All-cons (IsKnown cores locations) (location loc) (named_locations (loc + 1) count) (omega (arith, fits)) (locations-known cores locations (loc + 1) count (omega (arith, fits)))
 
-pub looked-known : (t : Litmus) → All (IsKnown (length t.programs) (length t.locations)) (looked_at t)
-looked-known t =
+-- all registers and locations of a test
+pub names-known : (t : Litmus) → All (IsKnown (length t.programs) (length t.locations)) (named_registers 0 (length t.programs) ++ named_locations 0 (length t.locations))
+names-known t =
     let cores = length t.programs in
     let locations = length t.locations in
-    All-filter (is_looked_at t.condition) (IsKnown cores locations) (named_registers 0 cores ++ named_locations 0 locations)
-    (All-append (IsKnown cores locations) (named_registers 0 cores) (named_locations 0 locations) (registers-known cores locations 0 cores (omega arith)) (locations-known cores locations 0 locations (omega arith)))
+    All-append (IsKnown cores locations) (named_registers 0 cores) (named_locations 0 locations) (registers-known cores locations 0 cores (omega arith)) (locations-known cores locations 0 locations (omega arith))
+
+pub looked-known : (t : Litmus) → All (IsKnown (length t.programs) (length t.locations)) (looked_at t)
+looked-known t =
+    All-filter (is_looked_at t.condition) (IsKnown (length t.programs) (length t.locations)) (named_registers 0 (length t.programs) ++ named_locations 0 (length t.locations)) (names-known t)
 
 -- all of them are noted, registers first, after nothing
 pub all-noted : (t : Litmus) (first middle list : List Named) → first ≡ [] → middle ≡ first ++ filter (is_looked_at t.condition) (named_registers 0 (length t.programs))

@@ -77,7 +77,8 @@ fn note(list: &mut Vec<Named>, test: &Test, named: Named) -> Result<(), NoMemory
     Ok(())
 }
 
-fn is_looked_at(test: &Test, named: Named) -> bool
+/// Whether it is looked at: the test's condition names it; without a condition all locations are, and no register.
+pub fn is_looked_at(test: &Test, named: Named) -> bool
     ensures { result ≡ is_looked_at test.now.condition named }
 {
     match (test.cond(), named) {

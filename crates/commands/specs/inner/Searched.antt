@@ -3,11 +3,12 @@ use Rattle.std.specs.Prelude.{ℕ, List, map, Contains}
 use Rattle.tso_model.specs.Litmus.{Litmus}
 use Rattle.outcome_laws.specs.Outcomes.{IsEnd}
 use Rattle.explorer.specs.declared.final_states.FinalState.{FinalState}
-use Rattle.tso_report.specs.Tally.{values_in}
+use Rattle.tso_report.specs.declared.named.Named.{Named}
+use Rattle.shown_values.specs.Shown.{values_at}
 use Rattle.outcome_report.specs.Outcomes.{outcome_of, shown_values}
 
--- every end of the machine's runs at this depth looks like one of them
-abbrev pub ShowEveryEnd : Litmus → ℕ → List FinalState → Type 0
-ShowEveryEnd t depth finals =
+-- every end of the machine's runs at this depth looks like one of them by the values at these names
+abbrev pub ShowEveryEnd : Litmus → List Named → ℕ → List FinalState → Type 0
+ShowEveryEnd t names depth finals =
     (registers : List (List ℕ)) (memory : List ℕ) → IsEnd t depth registers memory
-    → Contains (map (λ f. shown_values t (outcome_of f)) finals) (values_in t registers memory)
+    → Contains (map (λ f. shown_values names (outcome_of f)) finals) (values_at names registers memory)

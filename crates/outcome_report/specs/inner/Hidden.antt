@@ -1,4 +1,4 @@
--- What is looked at isn't hidden.
+-- What is shown isn't hidden.
 use Rattle.std.specs.Prelude.{◌≡◌, Bool, false, List, slice_index_or}
 use Rattle.tso_model.specs.Registers.{index_of}
 use Rattle.eager_laws.specs.Dead.{hidden_of}

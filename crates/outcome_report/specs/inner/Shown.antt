@@ -11,14 +11,12 @@ use Rattle.tso_model.specs.Litmus.{Litmus}
 use Rattle.tso_model.specs.Condition.{Claim, NamesExist}
 use Rattle.explorer.specs.declared.final_states.FinalState.{FinalState}
 use Rattle.tso_report.specs.declared.named.Named.{Named}
-use Rattle.tso_report.specs.Tally.{looked_at}
 use Rattle.tso_report.specs.inner.Tally.{IsKnown}
 use Rattle.outcome_report.specs.Outcomes.{Outcome, outcome_of, shown_values}
 
--- the names are those that are looked at, and each is of a core or a location of the test
-pub record AreLookedAt (t : Litmus) (names : List Named) : Type 0 where
-  pub list : names ≡ looked_at t
-  pub known : All (IsKnown (length t.programs) (length t.locations)) names
+-- each name is of a core or a location of the test
+abbrev pub AreOf : Litmus → List Named → Type 0
+AreOf t names = All (IsKnown (length t.programs) (length t.locations)) names
 
 -- a state of the test: it has registers for each core and a word for each location
 pub record IsOf (t : Litmus) (o : Outcome) : Type 0 where
@@ -42,13 +40,13 @@ abbrev pub with_outcome : List ℕ → Outcome → List (List ℕ × Outcome) �
 with_outcome values o kept = if is_kept values kept then kept else insert_entry (slice_cmp nat_cmp) kept values o
 
 -- those of further final states, one after the other
-abbrev pub kept_after : Litmus → List (List ℕ × Outcome) → List FinalState → List (List ℕ × Outcome)
-kept_after t kept [] = kept
-kept_after t kept (f ∷ rest) = kept_after t (with_outcome (shown_values t (outcome_of f)) (outcome_of f) kept) rest
+abbrev pub kept_after : List Named → List (List ℕ × Outcome) → List FinalState → List (List ℕ × Outcome)
+kept_after names kept [] = kept
+kept_after names kept (f ∷ rest) = kept_after names (with_outcome (shown_values names (outcome_of f)) (outcome_of f) kept) rest
 
 -- the values of each are those that it shows, and it is a state of the test
-abbrev pub AreShown : Litmus → List (List ℕ × Outcome) → Type 0
-AreShown t kept = All (λ k. (k.0 ≡ shown_values t k.1) × IsOf t k.1) kept
+abbrev pub AreShown : Litmus → List Named → List (List ℕ × Outcome) → Type 0
+AreShown t names kept = All (λ k. (k.0 ≡ shown_values names k.1) × IsOf t k.1) kept
 
 -- each of these states has the cores and the locations that the claim names
 abbrev pub AllHave : Claim → List Outcome → Type 0

@@ -17,7 +17,8 @@ use Rattle.tso_report.specs.Report.{line}
 use Rattle.tso_report.specs.Tally.{looked_at}
 use Rattle.outcome_report.specs.OutcomesJson.{value_members}
 use Rattle.reason_report.specs.ReasonText.{model_name, read_source, reads_of, coherence_line, values_left}
-use Rattle.reason_report.specs.ReasonJson.{asked_value, verdict_value, with_coherence}
+use Rattle.outcome_report.specs.Verdict.{verdict_value}
+use Rattle.reason_report.specs.ReasonJson.{asked_value, with_coherence}
 use Rattle.reason_report.specs.declared.readings.Reading.{Reading}
 
 -- the last of these, or else this one

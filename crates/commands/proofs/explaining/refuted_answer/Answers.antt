@@ -1,13 +1,18 @@
-use Rattle.std.proofs.Common.{◌≡◌, ◌∙◌, map, string_bytes, ap, subst, sym}
+use Rattle.std.proofs.Common.{◌≡◌, ◌∙◌, false, map, string_bytes, ap, subst, sym}
 use Rattle.refutations.specs.Trees.{node_of}
+use Rattle.outcome_report.specs.Verdict.{is_as_claimed}
 use Rattle.reason_report.specs.Printed.{refutation_in}
+use Rattle.commands.specs.Verdicts.{status_of_verdict}
 use Rattle.commands.specs.Why.{IsWhyAnswer, never}
-use Rattle.commands.specs.declared.answer.Status.TheVariants.{Good}
 use Rattle.commands.proofs.explaining.refuted_answer.Goals as goal
 
 pub returns : goal.returns
 returns c =
+    let t = c.args.test.now in
     let nodes = map node_of c.args.nodes.now in
-    let is : string_bytes c.in_ok-text.text ≡ refutation_in c.args.json c.args.plan.model c.args.test.now nodes =
-    c.in_ok-text.ensures ∙ ap (λ model. refutation_in c.args.json model c.args.test.now nodes) c.model.ensures in
-    subst (λ out. IsWhyAnswer c.args.test.now c.args.plan c.args.json out Good) (sym is) (never nodes c.requires)
+    let status = status_of_verdict c.args.assert (is_as_claimed t.condition false) in
+    let is : string_bytes c.in_ok-text.text ≡ refutation_in c.args.json c.args.plan.model t nodes =
+    c.in_ok-text.ensures ∙ ap (λ model. refutation_in c.args.json model t nodes) c.model.ensures in
+    subst (λ how. IsWhyAnswer t c.args.plan c.args.json c.args.assert (string_bytes c.in_ok-text.text) how)
+    (sym (c.of_verdict.ensures ∙ ap (status_of_verdict c.args.assert) c.is_as_claimed.ensures))
+    (subst (λ out. IsWhyAnswer t c.args.plan c.args.json c.args.assert out status) (sym is) (never nodes c.requires))

@@ -1,5 +1,6 @@
 use Rattle.std.proofs.Common.{string_bytes, subst, sym}
 use Rattle.explorer.specs.FinalStates.{AreReached}
+use Rattle.shown_values.specs.Shown.{named_in}
 use Rattle.outcome_report.specs.Printed.{PrintsOutcomes}
 use Rattle.commands.proofs.FoundOutcomes.{search-answers}
 use Rattle.commands.proofs.outcomes.found_answer.Goals as goal
@@ -9,5 +10,10 @@ outcomes_report-requires c = subst (λ depth. AreReached c.args.test.now depth c
 
 pub returns : goal.returns
 returns c =
-    search-answers c.args.test.now c.args.search c.args.json c.args.finals.now (string_bytes c.in_ok-text.text) c.requires.reached c.requires.complete
-    (subst (λ depth. PrintsOutcomes c.args.test.now depth c.args.json c.args.finals.now (string_bytes c.in_ok-text.text)) c.depth.ensures.value c.in_ok-text.ensures)
+    let t = c.args.test.now in
+    let text = string_bytes c.in_ok-printed.printed.text in
+    let claimed = c.in_ok-printed.printed.is_as_claimed in
+    search-answers t c.args.search c.args.json c.args.assert claimed c.args.finals.now text c.of_verdict.result c.requires.reached c.requires.complete
+    (subst (λ show. PrintsOutcomes t (named_in show t) c.args.search.depth c.args.json c.args.finals.now text claimed) c.show.ensures
+    (subst (λ depth. PrintsOutcomes t (named_in c.show.result t) depth c.args.json c.args.finals.now text claimed) c.depth.ensures.value c.in_ok-printed.ensures))
+    c.of_verdict.ensures

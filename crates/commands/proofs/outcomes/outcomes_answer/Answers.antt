@@ -1,5 +1,6 @@
-use Rattle.std.proofs.Common.{subst, sym}
+use Rattle.std.proofs.Common.{ap, subst, sym}
 use Rattle.explorer.specs.FinalStates.{AreReached}
+use Rattle.shown_values.specs.Shown.{named_in}
 use Rattle.commands.proofs.FoundOutcomes.{search-shows}
 use Rattle.commands.proofs.outcomes.outcomes_answer.Goals as goal
 
@@ -10,5 +11,7 @@ found_answer-requires-clause-reached c =
 
 pub found_answer-requires-clause-complete : goal.found_answer-requires-clause-complete
 found_answer-requires-clause-complete c =
-    search-shows c.args.test.now c.depth.result c.args.search.depth c.deref.result.now c.in_ok-hidden.hidden.items c.in-Ok.found.final_states.items c.deref-in-Ok.result.now
-    c.in-Ok.ensures.complete c.in_ok-hidden.ensures.not_shown c.depth.ensures.value c.deref.ensures.value c.deref-in-Ok.ensures.value
+    let t = c.args.test.now in
+    search-shows t (named_in c.args.search.show t) (named_in c.show.result t) c.depth.result c.args.search.depth c.deref.result.now c.in_ok-hidden.hidden.items
+    c.in-Ok.found.final_states.items c.deref-in-Ok.result.now c.in-Ok.ensures.complete c.in_ok-hidden.ensures.not_shown (ap (λ show. named_in show t) c.show.ensures)
+    c.depth.ensures.value c.deref.ensures.value c.deref-in-Ok.ensures.value

@@ -1,14 +1,15 @@
 use Rattle.std.proofs.Common.{◌≡◌, ◌∙◌, ◌<◌, ℕ, [], ◌∷◌, Some, slice_get, length, inl, inr, ap, sym, subst, arith}
 use Rattle.std.proofs.lemmas.List.{length-append}
 use Rattle.tso_report.specs.declared.named.Named.{Named}
+use Rattle.shown_values.specs.Shown.{named_in}
 use Rattle.outcome_report.specs.Hidden.{IsHidden}
 use Rattle.outcome_report.specs.inner.Hidden.{IsNotHidden}
 use Rattle.outcome_report.proofs.Hiding.{core-known, whole, get-or, get-within, lt-or, not-shown}
 use Rattle.outcome_report.proofs.Staying.{AreAllHidden, all_six, six-hidden, one-row-more, got, unnamed}
 use Rattle.outcome_report.proofs.hidden.hidden_registers.Goals as goal
 
-pub show-requires : goal.show-requires
-show-requires c = λ core reg is.
+pub reveal-requires : goal.reveal-requires
+reveal-requires c = λ core reg is.
     let k = core-known _ _ _ _ c.loop-named.named-index _ core reg c.in_ok-names.ensures.known c.deref-named-items.ensures.value c.loop-named-test.true is in
     let a = ap length c.deref_mut.ensures.value in
     let b = c.loop-named.invariant.count in
@@ -34,30 +35,30 @@ loop-core-preserved c =
 
 pub loop-named-preserved : goal.loop-named-preserved
 loop-named-preserved c =
-    let count = c.show.ensures.count ∙ ap length c.deref_mut.ensures.value in
-    let same = whole c.show.new.hidden c.loop-named.hidden.items c.loop-named.hidden.len count c.loop-named.hidden.ok.0 in
+    let count = c.reveal.ensures.count ∙ ap length c.deref_mut.ensures.value in
+    let same = whole c.reveal.new.hidden c.loop-named.hidden.items c.loop-named.hidden.len count c.loop-named.hidden.ok.0 in
     record {
       count = ap length same ∙ count ∙ c.loop-named.invariant.count;
       shown = λ j n l at. subst (λ z. IsNotHidden z n) (sym same) (elim (lt-or c.loop-named.named-index j) [
-        | inl m ↦ c.show.ensures.others n (subst (λ z. IsNotHidden z n) (sym c.deref_mut.ensures.value) (c.loop-named.invariant.shown j n m at))
+        | inl m ↦ c.reveal.ensures.others n (subst (λ z. IsNotHidden z n) (sym c.deref_mut.ensures.value) (c.loop-named.invariant.shown j n m at))
         | inr m ↦
             let q : j ≡ c.loop-named.named-index = omega (arith, l, m) in
-            subst (IsNotHidden c.show.new.hidden) (get-or c.deref-named-items.result.now c.loop-named.named-index _ n (subst (λ z. slice_get c.deref-named-items.result.now z ≡ Some n) q at)) c.show.ensures.shown
+            subst (IsNotHidden c.reveal.new.hidden) (get-or c.deref-named-items.result.now c.loop-named.named-index _ n (subst (λ z. slice_get c.deref-named-items.result.now z ≡ Some n) q at)) c.reveal.ensures.shown
       ]);
       unnamed = λ core reg l none.
           subst (λ z. IsHidden z core reg) (sym same)
-          (c.show.ensures.hidden (record { 0 = core }) reg (λ is. none c.loop-named.named-index _ (got _ c.loop-named.named-index _ c.loop-named-test.true) is)
+          (c.reveal.ensures.hidden (record { 0 = core }) reg (λ is. none c.loop-named.named-index _ (got _ c.loop-named.named-index _ c.loop-named-test.true) is)
           (subst (λ z. IsHidden z core reg) (sym c.deref_mut.ensures.value) (c.loop-named.invariant.unnamed core reg l none)));
     }
 
 pub returns-clause-not_shown : goal.returns-clause-not_shown
 returns-clause-not_shown c =
-    not-shown c.args.test.now c.loop-named.hidden.items c.in_ok-names.names.items c.in_ok-names.ensures.list (λ j n at.
+    not-shown (named_in c.args.show c.args.test.now) c.loop-named.hidden.items c.in_ok-names.names.items c.in_ok-names.ensures.list (λ j n at.
     let l = get-within c.in_ok-names.names.items j n at in
     let m = c.loop-named-test.false in
     let a = ap length c.deref-named-items.ensures.value in
     c.loop-named.invariant.shown j n (omega (arith, l, m, a)) (subst (λ z. slice_get z j ≡ Some n) (sym c.deref-named-items.ensures.value) at))
 
 pub returns-clause-all : goal.returns-clause-all
-returns-clause-all c = λ core reg l not_looked.
-    c.loop-named.invariant.unnamed core reg l (unnamed c.args.test.now _ core reg (c.deref-named-items.ensures.value ∙ c.in_ok-names.ensures.list) not_looked)
+returns-clause-all c = λ core reg l not_shown.
+    c.loop-named.invariant.unnamed core reg l (unnamed c.args.show c.args.test.now _ core reg (c.deref-named-items.ensures.value ∙ c.in_ok-names.ensures.list) not_shown)

@@ -4,4 +4,4 @@ use Rattle.outcome_report.proofs.outcomes.outcomes_of.Given as goal
 
 abbrev pub invariant-loop-state : goal.invariant-loop-state
 invariant-loop-state l =
-    kept_after l.test (kept_of l.outcomes.entries) (drop l.state-index l.finals) ≡ kept_after l.test [] l.finals
+    kept_after l.names (kept_of l.outcomes.entries) (drop l.state-index l.finals) ≡ kept_after l.names [] l.finals

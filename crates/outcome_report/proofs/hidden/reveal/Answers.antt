@@ -2,7 +2,7 @@ use Rattle.std.proofs.Common.{[], sym, subst, ◌∙◌}
 use Rattle.outcome_report.specs.inner.Hidden.{IsNotHidden}
 use Rattle.outcome_report.proofs.Hiding.{shows}
 use Rattle.outcome_report.proofs.Staying.{stays}
-use Rattle.outcome_report.proofs.hidden.show.Goals as goal
+use Rattle.outcome_report.proofs.hidden.reveal.Goals as goal
 
 pub returns-in-Register : goal.returns-in-Register
 returns-in-Register c =

@@ -1,0 +1,39 @@
+-- What is shown, one core and one location at a time; and what is shown where nothing more is asked for.
+use Rattle.std.proofs.Common.{◌≡◌, ◌∙◌, Bool, true, false, ◌||◌, cond, List, [], ◌∷◌, ◌++◌, length, map, filter, All, ap, sym, subst, refl}
+use Rattle.std.proofs.lemmas.List.Elements.{filter-append, All-filter}
+use Rattle.tso_model.specs.Litmus.{Litmus}
+use Rattle.tso_report.specs.Tally.{is_looked_at, named_registers, named_locations, looked_at}
+use Rattle.tso_report.specs.declared.named.Named.{Named}
+use Rattle.tso_report.specs.inner.Tally.{IsKnown}
+use Rattle.tso_report.proofs.Looking.{names-known}
+use Rattle.shown_values.specs.Shown.{is_shown, named_in}
+use Rattle.shown_values.specs.declared.show.Show.{Show}
+use Rattle.shown_values.specs.declared.show.Show.TheVariants.{Condition}
+
+-- all of them are noted, registers first, after nothing
+pub all-noted : (show : Show) (t : Litmus) (first middle list : List Named) → first ≡ [] → middle ≡ first ++ filter (is_shown show t) (named_registers 0 (length t.programs))
+    → list ≡ middle ++ filter (is_shown show t) (named_locations 0 (length t.locations)) → list ≡ named_in show t
+all-noted show t first middle list none registers locations =
+    let p = is_shown show t in
+    locations ∙ (ap (λ noted. noted ++ filter p (named_locations 0 (length t.locations))) (registers ∙ ap (λ noted. noted ++ filter p (named_registers 0 (length t.programs))) none)
+    ∙ sym (filter-append p (named_registers 0 (length t.programs)) (named_locations 0 (length t.locations))))
+
+pub shown-known : (show : Show) (t : Litmus) (list : List Named) → list ≡ named_in show t → All (IsKnown (length t.programs) (length t.locations)) list
+shown-known show t list is =
+    subst (All (IsKnown (length t.programs) (length t.locations))) (sym is)
+    (All-filter (is_shown show t) (IsKnown (length t.programs) (length t.locations)) (named_registers 0 (length t.programs) ++ named_locations 0 (length t.locations)) (names-known t))
+
+or-false : (b : Bool) → b || false ≡ b
+or-false true = refl
+or-false false = refl
+
+same-filter : (p q : Named → Bool) (names : List Named) → ((n : Named) → p n ≡ q n) → filter p names ≡ filter q names
+same-filter p q [] same = refl
+same-filter p q (n ∷ names) same =
+    ap (λ b. cond b (n ∷ filter p names) (filter p names)) (same n)
+    ∙ ap (λ rest. cond (q n) (n ∷ rest) rest) (same-filter p q names same)
+
+pub nothing-added : (t : Litmus) → named_in Condition t ≡ looked_at t
+nothing-added t =
+    same-filter (is_shown Condition t) (is_looked_at t.condition) (named_registers 0 (length t.programs) ++ named_locations 0 (length t.locations))
+    (λ n. or-false (is_looked_at t.condition n))

@@ -1,0 +1,12 @@
+use Rattle.std.proofs.Common.{◌++◌, length, filter, arith}
+use Rattle.tso_report.specs.Tally.{named_registers}
+use Rattle.tso_report.proofs.Looking.{core-noted}
+use Rattle.shown_values.specs.Shown.{is_shown}
+use Rattle.shown_values.proofs.named.note_registers.Goals as goal
+
+pub loop-core-preserved : goal.loop-core-preserved
+loop-core-preserved c =
+    let p = is_shown c.args.show c.args.test.now in
+    let n = length c.args.test.now.programs in
+    core-noted p (c.args.list.now.items ++ filter p (named_registers 0 n)) c.loop-core.list.items c.note_core.new.list.items c.loop-core.core n
+    (omega (arith, c.loop-core-test.true, c.cores-core-end.ensures.value)) c.in_ok-note_core.ensures c.loop-core.invariant

@@ -1,0 +1,10 @@
+-- What is shown, as far as the names were gone through.
+use Rattle.std.specs.Prelude.{◌≡◌, List, ◌++◌, filter}
+use Rattle.tso_model.specs.Litmus.{Litmus}
+use Rattle.tso_report.specs.declared.named.Named.{Named}
+use Rattle.shown_values.specs.Shown.{is_shown}
+use Rattle.shown_values.specs.declared.show.Show.{Show}
+
+-- of these names those that are shown are put after the list
+abbrev pub AreNoted : Show → Litmus → List Named → List Named → List Named → Type 0
+AreNoted show t names old new = new ≡ old ++ filter (is_shown show t) names

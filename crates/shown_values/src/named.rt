@@ -1,0 +1,119 @@
+//! The registers and locations whose values a final state shows.
+
+ghost use Rattle.std.specs.Prelude.{◌≡◌, ◌<◌, ◌∷◌, [], IfOk, OnOk, All, length, map};
+ghost use Rattle.tso_model.specs.Actions.{action_of};
+ghost use Rattle.tso_report.specs.Report.{all_registers};
+ghost use Rattle.tso_report.specs.Tally.{register_of, named_registers, named_locations};
+ghost use Rattle.tso_report.specs.inner.Tally.{IsKnown};
+ghost use Rattle.shown_values.specs.Shown.{writes, writes_one, is_added, is_shown, named_in};
+ghost use Rattle.shown_values.specs.inner.Shown.{AreNoted};
+
+use crate::show::Show;
+use std::alloc::Global;
+use tso_model::{Action, Core, Instr, Loc, NoMemory, Reg, Test};
+use tso_report::named::{Named, is_looked_at};
+
+/// What the test's final states show: registers by core and then in their order, and then locations by
+/// number. All of them are cores and locations of the test.
+///
+/// Errors: out of memory only.
+pub fn named_in(alloc: Global, test: &Test, show: Show) -> Result<Vec<Named>, NoMemory>
+    ensures known { IfOk result (λ list. All (IsKnown (length test.now.programs) (length test.now.locations)) list.items) }
+    ensures list { IfOk result (λ list. list.items ≡ named_in show test.now) }
+{
+    let mut list = Vec::new(alloc);
+    note_registers(&mut list, test, show)?;
+    note_locations(&mut list, test, show)?;
+    Ok(list)
+}
+
+fn note_registers(list: &mut Vec<Named>, test: &Test, show: Show) -> Result<(), NoMemory>
+    ensures { OnOk result (AreNoted show test.now (named_registers 0 (length test.now.programs)) list.old.items list.new.items) }
+{
+    for core in 0..test.cores() {
+        note_core(list, test, show, core)?;
+    }
+    Ok(())
+}
+
+#[tactic(auto, unfolding(tso_report::specs::Report::all_registers))]
+fn note_core(list: &mut Vec<Named>, test: &Test, show: Show, core: u8) -> Result<(), NoMemory>
+    requires { core < length test.now.programs }
+    ensures { OnOk result (AreNoted show test.now (map (register_of core) all_registers) list.old.items list.new.items) }
+{
+    note_each(list, test, show, core, &Reg::ALL)
+}
+
+fn note_each(
+    list: &mut Vec<Named>,
+    test: &Test,
+    show: Show,
+    core: u8,
+    regs: &[Reg],
+) -> Result<(), NoMemory>
+    requires { core < length test.now.programs }
+    ensures { OnOk result (AreNoted show test.now (map (register_of core) regs.now) list.old.items list.new.items) }
+{
+    for reg in regs {
+        note(list, test, show, Named::Register(Core(core), *reg))?;
+    }
+    Ok(())
+}
+
+fn note_locations(list: &mut Vec<Named>, test: &Test, show: Show) -> Result<(), NoMemory>
+    ensures { OnOk result (AreNoted show test.now (named_locations 0 (length test.now.locations)) list.old.items list.new.items) }
+{
+    for loc in 0..test.locations() {
+        note(list, test, show, Named::Location(Loc(loc)))?;
+    }
+    Ok(())
+}
+
+fn note(list: &mut Vec<Named>, test: &Test, show: Show, named: Named) -> Result<(), NoMemory>
+    requires { IsKnown (length test.now.programs) (length test.now.locations) named }
+    ensures { OnOk result (AreNoted show test.now (named ∷ []) list.old.items list.new.items) }
+{
+    if is_shown(test, show, named) {
+        list.push(named)?;
+    }
+    Ok(())
+}
+
+fn is_shown(test: &Test, show: Show, named: Named) -> bool
+    requires { IsKnown (length test.now.programs) (length test.now.locations) named }
+    ensures { result ≡ is_shown show test.now named }
+{
+    is_looked_at(test, named) || is_added(test, show, named)
+}
+
+/// Whether it is shown even where nobody looks at it.
+fn is_added(test: &Test, show: Show, named: Named) -> bool
+    requires { IsKnown (length test.now.programs) (length test.now.locations) named }
+    ensures { result ≡ is_added show test.now named }
+{
+    match (show, named) {
+        (Show::Condition, _) | (Show::Registers, Named::Location(_)) => false,
+        (Show::Registers | Show::All, Named::Register(core, reg)) => {
+            writes_one(test.program(core), reg)
+        }
+        (Show::All, Named::Location(_)) => true,
+    }
+}
+
+/// Whether an instruction of the program writes the register.
+fn writes_one(program: &[Instr], reg: Reg) -> bool
+    ensures { result ≡ writes_one program.now reg }
+{
+    program.iter().any(|instr| writes(*instr, reg))
+}
+
+fn writes(instr: Instr, reg: Reg) -> bool
+    ensures { result ≡ writes (action_of instr) reg }
+{
+    match instr.action() {
+        Action::Load(written, _) | Action::Move(written, _) | Action::Lock(_, written, _) => {
+            written.index() == reg.index()
+        }
+        Action::Store(..) | Action::Fence => false,
+    }
+}
