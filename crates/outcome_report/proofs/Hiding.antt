@@ -1,12 +1,11 @@
 -- What is shown isn't hidden, so states that differ in hidden registers alone look alike.
-use Rattle.std.proofs.Common.{◌≡◌, ◌<◌, ◌≤◌, ◌⊎◌, ℕ, ◌+◌, zero, suc, Bool, true, false, List, [], ◌∷◌, ◌++◌, map, length, take, drop, Some, slice_get, slice_set, slice_index, slice_index_or, if◌then◌else◌, inl, inr, arith, ap, sym, ◌∙◌, subst, refl}
+use Rattle.std.proofs.Common.{◌≡◌, ◌<◌, ◌≤◌, ◌⊎◌, ℕ, ◌+◌, zero, suc, Bool, false, List, [], ◌∷◌, ◌++◌, map, length, take, drop, Some, slice_get, slice_set, slice_index, slice_index_or, if◌then◌else◌, arith, ap, sym, ◌∙◌, subst, refl}
 use Rattle.std.proofs.Math.ListN.{length-set}
 use Rattle.std.specs.Prelude.{All}
 use Rattle.tso_model.specs.Registers.{index_of}
-use Rattle.tso_model.specs.Litmus.{Litmus}
 use Rattle.tso_model.specs.declared.register.Reg.{Reg}
 use Rattle.tso_model.specs.declared.instruction.Core.{Core}
-use Rattle.eager_laws.specs.Dead.{cleared, none_hidden, hidden_of, seen_from, seen}
+use Rattle.eager_laws.specs.Dead.{cleared, hidden_of, seen_from, seen}
 use Rattle.tso_report.specs.declared.named.Named.{Named}
 use Rattle.tso_report.specs.declared.named.Named.TheVariants.{Register, Location}
 use Rattle.tso_report.specs.Tally.{shown_value}

@@ -35,8 +35,8 @@ values t (named ∷ names) [] = refl
 values t (named ∷ names) (value ∷ list) = one_more (key_of t named) value (value_members t names list) (values t names list)
 
 holds : (h : Option Bool) (members : Members) → members_have_float members ≡ false → members_have_float (with_holds h members) ≡ false
-holds None members none = none
-holds (Some b) members none = none
+holds None ms none = none
+holds (Some b) ms none = none
 
 states : (t : Litmus) (names : List Named) (outcomes : List Outcome) → has_float (states_value t names outcomes) ≡ false
 states t names [] = refl

@@ -16,8 +16,8 @@ use Rattle.tso_report.specs.declared.named.Named.{Named}
 use Rattle.outcome_report.specs.Verdict.{is_as_claimed}
 use Rattle.outcome_report.specs.Outcomes.{Outcome, outcome_of, is_met_in}
 use Rattle.outcome_report.specs.Printed.{outcomes_in, PrintsOutcomes}
-use Rattle.outcome_report.specs.inner.Shown.{IsOf, kept_after}
-use Rattle.outcome_report.proofs.Keeping.{kept-printed}
+use Rattle.outcome_report.specs.inner.Shown.{IsOf, kept_after, AreShown}
+use Rattle.outcome_report.proofs.Keeping.{kept-shown, kept-printed}
 
 -- ---- a final state has registers for each core and a word for each location
 
@@ -46,6 +46,12 @@ reached-whole t depth finals law test reached k d lt =
     end-whole t depth (slice_index_or finals k d) law test (reached k (slice_index_or finals k d) (slice_get-get_or finals k d lt))
 
 -- ---- what was printed are these final states
+
+-- the names are handed on as they were found
+pub kept-is-shown : (t : Litmus) (names given used : List Named) (finals : List FinalState) (kept : List (List ℕ × Outcome)) → All (λ f. IsOf t (outcome_of f)) finals
+    → given ≡ names → used ≡ names → kept ≡ kept_after given [] finals → AreShown t used kept
+kept-is-shown t names given used finals kept whole g u is =
+    subst (AreShown t used) (sym is) (subst (λ n. AreShown t n (kept_after given [] finals)) (g ∙ sym u) (kept-shown t given finals whole))
 
 pub kept-out : (t : Litmus) (shown names : List Named) (depth : ℕ) (json met as_claimed : Bool) (finals : List FinalState) (kept : List (List ℕ × Outcome)) (out : List ℕ)
     → All (λ f. IsOf t (outcome_of f)) finals → names ≡ shown → kept ≡ kept_after names [] finals → out ≡ outcomes_in json t names depth (values_of kept)

@@ -1,5 +1,5 @@
 -- Every register is hidden at first, and those that aren't shown stay so.
-use Rattle.std.proofs.Common.{◌≡◌, ◌≢◌, ◌∙◌, ◌<◌, ◌≤◌, ◌⊎◌, inl, inr, ℕ, zero, suc, ◌+◌, Bool, true, false, List, [], ◌∷◌, ◌++◌, length, filter, cond, Some, slice_get, slice_set, slice_index_or, arith, ap, sym, subst, refl}
+use Rattle.std.proofs.Common.{◌≡◌, ◌≢◌, ◌∙◌, ◌<◌, ◌⊎◌, inl, inr, ℕ, zero, suc, Bool, true, false, List, [], ◌∷◌, ◌++◌, length, filter, cond, Some, slice_get, slice_set, slice_index_or, arith, ap, sym, subst, refl}
 use Rattle.tso_model.specs.Litmus.{Litmus}
 use Rattle.tso_model.specs.Registers.{index_of}
 use Rattle.tso_model.specs.declared.register.Reg.{Reg}
@@ -7,7 +7,7 @@ use Rattle.tso_model.specs.declared.register.Reg.TheVariants.{Eax, Ebx, Ecx, Edx
 use Rattle.tso_model.specs.declared.instruction.Core.{Core}
 use Rattle.eager_laws.specs.Dead.{none_hidden, hidden_of}
 use Rattle.tso_report.specs.declared.named.Named.{Named}
-use Rattle.tso_report.specs.declared.named.Named.TheVariants.{Register, Location}
+use Rattle.tso_report.specs.declared.named.Named.TheVariants.{Register}
 use Rattle.tso_report.specs.Tally.{register_of}
 use Rattle.shown_values.specs.Shown.{is_shown, named_in}
 use Rattle.shown_values.specs.declared.show.Show.{Show}

@@ -27,14 +27,20 @@ writes (Lock loc written update) reg = index_of written == index_of reg
 abbrev pub writes_one : List Instr → Reg → Bool
 writes_one program reg = list_any (λ i. writes (action_of i) reg) program
 
--- whether it is shown even where nobody looks at it: beside what is looked at, each register that an instruction of its core
--- writes, or that and all locations
+-- whether it is a register that an instruction of its core writes
+abbrev pub is_written : Litmus → Named → Bool
+is_written t (Register core reg) = writes_one (slice_index_or t.programs core.0 []) reg
+is_written t (Location loc) = false
+
+abbrev pub is_location : Named → Bool
+is_location (Register core reg) = false
+is_location (Location loc) = true
+
+-- whether it is shown even where nobody looks at it: nothing, or each register that is written, or that and all locations
 abbrev pub is_added : Show → Litmus → Named → Bool
 is_added shows.Condition t named = false
-is_added shows.Registers t (Register core reg) = writes_one (slice_index_or t.programs core.0 []) reg
-is_added shows.Registers t (Location loc) = false
-is_added shows.All t (Register core reg) = writes_one (slice_index_or t.programs core.0 []) reg
-is_added shows.All t (Location loc) = true
+is_added shows.Registers t named = is_written t named
+is_added shows.All t named = is_written t named || is_location named
 
 -- whether it is shown: what is looked at always is
 abbrev pub is_shown : Show → Litmus → Named → Bool

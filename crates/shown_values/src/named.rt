@@ -5,7 +5,7 @@ ghost use Rattle.tso_model.specs.Actions.{action_of};
 ghost use Rattle.tso_report.specs.Report.{all_registers};
 ghost use Rattle.tso_report.specs.Tally.{register_of, named_registers, named_locations};
 ghost use Rattle.tso_report.specs.inner.Tally.{IsKnown};
-ghost use Rattle.shown_values.specs.Shown.{writes, writes_one, is_added, is_shown, named_in};
+ghost use Rattle.shown_values.specs.Shown.{writes, writes_one, is_written, is_location, is_added, is_shown, named_in};
 ghost use Rattle.shown_values.specs.inner.Shown.{AreNoted};
 
 use crate::show::Show;
@@ -91,12 +91,30 @@ fn is_added(test: &Test, show: Show, named: Named) -> bool
     requires { IsKnown (length test.now.programs) (length test.now.locations) named }
     ensures { result ≡ is_added show test.now named }
 {
-    match (show, named) {
-        (Show::Condition, _) | (Show::Registers, Named::Location(_)) => false,
-        (Show::Registers | Show::All, Named::Register(core, reg)) => {
-            writes_one(test.program(core), reg)
-        }
-        (Show::All, Named::Location(_)) => true,
+    match show {
+        Show::Condition => false,
+        Show::Registers => is_written(test, named),
+        Show::All => is_written(test, named) || is_location(named),
+    }
+}
+
+/// Whether it is a register that an instruction of its core writes.
+fn is_written(test: &Test, named: Named) -> bool
+    requires { IsKnown (length test.now.programs) (length test.now.locations) named }
+    ensures { result ≡ is_written test.now named }
+{
+    match named {
+        Named::Register(core, reg) => writes_one(test.program(core), reg),
+        Named::Location(_) => false,
+    }
+}
+
+fn is_location(named: Named) -> bool
+    ensures { result ≡ is_location named }
+{
+    match named {
+        Named::Register(..) => false,
+        Named::Location(_) => true,
     }
 }
 

@@ -1,6 +1,5 @@
-use Rattle.std.proofs.Common.{◌≡◌, ◌∙◌, ◌<◌, ℕ, [], ◌∷◌, Some, slice_get, length, inl, inr, ap, sym, subst, arith}
+use Rattle.std.proofs.Common.{◌≡◌, ◌∙◌, [], ◌∷◌, Some, slice_get, length, inl, inr, ap, sym, subst, arith}
 use Rattle.std.proofs.lemmas.List.{length-append}
-use Rattle.tso_report.specs.declared.named.Named.{Named}
 use Rattle.shown_values.specs.Shown.{named_in}
 use Rattle.outcome_report.specs.Hidden.{IsHidden}
 use Rattle.outcome_report.specs.inner.Hidden.{IsNotHidden}

@@ -1,35 +1,35 @@
-use Rattle.std.proofs.Common.{true, false, string_bytes, sym, subst}
-use Rattle.outcome_report.specs.inner.Shown.{kept_of, AreShown}
-use Rattle.outcome_report.proofs.Keeping.{kept-shown}
-use Rattle.outcome_report.proofs.Printing.{reached-whole, kept-out}
+use Rattle.std.proofs.Common.{◌∙◌, [], string_bytes, ap}
+use Rattle.std.specs.Map.{values_of}
+use Rattle.shown_values.specs.Shown.{named_in}
+use Rattle.outcome_report.specs.Printed.{outcomes_in}
+use Rattle.outcome_report.specs.inner.Shown.{kept_of, kept_after}
+use Rattle.outcome_report.proofs.Printing.{reached-whole, kept-is-shown, kept-out}
 use Rattle.outcome_report.proofs.report.outcomes_report.Goals as goal
 
 pub outcomes_of-requires-clause-finals : goal.outcomes_of-requires-clause-finals
 outcomes_of-requires-clause-finals c =
     reached-whole c.args.test.now c.args.depth c.args.finals.now c.ended_runs_are_executions.ensures c.know_limits.ensures c.requires
 
-pub outcomes_json-requires-clause-shown : goal.outcomes_json-requires-clause-shown
-outcomes_json-requires-clause-shown c =
-    let t = c.args.test.now in
-    let whole = reached-whole t c.args.depth c.args.finals.now c.ended_runs_are_executions.ensures c.know_limits.ensures c.requires in
-    subst (AreShown t) (sym c.in_ok-outcomes.ensures) (kept-shown t c.args.finals.now whole)
+pub text_of-requires-clause-shown : goal.text_of-requires-clause-shown
+text_of-requires-clause-shown c =
+    kept-is-shown c.args.test.now c.in_ok-names.names.items c.deref.result.now c.deref-2.result.now c.args.finals.now (kept_of c.in_ok-outcomes.outcomes.entries)
+    (reached-whole c.args.test.now c.args.depth c.args.finals.now c.ended_runs_are_executions.ensures c.know_limits.ensures c.requires)
+    c.deref.ensures.value c.deref-2.ensures.value c.in_ok-outcomes.ensures
 
-pub returns-then-json : goal.returns-then-json
-returns-then-json c =
-    let t = c.args.test.now in
-    let whole = reached-whole t c.args.depth c.args.finals.now c.ended_runs_are_executions.ensures c.know_limits.ensures c.requires in
-    kept-out string_bytes t c.args.depth c.args.json true c.args.finals.now (kept_of c.in_ok-outcomes.outcomes.entries) c.outcomes_json.result
-    whole c.in_ok-outcomes.ensures c.if-json.true c.outcomes_json.ensures
-
-pub outcomes_text-requires-clause-shown : goal.outcomes_text-requires-clause-shown
-outcomes_text-requires-clause-shown c =
-    let t = c.args.test.now in
-    let whole = reached-whole t c.args.depth c.args.finals.now c.ended_runs_are_executions.ensures c.know_limits.ensures c.requires in
-    subst (AreShown t) (sym c.in_ok-outcomes.ensures) (kept-shown t c.args.finals.now whole)
+pub is_met_in-requires : goal.is_met_in-requires
+is_met_in-requires c =
+    kept-is-shown c.args.test.now c.in_ok-names.names.items c.deref.result.now c.deref-3.result.now c.args.finals.now (kept_of c.in_ok-outcomes.outcomes.entries)
+    (reached-whole c.args.test.now c.args.depth c.args.finals.now c.ended_runs_are_executions.ensures c.know_limits.ensures c.requires)
+    c.deref.ensures.value c.deref-3.ensures.value c.in_ok-outcomes.ensures
 
 pub returns : goal.returns
 returns c =
     let t = c.args.test.now in
-    let whole = reached-whole t c.args.depth c.args.finals.now c.ended_runs_are_executions.ensures c.know_limits.ensures c.requires in
-    kept-out string_bytes t c.args.depth c.args.json false c.args.finals.now (kept_of c.in_ok-outcomes.outcomes.entries) c.outcomes_text.result
-    whole c.in_ok-outcomes.ensures c.if-json.false c.outcomes_text.ensures
+    let kept = kept_of c.in_ok-outcomes.outcomes.entries in
+    kept-out t (named_in c.args.show t) c.in_ok-names.names.items c.args.depth c.args.json c.is_met_in.result c.is_as_claimed.result c.args.finals.now kept
+    (string_bytes c.in_ok-text_of.field-0)
+    (reached-whole t c.args.depth c.args.finals.now c.ended_runs_are_executions.ensures c.know_limits.ensures c.requires)
+    c.in_ok-names.ensures.list
+    (c.in_ok-outcomes.ensures ∙ ap (λ names. kept_after names [] c.args.finals.now) c.deref.ensures.value)
+    (c.in_ok-text_of.ensures ∙ ap (λ names. outcomes_in c.args.json t names c.args.depth (values_of kept)) c.deref-2.ensures.value)
+    c.is_met_in.ensures c.is_as_claimed.ensures

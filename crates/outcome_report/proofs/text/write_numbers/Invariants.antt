@@ -1,4 +1,4 @@
-use Rattle.std.proofs.Common.{◌++◌, string_bytes}
+use Rattle.std.proofs.Common.{◌++◌, length, string_bytes}
 use Rattle.std.specs.Map.{values_of}
 use Rattle.tso_model.specs.Condition.{claim_of}
 use Rattle.outcome_report.specs.Outcomes.{true_in, printed_numbers}
@@ -9,4 +9,4 @@ use Rattle.outcome_report.proofs.text.write_numbers.Given as goal
 abbrev pub invariant-loop-state : goal.invariant-loop-state
 invariant-loop-state l =
     Numbered (claim_of l.cond.prop) (string_bytes l.initial.text ++ printed_numbers (true_in (claim_of l.cond.prop) (values_of (kept_of l.outcomes.entries))))
-    l.number (string_bytes l.text) l.state-iterator
+    (length l.outcomes.entries) l.number (string_bytes l.text) l.state-iterator
