@@ -179,7 +179,8 @@ fn write_state(
     values: &[u32],
 ) -> Result<(), NoMemory>
     requires known { All (IsKnown (length test.now.programs) (length test.now.locations)) names.now }
-    ensures { OnOk result (string_bytes text.new ≡ string_bytes text.old ++ state_line test.now names.now values.now) }
+    requires names { names.now ≡ looked_at test.now }
+    ensures { OnOk result (string_bytes text.new ≡ string_bytes text.old ++ state_line test.now (looked_at test.now) values.now) }
 {
     text.push_str("State")?;
     write_values(text, test, names, values)?;
