@@ -83,7 +83,7 @@ holds-shown : (show : Show) (t : Litmus) (condition : Option Condition) (o p : O
 holds-shown show t None o p test is values = refl
 holds-shown show t (Some c) o p test is values = ap Some (truth-shown show t c o p test is values)
 
-alike : (show : Show) (t : Litmus) (outcomes again : List Outcome) → IsTest t → map (shown_values (named_in show t)) outcomes ≡ map (shown_values (named_in show t)) again
+pub alike : (show : Show) (t : Litmus) (outcomes again : List Outcome) → IsTest t → map (shown_values (named_in show t)) outcomes ≡ map (shown_values (named_in show t)) again
     → AreAlike t (named_in show t) outcomes again
 alike show t outcomes again test values =
     let shown = shown_values (named_in show t) in

@@ -20,9 +20,10 @@ use Rattle.commands.specs.Dividing.{parts_of, joined}
 use Rattle.commands.specs.Why.{IsWhyAnswer, never, allowed, too_many}
 use Rattle.commands.specs.declared.answer.Status.{Status}
 use Rattle.commands.specs.declared.answer.Status.TheVariants.{Good}
-use Rattle.tso_cli.specs.Answers.{IsInputAnswer, too_large, refused, answered}
+use Rattle.tso_cli.specs.Answers.{IsInputAnswer, too_large, refused, answered, IsPrinted}
 use Rattle.tso_cli.specs.Explained.{AreRunAgain, IsExplained, never, allowed}
 use Rattle.tso_cli.specs.inner.ReadOneWay.{AreReadOneWay}
+use Rattle.tso_cli.proofs.PrintedLemmas.{refused-is-none, unended-is-none}
 use Rattle.tso_cli.proofs.Replayed.{choices-short, replayed-joined}
 use Rattle.tso_cli.proofs.WitnessLemmas.{Reaching, choices-few}
 use Rattle.tso_cli.proofs.WhyLemmas.{Refuting, refutation-means, execution-means}
@@ -47,10 +48,10 @@ run-again kind c json test t choices order texts reaching atomic spelled separat
       answers.1,
     )
 
-module _ (kind : ProtocolKind) (c : Configuration) (e : Explanation) (json told : Bool) (input : List ℕ) (texts : AreReadOneWay) (reaching : Reaching) (laws : Refuting)
+module _ (kind : ProtocolKind) (c : Configuration) (e : Explanation) (json told assert : Bool) (input : List ℕ) (texts : AreReadOneWay) (reaching : Reaching) (laws : Refuting)
     (atomic : c.bus ≡ Atomic) (depth : c.depth ≡ depth_of e.model)
     (separated : (rest : List ℕ) → parts_of (joined (parts_of input).test rest) ≡ record { test = (parts_of input).test; rest = rest }) where
-  of-a-test : (t : Litmus) (out : List ℕ) (status : Status) → SpellsTest (parts_of input).test t → status ≡ Good → IsWhyAnswer t e told out status
+  of-a-test : (t : Litmus) (out : List ℕ) (status : Status) → SpellsTest (parts_of input).test t → IsPrinted status → IsWhyAnswer t e told assert out status
       → IsExplained kind c json e.model told (parts_of input).test out
   of-a-test t _ _ spelled good (never nodes refuted) =
       never t spelled (refutation-means t e.model told nodes laws (texts.test (parts_of input).test t spelled) refuted)
@@ -59,10 +60,10 @@ module _ (kind : ProtocolKind) (c : Configuration) (e : Explanation) (json told 
       allowed t spelled said
       (run-again kind c json (parts_of input).test t said.choices said.order texts reaching atomic spelled (separated (printed_choices said.choices)) said.spelled
       (subst (λ d. LeadTo t d said.choices said.order) (sym depth) said.lead))
-  of-a-test t _ _ spelled good (too_many more fewer) = absurd (let no : ⊥ = cc in no)
+  of-a-test t _ _ spelled good (too_many more fewer) = absurd (unended-is-none good)
 
-  pub explained : (out : List ℕ) (status : Status) → status ≡ Good → IsInputAnswer (settings.Why e told) input out status
+  pub explained : (out : List ℕ) (status : Status) → IsPrinted status → IsInputAnswer (settings.Why e told assert) input out status
       → IsExplained kind c json e.model told (parts_of input).test out
-  explained _ _ good (too_large large) = absurd (let no : ⊥ = cc in no)
-  explained _ _ good (refused fault small is) = absurd (let no : ⊥ = cc in no)
+  explained _ _ good (too_large large) = absurd (refused-is-none good)
+  explained _ _ good (refused fault small is) = absurd (refused-is-none good)
   explained _ _ good (answered t out status small spelled is) = of-a-test t out status spelled good is

@@ -25,7 +25,7 @@ use Rattle.sweeper.specs.Counting.{choices_of, seeded_run, with_one_run, counts_
 use Rattle.tso_cli.proofs.HeadlineLemmas.{Runs}
 use Rattle.sweeper.proofs.StateLemmas.{Ascend, ascend-none, sum-with}
 use Rattle.sweeper.proofs.RunsCounted.{ascend-run, runs-with}
-use Rattle.tso_cli.specs.Fitting.{IsStateOf}
+use Rattle.tso_cli.specs.Fitting.{IsStateAt, IsStateOf}
 use Rattle.tso_cli.specs.Fitting.{SweptCountsFit}
 
 -- ---- the values of a state are words
@@ -49,11 +49,15 @@ values-are-words registers memory [] are words = All-nil IsWord
 values-are-words registers memory (named ∷ names) are words =
     All-cons IsWord (shown_value registers memory named) (map (shown_value registers memory) names) (value-is-word registers memory named are words) (values-are-words registers memory names are words)
 
-pub is-state : (t : Litmus) (registers : List (List ℕ)) (memory : List ℕ) → All AreRegisters registers → All IsWord memory → IsStateOf t (values_in t registers memory)
-is-state t registers memory are words = record {
-  each = length-map (looked_at t) (shown_value registers memory);
-  words = values-are-words registers memory (looked_at t) are words;
+pub is-state-at : (names : List Named) (registers : List (List ℕ)) (memory : List ℕ) → All AreRegisters registers → All IsWord memory
+    → IsStateAt names (map (shown_value registers memory) names)
+is-state-at names registers memory are words = record {
+  each = length-map names (shown_value registers memory);
+  words = values-are-words registers memory names are words;
 }
+
+is-state : (t : Litmus) (registers : List (List ℕ)) (memory : List ℕ) → All AreRegisters registers → All IsWord memory → IsStateOf t (values_in t registers memory)
+is-state t = is-state-at (looked_at t)
 
 -- ---- one more run
 

@@ -230,10 +230,10 @@ answer-means (settings.Trace kind c json) t text out status texts runs reaching 
 answer-means (settings.Sweep kind c plan) t text out status texts runs reaching searches refuting within test short is =
     sweeps-by-bus t kind c plan out
     (sweep-means t kind c plan out status (λ choices. runs.executions (table_of kind) c t choices test) (λ choices none. runs.unbuffered (table_of kind) c t choices none test) (runs.atomic (table_of kind) c t) is)
-answer-means (settings.Outcomes search json) t text out status texts runs reaching searches refuting within test short is =
-    outcomes-mean t search json out status reaching searches test is
-answer-means (settings.Why plan json) t text out status texts runs reaching searches refuting within test short is =
-    reasons-mean t plan json out status reaching refuting test is
+answer-means (settings.Outcomes search json assert) t text out status texts runs reaching searches refuting within test short is =
+    outcomes-mean t search json assert out status reaching searches test is
+answer-means (settings.Why plan json assert) t text out status texts runs reaching searches refuting within test short is =
+    reasons-mean t plan json assert out status reaching refuting test is
 answer-means settings.Check t text out status texts runs reaching searches refuting within test short is =
     check-means t text out status texts.real texts.one texts.once texts.never_both test short is
 answer-means (settings.Witness depth) t text out status texts runs reaching searches refuting within test short is =

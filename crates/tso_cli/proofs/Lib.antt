@@ -3,6 +3,7 @@ pub mod OneAnswer
 pub mod WitnessLemmas
 pub mod OutcomesLemmas
 pub mod WhyLemmas
+pub mod PrintedLemmas
 pub mod Revisited
 pub mod HeadlineLemmas
 pub mod CheckLemmas

@@ -92,8 +92,8 @@ one_answer_to : (s : Settings) (t : Litmus) (text out other : List ℕ) (status 
 one_answer_to (settings.Run kind c json) t text out other status again law one test short is too = one_run_answer t kind c json text out other status again (law.decided (length t.programs) text test.some_core) is too
 one_answer_to (settings.Trace kind c json) t text out other status again law one test short is too = one_trace_answer t kind c json text out other status again test.some_core (law.decided (length t.programs) text test.some_core) is too
 one_answer_to (settings.Sweep kind c plan) t text out other status again law one test short is too = (is.text ∙ sym too.text, is.status_is ∙ sym too.status_is)
-one_answer_to (settings.Outcomes search json) t text out other status again law one test short is too = absurd one
-one_answer_to (settings.Why plan json) t text out other status again law one test short is too = absurd one
+one_answer_to (settings.Outcomes search json assert) t text out other status again law one test short is too = absurd one
+one_answer_to (settings.Why plan json assert) t text out other status again law one test short is too = absurd one
 one_answer_to settings.Check t text out other status again law one test short is too = one_check_answer t text out other status again law test short is too
 one_answer_to (settings.Witness depth) t text out other status again law one test short is too = one_witness_answer t depth text out other status again law test short is too
 one_answer_to (settings.Tables kind) t text out other status again law one test short is too = (is.text ∙ sym too.text, is.status_is ∙ sym too.status_is)

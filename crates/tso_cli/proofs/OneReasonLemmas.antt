@@ -28,9 +28,9 @@ one-reason test t e f json again out other same spelled (allowed p) (never q) =
     let r : PrintsRefutation t e.model again other = subst (λ model. PrintsRefutation t model again other) (sym same) q in
     absurd (r.executions p.order p.execution p.holds)
 
-parts-one-reason : (e f : Explanation) (json again : Bool) (parts : Parts) (out other : List ℕ) → AreReadOneWay → AreDecided → e.model ≡ f.model
-    → PartsHeadline (settings.Why e json) parts out → PartsHeadline (settings.Why f again) parts other → AreOneReason parts.test e f json again out other
-parts-one-reason e f json again parts out other texts decided same p q = by_text (decided.tests parts.test).always
+parts-one-reason : (e f : Explanation) (json again assert asserted : Bool) (parts : Parts) (out other : List ℕ) → AreReadOneWay → AreDecided → e.model ≡ f.model
+    → PartsHeadline (settings.Why e json assert) parts out → PartsHeadline (settings.Why f again asserted) parts other → AreOneReason parts.test e f json again out other
+parts-one-reason e f json again assert asserted parts out other texts decided same p q = by_text (decided.tests parts.test).always
   where
     by_text : ((t : Litmus) × SpellsTest parts.test t) ⊎ ((fault : TextFault) × IsRefusedTest parts.test fault) → AreOneReason parts.test e f json again out other
     by_text (inl spells) = one-reason parts.test spells.0 e f json again out other same spells.1 (p.every_test spells.0 spells.1) (q.every_test spells.0 spells.1)
@@ -40,11 +40,11 @@ parts-one-reason e f json again parts out other texts decided same p q = by_text
         let second = q.every_other none in
         one_text (first.2 ∙ ap test_refusal (texts.one_refusal parts.test first.0 second.0 first.1 second.1) ∙ sym second.2)
 
-pub reasons-one : (e f : Explanation) (json again : Bool) (input out other : List ℕ) → AreReadOneWay → AreDecided → e.model ≡ f.model
-    → InputHeadline (settings.Why e json) input out → InputHeadline (settings.Why f again) input other
+pub reasons-one : (e f : Explanation) (json again assert asserted : Bool) (input out other : List ℕ) → AreReadOneWay → AreDecided → e.model ≡ f.model
+    → InputHeadline (settings.Why e json assert) input out → InputHeadline (settings.Why f again asserted) input other
     → AreOneReason (parts_of input).test e f json again out other
-reasons-one e f json again input out other texts decided same p q = by_size (sizes (length input) longest_input)
+reasons-one e f json again assert asserted input out other texts decided same p q = by_size (sizes (length input) longest_input)
   where
     by_size : (length input ≤ longest_input) ⊎ (longest_input < length input) → AreOneReason (parts_of input).test e f json again out other
-    by_size (inl small) = parts-one-reason e f json again (parts_of input) out other texts decided same (p.within small) (q.within small)
+    by_size (inl small) = parts-one-reason e f json again assert asserted (parts_of input) out other texts decided same (p.within small) (q.within small)
     by_size (inr large) = one_text (p.above large ∙ sym (q.above large))

@@ -11,8 +11,11 @@ use Rattle.tso_model.specs.declared.choice.Choice.{Choice}
 use Rattle.litmus_reader.specs.Spelling.{SpellsTest, IsRefused as IsRefusedTest}
 use Rattle.litmus_reader.specs.declared.fault.TextFault.{TextFault}
 use Rattle.tso_report.specs.Report.{test_line}
-use Rattle.outcome_report.specs.Outcomes.{Outcome, shown_values, held_in, failed_in, outcomes_line, state_line, by_line, outcome_lines, observation_line}
-use Rattle.outcome_report.specs.OutcomesJson.{state_value, observation_value}
+use Rattle.tso_report.specs.declared.named.Named.{Named}
+use Rattle.shown_values.specs.Shown.{named_in}
+use Rattle.outcome_report.specs.Verdict.{verdict_line, verdict_value}
+use Rattle.outcome_report.specs.Outcomes.{Outcome, shown_values, held_in, failed_in, true_in, is_met_in, outcomes_line, state_line, by_line, outcome_lines, observation_line, true_line, condition_lines}
+use Rattle.outcome_report.specs.OutcomesJson.{state_value, holds_in, observation_value}
 use Rattle.outcome_report.specs.Printed.{outcomes_in}
 use Rattle.outcome_report.specs.Laws.{AreAlike, OutcomesOfTheSameValuesAreAlike}
 use Rattle.command_line.specs.Search.{Search}
@@ -26,62 +29,84 @@ use Rattle.tso_cli.specs.Headline.{PartsHeadline, InputHeadline}
 use Rattle.tso_cli.specs.OneSearch.{without_choices, ShowOneSearch, ShowsNoState, AreOneSearch, one_text, both_show, first_shows_none, second_shows_none}
 use Rattle.tso_cli.specs.inner.ReadOneWay.{AreReadOneWay}
 use Rattle.tso_cli.proofs.OneTextLemmas.{AreDecided, sizes}
-use Rattle.tso_cli.proofs.Revisited.{each-there}
+use Rattle.tso_cli.proofs.Revisited.{each-there, same-met}
 
 -- ---- with the choices left out
 
 abbrev without : List Outcome → List Outcome
 without outcomes = map without_choices outcomes
 
-abbrev values_of : Litmus → List Outcome → List (List ℕ)
-values_of t outcomes = map (shown_values t) outcomes
+abbrev values_of : List Named → List Outcome → List (List ℕ)
+values_of names outcomes = map (shown_values names) outcomes
 
-same-values : (t : Litmus) (outcomes : List Outcome) → values_of t (without outcomes) ≡ values_of t outcomes
-same-values t [] = refl
-same-values t (o ∷ os) = ap (λ vs. shown_values t o ∷ vs) (same-values t os)
+same-values : (names : List Named) (outcomes : List Outcome) → values_of names (without outcomes) ≡ values_of names outcomes
+same-values names [] = refl
+same-values names (o ∷ os) = ap (λ vs. shown_values names o ∷ vs) (same-values names os)
 
-lines_of : Litmus → List (List ℕ) → List ℕ
-lines_of t [] = []
-lines_of t (v ∷ vs) = state_line t v ++ (by_line [] ++ lines_of t vs)
+lines_of : Litmus → List Named → List (List ℕ) → List ℕ
+lines_of t names [] = []
+lines_of t names (v ∷ vs) = state_line t names v ++ (by_line [] ++ lines_of t names vs)
 
-lines-are : (t : Litmus) (outcomes : List Outcome) → outcome_lines t (without outcomes) ≡ lines_of t (values_of t outcomes)
+lines-are : (t : Litmus) (names : List Named) (outcomes : List Outcome) → outcome_lines t names (without outcomes) ≡ lines_of t names (values_of names outcomes)
 unfolding lines_of
-lines-are t [] = refl
-lines-are t (o ∷ os) = ap (λ l. state_line t (shown_values t o) ++ (by_line [] ++ l)) (lines-are t os)
+lines-are t names [] = refl
+lines-are t names (o ∷ os) = ap (λ l. state_line t names (shown_values names o) ++ (by_line [] ++ l)) (lines-are t names os)
 
-states-are : {X : Type 0} (f : List ℕ → List Choice → X) (t : Litmus) (outcomes : List Outcome)
-    → map (λ o. f (shown_values t o) o.choices) (without outcomes) ≡ map (λ v. f v []) (values_of t outcomes)
-states-are f t [] = refl
-states-are f t (o ∷ os) = ap (λ l. f (shown_values t o) [] ∷ l) (states-are f t os)
+-- what is made of each state, by its values and by whether the proposition is true in it
+made_of : {X : Type 0} → (List ℕ → Option Bool → X) → List (List ℕ) → List (Option Bool) → List X
+made_of f [] holds = []
+made_of f (v ∷ vs) [] = []
+made_of f (v ∷ vs) (h ∷ hs) = f v h ∷ made_of f vs hs
+
+states-are : {X : Type 0} (f : List ℕ → List Choice → Option Bool → X) (t : Litmus) (names : List Named) (outcomes : List Outcome)
+    → map (λ o. f (shown_values names o) o.choices (holds_in t.condition o)) (without outcomes)
+    ≡ made_of (λ v h. f v [] h) (values_of names outcomes) (map (holds_in t.condition) (without outcomes))
+unfolding made_of
+states-are f t names [] = refl
+states-are f t names (o ∷ os) = ap (λ l. f (shown_values names o) [] (holds_in t.condition (without_choices o)) ∷ l) (states-are f t names os)
 
 observed-line : (name : List ℕ) (condition : Option Condition) (a b : List Outcome) → ForSome condition (λ c. held_in c.claim a ≡ held_in c.claim b)
     → ForSome condition (λ c. failed_in c.claim a ≡ failed_in c.claim b) → observation_line name condition a ≡ observation_line name condition b
 observed-line name None a b held failed = refl
 observed-line name (Some c) a b held failed = rw (held c refl, failed c refl) refl
 
+numbers-line : (condition : Option Condition) (a b : List Outcome) → ForSome condition (λ c. true_in c.claim a ≡ true_in c.claim b) → true_line condition a ≡ true_line condition b
+numbers-line None a b numbers = refl
+numbers-line (Some c) a b numbers = rw (numbers c refl) refl
+
 observed-value : (condition : Option Condition) (a b : List Outcome) → ForSome condition (λ c. held_in c.claim a ≡ held_in c.claim b)
     → ForSome condition (λ c. failed_in c.claim a ≡ failed_in c.claim b) → observation_value condition a ≡ observation_value condition b
 observed-value None a b held failed = refl
 observed-value (Some c) a b held failed = rw (held c refl, failed c refl) refl
 
-module _ (t : Litmus) (depth : ℕ) (outcomes others : List Outcome) (same : values_of t outcomes ≡ values_of t others) (alike : AreAlike t (without outcomes) (without others)) where
-  as-lines : outcomes_in false t depth (without outcomes) ≡ outcomes_in false t depth (without others)
+module _ (t : Litmus) (names : List Named) (depth : ℕ) (outcomes others : List Outcome) (same : values_of names outcomes ≡ values_of names others)
+    (alike : AreAlike t names (without outcomes) (without others)) where
+  met : is_met_in t.condition (without outcomes) ≡ is_met_in t.condition (without others)
+  met = same-met t.condition (without outcomes) (without others) alike.held alike.failed
+
+  as-lines : outcomes_in false t names depth (without outcomes) ≡ outcomes_in false t names depth (without others)
   as-lines =
       let size : length (without outcomes) ≡ length (without others) =
-      length-map outcomes without_choices ∙ sym (length-map outcomes (shown_values t)) ∙ ap (λ (vs : List (List ℕ)). length vs) same
-      ∙ length-map others (shown_values t) ∙ sym (length-map others without_choices) in
-      let lines : outcome_lines t (without outcomes) ≡ outcome_lines t (without others) =
-      lines-are t outcomes ∙ ap (lines_of t) same ∙ sym (lines-are t others) in
-      let last = observed-line t.name t.condition (without outcomes) (without others) alike.held alike.failed in
+      length-map outcomes without_choices ∙ sym (length-map outcomes (shown_values names)) ∙ ap (λ (vs : List (List ℕ)). length vs) same
+      ∙ length-map others (shown_values names) ∙ sym (length-map others without_choices) in
+      let lines : outcome_lines t names (without outcomes) ≡ outcome_lines t names (without others) =
+      lines-are t names outcomes ∙ ap (lines_of t names) same ∙ sym (lines-are t names others) in
+      let observed = observed-line t.name t.condition (without outcomes) (without others) alike.held alike.failed in
+      let numbers = numbers-line t.condition (without outcomes) (without others) alike.numbers in
+      let last : condition_lines t.name t.condition (without outcomes) ≡ condition_lines t.name t.condition (without others) =
+      λ i. observed i ++ (numbers i ++ verdict_line t.condition (met i)) in
       λ i. test_line t ++ (outcomes_line depth (size i) ++ (lines i ++ last i))
 
-  as-json : outcomes_in true t depth (without outcomes) ≡ outcomes_in true t depth (without others)
+  as-json : outcomes_in true t names depth (without outcomes) ≡ outcomes_in true t names depth (without others)
   as-json =
-      let states = states-are (state_value t) t outcomes ∙ ap (λ vs. map (λ v. state_value t v []) vs) same ∙ sym (states-are (state_value t) t others) in
+      let value = λ (v : List ℕ) (h : Option Bool). state_value t names v [] h in
+      let states = states-are (state_value t names) t names outcomes ∙ ap (λ vs. made_of value vs (map (holds_in t.condition) (without outcomes))) same
+      ∙ ap (made_of value (values_of names others)) alike.holds ∙ sym (states-are (state_value t names) t names others) in
       let observation = observed-value t.condition (without outcomes) (without others) alike.held alike.failed in
-      rw (observation, states) refl
+      let verdict = ap (verdict_value t.condition) met in
+      rw (observation, verdict, states) refl
 
-  in-either : (form : Bool) → outcomes_in form t depth (without outcomes) ≡ outcomes_in form t depth (without others)
+  in-either : (form : Bool) → outcomes_in form t names depth (without outcomes) ≡ outcomes_in form t names depth (without others)
   in-either false = as-lines
   in-either true = as-json
 
@@ -95,13 +120,14 @@ one-search : (test : List ℕ) (t : Litmus) (s : Search) (json again : Bool) (ou
 one-search test t s json again out other law is spelled (too_many more line) q = first_shows_none t spelled (record { more = more; printed = line })
 one-search test t s json again out other law is spelled (all p) (too_many more line) = second_shows_none t spelled (record { more = more; printed = line })
 one-search test t s json again out other law is spelled (all p) (all q) =
-    let there = each-there t s.depth p.outcomes q.outcomes p.all q.all in
-    let back = each-there t s.depth q.outcomes p.outcomes q.all p.all in
-    let alike = law t p.outcomes q.outcomes is p.all.ascending q.all.ascending (λ values. (there values, back values)) in
-    let left = same-values t p.outcomes in
-    let right = same-values t q.outcomes in
+    let names = named_in s.show t in
+    let there = each-there t names s.depth p.outcomes q.outcomes p.all q.all in
+    let back = each-there t names s.depth q.outcomes p.outcomes q.all p.all in
+    let alike = law s.show t p.outcomes q.outcomes is p.all.ascending q.all.ascending (λ values. (there values, back values)) in
+    let left = same-values names p.outcomes in
+    let right = same-values names q.outcomes in
     let stripped =
-    law t (without p.outcomes) (without q.outcomes) is (subst Ascends (sym left) p.all.ascending) (subst Ascends (sym right) q.all.ascending)
+    law s.show t (without p.outcomes) (without q.outcomes) is (subst Ascends (sym left) p.all.ascending) (subst Ascends (sym right) q.all.ascending)
     (λ values. (
       (λ has. subst (λ vs. Contains vs values) (sym right) (there values (subst (λ vs. Contains vs values) left has))),
       (λ has. subst (λ vs. Contains vs values) (sym left) (back values (subst (λ vs. Contains vs values) right has))),
@@ -112,14 +138,14 @@ one-search test t s json again out other law is spelled (all p) (all q) =
       first = p.printed;
       second = q.printed;
       alike = alike;
-      but_for_choices = in-either t s.depth p.outcomes q.outcomes alike.values stripped;
+      but_for_choices = in-either t names s.depth p.outcomes q.outcomes alike.values stripped;
     })
 
 -- ---- of whole inputs
 
-parts-one-search : (s : Search) (json again : Bool) (parts : Parts) (out other : List ℕ) → AreReadOneWay → AreDecided → OutcomesOfTheSameValuesAreAlike
-    → PartsHeadline (settings.Outcomes s json) parts out → PartsHeadline (settings.Outcomes s again) parts other → AreOneSearch parts.test s json again out other
-parts-one-search s json again parts out other texts decided law p q = by_text (decided.tests parts.test).always
+parts-one-search : (s : Search) (json again assert asserted : Bool) (parts : Parts) (out other : List ℕ) → AreReadOneWay → AreDecided → OutcomesOfTheSameValuesAreAlike
+    → PartsHeadline (settings.Outcomes s json assert) parts out → PartsHeadline (settings.Outcomes s again asserted) parts other → AreOneSearch parts.test s json again out other
+parts-one-search s json again assert asserted parts out other texts decided law p q = by_text (decided.tests parts.test).always
   where
     by_text : ((t : Litmus) × SpellsTest parts.test t) ⊎ ((fault : TextFault) × IsRefusedTest parts.test fault) → AreOneSearch parts.test s json again out other
     by_text (inl spells) =
@@ -130,11 +156,11 @@ parts-one-search s json again parts out other texts decided law p q = by_text (d
         let second = q.every_other none in
         one_text (first.2 ∙ ap test_refusal (texts.one_refusal parts.test first.0 second.0 first.1 second.1) ∙ sym second.2)
 
-pub searches-one : (s : Search) (json again : Bool) (input out other : List ℕ) → AreReadOneWay → AreDecided → OutcomesOfTheSameValuesAreAlike
-    → InputHeadline (settings.Outcomes s json) input out → InputHeadline (settings.Outcomes s again) input other
+pub searches-one : (s : Search) (json again assert asserted : Bool) (input out other : List ℕ) → AreReadOneWay → AreDecided → OutcomesOfTheSameValuesAreAlike
+    → InputHeadline (settings.Outcomes s json assert) input out → InputHeadline (settings.Outcomes s again asserted) input other
     → AreOneSearch (parts_of input).test s json again out other
-searches-one s json again input out other texts decided law p q = by_size (sizes (length input) longest_input)
+searches-one s json again assert asserted input out other texts decided law p q = by_size (sizes (length input) longest_input)
   where
     by_size : (length input ≤ longest_input) ⊎ (longest_input < length input) → AreOneSearch (parts_of input).test s json again out other
-    by_size (inl small) = parts-one-search s json again (parts_of input) out other texts decided law (p.within small) (q.within small)
+    by_size (inl small) = parts-one-search s json again assert asserted (parts_of input) out other texts decided law (p.within small) (q.within small)
     by_size (inr large) = one_text (p.above large ∙ sym (q.above large))

@@ -10,12 +10,12 @@ use Rattle.tso_model.specs.declared.execution.Entry.{Entry}
 use Rattle.outcome_laws.specs.Outcomes.{IsEnd, IsSequentiallyConsistent, EndsAreWhatTsoAllows, ChoicesToAnEndAreCounted}
 use Rattle.scheduler.specs.Grammar.{SpellsChoices}
 use Rattle.scheduler.specs.Printed.{printed_choices}
-use Rattle.tso_report.specs.Tally.{values_in}
+use Rattle.tso_report.specs.declared.named.Named.{Named}
+use Rattle.shown_values.specs.Shown.{named_in, values_at}
 use Rattle.outcome_report.specs.Outcomes.{Outcome, shown_values}
 use Rattle.command_line.specs.Search.{Search}
 use Rattle.commands.specs.Outcomes.{AreAllOutcomes, IsOutcomesAnswer, found, too_many}
-use Rattle.tso_cli.specs.OutcomesHeadline.{AreExactly, HeadlineOfOutcomes, all, too_many}
-use Rattle.tso_cli.specs.SweepHeadline.{values_after}
+use Rattle.tso_cli.specs.OutcomesHeadline.{shown_after, AreExactly, HeadlineOfOutcomes, all, too_many}
 use Rattle.commands.specs.declared.answer.Status.{Status}
 use Rattle.commands.proofs.FoundOutcomes.{Leads, made-of}
 use Rattle.tso_cli.proofs.WitnessLemmas.{Reaching, work-within}
@@ -37,35 +37,37 @@ end-of t depth o lead = record {
 }
 
 -- values are printed exactly where an end has them
-exactly : (t : Litmus) (depth : ℕ) (outcomes : List Outcome) (Allowed : List Entry → Type 0) → AreAllOutcomes t depth outcomes
+exactly : (t : Litmus) (names : List Named) (depth : ℕ) (outcomes : List Outcome) (Allowed : List Entry → Type 0) → AreAllOutcomes t names depth outcomes
     → ((registers : List (List ℕ)) (memory : List ℕ) → IsEnd t depth registers memory → (order : List Entry) × Allowed order × (final_registers t order ≡ registers) × (final_words t order ≡ memory))
     → ((order : List Entry) → Allowed order → IsEnd t depth (final_registers t order) (final_words t order))
-    → AreExactly t outcomes Allowed
-exactly t depth outcomes Allowed are from to values = (there, back)
+    → AreExactly t names outcomes Allowed
+exactly t names depth outcomes Allowed are from to values = (there, back)
   where
-    there : Contains (map (shown_values t) outcomes) values → (order : List Entry) × Allowed order × (values_after t order ≡ values)
+    there : Contains (map (shown_values names) outcomes) values → (order : List Entry) × Allowed order × (shown_after t names order ≡ values)
     there has =
-        let made = made-of (shown_values t) outcomes values has in
+        let made = made-of (shown_values names) outcomes values has in
         let o = made.0 in
         let allowed = from o.registers o.memory (end-of t depth o (All-contains (Leads t depth) outcomes o are.reached made.1)) in
-        (allowed.0, allowed.1, ap (λ r. values_in t r (final_words t allowed.0)) allowed.2 ∙ (ap (λ m. values_in t o.registers m) allowed.3 ∙ made.2))
+        (allowed.0, allowed.1, ap (λ r. values_at names r (final_words t allowed.0)) allowed.2 ∙ (ap (λ m. values_at names o.registers m) allowed.3 ∙ made.2))
 
-    back : (order : List Entry) × Allowed order × (values_after t order ≡ values) → Contains (map (shown_values t) outcomes) values
+    back : (order : List Entry) × Allowed order × (shown_after t names order ≡ values) → Contains (map (shown_values names) outcomes) values
     back (order, allowed, is) =
-        subst (λ v. Contains (map (shown_values t) outcomes) v) is (are.complete (final_registers t order) (final_words t order) (to order allowed))
+        subst (λ v. Contains (map (shown_values names) outcomes) v) is (are.complete (final_registers t order) (final_words t order) (to order allowed))
 
-exactly-tso : (t : Litmus) (outcomes : List Outcome) → EndsAreWhatTsoAllows → IsTest t → AreAllOutcomes t most_depth outcomes → AreExactly t outcomes (IsTsoExecution t)
-exactly-tso t outcomes laws test are =
-    exactly t most_depth outcomes (IsTsoExecution t) are
+exactly-tso : (t : Litmus) (names : List Named) (outcomes : List Outcome) → EndsAreWhatTsoAllows → IsTest t → AreAllOutcomes t names most_depth outcomes
+    → AreExactly t names outcomes (IsTsoExecution t)
+exactly-tso t names outcomes laws test are =
+    exactly t names most_depth outcomes (IsTsoExecution t) are
     (λ registers memory end.
     let allowed = (laws.at_the_greatest t registers memory test).0 end in
     (allowed.order, allowed.execution, allowed.registers_are, allowed.memory_is))
     (λ order is. (laws.at_the_greatest t (final_registers t order) (final_words t order) test).1
     (record { order = order; execution = is; registers_are = refl; memory_is = refl }))
 
-exactly-sequential : (t : Litmus) (outcomes : List Outcome) → EndsAreWhatTsoAllows → IsTest t → AreAllOutcomes t 0 outcomes → AreExactly t outcomes (IsSequentiallyConsistent t)
-exactly-sequential t outcomes laws test are =
-    exactly t 0 outcomes (IsSequentiallyConsistent t) are
+exactly-sequential : (t : Litmus) (names : List Named) (outcomes : List Outcome) → EndsAreWhatTsoAllows → IsTest t → AreAllOutcomes t names 0 outcomes
+    → AreExactly t names outcomes (IsSequentiallyConsistent t)
+exactly-sequential t names outcomes laws test are =
+    exactly t names 0 outcomes (IsSequentiallyConsistent t) are
     (λ registers memory end.
     let allowed = (laws.unbuffered t registers memory test).0 end in
     (allowed.order, allowed.consistent, allowed.registers_are, allowed.memory_is))
@@ -90,16 +92,16 @@ choices-spell t depth o reaching searches test lead =
     subst (λ text. SpellsChoices (length t.programs) text o.choices) (append-nil (printed_choices o.choices))
     (reaching.spelled (length t.programs) o.choices [] (omega arith) lead.cores (omega arith) refl)
 
-pub outcomes-mean : (t : Litmus) (s : Search) (json : Bool) (out : List ℕ) (status : Status) → Reaching → Searches → IsTest t
-    → IsOutcomesAnswer t s json out status → HeadlineOfOutcomes t s json out
-outcomes-mean t s json _ _ reaching searches test (found outcomes are) =
+pub outcomes-mean : (t : Litmus) (s : Search) (json assert : Bool) (out : List ℕ) (status : Status) → Reaching → Searches → IsTest t
+    → IsOutcomesAnswer t s json assert out status → HeadlineOfOutcomes t s json out
+outcomes-mean t s json assert _ _ reaching searches test (found outcomes are) =
     all (record {
       outcomes = outcomes;
       printed = refl;
       all = are;
-      tso = λ greatest. exactly-tso t outcomes searches.ends test (subst (λ depth. AreAllOutcomes t depth outcomes) greatest are);
-      sequential = λ none. exactly-sequential t outcomes searches.ends test (subst (λ depth. AreAllOutcomes t depth outcomes) none are);
+      tso = λ greatest. exactly-tso t (named_in s.show t) outcomes searches.ends test (subst (λ depth. AreAllOutcomes t (named_in s.show t) depth outcomes) greatest are);
+      sequential = λ none. exactly-sequential t (named_in s.show t) outcomes searches.ends test (subst (λ depth. AreAllOutcomes t (named_in s.show t) depth outcomes) none are);
       spelled = All-weaker (Leads t s.depth) (λ o. SpellsChoices (length t.programs) (printed_choices o.choices) o.choices)
           (λ o lead. choices-spell t s.depth o reaching searches test lead) outcomes are.reached;
     })
-outcomes-mean t s json _ _ reaching searches test (too_many more) = too_many more refl
+outcomes-mean t s json assert _ _ reaching searches test (too_many more) = too_many more refl

@@ -112,8 +112,8 @@ execution-means t e json out reaching test is = record {
   shown = is.shown;
 }
 
-pub reasons-mean : (t : Litmus) (e : Explanation) (json : Bool) (out : List ℕ) (status : Status) → Reaching → Refuting → IsTest t
-    → IsWhyAnswer t e json out status → HeadlineOfReasons t e json out
-reasons-mean t e json _ _ reaching laws test (never nodes refuted) = never (refutation-means t e.model json nodes laws test refuted)
-reasons-mean t e json _ _ reaching laws test (allowed out is) = allowed (execution-means t e json out reaching test is)
-reasons-mean t e json _ _ reaching laws test (too_many more fewer) = too_many more fewer refl
+pub reasons-mean : (t : Litmus) (e : Explanation) (json assert : Bool) (out : List ℕ) (status : Status) → Reaching → Refuting → IsTest t
+    → IsWhyAnswer t e json assert out status → HeadlineOfReasons t e json out
+reasons-mean t e json assert _ _ reaching laws test (never nodes refuted) = never (refutation-means t e.model json nodes laws test refuted)
+reasons-mean t e json assert _ _ reaching laws test (allowed out is) = allowed (execution-means t e json out reaching test is)
+reasons-mean t e json assert _ _ reaching laws test (too_many more fewer) = too_many more fewer refl

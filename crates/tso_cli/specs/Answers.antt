@@ -1,6 +1,6 @@
 -- The answer to an input: what is written, and the status. Everything that the program promises is said of this; that each
 -- answer meets the headline is a law of it.
-use Rattle.std.specs.Prelude.{ℕ, ◌+◌, ◌<◌, ◌≤◌, ◌≡◌, List, length, Option, IfSome}
+use Rattle.std.specs.Prelude.{ℕ, ◌+◌, ◌<◌, ◌≤◌, ◌≡◌, ◌⊎◌, List, length, Option, IfSome}
 use Rattle.tso_model.specs.Litmus.{Litmus}
 use Rattle.litmus_reader.specs.Spelling.{SpellsTest, IsRefused as IsRefusedTest}
 use Rattle.litmus_reader.specs.declared.fault.TextFault.{TextFault}
@@ -18,7 +18,7 @@ use Rattle.commands.specs.Why.{IsWhyAnswer}
 use Rattle.commands.specs.Witness.{IsWitnessAnswer}
 use Rattle.command_line.specs.declared.settings.Settings.{Settings}
 use Rattle.commands.specs.declared.answer.Status.{Status}
-use Rattle.commands.specs.declared.answer.Status.TheVariants.{Good, Refused}
+use Rattle.commands.specs.declared.answer.Status.TheVariants.{Good, Refused, NotAsClaimed}
 use Rattle.commands.specs.Answers.{IsCheckAnswer, IsRunAnswer}
 use Rattle.command_line.specs.declared.settings.Settings.TheVariants as settings
 
@@ -52,6 +52,10 @@ pub data IsInputAnswer (s : Settings) (input : List ℕ) : List ℕ → Status �
 abbrev pub IsAnswer : Settings → Option (List ℕ) → List ℕ → Status → Type 0
 IsAnswer (settings.Tables kind) known out status = IsTableAnswer kind out status
 IsAnswer s known out status = IfSome known (λ input. IsInputAnswer s input out status)
+
+-- what was asked for was printed: the answer is good, or its status tells that the condition isn't as it claims
+abbrev pub IsPrinted : Status → Type 0
+IsPrinted status = (status ≡ Good) ⊎ (status ≡ NotAsClaimed)
 
 -- maximum number of bytes that are read: one more than an input may have shows that it has too many
 abbrev pub most_read : Settings → ℕ

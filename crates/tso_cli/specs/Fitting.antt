@@ -6,6 +6,7 @@ use Rattle.tso_model.specs.declared.choice.Choice.{Choice}
 use Rattle.scheduler.specs.Limits.{most_choices}
 use Rattle.protocol_tables.specs.declared.kind.ProtocolKind.{ProtocolKind}
 use Rattle.machine_core.specs.Configuration.{Configuration}
+use Rattle.tso_report.specs.declared.named.Named.{Named}
 use Rattle.tso_report.specs.Shown.{Shown, IsOf}
 use Rattle.tso_report.specs.Limits.{IsSmall}
 use Rattle.tso_report.specs.Tally.{RunCounts, looked_at, ended_in, runs_in}
@@ -19,10 +20,14 @@ pub record FitsTest (t : Litmus) (s : Shown) : Type 0 where
   pub of_test : IsOf t s
   pub small : IsSmall t s
 
--- a word for each register and location that is looked at
-pub record IsStateOf (t : Litmus) (values : List ℕ) : Type 0 where
-  pub each : length values ≡ length (looked_at t)
+-- a word for each of these registers and locations
+pub record IsStateAt (names : List Named) (values : List ℕ) : Type 0 where
+  pub each : length values ≡ length names
   pub words : All IsWord values
+
+-- a word for each register and location that is looked at
+abbrev pub IsStateOf : Litmus → List ℕ → Type 0
+IsStateOf t values = IsStateAt (looked_at t) values
 
 -- runs of this test, fewer than 2^64: what they ended in are states of it, and each run that ended made the condition's
 -- proposition true or false, if there is a condition

@@ -4,6 +4,7 @@ use Rattle.std.specs.Prelude.{ℕ, ◌≡◌, Bool, List, [], map}
 use Rattle.tso_model.specs.Litmus.{Litmus}
 use Rattle.litmus_reader.specs.Spelling.{SpellsTest}
 use Rattle.explorer.specs.FinalStates.{HasMoreStates}
+use Rattle.shown_values.specs.Shown.{named_in}
 use Rattle.outcome_report.specs.Outcomes.{Outcome}
 use Rattle.outcome_report.specs.Printed.{outcomes_in, unfinished_search_in}
 use Rattle.outcome_report.specs.Laws.{AreAlike}
@@ -14,14 +15,15 @@ abbrev pub without_choices : Outcome → Outcome
 without_choices o = record { registers = o.registers; memory = o.memory; choices = [] }
 
 -- both texts show final states of the test, and these are alike; with the choices left out they are one text, in either form
-pub record ShowOneSearch (t : Litmus) (depth : ℕ) (json again : Bool) (out other : List ℕ) : Type 0 where
+pub record ShowOneSearch (t : Litmus) (s : Search) (json again : Bool) (out other : List ℕ) : Type 0 where
   pub outcomes : List Outcome
   pub others : List Outcome
-  pub first : out ≡ outcomes_in json t depth outcomes
-  pub second : other ≡ outcomes_in again t depth others
-  pub alike : AreAlike t outcomes others
+  pub first : out ≡ outcomes_in json t (named_in s.show t) s.depth outcomes
+  pub second : other ≡ outcomes_in again t (named_in s.show t) s.depth others
+  pub alike : AreAlike t (named_in s.show t) outcomes others
   pub but_for_choices : (form : Bool)
-      → outcomes_in form t depth (map without_choices outcomes) ≡ outcomes_in form t depth (map without_choices others)
+      → outcomes_in form t (named_in s.show t) s.depth (map without_choices outcomes)
+      ≡ outcomes_in form t (named_in s.show t) s.depth (map without_choices others)
 
 -- the text shows no state: it says that the machine can reach more of them than may be kept
 pub record ShowsNoState (t : Litmus) (s : Search) (json : Bool) (out : List ℕ) : Type 0 where
@@ -31,6 +33,6 @@ pub record ShowsNoState (t : Litmus) (s : Search) (json : Bool) (out : List ℕ)
 -- two texts are one, the same refusal; or both show the states of the test that was given; or one of them shows none
 pub data AreOneSearch (test : List ℕ) (s : Search) (json again : Bool) (out other : List ℕ) : Type 0 where
   one_text : out ≡ other → AreOneSearch test s json again out other
-  both_show : (t : Litmus) → SpellsTest test t → ShowOneSearch t s.depth json again out other → AreOneSearch test s json again out other
+  both_show : (t : Litmus) → SpellsTest test t → ShowOneSearch t s json again out other → AreOneSearch test s json again out other
   first_shows_none : (t : Litmus) → SpellsTest test t → ShowsNoState t s json out → AreOneSearch test s json again out other
   second_shows_none : (t : Litmus) → SpellsTest test t → ShowsNoState t s again other → AreOneSearch test s json again out other

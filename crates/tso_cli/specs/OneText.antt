@@ -14,9 +14,11 @@ use Rattle.trace_report.specs.Lines.{trace_text}
 use Rattle.trace_report.specs.Shown.{Shown as Step}
 use Rattle.tso_report.specs.Json.{json_report}
 use Rattle.trace_json.specs.TracedRun.{json_ended}
+use Rattle.shown_values.specs.Shown.{named_in}
 use Rattle.outcome_report.specs.Outcomes.{Outcome}
 use Rattle.outcome_report.specs.Printed.{outcomes_in}
 use Rattle.outcome_report.specs.Laws.{AreAlike}
+use Rattle.command_line.specs.Search.{Search}
 use Rattle.commands.specs.RunTexts.{report_in}
 use Rattle.command_line.specs.declared.settings.Settings.{Settings}
 use Rattle.command_line.specs.declared.settings.Settings.TheVariants as settings
@@ -24,8 +26,8 @@ use Rattle.command_line.specs.declared.settings.Settings.TheVariants as settings
 -- its answer is one text; of `outcomes` it isn't said which of the choices that lead to a state are printed, nor of which tests the
 -- states are too many, where they are more than may be kept; of `why` not which refutation or which execution is printed
 abbrev pub GivesOneAnswer : Settings → Type 0
-GivesOneAnswer (settings.Outcomes search json) = ⊥
-GivesOneAnswer (settings.Why plan json) = ⊥
+GivesOneAnswer (settings.Outcomes search json assert) = ⊥
+GivesOneAnswer (settings.Why plan json assert) = ⊥
 GivesOneAnswer _ = Unit {0}
 
 -- two reports show the same order, registers, memory and verdict of one test; the counts of choices and of accesses may differ
@@ -70,13 +72,13 @@ AreOneTrace kind c false out other = (out ≡ other) ⊎ TraceOneExecution kind 
 AreOneTrace kind c true out other = (out ≡ other) ⊎ TraceOneObject kind c out other
 
 -- two texts of `outcomes` show final states of one test that are alike; which choices lead to them may differ
-pub record ShowTheSameStates (depth : ℕ) (json : Bool) (out other : List ℕ) : Type 0 where
+pub record ShowTheSameStates (s : Search) (json : Bool) (out other : List ℕ) : Type 0 where
   pub t : Litmus
   pub outcomes : List Outcome
   pub others : List Outcome
-  pub first : out ≡ outcomes_in json t depth outcomes
-  pub second : other ≡ outcomes_in json t depth others
-  pub alike : AreAlike t outcomes others
+  pub first : out ≡ outcomes_in json t (named_in s.show t) s.depth outcomes
+  pub second : other ≡ outcomes_in json t (named_in s.show t) s.depth others
+  pub alike : AreAlike t (named_in s.show t) outcomes others
 
 -- two texts spell choices of one test that lead to one order at this depth; which choices they are may differ
 pub record ReachOneOrder (depth : ℕ) (out other : List ℕ) : Type 0 where

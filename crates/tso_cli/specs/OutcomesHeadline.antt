@@ -1,38 +1,45 @@
--- What `outcomes` prints: every final state that TSO allows, and how to get there.
+-- What `outcomes` prints: every final state that TSO allows, by the values that are shown, and how to get there.
 -- (Primer, chapter 4, for the axioms, and chapter 3 for sequential consistency.)
 use Rattle.std.specs.Prelude.{ℕ, ◌≡◌, ◌↔◌, Bool, List, length, map, All, Contains}
 use Rattle.tso_model.specs.Limits.{most_depth}
 use Rattle.tso_model.specs.Litmus.{Litmus}
 use Rattle.tso_model.specs.Axioms.{IsTsoExecution}
+use Rattle.tso_model.specs.FinalState.{final_words, final_registers}
 use Rattle.tso_model.specs.declared.execution.Entry.{Entry}
 use Rattle.outcome_laws.specs.Outcomes.{IsSequentiallyConsistent}
 use Rattle.explorer.specs.FinalStates.{HasMoreStates}
 use Rattle.scheduler.specs.Grammar.{SpellsChoices}
 use Rattle.scheduler.specs.Printed.{printed_choices}
+use Rattle.tso_report.specs.declared.named.Named.{Named}
+use Rattle.shown_values.specs.Shown.{named_in, values_at}
 use Rattle.outcome_report.specs.Outcomes.{Outcome, shown_values}
 use Rattle.outcome_report.specs.Printed.{outcomes_in, unfinished_search_in}
 use Rattle.command_line.specs.Search.{Search}
 use Rattle.commands.specs.Outcomes.{AreAllOutcomes}
-use Rattle.tso_cli.specs.SweepHeadline.{values_after}
+
+-- the values that the final state of an order has at these names
+abbrev pub shown_after : Litmus → List Named → List Entry → List ℕ
+shown_after t names order = values_at names (final_registers t order) (final_words t order)
 
 -- the printed values are exactly those that the final states of such orders have
-abbrev pub AreExactly : Litmus → List Outcome → (List Entry → Type 0) → Type 0
-AreExactly t outcomes Allowed =
-    (values : List ℕ) → Contains (map (shown_values t) outcomes) values ↔ ((order : List Entry) × Allowed order × (values_after t order ≡ values))
+abbrev pub AreExactly : Litmus → List Named → List Outcome → (List Entry → Type 0) → Type 0
+AreExactly t names outcomes Allowed =
+    (values : List ℕ) → Contains (map (shown_values names) outcomes) values
+    ↔ ((order : List Entry) × Allowed order × (shown_after t names order ≡ values))
 
--- what was printed are all final states that runs at this depth end in, each once and with choices that lead there; at the greatest
--- depth these are exactly what TSO executions leave, and at depth 0, where no core has a store buffer, exactly what sequentially
--- consistent ones leave; and the choices of each can be read again, as `run` reads them
-pub record PrintsAllOutcomes (t : Litmus) (depth : ℕ) (json : Bool) (out : List ℕ) : Type 0 where
+-- what was printed are all final states that runs at this depth end in, by the values that are shown, each once and with choices that
+-- lead there; at the greatest depth these are exactly what TSO executions leave, and at depth 0, where no core has a store buffer,
+-- exactly what sequentially consistent ones leave; and the choices of each can be read again, as `run` reads them
+pub record PrintsAllOutcomes (t : Litmus) (s : Search) (json : Bool) (out : List ℕ) : Type 0 where
   pub outcomes : List Outcome
-  pub printed : out ≡ outcomes_in json t depth outcomes
-  pub all : AreAllOutcomes t depth outcomes
-  pub tso : depth ≡ most_depth → AreExactly t outcomes (IsTsoExecution t)
-  pub sequential : depth ≡ 0 → AreExactly t outcomes (IsSequentiallyConsistent t)
+  pub printed : out ≡ outcomes_in json t (named_in s.show t) s.depth outcomes
+  pub all : AreAllOutcomes t (named_in s.show t) s.depth outcomes
+  pub tso : s.depth ≡ most_depth → AreExactly t (named_in s.show t) outcomes (IsTsoExecution t)
+  pub sequential : s.depth ≡ 0 → AreExactly t (named_in s.show t) outcomes (IsSequentiallyConsistent t)
   pub spelled : All (λ o. SpellsChoices (length t.programs) (printed_choices o.choices) o.choices) outcomes
 
 -- that, or one line which says that the machine can reach more states than may be kept: then no state is printed, so that nobody
 -- takes a part for the whole
 pub data HeadlineOfOutcomes (t : Litmus) (s : Search) (json : Bool) (out : List ℕ) : Type 0 where
-  all : PrintsAllOutcomes t s.depth json out → HeadlineOfOutcomes t s json out
+  all : PrintsAllOutcomes t s json out → HeadlineOfOutcomes t s json out
   too_many : HasMoreStates t s.depth s.states → out ≡ unfinished_search_in json t s.states → HeadlineOfOutcomes t s json out

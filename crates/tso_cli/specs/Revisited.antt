@@ -7,7 +7,9 @@ use Rattle.scheduler.specs.Printed.{printed_choices}
 use Rattle.protocol_tables.specs.declared.kind.ProtocolKind.{ProtocolKind}
 use Rattle.machine_core.specs.Configuration.{Configuration}
 use Rattle.tso_report.specs.Shown.{Shown}
-use Rattle.tso_report.specs.Tally.{values_in}
+use Rattle.tso_report.specs.declared.named.Named.{Named}
+use Rattle.shown_values.specs.Shown.{named_in, values_at}
+use Rattle.shown_values.specs.declared.show.Show.{Show}
 use Rattle.outcome_report.specs.Outcomes.{Outcome, shown_values}
 use Rattle.outcome_report.specs.Printed.{outcomes_in}
 use Rattle.command_line.specs.declared.settings.Settings.TheVariants as settings
@@ -17,25 +19,27 @@ use Rattle.commands.specs.RunTexts.{report_in}
 use Rattle.commands.specs.declared.answer.Status.{Status}
 use Rattle.commands.specs.declared.answer.Status.TheVariants.{Good}
 
--- what is written is the report of a run that ended with these values; none of its choices stalled, and none was left over
-pub record ReportsValues (t : Litmus) (kind : ProtocolKind) (c : Configuration) (json : Bool) (values out : List ℕ) : Type 0 where
+-- what is written is the report of a run that ended with these values at these names; none of its choices stalled, and none was left
+-- over
+pub record ReportsValues (t : Litmus) (names : List Named) (kind : ProtocolKind) (c : Configuration) (json : Bool) (values out : List ℕ)
+    : Type 0 where
   pub shown : Shown
   pub printed : out ≡ report_in json t kind c shown
-  pub values_are : values_in t shown.registers shown.memory ≡ values
+  pub values_are : values_at names shown.registers shown.memory ≡ values
   pub stalled : shown.stalled ≡ 0
   pub unused : shown.unused ≡ 0
 
 -- whatever `run` answers to such choices of an outcome, put after the test and a dividing line, is such a report, and a success
-abbrev pub IsRevisited : ProtocolKind → Configuration → Bool → List ℕ → Litmus → Outcome → Type 0
-IsRevisited kind c json test t o =
+abbrev pub IsRevisited : ProtocolKind → Configuration → Bool → List ℕ → Litmus → List Named → Outcome → Type 0
+IsRevisited kind c json test t names o =
     (answer : List ℕ) (status : Status)
     → IsAnswer (settings.Run kind c json) (Some (joined test (printed_choices o.choices))) answer status
-    → ReportsValues t kind c json (shown_values t o) answer × (status ≡ Good)
+    → ReportsValues t names kind c json (shown_values names o) answer × (status ≡ Good)
 
 -- so it is with each state of the given test that was printed
-pub record AreRevisited (kind : ProtocolKind) (c : Configuration) (json told : Bool) (test out : List ℕ) : Type 0 where
+pub record AreRevisited (kind : ProtocolKind) (c : Configuration) (show : Show) (json told : Bool) (test out : List ℕ) : Type 0 where
   pub t : Litmus
   pub spelled : SpellsTest test t
   pub outcomes : List Outcome
-  pub printed : out ≡ outcomes_in told t c.depth outcomes
-  pub each : All (IsRevisited kind c json test t) outcomes
+  pub printed : out ≡ outcomes_in told t (named_in show t) c.depth outcomes
+  pub each : All (IsRevisited kind c json test t (named_in show t)) outcomes

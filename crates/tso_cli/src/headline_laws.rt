@@ -38,11 +38,11 @@ pub fn headlines_leave_one_text()
         → InputHeadline Settings.Check input out → InputHeadline Settings.Check input other → out ≡ other }
     ensures witnesses { (depth : ℕ) (input out other : List ℕ)
         → InputHeadline (Settings.Witness depth) input out → InputHeadline (Settings.Witness depth) input other → AreOneWitness depth out other }
-    ensures outcomes { (search : Search) (json again : Bool) (input out other : List ℕ)
-        → InputHeadline (Settings.Outcomes search json) input out → InputHeadline (Settings.Outcomes search again) input other
+    ensures outcomes { (search : Search) (json again assert asserted : Bool) (input out other : List ℕ)
+        → InputHeadline (Settings.Outcomes search json assert) input out → InputHeadline (Settings.Outcomes search again asserted) input other
         → AreOneSearch (parts_of input).test search json again out other }
-    ensures reasons { (plan another : Explanation) (json again : Bool) (input out other : List ℕ) → plan.model ≡ another.model
-        → InputHeadline (Settings.Why plan json) input out → InputHeadline (Settings.Why another again) input other
+    ensures reasons { (plan another : Explanation) (json again assert asserted : Bool) (input out other : List ℕ) → plan.model ≡ another.model
+        → InputHeadline (Settings.Why plan json assert) input out → InputHeadline (Settings.Why another again asserted) input other
         → AreOneReason (parts_of input).test plan another json again out other }
 {
     texts_are_read_one_way();

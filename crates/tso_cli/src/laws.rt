@@ -14,7 +14,7 @@ ghost use Rattle.tso_laws.specs.Depth.{needed};
 ghost use Rattle.refutation_laws.specs.Models.{depth_of};
 ghost use Rattle.protocol_tables.specs.declared.kind.ProtocolKind.{ProtocolKind};
 ghost use Rattle.machine_core.specs.Configuration.{Configuration};
-ghost use Rattle.tso_cli.specs.Answers.{IsAnswer};
+ghost use Rattle.tso_cli.specs.Answers.{IsAnswer, IsPrinted};
 ghost use Rattle.commands.specs.Answers.{IsCheckAnswer};
 ghost use Rattle.commands.specs.CheckLines.{valid_line};
 ghost use Rattle.tso_cli.specs.Explained.{IsExplained};
@@ -81,14 +81,16 @@ pub(crate) fn texts_are_read_one_way()
 
 /// There is one answer to an input: the same bytes, and the same status. Of `outcomes` it isn't said which of the choices that
 /// lead to a state are printed; nor, where the machine can reach more states than may be kept, whether they are told as too many.
-/// Where they aren't, the states are the same, in the same order, and so are the counts. Of `why` it isn't said which refutation or
+/// Where they aren't, the states are the same, in the same order, and so are the counts, the verdict and the status. Of `why` it isn't said which refutation or
 /// which execution is printed.
 pub fn inputs_have_one_answer()
     ensures commands { (s : Settings) (input out other : List ℕ) (status again : Status)
         → GivesOneAnswer s → IsAnswer s (Some input) out status → IsAnswer s (Some input) other again → (out ≡ other) × (status ≡ again) }
-    ensures searches { (search : Search) (json : Bool) (input out other : List ℕ)
-        → IsAnswer (Settings.Outcomes search json) (Some input) out Good → IsAnswer (Settings.Outcomes search json) (Some input) other Good
-        → ShowTheSameStates search.depth json out other }
+    ensures searches { (search : Search) (json assert : Bool) (input out other : List ℕ) (status again : Status)
+        → IsPrinted status → IsPrinted again
+        → IsAnswer (Settings.Outcomes search json assert) (Some input) out status
+        → IsAnswer (Settings.Outcomes search json assert) (Some input) other again
+        → ShowTheSameStates search json out other × (status ≡ again) }
 {
     texts_are_read_one_way();
     outcomes_of_the_same_values_are_alike();
@@ -202,10 +204,10 @@ pub fn witnesses_reach_their_orders()
 /// answered with the report of a run that ended with the printed values, and with the status of success, whatever the protocol and
 /// the shape of the caches: no choice stalled, and none was left over.
 pub fn searches_reach_their_states()
-    ensures { (kind : ProtocolKind) (c : Configuration) (search : Search) (json told : Bool) (input out : List ℕ)
+    ensures { (kind : ProtocolKind) (c : Configuration) (search : Search) (json told assert : Bool) (input out : List ℕ) (status : Status)
         → c.bus ≡ Atomic → search.depth ≡ c.depth → IsWithinLimits (Settings.Run kind c json) → IsJoinable (parts_of input).test
-        → IsAnswer (Settings.Outcomes search told) (Some input) out Good
-        → AreRevisited kind c json told (parts_of input).test out }
+        → IsPrinted status → IsAnswer (Settings.Outcomes search told assert) (Some input) out status
+        → AreRevisited kind c search.show json told (parts_of input).test out }
 {
     texts_are_read_one_way();
     every_execution_is_reached();
@@ -222,9 +224,9 @@ pub fn searches_reach_their_states()
 /// of success, whatever the protocol and the shape of the caches: no choice stalled, and none was left over. Where none is printed, a
 /// refutation is.
 pub fn reasons_reach_their_executions()
-    ensures { (kind : ProtocolKind) (c : Configuration) (plan : Explanation) (json told : Bool) (input out : List ℕ)
+    ensures { (kind : ProtocolKind) (c : Configuration) (plan : Explanation) (json told assert : Bool) (input out : List ℕ) (status : Status)
         → c.bus ≡ Atomic → c.depth ≡ depth_of plan.model → IsWithinLimits (Settings.Run kind c json) → IsJoinable (parts_of input).test
-        → IsAnswer (Settings.Why plan told) (Some input) out Good
+        → IsPrinted status → IsAnswer (Settings.Why plan told assert) (Some input) out status
         → IsExplained kind c json plan.model told (parts_of input).test out }
 {
     texts_are_read_one_way();

@@ -17,7 +17,7 @@ returns c =
       sweeps = λ kind config plan input out other. sweeps-one kind config plan input out other law decided;
       witnesses = λ depth input out other. witnesses-one depth input out other law decided;
       checks = λ input out other. checks-one input out other law decided;
-      outcomes = λ search json again input out other.
-          searches-one search json again input out other law decided c.outcomes_of_the_same_values_are_alike.ensures;
-      reasons = λ plan another json again input out other. reasons-one plan another json again input out other law decided;
+      outcomes = λ search json again assert asserted input out other.
+          searches-one search json again assert asserted input out other law decided c.outcomes_of_the_same_values_are_alike.ensures;
+      reasons = λ plan another json again assert asserted input out other. reasons-one plan another json again assert asserted input out other law decided;
     }

@@ -1,6 +1,4 @@
-use Rattle.std.specs.Prelude.{refl}
 use Rattle.commands.specs.Dividing.{parts_of}
-use Rattle.commands.specs.declared.answer.Status.TheVariants.{Good}
 use Rattle.simulator.proofs.SimulationLemmas.{choices-counted}
 use Rattle.tso_cli.proofs.WhyLemmas.{Refuting}
 use Rattle.tso_cli.proofs.WitnessLemmas.{Reaching}
@@ -22,6 +20,6 @@ returns c =
       tso = c.no_run_makes_a_refuted_claim_true.ensures.tso;
       sequential = c.no_run_makes_a_refuted_claim_true.ensures.sequential;
     } in
-    λ kind config plan json told input out atomic depth within joinable is.
-    explained kind config plan json told input texts reaching laws atomic depth
-    (λ rest. c.joined_parts_are_separated.ensures (parts_of input).test rest joinable) out Good refl is
+    λ kind config plan json told assert input out status atomic depth within joinable good is.
+    explained kind config plan json told assert input texts reaching laws atomic depth
+    (λ rest. c.joined_parts_are_separated.ensures (parts_of input).test rest joinable) out status good is

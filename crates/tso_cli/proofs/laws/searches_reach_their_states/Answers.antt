@@ -18,6 +18,6 @@ returns c =
       ends = c.ends_are_what_tso_allows.ensures;
       counted = c.choices_to_an_end_are_counted.ensures;
     } in
-    λ kind config search json told input out atomic depth within joinable is.
-    revisited kind config search json told input out texts reaching searches atomic depth
-    (λ rest. c.joined_parts_are_separated.ensures (parts_of input).test rest joinable) is
+    λ kind config search json told assert input out status atomic depth within joinable good is.
+    revisited kind config search json told assert input out status texts reaching searches atomic depth
+    (λ rest. c.joined_parts_are_separated.ensures (parts_of input).test rest joinable) good is
