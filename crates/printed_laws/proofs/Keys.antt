@@ -1,4 +1,4 @@
--- The keys of what is looked at differ: a register's has a colon, behind its core's number, and no location's name has one.
+-- The keys of what is shown differ: a register's has a colon, behind its core's number, and no location's name has one.
 use Rattle.std.proofs.Common.{◌≡◌, ◌≢◌, ◌∙◌, ℕ, zero, suc, ◌+◌, ◌^◌, ◌<◌, Bool, true, false, not, cond, ◌&&◌, ◌||◌, List, [], ◌∷◌, ◌++◌, map, filter, length, slice_index_or, refl, sym, ap, subst, eq-eqb, arith}
 use Rattle.std.specs.Prelude.{codes}
 use Rattle.std.specs.Fmt.{decimal}
@@ -11,7 +11,10 @@ use Rattle.std.proofs.lemmas.Slice.Eq.{bytes_eq-Decides}
 use Rattle.tso_model.specs.Litmus.{Litmus, IsTest, are_distinct}
 use Rattle.tso_model.specs.Names.{is_among, is_name, is_location_name, continues_name}
 use Rattle.tso_report.specs.Report.{all_registers}
-use Rattle.tso_report.specs.Tally.{looked_at, is_looked_at, register_of, named_registers, named_locations}
+use Rattle.tso_report.specs.Tally.{register_of, named_registers, named_locations}
+use Rattle.tso_report.specs.declared.named.Named.{Named}
+use Rattle.shown_values.specs.Shown.{is_shown, named_in}
+use Rattle.shown_values.specs.declared.show.Show.{Show}
 use Rattle.outcome_report.specs.OutcomesJson.{key_of}
 use Rattle.printed_laws.proofs.Cutting.{number-cut}
 
@@ -177,8 +180,10 @@ location-keys t front (n ∷ names) is =
     let more = location-keys t (front ++ n ∷ []) names (is ∙ sym (append_assoc front (n ∷ []) names)) in
     λ i. first i ∷ (ap (λ k. map (key_of t) (named_locations k (length names))) (sym size) ∙ more) i
 
-pub keys-distinct : (t : Litmus) → IsTest t → are_distinct (map (key_of t) (looked_at t)) ≡ true
-keys-distinct t test =
+-- of those of them that pass a test
+keys-differ : (p : Named → Bool) (t : Litmus) → IsTest t
+    → are_distinct (map (key_of t) (filter p (named_registers 0 (length t.programs) ++ named_locations 0 (length t.locations)))) ≡ true
+keys-differ p t test =
     let cores = length t.programs in
     let locations = map (key_of t) (named_locations 0 (length t.locations)) in
     let are : locations ≡ t.locations = location-keys t [] t.locations refl in
@@ -188,4 +193,7 @@ keys-distinct t test =
     ∙ distinct-both (map (key_of t) (named_registers 0 cores)) locations (cores-distinct t 0 cores small)
     (ap are_distinct are ∙ test.locations_differ)
     (subst (λ names. AllByRecursion (NotAmong names) (map (key_of t) (named_registers 0 cores))) (sym are) (no-core t t.locations 0 cores test.locations_spelled)) in
-    distinct-kept (key_of t) (is_looked_at t.condition) (named_registers 0 cores ++ named_locations 0 (length t.locations)) whole
+    distinct-kept (key_of t) p (named_registers 0 cores ++ named_locations 0 (length t.locations)) whole
+
+pub keys-distinct : (show : Show) (t : Litmus) → IsTest t → are_distinct (map (key_of t) (named_in show t)) ≡ true
+keys-distinct show t test = keys-differ (is_shown show t) t test

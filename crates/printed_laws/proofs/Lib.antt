@@ -12,10 +12,15 @@ pub mod JsonReports
 pub mod PrintedRuns
 pub mod Machines
 pub mod Digits
-pub mod Words
-pub mod Meaning
 pub mod Keys
 pub mod OutcomeLines
+pub mod Endings
+pub mod Words
+pub mod LastLines
+pub mod ReasonEnds
+pub mod Meaning
+pub mod Claims
+pub mod TrueStates
 pub mod OutcomeObjects
 pub mod StatesFit
 pub mod TraceWords

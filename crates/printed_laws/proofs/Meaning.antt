@@ -11,20 +11,22 @@ use Rattle.tso_model.specs.FlatMachine.{registers_in}
 use Rattle.tso_model.specs.Runs.{run}
 use Rattle.outcome_laws.specs.Outcomes.{IsEnd, EndsAreWhatTsoAllows}
 use Rattle.litmus_reader.specs.Spelling.{SpellsTest}
-use Rattle.tso_report.specs.Tally.{values_in, frequency}
+use Rattle.tso_report.specs.Tally.{frequency}
+use Rattle.tso_report.specs.declared.named.Named.{Named}
+use Rattle.shown_values.specs.Shown.{named_in, values_at}
 use Rattle.outcome_report.specs.Outcomes.{Outcome, shown_values, held_in, failed_in}
 use Rattle.outcome_report.specs.Laws.{TruthIsShown}
 use Rattle.commands.specs.Dividing.{parts_of}
 use Rattle.commands.proofs.FoundOutcomes.{Leads, made-of}
-use Rattle.tso_cli.specs.OutcomesHeadline.{PrintsAllOutcomes, HeadlineOfOutcomes, all, too_many}
-use Rattle.tso_cli.specs.SweepHeadline.{values_after}
+use Rattle.command_line.specs.Search.{Search}
+use Rattle.tso_cli.specs.OutcomesHeadline.{shown_after, PrintsAllOutcomes, HeadlineOfOutcomes, all, too_many}
 use Rattle.printed_laws.specs.Observed.{PrintsWord, IsSoEverywhere, IsSoSomewhere, IsSoNowhere, IsAlwaysSo, IsSometimesSo, WordMeans}
 use Rattle.printed_laws.proofs.Digits.{is_no_space}
 use Rattle.printed_laws.proofs.Words.{is_unquoted, word-is, word-isnt}
 
 -- ---- counts
 
-none-counted : {X : Type 0} (p : X → Bool) (xs : List X) → count_by p xs ≡ 0 → (x : X) → Contains xs x → p x ≡ false
+pub none-counted : {X : Type 0} (p : X → Bool) (xs : List X) → count_by p xs ≡ 0 → (x : X) → Contains xs x → p x ≡ false
 none-counted p [] none x (i, small, is) = absurd (omega (arith, small))
 none-counted {X} p (y ∷ ys) none x (i, small, is) =
     at i small is (p y) refl (sym (sum_by-cons (λ z. cond (p z) 1 0) y ys) ∙ none) (λ less j k same. none-counted p ys less x (j, k, same))
@@ -35,7 +37,7 @@ none-counted {X} p (y ∷ ys) none x (i, small, is) =
     at zero small is false isnt none further = ap p (sym is) ∙ isnt
     at (suc i) small is false isnt none further = further (omega (arith, none)) i (omega (arith, small)) is
 
-some-counted : {X : Type 0} (p : X → Bool) (xs : List X) → 0 < count_by p xs → (x : X) × Contains xs x × (p x ≡ true)
+pub some-counted : {X : Type 0} (p : X → Bool) (xs : List X) → 0 < count_by p xs → (x : X) × Contains xs x × (p x ≡ true)
 some-counted p [] some = absurd (omega (arith, some))
 some-counted {X} p (y ∷ ys) some =
     by (p y) refl (let cons = sum_by-cons (λ z. cond (p z) 1 0) y ys in subst (λ n. 0 < n) cons some) (some-counted p ys)
@@ -68,7 +70,7 @@ is-always held failed = by (held == 0) (failed == 0) refl
     by false true is word = eqb-true failed 0 is
     by false false is word = absurd (omega (arith, first-byte 83 65 _ _ word))
 
-some-if : (n : ℕ) → (n == 0) ≡ false → 0 < n
+pub some-if : (n : ℕ) → (n == 0) ≡ false → 0 < n
 some-if zero is = absurd (let no : ⊥ = cc in no)
 some-if (suc n) is = omega arith
 
@@ -83,55 +85,58 @@ is-sometimes held failed = by (held == 0) (failed == 0) refl refl
 
 -- ---- ends and executions
 
-mapped : {X Y : Type 0} (f : X → Y) (xs : List X) (x : X) → Contains xs x → Contains (map f xs) (f x)
+pub mapped : {X Y : Type 0} (f : X → Y) (xs : List X) (x : X) → Contains xs x → Contains (map f xs) (f x)
 mapped f [] x (i, small, is) = absurd (omega (arith, small))
 mapped f (y ∷ ys) x (zero, small, is) = (0, omega arith, ap f is)
 mapped f (y ∷ ys) x (suc i, small, is) =
     let further = mapped f ys x (i, omega (arith, small), is) in
     (suc further.0, (let less = further.1 in omega (arith, less)), further.2)
 
-module _ (t : Litmus) (condition : Condition) (depth : ℕ) (json : Bool) (out : List ℕ) (laws : EndsAreWhatTsoAllows) (shown : TruthIsShown) (test : IsTest t)
-    (is : t.condition ≡ Some condition) (p : PrintsAllOutcomes t depth json out) where
+module _ (t : Litmus) (condition : Condition) (s : Search) (json : Bool) (out : List ℕ) (laws : EndsAreWhatTsoAllows) (shown : TruthIsShown) (test : IsTest t)
+    (is : t.condition ≡ Some condition) (p : PrintsAllOutcomes t s json out) where
+  abbrev names : List Named
+  names = named_in s.show t
+
   -- the proposition's truth in a printed state is that in each state with its values
-  same-truth : (o : Outcome) (registers : List (List ℕ)) (memory : List ℕ) → shown_values t o ≡ values_in t registers memory
+  pub same-truth : (o : Outcome) (registers : List (List ℕ)) (memory : List ℕ) → shown_values names o ≡ values_at names registers memory
       → truth_of registers memory condition.claim ≡ truth_of o.registers o.memory condition.claim
-  same-truth o registers memory same = sym (shown t condition o (record { registers = registers; memory = memory; choices = [] }) test is same)
+  same-truth o registers memory same = sym (shown s.show t condition o (record { registers = registers; memory = memory; choices = [] }) test is same)
 
   there : (truth : Bool) → ((o : Outcome) → Contains p.outcomes o → truth_of o.registers o.memory condition.claim ≡ truth)
-      → (registers : List (List ℕ)) (memory : List ℕ) → Contains (map (shown_values t) p.outcomes) (values_in t registers memory) → truth_of registers memory condition.claim ≡ truth
+      → (registers : List (List ℕ)) (memory : List ℕ) → Contains (map (shown_values names) p.outcomes) (values_at names registers memory) → truth_of registers memory condition.claim ≡ truth
   there truth each registers memory has =
-      let made = made-of (shown_values t) p.outcomes (values_in t registers memory) has in
+      let made = made-of (shown_values names) p.outcomes (values_at names registers memory) has in
       same-truth made.0 registers memory made.2 ∙ each made.0 made.1
 
-  everywhere : (truth : Bool) → ((o : Outcome) → Contains p.outcomes o → truth_of o.registers o.memory condition.claim ≡ truth) → IsSoEverywhere t depth condition.claim truth
+  pub everywhere : (truth : Bool) → ((o : Outcome) → Contains p.outcomes o → truth_of o.registers o.memory condition.claim ≡ truth) → IsSoEverywhere t s.depth condition.claim truth
   everywhere truth each = record {
     runs = λ choices cores ended.
-        there truth each _ _ (p.all.complete (registers_in (run t depth choices).state) (run t depth choices).state.memory
+        there truth each _ _ (p.all.complete (registers_in (run t s.depth choices).state) (run t s.depth choices).state.memory
         (record { choices = choices; cores = cores; ended = ended; registers_are = refl; memory_is = refl }));
     buffered = λ some order execution enough.
         there truth each (final_registers t order) (final_words t order) (p.all.complete (final_registers t order) (final_words t order)
-        ((laws.by_depth t depth (final_registers t order) (final_words t order) test some).1
+        ((laws.by_depth t s.depth (final_registers t order) (final_words t order) test some).1
         (record { order = order; execution = execution; depth_needed = enough; registers_are = refl; memory_is = refl })));
     tso = λ greatest order execution.
-        there truth each (final_registers t order) (final_words t order) ((p.tso greatest (values_after t order)).1 (order, execution, refl));
+        there truth each (final_registers t order) (final_words t order) ((p.tso greatest (shown_after t names order)).1 (order, execution, refl));
     sequential = λ none order consistent.
-        there truth each (final_registers t order) (final_words t order) ((p.sequential none (values_after t order)).1 (order, consistent, refl));
+        there truth each (final_registers t order) (final_words t order) ((p.sequential none (shown_after t names order)).1 (order, consistent, refl));
   }
 
-  somewhere : (truth : Bool) (o : Outcome) → Contains p.outcomes o → truth_of o.registers o.memory condition.claim ≡ truth → IsSoSomewhere t depth condition.claim truth
+  pub somewhere : (truth : Bool) (o : Outcome) → Contains p.outcomes o → truth_of o.registers o.memory condition.claim ≡ truth → IsSoSomewhere t s.depth condition.claim truth
   somewhere truth o has so =
-      let lead = All-contains (Leads t depth) p.outcomes o p.all.reached has in
-      let end : IsEnd t depth o.registers o.memory = record { choices = o.choices; cores = lead.cores; ended = lead.ended; registers_are = lead.registers_are; memory_is = lead.memory_is } in
+      let lead = All-contains (Leads t s.depth) p.outcomes o p.all.reached has in
+      let end : IsEnd t s.depth o.registers o.memory = record { choices = o.choices; cores = lead.cores; ended = lead.ended; registers_are = lead.registers_are; memory_is = lead.memory_is } in
       record {
         runs = (
           o.choices,
           lead.cores,
           lead.ended,
-          ap (λ registers. truth_of registers (run t depth o.choices).state.memory condition.claim) lead.registers_are
+          ap (λ registers. truth_of registers (run t s.depth o.choices).state.memory condition.claim) lead.registers_are
               ∙ ap (λ memory. truth_of o.registers memory condition.claim) lead.memory_is ∙ so,
         );
         buffered = λ some.
-            let allowed = (laws.by_depth t depth o.registers o.memory test some).0 end in (
+            let allowed = (laws.by_depth t s.depth o.registers o.memory test some).0 end in (
               allowed.order,
               allowed.execution,
               allowed.depth_needed,
@@ -139,7 +144,7 @@ module _ (t : Litmus) (condition : Condition) (depth : ℕ) (json : Bool) (out :
                   ∙ ap (λ memory. truth_of o.registers memory condition.claim) allowed.memory_is ∙ so,
             );
         sequential = λ none.
-            let found = (p.sequential none (shown_values t o)).0 (mapped (shown_values t) p.outcomes o has) in
+            let found = (p.sequential none (shown_values names o)).0 (mapped (shown_values names) p.outcomes o has) in
             (found.0, found.1, same-truth o (final_registers t found.0) (final_words t found.0) (sym found.2) ∙ so);
       }
 
@@ -156,43 +161,43 @@ record IsWord (word : List ℕ) : Type 0 where
 -- from the states that were printed to what is meant of the test
 abbrev Tells : List ℕ → (Litmus → ℕ → Claim → Type 0) → Type 0
 Tells word Meant =
-    (t : Litmus) (condition : Condition) (depth : ℕ) (json : Bool) (out : List ℕ) → EndsAreWhatTsoAllows → TruthIsShown → IsTest t → t.condition ≡ Some condition
-    → (p : PrintsAllOutcomes t depth json out) → frequency (held_in condition.claim p.outcomes) (failed_in condition.claim p.outcomes) ≡ word → Meant t depth condition.claim
+    (t : Litmus) (condition : Condition) (s : Search) (json : Bool) (out : List ℕ) → EndsAreWhatTsoAllows → TruthIsShown → IsTest t → t.condition ≡ Some condition
+    → (p : PrintsAllOutcomes t s json out) → frequency (held_in condition.claim p.outcomes) (failed_in condition.claim p.outcomes) ≡ word → Meant t s.depth condition.claim
 
 means : (word : List ℕ) (Meant : Litmus → ℕ → Claim → Type 0) → IsWord word → Tells word Meant → TestsAreWithin → EndsAreWhatTsoAllows → TruthIsShown → WordMeans word Meant
-means word Meant plain tells within laws shown search json input out t condition small spelled is headline says =
+means word Meant plain tells within laws shown search json assert input out t condition small spelled is headline says =
     by ((headline.within small).every_test t spelled)
   where
     by : HeadlineOfOutcomes t search json out → Meant t search.depth condition.claim
     by (all p) =
-        tells t condition search.depth json out laws shown (within (parts_of input).test t spelled) is p
-        (word-is json t condition search.depth p.outcomes word is plain.spaceless plain.unquoted (subst (PrintsWord json word) p.printed says))
+        tells t condition search json out laws shown (within (parts_of input).test t spelled) is p
+        (word-is json t (named_in search.show t) condition search.depth p.outcomes word is plain.spaceless plain.unquoted (subst (PrintsWord json word) p.printed says))
     by (too_many more printed) = absurd (word-isnt json t search.states word (subst (PrintsWord json word) printed says))
 
-not-true : (b : Bool) → not b ≡ false → b ≡ true
+pub not-true : (b : Bool) → not b ≡ false → b ≡ true
 not-true true is = refl
 not-true false is = absurd (let no : ⊥ = cc in no)
 
-not-false : (b : Bool) → not b ≡ true → b ≡ false
+pub not-false : (b : Bool) → not b ≡ true → b ≡ false
 not-false false is = refl
 not-false true is = absurd (let no : ⊥ = cc in no)
 
 pub never-means : TestsAreWithin → EndsAreWhatTsoAllows → TruthIsShown → WordMeans (codes "Never") IsSoNowhere
-never-means = means (codes "Never") IsSoNowhere (record { spaceless = refl; unquoted = refl }) (λ t condition depth json out laws shown test is p word.
+never-means = means (codes "Never") IsSoNowhere (record { spaceless = refl; unquoted = refl }) (λ t condition s json out laws shown test is p word.
     let none = is-never (held_in condition.claim p.outcomes) (failed_in condition.claim p.outcomes) word in
-    everywhere t condition depth json out laws shown test is p false (none-counted (λ o. truth_of o.registers o.memory condition.claim) p.outcomes none))
+    everywhere t condition s json out laws shown test is p false (none-counted (λ o. truth_of o.registers o.memory condition.claim) p.outcomes none))
 
 pub always-means : TestsAreWithin → EndsAreWhatTsoAllows → TruthIsShown → WordMeans (codes "Always") IsAlwaysSo
-always-means = means (codes "Always") IsAlwaysSo (record { spaceless = refl; unquoted = refl }) (λ t condition depth json out laws shown test is p word.
+always-means = means (codes "Always") IsAlwaysSo (record { spaceless = refl; unquoted = refl }) (λ t condition s json out laws shown test is p word.
     let none = is-always (held_in condition.claim p.outcomes) (failed_in condition.claim p.outcomes) word in
-    everywhere t condition depth json out laws shown test is p true (λ o has.
+    everywhere t condition s json out laws shown test is p true (λ o has.
     not-true _ (none-counted (λ o. not (truth_of o.registers o.memory condition.claim)) p.outcomes none o has)))
 
 pub sometimes-means : TestsAreWithin → EndsAreWhatTsoAllows → TruthIsShown → WordMeans (codes "Sometimes") IsSometimesSo
-sometimes-means = means (codes "Sometimes") IsSometimesSo (record { spaceless = refl; unquoted = refl }) (λ t condition depth json out laws shown test is p word.
+sometimes-means = means (codes "Sometimes") IsSometimesSo (record { spaceless = refl; unquoted = refl }) (λ t condition s json out laws shown test is p word.
     let both = is-sometimes (held_in condition.claim p.outcomes) (failed_in condition.claim p.outcomes) word in
     let held = some-counted (λ o. truth_of o.registers o.memory condition.claim) p.outcomes both.0 in
     let failed = some-counted (λ o. not (truth_of o.registers o.memory condition.claim)) p.outcomes both.1 in (
-      somewhere t condition depth json out laws shown test is p true held.0 held.1 held.2,
-      somewhere t condition depth json out laws shown test is p false failed.0 failed.1 (not-false _ failed.2),
+      somewhere t condition s json out laws shown test is p true held.0 held.1 held.2,
+      somewhere t condition s json out laws shown test is p false failed.0 failed.1 (not-false _ failed.2),
     ))

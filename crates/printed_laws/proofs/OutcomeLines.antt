@@ -1,7 +1,6 @@
--- The lines of `outcomes` tell the states, and in how many the condition's proposition is true and false.
+-- The lines of `outcomes` tell the states, and in which the condition's proposition is true.
 use Rattle.std.proofs.Common.{◌≡◌, ◌∙◌, ℕ, ◌^◌, ◌<◌, ◌==◌, Bool, true, false, not, List, [], ◌∷◌, ◌++◌, map, drop, length, get_or, All, Option, Some, None, refl, sym, ap, subst, arith}
 use Rattle.std.specs.Prelude.{codes}
-use Rattle.std.specs.Option.{ForSome}
 use Rattle.std.specs.Fmt.{decimal}
 use Rattle.std.specs.List.{list_all}
 use Rattle.std.specs.Char.{is_ascii_digit}
@@ -10,38 +9,40 @@ use Rattle.std.proofs.lemmas.Bool.Decides.{nat_tests}
 use Rattle.std.proofs.lemmas.List.{append_assoc, append_cancel_left}
 use Rattle.std.proofs.lemmas.List.Elements.{All-head, All-tail}
 use Rattle.std.proofs.lemmas.List.Folds.{list_all-append}
-use Rattle.std.proofs.lemmas.List.Sums.{count_by-le-length}
 use Rattle.tso_model.specs.Litmus.{Litmus}
 use Rattle.tso_model.specs.Names.{is_printable}
-use Rattle.tso_model.specs.Condition.{Condition, truth_of}
+use Rattle.tso_model.specs.Condition.{Condition}
 use Rattle.tso_model.specs.declared.choice.Choice.{Choice}
 use Rattle.tso_model.specs.declared.choice.Choice.TheVariants.{Step, Drain}
 use Rattle.scheduler.specs.Printed.{printed_choice, printed_after, printed_choices}
 use Rattle.tso_report.specs.Report.{line, test_line}
-use Rattle.tso_report.specs.Tally.{looked_at, printed_values}
-use Rattle.outcome_report.specs.Outcomes.{Outcome, shown_values, held_in, failed_in, outcomes_line, outcome_lines, observation_line}
-use Rattle.tso_cli.specs.Fitting.{IsStateOf}
+use Rattle.tso_report.specs.Tally.{printed_values}
+use Rattle.tso_report.specs.declared.named.Named.{Named}
+use Rattle.shown_values.specs.Shown.{named_in}
+use Rattle.outcome_report.specs.Outcomes.{Outcome, shown_values, outcomes_line, outcome_lines, condition_lines}
+use Rattle.tso_cli.specs.Fitting.{IsStateAt}
+use Rattle.outcome_report.proofs.Alike.{alike}
 use Rattle.printed_laws.specs.Outcomes.{OutcomesTellTheirStates, OutcomesTellTheirTests}
 use Rattle.printed_laws.proofs.Cutting.{run-cut, next-cut}
 use Rattle.printed_laws.proofs.Heads.{printable-name}
-use Rattle.printed_laws.proofs.Sweeps.{NoState, values-cut, observed-told}
+use Rattle.printed_laws.proofs.Sweeps.{NoState, values-cut}
 use Rattle.printed_laws.proofs.Digits.{all-digits}
 
 -- ---- choices
 
-abbrev is_in_line : ℕ → Bool
+abbrev pub is_in_line : ℕ → Bool
 is_in_line b = not (b == 10)
 
 digit-in-line : (b : ℕ) → is_ascii_digit b ≡ true → is_in_line b ≡ true
 digit-in-line b is = grind (arith, nat_tests)
 
-digits-in-line : (bs : List ℕ) → list_all is_ascii_digit bs ≡ true → list_all is_in_line bs ≡ true
+pub digits-in-line : (bs : List ℕ) → list_all is_ascii_digit bs ≡ true → list_all is_in_line bs ≡ true
 digits-in-line [] all = refl
 digits-in-line (b ∷ bs) all =
     let parts = and_parts (is_ascii_digit b) (list_all is_ascii_digit bs) all in
     and_from _ _ (digit-in-line b parts.0) (digits-in-line bs parts.1)
 
-both-in-line : (xs ys : List ℕ) → list_all is_in_line xs ≡ true → list_all is_in_line ys ≡ true → list_all is_in_line (xs ++ ys) ≡ true
+pub both-in-line : (xs ys : List ℕ) → list_all is_in_line xs ≡ true → list_all is_in_line ys ≡ true → list_all is_in_line (xs ++ ys) ≡ true
 both-in-line xs ys p q = list_all-append is_in_line xs ys ∙ and_from _ _ p q
 
 choice-in-line : (c : Choice) → list_all is_in_line (printed_choice c) ≡ true
@@ -65,58 +66,32 @@ state-flat : (values choices more rest : List ℕ) → ((codes "State" ++ line v
     ≡ codes "State" ++ (values ++ 10 ∷ (codes "By" ++ (choices ++ 10 ∷ (more ++ rest))))
 state-flat values choices more rest = simp append_assoc
 
-lines-cut : (t : Litmus) (xs ys : List Outcome) (rest other : List ℕ) → All (λ o. IsStateOf t (shown_values t o)) xs → All (λ o. IsStateOf t (shown_values t o)) ys
-    → NoState rest → NoState other → outcome_lines t xs ++ rest ≡ outcome_lines t ys ++ other
-    → (map (shown_values t) xs ≡ map (shown_values t) ys) × (choices_of xs ≡ choices_of ys) × (rest ≡ other)
-lines-cut t [] [] rest other p q stops stops' e = (refl, refl, e)
-lines-cut t [] (y ∷ ys) rest other p q stops stops' e = absurd (stops (ap (λ (l : List ℕ). get_or l 0 0) e))
-lines-cut t (x ∷ xs) [] rest other p q stops stops' e = absurd (stops' (ap (λ (l : List ℕ). get_or l 0 0) (sym e)))
-lines-cut t (x ∷ xs) (y ∷ ys) rest other p q stops stops' e =
-    let v = shown_values t x in
-    let w = shown_values t y in
-    let more = outcome_lines t xs in
-    let more' = outcome_lines t ys in
-    let flat = sym (state-flat (printed_values t (looked_at t) v) (printed_after x.choices) more rest) ∙ (e ∙ state-flat (printed_values t (looked_at t) w) (printed_after y.choices) more' other) in
-    let px = All-head (λ (o : Outcome). IsStateOf t (shown_values t o)) x xs p in
-    let py = All-head (λ (o : Outcome). IsStateOf t (shown_values t o)) y ys q in
+lines-cut : (t : Litmus) (names : List Named) (xs ys : List Outcome) (rest other : List ℕ) → All (λ o. IsStateAt names (shown_values names o)) xs
+    → All (λ o. IsStateAt names (shown_values names o)) ys
+    → NoState rest → NoState other → outcome_lines t names xs ++ rest ≡ outcome_lines t names ys ++ other
+    → (map (shown_values names) xs ≡ map (shown_values names) ys) × (choices_of xs ≡ choices_of ys) × (rest ≡ other)
+lines-cut t names [] [] rest other p q stops stops' e = (refl, refl, e)
+lines-cut t names [] (y ∷ ys) rest other p q stops stops' e = absurd (stops (ap (λ (l : List ℕ). get_or l 0 0) e))
+lines-cut t names (x ∷ xs) [] rest other p q stops stops' e = absurd (stops' (ap (λ (l : List ℕ). get_or l 0 0) (sym e)))
+lines-cut t names (x ∷ xs) (y ∷ ys) rest other p q stops stops' e =
+    let v = shown_values names x in
+    let w = shown_values names y in
+    let more = outcome_lines t names xs in
+    let more' = outcome_lines t names ys in
+    let flat = sym (state-flat (printed_values t names v) (printed_after x.choices) more rest) ∙ (e ∙ state-flat (printed_values t names w) (printed_after y.choices) more' other) in
+    let px = All-head (λ (o : Outcome). IsStateAt names (shown_values names o)) x xs p in
+    let py = All-head (λ (o : Outcome). IsStateAt names (shown_values names o)) y ys q in
     let begun = append_cancel_left (codes "State") _ _ flat in
-    let values = values-cut t (looked_at t) v w (10 ∷ (codes "By" ++ (printed_after x.choices ++ 10 ∷ (more ++ rest)))) (10 ∷ (codes "By" ++ (printed_after y.choices ++ 10 ∷ (more' ++ other))))
+    let values = values-cut t names v w (10 ∷ (codes "By" ++ (printed_after x.choices ++ 10 ∷ (more ++ rest)))) (10 ∷ (codes "By" ++ (printed_after y.choices ++ 10 ∷ (more' ++ other))))
     px.each py.each px.words py.words refl refl begun in
     let by = append_cancel_left (10 ∷ codes "By") (printed_after x.choices ++ 10 ∷ (more ++ rest)) (printed_after y.choices ++ 10 ∷ (more' ++ other)) values.1 in
     let choices = run-cut is_in_line (printed_after x.choices) (printed_after y.choices) (10 ∷ (more ++ rest)) (10 ∷ (more' ++ other)) (choices-in-line x.choices) (choices-in-line y.choices) refl refl by in
     let same = without-space x.choices ∙ (ap (λ (l : List ℕ). drop 1 l) choices.0 ∙ sym (without-space y.choices)) in
-    let further = lines-cut t xs ys rest other (All-tail (λ (o : Outcome). IsStateOf t (shown_values t o)) x xs p) (All-tail (λ (o : Outcome). IsStateOf t (shown_values t o)) y ys q)
+    let further = lines-cut t names xs ys rest other (All-tail (λ (o : Outcome). IsStateAt names (shown_values names o)) x xs p) (All-tail (λ (o : Outcome). IsStateAt names (shown_values names o)) y ys q)
     stops stops' (append_cancel_left (10 ∷ []) (more ++ rest) (more' ++ other) choices.1) in
     ((λ i. values.0 i ∷ further.0 i), (λ i. same i ∷ further.1 i), further.2)
 
--- ---- counts
-
--- of both lists as many make the claim of the condition true, and false
-abbrev pub CountAlike : Option Condition → List Outcome → List Outcome → Type 0
-CountAlike condition xs ys =
-    ForSome condition (λ c. held_in c.claim xs ≡ held_in c.claim ys) × ForSome condition (λ c. failed_in c.claim xs ≡ failed_in c.claim ys)
-
-pub of-one-condition : (c : Condition) (xs ys : List Outcome) → held_in c.claim xs ≡ held_in c.claim ys → failed_in c.claim xs ≡ failed_in c.claim ys → CountAlike (Some c) xs ys
-of-one-condition c xs ys held failed = (
-  λ d is. subst (λ (e : Condition). held_in e.claim xs ≡ held_in e.claim ys) (let same : c ≡ d = cc in same) held,
-  λ d is. subst (λ (e : Condition). failed_in e.claim xs ≡ failed_in e.claim ys) (let same : c ≡ d = cc in same) failed,
-)
-
-pub held-few : (c : Condition) (xs : List Outcome) → length xs < 2 ^ 64 → held_in c.claim xs < 2 ^ 64
-held-few c xs few = let most = count_by-le-length (λ (o : Outcome). truth_of o.registers o.memory c.claim) xs in omega (arith, most, few)
-
-pub failed-few : (c : Condition) (xs : List Outcome) → length xs < 2 ^ 64 → failed_in c.claim xs < 2 ^ 64
-failed-few c xs few = let most = count_by-le-length (λ (o : Outcome). not (truth_of o.registers o.memory c.claim)) xs in omega (arith, most, few)
-
-counts-told : (name : List ℕ) (condition : Option Condition) (xs ys : List Outcome) → length xs < 2 ^ 64 → length ys < 2 ^ 64
-    → observation_line name condition xs ≡ observation_line name condition ys → CountAlike condition xs ys
-counts-told name None xs ys few few' e = ((λ c is. absurd (let no : ⊥ = cc in no)), (λ c is. absurd (let no : ⊥ = cc in no)))
-counts-told name (Some c) xs ys few few' e =
-    let told = observed-told name (held_in c.claim xs) (failed_in c.claim xs) (held_in c.claim ys) (failed_in c.claim ys)
-    (held-few c xs few) (failed-few c xs few) (held-few c ys few') (failed-few c ys few') e in
-    of-one-condition c xs ys told.0 told.1
-
-no-state : (name : List ℕ) (condition : Option Condition) (xs : List Outcome) → NoState (observation_line name condition xs)
+no-state : (name : List ℕ) (condition : Option Condition) (xs : List Outcome) → NoState (condition_lines name condition xs)
 no-state name None xs is = omega (arith, is)
 no-state name (Some c) xs is = omega (arith, is)
 
@@ -135,21 +110,21 @@ first-cut depth other_depth states other_states rest other p p' q q' e =
     (numbered.0, append_cancel_left (10 ∷ []) rest other counted.1)
 
 pub lines-tell : OutcomesTellTheirStates false
-lines-tell t depth other_depth xs ys test p p' fit fit' e =
-    let seen = λ (outcomes : List Outcome). observation_line t.name t.condition outcomes in
+lines-tell show t depth other_depth xs ys test p p' fit fit' e =
+    let names = named_in show t in
+    let said = λ (outcomes : List Outcome). condition_lines t.name t.condition outcomes in
     let named = append_cancel_left (test_line t) _ _ e in
-    let first = first-cut depth other_depth (length xs) (length ys) (outcome_lines t xs ++ seen xs) (outcome_lines t ys ++ seen ys) p p' fit.few fit'.few named in
-    let states = lines-cut t xs ys (seen xs) (seen ys) fit.states fit'.states (no-state t.name t.condition xs) (no-state t.name t.condition ys) first.1 in
-    let counts = counts-told t.name t.condition xs ys fit.few fit'.few states.2 in
-    (first.0, record { alike = record { values = states.0; held = counts.0; failed = counts.1 }; choices = states.1 })
+    let first = first-cut depth other_depth (length xs) (length ys) (outcome_lines t names xs ++ said xs) (outcome_lines t names ys ++ said ys) p p' fit.few fit'.few named in
+    let states = lines-cut t names xs ys (said xs) (said ys) fit.states fit'.states (no-state t.name t.condition xs) (no-state t.name t.condition ys) first.1 in
+    (first.0, record { alike = alike show t xs ys test states.0; choices = states.1 })
 
 test-flat : (name rest : List ℕ) → (codes "Test " ++ line name) ++ rest ≡ codes "Test " ++ (name ++ 10 ∷ rest)
 test-flat name rest = simp append_assoc
 
 pub lines-name : OutcomesTellTheirTests false
-lines-name t u depth other_depth xs ys test test' p p' fit fit' e =
-    let after = outcomes_line depth (length xs) ++ (outcome_lines t xs ++ observation_line t.name t.condition xs) in
-    let after' = outcomes_line other_depth (length ys) ++ (outcome_lines u ys ++ observation_line u.name u.condition ys) in
+lines-name t u names others_names depth other_depth xs ys test test' p p' fit fit' e =
+    let after = outcomes_line depth (length xs) ++ (outcome_lines t names xs ++ condition_lines t.name t.condition xs) in
+    let after' = outcomes_line other_depth (length ys) ++ (outcome_lines u others_names ys ++ condition_lines u.name u.condition ys) in
     let flat = sym (test-flat t.name after) ∙ (e ∙ test-flat u.name after') in
     let begun = append_cancel_left (codes "Test ") (t.name ++ 10 ∷ after) (u.name ++ 10 ∷ after') flat in
     let name = run-cut is_printable t.name u.name (10 ∷ after) (10 ∷ after') (printable-name t.name test.name_spelled) (printable-name u.name test'.name_spelled) refl refl begun in

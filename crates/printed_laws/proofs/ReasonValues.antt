@@ -25,7 +25,8 @@ use Rattle.reason_report.specs.declared.steps.Event.{Event}
 use Rattle.reason_report.specs.declared.steps.Edge.{Edge}
 use Rattle.reason_report.specs.Steps.{Answer, From, Before, Uniproc, Cycle, Amid, False, Step, Case, So, Leaf, Endcases, leaves_in}
 use Rattle.reason_report.specs.ReasonText.{event_text, relation_text, source_text}
-use Rattle.reason_report.specs.ReasonJson.{asked_value, verdict_value, edge_value, answer_value, place_members, step_value, never_value_of}
+use Rattle.outcome_report.specs.Verdict.{verdict_value}
+use Rattle.reason_report.specs.ReasonJson.{asked_value, edge_value, answer_value, place_members, step_value, never_value_of}
 use Rattle.printed_laws.specs.Reasons.{told_event, told_edge, told_answer, told_by_value, depth_in, EventFits, LeadFrom, CycleFits, AnswerFits, PlaceFits, StepFits, AreCounted, ReasonValuesTellTheirSteps}
 use Rattle.printed_laws.proofs.JsonTexts.{value-told, members_in, items_in, text_in, value_at, text_at, first_item, more_items, has_item, uneven}
 use Rattle.printed_laws.proofs.ReasonWords.{event-cut, AreTold, uniproc-told, global-told, relation-cut}

@@ -3,7 +3,7 @@ use Rattle.std.proofs.Common.{◌≡◌, ◌∙◌, ℕ, ◌==◌, Bool, true, f
 use Rattle.std.specs.Prelude.{codes}
 use Rattle.std.specs.Fmt.{decimal}
 use Rattle.std.specs.List.{list_all}
-use Rattle.std.proofs.lemmas.List.{append_assoc, append_cancel_left}
+use Rattle.std.proofs.lemmas.List.{append_assoc, append_cancel_left, append_cancel_right}
 use Rattle.json.specs.Print.{escape, escape_byte}
 use Rattle.serde_json.specs.Data.{Data, string, object, no_members, member}
 use Rattle.serde_json.specs.Written.{compact_text}
@@ -12,12 +12,16 @@ use Rattle.tso_model.specs.Condition.{Condition}
 use Rattle.tso_report.specs.Report.{line, test_line}
 use Rattle.tso_report.specs.Json.{count}
 use Rattle.tso_report.specs.Tally.{frequency}
-use Rattle.outcome_report.specs.Outcomes.{Outcome, outcomes_line, outcome_lines, observation_line, unfinished_line, held_in, failed_in}
+use Rattle.tso_report.specs.declared.named.Named.{Named}
+use Rattle.outcome_report.specs.Verdict.{is_well, verdict_word, verdict_value}
+use Rattle.outcome_report.specs.Outcomes.{Outcome, outcomes_line, outcome_lines, condition_lines, unfinished_line, held_in, failed_in, true_in, is_met_in, printed_numbers}
 use Rattle.outcome_report.specs.OutcomesJson.{states_value, observed_value, observation_value, unfinished_json}
 use Rattle.outcome_report.specs.Printed.{outcomes_in, unfinished_search_in}
 use Rattle.printed_laws.specs.Observed.{EndsInWord, HasWordInObject, PrintsWord}
 use Rattle.printed_laws.proofs.Cutting.{Stops, run-cut}
-use Rattle.printed_laws.proofs.Digits.{all-digits, is_no_space, number-no-space, both-no-space, last-cut, space-there}
+use Rattle.printed_laws.proofs.Digits.{all-digits, is_no_space, number-no-space, both-no-space, last-cut}
+use Rattle.printed_laws.proofs.OutcomeLines.{is_in_line, digits-in-line, both-in-line}
+use Rattle.printed_laws.proofs.Endings.{feed-there, last-line}
 use Rattle.std.specs.Char.{is_ascii_digit}
 
 -- ---- lines
@@ -35,10 +39,24 @@ grouped : (front word held failed : List ℕ) → front ++ (codes " " ++ (word +
     ≡ ((front ++ 32 ∷ word) ++ 32 ∷ held) ++ 32 ∷ (failed ++ 10 ∷ [])
 grouped front word held failed = simp append_assoc
 
-line-flat : (test first states name word held failed : List ℕ)
-    → test ++ (first ++ (states ++ (codes "Observation " ++ (name ++ line (codes " " ++ (word ++ (codes " " ++ (held ++ (codes " " ++ failed)))))))))
-    ≡ (test ++ (first ++ (states ++ (codes "Observation " ++ name)))) ++ (codes " " ++ (word ++ (codes " " ++ (held ++ (codes " " ++ line failed)))))
-line-flat test first states name word held failed = simp append_assoc
+-- the three last lines, behind all that stands before
+three-flat : (test first states name word held failed numbers verdict : List ℕ)
+    → test ++ (first ++ (states ++ ((codes "Observation " ++ (name ++ line (codes " " ++ (word ++ (codes " " ++ (held ++ (codes " " ++ failed)))))))
+    ++ ((codes "True" ++ line numbers) ++ (codes "Verdict " ++ line verdict)))))
+    ≡ (((((test ++ (first ++ (states ++ (codes "Observation " ++ name)))) ++ (codes " " ++ (word ++ (codes " " ++ (held ++ (codes " " ++ failed))))))
+    ++ 10 ∷ (codes "True" ++ numbers)) ++ 10 ∷ (codes "Verdict " ++ verdict)) ++ 10 ∷ [])
+three-flat test first states name word held failed numbers verdict = simp append_assoc
+
+-- the same where it is said what they end in
+said-flat : (front word held failed numbers verdict : List ℕ)
+    → front ++ (codes " " ++ (word ++ (codes " " ++ (held ++ (codes " " ++ (line failed ++ (codes "True" ++ (line numbers ++ (codes "Verdict " ++ line verdict)))))))))
+    ≡ (((front ++ (codes " " ++ (word ++ (codes " " ++ (held ++ (codes " " ++ failed))))))
+    ++ 10 ∷ (codes "True" ++ numbers)) ++ 10 ∷ (codes "Verdict " ++ verdict)) ++ 10 ∷ []
+said-flat front word held failed numbers verdict = simp append_assoc
+
+with-feed : (front word held failed : List ℕ) → (front ++ (codes " " ++ (word ++ (codes " " ++ (held ++ (codes " " ++ failed)))))) ++ 10 ∷ []
+    ≡ front ++ (codes " " ++ (word ++ (codes " " ++ (held ++ (codes " " ++ line failed)))))
+with-feed front word held failed = simp append_assoc
 
 last-word : (front other word again : List ℕ) (h f k g : ℕ) → list_all is_no_space word ≡ true → list_all is_no_space again ≡ true
     → front ++ (codes " " ++ (word ++ (codes " " ++ (decimal h ++ (codes " " ++ line (decimal f))))))
@@ -49,28 +67,45 @@ last-word front other word again h f k g p q e =
     let held = last-cut _ _ _ _ (number-no-space h) (number-no-space k) failed.0 in
     (last-cut _ _ _ _ p q held.0).1
 
-in-lines : (t : Litmus) (condition : Condition) (depth : ℕ) (outcomes : List Outcome) (word : List ℕ) → list_all is_no_space word ≡ true
-    → EndsInWord word (test_line t ++ (outcomes_line depth (length outcomes) ++ (outcome_lines t outcomes ++ observation_line t.name (Some condition) outcomes)))
+numbers-in-line : (numbers : List ℕ) → list_all is_in_line (printed_numbers numbers) ≡ true
+numbers-in-line [] = refl
+numbers-in-line (n ∷ ns) = both-in-line (codes " " ++ decimal n) (printed_numbers ns) (digits-in-line (decimal n) (all-digits n)) (numbers-in-line ns)
+
+verdict-in-line : (verdict : Bool) → list_all is_in_line (codes "Verdict " ++ verdict_word verdict) ≡ true
+verdict-in-line true = refl
+verdict-in-line false = refl
+
+in-lines : (t : Litmus) (names : List Named) (condition : Condition) (depth : ℕ) (outcomes : List Outcome) (word : List ℕ) → list_all is_no_space word ≡ true
+    → EndsInWord word (test_line t ++ (outcomes_line depth (length outcomes) ++ (outcome_lines t names outcomes ++ condition_lines t.name (Some condition) outcomes)))
     → frequency (held_in condition.claim outcomes) (failed_in condition.claim outcomes) ≡ word
-in-lines t condition depth outcomes word plain says =
+in-lines t names condition depth outcomes word plain says =
     let h = held_in condition.claim outcomes in
     let f = failed_in condition.claim outcomes in
-    let flat = line-flat (test_line t) (outcomes_line depth (length outcomes)) (outcome_lines t outcomes) t.name (frequency h f) (decimal h) (decimal f) in
-    last-word (test_line t ++ (outcomes_line depth (length outcomes) ++ (outcome_lines t outcomes ++ (codes "Observation " ++ t.name)))) says.front (frequency h f) word h f says.held says.failed
-    (frequency-no-space h f) plain (sym flat ∙ says.text)
+    let front = test_line t ++ (outcomes_line depth (length outcomes) ++ (outcome_lines t names outcomes ++ (codes "Observation " ++ t.name))) in
+    let seen = codes " " ++ (frequency h f ++ (codes " " ++ (decimal h ++ (codes " " ++ decimal f)))) in
+    let said = codes " " ++ (word ++ (codes " " ++ (decimal says.held ++ (codes " " ++ decimal says.failed)))) in
+    let numbers = codes "True" ++ printed_numbers (true_in condition.claim outcomes) in
+    let others = codes "True" ++ printed_numbers says.numbers in
+    let claimed = is_well condition.quantifier (is_met_in (Some condition) outcomes) in
+    let verdict = codes "Verdict " ++ verdict_word claimed in
+    let other = codes "Verdict " ++ verdict_word says.as_claimed in
+    let flat = sym (three-flat (test_line t) (outcomes_line depth (length outcomes)) (outcome_lines t names outcomes) t.name (frequency h f) (decimal h) (decimal f)
+    (printed_numbers (true_in condition.claim outcomes)) (verdict_word claimed))
+    ∙ (says.text ∙ said-flat says.front word (decimal says.held) (decimal says.failed) (printed_numbers says.numbers) (verdict_word says.as_claimed)) in
+    let lines = append_cancel_right (((front ++ seen) ++ 10 ∷ numbers) ++ 10 ∷ verdict) (((says.front ++ said) ++ 10 ∷ others) ++ 10 ∷ other) (10 ∷ []) flat in
+    let before = last-line ((front ++ seen) ++ 10 ∷ numbers) ((says.front ++ said) ++ 10 ∷ others) verdict other (verdict-in-line claimed) (verdict-in-line says.as_claimed) lines in
+    let first = last-line (front ++ seen) (says.front ++ said) numbers others (numbers-in-line (true_in condition.claim outcomes)) (numbers-in-line says.numbers) before.0 in
+    last-word front says.front (frequency h f) word h f says.held says.failed (frequency-no-space h f) plain
+    (sym (with-feed front (frequency h f) (decimal h) (decimal f)) ∙ (ap (λ (l : List ℕ). l ++ 10 ∷ []) first.0 ∙ with-feed says.front word (decimal says.held) (decimal says.failed)))
 
--- the line of a search that met its limit has one space
-unfinished-flat : (limit : List ℕ) → codes "Unfinished states=" ++ line limit ≡ codes "Unfinished" ++ 32 ∷ (codes "states=" ++ (limit ++ 10 ∷ []))
-unfinished-flat limit = refl
-
+-- a search that met its limit has one line
 no-word : (limit : ℕ) (word : List ℕ) → EndsInWord word (unfinished_line limit) → ⊥
 no-word limit word says =
-    let flat = says.text ∙ grouped says.front word (decimal says.held) (decimal says.failed) in
-    let rest : list_all is_no_space (codes "states=" ++ (decimal limit ++ 10 ∷ [])) ≡ true =
-    both-no-space (codes "states=") (decimal limit ++ 10 ∷ []) refl (both-no-space (decimal limit) (10 ∷ []) (number-no-space limit) refl) in
-    let cut = last-cut (codes "Unfinished") _ _ _ rest (both-no-space (decimal says.failed) (10 ∷ []) (number-no-space says.failed) refl) flat in
-    let all : list_all is_no_space (codes "Unfinished") ≡ true = refl in
-    space-there (says.front ++ 32 ∷ word) (decimal says.held) (subst (λ (l : List ℕ). list_all is_no_space l ≡ true) cut.0 all)
+    let before = (says.front ++ (codes " " ++ (word ++ (codes " " ++ (decimal says.held ++ (codes " " ++ decimal says.failed)))))) ++ 10 ∷ (codes "True" ++ printed_numbers says.numbers) in
+    let verdict = codes "Verdict " ++ verdict_word says.as_claimed in
+    let flat = says.text ∙ said-flat says.front word (decimal says.held) (decimal says.failed) (printed_numbers says.numbers) (verdict_word says.as_claimed) in
+    let text = append_cancel_right (codes "Unfinished states=" ++ decimal limit) (before ++ 10 ∷ verdict) (10 ∷ []) flat in
+    feed-there before verdict (subst (λ (l : List ℕ). list_all is_in_line l ≡ true) text (digits-in-line (decimal limit) (all-digits limit)))
 
 -- ---- JSON
 
@@ -90,27 +125,29 @@ observed-text held failed =
     let before : List ℕ → List ℕ = λ rest. codes "{\"false\":" ++ (decimal failed ++ (codes ",\"true\":" ++ (decimal held ++ (codes ",\"word\":\"" ++ rest)))) in
     ap before (append_assoc (escape (frequency held failed)) (34 ∷ []) (125 ∷ [])) ∙ ap (λ (word : List ℕ). before (word ++ codes "\"}")) (frequency-plain held failed)
 
-object-flat : (depth failed held word states name : List ℕ)
+object-flat : (depth failed held word states name verdict : List ℕ)
     → line (codes "{\"depth\":" ++ (depth ++ (codes ",\"observation\":" ++ ((codes "{\"false\":" ++ (failed ++ (codes ",\"true\":" ++ (held ++ (codes ",\"word\":\"" ++ (word ++ codes "\"}"))))))
-    ++ (codes ",\"states\":" ++ (states ++ (codes ",\"test\":" ++ (name ++ codes "}"))))))))
+    ++ (codes ",\"states\":" ++ (states ++ (codes ",\"test\":" ++ (name ++ (codes ",\"verdict\":" ++ (verdict ++ codes "}"))))))))))
     ≡ codes "{\"depth\":" ++ (depth ++ (codes ",\"observation\":{\"false\":" ++ (failed ++ (codes ",\"true\":" ++ (held ++ (codes ",\"word\":\"" ++ (word
-    ++ (34 ∷ (codes "}" ++ (codes ",\"states\":" ++ (states ++ (codes ",\"test\":" ++ (name ++ codes "}\n")))))))))))))
-object-flat depth failed held word states name = simp append_assoc
+    ++ (34 ∷ (codes "}" ++ (codes ",\"states\":" ++ (states ++ (codes ",\"test\":" ++ (name ++ (codes ",\"verdict\":" ++ (verdict ++ codes "}\n")))))))))))))))
+object-flat depth failed held word states name verdict = simp append_assoc
 
 -- the object, where the test has a condition
-abbrev object_value : Litmus → Condition → ℕ → List Outcome → Data
-object_value t condition depth outcomes =
+abbrev pub object_value : Litmus → List Named → Condition → ℕ → List Outcome → Data
+object_value t names condition depth outcomes =
     object (member (codes "depth") (count depth)
     (member (codes "observation") (observation_value (Some condition) outcomes)
-    (member (codes "states") (states_value t outcomes)
-    (member (codes "test") (string t.name) no_members))))
+    (member (codes "states") (states_value t names outcomes)
+    (member (codes "test") (string t.name)
+    (member (codes "verdict") (verdict_value (Some condition) (is_met_in (Some condition) outcomes)) no_members)))))
 
-object-text : (t : Litmus) (condition : Condition) (depth : ℕ) (outcomes : List Outcome)
-    → line (compact_text (object_value t condition depth outcomes))
+pub object-text : (t : Litmus) (names : List Named) (condition : Condition) (depth : ℕ) (outcomes : List Outcome)
+    → line (compact_text (object_value t names condition depth outcomes))
     ≡ line (codes "{\"depth\":" ++ (decimal depth ++ (codes ",\"observation\":" ++ (compact_text (observed_value (held_in condition.claim outcomes) (failed_in condition.claim outcomes))
-    ++ (codes ",\"states\":" ++ (compact_text (states_value t outcomes) ++ (codes ",\"test\":" ++ (compact_text (string t.name) ++ codes "}"))))))))
+    ++ (codes ",\"states\":" ++ (compact_text (states_value t names outcomes) ++ (codes ",\"test\":" ++ (compact_text (string t.name)
+    ++ (codes ",\"verdict\":" ++ (compact_text (verdict_value (Some condition) (is_met_in (Some condition) outcomes)) ++ codes "}"))))))))))
 unfolding escape_byte
-object-text t condition depth outcomes = refl
+object-text t names condition depth outcomes = refl
 
 -- the word of an object stands before a quotation mark, and has none
 abbrev pub is_unquoted : ℕ → Bool
@@ -137,14 +174,16 @@ frequency-unquoted held failed = by (held == 0) (failed == 0)
     by false true = refl
     by false false = refl
 
-in-object : (t : Litmus) (condition : Condition) (depth : ℕ) (outcomes : List Outcome) (word : List ℕ) → list_all is_unquoted word ≡ true
-    → HasWordInObject word (line (compact_text (object_value t condition depth outcomes))) → frequency (held_in condition.claim outcomes) (failed_in condition.claim outcomes) ≡ word
-in-object t condition depth outcomes word plain says =
+in-object : (t : Litmus) (names : List Named) (condition : Condition) (depth : ℕ) (outcomes : List Outcome) (word : List ℕ) → list_all is_unquoted word ≡ true
+    → HasWordInObject word (line (compact_text (object_value t names condition depth outcomes))) → frequency (held_in condition.claim outcomes) (failed_in condition.claim outcomes) ≡ word
+in-object t names condition depth outcomes word plain says =
     let h = held_in condition.claim outcomes in
     let f = failed_in condition.claim outcomes in
-    let flat = object-text t condition depth outcomes
-    ∙ ap (λ (l : List ℕ). line (codes "{\"depth\":" ++ (decimal depth ++ (codes ",\"observation\":" ++ (l ++ (codes ",\"states\":" ++ (compact_text (states_value t outcomes) ++ (codes ",\"test\":" ++ (compact_text (string t.name) ++ codes "}"))))))))) (observed-text h f)
-    ∙ object-flat (decimal depth) (decimal f) (decimal h) (frequency h f) (compact_text (states_value t outcomes)) (compact_text (string t.name)) in
+    let verdict = compact_text (verdict_value (Some condition) (is_met_in (Some condition) outcomes)) in
+    let flat = object-text t names condition depth outcomes
+    ∙ ap (λ (l : List ℕ). line (codes "{\"depth\":" ++ (decimal depth ++ (codes ",\"observation\":" ++ (l ++ (codes ",\"states\":" ++ (compact_text (states_value t names outcomes)
+    ++ (codes ",\"test\":" ++ (compact_text (string t.name) ++ (codes ",\"verdict\":" ++ (verdict ++ codes "}"))))))))))) (observed-text h f)
+    ∙ object-flat (decimal depth) (decimal f) (decimal h) (frequency h f) (compact_text (states_value t names outcomes)) (compact_text (string t.name)) verdict in
     same-word depth says.depth f says.failed h says.held (frequency h f) word _ _ (frequency-unquoted h f) plain (sym flat ∙ says.text)
 
 third-byte : (t : Litmus) (limit : ℕ) → get_or (unfinished_json t limit) 2 0 ≡ 116
@@ -156,16 +195,21 @@ no-word-in-object t limit word says = omega (arith, sym (third-byte t limit) ∙
 
 -- ---- either form
 
-pub word-is : (json : Bool) (t : Litmus) (condition : Condition) (depth : ℕ) (outcomes : List Outcome) (word : List ℕ) → t.condition ≡ Some condition
+-- what is printed as JSON of a test with this condition; the states stay as they are
+pub of-condition : (t : Litmus) (names : List Named) (condition : Condition) (depth : ℕ) (outcomes : List Outcome) → t.condition ≡ Some condition
+    → outcomes_in true t names depth outcomes ≡ line (compact_text (object_value t names condition depth outcomes))
+of-condition t names condition depth outcomes is =
+    ap (λ c. line (compact_text (object (member (codes "depth") (count depth) (member (codes "observation") (observation_value c outcomes)
+    (member (codes "states") (states_value t names outcomes) (member (codes "test") (string t.name) (member (codes "verdict") (verdict_value c (is_met_in c outcomes)) no_members)))))))) is
+
+pub word-is : (json : Bool) (t : Litmus) (names : List Named) (condition : Condition) (depth : ℕ) (outcomes : List Outcome) (word : List ℕ) → t.condition ≡ Some condition
     → list_all is_no_space word ≡ true → list_all is_unquoted word ≡ true
-    → PrintsWord json word (outcomes_in json t depth outcomes) → frequency (held_in condition.claim outcomes) (failed_in condition.claim outcomes) ≡ word
-word-is false t condition depth outcomes word is plain unquoted says =
-    in-lines t condition depth outcomes word plain
-    (subst (λ c. EndsInWord word (test_line t ++ (outcomes_line depth (length outcomes) ++ (outcome_lines t outcomes ++ observation_line t.name c outcomes)))) is says)
-word-is true t condition depth outcomes word is plain unquoted says =
-    in-object t condition depth outcomes word unquoted
-    (subst (λ c. HasWordInObject word (line (compact_text (object (member (codes "depth") (count depth) (member (codes "observation") (observation_value c outcomes)
-    (member (codes "states") (states_value t outcomes) (member (codes "test") (string t.name) no_members)))))))) is says)
+    → PrintsWord json word (outcomes_in json t names depth outcomes) → frequency (held_in condition.claim outcomes) (failed_in condition.claim outcomes) ≡ word
+word-is false t names condition depth outcomes word is plain unquoted says =
+    in-lines t names condition depth outcomes word plain
+    (subst (λ c. EndsInWord word (test_line t ++ (outcomes_line depth (length outcomes) ++ (outcome_lines t names outcomes ++ condition_lines t.name c outcomes)))) is says)
+word-is true t names condition depth outcomes word is plain unquoted says =
+    in-object t names condition depth outcomes word unquoted (subst (λ (text : List ℕ). HasWordInObject word text) (of-condition t names condition depth outcomes is) says)
 
 pub word-isnt : (json : Bool) (t : Litmus) (limit : ℕ) (word : List ℕ) → PrintsWord json word (unfinished_search_in json t limit) → ⊥
 word-isnt false t limit word says = no-word limit word says

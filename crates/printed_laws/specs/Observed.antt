@@ -14,6 +14,8 @@ use Rattle.tso_laws.specs.Depth.{needed}
 use Rattle.outcome_laws.specs.Outcomes.{IsSequentiallyConsistent}
 use Rattle.litmus_reader.specs.Spelling.{SpellsTest}
 use Rattle.tso_report.specs.Report.{line}
+use Rattle.outcome_report.specs.Verdict.{verdict_word}
+use Rattle.outcome_report.specs.Outcomes.{printed_numbers}
 use Rattle.tso_io.specs.Limits.{longest_input}
 use Rattle.command_line.specs.Search.{Search}
 use Rattle.command_line.specs.declared.settings.Settings.TheVariants as settings
@@ -22,12 +24,15 @@ use Rattle.tso_cli.specs.Headline.{InputHeadline}
 
 -- ---- where the word stands
 
--- the text ends in the word and two counts: ` Never 0 4`
+-- the text's last line but two ends in the word and two counts: ` Never 0 4`, and then `True` and `Verdict No`
 pub record EndsInWord (word out : List ℕ) : Type 0 where
   pub front : List ℕ
   pub held : ℕ
   pub failed : ℕ
-  pub text : out ≡ front ++ (codes " " ++ (word ++ (codes " " ++ (decimal held ++ (codes " " ++ line (decimal failed))))))
+  pub numbers : List ℕ
+  pub as_claimed : Bool
+  pub text : out ≡ front ++ (codes " " ++ (word ++ (codes " " ++ (decimal held ++ (codes " " ++ (line (decimal failed)
+      ++ (codes "True" ++ (line (printed_numbers numbers) ++ (codes "Verdict " ++ line (verdict_word as_claimed))))))))))
 
 -- the object's second member has it: `{"depth":32,"observation":{"false":4,"true":0,"word":"Never"},..`
 pub record HasWordInObject (word out : List ℕ) : Type 0 where
@@ -80,7 +85,7 @@ IsSometimesSo t depth claim = IsSoSomewhere t depth claim true × IsSoSomewhere 
 -- where a text of which the headline holds has the word, this is so of the condition of the test that was given
 abbrev pub WordMeans : List ℕ → (Litmus → ℕ → Claim → Type 0) → Type 0
 WordMeans word Meant =
-    (search : Search) (json : Bool) (input out : List ℕ) (t : Litmus) (condition : Condition)
+    (search : Search) (json assert : Bool) (input out : List ℕ) (t : Litmus) (condition : Condition)
     → length input ≤ longest_input → SpellsTest (parts_of input).test t → t.condition ≡ Some condition
-    → InputHeadline (settings.Outcomes search json) input out → PrintsWord json word out
+    → InputHeadline (settings.Outcomes search json assert) input out → PrintsWord json word out
     → Meant t search.depth condition.claim

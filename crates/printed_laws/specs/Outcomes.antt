@@ -2,40 +2,43 @@
 use Rattle.std.specs.Prelude.{ℕ, ◌≡◌, ◌<◌, ◌^◌, Bool, List, map, length, All}
 use Rattle.tso_model.specs.Litmus.{Litmus, IsTest}
 use Rattle.scheduler.specs.Printed.{printed_choices}
+use Rattle.tso_report.specs.declared.named.Named.{Named}
+use Rattle.shown_values.specs.Shown.{named_in}
+use Rattle.shown_values.specs.declared.show.Show.{Show}
 use Rattle.outcome_report.specs.Outcomes.{Outcome, shown_values}
 use Rattle.outcome_report.specs.Printed.{outcomes_in}
 use Rattle.outcome_report.specs.Laws.{AreAlike}
 use Rattle.commands.specs.Outcomes.{AreAllOutcomes}
-use Rattle.tso_cli.specs.Fitting.{IsStateOf}
+use Rattle.tso_cli.specs.Fitting.{IsStateAt}
 
--- final states of this test, fewer than 2^64: each has a word for each register and location that is looked at
-pub record OutcomesFit (t : Litmus) (outcomes : List Outcome) : Type 0 where
-  pub states : All (λ o. IsStateOf t (shown_values t o)) outcomes
+-- final states, fewer than 2^64: each has a word for each register and location that is shown, which have these names
+pub record OutcomesFit (names : List Named) (outcomes : List Outcome) : Type 0 where
+  pub states : All (λ o. IsStateAt names (shown_values names o)) outcomes
   pub few : length outcomes < 2 ^ 64
 
--- the same values in the same order, the same counts, and the same choices
-pub record ShowTheSame (t : Litmus) (outcomes others : List Outcome) : Type 0 where
-  pub alike : AreAlike t outcomes others
+-- the same values in the same order, the same counts, the same states in which the proposition is true, and the same choices
+pub record ShowTheSame (t : Litmus) (names : List Named) (outcomes others : List Outcome) : Type 0 where
+  pub alike : AreAlike t names outcomes others
   pub choices : map (λ o. printed_choices o.choices) outcomes ≡ map (λ o. printed_choices o.choices) others
 
--- of the states of a search: the values of each, the choices that lead there, and the counts
+-- of the states of a search: the values of each, the choices that lead there, the counts, and in which the proposition is true
 abbrev pub OutcomesTellTheirStates : Bool → Type 0
 OutcomesTellTheirStates json =
-    (t : Litmus) (depth other_depth : ℕ) (outcomes others : List Outcome)
-    → IsTest t → depth < 2 ^ 64 → other_depth < 2 ^ 64 → OutcomesFit t outcomes → OutcomesFit t others
-    → outcomes_in json t depth outcomes ≡ outcomes_in json t other_depth others
-    → (depth ≡ other_depth) × ShowTheSame t outcomes others
+    (show : Show) (t : Litmus) (depth other_depth : ℕ) (outcomes others : List Outcome)
+    → IsTest t → depth < 2 ^ 64 → other_depth < 2 ^ 64 → OutcomesFit (named_in show t) outcomes → OutcomesFit (named_in show t) others
+    → outcomes_in json t (named_in show t) depth outcomes ≡ outcomes_in json t (named_in show t) other_depth others
+    → (depth ≡ other_depth) × ShowTheSame t (named_in show t) outcomes others
 
--- also of another test: which test it was, by its name, and the depth
+-- also of another test, and where something else is shown: which test it was, by its name, and the depth
 abbrev pub OutcomesTellTheirTests : Bool → Type 0
 OutcomesTellTheirTests json =
-    (t u : Litmus) (depth other_depth : ℕ) (outcomes others : List Outcome)
-    → IsTest t → IsTest u → depth < 2 ^ 64 → other_depth < 2 ^ 64 → OutcomesFit t outcomes → OutcomesFit u others
-    → outcomes_in json t depth outcomes ≡ outcomes_in json u other_depth others
+    (t u : Litmus) (names others_names : List Named) (depth other_depth : ℕ) (outcomes others : List Outcome)
+    → IsTest t → IsTest u → depth < 2 ^ 64 → other_depth < 2 ^ 64 → OutcomesFit names outcomes → OutcomesFit others_names others
+    → outcomes_in json t names depth outcomes ≡ outcomes_in json u others_names other_depth others
     → (t.name ≡ u.name) × (depth ≡ other_depth)
 
 -- the states that `outcomes` prints of a test are states of it
 abbrev pub PrintedStatesFit : Type 0
 PrintedStatesFit =
-    (t : Litmus) (depth : ℕ) (outcomes : List Outcome)
-    → IsTest t → AreAllOutcomes t depth outcomes → All (λ o. IsStateOf t (shown_values t o)) outcomes
+    (t : Litmus) (names : List Named) (depth : ℕ) (outcomes : List Outcome)
+    → IsTest t → AreAllOutcomes t names depth outcomes → All (λ o. IsStateAt names (shown_values names o)) outcomes

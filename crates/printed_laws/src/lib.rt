@@ -16,8 +16,9 @@ pub mod traces;
 
 use order_builder::laws::{order_is_spelled_once, printed_order_is_spelled};
 pub use outcomes::{
-    outcomes_tell_their_states, outcomes_tell_their_tests, printed_states_fit_their_test,
-    words_mean_what_they_say,
+    both_commands_print_one_verdict, outcomes_tell_their_states, outcomes_tell_their_tests,
+    printed_states_fit_their_test, statuses_tell_the_verdict, true_names_the_true_states,
+    verdicts_mean_what_they_say, words_mean_what_they_say,
 };
 pub use printed_reasons::{
     reasons_tell_their_steps, reasons_tell_their_tests, steps_of_reasons_fit_their_test,
