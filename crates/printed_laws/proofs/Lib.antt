@@ -40,3 +40,10 @@ pub mod KnownWords
 pub mod EventsFit
 pub mod ReasonsFit
 pub mod ReasonValues
+pub mod PlainAnswers
+pub mod CaseGroups
+pub mod ReadAnswers
+pub mod ReadLeaves
+pub mod ReadCases
+pub mod ReadingBack
+pub mod PrintedTrees

@@ -6,3 +6,4 @@ pub mod Verdicts
 pub mod Traces
 pub mod TracedMachines
 pub mod Reasons
+pub mod ReadBack

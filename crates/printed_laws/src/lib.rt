@@ -2,7 +2,8 @@
 //!
 //! Nothing here computes. Each public function has no code of its own, and its contract is a law on the definitions of what
 //! `run`, `sweep`, `outcomes`, `trace` and `why` print. What the laws say stands in `specs/`: of what may be shown and counted, of
-//! the runs of a machine, of final states and what is observed of them, of the steps of a trace, and of those of a refutation.
+//! the runs of a machine, of final states and what is observed of them, of the steps of a trace, of those of a
+//! refutation, and of the tree that is read back from these.
 #![tactic(auto)]
 
 ghost use Rattle.std.specs.Prelude.{true, false};
@@ -21,8 +22,9 @@ pub use outcomes::{
     verdicts_mean_what_they_say, words_mean_what_they_say,
 };
 pub use printed_reasons::{
-    reasons_tell_their_steps, reasons_tell_their_tests, steps_of_reasons_fit_their_test,
-    values_of_reasons_tell_their_steps,
+    printed_trees_refute, reasons_tell_their_steps, reasons_tell_their_tests,
+    steps_of_reasons_fit_their_test, values_of_reasons_tell_their_steps,
+    worked_trees_are_read_back,
 };
 pub use traces::{
     printed_traces_are_told, printed_traces_tell_their_machines, traced_steps_fit_their_test,

@@ -1,5 +1,12 @@
-//! What `why` prints of a refutation tells its steps: each answer, and why each case is closed.
+//! What `why` prints of a refutation tells its steps: each answer, and why each case is closed. It also tells a tree that refutes.
 
+ghost use Rattle.std.specs.Prelude.{◌≡◌};
+ghost use Rattle.reason_report.specs.Steps.{steps_of};
+ghost use Rattle.reason_report.specs.Worked.{between_asked, n6_asked, n6_refuted_twice, passing_asked};
+ghost use Rattle.refutation_laws.specs.Worked.{between_refuted, lost, n6_refuted, other_first, passed, passing_refuted};
+ghost use Rattle.refutation_laws.specs.declared.model.Model.TheVariants.{Tso};
+ghost use Rattle.printed_laws.specs.ReadBack.{tree_of, LinesTellTheirTree, PrintedTreesRefute, StepsOfRefutationsRefute};
+ghost use Rattle.printed_laws.specs.ReadBack.{PrintedValuesRefute, ValuesTellTheirTree};
 ghost use Rattle.printed_laws.specs.Reasons.{ReasonsTellTheirTests, ReasonsTellTheirSteps, ReasonValuesTellTheirSteps};
 ghost use Rattle.printed_laws.specs.Reasons.{StepsOfRefutationsFit, PrintedRefutationsTellTheirSteps};
 
@@ -25,4 +32,23 @@ pub fn reasons_tell_their_tests()
 /// values are words, and its edges are of the model's relations.
 pub fn steps_of_reasons_fit_their_test()
     ensures { StepsOfRefutationsFit }
+{}
+
+/// The tree that is read back from the steps of a refutation refutes too. Its printed lines tell one tree, whatever steps are read from
+/// them, and so does its JSON value. So whoever reads what is printed can hold it against `refutes`, and needs no program.
+pub fn printed_trees_refute()
+    ensures steps { StepsOfRefutationsRefute }
+    ensures lines { LinesTellTheirTree }
+    ensures printed { PrintedTreesRefute }
+    ensures values { ValuesTellTheirTree }
+    ensures printed_values { PrintedValuesRefute }
+{}
+
+/// Of the literature's small tests the tree that is read back is the one that was printed: of message passing, of what n6 doesn't
+/// allow, where one line closes two answers, once more behind a question that isn't needed, and of a locked addition.
+pub fn worked_trees_are_read_back()
+    ensures passing { tree_of passing_asked (steps_of Tso passing_asked passed passing_refuted) ≡ passing_refuted }
+    ensures n6 { tree_of n6_asked (steps_of Tso n6_asked other_first n6_refuted) ≡ n6_refuted }
+    ensures n6_twice { tree_of n6_asked (steps_of Tso n6_asked other_first n6_refuted_twice) ≡ n6_refuted_twice }
+    ensures between { tree_of between_asked (steps_of Tso between_asked lost between_refuted) ≡ between_refuted }
 {}
