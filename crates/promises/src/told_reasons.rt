@@ -1,19 +1,21 @@
 //! What the printed lines of a refutation tell of each step, part by part.
 
 ghost use Rattle.std.specs.Prelude.{◌≡◌, ◌<◌, ℕ, All, List, map, true};
+ghost use Rattle.printed_laws.specs.ReadBack.{tree_of};
 ghost use Rattle.printed_laws.specs.Reasons.{StepFits, depth_in, told_by_value, told_edge, told_event, told_step};
-ghost use Rattle.reason_report.specs.ReasonJson.{never_line};
+ghost use Rattle.reason_report.specs.ReasonJson.{never_json, never_line};
 ghost use Rattle.reason_report.specs.ReasonText.{never_lines, never_text};
 ghost use Rattle.reason_report.specs.Steps.{Step, leaves_in, steps_of};
 ghost use Rattle.reason_report.specs.declared.steps.Edge.{Edge};
 ghost use Rattle.reason_report.specs.declared.steps.Event.{Event};
 ghost use Rattle.refutation_laws.specs.Refutations.{Node, asked, refutes};
 ghost use Rattle.refutation_laws.specs.declared.model.Model.{Model};
+ghost use Rattle.tso_model.specs.Condition.{Claim};
 ghost use Rattle.tso_model.specs.Litmus.{IsTest, Litmus};
 
 use printed_laws::{
-    reasons_tell_their_steps, reasons_tell_their_tests, steps_of_reasons_fit_their_test,
-    values_of_reasons_tell_their_steps,
+    printed_trees_refute, reasons_tell_their_steps, reasons_tell_their_tests,
+    steps_of_reasons_fit_their_test, values_of_reasons_tell_their_steps,
 };
 
 /// Lines that are the same tell the same steps, and so they do of trees that refute, whose steps fit the test; so do JSON values, but
@@ -43,6 +45,32 @@ pub fn reasons_are_told_apart()
     reasons_tell_their_tests();
     steps_of_reasons_fit_their_test();
     values_of_reasons_tell_their_steps();
+}
+
+/// What is read back from the steps of a refutation refutes. Lines that are the same tell one tree, whatever steps are read from them, and
+/// that of what is printed of a refutation refutes what the test asks; so do JSON values of fewer than 2^64 leaves that are no deeper.
+pub fn a_tree_is_read_back()
+    ensures steps { (model : Model) (t : Litmus) (claim : Claim) (nodes : List Node) → refutes model t claim nodes ≡ true
+        → refutes model t claim (tree_of t (steps_of model t claim nodes)) ≡ true }
+    ensures lines { (model : Model) (t : Litmus) (steps others : List Step)
+        → IsTest t → All (StepFits model t) steps → All (StepFits model t) others
+        → never_lines model t steps ≡ never_lines model t others → tree_of t steps ≡ tree_of t others }
+    ensures printed { (model : Model) (t : Litmus) (nodes : List Node) (steps : List Step)
+        → IsTest t → refutes model t (asked t.condition) nodes ≡ true → All (StepFits model t) steps
+        → never_lines model t steps ≡ never_text model t nodes → refutes model t (asked t.condition) (tree_of t steps) ≡ true }
+    ensures values { (model : Model) (t : Litmus) (steps others : List Step)
+        → IsTest t → All (StepFits model t) steps → All (StepFits model t) others
+        → leaves_in steps < 18446744073709551616 → leaves_in others < 18446744073709551616
+        → All (λ s. depth_in s < 18446744073709551616) steps → All (λ s. depth_in s < 18446744073709551616) others
+        → never_line model t steps ≡ never_line model t others → tree_of t steps ≡ tree_of t others }
+    ensures printed_values { (model : Model) (t : Litmus) (nodes : List Node) (steps : List Step)
+        → IsTest t → refutes model t (asked t.condition) nodes ≡ true → All (StepFits model t) steps
+        → leaves_in steps < 18446744073709551616 → All (λ s. depth_in s < 18446744073709551616) steps
+        → leaves_in (steps_of model t (asked t.condition) nodes) < 18446744073709551616
+        → All (λ s. depth_in s < 18446744073709551616) (steps_of model t (asked t.condition) nodes)
+        → never_line model t steps ≡ never_json model t nodes → refutes model t (asked t.condition) (tree_of t steps) ≡ true }
+{
+    printed_trees_refute();
 }
 
 /// What is told of an event: its core, place, kind and location, and the value that is known; and of an edge both ends and the
