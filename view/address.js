@@ -74,6 +74,7 @@ function openTest(fragment) {
   putCommand(told.get('command'));
   drive.beside = otherMachines({ ...Tso.DEFAULTS, ...readSettings('run').options }).slice(1).find(machine => machineName(machine) === told.get('beside')) ?? null;
   answerNow();
+  if (LONG.includes(currentCommand()) && byId('said').textContent === '') begin();
   if (drive.isOn && /^\d{1,4}$/.test(told.get('at') ?? '')) goTo(Number(told.get('at')));
 }
 

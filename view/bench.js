@@ -8,7 +8,7 @@
  */
 const bench = { tso: null, bytes: null, task: null, answer: null, tracing: null };
 
-const LONG = ['outcomes', 'sweep'];
+const LONG = ['outcomes', 'sweep', 'why'];
 
 /** The bytes of a module that were packed by gzip and stand as a text in base64. */
 async function unpacked(text) {
@@ -161,6 +161,7 @@ async function begin() {
     stopTask();
     if (command === 'run') showLongRun(answer, beside, options, input);
     else if (command === 'outcomes' && answer.status === Tso.STATUS.good) showOutcomes(answer, beside, input);
+    else if (command === 'why' && answer.status === Tso.STATUS.good) showReason(answer, input);
     else showOpenAnswer(answer);
   } catch (fault) {
     if (bench.task !== task) return;
@@ -173,7 +174,7 @@ async function begin() {
 function questionsOf(command, options) {
   if (command === 'run') return [options, { ...options, json: true }];
   if (command === 'outcomes') return [{ ...options, json: true }, ...(options.depth > 0 ? [{ ...options, depth: 0, json: true }] : [])];
-  return [options];
+  return [command === 'why' ? { ...options, json: true } : options];
 }
 
 function showLongRun(answer, line, options, input) {
@@ -212,15 +213,15 @@ function judgeOrder(command) {
   answerNow();
 }
 
-/** Runs choices that a search found, on the machine that it searched: the bus is atomic, and the buffers are as deep. */
-function loadChoices(choices) {
-  settingOf('depth').value = settingOf('searched').value;
+/** Runs choices that were found, on the machine of which they were found: the bus is atomic, and the buffers are as deep. */
+function loadChoices(choices, depth) {
+  settingOf('depth').value = depth;
   settingOf('bus').value = 'atomic';
   putChoices(choices + '\n');
   putCommand('run');
-  const table = [...byId('states').children]; // it stays beside the run
+  const sheet = [...byId('states').children]; // it stays beside the run
   answerNow();
-  byId('states').replaceChildren(...table);
+  byId('states').replaceChildren(...sheet);
 }
 
 /** Loads a text of the list, at the depth that it needs. */
@@ -251,6 +252,7 @@ async function makeBench() {
   const tso = await Tso.of(bench.bytes);
   bench.tracing = tracingOf(tso);
   bench.tso = tso;
+  if (!tellsWhy(tso)) for (const part of document.querySelectorAll('[data-for=why]')) part.remove();
   const { version, tools, sources } = MODULE;
   byId('version').textContent = `The machine is of version ${version}: made by ${tools}, of sources with the digest ${sources.slice(0, 16)}.`;
 }

@@ -2,19 +2,19 @@
 
 // The table of all final states, each with a button for the choices that reach it.
 
-/** What `outcomes --json` says: its states and the observation, or how many states weren't enough. */
+/** What `outcomes --json` says: its states, the observation and the verdict, or how many states weren't enough. */
 function readOutcomes(text) {
-  const { states, observation, unfinished, depth } = JSON.parse(text);
-  return { states, observation, unfinished, depth };
+  const { states, observation, verdict = null, unfinished, depth } = JSON.parse(text);
+  return { states, observation, verdict, unfinished, depth };
 }
 
-function observationSentence({ states, observation, depth }) {
+function observationSentence({ states, observation, verdict, depth }) {
   const many = states.length === 1 ? 'One final state' : `${states.length} final states`;
   const where = depth === 32 ? 'under TSO' : depth === 0 ? 'under sequential consistency' : `with store buffers of depth ${depth}`;
   if (observation === null) return `${many} ${where}. The test has no condition.`;
   const { word, true: yes, false: no } = observation;
   const said = { Never: 'No run ends', Always: 'Every run ends', Sometimes: 'Some runs end' }[word];
-  return `${many} ${where}. ${word}: ${said} in a state of which the condition's proposition is true (${yes} of the states, and ${no} not).`;
+  return `${many} ${where}. ${word}: ${said} in a state of which the condition's proposition is true (${yes} of the states, and ${no} not).${verdictWords(verdict)}`;
 }
 
 const valuesText = values => Object.entries(values).map(([name, word]) => `${name}=${word}`).join(' ');
@@ -35,9 +35,12 @@ function newStates({ states }, sequential) {
 
 const MOST_RUN = 100; // states whose choices are run for the table
 
-/** Of each state whether the condition's proposition is true of it, by running its choices; null where that isn't told. */
+/** Of each state whether the condition's proposition is true of it, as the answer tells; of an older module, by running its choices; null
+ * where neither does. */
 function truthsOf({ states, observation, depth }, test) {
-  if (observation === null || states.length > MOST_RUN) return null;
+  if (observation === null) return null;
+  if (states.every(({ holds }) => typeof holds === 'boolean')) return states.map(({ holds }) => holds);
+  if (states.length > MOST_RUN) return null;
   const truths = states.map(({ choices }) => {
     const { status, text } = asked({ command: 'run', json: true, depth }, `${test}${DIVIDING_LINE}\n${choices}\n`);
     return status === Tso.STATUS.good ? readLine(text.trim()).condition?.holds ?? null : null;
@@ -55,5 +58,5 @@ function outcomesTable(outcomes, sequential, truths) {
     ...(sequential ? [html('td', {}, isNew[at] ? html('strong', {}, 'TSO alone') : 'TSO and SC')] : []),
     ...(truths ? [html('td', {}, truths[at] ? '✓ true' : 'false')] : []),
     html('td', { class: 'wraps way' }, choices === '' ? '(none)' : choices),
-    html('td', {}, html('button', { type: 'button', 'data-choices': choices, 'aria-label': `Run to ${valuesText(values)}` }, 'Run them')))));
+    html('td', {}, html('button', { type: 'button', 'data-choices': choices, 'data-depth': outcomes.depth, 'aria-label': `Run to ${valuesText(values)}` }, 'Run them')))));
 }

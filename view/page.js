@@ -43,14 +43,16 @@ document.addEventListener('pointerdown', event => {
   if (choice !== undefined) askAhead(choice);
 });
 document.addEventListener('click', event => {
-  const { move: way, choices, file, save, machine, choice, judge } = (event.target.closest('[data-choice]') ?? event.target).dataset;
+  const { move: way, choices, depth, file, save, machine, choice, judge, cycle, edges } = (event.target.closest('[data-choice]') ?? event.target).dataset;
   if (way !== undefined) move(way);
   else if (choice !== undefined) makeChoice(choice);
-  else if (choices !== undefined) loadChoices(choices);
+  else if (choices !== undefined) loadChoices(choices, depth);
   else if (file !== undefined) loadText(file);
   else if (save !== undefined) SAVES[save]();
   else if (machine !== undefined) takeMachine(machine);
   else if (judge !== undefined) judgeOrder(judge);
+  else if (cycle !== undefined) drawCycle(Number(cycle));
+  else if (edges !== undefined) sheet.cycle.move(edges);
 });
 byId('line').addEventListener('input', event => show(event.target.value));
 byId('file').addEventListener('change', event => {
@@ -89,6 +91,7 @@ byId('stop').addEventListener('click', () => {
   byId('said').textContent = 'Stopped.';
 });
 byId('find-outcomes').addEventListener('click', findOutcomes);
+byId('ask-why').addEventListener('click', askWhy);
 byId('copy-link').addEventListener('click', copyLink);
 byId('search').addEventListener('input', showLibrary);
 byId('comparison').addEventListener('toggle', () => bench.tso && compareNow());

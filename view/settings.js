@@ -10,14 +10,17 @@ const SETTINGS = {
   check: [],
   witness: ['depth'],
   tables: ['protocol'],
+  why: ['model', 'cases'],
 };
-const CHOSEN = ['protocol', 'bus'];
+const CHOSEN = ['protocol', 'bus', 'model'];
+/** What the button says that begins a long command. */
+const BEGINS = { outcomes: 'Find all outcomes', sweep: 'Run the seeds', why: 'Say why' };
 /** The settings by the names of the page: `searched` is the depth of a search, whose default is another than that of a run. */
 const SET_AT_FIRST = { ...Tso.DEFAULTS, searched: 32 };
-const SET_NAMES = ['protocol', 'bus', 'depth', 'sets', 'ways', 'words', 'from', 'seeds', 'length', 'searched', 'states'];
+const SET_NAMES = ['protocol', 'bus', 'depth', 'sets', 'ways', 'words', 'from', 'seeds', 'length', 'searched', 'states', 'model', 'cases'];
 
-/** The command of a name, or `run`. */
-const commandOf = name => (Object.hasOwn(SETTINGS, name) ? name : 'run');
+/** The command of a name, or `run` where there is none, or none that this module answers. */
+const commandOf = name => (Object.hasOwn(SETTINGS, name) && document.querySelector(`#commands input[value=${name}]`) ? name : 'run');
 
 const settingOf = name => byId('set-' + name);
 
@@ -50,8 +53,8 @@ function showSettings(command) {
   byId('settings').hidden = SETTINGS[command].length === 0;
   byId('choices-part').hidden = command !== 'run';
   byId('given-part').hidden = !readsOrder(command);
-  byId('begin').hidden = command !== 'outcomes' && command !== 'sweep';
-  byId('begin').textContent = command === 'outcomes' ? 'Find all outcomes' : 'Run the seeds';
+  byId('begin').hidden = !Object.hasOwn(BEGINS, command);
+  byId('begin').textContent = BEGINS[command] ?? '';
 }
 
 /** The settings that aren't the defaults, as words of an address and of a command line go by them. */

@@ -18,7 +18,8 @@ It needs Debian's browser, on a machine that isn't the gate's: apt-get install -
 - The machine that is driven is at each step the one that the trace tells, and its picture too: the rows of driving.py; and it stands first: those of first.py. Where the
   module tells no steps, or there is none, stand_in.js answers in its place.
 - With the module that tools/page has made of this tree (else that part is left out with a word) the page answers as the program does:
-  the rows of machine.py and looks.py; and so it does where it once went wrong: the rows of repairs.py.
+  the rows of machine.py and looks.py; and so it does where it once went wrong: the rows of repairs.py. Why something can't be, or how it
+  can, is told, drawn and run as the program tells it: the rows of reasons.py.
 
 The last line is 'N passed, M failed'.
 """
@@ -41,6 +42,7 @@ import driving
 import first
 import given_lines
 import machine
+import reasons
 import repairs
 from bench import READY
 from drawing import read
@@ -77,6 +79,33 @@ def folder_with_stand_in(room, view, missing):
         with open(os.path.join(folder, name), "w") as file:
             file.write(text)
     return folder
+
+
+def folder_with_reasons(room, view, program):
+    """A copy of a folder of the page whose module answers `why` as the program does; None where the program doesn't."""
+    script = reasons.stand_in(program)
+    if script is None:
+        return None
+    folder = os.path.join(room, "reasons")
+    shutil.copytree(view, folder)
+    page = read(folder, "index.html").replace('<script src="page.js">', '<script src="told_reasons.js"></script>\n<script src="page.js">')
+    for name, text in (("index.html", page), ("told_reasons.js", script)):
+        with open(os.path.join(folder, name), "w") as file:
+            file.write(text)
+    return folder
+
+
+def rows_of_reasons(page, room, folder):
+    """The rows of `why`: by the module where it answers, else by the program's answers; none where neither does."""
+    page.window.open(page.address)
+    page.value(READY)
+    if page.value("document.querySelector('#commands [value=why]') === null"):
+        told = folder_with_reasons(room, page.folder.removeprefix("file://"), page.program)
+        if told is None:
+            print("left out, the rows of why: the program doesn't answer it")
+            return []
+        page = Page(page.program, page.window, told)
+    return reasons.rows(page, folder)
 
 
 class Page:
@@ -142,7 +171,7 @@ def all_rows(window, program, room, folder, is_shipped):
     if missing:
         print("left out, what the page answers: " + missing)
         return found
-    found += [*machine.rows(page, folder), *repairs.rows(page, folder)]
+    found += [*machine.rows(page, folder), *repairs.rows(page, folder), *rows_of_reasons(page, room, folder)]
     if not tells_steps(page):
         found += [(name + ", with steps", judge) for name, judge in machine.rows(with_steps, folder) if name not in machine.OF_THE_MODULE]
     return found

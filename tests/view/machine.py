@@ -149,6 +149,7 @@ def outcomes_row(bench, folder):
         is_met = state["values"]["0:EAX"] == 0 == state["values"]["1:EAX"]
         faults += differs("of %s" % state["values"], [under, holds], ["TSO and SC" if state["values"] in sequential else "TSO alone", "✓ true" if is_met else "false"])
     faults += [] if "1 is new here" in bench.text("#states p") else ["it says " + bench.text("#states p")]
+    faults += [] if "Verdict Ok" in bench.text("#states p") or "verdict" not in found else ["it says " + bench.text("#states p")]
     bench.window.screenshot(os.path.join(folder, "outcomes.png"))
     for at, state in enumerate(found["states"]):
         bench.choose("outcomes")
@@ -165,6 +166,21 @@ def outcomes_row(bench, folder):
     bench.window.click("#begin")
     bench.wait("!bench.task && byId('hint').textContent")
     faults += differs("too few states", bench.text("#hint"), bench.said(bench.program(test, "outcomes", "--states", "3")[2]))
+    return faults + safety(bench)
+
+
+def verdict_row(bench):
+    """What an answer tells of a condition is shown as it is: of each state whether it makes it true, and the verdict."""
+    bench.open()
+    test = read(EXAMPLES, FIRST).partition(DIVIDING_LINE)[0]
+    found = json.loads(bench.program(test, "outcomes", "--json")[1])
+    truths = [at % 3 == 0 for at in range(len(found["states"]))]  # others than those of the test, so that nothing but the answer says so
+    for verdict in ("Ok", "No"):
+        told = {**found, "verdict": verdict, "states": [{**state, "holds": holds} for state, holds in zip(found["states"], truths)]}
+        bench.value("showOutcomes({ status: 0, text: %s, hint: '' }, undefined, %s)" % (json.dumps(json.dumps(told)), json.dumps(test)))
+        marked = bench.value("[...document.querySelectorAll('#states tbody tr')].map(row => [row.matches('.met'), row.textContent.includes('✓ true')])")
+        faults = differs("marked", marked, [[holds, holds] for holds in truths])
+        faults += [] if "Verdict %s: " % verdict in bench.text("#states p") else ["it says " + bench.text("#states p")]
     return faults + safety(bench)
 
 
@@ -365,6 +381,7 @@ def rows(page, folder):
         ("made inputs", lambda: made_row(bench)),
         ("what is refused", lambda: refused_row(bench, folder)),
         ("outcomes", lambda: outcomes_row(bench, folder)),
+        ("the verdict", lambda: verdict_row(bench)),
         ("a sweep", lambda: sweep_row(bench)),
         ("a search that is stopped", lambda: stop_row(bench)),
         ("a run of very many choices", lambda: long_run_row(bench)),

@@ -1,0 +1,173 @@
+"""Rows for the sheet of `why`, against what the program tells as JSON: the cases, each cycle drawn and stepped, an execution and its run.
+
+Where the page's module doesn't answer `why`, the program's own answers stand in for it."""
+import json
+import os
+import subprocess
+
+from bench import EXAMPLES, OVERHANGING, differs, read, safety
+from driver import Driver
+
+GALLERY = os.path.join(EXAMPLES, "gallery")
+PLAIN = "X86 plain\n{ x=7; }\n P0          | P1         ;\n MOV EAX,[x] | MOV [x],$1 ;\n"
+# Each test with its model: cycles of each relation, cases of reads and of orders, locked instructions, and executions.
+ASKED = [("MP", "tso"), ("SB+mfences", "tso"), ("SB+xchgs", "tso"), ("INC+xadds", "tso"), ("CoWR", "tso"), ("IRIW", "tso"), ("SB", "sc"), ("SB", "tso"), ("R", "tso"), ("plain", "sc"), ("plain", "tso")]
+SHIFTED = 1.5  # by how many pixels an end of an edge may lie beside its box
+
+
+def text_of(name):
+    return PLAIN if name == "plain" else read(GALLERY, name + ".litmus").partition("====\n")[0]
+
+
+def told_by(program, name, model):
+    """What the program tells of a test; None where it has no such command."""
+    done = subprocess.run([program, "why", "--json", "--model", model], input=text_of(name).encode(), capture_output=True, timeout=120)
+    return json.loads(done.stdout) if done.returncode == 0 else None
+
+
+def stand_in(program):
+    """A script by which a page's module answers `why` of these tests as the program does; None where the program doesn't."""
+    told = {"%s %s" % asked: told_by(program, *asked) for asked in ASKED}
+    if None in told.values():
+        return None
+    return "'use strict';\n\nconst TOLD_REASONS = %s;\n" % json.dumps(told) + """
+const answerOfModule = Tso.prototype.answer, taskOfPage = beginTask;
+Tso.prototype.answer = function (options, input) {
+  if (options.command !== 'why') return answerOfModule.call(this, options, input);
+  const name = /^X86 (\\S+)/.exec(typeof input === 'string' ? input : new TextDecoder().decode(input))[1];
+  const told = TOLD_REASONS[`${name} ${options.model ?? 'tso'}`];
+  return { status: 0, text: JSON.stringify(told) + '\\n', hint: '' };
+};
+beginTask = (bytes, questions, input) => (questions[0].command !== 'why' ? taskOfPage(bytes, questions, input)
+  : { answers: Promise.resolve(questions.map(options => bench.tso.answer(options, input))), stop() {} });
+"""
+
+
+def ask(bench, name, model):
+    bench.fill("test", text_of(name))
+    bench.value("settingOf('model').value = '%s'; askWhy()" % model)
+    bench.wait("!bench.task && document.querySelector('.reason')")
+
+
+TREE = """(function told(list) {
+  return [...list.children].map(item => item.firstElementChild?.matches('details')
+    ? [item.querySelector('summary').textContent, told(item.querySelector('ul'))] : [...item.childNodes].filter(each => each.nodeName === '#text').map(each => each.textContent).join('').trim());
+})(document.querySelector('.tree > ul'))"""
+CYCLE = """({
+  edges: [...document.querySelectorAll('.drawn [data-letters]')].map((edge, at) => [edge.querySelector('text').textContent,
+    ...['.later', '.now'].map(name => edge.matches(name) && document.querySelector(`.drawn [data-edge='${at}']`).matches(name))]),
+  sentences: [...document.querySelectorAll('.drawn .edges li')].map(item => [item.textContent, item.matches('.later'), item.hasAttribute('aria-current')]),
+  buttons: [...document.querySelectorAll('[data-edges]')].map(button => button.disabled),
+})"""
+# Of each edge how far its ends are from the sides of the boxes of its two events, in pixels.
+ENDS = """(edges => edges.map(({ from, to }, at) => {
+  const way = document.querySelector(`.drawn [data-edge='${at}'] path`), end = way.getPointAtLength(way.getTotalLength()), start = way.getPointAtLength(0);
+  const boxOf = text => [...document.querySelectorAll('.drawn svg > .store, .drawn svg > .load')].find(each => each.dataset.event === text.split(' ').slice(0, 2).join(' ')).querySelector('rect').getBBox();
+  const away = ({ x, y }, box) => Math.max(Math.min(Math.abs(x - box.x), Math.abs(x - box.x - box.width)), Math.abs(y - box.y - box.height / 2));
+  return [away(start, boxOf(from)), away(end, boxOf(to))];
+}))"""
+
+
+def wanted_tree(steps, depth=0):
+    """The steps as the page has to nest them: of each the kind, and of a case what is told of it. Takes the steps that it nests."""
+    found = []
+    while steps and steps[0]["depth"] == depth:
+        step = steps.pop(0)
+        found.append([step, wanted_tree(steps, depth + 1)] if step["step"] == "case" else step)
+    return found
+
+
+def words_of(step):
+    """Words that a step's sentence must have."""
+    if step["step"] in ("case", "so"):
+        sources = [each for each in step.get("from", []) if each != "initial"]
+        return [step.get("read") or step["first"], *sources, *([step["second"]] if "second" in step else []), *(["initial value"] if "initial" in step.get("from", []) else [])]
+    if step["step"] == "false":
+        return [str(word) for words in step["places"].values() for word in words]
+    return [step["cycle"][0]["from"]] if "cycle" in step else [step["between"]] if "between" in step else ["No other case"]
+
+
+def faults_of_tree(shown, wanted, name):
+    if len(shown) != len(wanted):
+        return ["%s: %d steps, and not %d" % (name, len(shown), len(wanted))]
+    faults = []
+    for said, step in zip(shown, wanted):
+        if isinstance(step, list):
+            faults += faults_of_tree(said[1], step[1], name) if isinstance(said, list) else ["%s: a case doesn't fold" % name]
+            said, step = said[0], step[0]
+        faults += ["%s: %s isn't in %s" % (name, word, said) for word in words_of(step) if word not in said]
+    return faults
+
+
+def faults_of_cycle(bench, cycle):
+    """What is drawn of a cycle, all of it and edge by edge."""
+    faults, length = [], len(cycle)
+    for way, shown in [("all", length), ("first", 1)] + [("next", at) for at in range(2, length + 1)] + [("back", length - 1), ("all", length)]:
+        bench.value("document.querySelector('[data-edges=%s]').click()" % way)
+        got = bench.value(CYCLE)
+        faults += differs("edges at %d" % shown, got["edges"], [[edge["relation"], at >= shown, at == shown - 1] for at, edge in enumerate(cycle)])
+        faults += differs("sentences at %d" % shown, [each[1:] for each in got["sentences"]], [[at >= shown, at == shown - 1] for at in range(length)])
+        faults += differs("buttons at %d" % shown, got["buttons"], [shown == 1, shown == 1, shown == length, shown == length])
+    for (said, _, _), edge in zip(got["sentences"], cycle):
+        faults += ["%s has no %s" % (said, word) for word in (edge["from"], edge["to"]) if word not in said]
+    return faults + ["an edge is %.1f pixels beside its event" % away for pair in bench.value("(%s)(%s)" % (ENDS, json.dumps(cycle))) for away in pair if away > SHIFTED + 3]
+
+
+def never_row(bench, folder, name, model):
+    """The cases as the program tells them, which fold, and each of their cycles."""
+    told = told_by(bench.page.program, name, model)
+    bench.open(width=1280)
+    ask(bench, name, model)
+    faults = faults_of_tree(bench.value(TREE), wanted_tree(list(told["steps"])), name)
+    said = bench.text(".reason > p")
+    faults += [] if "There is none" in said and ("Verdict %s: " % told["verdict"] in said) else ["it says " + said]
+    for at, step in enumerate(told["steps"]):
+        if "cycle" in step:
+            bench.value("document.querySelector('[data-cycle=\"%d\"]').click()" % at)
+            faults += faults_of_cycle(bench, step["cycle"])
+    bench.window.screenshot(os.path.join(folder, "why-%s-%s.png" % (name, model)))
+    return faults + bench.value(OVERHANGING) + safety(bench)
+
+
+def allowed_row(bench, folder, name, model):
+    """The execution as the program tells it; its button runs it, and the run ends as it says."""
+    told = told_by(bench.page.program, name, model)
+    bench.open(width=1280)
+    ask(bench, name, model)
+    rows = bench.value("[...document.querySelectorAll('.reason table')].map(table => [...table.querySelectorAll('tbody tr')].map(row => [...row.cells].map(cell => cell.textContent)))")
+    faults = differs("sources", rows[0], [[each["read"], "the initial value" if each["write"] == "initial" else each["write"]] for each in told["sources"]])
+    faults += differs("coherence", rows[1], [[location, ", ".join(writes)] for location, writes in told["coherence"].items()])
+    bench.window.screenshot(os.path.join(folder, "why-%s-%s.png" % (name, model)))
+    bench.value("document.querySelector('.reason [data-choices]').click()")
+    faults += differs("the choices of the run", bench.value("choicesText().trim()"), told["choices"])
+    left = bench.value("[Object.fromEntries(shown.run.memory), shown.run.registers.map(file => Object.fromEntries(file))]")
+    ends = {place: left[1][int(place[0])][place[2:]] if ":" in place else left[0][place] for place in told["values"]}
+    faults += differs("what the run left", ends, told["values"]) + differs("the sheet beside the run", bench.value("document.querySelector('.reason') !== null"), True)
+    return faults + bench.value(OVERHANGING) + safety(bench)
+
+
+def address_row(bench):
+    """The address of a sheet opens it again."""
+    bench.open()
+    ask(bench, "SB", "sc")
+    bench.wait("location.hash.includes('command=why')")
+    bench.window.call("Page.reload")
+    bench.value("new Promise(done => document.readyState === 'complete' ? done() : addEventListener('load', () => done()))")
+    bench.wait("document.querySelector('.drawn [data-edge]')")
+    return differs("after a reload", bench.value("[currentCommand(), settingOf('model').value]"), ["why", "sc"]) + safety(bench)
+
+
+def narrow_row(bench, folder):
+    """At 360 pixels nothing of a sheet hangs over."""
+    bench.open(width=360)
+    ask(bench, "SB+mfences", "tso")
+    bench.window.screenshot(os.path.join(folder, "why-360.png"))
+    return bench.value(OVERHANGING) + safety(bench)
+
+
+def rows(page, folder):
+    bench, found = Driver(page), []
+    for name, model in ASKED:
+        row = allowed_row if told_by(page.program, name, model)["answer"] == "allowed" else never_row
+        found.append(("why, %s under %s" % (name, model), lambda row=row, name=name, model=model: row(bench, folder, name, model)))
+    return found + [("why, after a reload", lambda: address_row(bench)), ("why, at 360 pixels", lambda: narrow_row(bench, folder))]

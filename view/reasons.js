@@ -1,0 +1,90 @@
+'use strict';
+
+// Why what a condition asks for can't be, in words: the cases as a tree; and where it can be, the execution in which it is so.
+
+const MODEL_NAMES = { tso: 'x86-TSO', sc: 'sequential consistency' };
+const DEPTH_OF = { tso: 32, sc: 0 }; // of the buffers on which an execution's choices are run
+const FEW_LEAVES = 16; // up to so many all cases are open at first
+
+/** What is asked for, as a noun; `proposition` is the condition's text, with its quantifier. */
+function askedWords({ asked, model }, proposition) {
+  if (asked === null) return `an execution of ${MODEL_NAMES[model]}`;
+  const said = proposition.replace(/^\s*(?:~\s*exists|exists|forall)\s*/, '');
+  return `an execution of ${MODEL_NAMES[model]} in which ${said} is ${asked.truth}`;
+}
+
+/** What an answer comes to, in sentences. */
+function reasonSentence(told, proposition) {
+  const asked = askedWords(told, proposition);
+  const ways = { never: () => `There is none: ${told.leaves === 1 ? 'the one case ends' : `each of the ${told.leaves} cases ends`} in a contradiction.`, allowed: () => 'There is one: this.' };
+  return `The test asks for ${asked}. ${ways[told.answer]()}${verdictWords(told.verdict)}`;
+}
+
+/** Herd's word on the whole condition, where there is one; empty where the test has none. */
+function verdictWords(verdict) {
+  if (verdict === null || verdict === undefined) return '';
+  return ` Verdict ${verdict}: ${verdict === 'Ok' ? 'it is as the condition says.' : 'it is not as the condition says.'}`;
+}
+
+const sourceText = source => (source === 'initial' ? 'the initial value' : `what ${source} writes`);
+const eitherOf = words => (words.length < 2 ? words.join('') : `${words.slice(0, -1).join(', ')} or ${words.at(-1)}`);
+
+/** What a step of a reason says. */
+const STEP_SENTENCES = {
+  case: step => (step.read ? `If ${step.read} reads ${eitherOf(step.from.map(sourceText))}` : `If ${step.first} reaches memory before ${step.second}`),
+  so: step => (step.read ? `So ${step.read} reads ${eitherOf(step.from.map(sourceText))}.` : `So ${step.first} reaches memory before ${step.second}.`),
+  cycle: ({ cycle }) => `It can't be: ${cycle[0].from} would be before itself.`,
+  uniproc: ({ cycle }) => `It can't be: of one location alone, ${cycle[0].from} would be before itself.`,
+  between: ({ between, read }) => `It can't be: ${between} would come between the two parts of the locked instruction ${read.split(' ')[0]}.`,
+  false: ({ places }) => `Then ${listed(Object.entries(places).map(([place, words]) => `${placeName(place)} ends as ${eitherOf(words.map(String))}`))}, which isn't what is asked for.`,
+  endcases: () => 'No other case is left.',
+};
+
+const placeName = place => place.replace(/^(\d):(\w+)$/, 'P$1\'s $2');
+const stepSentence = step => STEP_SENTENCES[step.step](step);
+
+/** The steps as a tree: a case has in `parts` all that is told of it. */
+function treeOf(steps) {
+  const roots = [], open = [roots]; // `open[depth]` takes what comes at this depth
+  for (const step of steps) {
+    const node = step.step === 'case' ? { step, parts: [] } : { step };
+    open.length = step.depth + 1;
+    open[step.depth].push(node);
+    if (node.parts) open.push(node.parts);
+  }
+  return roots;
+}
+
+/** The cycles of a reason, each with the number of its step. */
+const cyclesOf = steps => steps.map(({ cycle }, at) => ({ cycle, at })).filter(({ cycle }) => cycle !== undefined);
+
+/** A tree as nested lists, of which each case folds. A cycle has a button that draws it. */
+function treeList(nodes, steps, isOpen) {
+  return html('ul', { class: 'cases' }, ...nodes.map(({ step, parts }) => {
+    if (parts) return html('li', {}, html('details', isOpen ? { open: '' } : {}, html('summary', {}, stepSentence(step)), treeList(parts, steps, isOpen)));
+    const draw = step.cycle ? [' ', html('button', { type: 'button', 'data-cycle': steps.indexOf(step), 'aria-pressed': 'false' }, 'Draw it')] : [];
+    return html('li', { class: `step-${step.step}` }, stepSentence(step), ...draw);
+  }));
+}
+
+/** Of an execution the edges that its sources and its coherence tell; after a read come the writes that overwrite what it returned. */
+function edgesOf({ sources, coherence }) {
+  const writes = Object.values(coherence), locationOf = text => eventOf(text).location;
+  const order = writes.flatMap(each => each.slice(1).map((to, at) => ({ from: each[at], relation: 'co', to })));
+  const reads = sources.flatMap(({ read, write }) => {
+    const own = coherence[locationOf(read)] ?? [], next = write === 'initial' ? own[0] : own[own.indexOf(write) + 1];
+    const isOwn = next !== undefined && eventOf(next).core === eventOf(read).core && eventOf(next).place === eventOf(read).place;
+    return [...(write === 'initial' ? [] : [{ from: write, relation: 'rf', to: read }]), ...(next === undefined || isOwn ? [] : [{ from: read, relation: 'fr', to: next }])];
+  });
+  return [...order, ...reads];
+}
+
+/** An execution in words: what each read returned, the order of writes, and what is left. */
+function executionTables({ sources, coherence, values }) {
+  const row = (name, ...cells) => html('tr', {}, html('th', { scope: 'row' }, name), ...cells.map(cell => html('td', { class: 'wraps' }, cell)));
+  return [
+    tableOf('What each read returns', ['Read', 'Of'], sources.map(({ read, write }) => row(read, write === 'initial' ? 'the initial value' : write))),
+    tableOf('In which order writes reach memory', ['Location', 'Writes'], Object.entries(coherence).map(([location, writes]) => row(location, writes.join(', ')))),
+    tableOf('What is left', ['Place', 'Word'], Object.entries(values).map(([place, word]) => row(placeName(place), String(word)))),
+  ];
+}

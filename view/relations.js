@@ -1,0 +1,41 @@
+'use strict';
+
+// The relations between events that a reason is made of: one table of their names, and of what each edge says.
+
+/** Of each relation what it is (`means`), and what an edge of it says of its two events (`says`). */
+const RELATIONS = {
+  po: {
+    means: 'Program order: what a core does first is before what it does later. TSO keeps it, but where a load comes after a store.',
+    says: (from, to) => `${from} stands before ${to} in the program of its core.`,
+  },
+  rf: {
+    means: 'Reads from: a write is before the read that returns its value.',
+    says: (from, to) => `${to} reads what ${from} wrote.`,
+  },
+  co: {
+    means: 'Coherence: memory sees the writes to a location one after the other.',
+    says: (from, to) => `${from} reaches memory before ${to}, a write to the same location.`,
+  },
+  fr: {
+    means: 'From read: a read is before the writes that come after the one whose value it returned.',
+    says: (from, to) => `${from} reads a value that was there before ${to} wrote its own.`,
+  },
+  mfence: {
+    means: 'A fence: what is before it in the program is before what comes after it.',
+    says: (from, to) => `A fence stands between ${from} and ${to}, so it keeps their order.`,
+  },
+  implied: {
+    means: 'A locked instruction: it keeps the order of what is before it and after it, as a fence does.',
+    says: (from, to) => `A locked instruction keeps ${from} before ${to}.`,
+  },
+};
+
+const EVENT = /^P(\d):(\d{1,2}) (?:(F)|(R|W|LR|LW) (\w+)(?:=(\d+))?)$/;
+
+/** An event as a reason names it; its value is undefined where nothing tells it. */
+function eventOf(text) {
+  const [, core, place, fence, kind = fence, location, value] = EVENT.exec(text);
+  return { text, core: Number(core), place: Number(place), kind, location, value };
+}
+
+const edgeSentence = ({ from, relation, to }) => RELATIONS[relation].says(from, to);

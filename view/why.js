@@ -1,0 +1,60 @@
+'use strict';
+
+// The sheet of `why`: what was asked, and why it can't be, or how it can.
+
+/** The sheet that is shown: the answer, the programs, and the cycle that is drawn; null where none is. */
+const sheet = { told: null, programs: null, cycle: null };
+
+/** Whether a module answers `why`, tried on the first test. */
+function tellsWhy(tso) {
+  try {
+    return tso.answer({ command: 'why', json: true }, EXAMPLES[FIRST_TEXT]).text.startsWith('{');
+  } catch {
+    return false;
+  }
+}
+
+/** The programs of a test, by its trace without choices, and its condition's text or null. */
+function readTest(test) {
+  const { text } = asked({ command: 'trace', json: true }, `${test}${DIVIDING_LINE}\n`), { programs, proposition } = readTrace(text);
+  return { programs, proposition };
+}
+
+/** Shows what `why --json` told of a test. */
+function showReason(answer, test) {
+  const told = JSON.parse(answer.text), { programs, proposition } = readTest(test);
+  showAnswer(answer);
+  byId('report-part').hidden = true;
+  Object.assign(sheet, { told, programs, cycle: null });
+  const parts = told.answer === 'never' ? refutedParts(told) : allowedParts(told, programs);
+  byId('states').replaceChildren(html('section', { class: 'reason', 'aria-label': 'Why' }, html('h3', {}, told.answer === 'never' ? 'Why it can\'t be' : 'How it can be'),
+    html('p', { role: 'status' }, reasonSentence(told, proposition)), ...parts));
+  const [first] = told.answer === 'never' ? cyclesOf(told.steps) : [];
+  if (first) drawCycle(first.at);
+}
+
+function refutedParts({ steps, leaves }) {
+  return [html('div', { class: 'refuted' }, html('div', { class: 'tree' }, treeList(treeOf(steps), steps, leaves <= FEW_LEAVES)), html('div', { class: 'drawn' }))];
+}
+
+function allowedParts(told, programs) {
+  const { choices, model } = told, edges = edgesOf(told);
+  const run = html('button', { type: 'button', 'data-choices': choices, 'data-depth': DEPTH_OF[model] }, 'Run it');
+  const figure = edges.length === 0 ? [] : [drawEdges(programs, edges, 'The execution')];
+  return [html('p', { class: 'buttons' }, run, html('span', {}, 'by the choices ', html('code', {}, choices === '' ? '(none)' : choices))),
+    html('div', { class: 'beside' }, ...figure, html('div', { class: 'told-edges' }, ...executionTables(told), relationList(edges)))];
+}
+
+/** Draws the cycle of a step of the tree. */
+function drawCycle(at) {
+  sheet.cycle = new CyclePanel(sheet.programs, sheet.told.steps[at].cycle);
+  byId('states').querySelector('.drawn').replaceChildren(sheet.cycle.element);
+  for (const button of document.querySelectorAll('[data-cycle]')) button.setAttribute('aria-pressed', String(Number(button.dataset.cycle) === at));
+}
+
+/** Asks why, by one click from a run. */
+function askWhy() {
+  putCommand('why');
+  answerNow();
+  begin();
+}
