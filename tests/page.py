@@ -3,7 +3,7 @@
 
     tests/page.py PROGRAM [--inputs N] [--twice]
 
-- view/ is what it has to be: texts that are the examples', scripts of fewer than 400 lines that the page names, its policy and no
+- view/ is what it has to be: texts that are the examples', its own parts as texts, scripts of fewer than 400 lines that the page names, its policy and no
   other, no script or style in the page itself, at most 1 MB with the module.
 - What the page makes of the steps of a trace is what the order of the same run tells: tests/view/histories.js.
 - The module that ships, in view/module.js, answers in Node. Where it was made of the sources that stand, it is asked each row of
@@ -41,7 +41,7 @@ WIDE = os.path.join("crates", "page_exports", "out", "page.wide.wasm")
 POLICY = ("default-src 'none'; script-src 'self' 'wasm-unsafe-eval'; style-src 'self'; worker-src blob:; img-src blob:; base-uri 'none'; "
           "form-action 'none'; require-trusted-types-for 'script'; trusted-types worker")
 MOST_LINES, MOST_BYTES = 400, 1_000_000
-GENERATED = ("module.js", "texts.js")
+GENERATED = ("module.js", "texts.js", "whole.js")
 CANNOT = 69
 INPUTS = 300
 # A word that a module says, and one as long that none says.
@@ -53,6 +53,11 @@ SAID, NEVER_SAID = b"Sometimes", b"Neverever"
 def faults_of_texts():
     made = subprocess.run([os.path.join(TOP, "tools", "page_texts"), "--print"], capture_output=True, text=True).stdout
     return [] if made == content(VIEW, "texts.js") else ["tools/page --examples makes another"]
+
+
+def faults_of_whole():
+    made = subprocess.run([os.path.join(TOP, "tools", "page_whole"), "--print"], capture_output=True, text=True)
+    return [] if made.returncode == 0 and made.stdout == content(VIEW, "whole.js") else [made.stderr.strip() or "tools/page --whole makes another"]
 
 
 def faults_of_policy():
@@ -225,7 +230,7 @@ def main():
     parser.add_argument("--twice", action="store_true")
     given = parser.parse_args()
     tally = judging.Tally()
-    tally.add("view/", [("texts.js", faults_of_texts()), ("the policy", faults_of_policy()), ("the scripts", faults_of_scripts()),
+    tally.add("view/", [("texts.js", faults_of_texts()), ("whole.js", faults_of_whole()), ("the policy", faults_of_policy()), ("the scripts", faults_of_scripts()),
                         ("its size", faults_of_size()), ("histories of steps", faults_of_histories(given.program))])
     if shutil.which("node") is None:
         print("left out, what the page's modules answer: node isn't there: apt-get install -y nodejs")

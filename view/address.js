@@ -37,9 +37,9 @@ function keepAddressSoon() {
 function keepAddress() {
   if (!bench.tso || (shown.run !== null && !drive.isOn && byId('line').value !== '')) return;
   drawShare();
-  const address = currentAddress();
-  if (address.length > LONGEST_ADDRESS || (address === kept.atFirst && location.hash === '')) return;
-  window.history.replaceState(null, '', '#' + address);
+  const address = currentAddress(), isLong = address.length > LONGEST_ADDRESS;
+  if (location.hash === '' && (isLong || address === kept.atFirst)) return;
+  window.history.replaceState(null, '', isLong ? location.href.split('#')[0] : '#' + address); // none where one that was kept would tell another test
 }
 
 /** Copies the address of what is shown. */
@@ -58,8 +58,9 @@ function drawShare() {
   byId('share').hidden = !isShort;
   byId('share').href = '#' + address;
   byId('too-long').hidden = isShort;
-  const sentence = `Too long for an address (${address.length} characters, of at most ${LONGEST_ADDRESS}): save the input as a file.`;
-  byId('too-long').textContent = isShort ? '' : sentence;
+  byId('copy-link').disabled = !isShort;
+  const sentence = `What is shown is too long for an address (${address.length} characters, of at most ${LONGEST_ADDRESS}), so a reload doesn't keep it.`;
+  byId('too-long').firstElementChild.textContent = isShort ? '' : sentence;
 }
 
 /** Puts what an address of a test tells into the fields. */
@@ -72,7 +73,8 @@ function openTest(fragment) {
   if (told.has('order')) byId('given').value = told.get('order');
   putSettings(told);
   putCommand(told.get('command'));
-  drive.beside = otherMachines({ ...Tso.DEFAULTS, ...readSettings('run').options }).slice(1).find(machine => machineName(machine) === told.get('beside')) ?? null;
+  const others = otherMachines({ ...Tso.DEFAULTS, ...readSettings('run').options }).slice(1);
+  putDrive({ beside: others.find(machine => machineName(machine) === told.get('beside')) ?? null });
   answerNow();
   if (LONG.includes(currentCommand()) && byId('said').textContent === '') begin();
   if (drive.isOn && /^\d{1,4}$/.test(told.get('at') ?? '')) goTo(Number(told.get('at')));
@@ -88,9 +90,12 @@ function openPicture(fragment) {
   }
 }
 
+/** What the address tells; where it tells nothing, what a saved page has to open. */
+const addressAtFirst = () => location.hash.slice(1) || savedAddress();
+
 /** Opens what the address tells. Where it tells nothing, the page stays as it is. */
 function showAddress() {
-  const fragment = location.hash.slice(1);
+  const fragment = addressAtFirst();
   if (fragment === '') return;
   if (!TEST_ADDRESS.test(fragment)) openPicture(fragment);
   else if (bench.tso) openTest(fragment);

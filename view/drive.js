@@ -6,19 +6,24 @@ const MOST_STEPS = 1000;
 const FEW_CORES = 4; // so many have room beside the picture
 
 /**
- * The choices that are known (`words`), of which the first `count` are made; the input's test, and the whole input where it spells
- * these choices in words of its own (`given`); the machines with their histories and panels; the panels that were shown last; the
- * picture of the first machine, and the list of what loads passed there; the core that keys act on; and the timers of playing and of
- * what is drawn after the choices.
+ * What is driven, as a value: whatever is done makes another. The choices that are known (`words`), of which the first `count` are made;
+ * the input's test, and the whole input where it spells these choices in words of its own (`given`); the machines' histories; the core that
+ * keys act on; and the machine beside the first, or null.
  */
-const drive = {
-  isOn: false, words: [], count: 0, test: '', given: null, machines: [], panels: [], picture: null, passes: null, core: 0, timer: null, resting: null, beside: null,
-  ahead: null,
-};
+const NOT_DRIVEN = Object.freeze({ isOn: false, words: [], count: 0, test: '', given: null, histories: [], core: 0, beside: null });
 
-const firstHistory = () => drive.machines[0].history;
+let drive = NOT_DRIVEN;
 
-const isAtEnd = count => drive.machines.every(({ history }) => count >= history.steps.length && history.hasEnded(count));
+const putDrive = changes => { drive = Object.freeze({ ...drive, ...changes }); };
+
+/** What is drawn of it: the machines' panels, the picture of the first, and the list of what loads passed there. */
+const drawn = { panels: [], picture: null, passes: null };
+/** The timers of playing, and of what is drawn after the choices. */
+const timers = { playing: null, resting: null };
+
+const firstHistory = () => drive.histories[0];
+
+const isAtEnd = ({ histories, count }) => histories.every(history => count >= history.steps.length && history.hasEnded(count));
 
 /** The input of all choices that are known. */
 const driveInput = () => drive.given ?? inputOfWords(drive.words);
@@ -29,32 +34,26 @@ const inputOfWords = words => `${drive.test}${DIVIDING_LINE}\n${words.join(' ')}
 function beginDrive(history, { test, given }, count) {
   stopPlaying();
   const words = history.steps.map(step => step.choice), core = Math.min(drive.core, history.cores - 1);
-  Object.assign(drive, { isOn: true, test, given, words, core, count: Math.min(count, words.length) });
-  drive.machines = [history, ...historyBeside()].map((each, at) => ({ history: each, panel: panelOf(each, drive.panels[at]) }));
-  putPanels(drive.machines.map(({ panel }) => panel));
-  byId('machines').classList.toggle('two', drive.machines.length > 1);
+  putDrive({ isOn: true, test, given, words, core, count: Math.min(count, words.length) });
+  putDrive({ histories: [history, ...historyBeside()] });
+  putPanels(drive.histories.map((each, at) => (drawn.panels[at]?.isOf(each) ? drawn.panels[at] : new MachinePanel(each))));
+  byId('machines').classList.toggle('two', drive.histories.length > 1);
   byId('machines').classList.toggle('many', history.cores > FEW_CORES);
-  Object.assign(drive, { picture: null, passes: null });
+  Object.assign(drawn, { picture: null, passes: null });
   drawBesideChoices(history.options);
   showDrive();
 }
 
-/** The panel of a history: the one that was shown last, where it is of the same programs and machine. */
-function panelOf(history, last) {
-  if (!last?.isOf(history)) return new MachinePanel(history);
-  last.history = history;
-  return last;
-}
-
 function putPanels(panels) {
-  if (panels.length === drive.panels.length && panels.every((panel, at) => panel === drive.panels[at])) return;
-  drive.panels = panels;
+  if (panels.length === drawn.panels.length && panels.every((panel, at) => panel === drawn.panels[at])) return;
+  drawn.panels = panels;
   byId('machines').replaceChildren(...panels.map(panel => panel.element));
 }
 
 function endDrive() {
   stopPlaying();
-  Object.assign(drive, { isOn: false, machines: [], picture: null, passes: null });
+  putDrive({ isOn: false, histories: [] });
+  Object.assign(drawn, { picture: null, passes: null });
   byId('passes').replaceChildren();
 }
 
@@ -62,39 +61,52 @@ function endDrive() {
 
 const REST_AFTER = 150; // milliseconds without a choice, after which what can wait is drawn
 
-/** Makes a choice: the one that comes next where it is the same, and else another, after which nothing comes. */
-function makeChoice(word) {
-  if (!drive.isOn || isAtEnd(drive.count)) return;
-  if (drive.words[drive.count] !== word && !replaceNext(word)) return;
-  drive.core = coreOfChoice(word);
-  goTo(drive.count + 1);
-}
-
-/** Puts a choice in the place of all that come next. Answers whether the machines took it. */
-function replaceNext(word) {
-  if (drive.count >= MOST_STEPS) return refuseMore();
-  const words = [...drive.words.slice(0, drive.count), word];
-  for (const { history } of drive.machines) {
-    history.cut(drive.count);
-    if (history.steps.length < drive.count || history.hasEnded(drive.count)) continue;
-    const step = lastStep(history.options, words);
-    if (!step) return stopBefore(words);
-    history.add(step);
+/** What is driven after one more choice: the one that comes next where it is the same, and else another, after which nothing comes. Null
+ * where a machine doesn't tell its step. */
+function afterChoice(driven, word) {
+  const core = coreOfChoice(word), count = driven.count + 1;
+  if (driven.words[driven.count] === word) return { ...driven, core, count };
+  const words = [...driven.words.slice(0, driven.count), word], histories = [];
+  for (const history of driven.histories.map(each => each.upTo(driven.count))) {
+    const isOver = history.steps.length < driven.count || history.hasEnded(driven.count), step = isOver ? null : lastStep(history.options, words);
+    if (!isOver && !step) return null;
+    histories.push(step ? history.with(step) : history);
   }
-  Object.assign(drive, { words, given: null });
-  putWords();
-  return true;
+  return { ...driven, words, histories, core, count, given: null };
 }
 
-/** Where no step came of the last of these choices: leaves it out, with what is said of it. */
-function stopBefore(words) {
-  const made = words.slice(0, -1), said = ['said', 'hint'].map(id => byId(id).textContent);
-  for (const { history } of drive.machines) history.cut(made.length);
-  Object.assign(drive, { words: made, given: null });
+/** Whether the last choice changed no machine. */
+const hasStalled = ({ histories, count }) => histories.every(({ steps }) => steps.length < count || steps[count - 1].outcome === 'stalled');
+
+/** Makes a choice. One that would stall is made only where that is wanted (`mayStall`), or where it comes next anyway; else nothing changes. */
+function makeChoice(word, mayStall = false) {
+  if (!drive.isOn || isAtEnd(drive)) return;
+  const isNext = drive.words[drive.count] === word;
+  if (!isNext && drive.count >= MOST_STEPS) return refuseMore();
+  const next = afterChoice(drive, word);
+  if (next === null) return stopBefore();
+  if (!isNext && !mayStall && hasStalled(next)) return refuseStall(next, word);
+  putDrive(next);
+  if (!isNext) putWords();
+  showDrive();
+}
+
+/** Says why a choice does nothing, and offers to make it all the same. */
+function refuseStall({ histories: [history], count }, word) {
+  const step = history.steps[count - 1], why = step ? STALLS[step.stall](coreOfChoice(word), history.machineAfter(count - 1)) : 'The first machine\'s test has ended.';
+  putDrive({ core: coreOfChoice(word) });
+  markCore();
+  for (const panel of drawn.panels) panel.offerStall(word);
+  sayOfDriving(`${why} So ${word} does nothing.`);
+}
+
+/** Where no step came of a choice: leaves it out, with all that would come after it, and keeps what is said of it. */
+function stopBefore() {
+  const said = ['said', 'hint'].map(id => byId(id).textContent), { words, histories, count } = drive;
+  putDrive({ words: words.slice(0, count), histories: histories.map(history => history.upTo(count)), given: null });
   putWords();
   showSaid({ hint: said[1] }, said[0]);
   showDrive();
-  return false;
 }
 
 const sayOfDriving = sentence => byId('sentence').textContent = sentence;
@@ -106,7 +118,7 @@ function refuseMore() {
 
 /** The step of the last of these choices; of a module without that command, from the whole trace. */
 function lastStep(options, words) {
-  const input = inputOfWords(words), answer = drive.ahead?.input === input ? drive.ahead.answers.get(options) : undefined;
+  const input = inputOfWords(words), answer = ahead.input === input ? ahead.answers.get(options) : undefined;
   const { status, text, hint } = answer ?? stepAnswer(options, input);
   if (isOfStep(status)) return readStep(text);
   if (status === Tso.STATUS.nothingAsked) return historyOf(options, input).history?.steps.at(-1);
@@ -119,12 +131,15 @@ const isOfStep = status => status === Tso.STATUS.good || status === Tso.STATUS.u
 
 const stepAnswer = (options, input) => (bench.tracing === 'step' ? asked({ ...options, command: 'step', json: true }, input) : { status: Tso.STATUS.nothingAsked });
 
+/** The input that was asked ahead, with the answers of the machines by their options. */
+let ahead = { input: null, answers: new Map() };
+
 /** Asks what a choice would do as soon as its button goes down: a click comes when it goes up, and finds the answer there. */
 function askAhead(word) {
-  if (!drive.isOn || isAtEnd(drive.count) || drive.words[drive.count] === word || drive.count >= MOST_STEPS) return;
+  if (!drive.isOn || isAtEnd(drive) || drive.words[drive.count] === word || drive.count >= MOST_STEPS) return;
   const input = inputOfWords([...drive.words.slice(0, drive.count), word]);
-  const answers = drive.machines.map(({ history: { options } }) => [options, stepAnswer(options, input)]);
-  drive.ahead = { input, answers: new Map(answers.filter(([, { status }]) => isOfStep(status))) };
+  const answers = drive.histories.map(({ options }) => [options, stepAnswer(options, input)]);
+  ahead = { input, answers: new Map(answers.filter(([, { status }]) => isOfStep(status))) };
 }
 
 /** Puts the known choices into their field, with all that goes by it. */
@@ -133,8 +148,8 @@ function putWords() {
   bench.answer = null;
   showSaid({ hint: '' }, '');
   byId('report-part').open = false;
-  clearTimeout(drive.resting);
-  drive.resting = setTimeout(drawRest, REST_AFTER);
+  clearTimeout(timers.resting);
+  timers.resting = setTimeout(drawRest, REST_AFTER);
 }
 
 function drawRest() {
@@ -144,7 +159,7 @@ function drawRest() {
 
 /** Shows the machines after so many choices. */
 function goTo(count) {
-  drive.count = Math.min(drive.words.length, Math.max(0, count));
+  putDrive({ count: Math.min(drive.words.length, Math.max(0, count)) });
   showDrive();
 }
 
@@ -159,7 +174,7 @@ function moveDriven(name) {
 function drawSeed() {
   const seed = byId('drive-seed').value.trim(), isSeed = /^\d{1,18}$/.test(seed);
   byId('drive-seed').setAttribute('aria-invalid', String(!isSeed));
-  if (!drive.isOn || isAtEnd(drive.count)) return;
+  if (!drive.isOn || isAtEnd(drive)) return;
   if (!isSeed) return sayOfDriving('A seed is a whole number of at most 18 digits.');
   const made = drive.words.slice(0, drive.count), length = MOST_STEPS - made.length;
   if (length === 0) return refuseMore();
@@ -175,10 +190,10 @@ function drawSeed() {
 const SPEEDS = [0.5, 1, 2, 4, 8, 16, 32]; // choices in a second
 
 function play() {
-  if (!drive.isOn || isAtEnd(drive.count)) return;
+  if (!drive.isOn || isAtEnd(drive)) return;
   if (drive.count >= drive.words.length) drawSeed();
   stopPlaying();
-  drive.timer = setInterval(() => {
+  timers.playing = setInterval(() => {
     goTo(drive.count + 1);
     if (drive.count >= drive.words.length) stopPlaying();
   }, 1000 / SPEEDS[Number(byId('speed').value)]);
@@ -186,21 +201,21 @@ function play() {
 }
 
 function stopPlaying() {
-  clearInterval(drive.timer);
-  drive.timer = null;
+  clearInterval(timers.playing);
+  timers.playing = null;
   showPlaying();
 }
 
 function showPlaying() {
-  byId('play').textContent = drive.timer === null ? 'Play' : 'Pause';
+  byId('play').textContent = timers.playing === null ? 'Play' : 'Pause';
   byId('speed-said').textContent = `${SPEEDS[Number(byId('speed').value)]} a second`;
 }
 
-const playOrPause = () => (drive.timer === null ? play() : stopPlaying());
+const playOrPause = () => (timers.playing === null ? play() : stopPlaying());
 
 function setSpeed(speed) {
   byId('speed').value = String(Math.min(SPEEDS.length - 1, Math.max(0, speed)));
-  if (drive.timer !== null) play();
+  if (timers.playing !== null) play();
   showPlaying();
 }
 
@@ -223,7 +238,7 @@ function drawBesideChoices(options) {
 }
 
 function putBeside(text) {
-  drive.beside = JSON.parse(text);
+  putDrive({ beside: JSON.parse(text) });
   beginDrive(firstHistory(), drive, drive.count);
 }
 
@@ -238,7 +253,7 @@ const DRIVE_KEYS = {
 function driveByKey(key) {
   if (!byId('letter-keys').checked) return false;
   if (/^[0-7]$/.test(key) && Number(key) < firstHistory().cores) {
-    drive.core = Number(key);
+    putDrive({ core: Number(key) });
     markCore();
   } else if (Object.hasOwn(DRIVE_KEYS, key)) {
     DRIVE_KEYS[key]();

@@ -5,7 +5,7 @@
 /** Shows everything after the choices that are made. */
 function showDrive() {
   const history = firstHistory(), { count } = drive;
-  for (const { panel } of drive.machines) panel.show(count);
+  drawn.panels.forEach((panel, at) => panel.show(drive.histories[at], count));
   markCore();
   showPicture();
   const step = history.steps[count - 1];
@@ -22,8 +22,8 @@ function showDrive() {
 /** Scrolls to what the last choice changed. For that the browser has to lay the page out, so it comes after all changes. */
 function keepInSight() {
   scrollPicture();
-  drive.passes.keepInSight();
-  for (const { panel } of drive.machines) panel.keepInSight();
+  drawn.passes.keepInSight();
+  for (const panel of drawn.panels) panel.keepInSight();
   const top = isStepperBelow() ? '0px' : `${byId('stepper').offsetHeight}px`; // the lanes' names stand still below it
   if (byId('names').style.top !== top) byId('names').style.top = top;
 }
@@ -36,12 +36,12 @@ const startSentence = () => 'The machine at its start. Choose what a core does: 
 function showMoves() {
   const isFirst = drive.count === 0, isLast = drive.count === drive.words.length;
   for (const button of byId('stepper').querySelectorAll('[data-move]')) button.disabled = ['first', 'back'].includes(button.dataset.move) ? isFirst : isLast;
-  for (const id of ['play', 'draw-seed']) byId(id).disabled = isAtEnd(drive.count);
+  for (const id of ['play', 'draw-seed']) byId(id).disabled = isAtEnd(drive);
 }
 
 /** Marks the core on which keys act. */
 function markCore() {
-  drive.machines.forEach(({ panel }) => panel.panels.forEach(({ element }, core) => element.classList.toggle('chosen', core === drive.core)));
+  for (const { panels } of drawn.panels) panels.forEach(({ element }, core) => element.classList.toggle('chosen', core === drive.core));
 }
 
 const SCROLLBAR = 17; // pixels, at most
@@ -53,7 +53,7 @@ const zoomOfPicture = () => Number(getComputedStyle(byId('frame')).zoom) || 1;
 
 function makePicture() {
   const room = byId('frame').parentElement.clientWidth / zoomOfPicture() - SCROLLBAR;
-  const picture = drive.picture = Object.assign(new GrowingPicture(firstHistory(), room), { room });
+  const picture = drawn.picture = Object.assign(new GrowingPicture(firstHistory(), room), { room });
   shown.layout = picture.layout;
   byId('frame').classList.toggle('whole', picture.layout.width <= room);
   byId('frame').style.containIntrinsicWidth = `${picture.layout.width}px`;
@@ -62,14 +62,14 @@ function makePicture() {
 }
 
 function showPicture() {
-  if (drive.picture === null || drive.picture.isTooNarrow()) makePicture();
-  drive.picture.show(drive.count);
-  byId('frame').classList.toggle('full', drive.picture.bottom - HEAD > (isLecture() ? LECTURE_MOST : FRAME_MOST) * innerHeight);
+  if (drawn.picture === null || drawn.picture.isTooNarrowFor(firstHistory())) makePicture();
+  drawn.picture.show(firstHistory(), drive.count);
+  byId('frame').classList.toggle('full', drawn.picture.bottom - HEAD > (isLecture() ? LECTURE_MOST : FRAME_MOST) * innerHeight);
 }
 
 /** Brings the last row into sight, and where the picture goes on to the side the lane of the core that acted. */
 function scrollPicture() {
-  const { rows, layout, room } = drive.picture, step = firstHistory().steps[drive.count - 1];
+  const { rows, layout, room } = drawn.picture, step = firstHistory().steps[drive.count - 1];
   byId('frame').scrollTop = rows.length * ROW;
   if (layout.width > room && step) byId('frame').scrollLeft = layout.left(coreOfChoice(step.choice)) - (room - layout.lane) / 2;
 }
@@ -78,7 +78,7 @@ function scrollPicture() {
 function placeDriven() {
   const { scrollLeft, scrollTop } = byId('frame');
   byId('names').scrollLeft = scrollLeft;
-  drive.picture?.hideAbove(scrollTop);
+  drawn.picture?.hideAbove(scrollTop);
 }
 
 // The end.
@@ -107,8 +107,8 @@ function showEnd(history) {
 
 /** Lists what loads passed so far. */
 function showPasses(history) {
-  drive.passes ??= new PassList(byId('passes'));
-  drive.passes.show(history.order, history.momentAfter(drive.count).rows, history.hasEnded(drive.count));
+  drawn.passes ??= new PassList(byId('passes'));
+  drawn.passes.show(history.order, history.momentAfter(drive.count).rows, history.hasEnded(drive.count));
 }
 
 const conditionSentence = ({ proposition }) => (proposition === null ? 'Condition: the test has none.' :

@@ -181,13 +181,14 @@ class GrowingPicture {
     for (const layer of Object.values(this.layers)) layer.hideBefore(piece);
   }
 
-  /** Whether the history has come to more bars side by side than this picture has room for. */
-  isTooNarrow() {
-    return this.history.tracks > this.layout.tracks;
+  /** Whether a history has come to more bars side by side than this picture has room for. */
+  isTooNarrowFor({ tracks }) {
+    return tracks > this.layout.tracks;
   }
 
-  /** Shows the order after so many steps. */
-  show(count) {
+  /** Shows the order of a history after so many steps. */
+  show(history, count) {
+    this.history = history;
     const { rows, waiting, half } = this.history.momentAfter(count), before = this.history.momentAfter(count - 1 < 0 ? 0 : count - 1).rows;
     growRows(this.rows, this.history.order, rows, entry => this.add(entry), row => this.take(row));
     this.size(rows, before);
@@ -247,12 +248,13 @@ class GrowingPicture {
 
   /** The arrows to the loads that a store was forwarded to. */
   arrowsOf(store) {
-    if (!this.forwarded.has(store)) this.forwarded.set(store, []);
-    return this.forwarded.get(store);
+    const name = nameOf(store);
+    if (!this.forwarded.has(name)) this.forwarded.set(name, []);
+    return this.forwarded.get(name);
   }
 
   /** Notes at these arrows where in the order the store stands. */
   nameSource(store, index) {
-    for (const arrow of this.forwarded.get(store) ?? []) arrow.setAttribute('data-from', index);
+    for (const arrow of this.forwarded.get(nameOf(store)) ?? []) arrow.setAttribute('data-from', index);
   }
 }

@@ -25,6 +25,30 @@ function freeTrack(waiting) {
   for (let track = 0; ; track++) if (!taken.has(track)) return track;
 }
 
+const lastWrite = (order, location) => order.findLast(entry => isWrite(entry) && entry.location === location);
+
+/** What a history comes to after one more entry of a core's step: the order, the stores that wait, the load part that waits, and how many bars
+ * have to have room beside one another. */
+function taken(told, entry, step, core) {
+  const { order, tracks } = told, own = told.waiting[core], index = order.length;
+  const waits = stores => ({ waiting: told.waiting.with(core, stores) });
+  const commits = (...entries) => ({ order: [...order, ...entries.map((each, at) => ({ ...each, index: index + at }))] });
+  if (step.outcome === 'buffered') {
+    const store = { ...entry, since: index, track: freeTrack(own) };
+    return { ...told, ...waits([...own, store]), tracks: Math.max(tracks, store.track + 1) };
+  }
+  if (entry.kind === 'W' && own.length > 0) {
+    const [{ since }] = own;
+    return { ...told, ...waits(own.slice(1)), ...commits({ ...own[0], wait: { earliest: since, latest: since } }) };
+  }
+  if (entry.kind === 'LR') return { ...told, half: { ...entry, source: lastWrite(order, entry.location) } };
+  if (entry.kind === 'LW') return { ...told, half: null, ...commits(told.half, entry) };
+  const read = entry.kind === 'R' ? { source: sourceIn(order, entry, step, own), passed: own } : {};
+  return { ...told, ...commits({ ...entry, ...read, wait: { earliest: index, latest: index } }) };
+}
+
+const sourceIn = (order, load, step, own) => (step.forwarded ? own.findLast(store => store.location === load.location) : lastWrite(order, load.location));
+
 /**
  * The steps of a machine, and what they come to: the order so far, of which each entry has beside it what a picture shows
  * (`source`, `passed`, and of a store `wait` and `track`). A store's time in the buffer is exact here, since a trace tells when it
@@ -32,11 +56,14 @@ function freeTrack(waiting) {
  *
  * Each of `moments` is what stood after so many steps: the length of the order (`rows`), for each core the stores that wait
  * (`waiting`), and the load part that waits for its store part (`half`), or null.
+ *
+ * A history is a value: one more step, or fewer, makes another. An entry that two of them have in the same place is the same object.
  */
 class History {
+  /** The history of a machine at its start. */
   constructor(options, { programs, proposition, start }) {
-    Object.assign(this, { options, programs, proposition, start, cores: programs.length, steps: [], order: [], tracks: 0 });
-    this.moments = [{ rows: 0, waiting: programs.map(() => []), half: null }];
+    const moments = [{ rows: 0, waiting: programs.map(() => []), half: null }];
+    Object.freeze(Object.assign(this, { options, programs, proposition, start, cores: programs.length, steps: [], order: [], tracks: 0, moments }));
   }
 
   get machine() {
@@ -58,55 +85,23 @@ class History {
     return bus === null && cores.every((core, number) => core.place === this.programs[number].length && core.buffer.length === 0);
   }
 
-  add(step) {
+  /** The history that differs from this one in these. */
+  but(changes) {
+    return Object.freeze(Object.assign(Object.create(History.prototype), this, changes));
+  }
+
+  /** The history with one more step. */
+  with(step) {
     const { waiting, half } = this.moments.at(-1), core = Number.parseInt(step.choice, 10);
-    const moment = { waiting, half };
-    for (const entry of step.entries.map(entryOf)) this.take(entry, step, core, moment);
-    this.steps.push(step);
-    this.moments.push({ ...moment, rows: this.order.length });
+    const told = step.entries.map(entryOf).reduce((told, entry) => taken(told, entry, step, core), { order: this.order, tracks: this.tracks, waiting, half });
+    const moment = { rows: told.order.length, waiting: told.waiting, half: told.half };
+    return this.but({ steps: [...this.steps, step], moments: [...this.moments, moment], order: told.order, tracks: told.tracks });
   }
 
-  take(entry, step, core, moment) {
-    const own = moment.waiting[core];
-    const wait = stores => moment.waiting = moment.waiting.with(core, stores);
-    if (step.outcome === 'buffered') {
-      Object.assign(entry, { since: this.order.length, track: freeTrack(own) });
-      this.tracks = Math.max(this.tracks, entry.track + 1);
-      wait([...own, entry]);
-    } else if (entry.kind === 'W' && own.length > 0) {
-      wait(own.slice(1));
-      this.commit(own[0], { earliest: own[0].since, latest: own[0].since });
-    } else if (entry.kind === 'LR') {
-      moment.half = Object.assign(entry, { source: this.lastWrite(entry.location) });
-    } else if (entry.kind === 'LW') {
-      this.commit(moment.half);
-      this.commit(entry);
-      moment.half = null;
-    } else {
-      if (entry.kind === 'R') Object.assign(entry, { source: this.sourceOf(entry, step, own), passed: own });
-      this.commit(entry, { earliest: this.order.length, latest: this.order.length });
-    }
-  }
-
-  commit(entry, wait) {
-    Object.assign(entry, { index: this.order.length, wait });
-    this.order.push(entry);
-  }
-
-  lastWrite(location) {
-    return this.order.findLast(entry => isWrite(entry) && entry.location === location);
-  }
-
-  sourceOf(load, step, own) {
-    return step.forwarded ? own.findLast(store => store.location === load.location) : this.lastWrite(load.location);
-  }
-
-  /** Takes away all steps after so many. */
-  cut(count) {
-    if (count >= this.steps.length) return;
-    this.steps.length = count;
-    this.moments.length = count + 1;
-    for (const entry of this.order.splice(this.moments[count].rows)) entry.index = Infinity;
+  /** The history of no more than so many steps. */
+  upTo(count) {
+    if (count >= this.steps.length) return this;
+    return this.but({ steps: this.steps.slice(0, count), moments: this.moments.slice(0, count + 1), order: this.order.slice(0, this.moments[count].rows) });
   }
 }
 
@@ -115,7 +110,6 @@ function historyOf(options, input) {
   const { status, text } = asked({ ...options, command: 'trace', json: true }, input);
   if (status === Tso.STATUS.refused && text.includes(' TooMany')) return { tooMany: true };
   if (status !== Tso.STATUS.good && status !== Tso.STATUS.unended) return {};
-  const told = readTrace(text), history = new History(options, told);
-  for (const step of told.steps) history.add(step);
-  return { history };
+  const told = readTrace(text);
+  return { history: told.steps.reduce((history, step) => history.with(step), new History(options, told)) };
 }

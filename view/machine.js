@@ -55,6 +55,13 @@ function cacheRows(sets, changes, awaited) {
   return rows.length > 0 ? rows : [html('tr', {}, html('td', { class: 'prose faint', colspan: sets.length > 1 ? 4 : 3 }, 'no lines'))];
 }
 
+/** Which of a core's two buttons are known to stall, by the core alone; a bus that is held may make others stall. */
+function knownStalls(program, { place, buffer }, depth) {
+  const next = program[place] ?? '', waits = buffer.length > 0 && /^(MFENCE|LOCK|XCHG|XADD)/i.test(next);
+  const isFull = depth > 0 && buffer.length === depth && /^MOV\s+\[/i.test(next);
+  return { step: next === '' || waits || isFull, drain: buffer.length === 0 };
+}
+
 /** What a core's two buttons would do. */
 function buttonTexts(program, { place, buffer }, bus, core) {
   const goesOn = choice => (bus?.choice === choice ? ' (holds the bus)' : '');
@@ -71,7 +78,7 @@ class CorePanel {
     this.depth = options.depth;
     this.makeParts(options);
     this.element = html('section', { class: 'core', 'data-core': core, 'aria-label': `Core P${core}` },
-      html('h4', {}, `P${core}`), html('div', { class: 'core-buttons' }, this.step, this.drain),
+      html('h4', {}, `P${core}`), html('div', { class: 'core-buttons' }, ...['step', 'drain'].map(way => html('div', { class: 'choice' }, this[way], this.stalls[way]))),
       html('h5', {}, 'Program'), this.list, html('h5', {}, 'Registers'), this.registers.element,
       html('h5', {}, 'Store buffer'), this.depth === 0 ? html('p', { class: 'faint' }, 'none') : this.buffer.element,
       html('h5', {}, 'Cache'), this.cache);
@@ -83,6 +90,9 @@ class CorePanel {
     const list = (name, label, draw) => new Part(html('ul', { class: name, 'aria-label': label }), draw);
     this.step = button('step', 's');
     this.drain = button('drain', 'd');
+    const stall = (way, name) => html('button', { type: 'button', class: 'stall', 'data-stall': `${this.core}${name}`, hidden: '',
+      'aria-label': `P${this.core}: ${way} all the same, which stalls`, title: 'Make this choice all the same: it stalls, and changes nothing.' }, 'stall');
+    this.stalls = { step: stall('step', 's'), drain: stall('drain', 'd') };
     const isLong = this.program.length > MOST_LINES;
     const named = { 'aria-label': `Program of P${this.core}`, ...(isLong ? { tabindex: 0 } : {}) };
     this.list = html('ol', { class: isLong ? 'program long' : 'program', start: 0, ...named }, ...this.program.map((text, at) => html('li', { value: at }, html('code', {}, text))));
@@ -96,7 +106,7 @@ class CorePanel {
   /** Shows the core as it is after a step and what that step changed. `bus` is the bus where this core holds it, and else null. */
   show(core, old, { bus, changes, hasEnded, isLast }) {
     const key = JSON.stringify([core, old, bus, changes, hasEnded, isLast]);
-    if (key === this.key) return;
+    if (key === this.key && !this.hasOffered) return;
     this.key = key;
     this.registers.show(core.registers, old.registers, this.program.slice(0, core.place).flatMap(writtenBy));
     this.buffer.show(core.buffer, old.buffer, this.depth);
@@ -107,13 +117,21 @@ class CorePanel {
   }
 
   showButtons(core, bus, hasEnded) {
-    const texts = buttonTexts(this.program, core, bus, this.core);
+    const texts = buttonTexts(this.program, core, bus, this.core), stalls = knownStalls(this.program, core, this.depth);
+    this.hasOffered = false;
     for (const way of ['step', 'drain']) {
       putText(this[way].lastChild, texts[way]);
       setAll(this[way], { 'aria-label': `P${this.core}: ${way} ${texts[way]}` });
       this[way].disabled = hasEnded;
-      this[way].classList.toggle('idle', way === 'step' ? core.place === this.program.length : core.buffer.length === 0);
+      this[way].classList.toggle('idle', stalls[way]);
+      this.stalls[way].hidden = hasEnded || !stalls[way];
     }
+  }
+
+  /** Shows the button by which a choice is made that stalls. */
+  offerStall(way) {
+    this.hasOffered = true;
+    this.stalls[way].hidden = false;
   }
 
   /** Marks the next instruction. `keepInSight` scrolls to it: it has the browser lay the page out, so it comes after all that changes. */
@@ -151,7 +169,7 @@ function memoryItems(now, before) {
   });
 }
 
-/** A machine's panel. `show` shows it after so many steps of its history. */
+/** A machine's panel. `show` shows it after so many steps of a history of it. */
 class MachinePanel {
   constructor(history) {
     this.history = history;
@@ -169,8 +187,9 @@ class MachinePanel {
     return JSON.stringify([programs, options]) === JSON.stringify([this.history.programs, this.history.options]);
   }
 
-  show(count) {
-    const { history } = this, last = count <= history.steps.length ? history.steps[count - 1] : undefined;
+  show(history, count) {
+    this.history = history;
+    const last = count <= history.steps.length ? history.steps[count - 1] : undefined;
     const now = history.machineAfter(count), before = last ? history.machineAfter(count - 1) : now;
     const changes = last ? stateChanges(last) : [], hasEnded = history.hasEnded(count);
     this.panels.forEach((panel, core) => panel.show(now.cores[core], before.cores[core], {
@@ -180,6 +199,10 @@ class MachinePanel {
     this.bus.show(history.options.bus, now.bus, last && { transaction: last.transaction, flush: last.flush, write_back: last.write_back });
     this.memory.show({ memory: now.memory, seen: now.seen }, { memory: before.memory, seen: before.seen });
     putText(this.said, count > history.steps.length ? 'Its test had ended before: this choice is left over.' : last ? stepSentences(last, before).join(' ') : '');
+  }
+
+  offerStall(word) {
+    this.panels[coreOfChoice(word)].offerStall(isDrain(word) ? 'drain' : 'step');
   }
 
   keepInSight() {

@@ -43,9 +43,10 @@ document.addEventListener('pointerdown', event => {
   if (choice !== undefined) askAhead(choice);
 });
 document.addEventListener('click', event => {
-  const { move: way, choices, depth, file, save, machine, choice, judge, cycle, edges } = (event.target.closest('[data-choice]') ?? event.target).dataset;
+  const { move: way, choices, depth, file, save, machine, choice, stall, judge, cycle, edges } = (event.target.closest('[data-choice]') ?? event.target).dataset;
   if (way !== undefined) move(way);
   else if (choice !== undefined) makeChoice(choice);
+  else if (stall !== undefined) makeChoice(stall, true);
   else if (choices !== undefined) loadChoices(choices, depth);
   else if (file !== undefined) loadText(file);
   else if (save !== undefined) SAVES[save]();
@@ -109,10 +110,10 @@ function lackOf() {
 
 /** Fills the bench with the first test, shows what the address tells, and else the first test's run. */
 async function start() {
-  const lack = lackOf(), hasMachine = lack === null, isOfTest = TEST_ADDRESS.test(location.hash.slice(1));
+  const lack = lackOf(), hasMachine = lack === null, told = addressAtFirst(), isOfTest = TEST_ADDRESS.test(told);
   byId('bench').hidden = !hasMachine;
   if (!hasMachine) byId(lack).hidden = false;
-  byId('input').open = !hasMachine || (location.hash.length > 1 && !isOfTest);
+  byId('input').open = !hasMachine || (told !== '' && !isOfTest);
   if (hasMachine) {
     putInput(EXAMPLES[FIRST_TEXT]);
     putSettings([]);

@@ -17,7 +17,7 @@ function writeAsked() {
 
 function drawForPaper() {
   writeAsked();
-  if (drive.isOn) byId('frame').replaceChildren(...drive.picture.onPaper());
+  if (drive.isOn) byId('frame').replaceChildren(...drawn.picture.onPaper());
   else if (shown.run?.order.length > PAPER.whole) byId('frame').replaceChildren(...drawPieces(shown.run, shown.layout));
 }
 

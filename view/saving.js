@@ -24,7 +24,7 @@ const OF_THE_SCREEN = '.unseen, .cursor, .band';
 /** The picture that is shown: its parts, the lowest first, and its measures. Of a run that isn't over it is what has come, with the
  * lanes' names, which stand apart from it on the page. */
 function pictureNow() {
-  if (drive.isOn) return { parts: drive.picture.parts, label: drive.picture.label, y: 0, width: drive.picture.layout.width, height: drive.picture.bottom };
+  if (drive.isOn) return { parts: drawn.picture.parts, label: drawn.picture.label, y: 0, width: drawn.picture.layout.width, height: drawn.picture.bottom };
   const picture = byId('frame').firstChild, { y, width, height } = picture.viewBox.baseVal;
   return { parts: [...picture.children], label: picture.getAttribute('aria-label'), y, width, height };
 }
@@ -42,8 +42,20 @@ function styledCopy(drawn) {
 /** A text of which each character may stand in XML: one that may not, as a name can have, is shown as one that isn't known. */
 const inXml = text => text.replace(/[^\t\n\r\u{20}-\u{d7ff}\u{e000}-\u{fffd}\u{10000}-\u{10ffff}]/gu, '\ufffd');
 
+/** What an act makes while the page has its light colours, where saved pictures are to be light whatever is preferred. */
+function inColoursOfSaved(act) {
+  document.documentElement.classList.toggle('light', byId('saved-colours').value === 'light');
+  try {
+    return act();
+  } finally {
+    document.documentElement.classList.remove('light');
+  }
+}
+
 /** The picture alone, as a text that needs no style. */
-function savedPicture({ parts, label, y, width, height }) {
+const savedPicture = picture => inColoursOfSaved(() => styledPicture(picture));
+
+function styledPicture({ parts, label, y, width, height }) {
   const kept = parts.filter(part => !part.matches(OF_THE_SCREEN));
   const ground = svg('rect', { y, width, height, fill: getComputedStyle(document.body).backgroundColor });
   const picture = svg('svg', { class: 'picture', width, height, viewBox: `0 ${y} ${width} ${height}`, role: 'img', 'aria-label': label },
@@ -74,7 +86,7 @@ function saveInput() {
   saveText(fileName(testName(), readsOrder(command) ? '.order' : '.litmus'), inputOf(command));
 }
 
-const pictureName = () => (drive.isOn ? testName() : shown.run.test);
+const pictureName = () => (isOfTest() ? testName() : shown.run?.test ?? 'page');
 
 /** The trace of the choices that are made, as a text. */
 function traceNow() {

@@ -39,6 +39,28 @@ CONTRAST = """() => {
 }"""
 
 
+# Each border that is seen, of what isn't drawn by the browser itself, against the ground that it stands on.
+BORDERS = """() => {
+  const parts = colour => colour.match(/[\\d.]+/g).map(Number);
+  const light = colour => { const [r, g, b] = parts(colour).slice(0, 3).map(each => each / 255).map(each => each <= .03928 ? each / 12.92 : ((each + .055) / 1.055) ** 2.4);
+    return .2126 * r + .7152 * g + .0722 * b; };
+  const isClear = colour => parts(colour)[3] === 0;
+  const ground = element => { for (let at = element; at; at = at.parentElement) { const colour = getComputedStyle(at).backgroundColor; if (!isClear(colour)) return colour; } return 'rgb(255, 255, 255)'; };
+  const faults = [];
+  for (const each of document.querySelectorAll('body *:not(svg *, input[type=checkbox], input[type=radio], input[type=range], input[type=file])')) {
+    if (each.getClientRects().length === 0 || each.getBoundingClientRect().width < 2) continue;
+    const style = getComputedStyle(each);
+    for (const side of ['Top', 'Right', 'Bottom', 'Left']) {
+      const colour = style[`border${side}Color`];
+      if (style[`border${side}Style`] === 'none' || style[`border${side}Width`] === '0px' || isClear(colour)) continue;
+      const [one, two] = [light(colour), light(ground(each.parentElement))].sort((a, b) => b - a);
+      if ((one + .05) / (two + .05) < 3) faults.push(`${each.tagName}.${each.className}#${each.id} has a border with a contrast of ${((one + .05) / (two + .05)).toFixed(1)}`);
+    }
+  }
+  return [...new Set(faults)];
+}"""
+
+
 def differs(what, got, wanted):
     return [] if got == wanted else ["%s: %s, and not %s" % (what, repr(got)[:300], repr(wanted)[:300])]
 

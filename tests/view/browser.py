@@ -112,6 +112,15 @@ class Browser:
         for kind in ("rawKeyDown", "keyUp"):
             self.call("Input.dispatchKeyEvent", type=kind, key=key, code=key, windowsVirtualKeyCode=KEY_CODES[key])
 
+    def key(self, key):
+        """A key with the text that it types."""
+        for kind in ("keyDown", "keyUp"):
+            self.call("Input.dispatchKeyEvent", type=kind, key=key, text=key if kind == "keyDown" else "")
+
+    def reload(self):
+        self.call("Page.reload")
+        self.value("new Promise(done => document.readyState === 'complete' ? done() : addEventListener('load', () => done()))")
+
     def click(self, selector):
         x, y = self.value("(box => [box.x + box.width / 2, box.y + box.height / 2])"
                           "(document.querySelector(%s).getBoundingClientRect())" % json.dumps(selector))

@@ -18,8 +18,10 @@ It needs Debian's browser, on a machine that isn't the gate's: apt-get install -
 - The machine that is driven is at each step the one that the trace tells, and its picture too: the rows of driving.py; and it stands first: those of first.py. Where the
   module tells no steps, or there is none, stand_in.js answers in its place.
 - With the module that tools/page has made of this tree (else that part is left out with a word) the page answers as the program does:
-  the rows of machine.py and looks.py; and so it does where it once went wrong: the rows of repairs.py. Why something can't be, or how it
+  the rows of machine.py and looks.py; and so it does where it once went wrong: the rows of repairs.py; what is saved and kept: those of kept.py. Why something can't be, or how it
   can, is told, drawn and run as the program tells it: the rows of reasons.py.
+
+- In Firefox, where Debian's firefox-esr is there, fourteen of these rows.
 
 The last line is 'N passed, M failed'.
 """
@@ -39,8 +41,10 @@ sys.dont_write_bytecode = True
 import browser
 import drawing
 import driving
+import firefox
 import first
 import given_lines
+import kept
 import machine
 import reasons
 import repairs
@@ -171,10 +175,39 @@ def all_rows(window, program, room, folder, is_shipped):
     if missing:
         print("left out, what the page answers: " + missing)
         return found
-    found += [*machine.rows(page, folder), *repairs.rows(page, folder), *rows_of_reasons(page, room, folder)]
+    found += [*machine.rows(page, folder), *repairs.rows(page, folder), *kept.rows(page, folder), *rows_of_reasons(page, room, folder)]
     if not tells_steps(page):
         found += [(name + ", with steps", judge) for name, judge in machine.rows(with_steps, folder) if name not in machine.OF_THE_MODULE]
     return found
+
+
+# What is held in Firefox too: rows that need no more of a browser than firefox.py has.
+IN_FIREFOX = ("the machine first, at 1280 by 720", "the task", "the test in one line", "keys on buttons", "a setting in the middle", "meanings of words", "registers that are written",
+              "orders and tables in words", "the first test", "outcomes", "a reload", "the page as one file", "an address that is too long", "why, SB+mfences under tso")
+
+
+def rows_in_firefox(window, program, room, folder, is_shipped):
+    """These rows in Firefox, where it and a module are there."""
+    view, missing = folder_with_module(os.path.join(room, "firefox"), is_shipped)
+    if missing:
+        return []
+    page = Page(program, window, view)
+    found = [*first.rows(page, folder), *machine.rows(page, folder), *repairs.rows(page, folder), *kept.rows(page, folder), *rows_of_reasons(page, os.path.join(room, "firefox"), folder)]
+    return [(name + ", in Firefox", judge) for name, judge in found if name in IN_FIREFOX]
+
+
+def judge_rows(window, rows, only):
+    """Judges those of the rows whose names have a word, and says their faults. Answers how many passed and how many failed."""
+    passed, failed = 0, 0
+    for name, judge in rows:
+        if only not in name:
+            continue
+        window.requests.clear()  # what rows on another folder asked for
+        faults = judged(judge)
+        passed, failed = passed + (not faults), failed + bool(faults)
+        for fault in [name + ":"] + faults[:10] if faults else []:
+            print(fault[:400], flush=True)
+    return passed, failed
 
 
 def main():
@@ -186,16 +219,16 @@ def main():
     asked = parser.parse_args()
     folder = asked.folder or tempfile.mkdtemp(prefix="tso-view-")
     os.makedirs(folder, exist_ok=True)
-    passed, failed = 0, 0
-    with browser.Browser() as window, tempfile.TemporaryDirectory(prefix="tso-view-folder-") as room:
-        for name, judge in all_rows(window, asked.program, room, folder, asked.shipped):
-            if asked.only not in name:
+    passed = failed = 0
+    with tempfile.TemporaryDirectory(prefix="tso-view-folder-") as room:
+        for kind, rows_of in ((browser.Browser, all_rows), *([(firefox.Firefox, rows_in_firefox)] if firefox.is_there() else [])):
+            if kind is firefox.Firefox and not any(asked.only in name + ", in Firefox" for name in IN_FIREFOX):
                 continue
-            window.requests.clear()  # what rows on another folder asked for
-            faults = judged(judge)
-            passed, failed = passed + (not faults), failed + bool(faults)
-            for fault in [name + ":"] + faults[:10] if faults else []:
-                print(fault[:400])
+            with kind() as window:
+                counts = judge_rows(window, rows_of(window, asked.program, room, folder, asked.shipped), asked.only)
+            passed, failed = passed + counts[0], failed + counts[1]
+    if not firefox.is_there():
+        print("left out, what Firefox shows: %s isn't there" % firefox.NAME)
     print("the pictures are in " + folder)
     print("%d passed, %d failed" % (passed, failed))
     return 1 if failed or not passed else 0

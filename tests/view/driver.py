@@ -28,7 +28,8 @@ LARGE = "X86 large\n{ }\n %s ;\n" % " | ".join("P%d" % core for core in range(8)
 SHOWN = """[...document.querySelectorAll('#machines .machine')].map(machine => ({
   cores: [...machine.querySelectorAll('.core')].map(core => ({
     buttons: [...core.querySelectorAll('.core-buttons code')].map(each => each.textContent),
-    disabled: [...core.querySelectorAll('.core-buttons button')].map(each => each.disabled),
+    disabled: [...core.querySelectorAll('[data-choice]')].map(each => each.disabled),
+    dead: [...core.querySelectorAll('[data-choice]')].map(each => each.matches('.idle')), offers: [...core.querySelectorAll('.stall')].map(each => !each.hidden),
     place: [...core.querySelectorAll('.program li')].findIndex(each => each.hasAttribute('aria-current')),
     program: [...core.querySelectorAll('.program li')].map(each => each.textContent),
     registers: Object.fromEntries([...core.querySelectorAll('.registers li')].map(each => each.textContent.split('='))),
@@ -73,7 +74,7 @@ class Driver(Bench):
     def trace(self, machine=0, words="drive.words"):
         """The trace of the choices that are known."""
         options, input, own = self.value("(options => [options, inputOfWords(%s), bench.tso.answer({ ...options, command: 'trace', json: true }, inputOfWords(%s)).text])"
-                                         "(drive.machines[%d].history.options)" % (words, words, machine))
+                                         "(drive.histories[%d].options)" % (words, words, machine))
         said = [word for name, value in options.items() if name != "command" for word in ("--" + name, str(value))]
         status, told, _ = self.program(input, "trace", "--json", *said)
         return json.loads(own if status == BAD_LINE else told)
@@ -82,9 +83,17 @@ class Driver(Bench):
         for letter in word:
             self.press(letter)
 
+    def choose_step(self, step, way="clicks"):
+        """Makes the choice of a step: one that stalls by its own button, any other by its button or by keys."""
+        if step["outcome"] == "stalled":
+            self.value("document.querySelector('[data-stall=\"%s\"]').click()" % step["choice"])
+        elif way == "clicks":
+            self.value("document.querySelector('[data-choice=\"%s\"]').click()" % step["choice"])
+        else:
+            self.key_choice(step["choice"])
+
     def press(self, key):
-        for kind in ("keyDown", "keyUp"):
-            self.window.call("Input.dispatchKeyEvent", type=kind, key=key, text=key if kind == "keyDown" else "")
+        self.window.key(key)
 
 
 def state_of(machine, core, line, state):
@@ -135,7 +144,7 @@ def faults_of_machine(shown, trace, count):
 
 
 ACTING_LANE = """(() => {
-  const { layout } = drive.picture, left = layout.left(coreOfChoice(drive.words[drive.count - 1])) - byId('frame').scrollLeft;
+  const { layout } = drawn.picture, left = layout.left(coreOfChoice(drive.words[drive.count - 1])) - byId('frame').scrollLeft;
   return left >= -1 && left + layout.lane <= byId('frame').clientWidth + 1 && byId('names').scrollLeft === byId('frame').scrollLeft;
 })()"""
 

@@ -13,6 +13,21 @@ WORK, CLOCK = (16, 50), (16, 50)
 CLICKS, ROUNDS = 16, 4
 
 
+def faults_of_dead(bench, word, step):
+    """A button that looks dead stalls; a choice that stalls does nothing by its own button, and is said to do nothing."""
+    core, way, before = int(word[0]), "sd".index(word[1]), bench.value("[drive.words, drive.count]")
+    shown = bench.value(SHOWN)[0]["cores"][core]
+    stalls = step["outcome"] == "stalled"
+    faults = ["%s looks dead, and does something" % word] if shown["dead"][way] and not stalls else []
+    faults += ["%s: a button offers to stall where it is %s" % (word, shown["offers"][way])] if shown["offers"][way] != shown["dead"][way] else []
+    if stalls:
+        bench.value("document.querySelector('[data-choice=\"%s\"]').click()" % word)
+        faults += differs("after a dead button", bench.value("[drive.words, drive.count]"), before)
+        faults += [] if "does nothing" in bench.text("#sentence") else ["it says " + bench.text("#sentence")]
+        faults += differs("it offers to stall", bench.value(SHOWN)[0]["cores"][core]["offers"][way], True)
+    return faults
+
+
 def driven_row(bench, name, test, choices, settings, way):
     """Drives a run by clicks or by keys from an empty list of choices; then back and forward through it."""
     bench.load(test, choices, settings)
@@ -21,10 +36,8 @@ def driven_row(bench, name, test, choices, settings, way):
     faults = differs("a list of no choices", bench.value("drive.words"), [])
     whole = bench.trace(words=json.dumps(words))
     for count, word in enumerate(words, 1):
-        if way == "clicks":
-            bench.value("document.querySelector('[data-choice=\"%s\"]').click()" % word)
-        else:
-            bench.key_choice(word)
+        faults += faults_of_dead(bench, word, whole["trace"]["steps"][count - 1])
+        bench.choose_step(whole["trace"]["steps"][count - 1], way)
         faults += faults_at(bench, whole, count)
         if len(faults) > 5:
             return faults
@@ -74,7 +87,12 @@ def other_choice_row(bench):
     bench.key_choice("0d")
     faults += differs("another choice", bench.value("drive.words"), "0s 1s 0s 0d".split())
     faults += faults_at(bench, bench.trace(), 4)
+    bench.window.press("ArrowLeft")
     bench.press("s")
+    faults += differs("a dead key", bench.value("[drive.words, drive.count]"), ["0s 1s 0s 0d".split(), 3])
+    faults += [] if "P0 has no further instruction" in bench.text("#sentence") else ["it says " + bench.text("#sentence")]
+    bench.window.press("ArrowRight")
+    bench.value("document.querySelector('[data-stall=\"0s\"]').click()")
     faults += differs("the core is kept", bench.value("drive.words.at(-1)"), "0s") + faults_at(bench, bench.trace(), 5)
     faults += [] if "Stalled (Done)" in bench.text("#sentence") else ["it says " + bench.text("#sentence")]
     bench.wait("decodeURIComponent(byId('share').href).includes('0d+0s')")
@@ -132,7 +150,7 @@ def seeds_row(bench):
     bench.press("-")
     faults += differs("a lower speed", bench.text("#speed-said"), "16 a second")
     bench.press("p")
-    bench.wait("drive.timer === null")
+    bench.wait("timers.playing === null")
     return faults + differs("at its end", bench.value("drive.count === drive.words.length && firstHistory().hasEnded(drive.count)"), True) + safety(bench)
 
 
@@ -215,7 +233,7 @@ def saves_row(bench):
 
 
 UNDRAWN = """(() => {
-  const { scrollTop, clientHeight } = byId('frame'), { layout } = drive.picture;
+  const { scrollTop, clientHeight } = byId('frame'), { layout } = drawn.picture;
   const isInSight = ({ dataset: { entry } }) => layout.top(Number(entry) + 1) - HEAD > scrollTop && layout.top(Number(entry)) - HEAD < scrollTop + clientHeight;
   return [...document.querySelectorAll('#frame [data-entry]')].filter(isInSight).filter(each => each.getClientRects().length === 0).length;
 })()"""
@@ -227,7 +245,7 @@ def long_picture_row(bench):
     bench.load(LARGE, "seed 3 900", {})
     bench.value("goTo(500)")
     bench.value(AT_REST % 50)
-    rows, hidden = bench.value("[drive.picture.rows.length, document.querySelectorAll('#frame .sheet[hidden]').length]")
+    rows, hidden = bench.value("[drawn.picture.rows.length, document.querySelectorAll('#frame .sheet[hidden]').length]")
     faults = [] if rows > 100 and hidden > 0 else ["%d rows, and %d sheets are hidden" % (rows, hidden)]
     for part in (1, 0.7, 0.4, 0.1, 0, 0.5, 1):
         bench.value("byId('frame').scrollTop = %g * byId('frame').scrollHeight" % part)

@@ -5,7 +5,7 @@ from bench import OVERHANGING, differs, safety
 from driver import SHARED, Driver
 
 IN_SIGHT = """(() => {
-  const parts = ['.core-buttons button', '.buffer', '.registers', '.cache', '.bus', '.memory', '#frame [data-entry]', '#task', '#sentence'];
+  const parts = ['[data-choice]', '.buffer', '.registers', '.cache', '.bus', '.memory', '#frame [data-entry]', '#task', '#sentence'];
   return parts.flatMap(part => [...document.querySelectorAll(part)]).filter(each => {
     const { top, bottom, left, right } = each.getBoundingClientRect();
     return top < 0 || left < 0 || bottom > innerHeight || right > innerWidth;

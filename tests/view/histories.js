@@ -53,8 +53,7 @@ function faultsOf(program, options, input) {
   const faults = SAME.flatMap(name => differs(`${name} of the stand-in`, own[name], run[name]));
   const traced = told(program, 'trace', options, input);
   if (traced.status !== BAD_LINE) faults.push(...differs('the lines of the stand-in', stepsIn(standIn.answer({ ...options, command: 'trace' }, input).text), stepsIn(traced.text)));
-  const trace = readTrace(JSON.stringify(own)), history = new History({ ...Tso.DEFAULTS, ...options }, trace);
-  for (const step of trace.steps) history.add(step);
+  const trace = readTrace(JSON.stringify(own)), history = trace.steps.reduce((made, step) => made.with(step), new History({ ...Tso.DEFAULTS, ...options }, trace));
   return faults.concat(run.unfinished ? [] : faultsOfHistory(history, readLine(line)), faultsOfCuts(history, trace.steps));
 }
 
@@ -63,8 +62,8 @@ function faultsOfHistory(history, run) {
   const faults = differs('the order', history.order.map(entry => entry.text), run.order.map(entry => entry.text));
   for (const [index, entry] of history.order.entries()) {
     const same = run.order[index];
-    if (isRead(entry)) faults.push(...differs(`the source of ${entry.text}`, entry.source?.index ?? null, sourceOf(run.order, same)?.index ?? null));
-    faults.push(...differs(`what ${entry.text} passed`, entry.passed.map(store => store.index).sort(), same.passed.map(store => store.index).sort()));
+    if (isRead(entry)) faults.push(...differs(`the source of ${entry.text}`, entry.source?.text ?? null, sourceOf(run.order, same)?.text ?? null));
+    faults.push(...differs(`what ${entry.text} passed`, entry.passed.map(store => store.text).sort(), same.passed.map(store => store.text).sort()));
     if (entry.kind !== 'W') continue;
     const { earliest, latest } = waitOf(run, same);
     if (entry.wait.earliest < earliest || entry.wait.latest > latest) faults.push(`${entry.text} went in at ${entry.wait.earliest}, and not from ${earliest} to ${latest}`);
@@ -72,12 +71,11 @@ function faultsOfHistory(history, run) {
   return faults;
 }
 
-/** Steps that are taken away and made again come to the same. */
+/** Steps that are taken away and made again come to the same, and the history that they were taken from is what it was. */
 function faultsOfCuts(history, steps) {
-  const before = history.order.map(entry => entry.text), half = Math.floor(steps.length / 2);
-  history.cut(half);
-  for (const step of steps.slice(half)) history.add(step);
-  return differs('the order after a cut', history.order.map(entry => entry.text), before);
+  const before = JSON.stringify(history), half = Math.floor(steps.length / 2);
+  const again = steps.slice(half).reduce((made, step) => made.with(step), history.upTo(half));
+  return [...differs('the history of steps made again', JSON.stringify(again), before), ...differs('the history that they were taken from', JSON.stringify(history), before)];
 }
 
 function main([program]) {

@@ -151,8 +151,7 @@ def address_row(bench):
     bench.open()
     ask(bench, "SB", "sc")
     bench.wait("location.hash.includes('command=why')")
-    bench.window.call("Page.reload")
-    bench.value("new Promise(done => document.readyState === 'complete' ? done() : addEventListener('load', () => done()))")
+    bench.window.reload()
     bench.wait("document.querySelector('.drawn [data-edge]')")
     return differs("after a reload", bench.value("[currentCommand(), settingOf('model').value]"), ["why", "sc"]) + safety(bench)
 

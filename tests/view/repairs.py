@@ -180,7 +180,7 @@ def search_row(bench):
 
 def reload_row(bench):
     """What is shown is there again after a reload: test, settings, choices, position, and the machine beside it."""
-    shown = "[byId('test').value, choicesText().trim(), changedSettings(), drive.count, drive.words, drive.machines.length, byId('count').textContent]"
+    shown = "[byId('test').value, choicesText().trim(), changedSettings(), drive.count, drive.words, drive.histories.length, byId('count').textContent]"
     bench.open()
     bench.value("new Promise(done => setTimeout(done, 400))")
     faults = differs("the address at first", bench.value("location.hash"), "")
@@ -188,8 +188,7 @@ def reload_row(bench):
                 "putBeside(JSON.stringify(otherMachines(firstHistory().options)[1])); goTo(3)"):
         bench.value(act + "; true")
         before = bench.value("new Promise(done => setTimeout(() => done(%s), 500))" % shown)
-        bench.window.call("Page.reload")
-        bench.value("new Promise(done => document.readyState === 'complete' ? done() : addEventListener('load', () => done()))")
+        bench.window.reload()
         bench.value(READY)
         bench.wait("drive.isOn")
         faults += differs("after %s and a reload" % act, bench.value("new Promise(done => setTimeout(() => done(%s), 50))" % shown), before)

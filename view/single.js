@@ -1,0 +1,52 @@
+'use strict';
+
+// The page as one file, with what is shown in it: its scripts and styles stand in it, and its policy names their digests.
+
+/** What the scripts of data give their names. */
+const DATA = { 'texts.js': () => ({ EXAMPLES, SHOWS, GALLERY }), 'module.js': () => ({ MODULE }), 'whole.js': () => ({ WHOLE }) };
+
+/** A value as a text of JavaScript in which nothing ends a script. */
+const literalOf = value => JSON.stringify(value).replaceAll('<', '\\u003c');
+
+const dataScript = values => `'use strict';\n\n${Object.entries(values).map(([name, value]) => `const ${name} = ${literalOf(value)};\n`).join('')}`;
+
+const scriptText = name => WHOLE.scripts[name] ?? dataScript(DATA[name]());
+
+/** A text's digest, as a policy names it. */
+async function digestOf(text) {
+  const digest = await crypto.subtle.digest('SHA-256', new TextEncoder().encode(text));
+  return `'sha256-${btoa(String.fromCharCode(...new Uint8Array(digest)))}'`;
+}
+
+const inAttribute = text => text.replaceAll('&', '&amp;').replaceAll('"', '&quot;').replaceAll('<', '&lt;');
+
+/** What the address of what is shown tells: a test, or a run that was made elsewhere. */
+const addressNow = () => (isOfTest() ? currentAddress() : encodeURIComponent(shown.line));
+
+/** Replaces each of these places of a page by what stands there in one file. */
+function inOneFile(page, place, textOf, tag) {
+  return page.replace(place, (_, name) => `<${tag}>${textOf(name)}</${tag}>`);
+}
+
+/** The whole page as one text, which opens what this address tells. */
+async function wholePage(address) {
+  const scripts = [...WHOLE.page.matchAll(/<script src="([a-z]+\.js)">/g)].map(([, name]) => scriptText(name)), styles = Object.values(WHOLE.styles);
+  const [ofScripts, ofStyles] = await Promise.all([scripts, styles].map(async texts => (await Promise.all(texts.map(digestOf))).join(' ')));
+  const head = WHOLE.page.replace('script-src \'self\'', () => `script-src ${ofScripts}`).replace('style-src \'self\'', () => `style-src ${ofStyles}`)
+    .replace('<title>', () => `<meta name="shown" content="${inAttribute(address)}">\n<title>`);
+  const styled = inOneFile(head, /<link rel="stylesheet" href="([a-z]+\.css)">/g, name => WHOLE.styles[name], 'style');
+  return inOneFile(styled, /<script src="([a-z]+\.js)"><\/script>/g, scriptText, 'script');
+}
+
+/** What a page that was saved has to open, where its address tells nothing. */
+const savedAddress = () => document.querySelector('meta[name=shown]')?.content ?? '';
+
+async function savePage() {
+  if (!window.crypto?.subtle) {
+    byId('message').textContent = 'The browser makes digests for pages of https or of files alone, so this page can\'t be saved from here.';
+    return;
+  }
+  saveText(fileName(pictureName(), '.html'), await wholePage(addressNow()), 'text/html');
+}
+
+SAVES.page = savePage;
