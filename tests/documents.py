@@ -200,7 +200,7 @@ def faults_of_crates_files():
 PROTOCOL = re.compile(r"\bmosi\b", re.IGNORECASE)
 COMMANDS = [re.compile(r"\b[%s%s]%s\b" % (name[0], name[0].upper(), name[1:])) for name in ("trace", "sweep", "outcomes", "check", "witness")]
 # Such files need no line in a list: what documents tell, data, what is built or written by a script, and laws that name single commands.
-UNLISTED = ("CHANGELOG.md", "docs/", "examples/", "release/", "tests/data/", "view/module.js", "view/texts.js", "view/bench.js")
+UNLISTED = ("CHANGELOG.md", "docs/", "examples/", "release/", "tests/data/", "view/module.js", "view/texts.js", "view/whole.js", "view/bench.js")
 
 
 def tracked_files():

@@ -14,9 +14,9 @@ function tellsWhy(tso) {
   }
 }
 
-/** The programs of a test, by its trace without choices, and its condition's text or null. */
-function readTest(test) {
-  const { text } = asked({ command: 'trace', json: true }, `${test}${DIVIDING_LINE}\n`), { programs, proposition } = readTrace(text);
+/** The programs of an input's test, by its trace without choices, and its condition's text or null. */
+function readTest(input) {
+  const { text } = asked({ command: 'trace', json: true }, `${partsOf(input).test}${DIVIDING_LINE}\n`), { programs, proposition } = readTrace(text);
   return { programs, proposition };
 }
 
