@@ -122,7 +122,8 @@ class CyclePanel {
     }
     [...this.sentences.children].forEach((item, at) => {
       item.classList.toggle('later', at >= shown);
-      item.toggleAttribute('aria-current', at === shown - 1);
+      if (at === shown - 1) item.setAttribute('aria-current', 'step');
+      else item.removeAttribute('aria-current');
     });
     this.end.classList.toggle('later', !isAll);
     this.count.textContent = `Edge ${shown} of ${this.cycle.length}`;

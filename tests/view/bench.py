@@ -15,7 +15,7 @@ READY = "new Promise(done => { const look = () => bench.tso ? done() : setTimeou
 
 OVERHANGING = """(() => {
   const edge = document.documentElement.clientWidth;
-  const over = [...document.querySelectorAll('body *')].filter(each => !each.closest('svg, .scrolls, .paper, figure, #texts')
+  const over = [...document.querySelectorAll('body *')].filter(each => !each.closest('svg, .scrolls, .paper, figure, #texts, details:not([open]) > :not(summary)')
     && each.getBoundingClientRect().right > edge + 1);
   const faults = over.map(each => each.tagName + '#' + each.id + ' hangs over the page');
   if (document.documentElement.scrollWidth > edge) faults.push('the page is ' + document.documentElement.scrollWidth + ' wide');

@@ -182,7 +182,7 @@ def all_rows(window, program, room, folder, is_shipped):
 
 
 # What is held in Firefox too: rows that need no more of a browser than firefox.py has.
-IN_FIREFOX = ("the machine first, at 1280 by 720", "the task", "the test in one line", "keys on buttons", "a setting in the middle", "meanings of words", "registers that are written",
+IN_FIREFOX = ("the machine first, at 1280 by 720", "the task", "the test in one line", "keys on buttons", "a setting in the middle", "seeds that are none", "registers that are written",
               "orders and tables in words", "the first test", "outcomes", "a reload", "the page as one file", "an address that is too long", "why, SB+mfences under tso")
 
 

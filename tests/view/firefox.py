@@ -131,8 +131,8 @@ class Firefox:
 
     def note(self, event):
         method, said = event.get("method"), event.get("params", {})
-        if method == "log.entryAdded" and said["level"] in ("error", "warn"):
-            self.faults.append("%s %s" % (said["level"], said.get("text")))
+        if method == "log.entryAdded" and said["level"] == "error":
+            self.faults.append(str(said.get("text")))
         elif method == "network.beforeRequestSent":
             self.requests.append(said["request"]["url"])
 
