@@ -90,12 +90,16 @@ def keys_row(bench):
 
 
 def settings_row(bench):
-    """Another setting keeps the position, where the choices are the same."""
+    """Another setting keeps the position, where the choices are the same. Where they end earlier it is their end, and none is lost."""
     bench.open()
     bench.value("goTo(3)")
     bench.value("settingOf('protocol').value = 'mesi'; byId('settings').dispatchEvent(new Event('input'))")
     faults = differs("after another protocol", bench.value("[drive.count, firstHistory().options.protocol]"), [3, "mesi"])
-    return faults + safety(bench)
+    deeper = "settingOf('depth').value = '%d'; byId('settings').dispatchEvent(new Event('input')); [drive.count, drive.words.length]"
+    faults += differs("without buffers", bench.value(deeper % 0), [3, 4]) + differs("with them again", bench.value(deeper % 4), [3, 6])
+    bench.value("goTo(5)")
+    faults += differs("without buffers, later", bench.value(deeper % 0), [4, 4])
+    return faults + differs("with them again, later", bench.value("%s" % (deeper % 4))[1], 6) + safety(bench)
 
 
 def sizes_row(bench):

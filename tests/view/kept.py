@@ -1,14 +1,17 @@
 """Rows for what is kept: the page saved as one file, addresses that are too long, colours of saved pictures; and borders that are seen."""
+import contextlib
+import functools
+import http.server
 import json
 import os
 import re
+import threading
 
-from bench import BORDERS, DIVIDING_LINE, EXAMPLES, FIRST, READY, differs, read, safety
+from bench import BORDERS, DIVIDING_LINE, EXAMPLES, READY, TESTS, differs, read, safety
 from driver import Driver
 
 OTHER = read(EXAMPLES, "own-store-first.litmus")
 SAVED = "new Promise((done, failed) => { saveFile = (name, blob) => blob.text().then(text => done([name, text]), failed); %s })"
-LOADED = "new Promise(done => document.readyState === 'complete' ? done() : addEventListener('load', () => done()))"
 
 
 def saved_page(bench, press):
@@ -94,6 +97,50 @@ def too_long_row(bench, folder):
     return faults + differs("said of a short one", bench.value("[byId('too-long').hidden, byId('copy-link').disabled]"), [True, False]) + safety(bench)
 
 
+class Handler(http.server.SimpleHTTPRequestHandler):
+    """Files of a folder, with the policy that README gives for a server."""
+
+    def end_headers(self):
+        name, _, policy = re.search(r"^Content-Security-Policy: .*$", read(os.path.dirname(TESTS), "README.md"), re.MULTILINE).group().partition(": ")
+        self.send_header(name, policy)
+        super().end_headers()
+
+    def log_message(self, *_):
+        pass
+
+
+@contextlib.contextmanager
+def served(folder):
+    """The address of a server of this folder."""
+    server = http.server.ThreadingHTTPServer(("127.0.0.1", 0), functools.partial(Handler, directory=folder))
+    thread = threading.Thread(target=server.serve_forever)
+    thread.start()
+    try:
+        yield "http://127.0.0.1:%d/" % server.server_port
+    finally:
+        server.shutdown()
+        thread.join()
+        server.server_close()
+
+
+def served_row(bench):
+    """From a server with README's policy in a header the page does the same: it drives, searches in a worker, and is saved."""
+    with served(bench.page.folder.removeprefix("file://")) as address:
+        bench.window.open(address + "index.html")
+        bench.value(READY)
+        bench.wait("drive.isOn")
+        bench.window.click("[data-choice='0s']")
+        faults = differs("driven", bench.value("drive.count"), 1)
+        bench.value("findOutcomes()")
+        bench.wait("!bench.task && document.querySelector('#states table')")
+        bench.value("putCommand('run'); answerNow()")
+        faults += faults_of_form(saved_page(bench, "SAVES.page()")[1])
+        outside = [each for each in bench.window.requests if not each.startswith((address, "about:", "blob:"))]
+        bench.window.requests.clear()
+        bench.window.open("about:blank")
+    return faults + differs("asked for", outside, []) + safety(bench)
+
+
 def in_dark(bench, judge):
     bench.window.call("Emulation.setEmulatedMedia", features=[{"name": "prefers-color-scheme", "value": "dark"}])
     try:
@@ -142,6 +189,7 @@ def rows(page, folder):
     return [
         ("the page as one file", lambda: saved_row(bench, folder)),
         ("a picture's page as one file", lambda: picture_page_row(bench, folder)),
+        ("the page of a server", lambda: served_row(bench)),
         ("an address that is too long", lambda: too_long_row(bench, folder)),
         ("colours of saved pictures", lambda: colours_row(bench)),
         ("borders", lambda: borders_row(bench)),
