@@ -10,12 +10,10 @@ use Rattle.eager_laws.specs.Closed.{ClosedStatesMissNone}
 use Rattle.eager_laws.specs.Dead.{forgotten, AreAlike, seen, DeadRegistersChangeNothing}
 use Rattle.eager_laws.specs.Exchanged.{AreAllAlike, AlikeCoresAreExchangeable}
 use Rattle.flat_machine.specs.State.{state_of}
-use Rattle.explorer.specs.inner.Settled.{Grows, HaveCores, IsSearched}
-use Rattle.explorer.specs.inner.Arranged.{AreExchanged}
+use Rattle.explorer.specs.inner.Settled.{HaveCores}
 use Rattle.explorer.specs.FinalStates.{AreReached, Have, HaveEveryEnd, AreDistinct}
-use Rattle.explorer.specs.inner.Collected.{IsFinalOf, IsMadeOf, AreFinalsOf}
+use Rattle.explorer.specs.inner.Collected.{IsFinalOf, IsMadeOf, AreFinalsOf, IsWhole}
 use Rattle.flat_machine.specs.declared.snapshot.Snapshot.{Snapshot}
-use Rattle.explorer.specs.declared.link.Link.{Link}
 use Rattle.explorer.specs.declared.final_states.FinalState.{FinalState}
 use Rattle.flat_machine.specs.contracts.snapshot.SnapshotPartialEq.TheImpl as snapshot_eq
 use Rattle.explorer.proofs.Counting.{apart}
@@ -142,27 +140,24 @@ module _ (law : DeadRegistersChangeNothing) (d : ℕ) (t : Litmus) (hidden : Lis
 
 -- ---- what a search answers
 
-pub finals-reached : DeadRegistersChangeNothing → (d : ℕ) (t : Litmus) (hidden : List (List Bool)) (xs : List Snapshot) (n : ℕ) (fs : List FinalState) → AreFinalsOf d t hidden xs n fs → AreReached t d fs
+finals-reached : DeadRegistersChangeNothing → (d : ℕ) (t : Litmus) (hidden : List (List Bool)) (xs : List Snapshot) (n : ℕ) (fs : List FinalState) → AreFinalsOf d t hidden xs n fs → AreReached t d fs
 finals-reached law d t hidden xs n fs h i f q =
     let m = h.each i f q in
     leads-to-end d t f.choices.items m.made.last f.registers.items f.memory.items m.made.leads (last-ended law d t hidden m.snapshot f m.made m.ended) m.made.registers_are m.made.memory_is
 
--- the snapshots of a search, and those that were added to it: what exchanges make of those that have ended
-pub record AreAll (d : ℕ) (t : Litmus) (hidden : List (List Bool)) (pairs : List (ℕ × ℕ)) (old : List Snapshot) (links : List Link) (xs : List Snapshot) : Type 0 where
+-- the snapshots of a search that came to its end
+pub record AreAll (d : ℕ) (t : Litmus) (hidden : List (List Bool)) (pairs : List (ℕ × ℕ)) (xs : List Snapshot) : Type 0 where
   pub alike : AreAllAlike t hidden pairs
-  pub searched : IsSearched d t hidden pairs old links
-  pub grows : Grows old xs
   pub cores : HaveCores t xs
-  pub exchanged : AreExchanged t pairs xs (length xs)
+  pub whole : IsWhole d t hidden pairs xs
 
-pub finals-complete : DeadRegistersChangeNothing → AlikeCoresAreExchangeable → ClosedStatesMissNone → RunsStopWhereTheyEnd → (d : ℕ) (t : Litmus) (hidden : List (List Bool)) (pairs : List (ℕ × ℕ))
-    (old : List Snapshot) (links : List Link) (xs : List Snapshot) (fs : List FinalState)
-    → IsTest t → AreAll d t hidden pairs old links xs → AreFinalsOf d t hidden xs (length xs) fs → HaveEveryEnd t d hidden fs
-finals-complete law all closed stop d t hidden pairs old links xs fs test w h registers memory e =
-    let m = closed d t hidden pairs (map state_of old) e.choices test w.alike w.searched.closed e.ended in
+finals-complete : DeadRegistersChangeNothing → AlikeCoresAreExchangeable → ClosedStatesMissNone → RunsStopWhereTheyEnd → (d : ℕ) (t : Litmus) (hidden : List (List Bool)) (pairs : List (ℕ × ℕ))
+    (xs : List Snapshot) (fs : List FinalState) → IsTest t → AreAll d t hidden pairs xs → AreFinalsOf d t hidden xs (length xs) fs → HaveEveryEnd t d hidden fs
+finals-complete law all closed stop d t hidden pairs xs fs test w h registers memory e =
+    let m = closed d t hidden pairs (map state_of w.whole.earlier) e.choices test w.alike w.whole.closed e.ended in
     let last : State = (run t d e.choices).state in
     let ended : has_ended t last ≡ true = sym (stop.stops t d e.choices).ended ∙ e.ended in
-    let k = found-back law all t hidden pairs xs w.alike w.cores w.exchanged m.exchanges m.of_pairs last (end-cores stop d t e.choices) ended m.kept (in-grown old xs m.kept w.grows m.among) m.alike in
+    let k = found-back law all t hidden pairs xs w.alike w.cores w.whole.exchanged m.exchanges m.of_pairs last (end-cores stop d t e.choices) ended m.kept (in-grown w.whole.earlier xs m.kept w.whole.grows m.among) m.alike in
     let r = from-list xs k.among.0 k.state k.among.1 in
     let kept_ended : has_ended t k.state ≡ true = law.ended t hidden k.state last k.alike ∙ ended in
     let f = h.all k.among.0 r.0 r.3 r.1 (subst (λ z. has_ended t z ≡ true) (sym r.2) kept_ended) in
@@ -174,22 +169,24 @@ finals-complete law all closed stop d t hidden pairs old links xs fs test w h re
       memory_is = f.memory_is ∙ ap (λ z. z.memory) r.2 ∙ ap (λ z. z.memory) k.alike ∙ e.memory_is;
     }
 
--- what is answered, where the search went by the same test, depth and hidden registers
-pub record AreAnswered (d : ℕ) (t : Litmus) (hidden : List (List Bool)) (fs : List FinalState) : Type 0 where
+-- what goes by one depth, test and list of hidden registers goes by the same ones
+pub went-by : (P : ℕ → Litmus → List (List Bool) → Type 0) → (d e : ℕ) (t u : Litmus) (hidden other : List (List Bool)) → d ≡ e → t ≡ u → hidden ≡ other → P d t hidden → P e u other
+went-by P d e t u hidden other p q r h = subst (λ z. P z u other) p (subst (λ z. P d z other) q (subst (λ z. P d t z) r h))
+
+-- what is met, where the search went by the same test, depth and hidden registers
+pub record AreMet (d : ℕ) (t : Litmus) (hidden : List (List Bool)) (fs : List FinalState) : Type 0 where
   pub reached : AreReached t d fs
-  pub complete : HaveEveryEnd t d hidden fs
   pub once : AreDistinct hidden fs
 
-pub answered : DeadRegistersChangeNothing → AlikeCoresAreExchangeable → ClosedStatesMissNone → RunsStopWhereTheyEnd → (d e : ℕ) (t u : Litmus) (hidden other : List (List Bool)) (pairs : List (ℕ × ℕ))
-    (old : List Snapshot) (links : List Link) (xs : List Snapshot) (fs : List FinalState)
-    → d ≡ e → t ≡ u → hidden ≡ other → IsTest u → AreAll d t hidden pairs old links xs → AreFinalsOf d t hidden xs (length xs) fs → AreAnswered e u other fs
-answered law all closed stop d e t u hidden other pairs old links xs fs p q r test w h =
-    let w2 : AreAll e u other pairs old links xs =
-    subst (λ z. AreAll z u other pairs old links xs) p (subst (λ z. AreAll d z other pairs old links xs) q (subst (λ z. AreAll d t z pairs old links xs) r w)) in
-    let h2 : AreFinalsOf e u other xs (length xs) fs =
-    subst (λ z. AreFinalsOf z u other xs (length xs) fs) p (subst (λ z. AreFinalsOf d z other xs (length xs) fs) q (subst (λ z. AreFinalsOf d t z xs (length xs) fs) r h)) in
-    record {
-      reached = finals-reached law e u other xs (length xs) fs h2;
-      complete = finals-complete law all closed stop e u other pairs old links xs fs test w2 h2;
-      once = h2.once;
-    }
+pub met : DeadRegistersChangeNothing → (d e : ℕ) (t u : Litmus) (hidden other : List (List Bool)) (xs : List Snapshot) (fs : List FinalState) → d ≡ e → t ≡ u → hidden ≡ other
+    → AreFinalsOf d t hidden xs (length xs) fs → AreMet e u other fs
+met law d e t u hidden other xs fs p q r h =
+    let same = went-by (λ a b c. AreFinalsOf a b c xs (length xs) fs) d e t u hidden other p q r h in
+    record { reached = finals-reached law e u other xs (length xs) fs same; once = same.once }
+
+-- that is every end, where the search came to its own
+pub all-met : DeadRegistersChangeNothing → AlikeCoresAreExchangeable → ClosedStatesMissNone → RunsStopWhereTheyEnd → (d e : ℕ) (t u : Litmus) (hidden other : List (List Bool)) (pairs : List (ℕ × ℕ))
+    (xs : List Snapshot) (fs : List FinalState) → d ≡ e → t ≡ u → hidden ≡ other → IsTest u → AreAll d t hidden pairs xs → AreFinalsOf d t hidden xs (length xs) fs → HaveEveryEnd u e other fs
+all-met law all closed stop d e t u hidden other pairs xs fs p q r test w h =
+    finals-complete law all closed stop e u other pairs xs fs test (went-by (λ a b c. AreAll a b c pairs xs) d e t u hidden other p q r w)
+    (went-by (λ a b c. AreFinalsOf a b c xs (length xs) fs) d e t u hidden other p q r h)

@@ -1,6 +1,6 @@
 //! What exchanges of alike cores make of the states in which the test has ended. A search keeps one of the states that
 //! differ by such exchanges; all of those that have ended are added to it at its end, each with choices that lead there.
-ghost use Rattle.std.specs.Prelude.{◌≡◌, ◌<◌, ◌≤◌, true, IfErr, OnOk, map, length, slice_get, Some};
+ghost use Rattle.std.specs.Prelude.{◌≡◌, ◌<◌, ◌≤◌, true, IfOk, OnOk, map, length, slice_get, Some};
 ghost use Rattle.tso_model.specs.Runs.{has_ended};
 ghost use Rattle.eager_laws.specs.Closed.{IsIn};
 ghost use Rattle.eager_laws.specs.Exchanged.{exchanged, IsOneOf};
@@ -8,15 +8,13 @@ ghost use Rattle.flat_machine.specs.State.{state_of};
 ghost use Rattle.explorer.specs.inner.Settled.{Grows, HaveCores, AreLinked};
 ghost use Rattle.explorer.specs.inner.Arranged.{HasExchanged, AreExchanged};
 ghost use Rattle.explorer.specs.inner.Planned.{IsPlan};
-ghost use Rattle.explorer.specs.FinalStates.{HasMoreStates};
 ghost use Rattle.flat_machine.specs.declared.snapshot.Snapshot.{Snapshot};
-ghost use Rattle.explorer.specs.declared.fault.ExploreFault.{ExploreFault};
+ghost use Rattle.explorer.specs.declared.search.Extent.{Extent};
 
 use crate::exchange::exchange;
-use crate::fault::ExploreFault;
 use crate::plan::Plan;
 use crate::reached::{Reached, nowhere};
-use crate::search::{Found, keep};
+use crate::search::{Extent, Found, keep};
 use eager_laws::{alike_cores_are_exchangeable, dead_registers_change_nothing};
 use flat_machine::{has_ended, overwrite};
 use std::alloc::Global;
@@ -88,15 +86,15 @@ fn add_all_exchanged(
 }
 
 /// Adds what exchanges of alike cores make of the snapshots in which the test has ended, until
-/// nothing is new.
+/// nothing is new, as long as no more than `limit` are kept. Where they are more, it ends there.
 ///
-/// Errors: too many where there are more than `limit` then, and out of memory.
+/// Errors: out of memory only.
 pub fn close(
     alloc: Global,
     plan: &Plan,
     found: &mut Found,
     limit: usize,
-) -> Result<(), ExploreFault>
+) -> Result<Extent, NoMemory>
     requires plan { IsPlan plan.now }
     requires cores { HaveCores plan.now.test.now found.old.snapshots.keys }
     requires linked { AreLinked plan.now.depth plan.now.test.now plan.now.hidden.now found.old.snapshots.keys found.old.links.items }
@@ -104,14 +102,13 @@ pub fn close(
     ensures grows { OnOk result (Grows found.old.snapshots.keys found.new.snapshots.keys) }
     ensures cores { OnOk result (HaveCores plan.now.test.now found.new.snapshots.keys) }
     ensures linked { OnOk result (AreLinked plan.now.depth plan.now.test.now plan.now.hidden.now found.new.snapshots.keys found.new.links.items) }
-    ensures exchanged { OnOk result (AreExchanged plan.now.test.now plan.now.alike.items found.new.snapshots.keys
-        (length found.new.snapshots.keys)) }
-    ensures too_many { IfErr result (λ fault. fault ≡ ExploreFault.TooMany → HasMoreStates plan.now.test.now plan.now.depth limit) }
+    ensures exchanged { IfOk result (λ extent. extent ≡ Extent.Whole → AreExchanged plan.now.test.now plan.now.alike.items
+        found.new.snapshots.keys (length found.new.snapshots.keys)) }
+    ensures within { IfOk result (λ extent. extent ≡ Extent.Whole → length found.new.snapshots.keys ≤ limit) }
+    ensures more { IfOk result (λ extent. extent ≡ Extent.Cut → limit < length found.new.snapshots.keys) }
 {
-    alike_cores_are_exchangeable();
-    dead_registers_change_nothing();
     if plan.alike.is_empty() {
-        return Ok(());
+        return Ok(Extent::Whole);
     }
     let mut reached = nowhere(alloc, plan.test)?;
     for at in 0..limit {
@@ -120,8 +117,8 @@ pub fn close(
         }
         add_all_exchanged(alloc, plan, found, &mut reached, at)?;
         if found.snapshots.len() > limit {
-            return Err(ExploreFault::TooMany);
+            return Ok(Extent::Cut);
         }
     }
-    Ok(())
+    Ok(Extent::Whole)
 }

@@ -1,24 +1,27 @@
-//! The final states that a search found: those kept states in which the test has ended, each once, with choices that lead
+//! The final states that a search met: those kept states in which the test has ended, each once, with choices that lead
 //! there. A kept state has 0 in its hidden registers; what they hold at the end is known by making the choices again.
-ghost use Rattle.std.specs.Prelude.{◌≡◌, ◌<◌, IfOk, IfErr, length, slice_get, Some};
+ghost use Rattle.std.specs.Prelude.{◌≡◌, ◌<◌, ◌≤◌, ℕ, IfOk, IfErr, OnOk, length, map, slice_get, Some};
 ghost use Rattle.tso_model.specs.FlatMachine.{start};
 ghost use Rattle.tso_model.specs.Limits.{most_depth};
 ghost use Rattle.tso_model.specs.Runs.{CoresExist};
 ghost use Rattle.tso_laws.specs.Choices.{state_after};
 ghost use Rattle.flat_machine.specs.State.{state_of};
+ghost use Rattle.eager_laws.specs.Closed.{IsCovered};
 ghost use Rattle.explorer.specs.inner.Planned.{IsPlan};
 ghost use Rattle.explorer.specs.inner.Settled.{HaveCores, AreLinked};
-ghost use Rattle.explorer.specs.inner.Collected.{IsFinalOf, AreFinalsOf};
+ghost use Rattle.explorer.specs.inner.Collected.{IsFinalOf, AreFinalsOf, IsWhole};
 ghost use Rattle.explorer.specs.FinalStates.{AreReached, HaveEveryEnd, AreDistinct, HasMoreStates};
 ghost use Rattle.explorer.specs.FinalStates.{AreWhatTsoAllows, AreWhatSequentialConsistencyAllows};
 ghost use Rattle.flat_machine.specs.declared.snapshot.Snapshot.{Snapshot};
 ghost use Rattle.explorer.specs.declared.fault.ExploreFault.{ExploreFault};
+ghost use Rattle.explorer.specs.declared.search.Extent.{Extent};
 
 use crate::closing::close;
 use crate::fault::ExploreFault;
 use crate::link::path;
 use crate::plan::{Plan, plan_of};
-use crate::search::{Found, search};
+use crate::search::{Extent, Found, beginning, expand_all};
+use crate::watching::{Unwatched, Watcher};
 use eager_laws::{
     alike_cores_are_exchangeable, closed_states_miss_none, dead_registers_change_nothing,
 };
@@ -103,6 +106,94 @@ fn final_states(alloc: Global, plan: &Plan, found: &Found) -> Result<Vec<FinalSt
     Ok(final_states)
 }
 
+/// Goes through all states that choices lead to, and adds what exchanges of alike cores make of those in which the test has
+/// ended, as long as no more than `limit` are kept. Where they are more, it ends there. The watcher is told of it.
+///
+/// Errors: out of memory only.
+fn search_all<W: Watcher>(
+    alloc: Global,
+    plan: &Plan,
+    found: &mut Found,
+    limit: usize,
+    watcher: &mut W,
+) -> Result<Extent, NoMemory>
+    requires plan { IsPlan plan.now }
+    requires cores { HaveCores plan.now.test.now found.old.snapshots.keys }
+    requires linked { AreLinked plan.now.depth plan.now.test.now plan.now.hidden.now found.old.snapshots.keys found.old.links.items }
+    requires covered { IsCovered plan.now.depth plan.now.test.now plan.now.hidden.now plan.now.alike.items
+        (map state_of found.old.snapshots.keys) (start plan.now.test.now) }
+    requires one { length found.old.snapshots.keys ≡ 1 }
+    ensures cores { OnOk result (HaveCores plan.now.test.now found.new.snapshots.keys) }
+    ensures linked { OnOk result (AreLinked plan.now.depth plan.now.test.now plan.now.hidden.now found.new.snapshots.keys found.new.links.items) }
+    ensures whole { IfOk result (λ extent. extent ≡ Extent.Whole
+        → IsWhole plan.now.depth plan.now.test.now plan.now.hidden.now plan.now.alike.items found.new.snapshots.keys) }
+    ensures within { IfOk result (λ extent. extent ≡ Extent.Whole → length found.new.snapshots.keys ≤ limit) }
+    ensures more { IfOk result (λ extent. extent ≡ Extent.Cut → limit < length found.new.snapshots.keys) }
+{
+    if limit == 0 {
+        return Ok(Extent::Cut);
+    }
+    let expanded = expand_all(alloc, plan, found, limit, watcher)?;
+    match expanded {
+        Extent::Whole => {
+            let closed = close(alloc, plan, found, limit)?;
+            Ok(closed)
+        }
+        Extent::Cut => Ok(Extent::Cut),
+    }
+}
+
+/// What a search met, whether it came to its end or to its limit.
+#[derive(Drop)]
+pub struct Met {
+    /// How far the search came.
+    pub extent: Extent,
+    /// The final states among the states that it kept, each once, but for hidden registers. Where the search came to its end,
+    /// they are all that there are.
+    pub final_states: Vec<FinalState>,
+    /// How many states the search kept, as [`Exploration`] counts them.
+    pub kept: usize,
+}
+
+/// As [`explore`], watched: the watcher is told after each [`STRIDE`] further states that are kept, and when the search is over.
+/// Whatever the watcher does, the answer is the same. Where the machine can reach more states than `limit`, the search
+/// ends there, and answers what it had met. It keeps so many different states that the machine can reach.
+///
+/// Errors: out of memory only.
+pub fn explore_watched<W: Watcher>(
+    alloc: Global,
+    test: &Test,
+    depth: u8,
+    limit: usize,
+    hidden: &[[bool; 6]],
+    watcher: &mut W,
+) -> Result<Met, NoMemory>
+    ensures reached { IfOk result (λ m. AreReached test.now depth m.final_states.items) }
+    ensures once { IfOk result (λ m. AreDistinct hidden.now m.final_states.items) }
+    ensures complete { IfOk result (λ m. m.extent ≡ Extent.Whole → HaveEveryEnd test.now depth hidden.now m.final_states.items) }
+    ensures within { IfOk result (λ m. m.extent ≡ Extent.Whole → m.kept ≤ limit) }
+    ensures more { IfOk result (λ m. m.extent ≡ Extent.Cut → limit < m.kept) }
+    ensures kept { IfOk result (λ m. (fewer : ℕ) → fewer < m.kept → HasMoreStates test.now depth fewer) }
+{
+    alike_cores_are_exchangeable();
+    closed_states_miss_none();
+    dead_registers_change_nothing();
+    runs_stop_where_they_end();
+    test.know_limits();
+    let plan = plan_of(alloc, test, depth, hidden)?;
+    let mut found = beginning(alloc, &plan)?;
+    let searched = search_all(alloc, &plan, &mut found, limit, watcher);
+    let kept = found.snapshots.len();
+    watcher.is_over(kept);
+    let extent = searched?;
+    let final_states = final_states(alloc, &plan, &found)?;
+    Ok(Met {
+        extent,
+        final_states,
+        kept,
+    })
+}
+
 /// Every final state that the machine can reach at this depth of its store buffers, each once, with
 /// choices that lead there. At the greatest depth these are what TSO allows, at depth 0, where the
 /// machine has no store buffers, what sequential consistency allows.
@@ -129,18 +220,14 @@ pub fn explore(
     ensures once { IfOk result (λ x. AreDistinct hidden.now x.final_states.items) }
     ensures too_many { IfErr result (λ fault. fault ≡ ExploreFault.TooMany → HasMoreStates test.now depth limit) }
 {
-    alike_cores_are_exchangeable();
-    closed_states_miss_none();
-    dead_registers_change_nothing();
     ends_are_what_tso_allows();
-    runs_stop_where_they_end();
     test.know_limits();
-    let plan = plan_of(alloc, test, depth, hidden)?;
-    let mut found = search(alloc, &plan, limit)?;
-    close(alloc, &plan, &mut found, limit)?;
-    let final_states = final_states(alloc, &plan, &found)?;
-    Ok(Exploration {
-        final_states,
-        kept: found.snapshots.len(),
-    })
+    let met = explore_watched(alloc, test, depth, limit, hidden, &mut Unwatched)?;
+    match met.extent {
+        Extent::Whole => Ok(Exploration {
+            final_states: met.final_states,
+            kept: met.kept,
+        }),
+        Extent::Cut => Err(ExploreFault::TooMany),
+    }
 }

@@ -6,7 +6,8 @@
 //! `eager_laws` allows, so the states on their way aren't kept. States that differ in dead registers
 //! alone are kept as one: those that nothing reads any more, and that nobody looks at in the end. So
 //! are states that differ by which of some cores that are alike is which; at the end all of those in
-//! which the test has ended are put back.
+//! which the test has ended are put back. Where there are more states than may be kept, the search ends
+//! there, and answers the final states that it had met.
 #![tactic(auto)]
 
 mod alike;
@@ -21,6 +22,9 @@ pub mod link;
 pub mod plan;
 pub mod reached;
 pub mod search;
+pub mod watching;
 
 pub use fault::ExploreFault;
-pub use final_states::{Exploration, FinalState, explore};
+pub use final_states::{Exploration, FinalState, Met, explore, explore_watched};
+pub use search::Extent;
+pub use watching::{STRIDE, Unwatched, Watcher};

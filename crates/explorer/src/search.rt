@@ -1,23 +1,21 @@
 //! The search for all states that choices lead to. One list is queue and visited set at once; each of its states is gone
-//! through, and where there are more than may be kept the search says so and answers nothing.
-ghost use Rattle.std.specs.Prelude.{◌≡◌, ℕ, ◌<◌, ◌≤◌, Bool, List, [], ◌∷◌, IfOk, IfErr, OnOk, map, length, slice_get, Some};
+//! through, and where there are more than may be kept the search says so and ends there.
+ghost use Rattle.std.specs.Prelude.{◌≡◌, ℕ, ◌<◌, ◌≤◌, Bool, List, [], ◌∷◌, IfOk, OnOk, map, length, slice_get, Some};
 ghost use Rattle.tso_model.specs.FlatMachine.{chosen, start};
-ghost use Rattle.eager_laws.specs.Closed.{IsIn, IsCovered, IsExpanded};
+ghost use Rattle.eager_laws.specs.Closed.{IsIn, IsCovered, IsExpanded, AreClosed};
 ghost use Rattle.tso_model.specs.Litmus.{Litmus};
 ghost use Rattle.flat_machine.specs.State.{state_of};
-ghost use Rattle.explorer.specs.inner.Settled.{Grows, HaveCores, IsFirst, LeadTo, IsVisited, AreVisited, AreLinked, IsSearched};
+ghost use Rattle.explorer.specs.inner.Settled.{Grows, HaveCores, IsFirst, LeadTo, IsVisited, AreVisited, AreLinked};
 ghost use Rattle.explorer.specs.inner.Planned.{IsPlan};
-ghost use Rattle.explorer.specs.FinalStates.{HasMoreStates};
 ghost use Rattle.flat_machine.specs.declared.snapshot.Snapshot.{Snapshot};
-ghost use Rattle.explorer.specs.declared.fault.ExploreFault.{ExploreFault};
+ghost use Rattle.explorer.specs.declared.search.Extent.{Extent};
 
 use crate::eager::settle;
-use crate::fault::ExploreFault;
 use crate::forgetting::forget;
 use crate::link::{Link, turns_of};
 use crate::plan::Plan;
 use crate::reached::{Reached, nowhere, reach};
-use eager_laws::{alike_cores_are_exchangeable, dead_registers_change_nothing};
+use crate::watching::{Told, Watcher, tell};
 use flat_machine::{Snapshot, copy};
 use indexmap::IndexSet;
 use std::alloc::Global;
@@ -168,7 +166,7 @@ fn first_reached(alloc: Global, plan: &Plan) -> Result<Reached, NoMemory>
 /// What a search begins with: that first state alone, and how it was reached.
 ///
 /// Errors: out of memory only.
-fn beginning(alloc: Global, plan: &Plan) -> Result<Found, NoMemory>
+pub fn beginning(alloc: Global, plan: &Plan) -> Result<Found, NoMemory>
     requires { IsPlan plan.now }
     ensures cores { IfOk result (λ found. HaveCores plan.now.test.now found.snapshots.keys) }
     ensures linked { IfOk result (λ found. AreLinked plan.now.depth plan.now.test.now plan.now.hidden.now found.snapshots.keys found.links.items) }
@@ -205,59 +203,50 @@ fn one_link(alloc: Global, link: Link) -> Result<Vec<Link>, NoMemory>
     Ok(links)
 }
 
-/// Searches all states that choices lead to, but for those that are passed on the way to where no
-/// choice is eager. States that differ in dead registers alone, or by which of alike cores is which,
-/// are kept as one.
-///
-/// Errors: too many where those that are kept are more than `limit`, and out of memory.
-pub fn search(alloc: Global, plan: &Plan, limit: usize) -> Result<Found, ExploreFault>
-    requires { IsPlan plan.now }
-    ensures searched { IfOk result (λ found. IsSearched plan.now.depth plan.now.test.now plan.now.hidden.now plan.now.alike.items
-        found.snapshots.keys found.links.items) }
-    ensures within { IfOk result (λ found. length found.snapshots.keys ≤ limit) }
-    ensures too_many { IfErr result (λ fault. fault ≡ ExploreFault.TooMany → HasMoreStates plan.now.test.now plan.now.depth limit) }
-{
-    alike_cores_are_exchangeable();
-    dead_registers_change_nothing();
-    let mut found = beginning(alloc, plan)?;
-    if limit == 0 {
-        return Err(ExploreFault::TooMany);
-    }
-    expand_all(alloc, plan, &mut found, limit)?;
-    Ok(found)
+/// How far a search came.
+#[derive(Clone, Copy, PartialEq, Eq)]
+pub enum Extent {
+    /// To its end: each of the states that it keeps was gone through.
+    Whole,
+    /// To its limit: it kept more states than it was to keep.
+    Cut,
 }
 
-/// Expands each snapshot in turn, those that are added on the way too.
+/// Expands each snapshot in turn, those that are added on the way too, as long as no more than `limit` are kept. Where
+/// they are more, it ends there. The watcher is told of it.
 ///
-/// Errors: too many where there are more than `limit` then, and out of memory.
-fn expand_all(
+/// Errors: out of memory only.
+pub fn expand_all<W: Watcher>(
     alloc: Global,
     plan: &Plan,
     found: &mut Found,
     limit: usize,
-) -> Result<(), ExploreFault>
+    watcher: &mut W,
+) -> Result<Extent, NoMemory>
     requires plan { IsPlan plan.now }
     requires cores { HaveCores plan.now.test.now found.old.snapshots.keys }
     requires linked { AreLinked plan.now.depth plan.now.test.now plan.now.hidden.now found.old.snapshots.keys found.old.links.items }
     requires covered { IsCovered plan.now.depth plan.now.test.now plan.now.hidden.now plan.now.alike.items
         (map state_of found.old.snapshots.keys) (start plan.now.test.now) }
     requires within { length found.old.snapshots.keys ≤ limit }
-    ensures searched { OnOk result (IsSearched plan.now.depth plan.now.test.now plan.now.hidden.now plan.now.alike.items
-        found.new.snapshots.keys found.new.links.items) }
-    ensures within { OnOk result (length found.new.snapshots.keys ≤ limit) }
-    ensures too_many { IfErr result (λ fault. fault ≡ ExploreFault.TooMany → HasMoreStates plan.now.test.now plan.now.depth limit) }
+    ensures cores { OnOk result (HaveCores plan.now.test.now found.new.snapshots.keys) }
+    ensures linked { OnOk result (AreLinked plan.now.depth plan.now.test.now plan.now.hidden.now found.new.snapshots.keys found.new.links.items) }
+    ensures closed { IfOk result (λ extent. extent ≡ Extent.Whole
+        → AreClosed plan.now.depth plan.now.test.now plan.now.hidden.now plan.now.alike.items (map state_of found.new.snapshots.keys)) }
+    ensures within { IfOk result (λ extent. extent ≡ Extent.Whole → length found.new.snapshots.keys ≤ limit) }
+    ensures more { IfOk result (λ extent. extent ≡ Extent.Cut → limit < length found.new.snapshots.keys) }
 {
-    alike_cores_are_exchangeable();
-    dead_registers_change_nothing();
     let mut reached = nowhere(alloc, plan.test)?;
+    let mut told = Told::nothing();
     for at in 0..limit {
         if at >= found.snapshots.len() {
             break;
         }
         expand(alloc, found, &mut reached, plan, at)?;
         if found.snapshots.len() > limit {
-            return Err(ExploreFault::TooMany);
+            return Ok(Extent::Cut);
         }
+        tell(plan, found, &mut told, watcher);
     }
-    Ok(())
+    Ok(Extent::Whole)
 }

@@ -1,12 +1,15 @@
 -- The final states that are collected from the snapshots of a search, as far as it has come: each once, with what it was
 -- made of.
-use Rattle.std.specs.Prelude.{ℕ, ◌≡◌, ◌<◌, true, Bool, List, Some, slice_get}
+use Rattle.std.specs.Prelude.{ℕ, ◌≡◌, ◌<◌, true, Bool, List, Some, length, map, slice_get}
 use Rattle.tso_model.specs.Litmus.{Litmus}
 use Rattle.tso_model.specs.FlatMachine.{State, start, registers_in}
 use Rattle.tso_model.specs.Runs.{has_ended}
+use Rattle.eager_laws.specs.Closed.{AreClosed}
 use Rattle.eager_laws.specs.Dead.{forgotten}
 use Rattle.flat_machine.specs.State.{state_of}
 use Rattle.explorer.specs.Settled.{LeadsBy}
+use Rattle.explorer.specs.inner.Settled.{Grows}
+use Rattle.explorer.specs.inner.Arranged.{AreExchanged}
 use Rattle.explorer.specs.FinalStates.{Have, AreDistinct}
 use Rattle.flat_machine.specs.declared.snapshot.Snapshot.{Snapshot}
 use Rattle.explorer.specs.declared.final_states.FinalState.{FinalState}
@@ -34,3 +37,10 @@ pub record AreFinalsOf (depth : ℕ) (t : Litmus) (hidden : List (List Bool)) (s
   pub all : (i : ℕ) (s : Snapshot) → i < count → slice_get snapshots i ≡ Some s → has_ended t (state_of s) ≡ true
       → Have hidden finals (registers_in (state_of s)) s.memory.items
   pub once : AreDistinct hidden finals
+
+-- the snapshots miss no end of a run: they grew from closed ones, and have what exchanges make of those that have ended
+pub record IsWhole (depth : ℕ) (t : Litmus) (hidden : List (List Bool)) (pairs : List (ℕ × ℕ)) (snapshots : List Snapshot) : Type 0 where
+  pub earlier : List Snapshot
+  pub closed : AreClosed depth t hidden pairs (map state_of earlier)
+  pub grows : Grows earlier snapshots
+  pub exchanged : AreExchanged t pairs snapshots (length snapshots)

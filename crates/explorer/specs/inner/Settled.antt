@@ -4,7 +4,7 @@ use Rattle.std.specs.Prelude.{ℕ, ◌≡◌, ◌≤◌, ◌++◌, Bool, List, [
 use Rattle.tso_model.specs.Litmus.{Litmus}
 use Rattle.tso_model.specs.FlatMachine.{State, start, after_choice, step, drain}
 use Rattle.tso_model.specs.declared.choice.Choice.{Choice}
-use Rattle.eager_laws.specs.Closed.{IsCovered, AreClosed, LeadsEagerly}
+use Rattle.eager_laws.specs.Closed.{IsCovered, LeadsEagerly}
 use Rattle.eager_laws.specs.Dead.{forgotten}
 use Rattle.eager_laws.specs.Exchanged.{exchanged_by, AreOf, AreAllAlike}
 use Rattle.flat_machine.specs.State.{state_of}
@@ -76,12 +76,6 @@ pub record AreLinked (depth : ℕ) (t : Litmus) (hidden : List (List Bool)) (sna
   pub count : length links ≡ length snapshots
   pub each : (i : ℕ) (s : Snapshot) (link : Link)
       → slice_get snapshots i ≡ Some s → slice_get links i ≡ Some link → IsLinked depth t hidden snapshots i s link
-
--- the snapshots miss no end of a run, each has a core for each program, and each has its link
-pub record IsSearched (depth : ℕ) (t : Litmus) (hidden : List (List Bool)) (pairs : List (ℕ × ℕ)) (snapshots : List Snapshot) (links : List Link) : Type 0 where
-  pub closed : AreClosed depth t hidden pairs (map state_of snapshots)
-  pub cores : HaveCores t snapshots
-  pub linked : AreLinked depth t hidden snapshots links
 
 -- these choices lead from the beginning to the snapshot of this number, wherever the links are those of the snapshots
 abbrev pub IsPath : List Link → ℕ → List Choice → Type 0

@@ -1,16 +1,8 @@
 use Rattle.std.proofs.Common.{◌<◌, ◌≤◌, length, arith}
 use Rattle.explorer.proofs.Completing.{all-exchanged, all-exchanged-none, all-exchanged-more}
-use Rattle.explorer.proofs.Counting.{more-states}
 use Rattle.explorer.proofs.Searching.{grows-none, grows-on}
 use Rattle.explorer.proofs.closing.close.Goals as goal
 use Rattle.explorer.proofs.closing.close.Goals.{else-loop-at-test, then-loop-at-test+then-at-len}
-
-pub returns-then-len-limit-clause-too_many : goal.returns-then-len-limit-clause-too_many
-returns-then-len-limit-clause-too_many c = λ q.
-    let n = c.len-in-loop-at.ensures.len in
-    let m = c.if-len-limit.true in
-    more-states c.dead_registers_change_nothing.ensures c.alike_cores_are_exchangeable.ensures c.args.plan.now.depth c.args.plan.now.test.now c.args.plan.now.hidden.now
-    c.add_all_exchanged.new.found.snapshots.keys c.add_all_exchanged.new.found.links.items c.args.limit c.len-in-loop-at.ensures.unique c.in_ok-add_all_exchanged.ensures.linked (omega (arith, n, m))
 
 pub loop-at-preserved : goal.loop-at-preserved
 loop-at-preserved c =
@@ -26,7 +18,7 @@ loop-at-preserved c =
     }
 
 pub returns-clause-exchanged : goal.returns-clause-exchanged
-returns-clause-exchanged c =
+returns-clause-exchanged c = λ whole.
     let all : length c.loop-at.found.snapshots.keys ≤ c.loop-at.at = elim c.loop-at-test.branch [
       | else-loop-at-test w ↦ let l = w.loop-at-test.false in let n = c.loop-at.invariant.within in omega (arith, l, n)
       | then-loop-at-test+then-at-len w ↦ let l = w.if-at-len.true in let n = w.len.ensures.len in omega (arith, l, n)

@@ -1,17 +1,10 @@
 use Rattle.std.proofs.Common.{◌≤◌, length, arith}
-use Rattle.explorer.proofs.Counting.{more-states}
 use Rattle.explorer.proofs.Searching.{expanded-more, covered-grown, closes}
 use Rattle.explorer.proofs.search.expand_all.Goals as goal
 use Rattle.explorer.proofs.search.expand_all.Goals.{else-loop-at-test, then-loop-at-test+then-at-len}
 
-pub returns-then-len-limit-clause-too_many : goal.returns-then-len-limit-clause-too_many
-returns-then-len-limit-clause-too_many c = λ q.
-    let n = c.len-in-loop-at.ensures.len in
-    let m = c.if-len-limit.true in
-    more-states c.dead_registers_change_nothing.ensures c.alike_cores_are_exchangeable.ensures c.args.plan.now.depth c.args.plan.now.test.now c.args.plan.now.hidden.now c.expand.new.found.snapshots.keys c.expand.new.found.links.items c.args.limit c.len-in-loop-at.ensures.unique c.in_ok-expand.ensures.linked (omega (arith, n, m))
-
 pub loop-at-preserved : goal.loop-at-preserved
-loop-at-preserved c = record {
+loop-at-preserved g c = record {
   cores = c.in_ok-expand.ensures.cores;
   linked = c.in_ok-expand.ensures.linked;
   first = covered-grown _ _ _ _ _ _ _ c.in_ok-expand.ensures.grows c.loop-at.invariant.first;
@@ -21,23 +14,16 @@ loop-at-preserved c = record {
   within = let l = c.if-len-limit.false in let n = c.len-in-loop-at.ensures.len in omega (arith, l, n);
 }
 
-pub returns-clause-searched : goal.returns-clause-searched
-returns-clause-searched c =
+pub returns-clause-closed : goal.returns-clause-closed
+returns-clause-closed g c = λ whole.
     let all : length c.loop-at.found.snapshots.keys ≤ c.loop-at.at = elim c.loop-at-test.branch [
       | else-loop-at-test w ↦ let l = w.loop-at-test.false in let n = c.loop-at.invariant.within in omega (arith, l, n)
       | then-loop-at-test+then-at-len w ↦ let l = w.if-at-len.true in let n = w.len.ensures.len in omega (arith, l, n)
     ] in
-    record {
-      closed = closes c.args.plan.now.depth c.args.plan.now.test.now c.args.plan.now.hidden.now c.args.plan.now.alike.items c.loop-at.found.snapshots.keys c.loop-at.at all c.loop-at.invariant.first c.loop-at.invariant.each;
-      cores = c.loop-at.invariant.cores;
-      linked = c.loop-at.invariant.linked;
-    }
-
-pub returns-clause-within : goal.returns-clause-within
-returns-clause-within c = c.loop-at.invariant.within
+    closes c.args.plan.now.depth c.args.plan.now.test.now c.args.plan.now.hidden.now c.args.plan.now.alike.items c.loop-at.found.snapshots.keys c.loop-at.at all c.loop-at.invariant.first c.loop-at.invariant.each
 
 pub loop-at-init : goal.loop-at-init
-loop-at-init c = record {
+loop-at-init g c = record {
   cores = c.requires.cores;
   linked = c.requires.linked;
   first = c.requires.covered;

@@ -7,7 +7,7 @@ use Rattle.flat_machine.specs.declared.snapshot.Snapshot.{Snapshot}
 use Rattle.explorer.proofs.search.expand_all.Given as goal
 
 abbrev pub invariant-loop-at : goal.invariant-loop-at
-invariant-loop-at l = record {
+invariant-loop-at g l = record {
   cores : HaveCores l.plan.test.now l.found.snapshots.keys;
   linked : AreLinked l.plan.depth l.plan.test.now l.plan.hidden.now l.found.snapshots.keys l.found.links.items;
   first : IsCovered l.plan.depth l.plan.test.now l.plan.hidden.now l.plan.alike.items (map state_of l.found.snapshots.keys) (start l.plan.test.now);

@@ -1,0 +1,80 @@
+//! Who looks at a search while it goes on. What is told of it is no part of its answer: a search says the same whoever looks,
+//! or nobody.
+ghost use Rattle.std.specs.Prelude.{◌≡◌, length};
+ghost use Rattle.explorer.specs.inner.Settled.{HaveCores};
+
+use crate::plan::Plan;
+use crate::search::Found;
+use flat_machine::has_ended;
+
+/// How many more states are kept before a search is told of again.
+pub const STRIDE: usize = 250_000;
+
+/// Looks at a search while it goes on.
+pub trait Watcher {
+    /// The search goes on. It keeps so many states by now, and the test has ended in so many of them.
+    fn goes_on(&mut self, kept: usize, finals: usize);
+
+    /// The search is over, with an answer or without. It had kept so many states.
+    fn is_over(&mut self, kept: usize);
+}
+
+/// Nobody looks.
+#[derive(Drop)]
+pub struct Unwatched;
+
+impl Watcher for Unwatched {
+    fn goes_on(&mut self, _kept: usize, _finals: usize) {}
+
+    fn is_over(&mut self, _kept: usize) {}
+}
+
+/// How far a watcher has been told of a search.
+#[derive(Drop)]
+pub struct Told {
+    /// How many of the states have been looked at.
+    counted: usize,
+    /// In how many of these the test has ended.
+    finals: usize,
+    /// How many states there are when the watcher is told next.
+    next: usize,
+}
+
+impl Told {
+    /// Nothing has been told.
+    pub fn nothing() -> Told {
+        Told {
+            counted: 0,
+            finals: 0,
+            next: STRIDE,
+        }
+    }
+}
+
+/// Tells a watcher of a search, where so many states are kept that it is time.
+pub fn tell<W: Watcher>(plan: &Plan, found: &Found, told: &mut Told, watcher: &mut W)
+    requires { HaveCores plan.now.test.now found.now.snapshots.keys }
+{
+    let kept = found.snapshots.len();
+    if kept < told.next {
+        return;
+    }
+    let finals = count_ended(plan, found, told.counted);
+    told.finals = told.finals.saturating_add(finals);
+    told.counted = kept;
+    told.next = told.next.saturating_add(STRIDE);
+    watcher.goes_on(kept, told.finals);
+}
+
+/// In how many of the states from this one on the test has ended.
+fn count_ended(plan: &Plan, found: &Found, from: usize) -> usize
+    requires { HaveCores plan.now.test.now found.now.snapshots.keys }
+{
+    let mut count = 0usize;
+    for at in from..found.snapshots.len() {
+        if has_ended(plan.test, &found.snapshots[at]) {
+            count = count.saturating_add(1);
+        }
+    }
+    count
+}
