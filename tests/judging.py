@@ -25,10 +25,18 @@ ENDED, REFUSED, BAD_LINE, UNFINISHED, INVALID, FAULT = 0, 1, 2, 3, 4, 5
 HINT = re.compile(rb"hint: [ -~]{1,249}\n")
 WITH_HINT = (REFUSED, UNFINISHED)
 
+# Where a search for final states ended at its limit, a second line may have choices that lead to one that was looked for.
+SEARCH_HINT = re.compile(rb"hint: [ -~]{1,249}\n(?:hint: run these: [0-9sd ]{2,2030}\n)?")
+UNFINISHED_SEARCH = re.compile(rb"^Unfinished states=|\"unfinished\":\{\"states\":")
+
 # Answers with status 0 that have one too: that of a sweep that never saw what the condition asks for.
 MISLEADING = (re.compile(rb"^Sweep .*\n(?:State .*\n)*Observation .* Never 0 [1-9][0-9]*\n\Z", re.MULTILINE),)
 
 MEMORY_FAULT = b"fault memory\n"
+
+# Of a search a second line has how many states it had kept.
+MEMORY_HINT = re.compile(rb"hint: states that were kept when memory was refused: [1-9][0-9]*; lower --depth, name fewer atoms in the "
+                         rb"condition, or use why, which keeps none\n")
 
 # A device that failed: which one it is, and what is likely, stands on a second line.
 INPUT_FAULT = (b"fault device\nhint: standard input can't be read: is it closed, a folder, open for writing alone, or a stream that "
@@ -299,7 +307,8 @@ def is_told(status, output, errors):
     """Whether standard error is as it is beside such an answer: a hint where it has one, else nothing. The conditions of the
     tests that are given name no location that nothing else of them names."""
     has_hint = status in WITH_HINT or status == ENDED and any(form.search(output) for form in MISLEADING)
-    return HINT.fullmatch(errors) is not None if has_hint else errors == b""
+    form = SEARCH_HINT if UNFINISHED_SEARCH.search(output) else HINT
+    return form.fullmatch(errors) is not None if has_hint else errors == b""
 
 
 def lines_that_differ(wanted, got):

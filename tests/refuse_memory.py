@@ -5,8 +5,8 @@
 
 For each command line and input below, the Nth request is refused, for N = 1, 2, .. until a run has none refused: first
 that request alone, then all from it on. Where the parser of the command line is refused, the status is 2. Before it, while
-the words are kept, and from the first request after it on, it is 5 with the line 'fault memory'. Either way nothing
-is written to standard output.
+the words are kept, and from the first request after it on, it is 5 with the line 'fault memory', after which `outcomes` may
+say how many states it had kept. Either way nothing is written to standard output.
 
 Two other answers are right. One, only where one request alone was refused: the whole answer, where the very next request
 asked for no more than the refused one and was granted. A list that is collected from an iterator first asks for all the
@@ -113,8 +113,12 @@ def is_of_the_line(one):
     return one.done.returncode == BAD_LINE and one.done.stdout == b"" and one.done.stderr != b""
 
 
-def is_fault(one):
-    return (one.done.returncode, one.done.stdout, one.done.stderr) == (FAULT, b"", MEMORY_FAULT)
+def is_fault(one, searches):
+    """Whether it says that memory was refused; a search may say how many states it had kept then."""
+    told = one.done.stderr
+    if searches and told.startswith(MEMORY_FAULT) and judging.MEMORY_HINT.fullmatch(told[len(MEMORY_FAULT):]):
+        told = MEMORY_FAULT
+    return (one.done.returncode, one.done.stdout, told) == (FAULT, b"", MEMORY_FAULT)
 
 
 def is_whole(one, ample, alone):
@@ -131,7 +135,7 @@ def is_without_hint(one, ample):
     return same and one.done.stderr == b""
 
 
-def judged(found, ample, alone):
+def judged(found, ample, alone, searches):
     """For each refused request its faults: first come faults of memory, then refusals of the line, then faults of memory."""
     of_the_line = [at for at, one in enumerate(found, 1) if is_of_the_line(one)]
     first, last = (of_the_line[0], of_the_line[-1]) if of_the_line else (0, 0)
@@ -139,7 +143,7 @@ def judged(found, ample, alone):
     for at, one in enumerate(found, 1):
         within = first <= at <= last
         may_be_line = within and (ample.before_reading is None or at <= ample.before_reading)
-        fits = (may_be_line and is_of_the_line(one)) or (not within and is_fault(one)) or is_whole(one, ample, alone) or is_without_hint(one, ample)
+        fits = (may_be_line and is_of_the_line(one)) or (not within and is_fault(one, searches)) or is_whole(one, ample, alone) or is_without_hint(one, ample)
         said = "%s; asked for %s bytes, then for %s" % (judging.described(one.done), one.refused[0], one.next_request)
         results.append(("request %d %s" % (at, "alone" if alone else "and all after it"), [] if fits else [said]))
     if not of_the_line or last == len(found):
@@ -156,7 +160,7 @@ def judge_job(program, line, given, status):
     results, granted = [("ample memory", faults)], 0
     for alone in (True, False):
         found = answers_until_none_is_refused(program, words, given, alone)
-        results += judged(found, ample, alone)
+        results += judged(found, ample, alone, words[0] == "outcomes")
         granted += sum(is_whole(one, ample, alone) for one in found)
     return results, granted
 

@@ -6,4 +6,5 @@ pub mod ToldLines
 pub mod TraceLengths
 pub mod NamedBreaches
 pub mod FoundOutcomes
+pub mod Sighted
 pub mod SweptText

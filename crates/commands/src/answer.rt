@@ -7,7 +7,7 @@ ghost use Rattle.commands.specs.inner.Answers.{Says};
 ghost use Rattle.commands.specs.Lines.{test_refusal, input_refusal};
 ghost use Rattle.commands.specs.Verdicts.{status_of_verdict};
 
-use hints::{Cause, SecondPart};
+use hints::{Cause, Reader};
 use litmus_reader::{Fault, Why, refusal_for};
 use std::alloc::Global;
 use tso_io::MAX_INPUT;
@@ -60,7 +60,7 @@ pub struct Answer {
 /// Errors: out of memory only.
 pub fn refused_test(
     alloc: Global,
-    asked: SecondPart,
+    asked: Reader,
     text: &[u8],
     fault: Fault,
 ) -> Result<Answer, NoMemory>

@@ -11,6 +11,7 @@ pub mod running;
 pub mod sweeping;
 mod told_run;
 pub mod tracing;
+mod unfinished;
 pub mod witnessing;
 
 pub use answer::{Answer, Status, refused_input, refused_test};

@@ -8,8 +8,9 @@ ghost use Rattle.commands.specs.Outcomes.{IsOutcomesAnswer};
 ghost use Rattle.commands.specs.inner.Searched.{ShowEveryEnd};
 
 use crate::answer::{Answer, Status};
+use crate::unfinished::cause_of_end;
 use command_line::SearchPlan;
-use explorer::{ExploreFault, FinalState, explore};
+use explorer::{Extent, FinalState, Watcher, explore_watched};
 use hints::Cause;
 use outcome_report::{hidden_registers, outcomes_report, unfinished_report};
 use std::alloc::Global;
@@ -18,29 +19,32 @@ use tso_model::{NoMemory, Test};
 /// The answer of `outcomes` to a test: every final state that the machine can reach at the depth of
 /// the search, with choices that lead there; or that it can reach more states than may be kept. The
 /// search doesn't tell states apart by registers that aren't shown. With `assert` the status says where
-/// the test's condition isn't as it claims.
+/// the test's condition isn't as it claims. The watcher is told of the search while it goes on, which
+/// changes no answer.
 ///
 /// Errors: out of memory only.
-pub fn outcomes_answer(
+pub fn outcomes_answer<W: Watcher>(
     alloc: Global,
     test: &Test,
     search: SearchPlan,
     json: bool,
     assert: bool,
+    watcher: &mut W,
 ) -> Result<Answer, NoMemory>
     ensures { IfOk result (λ a. IsOutcomesAnswer test.now search json assert (string_bytes a.text) a.status) }
 {
     let hidden = hidden_registers(alloc, test, search.show())?;
-    match explore(
+    let met = explore_watched(
         alloc,
         test,
         search.depth(),
         search.states() as usize,
         &hidden,
-    ) {
-        Ok(found) => found_answer(alloc, test, search, json, assert, &found.final_states),
-        Err(ExploreFault::TooMany) => unfinished_answer(alloc, test, search, json),
-        Err(ExploreFault::NoMemory) => Err(NoMemory),
+        watcher,
+    )?;
+    match met.extent {
+        Extent::Whole => found_answer(alloc, test, search, json, assert, &met.final_states),
+        Extent::Cut => unfinished_answer(alloc, test, search, json, &met.final_states),
     }
 }
 
@@ -69,15 +73,17 @@ fn unfinished_answer(
     test: &Test,
     search: SearchPlan,
     json: bool,
+    finals: &[FinalState],
 ) -> Result<Answer, NoMemory>
-    requires { HasMoreStates test.now search.depth search.states }
+    requires more { HasMoreStates test.now search.depth search.states }
+    requires reached { AreReached test.now search.depth finals.now }
     ensures { IfOk result (λ a. (assert : Bool) → IsOutcomesAnswer test.now search json assert (string_bytes a.text) a.status) }
 {
-    let most = search.states();
-    let text = unfinished_report(alloc, test, most as usize, json)?;
+    let text = unfinished_report(alloc, test, search.states() as usize, json)?;
+    let cause = cause_of_end(alloc, test, search, finals)?;
     Ok(Answer {
         text,
         status: Status::Unended,
-        cause: Cause::TooManyStates { most },
+        cause,
     })
 }

@@ -31,7 +31,7 @@ impl Watcher for Unwatched {
 
 /// How far a watcher has been told of a search.
 #[derive(Drop)]
-pub struct Told {
+pub(crate) struct Told {
     /// How many of the states have been looked at.
     counted: usize,
     /// In how many of these the test has ended.
@@ -42,7 +42,7 @@ pub struct Told {
 
 impl Told {
     /// Nothing has been told.
-    pub fn nothing() -> Told {
+    pub(crate) fn nothing() -> Told {
         Told {
             counted: 0,
             finals: 0,
@@ -52,7 +52,7 @@ impl Told {
 }
 
 /// Tells a watcher of a search, where so many states are kept that it is time.
-pub fn tell<W: Watcher>(plan: &Plan, found: &Found, told: &mut Told, watcher: &mut W)
+pub(crate) fn tell<W: Watcher>(plan: &Plan, found: &Found, told: &mut Told, watcher: &mut W)
     requires { HaveCores plan.now.test.now found.now.snapshots.keys }
 {
     let kept = found.snapshots.len();

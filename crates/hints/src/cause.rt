@@ -2,6 +2,8 @@
 //! input.
 
 use crate::orders::{from_line_at_fault, names_no_location};
+use crate::reader::Reader;
+use crate::search_end::SearchEnd;
 use crate::stalls::Stalls;
 use crate::unended::{count_instructions, count_plain_stores, has_no_choices};
 use crate::unused::unused_location;
@@ -11,20 +13,9 @@ use scheduler::ChoiceFault;
 use std::alloc::Global;
 use tso_model::{NoMemory, Test};
 
-/// What a command reads after the dividing line.
-#[derive(Clone, Copy)]
-pub enum SecondPart {
-    /// Choices.
-    Choices,
-    /// An order.
-    Order,
-    /// Nothing.
-    Nothing,
-}
-
 /// What an answer knew of which a hint can be made: what was at fault in an input, and where it stands
 /// there; why a run or a search didn't end; or what may mislead in an answer.
-#[derive(Clone, Copy)]
+#[derive(Drop)]
 pub enum Cause {
     /// Nothing.
     Nothing,
@@ -32,9 +23,9 @@ pub enum Cause {
     Size {
         most: usize,
     },
-    /// The test, which is so many first bytes of the input, is at fault.
+    /// The test, which is so many first bytes of the input, is at fault; this command was to read it.
     Test {
-        asked: SecondPart,
+        asked: Reader,
         length: usize,
         fault: Fault,
     },
@@ -86,10 +77,8 @@ pub enum Cause {
         first: usize,
         length: usize,
     },
-    /// A search may keep no more than so many states.
-    TooManyStates {
-        most: u32,
-    },
+    /// A search ended at its limit.
+    TooManyStates(SearchEnd),
     /// A search for a reason may tell no more than so many cases apart.
     TooManyCases {
         most: u32,

@@ -1,17 +1,13 @@
 //! A dividing line that isn't there: what follows the test is then refused as a part of it, and the refusal alone would
 //! mislead.
 
-use crate::cause::SecondPart;
 use crate::quotes::{is_choice, word};
+use crate::reader::Reader;
 use crate::words::{Words, naming};
 
 /// What is said where an input without a dividing line goes on after its test as it would after such
 /// a line.
-pub fn missing_divider<'a>(
-    asked: SecondPart,
-    is_divided: bool,
-    rest: &'a [u8],
-) -> Option<Words<'a>> {
+pub fn missing_divider<'a>(asked: Reader, is_divided: bool, rest: &'a [u8]) -> Option<Words<'a>> {
     if is_divided {
         return None;
     }
@@ -37,7 +33,6 @@ pub fn missing_divider<'a>(
     None
 }
 
-fn begins_order(asked: SecondPart, word: &[u8]) -> bool {
-    matches!(asked, SecondPart::Order)
-        && (word == b"Order".as_slice() || word == b"Test".as_slice())
+fn begins_order(asked: Reader, word: &[u8]) -> bool {
+    asked.takes_order() && (word == b"Order".as_slice() || word == b"Test".as_slice())
 }

@@ -1,13 +1,13 @@
 //! What is said of a fault in a test: each name of a refusal has its words, chosen by what stands at the place of the
 //! fault; and of a fault in a condition, also in the forms that other programs write and this one doesn't read.
 
-use crate::cause::SecondPart;
 use crate::cells::bad_instruction;
 use crate::divider::missing_divider;
 use crate::numbers::bad_number;
 use crate::openings::{bad_init, bad_token, no_header, unclosed};
 use crate::place::Place;
 use crate::quotes::up_to;
+use crate::reader::Reader;
 use crate::rows::{bad_header_row, too_large, wrong_cells};
 use crate::tables::is_one_of;
 use crate::words::{Piece, Words, around, listed, naming, plain};
@@ -20,7 +20,7 @@ use tso_model::NoMemory;
 /// Errors: out of memory only.
 pub fn test_words<'a>(
     alloc: Global,
-    asked: SecondPart,
+    asked: Reader,
     is_divided: bool,
     place: Place<'a>,
     why: Why,
@@ -29,7 +29,7 @@ pub fn test_words<'a>(
         return Ok(plain(said));
     }
     match why {
-        Why::NoHeader => Ok(no_header(place)),
+        Why::NoHeader => Ok(no_header(asked, place)),
         Why::Unclosed => Ok(unclosed(asked, is_divided, place)),
         Why::BadToken => Ok(bad_token(place)),
         Why::BadInit => Ok(bad_init(place)),
@@ -74,7 +74,7 @@ fn no_such_core<'a>(place: Place<'a>) -> Words<'a> {
     )
 }
 
-fn trailing<'a>(asked: SecondPart, is_divided: bool, place: Place<'a>) -> Words<'a> {
+fn trailing<'a>(asked: Reader, is_divided: bool, place: Place<'a>) -> Words<'a> {
     if let Some(words) = missing_divider(asked, is_divided, place.rest) {
         words
     } else if let Some(words) = foreign_form(place) {

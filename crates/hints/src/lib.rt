@@ -1,5 +1,5 @@
 //! Hints: one line that says what was expected where an input was refused, where a run didn't end, or
-//! what may mislead in an answer.
+//! what may mislead in an answer; of a search that ended at its limit a second line may say choices.
 //!
 //! A hint is made of what is known at the fault: its place, the name of the refusal, and the bytes that
 //! stand there. What is promised of it is its form; which words it has is held by tests.
@@ -23,15 +23,21 @@ mod passed;
 mod place;
 mod printing;
 mod quotes;
+mod reader;
 mod rows;
+mod search_end;
 mod stalls;
 mod tables;
 mod unended;
 mod unused;
 mod words;
 
-pub use cause::{Cause, SecondPart};
+pub use cause::Cause;
 pub use hinting::hint_of;
 pub use lines::line_hint;
 pub use printing::{MAX_HINT, limits_are_as_defined};
+pub use reader::Reader;
+pub use search_end::{
+    MAX_RUNS_LINE, SearchEnd, Sighting, limit_of_runs_lines_is_as_defined, runs_line,
+};
 pub use stalls::Stalls;

@@ -1,7 +1,6 @@
 //! What is said of a fault before the rows of a test: in its header line, before its initial state or in that, and of what
 //! doesn't end.
 
-use crate::cause::SecondPart;
 use crate::characters::{foreign_character, foreign_in};
 use crate::divider::missing_divider;
 use crate::faults::{COMMENT, CONNECTIVES, foreign_register};
@@ -9,6 +8,7 @@ use crate::numbers::GREATEST;
 use crate::operands::percent;
 use crate::place::Place;
 use crate::quotes::{begins_with_letter, is_bare, up_to, word};
+use crate::reader::Reader;
 use crate::tables::{Alike, is_one_of, named_in, said_of_front};
 use crate::words::{Piece, Words, around, naming, plain, six};
 use tso_model::limits::MAX_NAME;
@@ -79,11 +79,11 @@ const TYPES: [&str; 10] = [
 ];
 
 /// Of a header line.
-pub fn no_header<'a>(place: Place<'a>) -> Words<'a> {
+pub fn no_header<'a>(asked: Reader, place: Place<'a>) -> Words<'a> {
     let rest = place.rest;
     let word = word(rest);
     if rest.is_empty() {
-        plain("no test: give one on standard input, as in: tso run < FILE")
+        no_test(asked)
     } else if rest.starts_with(b"\xef\xbb\xbf") {
         plain("a byte order mark stands before X86: save the file without it")
     } else if let Some(words) = foreign_in(up_to(rest, b'\n'), "a test's name is in ASCII") {
@@ -101,8 +101,20 @@ pub fn no_header<'a>(place: Place<'a>) -> Words<'a> {
     }
 }
 
+/// Of an input without a test, for the command that reads it.
+fn no_test<'a>(asked: Reader) -> Words<'a> {
+    six([
+        Piece::Text("no test: give one on standard input, as in: tso "),
+        Piece::Text(asked.name()),
+        Piece::Text(" < FILE"),
+        Piece::Text(""),
+        Piece::Text(""),
+        Piece::Text(""),
+    ])
+}
+
 /// Of what doesn't end.
-pub fn unclosed<'a>(asked: SecondPart, is_divided: bool, place: Place<'a>) -> Words<'a> {
+pub fn unclosed<'a>(asked: Reader, is_divided: bool, place: Place<'a>) -> Words<'a> {
     let rest = place.rest;
     if rest.is_empty() {
         plain(
@@ -121,7 +133,7 @@ pub fn unclosed<'a>(asked: SecondPart, is_divided: bool, place: Place<'a>) -> Wo
     }
 }
 
-fn unclosed_row<'a>(asked: SecondPart, is_divided: bool, place: Place<'a>) -> Words<'a> {
+fn unclosed_row<'a>(asked: Reader, is_divided: bool, place: Place<'a>) -> Words<'a> {
     let token = place.token();
     if let Some(words) = named_in(&KEYWORDS, token) {
         words

@@ -48,15 +48,6 @@ fn more_seeds<'a>(runs: u32) -> Piece<'a> {
     }
 }
 
-/// Of a search that may keep no more than so many states.
-pub fn search_ends<'a>(most: u32) -> Words<'a> {
-    around(
-        "the machine can reach more than ",
-        Piece::Number(most as usize),
-        " states, which is --states: raise it, lower --depth, or use why, which keeps none",
-    )
-}
-
 /// Of a search that may tell no more than so many cases apart.
 pub fn cases_end<'a>(most: u32) -> Words<'a> {
     around(

@@ -1,7 +1,7 @@
 //! What a command writes, what it takes of its streams, and what is told of its end: the headline, and each fault of a
 //! device.
 
-ghost use Rattle.std.specs.Prelude.{ℕ, ◌≡◌, ◌+◌, ◌-◌, ◌^◌, ◌<◌, ◌≤◌, ◌↔◌, ◌⊎◌, List, [], Ok, Err, IfOk, length, string_bytes};
+ghost use Rattle.std.specs.Prelude.{ℕ, ◌≡◌, ◌+◌, ◌-◌, ◌^◌, ◌<◌, ◌≤◌, ◌↔◌, ◌⊎◌, List, [], Ok, Err, IfOk, true, false, length, string_bytes};
 ghost use Rattle.std.specs.Io.KnownBytes.{Keeps};
 ghost use Rattle.tso_model.specs.Litmus.{Litmus};
 ghost use Rattle.tso_model.specs.Runs.{run};
@@ -13,7 +13,7 @@ ghost use Rattle.scheduler.specs.declared.fault.ChoiceFault.TheVariants.{TooMany
 ghost use Rattle.command_line.specs.Limits.{HasDepth};
 ghost use Rattle.tso_cli.specs.Answers.{IsAnswer};
 ghost use Rattle.tso_cli.specs.Headline.{Headline};
-ghost use Rattle.tso_cli.specs.Hints.{IsTold};
+ghost use Rattle.tso_cli.specs.Hints.{IsTold, IsHintWithRuns, is_searched};
 ghost use Rattle.commands.specs.Lines.{choices_refusal};
 ghost use Rattle.commands.specs.Dividing.{parts_of};
 ghost use Rattle.tso_cli.specs.SplitRun.{split_run};
@@ -155,7 +155,8 @@ pub fn a_trace_stands_in_an_object(
 }
 
 /// A hint is told where an input was refused or a run didn't end, may be told beside final states in lines that people
-/// read, and has at most 256 bytes. None is told of a judged order.
+/// read, and has at most 256 bytes; where `outcomes` didn't end, a line of at most 2,048 bytes may follow. None is told of a
+/// judged order.
 pub fn a_hint_is_told(
     alloc: Global,
     settings: &Settings,
@@ -164,7 +165,8 @@ pub fn a_hint_is_told(
 ) -> Result<String, NoMemory>
     ensures told { IfOk result (λ text. IsTold settings.now answer.now.status (string_bytes text)) }
     ensures refused { answer.now.status ≡ Status.Refused → IfOk result (λ text. length (string_bytes text) ≤ 256) }
-    ensures unended { answer.now.status ≡ Status.Unended → IfOk result (λ text. length (string_bytes text) ≤ 256) }
+    ensures unended { answer.now.status ≡ Status.Unended → is_searched settings.now ≡ false → IfOk result (λ text. length (string_bytes text) ≤ 256) }
+    ensures searched { answer.now.status ≡ Status.Unended → is_searched settings.now ≡ true → IfOk result (λ text. IsHintWithRuns (string_bytes text)) }
     ensures invalid { answer.now.status ≡ Status.Invalid → IfOk result (λ text. string_bytes text ≡ []) }
     ensures valid { settings.now ≡ Settings.Check → answer.now.status ≡ Status.Good → IfOk result (λ text. string_bytes text ≡ []) }
 {

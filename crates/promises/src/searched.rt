@@ -1,12 +1,13 @@
 //! Final states, once more: what needs no deeper buffers is found, registers that nobody looks at are hidden, and each line `By` of
 //! a text leads to the line above it.
 
-ghost use Rattle.std.specs.Prelude.{◌≡◌, ◌<◌, ℕ, Bool, true, false, IfOk, List, length, Some, None};
+ghost use Rattle.std.specs.Prelude.{◌≡◌, ◌<◌, ◌≤◌, ℕ, Bool, true, false, IfOk, List, length, Some, None};
 ghost use Rattle.tso_model.specs.Condition.{Condition};
 ghost use Rattle.tso_model.specs.declared.choice.Bus.TheVariants.{Atomic};
 ghost use Rattle.tso_model.specs.declared.register.Reg.{Reg};
 ghost use Rattle.outcome_laws.specs.Outcomes.{IsAllowed};
-ghost use Rattle.explorer.specs.FinalStates.{AreWhat};
+ghost use Rattle.explorer.specs.FinalStates.{AreDistinct, AreReached, AreWhat, HaveEveryEnd, HasMoreStates};
+ghost use Rattle.explorer.specs.declared.search.Extent.{Extent};
 ghost use Rattle.protocol_tables.specs.declared.kind.ProtocolKind.{ProtocolKind};
 ghost use Rattle.machine_core.specs.Configuration.{Configuration};
 ghost use Rattle.tso_report.specs.Tally.{names_register};
@@ -21,7 +22,7 @@ ghost use Rattle.tso_cli.specs.Answers.{IsAnswer};
 ghost use Rattle.tso_cli.specs.OneSearch.{AreOneSearch};
 ghost use Rattle.promises.specs.Searched.{LinesAreRunAgain};
 
-use explorer::{Exploration, ExploreFault, explore};
+use explorer::{Exploration, ExploreFault, Met, Watcher, explore, explore_watched};
 use outcome_laws::ends_are_what_tso_allows;
 use outcome_report::hidden_registers;
 use std::alloc::Global;
@@ -43,6 +44,26 @@ pub fn a_search_finds_what_needs_no_more(
     ends_are_what_tso_allows();
     test.know_limits();
     explore(alloc, test, depth, limit, hidden)
+}
+
+/// Whoever watches, a search that comes to its end keeps no more states than it was to keep, and one that ends at its limit has kept
+/// more, as many as the machine can reach at least. Either way the final states that it met are reached, and none stands twice.
+pub fn a_search_ends_at_its_limit<W: Watcher>(
+    alloc: Global,
+    test: &Test,
+    depth: u8,
+    limit: usize,
+    hidden: &[[bool; 6]],
+    watcher: &mut W,
+) -> Result<Met, NoMemory>
+    ensures reached { IfOk result (λ m. AreReached test.now depth m.final_states.items) }
+    ensures once { IfOk result (λ m. AreDistinct hidden.now m.final_states.items) }
+    ensures complete { IfOk result (λ m. m.extent ≡ Extent.Whole → HaveEveryEnd test.now depth hidden.now m.final_states.items) }
+    ensures within { IfOk result (λ m. m.extent ≡ Extent.Whole → m.kept ≤ limit) }
+    ensures more { IfOk result (λ m. m.extent ≡ Extent.Cut → limit < m.kept) }
+    ensures kept { IfOk result (λ m. (fewer : ℕ) → fewer < m.kept → HasMoreStates test.now depth fewer) }
+{
+    explore_watched(alloc, test, depth, limit, hidden, watcher)
 }
 
 /// A register that no atom of the condition names is hidden; without a condition each register is.

@@ -10,15 +10,18 @@ ghost use Rattle.tso_io.specs.Streams.{ConsumesAtMost};
 
 use std::alloc::Global;
 use std::io::{Read, Write};
-use tso_cli::{Answered, Counted, RunFault, Settings, Status, answer_command, run_command};
+use tso_cli::{
+    Answered, Counted, RunFault, Settings, Status, Watcher, answer_command, run_command,
+};
 
-/// What the program writes is the answer, and keeps the headline; each fault of a device is told, and nothing or a beginning is
+/// Whoever watches, what the program writes is the answer, and keeps the headline; each fault of a device is told, and nothing or a beginning is
 /// written then.
-pub fn a_command_is_answered<R: Read, W: Write>(
+pub fn a_command_is_answered<R: Read, W: Write, S: Watcher>(
     alloc: Global,
     reader: &mut Counted<R>,
     writer: &mut Counted<W>,
     settings: &Settings,
+    watcher: &mut S,
 ) -> Result<Answered, RunFault>
     requires depth { HasDepth settings.now }
     requires reader { reader.old.1 < 2 ^ 32 - 1 }
@@ -33,7 +36,7 @@ pub fn a_command_is_answered<R: Read, W: Write>(
         → WritesBeginning W.contents writer.old.0 writer.new.0 (IsAnswer settings.now (R.remaining reader.old.0)) }
     ensures most { ConsumesAtMost (R.remaining reader.old.0) (R.remaining reader.new.0) (most_read settings.now) }
 {
-    answer_command(alloc, reader, writer, settings)
+    answer_command(alloc, reader, writer, settings, watcher)
 }
 
 /// Of a command that is run, at most one call of its streams fails.

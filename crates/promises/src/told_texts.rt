@@ -1,7 +1,9 @@
 //! What is told of texts, field by field.
 
 ghost use Rattle.std.specs.Prelude.{◌++◌, ◌∷◌, ◌≡◌, ◌≤◌, ◌⊎◌, List, [], codes, length, true, ℕ};
-ghost use Rattle.hints.specs.Hint.{IsHint, longest_hint};
+ghost use Rattle.hints.specs.Hint.{IsHint, IsRunsLine, longest_hint};
+ghost use Rattle.tso_cli.specs.Hints.{IsHintWithRuns};
+ghost use Rattle.scheduler.specs.Printed.{printed_choices};
 ghost use Rattle.litmus_reader.specs.Spelling.{IsRefused, SpellsTest};
 ghost use Rattle.litmus_reader.specs.declared.fault.TextFault.{TextFault};
 ghost use Rattle.std.specs.List.{list_all};
@@ -15,6 +17,13 @@ pub fn a_hint_is_one_printable_line()
     ensures is { (text : List ℕ) (said : IsHint text) → text ≡ codes "hint: " ++ said.words ++ (10 ∷ []) }
     ensures printable { (text : List ℕ) (said : IsHint text) → list_all is_printable said.words ≡ true }
     ensures short { (text : List ℕ) → IsHint text → length text ≤ longest_hint }
+{}
+
+/// A line that says choices has them in the form in which they are read, and at most 2,048 bytes; with the hint before it, 2,304.
+pub fn a_line_of_runs_says_choices()
+    ensures is { (text : List ℕ) (said : IsRunsLine text) → text ≡ codes "hint: run these: " ++ printed_choices said.choices ++ (10 ∷ []) }
+    ensures short { (text : List ℕ) → IsRunsLine text → length text ≤ 2048 }
+    ensures both { (text : List ℕ) → IsHintWithRuns text → length text ≤ 2304 }
 {}
 
 /// Each text spells one test or gets one refusal, and never both.

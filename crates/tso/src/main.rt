@@ -7,6 +7,9 @@
 ghost use Rattle.std.specs.Prelude.{◌≡◌, IfOk};
 ghost use Rattle.command_line.specs.Limits.{HasDepth};
 
+mod searching;
+
+use searching::Teller;
 use std::alloc::AllocError;
 use std::io::{IsTerminal, Write};
 use std::process::ExitCode;
@@ -127,7 +130,8 @@ fn run(rt: &HostRuntime, settings: &Settings) -> u8
     tell_reading(rt, settings);
     let mut reader = Counted::new(rt.reader());
     let mut writer = Counted::new(io::writer(rt));
-    match answer_command(rt.alloc(), &mut reader, &mut writer, settings) {
+    let mut teller = Teller::new(rt);
+    match answer_command(rt.alloc(), &mut reader, &mut writer, settings, &mut teller) {
         Ok(answered) => match writer.flush() {
             Ok(()) => {
                 tell_hint(rt, settings, &answered);
@@ -137,7 +141,7 @@ fn run(rt: &HostRuntime, settings: &Settings) -> u8
         },
         Err(RunFault::Device) if reader.failures() > 0 => device_fault(rt, INPUT_HINT),
         Err(RunFault::Device) => device_fault(rt, OUTPUT_HINT),
-        Err(RunFault::NoMemory) => fault(rt, "fault memory", FAULT),
+        Err(RunFault::NoMemory) => memory_fault(rt, teller.kept()),
     }
 }
 
@@ -185,6 +189,17 @@ fn exit_status(status: Status) -> u8
 fn device_fault(rt: &HostRuntime, hint: &str) -> u8 {
     let status = fault(rt, "fault device", FAULT);
     let _ = rt.eprintln(hint);
+    status
+}
+
+/// Tells on standard error that memory was refused, and of a search how many states it had kept.
+fn memory_fault(rt: &HostRuntime, kept: usize) -> u8 {
+    let status = fault(rt, "fault memory", FAULT);
+    if kept > 0 {
+        let _ = eprintln!(rt;
+            "hint: states that were kept when memory was refused: {kept}; lower --depth, name fewer atoms in the condition, or use why, which keeps none"
+        );
+    }
     status
 }
 

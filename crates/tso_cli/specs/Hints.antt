@@ -1,7 +1,7 @@
--- What is told of an answer beside it, on standard error: a line of one form, or nothing. It is no part of the answer, and
--- promises no more than its form.
-use Rattle.std.specs.Prelude.{◌≡◌, ◌⊎◌, Bool, true, false, not, ℕ, List, []}
-use Rattle.hints.specs.Hint.{IsHint}
+-- What is told of an answer beside it, on standard error: a line of one form, or nothing; of a search that didn't end perhaps a
+-- second line. It is no part of the answer, and promises no more than its form.
+use Rattle.std.specs.Prelude.{◌≡◌, ◌⊎◌, ◌++◌, Bool, true, false, not, ℕ, List, []}
+use Rattle.hints.specs.Hint.{IsHint, IsRunsLine}
 use Rattle.command_line.specs.declared.settings.Settings.{Settings}
 use Rattle.command_line.specs.declared.settings.Settings.TheVariants as settings
 use Rattle.commands.specs.declared.answer.Status.{Status}
@@ -27,10 +27,26 @@ abbrev pub IsToldOfGood : Bool → List ℕ → Type 0
 IsToldOfGood true text = IsHintOrNothing text
 IsToldOfGood false text = text ≡ []
 
--- a hint where a text was refused, or a run or a search didn't end; of an answer that may mislead a hint or nothing; else nothing
+-- whether the command searches for final states
+abbrev pub is_searched : Settings → Bool
+is_searched (settings.Outcomes search json) = true
+is_searched _ = false
+
+-- a hint, and after it nothing or a line that says choices
+abbrev pub IsHintWithRuns : List ℕ → Type 0
+IsHintWithRuns text =
+    (hint : List ℕ) × (runs : List ℕ) × IsHint hint × ((runs ≡ []) ⊎ IsRunsLine runs) × (text ≡ hint ++ runs)
+
+-- beside an answer of status 3, of a search for final states or not
+abbrev pub IsToldOfUnended : Bool → List ℕ → Type 0
+IsToldOfUnended true text = IsHintWithRuns text
+IsToldOfUnended false text = IsHint text
+
+-- a hint where a text was refused, or a run or a search didn't end, of final states perhaps with choices; of an answer that may
+-- mislead a hint or nothing; else nothing
 abbrev pub IsTold : Settings → Status → List ℕ → Type 0
 IsTold s Good text = IsToldOfGood (may_mislead s) text
 IsTold s NotAsClaimed text = IsToldOfGood (may_mislead s) text
 IsTold s Invalid text = text ≡ []
 IsTold s Refused text = IsHint text
-IsTold s Unended text = IsHint text
+IsTold s Unended text = IsToldOfUnended (is_searched s) text

@@ -13,7 +13,8 @@ use commands::{
     Answer, Status, check_answer, outcomes_answer, parts_of, refused_input, refused_test,
     run_answer, sweep_answer, trace_answer, why_answer, witness_answer,
 };
-use hints::{Cause, SecondPart};
+use explorer::{Unwatched, Watcher};
+use hints::{Cause, Reader};
 use litmus_reader::{ReadError, test_or_fault};
 use protocol_tables::{ProtocolKind, table_text};
 use std::alloc::Global;
@@ -29,12 +30,34 @@ pub fn answer_to(alloc: Global, settings: &Settings, input: &[u8]) -> Result<Ans
     ensures exact { IfOk result (λ a. IsAnswer settings.now (Some input.now) (string_bytes a.text) a.status) }
     ensures headline { IfOk result (λ a. Headline settings.now (Some input.now) (string_bytes a.text)) }
 {
-    answers_meet_the_headline();
-    settings.know_limits();
-    exact_answer(alloc, settings, input)
+    answer_watched(alloc, settings, input, &mut Unwatched)
 }
 
-fn exact_answer(alloc: Global, settings: &Settings, input: &[u8]) -> Result<Answer, NoMemory>
+/// As [`answer_to`], watched: the watcher is told of a search for final states while it goes on. Whatever it does, the
+/// answer is the same.
+///
+/// Errors: out of memory only.
+pub fn answer_watched<S: Watcher>(
+    alloc: Global,
+    settings: &Settings,
+    input: &[u8],
+    watcher: &mut S,
+) -> Result<Answer, NoMemory>
+    requires { HasDepth settings.now }
+    ensures exact { IfOk result (λ a. IsAnswer settings.now (Some input.now) (string_bytes a.text) a.status) }
+    ensures headline { IfOk result (λ a. Headline settings.now (Some input.now) (string_bytes a.text)) }
+{
+    answers_meet_the_headline();
+    settings.know_limits();
+    exact_answer(alloc, settings, input, watcher)
+}
+
+fn exact_answer<S: Watcher>(
+    alloc: Global,
+    settings: &Settings,
+    input: &[u8],
+    watcher: &mut S,
+) -> Result<Answer, NoMemory>
     requires { HasDepth settings.now }
     ensures { IfOk result (λ a. IsAnswer settings.now (Some input.now) (string_bytes a.text) a.status) }
 {
@@ -45,12 +68,17 @@ fn exact_answer(alloc: Global, settings: &Settings, input: &[u8]) -> Result<Answ
         | Settings::Outcomes { .. }
         | Settings::Why { .. }
         | Settings::Check
-        | Settings::Witness { .. } => judged_answer(alloc, settings, input),
+        | Settings::Witness { .. } => judged_answer(alloc, settings, input, watcher),
         Settings::Tables(kind) => table_answer(alloc, *kind),
     }
 }
 
-fn judged_answer(alloc: Global, settings: &Settings, input: &[u8]) -> Result<Answer, NoMemory>
+fn judged_answer<S: Watcher>(
+    alloc: Global,
+    settings: &Settings,
+    input: &[u8],
+    watcher: &mut S,
+) -> Result<Answer, NoMemory>
     requires { HasDepth settings.now }
     ensures { IfOk result (λ a. IsInputAnswer settings.now input.now (string_bytes a.text) a.status) }
 {
@@ -59,7 +87,7 @@ fn judged_answer(alloc: Global, settings: &Settings, input: &[u8]) -> Result<Ans
     }
     let parts = parts_of(input);
     match test_or_fault(alloc, parts.test) {
-        Ok(test) => told_answer(alloc, settings, &test, parts.test, parts.rest),
+        Ok(test) => told_answer(alloc, settings, &test, parts.test, parts.rest, watcher),
         Err(ReadError::Fault(fault)) => refused_test(alloc, asked(settings), parts.test, fault),
         Err(ReadError::NoMemory) => Err(NoMemory),
     }
@@ -67,50 +95,51 @@ fn judged_answer(alloc: Global, settings: &Settings, input: &[u8]) -> Result<Ans
 
 /// The answer to a test, which `spelling` spells, and to the second part; where that may mislead, with what is to be told
 /// of it.
-fn told_answer(
+fn told_answer<S: Watcher>(
     alloc: Global,
     settings: &Settings,
     test: &Test,
     spelling: &[u8],
     text: &[u8],
+    watcher: &mut S,
 ) -> Result<Answer, NoMemory>
     requires { HasDepth settings.now }
     ensures { IfOk result (λ a. IsAnswerTo settings.now test.now text.now (string_bytes a.text) a.status) }
 {
-    let answer = answer_of(alloc, settings, test, text)?;
-    let cause = warning_of(alloc, settings, test, spelling, &answer)?;
-    Ok(Answer {
-        text: answer.text,
-        status: answer.status,
-        cause,
-    })
+    let answer = answer_of(alloc, settings, test, text, watcher)?;
+    match warning_of(alloc, settings, test, spelling, answer.status)? {
+        Some(cause) => Ok(Answer {
+            text: answer.text,
+            status: answer.status,
+            cause,
+        }),
+        None => Ok(answer),
+    }
 }
 
-/// What is to be told of an answer; where it may mislead, before all else of a location that nothing but the test's
-/// condition names.
+/// What is to be told of an answer of this status before all else, where it may mislead: that nothing but the test's
+/// condition names a location.
 fn warning_of(
     alloc: Global,
     settings: &Settings,
     test: &Test,
     spelling: &[u8],
-    answer: &Answer,
-) -> Result<Cause, NoMemory> {
-    match answer.status {
+    status: Status,
+) -> Result<Option<Cause>, NoMemory> {
+    match status {
         Status::Good | Status::NotAsClaimed if may_mislead(settings) => {
-            match Cause::of_unused_location(alloc, test, spelling)? {
-                Some(cause) => Ok(cause),
-                None => Ok(answer.cause),
-            }
+            Cause::of_unused_location(alloc, test, spelling)
         }
-        _ => Ok(answer.cause),
+        _ => Ok(None),
     }
 }
 
-fn answer_of(
+fn answer_of<S: Watcher>(
     alloc: Global,
     settings: &Settings,
     test: &Test,
     text: &[u8],
+    watcher: &mut S,
 ) -> Result<Answer, NoMemory>
     requires { HasDepth settings.now }
     ensures { IfOk result (λ a. IsAnswerTo settings.now test.now text.now (string_bytes a.text) a.status) }
@@ -135,7 +164,7 @@ fn answer_of(
             search,
             json,
             assert,
-        } => outcomes_answer(alloc, test, *search, *json, *assert),
+        } => outcomes_answer(alloc, test, *search, *json, *assert, watcher),
         Settings::Why { plan, json, assert } => why_answer(alloc, test, *plan, *json, *assert),
         Settings::Check => check_answer(alloc, test, text),
         Settings::Witness { depth } => witness_answer(alloc, test, *depth, text),
@@ -155,14 +184,15 @@ fn table_answer(alloc: Global, kind: ProtocolKind) -> Result<Answer, NoMemory>
     })
 }
 
-/// What a command reads after the dividing line.
-fn asked(settings: &Settings) -> SecondPart {
+/// The command that reads the test; `tables` reads none.
+fn asked(settings: &Settings) -> Reader {
     match settings {
-        Settings::Run { .. } | Settings::Trace { .. } => SecondPart::Choices,
-        Settings::Check | Settings::Witness { .. } => SecondPart::Order,
-        Settings::Sweep { .. }
-        | Settings::Outcomes { .. }
-        | Settings::Why { .. }
-        | Settings::Tables(_) => SecondPart::Nothing,
+        Settings::Run { .. } | Settings::Tables(_) => Reader::Run,
+        Settings::Trace { .. } => Reader::Trace,
+        Settings::Sweep { .. } => Reader::Sweep,
+        Settings::Outcomes { .. } => Reader::Outcomes,
+        Settings::Why { .. } => Reader::Why,
+        Settings::Check => Reader::Check,
+        Settings::Witness { .. } => Reader::Witness,
     }
 }

@@ -10,14 +10,15 @@ ghost use Rattle.tso_cli.specs.Answers.{IsAnswer, most_read};
 ghost use Rattle.tso_cli.specs.Headline.{Headline};
 ghost use Rattle.command_line.specs.Limits.{HasDepth};
 
-use crate::answering::answer_to;
+use crate::answering::answer_watched;
 use command_line::Settings;
 use commands::{Answer, Status};
+use explorer::{Unwatched, Watcher};
 use std::alloc::Global;
 use std::io::{Read, Write};
 use tso_io::{Counted, READ_LIMIT, RunFault, read_input, write_output};
 
-/// The status of what [`answer_command`] answers.
+/// The status of what [`answer_command`] answers, where nobody watches.
 ///
 /// Errors: as those of [`answer_command`].
 pub fn run_command<R: Read, W: Write>(
@@ -40,7 +41,7 @@ pub fn run_command<R: Read, W: Write>(
     ensures most { ConsumesAtMost (R.remaining reader.old.0) (R.remaining reader.new.0) (most_read settings.now) }
 {
     Ok(
-        answer_command(alloc, reader, writer, settings)?
+        answer_command(alloc, reader, writer, settings, &mut Unwatched)?
             .answer
             .status,
     )
@@ -56,16 +57,18 @@ pub struct Answered {
 /// Reads an input, and writes the answer to it under these settings and nothing else; what was read and what was
 /// written is answered. The answer is made whole before its first byte is written. At most one byte more than
 /// [`MAX_INPUT`] is read, and none for `tables`; no call of the reader or the writer is tried again, and the writer
-/// isn't flushed. The depth of a witness is 1 to 32, as `settings_of` has it.
+/// isn't flushed. The depth of a witness is 1 to 32, as `settings_of` has it. The watcher is told of a search for final states
+/// while it goes on; whatever it does, the answer is the same.
 ///
 /// `Device` exactly where a call of the reader or the writer failed: of the reader, and nothing was
 /// written; of the writer, and a beginning of the answer was taken. `NoMemory` where the allocator
 /// refused a growth, and nothing was written.
-pub fn answer_command<R: Read, W: Write>(
+pub fn answer_command<R: Read, W: Write, S: Watcher>(
     alloc: Global,
     reader: &mut Counted<R>,
     writer: &mut Counted<W>,
     settings: &Settings,
+    watcher: &mut S,
 ) -> Result<Answered, RunFault>
     requires depth { HasDepth settings.now }
     requires reader { reader.old.1 < 2 ^ 32 - 1 }
@@ -86,16 +89,17 @@ pub fn answer_command<R: Read, W: Write>(
 
     ensures most { ConsumesAtMost (R.remaining reader.old.0) (R.remaining reader.new.0) (most_read settings.now) }
 {
-    let answered = answer_from(alloc, reader, settings)?;
+    let answered = answer_from(alloc, reader, settings, watcher)?;
     write_output(writer, answered.answer.text.as_bytes())?;
     Ok(answered)
 }
 
 /// What the reader has, and the answer to it; `tables` reads nothing.
-fn answer_from<R: Read>(
+fn answer_from<R: Read, S: Watcher>(
     alloc: Global,
     reader: &mut Counted<R>,
     settings: &Settings,
+    watcher: &mut S,
 ) -> Result<Answered, RunFault>
     requires depth { HasDepth settings.now }
     requires reader { reader.old.1 < 2 ^ 32 - 1 }
@@ -105,7 +109,7 @@ fn answer_from<R: Read>(
     ensures faults { CountsReadFaults result reader.old.1 reader.new.1 }
 {
     let input = read_input(alloc, reader, most_read(settings))?;
-    let answer = answer_to(alloc, settings, &input)?;
+    let answer = answer_watched(alloc, settings, &input, watcher)?;
     Ok(Answered { input, answer })
 }
 

@@ -2,17 +2,19 @@
 //! that scripts read can change by it.
 
 ghost use Rattle.std.specs.Prelude.{◌≡◌, IfOk, string_bytes};
-ghost use Rattle.tso_cli.specs.Hints.{IsTold, IsToldOfGood, IsHintOrNothing, may_mislead};
+ghost use Rattle.hints.specs.Hint.{IsHint};
+ghost use Rattle.tso_cli.specs.Hints.{IsTold, IsToldOfGood, IsToldOfUnended, IsHintOrNothing, IsHintWithRuns, may_mislead, is_searched};
 
 use command_line::Settings;
 use commands::{Answer, Status};
-use hints::{Cause, hint_of};
+use hints::{Cause, hint_of, runs_line};
 use std::alloc::Global;
 use tso_model::NoMemory;
 
 /// One line for standard error: what was expected where an input was refused; where a run or a search
-/// didn't end, what to do; and what may mislead in an answer that people read. The empty text where
-/// nothing is to be said. The answer is that of `answer_to` under these settings to this input.
+/// didn't end, what to do; and what may mislead in an answer that people read. Where `outcomes` didn't end, a second
+/// line may say choices. The empty text where nothing is to be said. The answer is that of `answer_to` under these
+/// settings to this input.
 ///
 /// Errors: out of memory only.
 pub fn hint(
@@ -27,11 +29,12 @@ pub fn hint(
         Status::Good | Status::NotAsClaimed => good_hint(
             alloc,
             may_mislead(settings),
-            answer.cause,
+            &answer.cause,
             input,
         ),
         Status::Invalid => Ok(String::new(alloc)),
-        Status::Refused | Status::Unended => hint_of(alloc, answer.cause, input),
+        Status::Refused => hint_of(alloc, &answer.cause, input),
+        Status::Unended => unended_hint(alloc, is_searched(settings), &answer.cause, input),
     }
 }
 
@@ -55,7 +58,7 @@ pub(crate) fn may_mislead(settings: &Settings) -> bool
 fn good_hint(
     alloc: Global,
     may_mislead: bool,
-    cause: Cause,
+    cause: &Cause,
     input: &[u8],
 ) -> Result<String, NoMemory>
     ensures { IfOk result (λ text. IsToldOfGood may_mislead (string_bytes text)) }
@@ -67,7 +70,7 @@ fn good_hint(
     }
 }
 
-fn warning(alloc: Global, cause: Cause, input: &[u8]) -> Result<String, NoMemory>
+fn warning(alloc: Global, cause: &Cause, input: &[u8]) -> Result<String, NoMemory>
     ensures { IfOk result (λ text. IsHintOrNothing (string_bytes text)) }
 {
     match cause {
@@ -77,4 +80,47 @@ fn warning(alloc: Global, cause: Cause, input: &[u8]) -> Result<String, NoMemory
             Ok(text)
         }
     }
+}
+
+/// Whether the command searches for final states.
+#[tactic(auto, unfolding(crate::specs::Hints::is_searched))]
+fn is_searched(settings: &Settings) -> bool
+    ensures { result ≡ is_searched settings.now }
+{
+    match settings {
+        Settings::Outcomes { .. } => true,
+        Settings::Run { .. }
+        | Settings::Trace { .. }
+        | Settings::Sweep { .. }
+        | Settings::Why { .. }
+        | Settings::Check
+        | Settings::Witness { .. }
+        | Settings::Tables(_) => false,
+    }
+}
+
+/// The hint beside an answer of status 3: what to do; of a search for final states also the choices to run, if it knows some.
+fn unended_hint(
+    alloc: Global,
+    is_searched: bool,
+    cause: &Cause,
+    input: &[u8],
+) -> Result<String, NoMemory>
+    ensures { IfOk result (λ text. IsToldOfUnended is_searched (string_bytes text)) }
+{
+    let hint = hint_of(alloc, cause, input)?;
+    if is_searched {
+        with_runs(alloc, hint, cause)
+    } else {
+        Ok(hint)
+    }
+}
+
+/// A hint, and after it the line that says choices to run, if there are some.
+fn with_runs(alloc: Global, hint: String, cause: &Cause) -> Result<String, NoMemory>
+    requires { IsHint (string_bytes hint) }
+    ensures { IfOk result (λ text. IsHintWithRuns (string_bytes text)) }
+{
+    let runs = runs_line(alloc, cause)?;
+    Ok(format!(in alloc; "{hint}{runs}")?)
 }

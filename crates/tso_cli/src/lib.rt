@@ -10,10 +10,11 @@ pub mod laws;
 pub mod machine_laws;
 mod stepping;
 
-pub use answering::answer_to;
+pub use answering::{answer_to, answer_watched};
 pub use command::{Answered, answer_command, run_command};
 pub use command_line::{LineFault, ReasonPlan, SearchPlan, Settings, SweepPlan, settings_of};
 pub use commands::{Answer, Status};
+pub use explorer::{STRIDE, Unwatched, Watcher};
 pub use hinting::hint;
 pub use hints::line_hint;
 pub use simulator::{Ending, SimFault, simulate};

@@ -11,7 +11,7 @@ use commands::{
     Answer, Measured, Status, cause_of, measure, parts_of, refused_choices, refused_input,
     refused_test, refused_trace,
 };
-use hints::SecondPart;
+use hints::Reader;
 use litmus_reader::{ReadError, test_or_fault};
 use machine_core::{Choice, Config};
 use protocol_tables::ProtocolKind;
@@ -40,7 +40,7 @@ pub fn step_answer(
     let parts = parts_of(input);
     match test_or_fault(alloc, parts.test) {
         Ok(test) => test_answer(alloc, &test, protocol, config, parts.rest),
-        Err(ReadError::Fault(fault)) => refused_test(alloc, SecondPart::Choices, parts.test, fault),
+        Err(ReadError::Fault(fault)) => refused_test(alloc, Reader::Trace, parts.test, fault),
         Err(ReadError::NoMemory) => Err(NoMemory),
     }
 }

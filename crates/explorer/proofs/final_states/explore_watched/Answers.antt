@@ -1,4 +1,4 @@
-use Rattle.std.proofs.Common.{ℕ, Bool, List, ◌<◌, ap, arith}
+use Rattle.std.proofs.Common.{ℕ, Bool, List, arith}
 use Rattle.tso_model.specs.Litmus.{Litmus}
 use Rattle.explorer.specs.FinalStates.{HasMoreStates}
 use Rattle.explorer.proofs.Counting.{more-states}

@@ -9,12 +9,12 @@ use Rattle.commands.proofs.AnswerLemmas.{answer-is, answer-means}
 use Rattle.tso_cli.proofs.answering.judged_answer.Goals as goal
 
 pub returns-then-input-gt-MAX_INPUT : goal.returns-then-input-gt-MAX_INPUT
-returns-then-input-gt-MAX_INPUT c =
+returns-then-input-gt-MAX_INPUT g c =
     answer-is (IsInputAnswer c.args.settings.now c.args.input.now) c.refused_input.result input_refusal Refused
     c.refused_input.ensures (too_large c.if-input-gt-MAX_INPUT.true)
 
 pub returns-in-Ok : goal.returns-in-Ok
-returns-in-Ok c =
+returns-in-Ok g c =
     let s = c.args.settings.now in
     let input = c.args.input.now in
     let small : length input ≤ longest_input = omega arith in
@@ -23,7 +23,7 @@ returns-in-Ok c =
     (rw c.parts_of-parts.ensures.rest at c.told_answer.ensures)
 
 pub returns-in-Err-Fault : goal.returns-in-Err-Fault
-returns-in-Err-Fault c =
+returns-in-Err-Fault g c =
     let small : length c.args.input.now ≤ longest_input = omega arith in
     let text = (parts_of c.args.input.now).test in
     let fault = c.in-Err-Fault.fault in

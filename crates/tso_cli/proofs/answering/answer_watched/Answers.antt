@@ -2,10 +2,10 @@ use Rattle.std.specs.Prelude.{Some}
 use Rattle.tso_cli.specs.Answers.{IsAnswer}
 use Rattle.tso_cli.specs.Headline.{Headline}
 use Rattle.commands.proofs.AnswerLemmas.{answer-means}
-use Rattle.tso_cli.proofs.answering.answer_to.Goals as goal
+use Rattle.tso_cli.proofs.answering.answer_watched.Goals as goal
 
 pub returns-clause-headline : goal.returns-clause-headline
-returns-clause-headline c =
+returns-clause-headline g c =
     let s = c.args.settings.now in
     let input = c.args.input.now in
     answer-means (IsAnswer s (Some input)) (λ out status. Headline s (Some input) out) c.exact_answer.result

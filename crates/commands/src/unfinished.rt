@@ -1,0 +1,76 @@
+//! What a search had met that ended at its limit, for the hint beside its answer. The answer says no state, so that nobody
+//! takes a part for the whole; but that a state was met is so whatever else there is.
+
+ghost use Rattle.std.specs.Prelude.{◌≡◌, ◌<◌, ◌≤◌, All, Some, length};
+ghost use Rattle.tso_model.specs.Condition.{NamesExist, claim_of};
+ghost use Rattle.explorer.specs.FinalStates.{AreReached};
+
+use command_line::SearchPlan;
+use command_line::search::MAX_STATES;
+use explorer::FinalState;
+use hints::{Cause, SearchEnd, Sighting};
+use std::alloc::Global;
+use tso_laws::ended_runs_are_executions;
+use tso_model::{Choice, Cond, NoMemory, Test, cond_holds};
+
+/// Of what the hint is made beside the answer of a search that ended at its limit and had met these final states: how many
+/// they are, and, of the first that makes the condition's proposition true, the choices that lead there.
+///
+/// Errors: out of memory only.
+pub fn cause_of_end(
+    alloc: Global,
+    test: &Test,
+    search: SearchPlan,
+    finals: &[FinalState],
+) -> Result<Cause, NoMemory>
+    requires { AreReached test.now search.depth finals.now }
+{
+    let sighting = sighting_in(alloc, test, search.depth(), finals)?;
+    Ok(Cause::TooManyStates(SearchEnd {
+        most: search.states(),
+        is_raisable: search.states() < MAX_STATES,
+        is_buffered: search.depth() > 0,
+        finals: finals.len(),
+        sighting,
+    }))
+}
+
+/// Whether one of these final states makes the proposition true.
+///
+/// Errors: out of memory only.
+fn sighting_in(
+    alloc: Global,
+    test: &Test,
+    depth: u8,
+    finals: &[FinalState],
+) -> Result<Sighting, NoMemory>
+    requires { AreReached test.now depth finals.now }
+{
+    ended_runs_are_executions();
+    test.know_limits();
+    let Some(cond) = test.cond() else {
+        return Ok(Sighting::NoCondition);
+    };
+    match first_met(cond, finals) {
+        Some(found) => Ok(Sighting::Met(copy_of(alloc, &found.choices)?)),
+        None => Ok(Sighting::None),
+    }
+}
+
+/// The first of the final states that makes the proposition true.
+fn first_met<'a>(cond: &Cond, finals: &'a [FinalState]) -> Option<&'a FinalState>
+    requires { All (λ f. NamesExist (length f.registers.items) (length f.memory.items) (claim_of cond.now.prop)) finals.now }
+{
+    for found in finals {
+        if cond_holds(cond, &found.registers, &found.memory) {
+            return Some(found);
+        }
+    }
+    None
+}
+
+fn copy_of(alloc: Global, choices: &[Choice]) -> Result<Vec<Choice>, NoMemory> {
+    let mut copy = Vec::new(alloc);
+    copy.extend_from_slice(choices)?;
+    Ok(copy)
+}

@@ -1,0 +1,40 @@
+//! The commands that read a test: hints name the one that was asked for, and know what follows the test there.
+
+/// A command that reads a test.
+#[derive(Clone, Copy)]
+pub enum Reader {
+    /// `run`, which reads choices after the test.
+    Run,
+    /// `trace`, which reads choices after the test.
+    Trace,
+    /// `sweep`, which reads the test alone.
+    Sweep,
+    /// `outcomes`, which reads the test alone.
+    Outcomes,
+    /// `why`, which reads the test alone.
+    Why,
+    /// `check`, which reads an order after the test.
+    Check,
+    /// `witness`, which reads an order after the test.
+    Witness,
+}
+
+impl Reader {
+    /// The word for it on a command line.
+    pub(crate) fn name(self) -> &'static str {
+        match self {
+            Reader::Run => "run",
+            Reader::Trace => "trace",
+            Reader::Sweep => "sweep",
+            Reader::Outcomes => "outcomes",
+            Reader::Why => "why",
+            Reader::Check => "check",
+            Reader::Witness => "witness",
+        }
+    }
+
+    /// Whether it reads an order after the dividing line.
+    pub(crate) fn takes_order(self) -> bool {
+        matches!(self, Reader::Check | Reader::Witness)
+    }
+}

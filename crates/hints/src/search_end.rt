@@ -1,0 +1,136 @@
+//! What is said of a search that ended at its limit: what it had met up to there, and what to ask for instead. What was met is
+//! no answer, but people have waited for it, and one state that was looked for may be all that they want to know.
+
+ghost use Rattle.std.specs.Prelude.{◌≡◌, ◌⊎◌, [], IfOk, string_bytes};
+ghost use Rattle.hints.specs.Hint.{IsRunsLine, longest_runs_line};
+
+use crate::cause::Cause;
+use crate::words::{Piece, Words, eight};
+use scheduler::choices_text;
+use std::alloc::Global;
+use tso_model::{Choice, NoMemory};
+
+/// Maximum length of a line that says choices to run, with its line feed, in bytes.
+pub const MAX_RUNS_LINE: usize = 2048;
+
+/// The limit is the number that the definitions have: a law, with nothing to run.
+pub fn limit_of_runs_lines_is_as_defined()
+    ensures { MAX_RUNS_LINE ≡ longest_runs_line }
+{}
+
+/// Whether a state was met in which the condition's proposition is true.
+#[derive(Drop)]
+pub enum Sighting {
+    /// The test has no condition.
+    NoCondition,
+    /// None was met.
+    None,
+    /// One was met, to which these choices lead.
+    Met(Vec<Choice>),
+}
+
+/// What is known of a search that ended at its limit.
+#[derive(Drop)]
+pub struct SearchEnd {
+    /// How many states it may keep.
+    pub most: u32,
+    /// Whether it may be asked to keep more.
+    pub is_raisable: bool,
+    /// Whether the machine has store buffers, which may be less deep.
+    pub is_buffered: bool,
+    /// How many final states it had met.
+    pub finals: usize,
+    /// Whether one of them was looked for.
+    pub sighting: Sighting,
+}
+
+/// The words of a hint about a search that ended at its limit.
+pub fn search_ends<'a>(end: &SearchEnd) -> Words<'a> {
+    eight([
+        Piece::Text("the machine can reach more than "),
+        Piece::Number(end.most as usize),
+        Piece::Text(limit_words(end.is_raisable, end.is_buffered)),
+        Piece::Text(condition_words(&end.sighting)),
+        Piece::Text("; "),
+        number_met(end.finals),
+        unit_of_finals(end.finals),
+        Piece::Text(sighting_words(end.finals, &end.sighting)),
+    ])
+}
+
+fn limit_words(is_raisable: bool, is_buffered: bool) -> &'static str {
+    match (is_raisable, is_buffered) {
+        (true, true) => " states, which is --states: raise it, lower --depth, or ",
+        (true, false) => " states, which is --states: raise it, or ",
+        (false, true) => " states, the most that --states may be: lower --depth, or ",
+        (false, false) => " states, the most that --states may be: ",
+    }
+}
+
+fn condition_words(sighting: &Sighting) -> &'static str {
+    match sighting {
+        Sighting::NoCondition => "give a condition, whose atoms alone tell states apart",
+        Sighting::None | Sighting::Met(_) => {
+            "name fewer atoms in the condition; why decides it without states"
+        }
+    }
+}
+
+fn number_met<'a>(finals: usize) -> Piece<'a> {
+    match finals {
+        0 => Piece::Text("no"),
+        _ => Piece::Number(finals),
+    }
+}
+
+fn unit_of_finals<'a>(finals: usize) -> Piece<'a> {
+    match finals {
+        0 | 1 => Piece::Text(" final state was met"),
+        _ => Piece::Text(" final states were met"),
+    }
+}
+
+fn sighting_words(finals: usize, sighting: &Sighting) -> &'static str {
+    match sighting {
+        Sighting::NoCondition => "",
+        Sighting::None => unmet_words(finals),
+        Sighting::Met(_) if finals == 1 => ", which makes the proposition true",
+        Sighting::Met(_) => ", one of which makes the proposition true",
+    }
+}
+
+fn unmet_words(finals: usize) -> &'static str {
+    match finals {
+        0 => "",
+        1 => ", which makes the proposition false",
+        _ => ", none of which makes the proposition true",
+    }
+}
+
+/// The line with choices that lead to a state that was looked for, where a search ended at its limit and had met one. The
+/// empty text where there is none, and where the choices don't fit.
+///
+/// Errors: out of memory only.
+pub fn runs_line(alloc: Global, cause: &Cause) -> Result<String, NoMemory>
+    ensures { IfOk result (λ text. (string_bytes text ≡ []) ⊎ IsRunsLine (string_bytes text)) }
+{
+    match cause {
+        Cause::TooManyStates(
+            SearchEnd {
+                sighting: Sighting::Met(choices),
+                ..
+            },
+        ) => line_of_choices(alloc, choices),
+        _ => Ok(String::new(alloc)),
+    }
+}
+
+fn line_of_choices(alloc: Global, choices: &[Choice]) -> Result<String, NoMemory>
+    ensures { IfOk result (λ text. (string_bytes text ≡ []) ⊎ IsRunsLine (string_bytes text)) }
+{
+    let choices = choices_text(alloc, choices)?;
+    if choices.len() > MAX_RUNS_LINE - 18 {
+        return Ok(String::new(alloc));
+    }
+    Ok(format!(in alloc; "hint: run these: {choices}\n")?)
+}
