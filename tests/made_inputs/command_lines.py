@@ -1,6 +1,7 @@
 """Command lines: options with values of every kind, and lines that are refused."""
 
 PROTOCOLS, BUSES, MODELS = ("msi", "mesi", "moesi", "mosi"), ("atomic", "split"), ("tso", "sc")
+SHOWN = ("condition", "registers", "all")
 
 # Lines that are refused, a word between each two spaces.
 BAD_LINES = [line.split() for line in """
@@ -73,6 +74,16 @@ BAD_LINES = [line.split() for line in """
     outcomes --seeds 5
     outcomes --json=true
     outcomes --states 5 --states 5
+    outcomes --show
+    outcomes --show locations
+    outcomes --show=All
+    outcomes --show all --show all
+    outcomes --assert=true
+    outcomes --assert --assert
+    why --show all
+    why --assert=No
+    run --assert
+    sweep --show all
     outcomes SB
     why SB
     why --model x86
@@ -149,18 +160,21 @@ def outcomes(draw, depth=None, states=None):
     """A search; of its limit nothing is said where it is None."""
     options = [] if depth is None else [option(draw, "depth", depth)]
     options += [] if states is None else [option(draw, "states", states)]
-    if draw.random() < 0.4:
-        options.append(["--json"])
-    return ["outcomes"] + joined(draw, options)
+    if draw.random() < 0.6:
+        options.append(option(draw, "show", draw.choice(SHOWN)))
+    return ["outcomes"] + joined(draw, options + answer_forms(draw))
+
+
+def answer_forms(draw):
+    """Some of the options that say how a search answers."""
+    return [[word] for word, share in (("--json", 0.4), ("--assert", 0.3)) if draw.random() < share]
 
 
 def why(draw, cases=None):
     """A search for a reason; of its limit nothing is said where it is None."""
     options = [option(draw, "model", draw.choice(MODELS))] if draw.random() < 0.7 else []
     options += [] if cases is None else [option(draw, "cases", cases)]
-    if draw.random() < 0.4:
-        options.append(["--json"])
-    return ["why"] + joined(draw, options)
+    return ["why"] + joined(draw, options + answer_forms(draw))
 
 
 def judge(draw, depth=None):

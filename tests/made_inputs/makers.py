@@ -323,5 +323,5 @@ SHARES = (
     (Maker.a_split_trace, 1), (Maker.a_long_trace, 1), (Maker.a_search, 10), (Maker.a_shallow_search, 8), (Maker.a_reason, 10),
     (Maker.a_faulty_test, 36), (Maker.faulty_choices, 6), (Maker.a_faulty_order, 5),
     (Maker.an_order, 4), (Maker.a_deep_order, 3), (Maker.a_deepest_order, 2), (Maker.a_broken_order, 9),
-    (Maker.a_sweep, 6), (Maker.a_bad_line, 4), (Maker.tables, 1), (Maker.a_divided_input, 2),
+    (Maker.a_sweep, 6), (Maker.a_bad_line, 5), (Maker.tables, 1), (Maker.a_divided_input, 2),
 )

@@ -39,11 +39,11 @@ LINES = ("no command", "--help", "--version", "help of a command", "unknown comm
          "option of another command", "unknown option", "option twice", "option without its value", "flag with a value",
          "value that is no number", "lines of three words") + tuple(
              "value out of range: " + name for name in
-             ("protocol", "depth", "sets", "ways", "words", "bus", "from", "seeds", "length", "states", "model", "cases"))
+             ("protocol", "depth", "sets", "ways", "words", "bus", "from", "seeds", "length", "states", "show", "model", "cases"))
 
 # A refusal is told by every command that reads an input, and each has its own further statuses.
-STATUSES = {"run": (0, 1, 3), "trace": (0, 1, 3), "sweep": (0, 1, 3), "outcomes": (0, 1, 3), "why": (0, 1, 3), "check": (0, 1, 4),
-            "witness": (0, 1, 4)}
+STATUSES = {"run": (0, 1, 3), "trace": (0, 1, 3), "sweep": (0, 1, 3), "outcomes": (0, 1, 3, 4), "why": (0, 1, 3, 4),
+            "check": (0, 1, 4), "witness": (0, 1, 4)}
 
 # Commands beside whose answer with status 0 a hint may stand.
 HINTED = ("run", "trace", "sweep", "outcomes", "why")
@@ -66,6 +66,11 @@ TRACES_AS_JSON = {
 }
 TRACES_AS_JSON.update(("part of a step: " + part, ("there", "not there")) for part in tracing.PARTS)
 
+# The forms of an answer; herd's word of each quantifier; and what `--assert` may find.
+FORMS = ("text", "JSON")
+CLAIMED = ["%s %s" % (quantifier, word) for quantifier in ("exists", "~exists", "forall") for word in ("Ok", "No")]
+ASSERTED = ("nothing", "Ok", "No", "no verdict")
+
 OUTCOMES = {
     "answer of outcomes": ("all states, text", "all states, JSON", "too many states, text", "too many states, JSON"),
     "states that can be reached": ("fewer than may be kept", "as many as may be kept", "more than may be kept"),
@@ -73,13 +78,17 @@ OUTCOMES = {
     "cores that are alike": ("two or more", "none"),
     "what a state names": ("registers", "locations", "registers and locations", "nothing"),
     "choices beside a state": ("none", "some"),
-    "observation of outcomes": ["%s, %s" % (word, form) for word in ("Never", "Sometimes", "Always", "none") for form in ("text", "JSON")],
+    "observation of outcomes": ["%s, %s" % (word, form) for word in ("Never", "Sometimes", "Always", "none") for form in FORMS],
+    "verdict of outcomes": ["%s, %s" % (word, form) for word in CLAIMED + ["none"] for form in FORMS],
+    "asserted of outcomes": ASSERTED,
 }
 
 REASONS = {
     "answer of why": ["%s, %s, %s" % (word, model, form) for word in ("never", "allowed") for model in ("tso", "sc")
-                      for form in ("text", "JSON")] + ["too many cases, text", "too many cases, JSON"],
+                      for form in FORMS] + ["too many cases, text", "too many cases, JSON"],
     "asked": ("exists", "~exists", "forall", "nothing"),
+    "verdict of why": CLAIMED + ["none"],
+    "asserted of why": ASSERTED,
     "step of a reason": ("case", "so", "cycle", "uniproc", "between", "false", "endcases"),
     "relation in a reason": ("po", "mfence", "implied", "rf", "co", "fr"),
 }

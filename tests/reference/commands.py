@@ -16,21 +16,28 @@ MACHINE_OPTIONS = {
     "words": range(1, 5), "bus": (machine.ATOMIC, machine.SPLIT),
 }
 SWEEP_OPTIONS = {"from": range(2**32), "seeds": range(1, 1001), "length": range(100_001)}
-SEARCH_OPTIONS = {"depth": range(33), "states": range(1, 10_000_001)}
+SEARCH_OPTIONS = {"depth": range(33), "states": range(1, 10_000_001), "show": (printing.CONDITION, printing.REGISTERS, printing.ALL)}
 REASON_OPTIONS = {"model": (candidates.TSO, candidates.SC), "cases": range(1, 1_000_001)}
 
-# The options of each command, and their values; `json` has none.
+# Options without a value.
+ANSWER_FORMS = {"json": None, "assert": None}
+
+# The options of each command, and their values, None of those without.
 OPTIONS = {
     "run": dict(MACHINE_OPTIONS, json=None), "trace": dict(MACHINE_OPTIONS, json=None), "sweep": dict(MACHINE_OPTIONS, **SWEEP_OPTIONS),
-    "outcomes": dict(SEARCH_OPTIONS, json=None), "why": dict(REASON_OPTIONS, json=None), "check": {}, "witness": {"depth": range(1, 33)},
-    "tables": {"protocol": MACHINE_OPTIONS["protocol"]},
+    "outcomes": dict(SEARCH_OPTIONS, **ANSWER_FORMS), "why": dict(REASON_OPTIONS, **ANSWER_FORMS), "check": {},
+    "witness": {"depth": range(1, 33)}, "tables": {"protocol": MACHINE_OPTIONS["protocol"]},
 }
 DEFAULTS = {"protocol": "msi", "depth": 4, "sets": 1, "ways": 2, "words": 1, "bus": machine.ATOMIC, "json": False,
-            "from": 0, "seeds": 10, "length": 1000, "states": 1_000_000, "model": candidates.TSO, "cases": 100_000}
+            "from": 0, "seeds": 10, "length": 1000, "states": 1_000_000, "model": candidates.TSO, "cases": 100_000,
+            "show": printing.CONDITION, "assert": False}
 OWN_DEFAULTS = {"outcomes": {"depth": 32}}
 
 # Options with so many values that their ends alone are told apart.
 GREAT_RANGES = tuple(SWEEP_OPTIONS) + ("states", "cases")
+
+# The commands that say whether the condition is as it is claimed.
+SEARCHING = ("outcomes", "why")
 
 # `--words` is read as one of these, and then refused where it isn't one of its values.
 WORDS = (1, 2, 4)
@@ -151,7 +158,8 @@ def answer(words, given, told=b""):
     except Refused as refused:
         test, status, output = None, REFUSED, refused.line + "\n"
     seen.note("status of " + command, status)
-    errors = hints.beside(command, settings["json"], settings["depth"], test, output) if status == ENDED else None
+    is_hinted = status == ENDED or status == INVALID and command in SEARCHING
+    errors = hints.beside(command, settings["json"], settings["depth"], test, output) if is_hinted else None
     return Answer(status, output.encode(), errors)
 
 
@@ -164,12 +172,11 @@ def answer_to_input(command, settings, given, told):
     test = read_test(first)
     if command in ("check", "witness"):
         return (test,) + judged(test, command, settings["depth"], second)
-    if command == "outcomes":
-        output, ended = outcomes.answer(test, settings["depth"], settings["states"], settings["json"], told)
-        return test, ENDED if ended else UNFINISHED, output
-    if command == "why":
-        output, ended = reasons.answer(test, settings["model"], settings["cases"], settings["json"], told)
-        return test, ENDED if ended else UNFINISHED, output
+    if command in SEARCHING:
+        output, ended, verdict = searched(test, command, settings, told)
+        is_refuted = settings["assert"] and verdict == "No"
+        seen.note("asserted of " + command, "nothing" if not settings["assert"] else verdict or "no verdict")
+        return test, UNFINISHED if not ended else INVALID if is_refuted else ENDED, output
     configuration = Configuration(*(settings[name] for name in Configuration._fields))
     if command == "sweep":
         output, ended = printing.sweep(test, configuration, settings["from"], settings["seeds"], settings["length"])
@@ -182,6 +189,13 @@ def answer_to_input(command, settings, given, told):
         return test, UNFINISHED, printing.unfinished_json(run) if settings["json"] else printing.unfinished(run)
     printed = printing.report_json if settings["json"] else printing.report
     return test, ENDED, printed(test, configuration, run, choices.count - run.used)
+
+
+def searched(test, command, settings, told):
+    """What `outcomes` and `why` print, whether they came to their end, and herd's word, None where there is none."""
+    if command == "outcomes":
+        return outcomes.answer(test, settings["depth"], settings["states"], settings["show"], settings["json"], told)
+    return reasons.answer(test, settings["model"], settings["cases"], settings["json"], told)
 
 
 def traced(test, configuration, choices, with_json):

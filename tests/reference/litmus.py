@@ -27,6 +27,9 @@ EXCHANGE, ADD = "exchange", "locked add"
 
 STORES, LOCKED, MOVES = (STORE_NUMBER, STORE_REGISTER), (EXCHANGE, ADD), (SET_NUMBER, SET_REGISTER)
 
+# Those that write their register.
+REGISTER_WRITERS = (LOAD,) + MOVES + LOCKED
+
 
 class Instruction(typing.NamedTuple):
     """One instruction: its kind, its location and its register (by their numbers), and for a store or a register move the

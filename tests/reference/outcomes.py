@@ -22,8 +22,9 @@ def form_of(with_json):
     return "JSON" if with_json else "text"
 
 
-def answer(test, depth, limit, with_json, told):
-    """What is printed, and whether the search came to its end. `told` is an answer in which it may have given up."""
+def answer(test, depth, limit, show, with_json, told):
+    """What is printed, whether the search came to its end, and herd's word, None without one. `told` is an answer in which it may
+    have given up."""
     search = Search(test, depth)
     states = len(search.reached)
     seen.note("states that can be reached", "%s may be kept" % (
@@ -31,9 +32,10 @@ def answer(test, depth, limit, with_json, told):
     unfinished = unfinished_json(test, limit) if with_json else "Unfinished states=%d\n" % limit
     if states > limit and told == unfinished:
         seen.note("answer of outcomes", "too many states, " + form_of(with_json))
-        return unfinished, False
+        return unfinished, False, None
     seen.note("answer of outcomes", "all states, " + form_of(with_json))
-    return Found(test, depth, search.ends()).printed(with_json, told), True
+    found = Found(test, depth, show, search.ends())
+    return found.printed(with_json, told), True, found.verdict()
 
 
 def unfinished_json(test, limit):
@@ -43,8 +45,8 @@ def unfinished_json(test, limit):
 class Found:
     """The final states of a test at a depth, as they are looked at, in ascending order, and the proposition's truth in each."""
 
-    def __init__(self, test, depth, ends):
-        self.test, self.depth, self.looked = test, depth, printing.Looked(test)
+    def __init__(self, test, depth, show, ends):
+        self.test, self.depth, self.looked = test, depth, printing.Looked(test, show)
         self.truths = {self.looked.values(*state): machine.holds(test, state) for state in ends}
         self.states = sorted(self.truths)
 
@@ -57,6 +59,7 @@ class Found:
             seen.note("choices beside a state", "some" if way else "none")
         counts = self.observed()
         seen.note("observation of outcomes", "%s, %s" % ("none" if counts is None else printing.observation(counts), form))
+        seen.note("verdict of outcomes", "none, " + form if counts is None else "%s %s, %s" % (self.test.quantifier, self.verdict(), form))
 
     def has_alike_cores(self):
         """Whether two cores have the same program, of one instruction or more, the same first registers and the same ones looked at."""
@@ -89,12 +92,26 @@ class Found:
         truths = list(self.truths.values())
         return None if self.test.proposition is None else {truth: truths.count(truth) for truth in (True, False)}
 
+    def verdict(self):
+        """herd's word: `Ok` where `exists` is so of some state, `~exists` of none, `forall` of each; None without a condition."""
+        counts = self.observed()
+        if counts is None:
+            return None
+        is_so = {"exists": counts[True] > 0, "~exists": counts[True] == 0, "forall": counts[False] == 0}
+        return "Ok" if is_so[self.test.quantifier] else "No"
+
+    def holding(self):
+        """The numbers of the states in which the proposition is true; the first state has number 1."""
+        return [number for number, values in enumerate(self.states, 1) if self.truths[values]]
+
     def text(self, ways):
         lines = ["Test " + self.test.name, "Outcomes depth=%d states=%d" % (self.depth, len(self.states))]
         for values, way in zip(self.states, ways):
             lines += ["State" + printing.named(zip(self.looked.names, values)), "By " + way if way else "By"]
         if self.test.proposition is not None:
             lines.append(printing.observation_line(self.test, self.observed()))
+            lines.append(" ".join(["True", *map(str, self.holding())]))
+            lines.append("Verdict " + self.verdict())
         return "".join(line + "\n" for line in lines)
 
     def value(self, ways):
@@ -103,7 +120,9 @@ class Found:
         if counts is not None:
             observed = {"word": printing.observation(counts), "true": counts[True], "false": counts[False]}
         states = [{"values": dict(zip(self.looked.names, values)), "choices": way} for values, way in zip(self.states, ways)]
-        return {"test": self.test.name, "depth": self.depth, "states": states, "observation": observed}
+        if counts is not None:
+            states = [dict(state, holds=self.truths[values]) for values, state in zip(self.states, states)]
+        return {"test": self.test.name, "depth": self.depth, "states": states, "observation": observed, "verdict": self.verdict()}
 
 
 def ways_in(told, with_json):

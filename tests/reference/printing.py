@@ -78,14 +78,23 @@ def report_json(test, configuration, run, unused, more={}):
     }))
 
 
+# What a state shows, by the option `--show`.
+CONDITION, REGISTERS, ALL = "condition", "registers", "all"
+
+
 class Looked:
     """What is looked at of a test's final states: registers, core by core, and then locations by their numbers. It is what the
-    condition names; without one all locations."""
+    condition names; without one all locations. `registers` adds each register that an instruction of its core writes, and `all` also
+    all locations."""
 
-    def __init__(self, test):
-        registers, locations = set(), range(len(test.locations))
+    def __init__(self, test, show=CONDITION):
+        registers, locations = set(), set(range(len(test.locations)))
         if test.proposition is not None:
             registers, locations = conditions.named_in(test.proposition)
+        if show != CONDITION:
+            registers = registers | registers_written(test)
+        if show == ALL:
+            locations = set(range(len(test.locations)))
         self.registers, self.locations = sorted(registers), sorted(locations)
         self.names = ["%d:%s" % (core, litmus.REGISTERS[register]) for core, register in self.registers]
         self.names += [test.locations[location] for location in self.locations]
@@ -93,6 +102,12 @@ class Looked:
     def values(self, registers, words):
         """The values there of a final state."""
         return tuple([registers[core][register] for core, register in self.registers] + [words[at] for at in self.locations])
+
+
+def registers_written(test):
+    """The registers that an instruction of their core writes, as pairs of core and register."""
+    return {(core, done.register) for core, program in enumerate(test.programs) for done in program
+            if done.kind in litmus.REGISTER_WRITERS}
 
 
 def sweep(test, configuration, first, seeds, length):

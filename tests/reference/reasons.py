@@ -318,24 +318,27 @@ def differences(due, text):
 # ---- the second program's answer
 
 def answer(test, model, limit, with_json, told):
-    """What is printed, and whether a reason was found. `told` is an answer in which it may have given up."""
+    """What is printed, whether a reason was found, and herd's word, None without one. `told` is an answer in which it may have
+    given up."""
     unfinished = printing.as_json({"test": test.name, "unfinished": {"cases": limit}}) if with_json else "Unfinished cases=%d\n" % limit
     if told == unfinished and limit < most_cases(test):
         seen.note("answer of why", "too many cases, " + form_of(with_json))
-        return unfinished, False
+        return unfinished, False, None
     try:
         faults = faults_of(test, model, told, with_json)
     except (ValueError, LookupError, TypeError, AttributeError):
         faults = ["no reason"]
     if faults:
-        return NO_REASON, True
-    note_reason(json.loads(told) if with_json else read_text(told, test), form_of(with_json))
-    return told, True
+        return NO_REASON, True, None
+    value = json.loads(told) if with_json else read_text(told, test)
+    note_reason(value, form_of(with_json))
+    return told, True, value["verdict"]
 
 
 def note_reason(value, form):
     seen.note("answer of why", "%s, %s, %s" % (value["answer"], value["model"], form))
     seen.note("asked", "nothing" if value["asked"] is None else value["asked"]["kind"])
+    seen.note("verdict of why", "none" if value["asked"] is None else "%s %s" % (value["asked"]["kind"], value["verdict"]))
     for step in value.get("steps", ()):
         seen.note("step of a reason", step["step"])
         for edge in step.get("cycle", ()):
