@@ -5,14 +5,17 @@
 
 The tests are those of the gallery and of the examples, and N (500) made at random from a seed S (1): two to four cores, at most
 twelve instructions together, of all kinds; and half as many more in which some cores have the same program. Of each, at depths 0, 1,
-2 and 32:
+2 and 32, with each of the three values of `--show`:
 
-- the text is that of the final states that the search finds (its lines `By` are taken as they are);
+- the text is that of the final states that the search finds (its lines `By` are taken as they are): those in which the proposition is
+  true stand in the line `True`, and `Verdict` says whether the condition is as it is claimed;
 - the choices of each state, handed to `run` at that depth, end there, none stalled and none left over;
-- `--json` says the same, with the same choices.
+- `--json` says the same, with the same choices;
+- with `--assert` the answer is the same, and its status 4 where the verdict is `No`.
 
 The search is written here, from docs/DEFINITIONS.md; the tests are read by tests/reference/. The last line is 'N passed, M failed'.
 """
+import functools
 import json
 import random
 import re
@@ -24,6 +27,7 @@ import judging
 from reference import conditions, litmus, reading
 
 DEPTHS = (0, 1, 2, 32)
+SHOWN = CONDITION, WITH_REGISTERS, WITH_ALL = ("condition", "registers", "all")
 LOCATIONS = ("x", "y", "z")
 REGISTERS = ("EAX", "EBX", "ECX")
 
@@ -101,18 +105,31 @@ def ends(test, depth):
     return found
 
 
-class Shown:
-    """What is looked at of a test's final states, and what is printed of them."""
+def places_shown(test, show):
+    """The registers, as pairs of core and register, and the locations whose values a state has."""
+    registers, locations = set(), set(range(len(test.locations)))
+    if test.proposition is not None:
+        registers, named = conditions.named_in(test.proposition)
+        locations = locations if show == WITH_ALL else named
+    if show != CONDITION:
+        registers = registers.union(*(registers_written(core, program) for core, program in enumerate(test.programs)))
+    return sorted(registers), sorted(locations)
 
-    def __init__(self, test, depth):
-        registers, locations = set(), range(len(test.locations))
-        if test.proposition is not None:
-            registers, locations = conditions.named_in(test.proposition)
-        self.registers, self.locations = sorted(registers), sorted(locations)
+
+def registers_written(core, program):
+    """The registers of this core that its program writes: only stores and fences leave all registers as they are."""
+    return {(core, done.register) for done in program if done.kind not in litmus.STORES and done.kind != litmus.FENCE}
+
+
+class Shown:
+    """What is looked at of a test's final states, which are given, and what is printed of them."""
+
+    def __init__(self, test, depth, show, found):
+        self.registers, self.locations = places_shown(test, show)
         self.names = ["%d:%s" % (core, litmus.REGISTERS[register]) for core, register in self.registers]
         self.names += [test.locations[location] for location in self.locations]
         self.test, self.depth, self.truths = test, depth, {}
-        for held, words in ends(test, depth):
+        for held, words in found:
             values = tuple([held[core][register] for core, register in self.registers] + [words[at] for at in self.locations])
             self.truths[values] = test.proposition is not None and conditions.truth_of(test.proposition, held, words)
         self.states = sorted(self.truths)
@@ -125,26 +142,40 @@ class Shown:
         held, failed = self.counts()
         return "Never" if held == 0 else "Always" if failed == 0 else "Sometimes"
 
+    def verdict(self):
+        """Whether the condition is as it is claimed; None where there is none."""
+        held, failed = self.counts()
+        wrong = {"exists": held == 0, "~exists": held > 0, "forall": failed > 0, None: None}[self.test.quantifier]
+        return None if wrong is None else "No" if wrong else "Ok"
+
     def text(self, ways):
         lines = ["Test " + self.test.name, "Outcomes depth=%d states=%d" % (self.depth, len(self.states))]
         for values, way in zip(self.states, ways):
             lines += ["State" + "".join(" %s=%d" % pair for pair in zip(self.names, values)), ("By " + way).rstrip()]
         if self.test.proposition is not None:
             lines.append("Observation %s %s %d %d" % (self.test.name, self.word(), *self.counts()))
+            lines.append("True" + "".join(" %d" % (at + 1) for at, values in enumerate(self.states) if self.truths[values]))
+            lines.append("Verdict " + self.verdict())
         return "".join(line + "\n" for line in lines)
 
     def value(self, ways):
         held, failed = self.counts()
         observed = None if self.test.proposition is None else {"false": failed, "true": held, "word": self.word()}
         states = [{"choices": way, "values": dict(zip(self.names, values))} for values, way in zip(self.states, ways)]
-        return {"depth": self.depth, "observation": observed, "states": states, "test": self.test.name}
+        for values, state in zip(self.states, states):
+            state.update({} if observed is None else {"holds": self.truths[values]})
+        return {"depth": self.depth, "observation": observed, "states": states, "test": self.test.name, "verdict": self.verdict()}
 
 
-def faults_of_way(program, given, shown, values, way):
-    """How the run under these choices differs from one that ends in these values, none stalled and none left over."""
-    done = program.run(["run", "--depth", str(shown.depth)], given + judging.DIVIDER + way.encode())
-    report = done.stdout.decode("latin-1")
-    words = dict(re.findall(r" (\w+)=(\d+)", re.search(r"^Memory(.*)$", report, re.M).group(1))) if done.returncode == 0 else {}
+def report_of(program, given, depth, way):
+    """The report of the run under these choices; nothing where it doesn't end."""
+    done = program.run(["run", "--depth", str(depth)], given + judging.DIVIDER + way.encode())
+    return done.stdout.decode("latin-1") if done.returncode == 0 else ""
+
+
+def faults_of_way(report, shown, values, way):
+    """How the run under these choices, which has this report, differs from one that ends in these values, none stalled and none left over."""
+    words = dict(re.findall(r" (\w+)=(\d+)", re.search(r"^Memory(.*)$", report, re.M).group(1))) if report else {}
     for core, line in re.findall(r"^Registers P(\d)(.*)$", report, re.M):
         words.update(("%s:%s" % (core, register), value) for register, value in re.findall(r" (\w+)=(\d+)", line))
     got = [words.get(name) for name in shown.names]
@@ -156,19 +187,34 @@ def faults_of_way(program, given, shown, values, way):
 
 def faults_at(program, given, depth):
     test = reading.read_test(given)
-    shown = Shown(test, depth)
-    words = ["outcomes", "--depth", str(depth)]
+    found, report_by = ends(test, depth), functools.cache(lambda way: report_of(program, given, depth, way))
+    return [fault for show in SHOWN for fault in faults_of_shown(program, given, show, Shown(test, depth, show, found), report_by)]
+
+
+def faults_of_shown(program, given, show, shown, report_by):
+    """How what is shown differs from what is due; `report_by` answers the report of a run by its choices."""
+    words = ["outcomes", "--depth", str(shown.depth)] + ([] if show == CONDITION else ["--show", show])
     plain, as_json = program.run(words, given), program.run(words + ["--json"], given)
     text = plain.stdout.decode("latin-1")
     ways = re.findall(r"^By ?(.*)$", text, re.M)
     if plain.returncode != 0 or text != shown.text(ways) or len(ways) != len(shown.states):
-        return ["at depth %d it prints %r, and not %r" % (depth, text, shown.text(ways))]
-    faults = [] if json.loads(as_json.stdout) == shown.value(ways) else ["at depth %d the JSON is %r" % (depth, as_json.stdout)]
+        return ["with %s it prints %r, and not %r" % (words, text, shown.text(ways))]
+    faults = [] if json.loads(as_json.stdout) == shown.value(ways) else ["with %s the JSON is %r" % (words, as_json.stdout)]
     if len({len(way.split()) for way in ways}) > 1:
-        faults.append("at depth %d choices of different lengths" % depth)
+        faults.append("with %s choices of different lengths" % words)
+    for one in (plain, as_json):
+        faults += faults_of_assertion(program, given, words + ["--json"] * (one is as_json), one, shown)
     for values, way in zip(shown.states, ways):
-        faults += faults_of_way(program, given, shown, values, way)
+        faults += faults_of_way(report_by(way), shown, values, way)
     return faults
+
+
+def faults_of_assertion(program, given, words, answer, shown):
+    """How `--assert` does something else than turn the status into 4 where the verdict is `No`."""
+    done = program.run(words + ["--assert"], given)
+    status = judging.INVALID if shown.verdict() == "No" else judging.ENDED
+    same = (done.returncode, done.stdout, done.stderr) == (status, answer.stdout, answer.stderr)
+    return [] if same else ["with %s --assert has status %s, and not %d, or another answer" % (words, done.returncode, status)]
 
 
 def cell(draw):
