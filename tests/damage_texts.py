@@ -25,7 +25,7 @@ from reference import hints, reading, reasons
 AT_ONCE = 64
 
 RUNS = ["run", "run --bus split", "run --depth 0", "trace --bus split"]
-SEARCHES = ["outcomes", "why"]
+SEARCHES = ["outcomes", "outcomes --show all", "why"]
 JUDGES = ["check", "witness"]
 
 SMALL_TEST = b"X86 t\n{x=1;}\nP0;\nMOV [x],2;\nexists x=2\n"
@@ -43,7 +43,8 @@ SECONDS = 2
 TRACE = re.compile(rb"(Test .+\nMachine .+\n)Trace\n((?:\d.*\n)*)Endtrace (\d+)\n")
 REPORT = re.compile(rb"Test .+\nMachine .+\nOrder\n((?:P\d+:\d+ .+\n)*)Endorder (\d+)\n(?:Registers P\d .+\n)+Memory.*\n"
                     rb"Condition .+\nChoices used=\d+ stalled=\d+ unused=\d+\n(?:Cache P\d .+\n)*")
-OUTCOMES = re.compile(rb"Test .+\nOutcomes depth=32 states=(\d+)\n((?:State.*\nBy.*\n)*)(?:Observation .+\n)?")
+OUTCOMES = re.compile(rb"Test .+\nOutcomes depth=32 states=(\d+)\n((?:State.*\nBy.*\n)*)"
+                      rb"(?:Observation .+ (\d+) \d+\nTrue((?: [1-9]\d*)*)\nVerdict (?:Ok|No)\n)?")
 ENTRY = re.compile(rb"P\d+:\d+ (?:F|(?:R|W|LR|LW) \w+=\d+)")
 
 
@@ -91,7 +92,11 @@ def report_in(command, output):
 
 def is_outcomes(output):
     found = OUTCOMES.fullmatch(output)
-    return found and found[2].count(b"\nBy") == int(found[1])
+    if not found or found[2].count(b"\nBy") != int(found[1]):
+        return False
+    numbers = list(map(int, (found[4] or b"").split()))
+    is_ascending = numbers == sorted(set(numbers)) and all(number <= int(found[1]) for number in numbers)
+    return is_ascending and len(numbers) == int(found[3] or 0)
 
 
 def is_told(command, given, done):
