@@ -6,7 +6,6 @@ it finds for the same test written by hand (hand/), as tools/compare says, in th
 import collections
 import json
 import os
-import sys
 import tempfile
 
 import answers
@@ -18,7 +17,7 @@ import shows
 import tso
 import verdicts
 from log_forms import IRIW, IRIW_LOG, OTHER_NAME, SHOWN
-from tool_runs import TESTS, TOOLS, described, stand_in, tool, write
+from tool_runs import TESTS, described, stand_in, tool, write
 from scripts import script
 
 FOLDER = os.path.join(TESTS, "data", "imports")
@@ -87,49 +86,35 @@ def judge_names(program, tally, room):
 
 def judge_shown(program, tally, room):
     """`Show=..` is handed to a program that knows --show, and to no other one."""
-    asked = os.path.join(room, "asked")
-    knows = stand_in(os.path.join(room, "knows"), program, """case "$*" in *--help*) echo '  --show'; exit 2 ;; esac
-echo "$*" >> '%s'
-set -- outcomes --json""" % asked)
+    asked, note = os.path.join(room, "asked"), """case "$*" in *--help*) %s ;; *) echo "$*" >> '%s' ;; esac"""
+    knows = stand_in(os.path.join(room, "knows"), program, note % ("true", asked))
+    older = stand_in(os.path.join(room, "older"), program, note % ("'%s' \"$@\" 2>&1 | grep -v -e --show; exit 2" % program, asked))
     for name, text, words in SHOWN:
-        write(asked, "")
-        for one in (knows, program):
-            test = importer.Importer(text).test().text()
+        test = importer.Importer(text).test().text()
+        for one, due in ((knows, words), (older, "outcomes --json\n")):
+            write(asked, "")
             found = answers.outcomes(one, test, shows.words_of_show(one, test), 60)
             tally.add(name, None if "states" in found else str(found))
-        tally.add(name, None if content(asked) == words else content(asked))
+            tally.add(name, None if content(asked) == due else content(asked))
 
 
-# A program that knows --show: it answers by the plain search of all runs.
-SHOWS_MORE = """#!%s
-import json, sys
-sys.path[:0] = %r
-import flat_machine, litmus
-if "--help" in sys.argv:
-    sys.exit("  --show")
-text = sys.stdin.read()
-test = litmus.read_test(text)
-test.facts = ["Show=" + sys.argv[sys.argv.index("--show") + 1]] if "--show" in sys.argv else []
-named = [(litmus.place_text(place), place) for place in litmus.shown(test)]
-found = {tuple(dict(end).get(name, 0) for name, _ in named) for end in flat_machine.final_states(flat_machine.Test(text), 32)}
-true = sum(litmus.holds(test.condition[1], dict(zip([place for _, place in named], values))) for values in found)
-states = [{"choices": "", "values": dict(zip([name for name, _ in named], values))} for values in found]
-observation = {"true": true, "false": len(found) - true, "word": "Sometimes"}
-print(json.dumps({"depth": 32, "observation": observation, "states": states, "test": test.name}))
-"""
-
-
-def judge_more_shown(tally, room):
-    """Where a program shows more than the condition's values, theory and the processor are held against these too."""
-    knows = write(os.path.join(room, "knows"), SHOWS_MORE % (sys.executable, [TESTS, TOOLS]))
-    os.chmod(knows, 0o755)
+def judge_more_shown(program, tally, room):
+    """Of all that a file asks to show the program has what herd's log has, and theory and the processor are held against it."""
+    file, log = write(os.path.join(room, "iriw.litmus"), IRIW), write(os.path.join(room, "herd"), IRIW_LOG)
+    test = importer.Importer(IRIW).test().text()
+    found = write(os.path.join(room, "found"), tso.call(["outcomes", *shows.words_of_show(program, test)], test, program, 60)[0])
+    done = tool("compare", found, log, "--tests", file)
+    same = (done.returncode, done.stdout) == (0, "1 tests in both logs, 0 differences\n")
+    tally.add("IRIW with all that herd shows", None if same else described(done))
     file = write(os.path.join(room, "SB.litmus"), OTHER_NAME.replace("exists", "locations [x; y;]\nexists"))
-    done = tool("campaign", "outcomes", knows, "--theory", "--json", "--results", os.path.join(room, "results"), file)
-    row = json.loads(done.stdout) if done.returncode == 0 else {"judged": described(done), "states": [{}]}
     places = ["0:R8", "1:EAX", "x", "y"]
-    tally.add("a campaign of all that is shown", None if (row["judged"], sorted(row["states"][0])) == ("same", places) else str(row))
+    for command, words in (("outcomes", ["--theory"]), ("why", [])):
+        done = tool("campaign", command, program, *words, "--json", "--results", os.path.join(room, command), file)
+        row = json.loads(done.stdout) if done.returncode == 0 else {"judged": described(done), "states": [{}]}
+        same = (row["judged"], sorted(row["states"][0])) == ("same", places)
+        tally.add("a campaign of %s that shows all" % command, None if same else str(row))
     if hardware_runs.why_not() is None:
-        done = tool("hardware", "--program", knows, "--seconds", "0.2", file)
+        done = tool("hardware", "--program", program, "--seconds", "0.2", file)
         tally.add("all that is shown, on the processor", None if done.returncode == 0 and " x=1 y=1\n" in done.stdout else described(done))
 
 
@@ -157,9 +142,8 @@ def judge_targets(tally, room):
 
 def judge(program, tally):
     judge_refused(tally)
-    for part in (judge_read, judge_names, judge_shown):
+    for part in (judge_read, judge_names, judge_shown, judge_more_shown):
         with tempfile.TemporaryDirectory() as room:
             part(program, tally, room)
-    for part in (judge_more_shown, judge_targets):
-        with tempfile.TemporaryDirectory() as room:
-            part(tally, room)
+    with tempfile.TemporaryDirectory() as room:
+        judge_targets(tally, room)

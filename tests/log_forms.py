@@ -79,6 +79,8 @@ By 1s 1s 1d 0s 0s 0d
 State 0:EAX=1 1:EAX=1 against=yes
 By 0s 0d 1s 1d 0s 1s
 Observation SB Sometimes 1 3
+True 1
+Verdict Ok
 """
 
 # Each: a name, whether the first is to be within the second, the two logs, the lines that are printed, and the status.
@@ -136,10 +138,13 @@ Outcomes depth=32 states=2
 State 0:EAX=0 x[0]=1 x[1]=3
 State 0:EAX=4294967295 x[0]=1 x[1]=2
 Observation A Sometimes 1 1
+True 2
+Verdict Ok
 """
 
-JSON_ANSWER = '{"depth":32,"observation":{"false":3,"true":1,"word":"Sometimes"},"states":[%s],"test":"SB"}\n' % ",".join(
-    '{"choices":"0s","values":{"0:EAX":%d,"1:EAX":%d}}' % (first, second) for first in (0, 1) for second in (0, 1))
+JSON_ANSWER = '{"depth":32,"observation":{"false":3,"true":1,"word":"Sometimes"},"states":[%s],"test":"SB","verdict":"Ok"}\n' % ",".join(
+    '{"choices":"0s","holds":%s,"values":{"0:EAX":%d,"1:EAX":%d}}' % ("false" if first or second else "true", first, second)
+    for first in (0, 1) for second in (0, 1))
 
 BOTH, ALL = "1 tests in both logs, %d differences", "1 tests in all logs, %d differences"
 

@@ -1,6 +1,7 @@
 """The module tso, tools/tso, for tests/batteries.py: its answers are what the program prints, and what is no answer is an exception."""
 import json
 import os
+import re
 import subprocess
 import sys
 import tempfile
@@ -46,8 +47,11 @@ def judge_json(program, tally):
     for name, text in list(gallery())[::EVERY]:
         alone = text.split("\n====")[0]
         asked = alone + "\n====\n" + CHOICES
+        bare = re.sub(r"^(?:~?exists|forall)\b.*\Z", "", alone, flags=re.M | re.S)
         for function, answer, words, given in (
                 ("outcomes", tso.outcomes(text, program=program), ["outcomes"], alone),
+                ("outcomes, all", tso.outcomes(text, show="all", program=program), ["outcomes", "--show", "all"], alone),
+                ("outcomes, none asked", tso.outcomes(bare, show="registers", program=program), ["outcomes", "--show", "registers"], bare),
                 ("run", tso.run(text, CHOICES, bus="split", depth=2, program=program), ["run", "--bus", "split", "--depth", "2"], asked),
                 ("trace", tso.trace(litmus.read_test(text), CHOICES, program=program), ["trace"], asked)):
             said = json.loads(printed(program, words + ["--json"], given))

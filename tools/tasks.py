@@ -14,8 +14,8 @@ DEPTH_OF_MODEL = {"tso": 32, "sc": 0}
 
 
 class Task:
-    """What is asked of the program at once. Its key is a digest of all that its answer depends on. `words` name its row too, `show`
-    doesn't."""
+    """What is asked of the program at once. Its key is a digest of all that its answer depends on. `words` name its row too; `show`, the
+    words by which states show what the test asks for, doesn't."""
 
     def __init__(self, digest, command, text, words, limit, seeds=None, show=()):
         self.command, self.text, self.words, self.limit, self.seeds, self.show = command, text, words, limit, seeds, list(show)
@@ -38,7 +38,7 @@ class Task:
         if "fault" in found:
             return found
         depth = DEPTH_OF_MODEL[self.words[self.words.index("--model") + 1]]
-        beside = answers.outcomes(program, self.text, ["--depth", str(depth)], self.limit)
+        beside = answers.outcomes(program, self.text, ["--depth", str(depth)] + self.show, self.limit)
         return dict(found, **{name: beside[name] for name in ("states", "true", "false") if name in beside})
 
 
@@ -61,12 +61,12 @@ def plan_outcomes(digest, texts, depths, states, limit, show):
     return tasks, rows
 
 
-def plan_why(digest, texts, models, cases, limit):
-    """Tasks by key, and rows: each test by each model."""
+def plan_why(digest, texts, models, cases, limit, show):
+    """Tasks by key, and rows: each test by each model. `show` says of a text which words show what it asks for."""
     tasks, rows = {}, []
     for text, model in itertools.product(texts, models):
         words = ["--model", model] + (["--cases", str(cases)] if cases else [])
-        task = Task(digest, "why", text, words, limit)
+        task = Task(digest, "why", text, words, limit, show=show(text))
         tasks[task.key] = task
         rows.append(Row(text, words, DEPTH_OF_MODEL[model], [task.key]))
     return tasks, rows

@@ -6,7 +6,7 @@
     print(found.observation.word, [state.values for state in found.states])
 
 A test is its text, or an object whose method `text` gives that. What stands behind a line ==== in it is read by commands that read
-choices or an order, where these aren't given. Options are the command's own, with their defaults: `depth=1`, `protocol="mesi"`.
+choices or an order, where these aren't given. Options are the command's own, with their defaults: `depth=1`, `show="all"`.
 Members of answers have the names of docs/schemas/, but for `from`, which is `from_` here. Texts are ASCII.
 
 Each function takes `program`, a path or a command's name (else `find()` says which), `limit`, after how many seconds it gives up, and
@@ -168,7 +168,8 @@ def trace(test, choices=None, **options):
 
 
 def outcomes(test, **options):
-    """All final states that a test can reach: of TSO, or at the depth that is given."""
+    """All final states that a test can reach: of TSO, or at the depth that is given. They show what the condition names; with `show` also
+    each register that is written (registers), and all locations (all)."""
     return answer("outcomes", text_of(test), options, Outcomes)
 
 

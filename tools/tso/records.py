@@ -16,20 +16,24 @@ class Observation:
 
 @dataclasses.dataclass(frozen=True)
 class State:
-    """A final state: values by places, as 0:EAX and x, and choices that lead there."""
+    """A final state: values by places, as 0:EAX and x; choices that lead there; and whether the condition's proposition holds in it, None
+    without a condition."""
 
     values: dict[Place, Word]
     choices: str
+    holds: typing.Optional[bool] = None
 
 
 @dataclasses.dataclass(frozen=True)
 class Outcomes:
-    """All final states at a depth of the buffers. Without a condition there is no observation."""
+    """All final states at a depth of the buffers. The verdict, Ok or No, says whether it is as the condition claims. Without a condition
+    there is neither observation nor verdict."""
 
     test: str
     depth: int
     states: list[State]
     observation: typing.Optional[Observation]
+    verdict: typing.Optional[str] = None
 
 
 @dataclasses.dataclass(frozen=True)
