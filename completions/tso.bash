@@ -5,8 +5,8 @@ _tso_options() {
     run) echo --protocol --depth --sets --ways --words --bus --json --help ;;
     trace) echo --protocol --depth --sets --ways --words --bus --json --help ;;
     sweep) echo --protocol --depth --sets --ways --words --bus --from --seeds --length --help ;;
-    outcomes) echo --depth --states --json --help ;;
-    why) echo --model --cases --json --help ;;
+    outcomes) echo --depth --states --show --assert --json --help ;;
+    why) echo --model --cases --assert --json --help ;;
     check) echo --help ;;
     witness) echo --depth --help ;;
     tables) echo --protocol --help ;;
@@ -21,6 +21,7 @@ _tso_values() {
     --bus) echo atomic split ;;
     --words) echo 1 2 4 ;;
     --model) echo tso sc ;;
+    --show) echo condition registers all ;;
     --depth | --sets | --ways | --from | --seeds | --length | --states | --cases) echo ;;
     *) return 1 ;;
   esac

@@ -53,11 +53,14 @@ complete -c tso -f -n "__fish_seen_subcommand_from sweep" -l help
 
 complete -c tso -f -n "__fish_seen_subcommand_from outcomes" -l depth -x
 complete -c tso -f -n "__fish_seen_subcommand_from outcomes" -l states -x
+complete -c tso -f -n "__fish_seen_subcommand_from outcomes" -l show -x -a "condition registers all"
+complete -c tso -f -n "__fish_seen_subcommand_from outcomes" -l assert
 complete -c tso -f -n "__fish_seen_subcommand_from outcomes" -l json
 complete -c tso -f -n "__fish_seen_subcommand_from outcomes" -l help
 
 complete -c tso -f -n "__fish_seen_subcommand_from why" -l model -x -a "tso sc"
 complete -c tso -f -n "__fish_seen_subcommand_from why" -l cases -x
+complete -c tso -f -n "__fish_seen_subcommand_from why" -l assert
 complete -c tso -f -n "__fish_seen_subcommand_from why" -l json
 complete -c tso -f -n "__fish_seen_subcommand_from why" -l help
 
