@@ -10,8 +10,8 @@ forbids it. NAME.order stands beside a forbidden one: the same test, and an orde
 against them are
 
 - the page, and the form of each file;
-- `outcomes`: TSO at depth 32, SC at depth 0, and Depth, from which on the outcome is there and at one less isn't; an allowed one
-  with choices under which `run` has it;
+- `outcomes`: TSO at depth 32, SC at depth 0, and Depth, from which on the outcome is there and at one less isn't, by its words and its
+  verdicts; the states that its line `True` names, one or more of an allowed one, with choices under which `run` has the outcome;
 - `why`: the same verdicts of TSO and SC; a forbidden one has a cycle, which the page shows;
 - a plain reference, flat_machine.py, which explores all runs: the same verdicts;
 - of an allowed one: `run` at that depth has the outcome, no choice stalled and none left over; `witness` finds
@@ -76,9 +76,9 @@ Its **picture** is this run, drawn by `view/index.html`: which stores waited, wh
 After the `#` of its address stands what `./tso run --depth 1 --json` prints. The page draws the runs of all other tests and
 choices as well.
 
-**Forbidden** means that no run ends in it: `./tso outcomes` prints `Never` of it, which is a proof. `NAME.order` is an order that would show it, and `check` names the first axiom
-that this order breaks: C3, program order, where two entries of a core stand against it; C4, adjacent, where a locked instruction
-is in two parts; C5, read value, where a load has another value than is due.
+**Forbidden** means that no run ends in it: `./tso outcomes` prints `Never` of it, which is a proof. `NAME.order` is an order that would
+show it, and `check` names the first axiom that this order breaks: C3, program order, where two entries of a core stand against it; C4,
+adjacent, where a locked instruction is in two parts; C5, read value, where a load has another value than is due.
 
     ./tso check < examples/gallery/MP.order
 
@@ -96,8 +96,9 @@ Nor does one refused order: it shows that this order isn't an execution. The **v
 
     ./tso outcomes < examples/gallery/MP.litmus
 
-which prints all final states that TSO allows, and with `--depth 0` all that sequential consistency allows. `tests/gallery.py PROGRAM`
-holds every row against it, against the program's runs, and against a plain program that explores all runs of a machine of its own.
+which prints all final states that TSO allows, and with `--depth 0` all that sequential consistency allows. Its last line is `Verdict Ok`
+where the outcome is allowed, and `Verdict No` where it is forbidden. `tests/gallery.py PROGRAM` holds every row against it, against the
+program's runs, and against a plain program that explores all runs of a machine of its own.
 """
 
 CYCLES = """## The cycles of those that are forbidden
@@ -278,23 +279,33 @@ def faults_of_verdicts(piece):
     return [] if said == found else ["it says %s, and the reference finds %s" % (said, found)]
 
 
+FOUND = re.compile(r"^Observation .+ (Never|Sometimes|Always) (\d+) \d+\nTrue((?: \d+)*)\nVerdict (Ok|No)\n\Z", re.MULTILINE)
+
+
 def searched(program, piece, depth):
-    """What `outcomes` says of the condition at this depth: its word, and the choices of each state."""
+    """What `outcomes` says of the condition at this depth: whether it is so of some state, allowed or forbidden; and the choices of each
+    state that its line `True` names."""
     status, text = answer(program, ["outcomes", "--depth", str(depth)], piece.text)
-    found = re.search(r"^Observation .+ (Never|Sometimes|Always) \d+ \d+$", text, re.MULTILINE)
-    return found.group(1) if status == ENDED and found else text, re.findall(r"^By ?(.*)$", text, re.MULTILINE)
+    found, ways = FOUND.search(text), re.findall(r"^By ?(.*)$", text, re.MULTILINE)
+    if status != ENDED or found is None:
+        return text, []
+    word, count, numbers, verdict = found.groups()
+    agree = (word != "Never") == (verdict == "Ok") and len(numbers.split()) == int(count)
+    return {"Ok": "allowed", "No": "forbidden"}[verdict] if agree else text, [ways[int(number) - 1] for number in numbers.split()]
 
 
 def faults_of_outcomes(program, piece):
-    said = [searched(program, piece, depth)[0] != "Never" for depth in (32, 0)]
-    faults = differs("TSO and SC by outcomes", said, [piece.allowed, piece.facts["SC"] == "allowed"])
+    said = [searched(program, piece, depth)[0] for depth in (32, 0)]
+    faults = differs("TSO and SC by outcomes", said, [piece.facts["TSO"], piece.facts["SC"]])
     if not piece.allowed:
         return faults
     depth = int(piece.facts["Depth"])
     if depth > 1:
-        faults += differs("outcomes at one less", searched(program, piece, depth - 1)[0], "Never")
-    reports = (answer(program, ["run", "--depth", str(depth)], piece.before(way))[1] for way in searched(program, piece, depth)[1])
-    return faults + ([] if any("Condition exists true\n" in report for report in reports) else ["no choices of outcomes show it"])
+        faults += differs("outcomes at one less", searched(program, piece, depth - 1)[0], "forbidden")
+    ways = searched(program, piece, depth)[1]
+    reports = [answer(program, ["run", "--depth", str(depth)], piece.before(way))[1] for way in ways]
+    all_show = reports and all("Condition exists true\n" in report for report in reports)
+    return faults + ([] if all_show else ["the choices of outcomes don't show it"])
 
 
 def answer(program, words, text):

@@ -12,6 +12,7 @@ disjunctions, and without a condition, of x86-TSO and of sequential consistency:
 - of an execution the choices lead there, by `run` and by a machine in Python, its candidate is allowed by the relational model, what
   is asked is so, and it is printed as its definition has it;
 - `--json` says the same;
+- with `--assert` the answer is the same, and its status 4 where the condition isn't as it claims;
 - what is asked can be so where `outcomes` has a state in which it is, at depth 32 or 0, and where tools/theory allows it.
 
 The judge itself is tried: reasons with one slip are refused. Great tests are 8 cores of 8 instructions, 4 of 16 and 8 of 32 on four
@@ -80,6 +81,14 @@ def faults_of_run(program, given, model, answer):
     return []
 
 
+def faults_of_assertion(program, test, given, model, answer):
+    """How `--assert` does something else than turn the status into 4 where the condition isn't as it claims."""
+    is_so = test.proposition is None or answer.is_allowed() == (test.quantifier == "exists")
+    done, due = program.run(["why", "--assert", "--model", model], given), judging.ENDED if is_so else judging.INVALID
+    same = (done.returncode, done.stdout, done.stderr) == (due, answer.plain.stdout, answer.plain.stderr)
+    return [] if same else ["with --assert it has status %s, and not %d, or another answer" % (done.returncode, due)]
+
+
 class Outcomes:
     """The final states of a test by `outcomes`, for each model, of the places that its condition names."""
 
@@ -122,6 +131,7 @@ def faults_with(program, found, text, with_slips):
     for model in MODELS:
         answer = Answer(program, given, model)
         told = answer.faults(test, model)
+        told = told or faults_of_assertion(program, test, given, model, answer)
         if not told and answer.is_allowed() != found.can_be(test, model, given):
             told = ["outcomes doesn't say so"]
         if not told and answer.is_allowed():
