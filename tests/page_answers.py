@@ -65,9 +65,18 @@ class Asked(typing.NamedTuple):
     given: bytes
 
 
+# Options that the page's module isn't asked with: its states show what the condition names, and its answers tell a verdict by their text.
+LEFT_OUT = ("--show", "--assert")
+
+
+def is_of_page(words):
+    """Whether the module can be asked so."""
+    return not any(word.partition("=")[0] in LEFT_OUT for word in words)
+
+
 def asked_by_rows(folder=rows.FOLDER):
     """What the rows of a folder ask, each beginning of a text by itself."""
-    return [Asked(name, row.words, given) for name, row in rows.all_rows(folder=folder).items()
+    return [Asked(name, row.words, given) for name, row in rows.all_rows(folder=folder).items() if is_of_page(row.words)
             for given in [given for given, _ in row.beginnings()] or [row.given]]
 
 
@@ -81,9 +90,10 @@ def asked_by_rows_then(folder):
 
 
 def asked_at_random(count):
-    """So many inputs that are made at random, the same each time."""
+    """So many inputs that are made at random, the same each time; those that the module can be asked."""
     made = [made_inputs.made(SEED, number) for number in range(count)]
-    return [Asked("input %d of seed %d" % (number, SEED), each.words, each.given) for number, each in enumerate(made)]
+    return [Asked("input %d of seed %d" % (number, SEED), each.words, each.given) for number, each in enumerate(made)
+            if is_of_page(each.words)]
 
 
 def each_once(*lists):
@@ -132,7 +142,7 @@ def step_works(program, *lists):
 def groups_that_stand(program, count):
     """The rows but those of the command line itself, made inputs and last steps, for a module of the sources that stand."""
     made = asked_at_random(count)
-    return [("rows", run_rows.works(judging.Program(program), lambda row: row.status != judging.BAD_LINE)),
+    return [("rows", run_rows.works(judging.Program(program), lambda row: row.status != judging.BAD_LINE and is_of_page(row.words))),
             ("made inputs", works_of(faults_of_answer, program, made)),
             ("last steps", step_works(program, asked_by_rows(), made))]
 
