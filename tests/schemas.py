@@ -21,8 +21,9 @@ sys.dont_write_bytecode = True
 import judging
 import rows
 
-# The commands that print JSON, each with its schema.
+# The commands that print JSON, each with its schema; and the command lines that the examples and the gallery are asked with.
 COMMANDS = ("run", "trace", "outcomes", "why")
+LINES = COMMANDS + ("outcomes --show all",)
 
 MOST_PLACES = 300
 NOTES = {"$schema", "$defs", "title", "description"}
@@ -193,10 +194,10 @@ def answers(program):
         if "--json" in row.words and row.output.startswith(b"{"):
             yield name, row.words[0], row.output
     for name, given in judging.all_inputs():
-        for command in COMMANDS:
-            done = judging.run(program, [command, "--json"], given)
+        for command, *words in map(str.split, LINES):
+            done = judging.run(program, [command, "--json", *words], given)
             if done.stdout.startswith(b"{"):
-                yield name, command, done.stdout
+                yield " ".join([name, *words]), command, done.stdout
 
 
 def faults_of(schema, line, is_long):
@@ -213,7 +214,7 @@ def main():
     schemas = {name: Schema(os.path.join(judging.TOP, "docs", "schemas", name + ".json")) for name in COMMANDS}
     tally = judging.Tally()
     for name, command, line in answers(program):
-        is_long = command == "trace" and name.endswith(".litmus")
+        is_long = command == "trace" and ".litmus" in name
         tally.add(command, [(name, faults_of(schemas[command], line, is_long))])
     return tally.end()
 
