@@ -121,7 +121,7 @@ struct Owned {
     owners: &'static str,
 }
 
-static OPTIONS: [Owned; 7] = [
+static OPTIONS: [Owned; 8] = [
     Owned {
         options: &["--protocol"],
         commands: &["run", "trace", "sweep", "tables"],
@@ -143,7 +143,7 @@ static OPTIONS: [Owned; 7] = [
         owners: "sweep",
     },
     Owned {
-        options: &["--states"],
+        options: &["--states", "--show"],
         commands: &["outcomes"],
         owners: "outcomes",
     },
@@ -156,6 +156,11 @@ static OPTIONS: [Owned; 7] = [
         options: &["--json"],
         commands: &["run", "trace", "outcomes", "why"],
         owners: "run, trace, outcomes and why",
+    },
+    Owned {
+        options: &["--assert"],
+        commands: &["outcomes", "why"],
+        owners: "outcomes and why",
     },
 ];
 
@@ -181,5 +186,6 @@ fn is_exactly_one_of(words: &[&str], word: &[u8]) -> bool {
 /// Whether the next word is an option's value.
 fn takes_value(word: &str) -> bool {
     let bytes = word.as_bytes();
-    bytes.starts_with(b"--") && !bytes.contains(&b'=') && word != "--json"
+    let is_flag = word == "--json" || word == "--assert";
+    bytes.starts_with(b"--") && !bytes.contains(&b'=') && !is_flag
 }
