@@ -77,6 +77,13 @@ pub enum Cause {
         first: usize,
         length: usize,
     },
+    /// The test lists a register or a location that its states leave out: its name there is so many bytes of
+    /// the input, after so many others.
+    LeftOut {
+        first: usize,
+        length: usize,
+        is_register: bool,
+    },
     /// A search ended at its limit.
     TooManyStates(SearchEnd),
     /// A search for a reason may tell no more than so many cases apart.

@@ -7,6 +7,7 @@ ghost use Rattle.hints.specs.Hint.{IsHint};
 use crate::cause::Cause;
 use crate::choices::{choice_words, too_many_steps};
 use crate::faults::test_words;
+use crate::listed::left_out;
 use crate::orders::order_words;
 use crate::place::Place;
 use crate::printing::{Where, hint};
@@ -79,6 +80,14 @@ fn words_of<'a>(
         Cause::UnusedLocation { first, length } => {
             let (first, length) = (*first, *length);
             Ok(unused(input, NamedAt { first, length }))
+        }
+        Cause::LeftOut {
+            first,
+            length,
+            is_register,
+        } => {
+            let (first, length) = (*first, *length);
+            Ok(left_out(input, NamedAt { first, length }, *is_register))
         }
         Cause::TooManyStates(end) => Ok((Where::Input, search_ends(end))),
         Cause::TooManyCases { most } => Ok((Where::Input, cases_end(*most))),

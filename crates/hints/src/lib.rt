@@ -15,6 +15,7 @@ mod faults;
 mod hinting;
 mod instructions;
 mod lines;
+mod listed;
 mod numbers;
 mod openings;
 mod operands;
@@ -35,6 +36,7 @@ mod words;
 pub use cause::Cause;
 pub use hinting::hint_of;
 pub use lines::line_hint;
+pub use listed::{Listed, ListedName, listed_in};
 pub use printing::{MAX_HINT, limits_are_as_defined};
 pub use reader::Reader;
 pub use search_end::{

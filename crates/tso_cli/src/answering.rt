@@ -8,6 +8,7 @@ ghost use Rattle.command_line.specs.Limits.{HasDepth};
 
 use crate::hinting::may_mislead;
 use crate::laws::answers_meet_the_headline;
+use crate::listing::left_out;
 use command_line::Settings;
 use commands::{
     Answer, Status, check_answer, outcomes_answer, parts_of, refused_input, refused_test,
@@ -118,7 +119,7 @@ fn told_answer<S: Watcher>(
 }
 
 /// What is to be told of an answer of this status before all else, where it may mislead: that nothing but the test's
-/// condition names a location.
+/// condition names a location; or that its states leave out what the test lists.
 fn warning_of(
     alloc: Global,
     settings: &Settings,
@@ -128,8 +129,24 @@ fn warning_of(
 ) -> Result<Option<Cause>, NoMemory> {
     match status {
         Status::Good | Status::NotAsClaimed if may_mislead(settings) => {
-            Cause::of_unused_location(alloc, test, spelling)
+            match Cause::of_unused_location(alloc, test, spelling)? {
+                Some(cause) => Ok(Some(cause)),
+                None => left_out_of(alloc, settings, test, spelling),
+            }
         }
+        _ => Ok(None),
+    }
+}
+
+/// What the states of an answer leave out that the test lists; of other commands than `outcomes` nothing.
+fn left_out_of(
+    alloc: Global,
+    settings: &Settings,
+    test: &Test,
+    spelling: &[u8],
+) -> Result<Option<Cause>, NoMemory> {
+    match settings {
+        Settings::Outcomes { search, .. } => left_out(alloc, test, spelling, search.show()),
         _ => Ok(None),
     }
 }

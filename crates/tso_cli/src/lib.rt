@@ -7,6 +7,7 @@ pub mod command;
 pub mod headline_laws;
 pub mod hinting;
 pub mod laws;
+mod listing;
 pub mod machine_laws;
 mod stepping;
 
