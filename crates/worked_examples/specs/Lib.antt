@@ -2,6 +2,7 @@ pub mod Written
 pub mod EightInstructions
 pub mod SmallPrograms
 pub mod ReachableStates
+pub mod PrintedOutcomes
 pub mod SharedBus
 pub mod TableRows
 pub mod LinesInSets
