@@ -29,7 +29,7 @@ IsToldOfGood false text = text ≡ []
 
 -- whether the command searches for final states
 abbrev pub is_searched : Settings → Bool
-is_searched (settings.Outcomes search json) = true
+is_searched (settings.Outcomes search json assert) = true
 is_searched _ = false
 
 -- a hint, and after it nothing or a line that says choices
