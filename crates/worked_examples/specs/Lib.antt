@@ -7,4 +7,5 @@ pub mod SharedBus
 pub mod TableRows
 pub mod LinesInSets
 pub mod WriteHits
+pub mod PrintedTraces
 pub mod inner

@@ -19,6 +19,7 @@ pub mod sets;
 pub mod split_outcomes;
 pub mod tables;
 pub mod threads;
+pub mod traces;
 pub mod write_in_place;
 
 pub use accesses::{worked_accesses, worked_needs};
@@ -39,4 +40,5 @@ pub use tables::{
     worked_kinds, worked_mesi, worked_moesi, worked_mosi, worked_msi, worked_transients,
 };
 pub use threads::{worked_actions, worked_run, worked_thread};
+pub use traces::worked_traces;
 pub use write_in_place::worked_write_hits;
