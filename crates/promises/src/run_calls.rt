@@ -1,6 +1,6 @@
 //! Clauses of single calls about runs, each said again of one call.
 
-ghost use Rattle.std.specs.Prelude.{◌-◌, ◌<◌, ◌^◌, ◌≡◌, ◌≤◌, All, IfErr, IfOk, IsTrue, None, OnErr, OnOk, is_some, length, string_bytes};
+ghost use Rattle.std.specs.Prelude.{◌-◌, ◌<◌, ◌^◌, ◌≡◌, ◌≤◌, ◌⊎◌, All, IfErr, IfOk, IsTrue, None, OnErr, OnOk, is_some, length, string_bytes};
 ghost use Rattle.command_line.specs.Limits.{HasDepth, IsWithinLimits};
 ghost use Rattle.explorer.specs.FinalStates.{AreReached, HasMoreStates, HaveEveryEnd};
 ghost use Rattle.explorer.specs.declared.fault.ExploreFault.{ExploreFault};
@@ -57,6 +57,13 @@ pub fn ways_are_within_limits(config: &Config) -> u8
     ensures within { (1 ≤ result) × (result ≤ 8) }
 {
     config.ways()
+}
+
+/// A line of a configuration has 1, 2 or 4 words.
+pub fn words_of_a_line_are_within_limits(config: &Config) -> u8
+    ensures within { (result ≡ 1) ⊎ (result ≡ 2) ⊎ (result ≡ 4) }
+{
+    config.words()
 }
 
 /// The text of a table is the stated one, and its rows are what the protocol's functions answer.
