@@ -1,7 +1,7 @@
 //! A branch of the search: the answers on it, what follows from them, and a trail by which it is undone.
 
 use crate::problem::{Problem, Relations, location, reads, writes};
-use crate::rows::{NONE, add, at, clear, has, put, put_word, row, word};
+use crate::rows::{NONE, add, at, clear, has, join, join_own, put, put_word, row, word};
 use std::alloc::Global;
 use tso_model::NoMemory;
 
@@ -51,8 +51,8 @@ pub enum Conflict {
     Cycle(Edge),
     /// The read has no source left.
     NoSource(usize),
-    /// What is asked is false by the values that are known.
-    False,
+    /// What is asked is false by the values of this read, or of this location at the end.
+    False(usize),
 }
 
 /// Where a branch stood.
@@ -64,6 +64,25 @@ pub struct Mark {
     pub removed: usize,
     pub values: usize,
     pub excluded: usize,
+    pub next: usize,
+}
+
+/// What the facts say, to be looked up by event or by two of them.
+#[derive(Drop)]
+pub struct Tables {
+    /// The last edge that leaves an event.
+    pub heads: Vec<usize>,
+    /// The fact that says what a read reads from.
+    pub source: Vec<usize>,
+    /// The locked read that reads a write.
+    pub reader: Vec<usize>,
+    /// The values that reads return, and locations have at the end, wherever what is asked is so.
+    pub values: Vec<u64>,
+    /// The fact that says that one write is before another.
+    pub pairs: Vec<usize>,
+    /// How many facts and edges there were when a source was taken from a read.
+    pub removed_facts: Vec<usize>,
+    pub removed_edges: Vec<usize>,
 }
 
 /// A branch.
@@ -71,32 +90,25 @@ pub struct Mark {
 pub struct Branch {
     /// Rows of what is after each event and before it, in each of the relations; then the sources that each read may still have.
     pub rows: Vec<u64>,
-    trail: Vec<usize>,
-    trail_words: Vec<u64>,
+    /// Places of rows, with the words that stood there before.
+    trail: Vec<(usize, u64)>,
     trail_length: usize,
     pub facts: Vec<Fact>,
     pub edges: Vec<Edge>,
-    pub heads: Vec<usize>,
-    /// The fact that says what a read reads from.
-    pub source: Vec<usize>,
-    /// The fact that says that one write is before another.
-    pub pairs: Vec<usize>,
-    /// The locked read that reads a write.
-    pub reader: Vec<usize>,
-    /// How many facts and edges there were when a source was taken from a read.
-    pub removed_facts: Vec<usize>,
-    pub removed_edges: Vec<usize>,
+    pub tables: Tables,
     pub removed: Vec<usize>,
-    /// The value that a read returns; then those that reads have to return, or locations have to have at the end.
-    pub values: Vec<u64>,
     pub valued: Vec<usize>,
     /// Values that a read must not return.
     pub excluded: Vec<(usize, u32)>,
     pub dirty: Vec<u64>,
     pub claim_is_dirty: bool,
     pub conflict: Conflict,
-    /// How much is kept at most; where there is more, the search gives up.
+    /// A read that is asked next, since values that hang on it can't be; `NONE` where there is none. A source makes all be looked at again.
+    pub next: usize,
+    /// More would have to be kept than there is room for: the search gives up.
     pub is_full: bool,
+    /// Memory was refused: the search ends.
+    pub is_refused: bool,
 }
 
 fn relations_index(relations: Relations) -> usize {
@@ -155,27 +167,24 @@ pub fn cell(problem: &Problem, a: usize, b: usize) -> usize {
 fn close_over(problem: &Problem, branch: &mut Branch, relations: Relations, edges: &[u64]) {
     let width = problem.width;
     for a in 0..problem.size {
-        for k in 0..width {
-            let bits = word(edges, row(a, width).wrapping_add(k));
-            put_word(
-                &mut branch.rows,
-                after(problem, relations, a).wrapping_add(k),
-                bits,
-            );
-        }
+        join(
+            &mut branch.rows,
+            after(problem, relations, a),
+            edges,
+            row(a, width),
+            width,
+        );
     }
     for middle in 0..problem.size {
+        let reached = after(problem, relations, middle);
         for a in 0..problem.size {
             if is_known(problem, branch, relations, a, middle) {
-                for k in 0..width {
-                    let place = after(problem, relations, a).wrapping_add(k);
-                    let bits = word(&branch.rows, place)
-                        | word(
-                            &branch.rows,
-                            after(problem, relations, middle).wrapping_add(k),
-                        );
-                    put_word(&mut branch.rows, place, bits);
-                }
+                join_own(
+                    &mut branch.rows,
+                    after(problem, relations, a),
+                    reached,
+                    width,
+                );
             }
         }
     }
@@ -193,15 +202,16 @@ fn fill_candidates(problem: &Problem, branch: &mut Branch) {
     for r in problem.locations..problem.size {
         let loc = location(problem, r);
         if reads(problem, r) {
-            for k in 0..problem.width {
-                let bits = word(&problem.writes_to, row(loc, problem.width).wrapping_add(k));
-                put_word(
-                    &mut branch.rows,
-                    candidates(problem, r).wrapping_add(k),
-                    bits,
-                );
-            }
-            add(&mut branch.rows, candidates(problem, r), loc);
+            let start = candidates(problem, r);
+            let them = row(loc, problem.width);
+            join(
+                &mut branch.rows,
+                start,
+                &problem.writes_to,
+                them,
+                problem.width,
+            );
+            add(&mut branch.rows, start, loc);
         }
     }
 }
@@ -232,46 +242,53 @@ pub fn look_at_all(problem: &Problem, branch: &mut Branch) {
     branch.claim_is_dirty = true;
 }
 
+fn make_tables(alloc: Global, problem: &Problem) -> Result<Tables, NoMemory> {
+    let size = problem.size;
+    let cells = cell(problem, size, 0);
+    Ok(Tables {
+        heads: vec![in alloc; NONE; size.wrapping_mul(3)]?,
+        source: vec![in alloc; NONE; size]?,
+        reader: vec![in alloc; NONE; size]?,
+        values: vec![in alloc; UNKNOWN; size]?,
+        pairs: vec![in alloc; NONE; cells]?,
+        removed_facts: vec![in alloc; NONE; cells]?,
+        removed_edges: vec![in alloc; NONE; cells]?,
+    })
+}
+
+/// Notes what the program alone tells.
+fn start(problem: &Problem, branch: &mut Branch) {
+    close_over(problem, branch, Relations::OnLocation, &problem.on_location);
+    close_over(problem, branch, Relations::Global, &problem.global);
+    fill_initial_order(problem, branch);
+    fill_candidates(problem, branch);
+    look_at_all(problem, branch);
+}
+
 /// A branch with no answer.
 ///
 /// Errors: out of memory only.
 pub fn make_branch(alloc: Global, problem: &Problem) -> Result<Branch, NoMemory> {
-    let size = problem.size;
-    let cells = cell(problem, size, 0);
-    let most = row(size.wrapping_mul(7), problem.width);
-    let trail_size = cells.wrapping_mul(2).wrapping_add(1024);
+    let cells = cell(problem, problem.size, 0);
+    let most = row(problem.size.wrapping_mul(7), problem.width);
     let mut branch = Branch {
+        tables: make_tables(alloc, problem)?,
         rows: vec![in alloc; 0u64; most]?,
-        trail: vec![in alloc; 0usize; trail_size]?,
-        trail_words: vec![in alloc; 0u64; trail_size]?,
+        trail: vec![in alloc; (NONE, 0u64); cells.wrapping_mul(2).wrapping_add(1024)]?,
         trail_length: 0,
+        dirty: vec![in alloc; 0u64; problem.width]?,
         facts: Vec::new(alloc),
         edges: Vec::new(alloc),
-        heads: vec![in alloc; NONE; size.wrapping_mul(3)]?,
-        source: vec![in alloc; NONE; size]?,
-        pairs: vec![in alloc; NONE; cells]?,
-        reader: vec![in alloc; NONE; size]?,
-        removed_facts: vec![in alloc; NONE; cells]?,
-        removed_edges: vec![in alloc; NONE; cells]?,
         removed: Vec::new(alloc),
-        values: vec![in alloc; UNKNOWN; size.wrapping_mul(2)]?,
         valued: Vec::new(alloc),
         excluded: Vec::new(alloc),
-        dirty: vec![in alloc; 0u64; problem.width]?,
         claim_is_dirty: true,
         conflict: Conflict::Open,
+        next: NONE,
         is_full: false,
+        is_refused: false,
     };
-    close_over(
-        problem,
-        &mut branch,
-        Relations::OnLocation,
-        &problem.on_location,
-    );
-    close_over(problem, &mut branch, Relations::Global, &problem.global);
-    fill_initial_order(problem, &mut branch);
-    fill_candidates(problem, &mut branch);
-    look_at_all(problem, &mut branch);
+    start(problem, &mut branch);
     Ok(branch)
 }
 
@@ -284,15 +301,16 @@ pub fn mark_here(branch: &Branch) -> Mark {
         removed: branch.removed.len(),
         values: branch.valued.len(),
         excluded: branch.excluded.len(),
+        next: branch.next,
     }
 }
 
 fn undo_rows(branch: &mut Branch, mark: &Mark) {
     for _step in mark.trail..branch.trail_length {
         branch.trail_length = branch.trail_length.wrapping_sub(1);
-        let place = at(&branch.trail, branch.trail_length);
-        let bits = word(&branch.trail_words, branch.trail_length);
-        put_word(&mut branch.rows, place, bits);
+        if let Some((place, bits)) = branch.trail.get(branch.trail_length).copied() {
+            put_word(&mut branch.rows, place, bits);
+        }
     }
 }
 
@@ -300,7 +318,7 @@ fn undo_edges(problem: &Problem, branch: &mut Branch, mark: &Mark) {
     for _step in mark.edges..branch.edges.len() {
         if let Some(edge) = branch.edges.pop() {
             put(
-                &mut branch.heads,
+                &mut branch.tables.heads,
                 head(problem, edge.relations, edge.from),
                 edge.next,
             );
@@ -313,12 +331,12 @@ fn undo_facts(problem: &Problem, branch: &mut Branch, mark: &Mark) {
         if let Some(fact) = branch.facts.pop() {
             match fact.answer {
                 Answer::Source(r, w) => {
-                    put(&mut branch.source, r, NONE);
-                    if at(&branch.reader, w) == r {
-                        put(&mut branch.reader, w, NONE);
+                    put(&mut branch.tables.source, r, NONE);
+                    if at(&branch.tables.reader, w) == r {
+                        put(&mut branch.tables.reader, w, NONE);
                     }
                 }
-                Answer::Before(a, b) => put(&mut branch.pairs, cell(problem, a, b), NONE),
+                Answer::Before(a, b) => put(&mut branch.tables.pairs, cell(problem, a, b), NONE),
             }
         }
     }
@@ -327,12 +345,12 @@ fn undo_facts(problem: &Problem, branch: &mut Branch, mark: &Mark) {
 fn undo_values(branch: &mut Branch, mark: &Mark) {
     for _step in mark.removed..branch.removed.len() {
         if let Some(place) = branch.removed.pop() {
-            put(&mut branch.removed_facts, place, NONE);
+            put(&mut branch.tables.removed_facts, place, NONE);
         }
     }
     for _step in mark.values..branch.valued.len() {
         if let Some(r) = branch.valued.pop() {
-            put_word(&mut branch.values, r, UNKNOWN);
+            put_word(&mut branch.tables.values, r, UNKNOWN);
         }
     }
     for _step in mark.excluded..branch.excluded.len() {
@@ -349,17 +367,19 @@ pub fn undo(problem: &Problem, branch: &mut Branch, mark: &Mark) {
     clear(&mut branch.dirty, 0, problem.width);
     branch.claim_is_dirty = false;
     branch.conflict = Conflict::Open;
+    branch.next = mark.next;
 }
 
 /// Writes a word of a row, so that it is undone later.
 pub fn change(branch: &mut Branch, place: usize, bits: u64) {
-    if branch.trail_length >= branch.trail.len() {
-        branch.is_full = true;
-        return;
-    }
     let old = word(&branch.rows, place);
-    put(&mut branch.trail, branch.trail_length, place);
-    put_word(&mut branch.trail_words, branch.trail_length, old);
+    match branch.trail.get_mut(branch.trail_length) {
+        Some(kept) => *kept = (place, old),
+        None => {
+            branch.is_full = true;
+            return;
+        }
+    }
     branch.trail_length = branch.trail_length.wrapping_add(1);
     put_word(&mut branch.rows, place, bits);
 }
@@ -371,9 +391,12 @@ pub fn look_at(branch: &mut Branch, a: usize) {
 
 /// Marks what reads a location as to be looked at.
 pub fn look_at_readers(problem: &Problem, branch: &mut Branch, loc: usize) {
-    for k in 0..problem.width {
-        let bits = word(&branch.dirty, k)
-            | word(&problem.readers_of, row(loc, problem.width).wrapping_add(k));
-        put_word(&mut branch.dirty, k, bits);
-    }
+    let them = row(loc, problem.width);
+    join(
+        &mut branch.dirty,
+        0,
+        &problem.readers_of,
+        them,
+        problem.width,
+    );
 }

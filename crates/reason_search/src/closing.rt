@@ -3,11 +3,9 @@
 use crate::branch::{Branch, cell};
 use crate::evidence::{Closing, need_order, reset, use_facts, visit};
 use crate::growing::{Growth, add_between, add_cycle, add_false, add_question, put_branch};
-use crate::known_values::{is_false, need_falsity, run};
 use crate::offers::Desk;
-use crate::problem::{Problem, is_initial};
+use crate::problem::{Problem, is_initial, partner};
 use crate::rows::{NONE, add, at, put_word, word};
-use tso_model::{NoMemory, Test};
 
 pub fn heed(desk: &mut Desk, a: usize) {
     let weight = word(&desk.weight, a).wrapping_add(desk.step);
@@ -36,7 +34,7 @@ fn is_direct(
 ) -> bool {
     is_initial(problem, a)
         || also.0 == a && also.1 == b
-        || at(&branch.pairs, cell(problem, a, b)) < desk.above
+        || at(&branch.tables.pairs, cell(problem, a, b)) < desk.above
 }
 
 /// A cycle of coherence: a path, and the pair that leads back.
@@ -47,7 +45,7 @@ fn add_order_cycle(
     a: usize,
     b: usize,
     limit: usize,
-) -> Result<usize, NoMemory> {
+) -> usize {
     reset(&mut desk.trial, Closing::OnLocation);
     visit(&mut desk.trial, a);
     need_order(
@@ -74,12 +72,12 @@ fn add_pair_above(
     b: usize,
     limit: usize,
     tree: usize,
-) -> Result<usize, NoMemory> {
-    let cycle = add_order_cycle(problem, branch, desk, a, b, limit)?;
-    let question = add_question(&mut desk.trees, Growth::ComesFirst, a, b)?;
+) -> usize {
+    let cycle = add_order_cycle(problem, branch, desk, a, b, limit);
+    let question = add_question(&mut desk.trees, Growth::ComesFirst, a, b);
     put_branch(&mut desk.trees, question, cycle);
     put_branch(&mut desk.trees, question, tree);
-    Ok(question)
+    question
 }
 
 /// The tree of a write between two parts, with the pairs that only follow from chains.
@@ -91,21 +89,21 @@ fn add_between_tree(
     s: usize,
     limit: usize,
     also: (usize, usize),
-) -> Result<usize, NoMemory> {
+) -> usize {
     let v = at(&desk.best.cycle, 1);
     let own = at(&desk.best.cycle, 2);
-    let mut tree = add_between(&mut desk.trees, r, v, own)?;
+    let mut tree = add_between(&mut desk.trees, r, v, own);
     if !is_direct(problem, branch, desk, v, own, also) {
-        tree = add_pair_above(problem, branch, desk, v, own, limit, tree)?;
+        tree = add_pair_above(problem, branch, desk, v, own, limit, tree);
     } else {
         use_pair(problem, branch, desk, v, own, also);
     }
     if !is_direct(problem, branch, desk, s, v, also) {
-        tree = add_pair_above(problem, branch, desk, s, v, limit, tree)?;
+        tree = add_pair_above(problem, branch, desk, s, v, limit, tree);
     } else {
         use_pair(problem, branch, desk, s, v, also);
     }
-    Ok(tree)
+    tree
 }
 
 fn use_pair(
@@ -119,7 +117,7 @@ fn use_pair(
     if is_initial(problem, a) || also.0 == a && also.1 == b {
         return;
     }
-    let fact = at(&branch.pairs, cell(problem, a, b));
+    let fact = at(&branch.tables.pairs, cell(problem, a, b));
     if fact != NONE {
         add(&mut desk.used, 0, fact);
     }
@@ -134,8 +132,8 @@ fn add_one_read(
     s: usize,
     q: usize,
     between: usize,
-) -> Result<usize, NoMemory> {
-    let own = at(&problem.partner, r);
+) -> usize {
+    let own = partner(problem, r);
     let open = (NONE, NONE);
     reset(&mut desk.trial, Closing::OnLocation);
     visit(&mut desk.trial, s);
@@ -145,16 +143,16 @@ fn add_one_read(
         use_pair(problem, branch, desk, own, s, open);
         return add_cycle(&mut desk.trees, &desk.trial);
     }
-    let leaf = add_between(&mut desk.trees, q, own, between)?;
+    let leaf = add_between(&mut desk.trees, q, own, between);
     if is_direct(problem, branch, desk, s, own, open) {
         use_pair(problem, branch, desk, s, own, open);
-        return Ok(leaf);
+        return leaf;
     }
-    let cycle = add_cycle(&mut desk.trees, &desk.trial)?;
-    let question = add_question(&mut desk.trees, Growth::ComesFirst, s, own)?;
+    let cycle = add_cycle(&mut desk.trees, &desk.trial);
+    let question = add_question(&mut desk.trees, Growth::ComesFirst, s, own);
     put_branch(&mut desk.trees, question, cycle);
     put_branch(&mut desk.trees, question, leaf);
-    Ok(question)
+    question
 }
 
 /// The tree of two locked instructions that read one write: one store part comes first, and then between the other's parts.
@@ -165,9 +163,9 @@ fn add_twice_tree(
     r: usize,
     q: usize,
     s: usize,
-) -> Result<usize, NoMemory> {
-    let first = at(&problem.partner, r);
-    let second = at(&problem.partner, q);
+) -> usize {
+    let first = partner(problem, r);
+    let second = partner(problem, q);
     let open = (NONE, NONE);
     if is_direct(problem, branch, desk, first, second, open) {
         use_pair(problem, branch, desk, first, second, open);
@@ -177,32 +175,12 @@ fn add_twice_tree(
         use_pair(problem, branch, desk, second, first, open);
         return add_one_read(problem, branch, desk, q, s, r, first);
     }
-    let second_tree = add_one_read(problem, branch, desk, q, s, r, first)?;
-    let first_tree = add_one_read(problem, branch, desk, r, s, q, second)?;
-    let question = add_question(&mut desk.trees, Growth::ComesFirst, first, second)?;
+    let second_tree = add_one_read(problem, branch, desk, q, s, r, first);
+    let first_tree = add_one_read(problem, branch, desk, r, s, q, second);
+    let question = add_question(&mut desk.trees, Growth::ComesFirst, first, second);
     put_branch(&mut desk.trees, question, second_tree);
     put_branch(&mut desk.trees, question, first_tree);
-    Ok(question)
-}
-
-/// A leaf by which what is asked is false, with what it uses; where it isn't false by what is known, all is used.
-pub fn add_false_leaf(
-    problem: &Problem,
-    branch: &Branch,
-    desk: &mut Desk,
-    test: &Test,
-) -> Result<usize, NoMemory> {
-    run(problem, branch, &mut desk.values);
-    if is_false(problem, branch, &desk.values, test) {
-        reset(&mut desk.trial, Closing::False);
-        need_falsity(problem, branch, &mut desk.values, &mut desk.trial, test);
-        use_facts(&desk.trial, &mut desk.used);
-    } else {
-        for fact in 0..desk.values.limit {
-            add(&mut desk.used, 0, fact);
-        }
-    }
-    add_false(&mut desk.trees)
+    question
 }
 
 /// The tree of the best reason; what it uses is used then.
@@ -213,7 +191,7 @@ pub fn add_best(
     limit: usize,
     s: usize,
     also: (usize, usize),
-) -> Result<usize, NoMemory> {
+) -> usize {
     use_facts(&desk.best, &mut desk.used);
     let first = at(&desk.best.cycle, 0);
     match desk.best.closing {

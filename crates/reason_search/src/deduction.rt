@@ -1,12 +1,12 @@
 //! What follows from the answers of a branch: orders of writes, edges from reads, sources that a read can't have, and values that a
 //! true proposition wants, backwards through sources and stores.
 
-use crate::branch::{Branch, Conflict, UNKNOWN, after, look_at, look_at_readers};
+use crate::branch::{Branch, Conflict, UNKNOWN, after, candidates, look_at, look_at_readers};
 use crate::edges::put_before;
-use crate::notes::{note_known, note_wanted, value_known, value_wanted};
+use crate::notes::{note_value, source_of, value_of};
 use crate::problem::{Problem, Relations, Term, final_term, location, term_of, writes};
-use crate::rows::{NONE, is_empty, lowest, rest, row, word};
-use tso_model::{Cond, NoMemory, Prop, Quantifier, Test};
+use crate::rows::{NONE, has, is_empty, lowest, rest, row, word};
+use tso_model::{Cond, Prop, Quantifier, Test};
 
 pub fn sum(first: u64, second: u64) -> u64 {
     if first == UNKNOWN || second == UNKNOWN {
@@ -24,14 +24,14 @@ fn difference(first: u32, second: u64) -> u32 {
 pub fn written(problem: &Problem, branch: &Branch, w: usize) -> u64 {
     match term_of(problem, w) {
         Term::Number(value) => u64::from(value),
-        Term::Of(r) => value_known(branch, r),
-        Term::Plus(r, value) => sum(value_known(branch, r), u64::from(value)),
-        Term::Sum(r, q) => sum(value_known(branch, r), value_known(branch, q)),
+        Term::Of(r) => value_of(branch, r),
+        Term::Plus(r, value) => sum(value_of(branch, r), u64::from(value)),
+        Term::Sum(r, q) => sum(value_of(branch, r), value_of(branch, q)),
     }
 }
 
-fn fail(branch: &mut Branch) -> bool {
-    branch.conflict = Conflict::False;
+fn fail(branch: &mut Branch, r: usize) -> bool {
+    branch.conflict = Conflict::False(r);
     false
 }
 
@@ -49,55 +49,39 @@ fn look_at_dependents(problem: &Problem, branch: &mut Branch, r: usize) {
     }
 }
 
-/// A read has to return a value. Where it has to return another one too, it may return neither.
-fn want_value(
-    problem: &Problem,
-    branch: &mut Branch,
-    r: usize,
-    value: u32,
-) -> Result<bool, NoMemory> {
-    let known = value_known(branch, r);
-    if known != UNKNOWN && known != u64::from(value) {
-        return Ok(fail(branch));
+/// A read, or a location at the end, has to have a value.
+fn want_value(problem: &Problem, branch: &mut Branch, r: usize, value: u32) -> bool {
+    let known = value_of(branch, r);
+    if known == UNKNOWN {
+        note_value(branch, r, u64::from(value));
+        look_at_dependents(problem, branch, r);
+    } else if known != u64::from(value) {
+        let open = open_end(problem, branch, r);
+        if open == NONE {
+            return fail(branch, r);
+        }
+        branch.next = open;
     }
-    let wanted = value_wanted(problem, branch, r);
-    if wanted == UNKNOWN {
-        note_wanted(problem, branch, r, value)?;
-    } else if wanted != u64::from(value) && !is_excluded(branch, r, wanted) {
-        branch.excluded.push((r, low(wanted)))?;
-        look_at(branch, r);
-    }
-    Ok(true)
+    true
 }
 
-/// A write has to write a value.
-fn want_written(
-    problem: &Problem,
-    branch: &mut Branch,
-    w: usize,
-    value: u32,
-) -> Result<bool, NoMemory> {
+/// What a write writes that isn't known has to be this value.
+fn want_written(problem: &Problem, branch: &mut Branch, w: usize, value: u32) -> bool {
     match term_of(problem, w) {
-        Term::Number(number) => {
-            if number == value {
-                Ok(true)
-            } else {
-                Ok(fail(branch))
-            }
-        }
+        Term::Number(_) => true,
         Term::Of(r) => want_value(problem, branch, r, value),
         Term::Plus(r, number) => {
             want_value(problem, branch, r, difference(value, u64::from(number)))
         }
         Term::Sum(r, q) => {
-            let first = value_known(branch, r);
-            let second = value_known(branch, q);
-            if second != UNKNOWN {
+            let first = value_of(branch, r);
+            let second = value_of(branch, q);
+            if second != UNKNOWN && open_end(problem, branch, q) == NONE {
                 want_value(problem, branch, r, difference(value, second))
-            } else if first != UNKNOWN {
+            } else if first != UNKNOWN && open_end(problem, branch, r) == NONE {
                 want_value(problem, branch, q, difference(value, first))
             } else {
-                Ok(true)
+                true
             }
         }
     }
@@ -117,11 +101,17 @@ fn is_written(problem: &Problem, loc: usize) -> bool {
 }
 
 /// Whether this can't be made so: a read, or a location at the end, has the value, or hasn't.
-fn is_unmet(branch: &Branch, r: usize, value: u32, truth: bool, supposed: (usize, u64)) -> bool {
+pub fn is_unmet(
+    branch: &Branch,
+    r: usize,
+    value: u32,
+    truth: bool,
+    supposed: (usize, u64),
+) -> bool {
     let known = if supposed.0 == r {
         supposed.1
     } else {
-        value_known(branch, r)
+        value_of(branch, r)
     };
     known != UNKNOWN && (known == u64::from(value)) != truth
 }
@@ -151,8 +141,13 @@ fn is_word_unmet(
     if is_written(problem, loc) {
         is_unmet(branch, loc, value, truth, supposed)
     } else {
-        (problem.first_words.get(loc).copied().unwrap_or(0) == value) != truth
+        is_term_unmet(branch, term_of(problem, loc), value, truth, supposed)
     }
+}
+
+/// Whether a proposition of two parts has this truth only where both parts have it.
+pub fn wants_both(prop: &Prop, truth: bool) -> bool {
+    matches!(prop, Prop::And(..)) == truth
 }
 
 /// Whether the proposition can't have this truth, where a read is supposed to return a value.
@@ -173,106 +168,67 @@ fn cant_be(
             is_word_unmet(problem, branch, usize::from(loc.0), *value, truth, supposed)
         }
         Prop::Not(inner) => cant_be(problem, branch, inner, !truth, supposed),
-        Prop::And(left, right) => {
+        Prop::And(left, right) | Prop::Or(left, right) => {
             let first = cant_be(problem, branch, left, truth, supposed);
             let second = cant_be(problem, branch, right, truth, supposed);
-            if truth {
+            if wants_both(prop, truth) {
                 first || second
             } else {
                 first && second
-            }
-        }
-        Prop::Or(left, right) => {
-            let first = cant_be(problem, branch, left, truth, supposed);
-            let second = cant_be(problem, branch, right, truth, supposed);
-            if truth {
-                first && second
-            } else {
-                first || second
             }
         }
     }
 }
 
-fn want_term(
-    problem: &Problem,
-    branch: &mut Branch,
-    r: usize,
-    value: u32,
-    truth: bool,
-) -> Result<bool, NoMemory> {
+fn want_term(problem: &Problem, branch: &mut Branch, r: usize, value: u32, truth: bool) -> bool {
     if truth {
         return want_value(problem, branch, r, value);
     }
-    if value_known(branch, r) == u64::from(value) {
-        return Ok(fail(branch));
+    if value_of(branch, r) == u64::from(value) {
+        return fail(branch, r);
     }
     if !is_excluded(branch, r, u64::from(value)) {
-        branch.excluded.push((r, value))?;
+        branch.is_refused |= branch.excluded.push((r, value)).is_err();
         look_at(branch, r);
     }
-    Ok(true)
+    true
+}
+
+/// What a number has to be, or mustn't be.
+fn want_number(branch: &mut Branch, is_so: bool, truth: bool) -> bool {
+    is_so == truth || fail(branch, NONE)
 }
 
 /// The proposition has to have this truth.
-fn want(
-    problem: &Problem,
-    branch: &mut Branch,
-    prop: &Prop,
-    truth: bool,
-) -> Result<bool, NoMemory> {
+fn want(problem: &Problem, branch: &mut Branch, prop: &Prop, truth: bool) -> bool {
     match prop {
-        Prop::Truth(value) => {
-            if *value == truth {
-                Ok(true)
-            } else {
-                Ok(fail(branch))
-            }
-        }
+        Prop::Truth(value) => want_number(branch, *value, truth),
         Prop::RegIs(core, reg, value) => {
             match final_term(problem, usize::from(core.0), reg.index()) {
-                Term::Number(number) => {
-                    if (number == *value) == truth {
-                        Ok(true)
-                    } else {
-                        Ok(fail(branch))
-                    }
-                }
+                Term::Number(number) => want_number(branch, number == *value, truth),
                 Term::Of(r) => want_term(problem, branch, r, *value, truth),
-                _ => Ok(true),
+                _ => true,
             }
         }
         Prop::LocIs(loc, value) => {
             let x = usize::from(loc.0);
             if is_written(problem, x) {
                 want_term(problem, branch, x, *value, truth)
-            } else if is_word_unmet(problem, branch, x, *value, truth, (NONE, 0)) {
-                Ok(fail(branch))
             } else {
-                Ok(true)
+                let unmet = is_word_unmet(problem, branch, x, *value, truth, (NONE, 0));
+                want_number(branch, unmet, false)
             }
         }
         Prop::Not(inner) => want(problem, branch, inner, !truth),
-        Prop::And(left, right) => {
-            if truth {
-                Ok(want(problem, branch, left, truth)? && want(problem, branch, right, truth)?)
+        Prop::And(left, right) | Prop::Or(left, right) => {
+            if wants_both(prop, truth) {
+                want(problem, branch, left, truth) && want(problem, branch, right, truth)
             } else if cant_be(problem, branch, left, truth, (NONE, 0)) {
                 want(problem, branch, right, truth)
             } else if cant_be(problem, branch, right, truth, (NONE, 0)) {
                 want(problem, branch, left, truth)
             } else {
-                Ok(true)
-            }
-        }
-        Prop::Or(left, right) => {
-            if !truth {
-                Ok(want(problem, branch, left, truth)? && want(problem, branch, right, truth)?)
-            } else if cant_be(problem, branch, left, truth, (NONE, 0)) {
-                want(problem, branch, right, truth)
-            } else if cant_be(problem, branch, right, truth, (NONE, 0)) {
-                want(problem, branch, left, truth)
-            } else {
-                Ok(true)
+                true
             }
         }
     }
@@ -283,17 +239,17 @@ pub fn asked_truth(cond: &Cond) -> bool {
     !matches!(cond.quantifier, Quantifier::Forall)
 }
 
-pub fn want_asked(problem: &Problem, branch: &mut Branch, test: &Test) -> Result<bool, NoMemory> {
+pub fn want_asked(problem: &Problem, branch: &mut Branch, test: &Test) -> bool {
     match test.cond() {
-        None => Ok(true),
+        None => true,
         Some(cond) => want(problem, branch, &cond.prop, asked_truth(cond)),
     }
 }
 
 /// Whether a value is one that a read, or a location at the end, mustn't have.
 fn is_wrong(problem: &Problem, branch: &Branch, test: &Test, r: usize, value: u64) -> bool {
-    let wanted = value_wanted(problem, branch, r);
-    if wanted != UNKNOWN && wanted != value || is_excluded(branch, r, value) {
+    let known = value_of(branch, r);
+    if known != UNKNOWN && known != value || is_excluded(branch, r, value) {
         return true;
     }
     if !problem.has_choice {
@@ -306,13 +262,79 @@ fn is_wrong(problem: &Problem, branch: &Branch, test: &Test, r: usize, value: u6
 }
 
 /// Whether a write has a value that a read, or a location at the end, mustn't have.
-pub fn is_wrong_value(problem: &Problem, branch: &Branch, test: &Test, r: usize, w: usize) -> bool {
+pub fn is_unlikely(problem: &Problem, branch: &Branch, test: &Test, r: usize, w: usize) -> bool {
     let value = written(problem, branch, w);
     value != UNKNOWN && is_wrong(problem, branch, test, r, value)
 }
 
+/// The same, and that is told by answers, or by few more.
+pub fn is_wrong_value(problem: &Problem, branch: &Branch, test: &Test, r: usize, w: usize) -> bool {
+    is_unlikely(problem, branch, test, r, w) && is_nearly_told(problem, branch, w)
+}
+
+/// A read on which the value of a term hangs.
+fn first_read(term: Term) -> usize {
+    match term {
+        Term::Number(_) => NONE,
+        Term::Of(r) | Term::Plus(r, _) | Term::Sum(r, _) => r,
+    }
+}
+
+fn second_read(term: Term) -> usize {
+    match term {
+        Term::Sum(_, q) => q,
+        _ => NONE,
+    }
+}
+
+/// The read with no source on which a read's value hangs. `NONE` where answers tell the value.
+pub fn open_end(problem: &Problem, branch: &Branch, read: usize) -> usize {
+    let mut r = read;
+    for _step in 0..problem.size {
+        if r == NONE {
+            return NONE;
+        }
+        let s = source_of(branch, r);
+        if s == NONE {
+            return r;
+        }
+        let term = term_of(problem, s);
+        let q = second_read(term);
+        r = first_read(term);
+        if q != NONE && source_of(branch, q) == NONE {
+            return q;
+        }
+    }
+    NONE
+}
+
+/// The read on which what a write writes hangs.
+fn open_end_of(problem: &Problem, branch: &Branch, w: usize) -> usize {
+    let term = term_of(problem, w);
+    let first = open_end(problem, branch, first_read(term));
+    if first == NONE {
+        open_end(problem, branch, second_read(term))
+    } else {
+        first
+    }
+}
+
+/// Whether answers tell what a write writes, but for one read whose sources all have values.
+fn is_nearly_told(problem: &Problem, branch: &Branch, w: usize) -> bool {
+    let r = open_end_of(problem, branch, w);
+    if r == NONE {
+        return true;
+    }
+    for s in 0..problem.size {
+        if has(&branch.rows, candidates(problem, r), s) && open_end_of(problem, branch, s) != NONE {
+            return false;
+        }
+    }
+    true
+}
+
 /// Writes that are after this one by one of the relations are after it in coherence.
-pub fn look_at_write(problem: &Problem, branch: &mut Branch, a: usize) -> Result<bool, NoMemory> {
+pub fn look_at_write(problem: &Problem, branch: &mut Branch, a: usize) -> bool {
     let loc = row(location(problem, a), problem.width);
     for k in 0..problem.width {
         let later = word(
@@ -333,12 +355,12 @@ pub fn look_at_write(problem: &Problem, branch: &mut Branch, a: usize) -> Result
             }
             let b = row(k, 64).wrapping_add(lowest(left));
             left = rest(left);
-            if b != a && !put_before(problem, branch, a, b, false)? {
-                return Ok(false);
+            if b != a && !put_before(problem, branch, a, b, false) {
+                return false;
             }
         }
     }
-    Ok(true)
+    true
 }
 
 /// A read and its source have one value; so have a location at the end and its last write.
@@ -348,20 +370,21 @@ pub fn match_values(
     test: &Test,
     r: usize,
     w: usize,
-) -> Result<bool, NoMemory> {
+) -> bool {
     let value = written(problem, branch, w);
-    if value != UNKNOWN && value_known(branch, r) == UNKNOWN {
-        if is_wrong(problem, branch, test, r, value) {
-            return Ok(fail(branch));
+    let known = value_of(branch, r);
+    let open = open_end_of(problem, branch, w);
+    if value != UNKNOWN && is_wrong(problem, branch, test, r, value) {
+        if is_nearly_told(problem, branch, w) {
+            return fail(branch, r);
         }
-        note_known(branch, r, value)?;
-        look_at_dependents(problem, branch, r);
+        branch.next = open;
+        return true;
     }
-    let wanted = value_wanted(problem, branch, r);
-    if wanted == UNKNOWN {
-        return Ok(true);
+    if value != UNKNOWN && open == NONE {
+        return want_value(problem, branch, r, low(value));
     }
-    want_written(problem, branch, w, low(wanted))
+    known == UNKNOWN || want_written(problem, branch, w, low(known))
 }
 
 fn low(value: u64) -> u32 {

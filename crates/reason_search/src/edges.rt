@@ -7,7 +7,6 @@ use crate::branch::{
 use crate::notes::note;
 use crate::problem::{Problem, Relations, is_initial, location};
 use crate::rows::{at, bit, lowest, put, rest, row, word};
-use tso_model::NoMemory;
 
 fn spread_one(
     problem: &Problem,
@@ -69,8 +68,6 @@ fn spread(problem: &Problem, branch: &mut Branch, relations: Relations, a: usize
 }
 
 /// Adds an edge, and what follows. False where it closes a cycle.
-///
-/// Errors: out of memory only.
 pub fn add_edge(
     problem: &Problem,
     branch: &mut Branch,
@@ -79,9 +76,9 @@ pub fn add_edge(
     b: usize,
     label: Label,
     fact: usize,
-) -> Result<bool, NoMemory> {
+) -> bool {
     if is_known(problem, branch, relations, a, b) {
-        return Ok(true);
+        return true;
     }
     let place = head(problem, relations, a);
     let edge = Edge {
@@ -90,62 +87,52 @@ pub fn add_edge(
         relations,
         label,
         fact,
-        next: at(&branch.heads, place),
+        next: at(&branch.tables.heads, place),
     };
     if a == b || is_known(problem, branch, relations, b, a) {
         branch.conflict = Conflict::Cycle(edge);
-        return Ok(false);
+        return false;
     }
     let number = branch.edges.len();
-    branch.edges.push(edge)?;
-    put(&mut branch.heads, place, number);
+    branch.is_refused |= branch.edges.push(edge).is_err();
+    put(&mut branch.tables.heads, place, number);
     spread(problem, branch, relations, a, b);
     if relations == Relations::Coherence {
         look_at_readers(problem, branch, location(problem, a));
     }
-    Ok(true)
+    true
 }
 
 /// One write comes before another one. False where that closes a cycle.
-///
-/// Errors: out of memory only.
-pub fn put_before(
-    problem: &Problem,
-    branch: &mut Branch,
-    a: usize,
-    b: usize,
-    tried: bool,
-) -> Result<bool, NoMemory> {
+pub fn put_before(problem: &Problem, branch: &mut Branch, a: usize, b: usize, tried: bool) -> bool {
     if is_initial(problem, a) || is_known(problem, branch, Relations::Coherence, a, b) {
-        return Ok(true);
+        return true;
     }
-    let fact = note(branch, Answer::Before(a, b), tried)?;
-    put(&mut branch.pairs, cell(problem, a, b), fact);
-    Ok(
-        add_edge(
-            problem,
-            branch,
-            Relations::Coherence,
-            a,
-            b,
-            Label::Coherence,
-            fact,
-        )? && add_edge(
-            problem,
-            branch,
-            Relations::OnLocation,
-            a,
-            b,
-            Label::Coherence,
-            fact,
-        )? && add_edge(
-            problem,
-            branch,
-            Relations::Global,
-            a,
-            b,
-            Label::Coherence,
-            fact,
-        )?,
+    let fact = note(branch, Answer::Before(a, b), tried);
+    put(&mut branch.tables.pairs, cell(problem, a, b), fact);
+    add_edge(
+        problem,
+        branch,
+        Relations::Coherence,
+        a,
+        b,
+        Label::Coherence,
+        fact,
+    ) && add_edge(
+        problem,
+        branch,
+        Relations::OnLocation,
+        a,
+        b,
+        Label::Coherence,
+        fact,
+    ) && add_edge(
+        problem,
+        branch,
+        Relations::Global,
+        a,
+        b,
+        Label::Coherence,
+        fact,
     )
 }

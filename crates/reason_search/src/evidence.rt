@@ -2,7 +2,7 @@
 
 use crate::branch::{Branch, Edge, Label};
 use crate::notes::source_of;
-use crate::paths::{Paths, begin, edge_at, find, start_from};
+use crate::paths::{Paths, begin, edge_at, edge_number, event_at, find, start_from};
 use crate::problem::{Problem, Relations};
 use crate::rows::{NONE, add, at, has, put};
 use std::alloc::Global;
@@ -59,6 +59,18 @@ pub fn visit(evidence: &mut Evidence, a: usize) {
     evidence.cycle_length = evidence.cycle_length.wrapping_add(1);
 }
 
+/// Turns the cycle round.
+pub fn turn_round(evidence: &mut Evidence) {
+    let length = evidence.cycle_length;
+    for i in 0..length / 2 {
+        let last = length.wrapping_sub(1).wrapping_sub(i);
+        let one = at(&evidence.cycle, i);
+        let other = at(&evidence.cycle, last);
+        put(&mut evidence.cycle, i, other);
+        put(&mut evidence.cycle, last, one);
+    }
+}
+
 /// Adds a fact that the leaf uses.
 pub fn need(evidence: &mut Evidence, fact: usize) {
     if fact == NONE {
@@ -90,7 +102,7 @@ pub fn need_order(
             need(evidence, edge.fact);
         }
         if i > 0 && shown {
-            visit(evidence, at(&inner.events, place));
+            visit(evidence, event_at(inner, place));
         }
     }
 }
@@ -121,7 +133,7 @@ pub fn follow(
 ) {
     for i in 0..paths.length {
         let place = paths.length.wrapping_sub(1).wrapping_sub(i);
-        visit(evidence, at(&paths.events, place));
+        visit(evidence, event_at(paths, place));
         if let Some(edge) = edge_at(branch, paths, place) {
             need_edge(
                 problem,
@@ -129,7 +141,7 @@ pub fn follow(
                 inner,
                 evidence,
                 &edge,
-                at(&paths.edges, place),
+                edge_number(paths, place),
             );
         }
     }

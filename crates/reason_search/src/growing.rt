@@ -37,6 +37,8 @@ pub struct Twig {
 pub struct Trees {
     pub twigs: Vec<Twig>,
     pub events: Vec<usize>,
+    /// Memory was refused: the search ends.
+    pub is_refused: bool,
 }
 
 /// No nodes.
@@ -44,18 +46,13 @@ pub fn no_trees(alloc: Global) -> Trees {
     Trees {
         twigs: Vec::new(alloc),
         events: Vec::new(alloc),
+        is_refused: false,
     }
 }
 
-fn add_twig(
-    trees: &mut Trees,
-    growth: Growth,
-    first: usize,
-    second: usize,
-    third: usize,
-) -> Result<usize, NoMemory> {
+fn add_twig(trees: &mut Trees, growth: Growth, first: usize, second: usize, third: usize) -> usize {
     let number = trees.twigs.len();
-    trees.twigs.push(Twig {
+    let twig = Twig {
         growth,
         first,
         second,
@@ -63,24 +60,18 @@ fn add_twig(
         child: NONE,
         beside: NONE,
         leaves: 1,
-    })?;
-    Ok(number)
+    };
+    trees.is_refused |= trees.twigs.push(twig).is_err();
+    number
 }
 
 /// A question with no branch yet.
-///
-/// Errors: out of memory only.
-pub fn add_question(
-    trees: &mut Trees,
-    growth: Growth,
-    first: usize,
-    second: usize,
-) -> Result<usize, NoMemory> {
-    let number = add_twig(trees, growth, first, second, NONE)?;
+pub fn add_question(trees: &mut Trees, growth: Growth, first: usize, second: usize) -> usize {
+    let number = add_twig(trees, growth, first, second, NONE);
     if let Some(twig) = trees.twigs.get_mut(number) {
         twig.leaves = 0;
     }
-    Ok(number)
+    number
 }
 
 /// How many leaves a tree has.
@@ -106,26 +97,20 @@ pub fn put_branch(trees: &mut Trees, question: usize, branch: usize) {
 }
 
 /// A leaf of three events.
-///
-/// Errors: out of memory only.
-pub fn add_between(trees: &mut Trees, r: usize, v: usize, w: usize) -> Result<usize, NoMemory> {
+pub fn add_between(trees: &mut Trees, r: usize, v: usize, w: usize) -> usize {
     add_twig(trees, Growth::Between, r, v, w)
 }
 
 /// A leaf by which what is asked is false.
-///
-/// Errors: out of memory only.
-pub fn add_false(trees: &mut Trees) -> Result<usize, NoMemory> {
+pub fn add_false(trees: &mut Trees) -> usize {
     add_twig(trees, Growth::False, NONE, NONE, NONE)
 }
 
 /// A leaf of a cycle.
-///
-/// Errors: out of memory only.
-pub fn add_cycle(trees: &mut Trees, evidence: &Evidence) -> Result<usize, NoMemory> {
+pub fn add_cycle(trees: &mut Trees, evidence: &Evidence) -> usize {
     let start = trees.events.len();
     for i in 0..evidence.cycle_length {
-        trees.events.push(at(&evidence.cycle, i))?;
+        trees.is_refused |= trees.events.push(at(&evidence.cycle, i)).is_err();
     }
     let growth = if evidence.closing == Closing::Global {
         Growth::Global

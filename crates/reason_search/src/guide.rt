@@ -6,14 +6,14 @@ use crate::branch::{Answer, Branch, Mark, cell, mark_here};
 use crate::choosing::{Ask, choose};
 use crate::edges::put_before;
 use crate::growing::{leaves_of, list_nodes};
-use crate::hunting::{Find, Hunt, hunt_for, make_hunt, start_anew};
+use crate::hunting::{Find, Hunt, hunt_for, is_refused, make_hunt, start_anew};
 use crate::looking::{deduce, put_source};
 use crate::notes::note;
 use crate::ordering::make_order;
 use crate::problem::{Problem, event, make_problem};
 use crate::reasoning::{add_conflict, wrap};
 use crate::rows::{NONE, at, clear, put};
-use refutation_laws::Model;
+use refutation_laws::{Model, Pair, Source};
 use refutations::events::same_event;
 use refutations::{Answers, Node};
 use std::alloc::Global;
@@ -66,7 +66,7 @@ fn look_for_smaller(
         if leaves < 3 || tries.wrapping_mul(effort) > 4_000 {
             break;
         }
-        let found = hunt_again(&guide.problem, &mut guide.hunt, test, &guide.start, effort)?;
+        let found = hunt_again(&guide.problem, &mut guide.hunt, test, &guide.start, effort);
         if let Find::Refuted(other) = found {
             let fewer = leaves_of(&guide.hunt.desk.trees, other);
             if fewer < leaves {
@@ -74,6 +74,27 @@ fn look_for_smaller(
                 take_tree(alloc, guide, other)?;
             }
         }
+    }
+    Ok(())
+}
+
+/// Searches: a tree, or a branch that is open to the end, or neither.
+fn run(alloc: Global, guide: &mut Guide, test: &Test) -> Result<(), NoMemory> {
+    match hunt_for(&guide.problem, &mut guide.hunt, test, MOST_CASES) {
+        Find::Allowed => guide.is_allowed = true,
+        Find::Refuted(root) => {
+            take_tree(alloc, guide, root)?;
+            let effort = guide.hunt.cases.wrapping_add(20);
+            look_for_smaller(alloc, guide, test, root, effort)?;
+        }
+        Find::Paused => {}
+    }
+    check_memory(&guide.hunt)
+}
+
+fn check_memory(hunt: &Hunt) -> Result<(), NoMemory> {
+    if is_refused(hunt) {
+        return Err(NoMemory);
     }
     Ok(())
 }
@@ -97,15 +118,7 @@ pub fn make_guide(
         is_allowed: false,
         nodes: Vec::new(alloc),
     };
-    match hunt_for(&guide.problem, &mut guide.hunt, test, MOST_CASES)? {
-        Find::Allowed => guide.is_allowed = true,
-        Find::Refuted(root) => {
-            take_tree(alloc, &mut guide, root)?;
-            let effort = guide.hunt.cases.wrapping_add(20);
-            look_for_smaller(alloc, &mut guide, test, root, effort)?;
-        }
-        Find::Paused => {}
-    }
+    run(alloc, &mut guide, test)?;
     Ok(guide)
 }
 
@@ -131,47 +144,86 @@ fn number_of(problem: &Problem, x: &Entry) -> usize {
 }
 
 /// Puts a pair of writes on the branch, also where it follows from others. False where that closes the branch.
-fn put_pair(problem: &Problem, branch: &mut Branch, a: usize, b: usize) -> Result<bool, NoMemory> {
-    if !put_before(problem, branch, a, b, true)? {
-        return Ok(false);
+fn put_pair(problem: &Problem, branch: &mut Branch, a: usize, b: usize) -> bool {
+    if !put_before(problem, branch, a, b, true) {
+        return false;
     }
     let place = cell(problem, a, b);
-    if at(&branch.pairs, place) == NONE {
-        let fact = note(branch, Answer::Before(a, b), true)?;
-        put(&mut branch.pairs, place, fact);
+    if at(&branch.tables.pairs, place) == NONE {
+        let fact = note(branch, Answer::Before(a, b), true);
+        put(&mut branch.tables.pairs, place, fact);
     }
-    Ok(true)
+    true
 }
 
-/// Puts the answers of a case on the branch. False where that closes it.
-fn put_answers(guide: &mut Guide, answers: &Answers) -> Result<bool, NoMemory> {
-    for pair in &answers.order {
-        let a = number_of(&guide.problem, &pair.first);
-        let b = number_of(&guide.problem, &pair.second);
+/// Puts the pairs of a case on the branch. False where that closes it.
+fn put_pairs(problem: &Problem, branch: &mut Branch, pairs: &[Pair]) -> bool {
+    for pair in pairs {
+        let a = number_of(problem, &pair.first);
+        let b = number_of(problem, &pair.second);
         if a != NONE && b != NONE {
-            let fact = at(&guide.hunt.branch.pairs, cell(&guide.problem, a, b));
-            if let Some(known) = guide.hunt.branch.facts.get_mut(fact) {
+            let fact = at(&branch.tables.pairs, cell(problem, a, b));
+            if let Some(known) = branch.facts.get_mut(fact) {
                 known.tried = true;
             }
-            if !put_pair(&guide.problem, &mut guide.hunt.branch, a, b)? {
-                return Ok(false);
+            if !put_pair(problem, branch, a, b) {
+                return false;
             }
         }
     }
-    for source in &answers.sources {
-        let r = number_of(&guide.problem, &source.read);
-        let s = match &source.write {
-            Some(w) => number_of(&guide.problem, w),
-            None => usize::from(source.read.loc.0),
-        };
-        if r != NONE
-            && s != NONE
-            && !put_source(&guide.problem, &mut guide.hunt.branch, r, s, true)?
-        {
-            return Ok(false);
+    true
+}
+
+/// The number of the write that a read reads from.
+fn number_of_source(problem: &Problem, source: &Source) -> usize {
+    match &source.write {
+        Some(w) => number_of(problem, w),
+        None => usize::from(source.read.loc.0),
+    }
+}
+
+/// Puts the sources of a case on the branch. False where that closes it.
+fn put_sources(problem: &Problem, branch: &mut Branch, sources: &[Source]) -> bool {
+    for source in sources {
+        let r = number_of(problem, &source.read);
+        let s = number_of_source(problem, source);
+        if r != NONE && s != NONE && !put_source(problem, branch, r, s, true) {
+            return false;
         }
     }
-    Ok(true)
+    true
+}
+
+/// Puts the answers of a case on the branch, and all that follows. False where that closes it.
+fn go_to_case(guide: &mut Guide, test: &Test, answers: &Answers) -> bool {
+    start_anew(&guide.problem, &mut guide.hunt, &guide.start);
+    for fact in &mut guide.hunt.branch.facts {
+        fact.tried = false;
+    }
+    let branch = &mut guide.hunt.branch;
+    put_pairs(&guide.problem, branch, &answers.order)
+        && put_sources(&guide.problem, branch, &answers.sources)
+        && deduce(&guide.problem, branch, test)
+}
+
+/// The question that is asked next in an open case.
+fn question_of(guide: &Guide, test: &Test) -> Option<Node> {
+    let problem = &guide.problem;
+    match choose(problem, &guide.hunt.branch, &guide.hunt.desk, test, 0) {
+        Ask::Source(r) => Some(Node::ReadsFrom(event(problem, r))),
+        Ask::Order(a, b) => Some(Node::ComesFirst(event(problem, a), event(problem, b))),
+        Ask::Nothing => None,
+    }
+}
+
+/// The tree that closes the case.
+fn close_case(guide: &mut Guide, test: &Test) -> usize {
+    let words = guide.hunt.desk.used.len();
+    clear(&mut guide.hunt.desk.used, 0, words);
+    let problem = &guide.problem;
+    let branch = &guide.hunt.branch;
+    let tree = add_conflict(problem, branch, &mut guide.hunt.desk, test);
+    wrap(problem, branch, &mut guide.hunt.desk, test, 0, tree)
 }
 
 /// Proposes the nodes that close a case, or a question on it.
@@ -181,46 +233,14 @@ fn look_at_case(
     test: &Test,
     answers: &Answers,
 ) -> Result<(), NoMemory> {
-    start_anew(&guide.problem, &mut guide.hunt, &guide.start);
-    for fact in &mut guide.hunt.branch.facts {
-        fact.tried = false;
-    }
-    if put_answers(guide, answers)? && deduce(&guide.problem, &mut guide.hunt.branch, test)? {
-        let asked = choose(
-            &guide.problem,
-            &guide.hunt.branch,
-            &guide.hunt.desk,
-            test,
-            0,
-        );
-        match asked {
-            Ask::Source(r) => guide.nodes.push(Node::ReadsFrom(event(&guide.problem, r)))?,
-            Ask::Order(a, b) => {
-                let first = event(&guide.problem, a);
-                guide
-                    .nodes
-                    .push(Node::ComesFirst(first, event(&guide.problem, b)))?;
-            }
-            Ask::Nothing => {}
+    if go_to_case(guide, test, answers) {
+        if let Some(question) = question_of(guide, test) {
+            guide.nodes.push(question)?;
         }
-        return Ok(());
+        return check_memory(&guide.hunt);
     }
-    let words = guide.hunt.desk.used.len();
-    clear(&mut guide.hunt.desk.used, 0, words);
-    let tree = add_conflict(
-        &guide.problem,
-        &guide.hunt.branch,
-        &mut guide.hunt.desk,
-        test,
-    )?;
-    let root = wrap(
-        &guide.problem,
-        &guide.hunt.branch,
-        &mut guide.hunt.desk,
-        test,
-        0,
-        tree,
-    )?;
+    let root = close_case(guide, test);
+    check_memory(&guide.hunt)?;
     take_tree(alloc, guide, root)
 }
 

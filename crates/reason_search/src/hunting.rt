@@ -8,7 +8,7 @@ use crate::looking::{deduce, put_source};
 use crate::offers::{Desk, make_desk};
 use crate::problem::{Problem, location, writes};
 use crate::reasoning::{add_conflict, add_order_question, add_source_question, wrap};
-use crate::rows::{NONE, at, clear, has, join, put, put_word, remove, row, word};
+use crate::rows::{NONE, at, clear, has, join, put, remove, row};
 use std::alloc::Global;
 use tso_model::{NoMemory, Test};
 
@@ -84,23 +84,22 @@ pub fn make_hunt(alloc: Global, problem: &Problem) -> Result<Hunt, NoMemory> {
         round: 0,
         seed: 1,
     };
-    put_program_order(problem, &mut hunt.branch)?;
+    put_program_order(problem, &mut hunt.branch);
     Ok(hunt)
 }
 
 /// Writes to one location stand in coherence as they stand in their program.
-fn put_program_order(problem: &Problem, branch: &mut Branch) -> Result<(), NoMemory> {
+fn put_program_order(problem: &Problem, branch: &mut Branch) {
     for a in problem.locations..problem.size {
         for b in a..problem.size {
             if writes(problem, a)
                 && writes(problem, b)
                 && has(&problem.on_location, row(a, problem.width), b)
             {
-                let _open = put_before(problem, branch, a, b, false)?;
+                let _open = put_before(problem, branch, a, b, false);
             }
         }
     }
-    Ok(())
 }
 
 pub fn random(hunt: &mut Hunt) -> u64 {
@@ -128,40 +127,36 @@ fn shuffle(hunt: &mut Hunt, start: usize) {
 }
 
 /// Begins a question.
-fn begin(problem: &Problem, hunt: &mut Hunt, ask: Ask) -> Result<(), NoMemory> {
+fn begin(problem: &Problem, hunt: &mut Hunt, test: &Test, ask: Ask) {
     let start = hunt.answers.len();
     match ask {
         Ask::Source(r) => {
-            list_sources(problem, &hunt.branch, r, &mut hunt.answers)?;
+            let listed = list_sources(problem, &hunt.branch, test, r, &mut hunt.answers);
+            hunt.branch.is_refused |= !listed;
             shuffle(hunt, start);
         }
         Ask::Order(a, b) => {
             let late = lateness(problem, &hunt.branch, a) > lateness(problem, &hunt.branch, b);
-            hunt.answers.push(if late { 0 } else { 1 })?;
-            hunt.answers.push(if late { 1 } else { 0 })?;
+            hunt.branch.is_refused |= hunt.answers.push(if late { 0 } else { 1 }).is_err();
+            hunt.branch.is_refused |= hunt.answers.push(if late { 1 } else { 0 }).is_err();
         }
         Ask::Nothing => {}
     }
     for _word in 0..hunt.used_width {
-        hunt.used.push(0)?;
+        hunt.branch.is_refused |= hunt.used.push(0).is_err();
     }
-    hunt.frames.push(Frame {
+    let frame = Frame {
         ask,
         mark: mark_here(&hunt.branch),
         answers: start,
         answer: NONE,
         fact: NONE,
         trees: hunt.tried.len(),
-    })?;
-    Ok(())
+    };
+    hunt.branch.is_refused |= hunt.frames.push(frame).is_err();
 }
 
-fn put_answer(
-    problem: &Problem,
-    branch: &mut Branch,
-    ask: Ask,
-    answer: usize,
-) -> Result<bool, NoMemory> {
+fn put_answer(problem: &Problem, branch: &mut Branch, ask: Ask, answer: usize) -> bool {
     match ask {
         Ask::Source(r) => put_source(problem, branch, r, answer, true),
         Ask::Order(a, b) => {
@@ -171,7 +166,7 @@ fn put_answer(
                 put_before(problem, branch, a, b, true)
             }
         }
-        Ask::Nothing => Ok(true),
+        Ask::Nothing => true,
     }
 }
 
@@ -184,24 +179,24 @@ enum Next {
 }
 
 /// Tries the next answer of the last question.
-fn try_next(problem: &Problem, hunt: &mut Hunt) -> Result<Next, NoMemory> {
+fn try_next(problem: &Problem, hunt: &mut Hunt) -> Next {
     let fact = hunt.branch.facts.len();
     let Some(frame) = hunt.frames.last_mut() else {
-        return Ok(Next::None);
+        return Next::None;
     };
     if hunt.answers.len() <= frame.answers {
-        return Ok(Next::None);
+        return Next::None;
     }
     let Some(answer) = hunt.answers.pop() else {
-        return Ok(Next::None);
+        return Next::None;
     };
     frame.answer = answer;
     frame.fact = fact;
     let ask = frame.ask;
-    if put_answer(problem, &mut hunt.branch, ask, answer)? {
-        Ok(Next::Open)
+    if put_answer(problem, &mut hunt.branch, ask, answer) {
+        Next::Open
     } else {
-        Ok(Next::Closed)
+        Next::Closed
     }
 }
 
@@ -225,18 +220,11 @@ fn drop_frame(hunt: &mut Hunt, frame: &Frame) {
 }
 
 /// The tree of a question all of whose answers are closed.
-fn finish(
-    problem: &Problem,
-    hunt: &mut Hunt,
-    test: &Test,
-    frame: &Frame,
-) -> Result<usize, NoMemory> {
+fn finish(problem: &Problem, hunt: &mut Hunt, test: &Test, frame: &Frame) -> usize {
     let start = used_start(hunt);
     let width = hunt.used_width;
-    for k in 0..width {
-        let bits = word(&hunt.used, start.wrapping_add(k));
-        put_word(&mut hunt.desk.used, k, bits);
-    }
+    clear(&mut hunt.desk.used, 0, width);
+    join(&mut hunt.desk.used, 0, &hunt.used, start, width);
     hunt.desk.above = hunt.branch.facts.len();
     let mut trees = (NONE, NONE);
     for i in frame.trees..hunt.tried.len() {
@@ -254,79 +242,89 @@ fn finish(
         }
     }
     match frame.ask {
-        Ask::Source(r) => { add_source_question(problem, &hunt.branch, &mut hunt.desk, test, r) }
+        Ask::Source(r) => add_source_question(problem, &hunt.branch, &mut hunt.desk, test, r),
         Ask::Order(a, b) => add_order_question(&mut hunt.desk, a, b, trees.0, trees.1),
-        Ask::Nothing => Ok(NONE),
+        Ask::Nothing => NONE,
     }
 }
 
 /// A closed answer is kept for its question. An answer that isn't used closes the question, and its tree goes on alone.
-fn keep_or_jump(hunt: &mut Hunt, frame: &Frame, tree: usize) -> Result<bool, NoMemory> {
+fn keep_or_jump(hunt: &mut Hunt, frame: &Frame, tree: usize) -> bool {
     if !has(&hunt.desk.used, 0, frame.fact) {
-        return Ok(false);
+        return false;
     }
     remove(&mut hunt.desk.used, 0, frame.fact);
     let start = used_start(hunt);
     let width = hunt.used_width;
     join(&mut hunt.used, start, &hunt.desk.used, 0, width);
-    hunt.tried.push((frame.answer, tree))?;
-    Ok(true)
+    hunt.branch.is_refused |= hunt.tried.push((frame.answer, tree)).is_err();
+    true
+}
+
+/// Whether memory was refused.
+pub fn is_refused(hunt: &Hunt) -> bool {
+    hunt.branch.is_refused || hunt.desk.trees.is_refused
+}
+
+/// Whether the search can't go on.
+fn must_end(hunt: &Hunt) -> bool {
+    hunt.branch.is_full || is_refused(hunt)
 }
 
 /// Goes back from a closed branch to the next answer that is open. The tree where there is none.
-pub fn go_back(problem: &Problem, hunt: &mut Hunt, test: &Test) -> Result<usize, NoMemory> {
+pub fn go_back(problem: &Problem, hunt: &mut Hunt, test: &Test) -> usize {
     let width = hunt.used_width;
     clear(&mut hunt.desk.used, 0, width);
-    let mut tree = add_conflict(problem, &hunt.branch, &mut hunt.desk, test)?;
+    let mut tree = add_conflict(problem, &hunt.branch, &mut hunt.desk, test);
     for _step in 0..u64::MAX {
         let Some(frame) = hunt.frames.last().copied() else {
             return wrap(problem, &hunt.branch, &mut hunt.desk, test, 0, tree);
         };
         let from = frame.fact.wrapping_add(1);
-        tree = wrap(problem, &hunt.branch, &mut hunt.desk, test, from, tree)?;
+        tree = wrap(problem, &hunt.branch, &mut hunt.desk, test, from, tree);
         undo(problem, &mut hunt.branch, &frame.mark);
-        if !keep_or_jump(hunt, &frame, tree)? {
+        if !keep_or_jump(hunt, &frame, tree) {
             drop_frame(hunt, &frame);
             continue;
         }
-        match try_next(problem, hunt)? {
-            Next::Open => return Ok(NONE),
+        match try_next(problem, hunt) {
+            Next::Open => return NONE,
             Next::Closed => {
                 clear(&mut hunt.desk.used, 0, width);
-                tree = add_conflict(problem, &hunt.branch, &mut hunt.desk, test)?;
+                tree = add_conflict(problem, &hunt.branch, &mut hunt.desk, test);
             }
             Next::None => {
-                tree = finish(problem, hunt, test, &frame)?;
+                tree = finish(problem, hunt, test, &frame);
                 drop_frame(hunt, &frame);
             }
         }
     }
-    Ok(NONE)
+    NONE
 }
 
 /// Searches until all is closed, or a branch is open to the end, or it pauses.
-pub fn search(problem: &Problem, hunt: &mut Hunt, test: &Test) -> Result<Find, NoMemory> {
+pub fn search(problem: &Problem, hunt: &mut Hunt, test: &Test) -> Find {
     for _case in 0..u64::MAX {
         hunt.cases = hunt.cases.wrapping_add(1);
-        if hunt.cases > hunt.pause || hunt.branch.is_full {
-            return Ok(Find::Paused);
+        if hunt.cases > hunt.pause || must_end(hunt) {
+            return Find::Paused;
         }
-        if deduce(problem, &mut hunt.branch, test)? {
+        if deduce(problem, &mut hunt.branch, test) {
             let ask = choose(problem, &hunt.branch, &hunt.desk, test, hunt.round);
             if matches!(ask, Ask::Nothing) {
-                return Ok(Find::Allowed);
+                return Find::Allowed;
             }
-            begin(problem, hunt, ask)?;
-            if try_next(problem, hunt)? == Next::Open {
+            begin(problem, hunt, test, ask);
+            if try_next(problem, hunt) == Next::Open {
                 continue;
             }
         }
-        let tree = go_back(problem, hunt, test)?;
+        let tree = go_back(problem, hunt, test);
         if tree != NONE {
-            return Ok(Find::Refuted(tree));
+            return Find::Refuted(tree);
         }
     }
-    Ok(Find::Paused)
+    Find::Paused
 }
 
 /// Takes all questions back.
@@ -348,28 +346,17 @@ pub fn start_anew(problem: &Problem, hunt: &mut Hunt, start: &Mark) {
 }
 
 /// Searches with pauses, after each of which it begins anew with what it learnt of which questions matter: at most so many cases.
-///
-/// Errors: out of memory only.
-pub fn hunt_for(
-    problem: &Problem,
-    hunt: &mut Hunt,
-    test: &Test,
-    most: u64,
-) -> Result<Find, NoMemory> {
+pub fn hunt_for(problem: &Problem, hunt: &mut Hunt, test: &Test, most: u64) -> Find {
     let start = mark_here(&hunt.branch);
     let mut step = 400u64;
     for _round in 0..u64::MAX {
         hunt.pause = hunt.cases.wrapping_add(step);
-        match search(problem, hunt, test)? {
-            Find::Paused => {
-                if hunt.cases > most || hunt.branch.is_full {
-                    return Ok(Find::Paused);
-                }
-                start_anew(problem, hunt, &start);
-                step = step.wrapping_add(step / 4);
-            }
-            other => return Ok(other),
+        let found = search(problem, hunt, test);
+        if !matches!(found, Find::Paused) || hunt.cases > most || must_end(hunt) {
+            return found;
         }
+        start_anew(problem, hunt, &start);
+        step = step.wrapping_add(step / 4);
     }
-    Ok(Find::Paused)
+    Find::Paused
 }

@@ -1,24 +1,35 @@
 //! Values that answers tell, read by read: and whether what is asked is false by them, with the answers by which it is.
 
 use crate::branch::{Branch, UNKNOWN, cell};
-use crate::deduction::asked_truth;
+use crate::deduction::{asked_truth, wants_both};
 use crate::evidence::{Evidence, need};
 use crate::notes::source_of;
 use crate::problem::{Problem, Term, final_term, is_initial, reads, term_of};
-use crate::rows::{NONE, add, at, clear, has, is_empty, put_word, row};
+use crate::rows::{NONE, at, has, is_empty, row};
 use std::alloc::Global;
 use tso_model::{NoMemory, Prop, Test};
+
+/// What is known of a read: the source that it is supposed to have, its value, and whether this is needed.
+#[derive(Clone, Copy)]
+struct Known {
+    supposed: usize,
+    value: u64,
+    is_needed: bool,
+}
+
+const NOTHING: Known = Known {
+    supposed: NONE,
+    value: UNKNOWN,
+    is_needed: false,
+};
 
 /// Values by the first so many facts, and by answers that are supposed: sources of reads, or a write that comes before another one.
 #[derive(Drop)]
 pub struct KnownValues {
     pub limit: usize,
-    /// The sources that reads are supposed to have.
-    pub supposed: Vec<usize>,
     pub first: usize,
     pub second: usize,
-    values: Vec<u64>,
-    needed: Vec<u64>,
+    reads: Vec<Known>,
 }
 
 /// No value is known.
@@ -27,30 +38,52 @@ pub struct KnownValues {
 pub fn make_values(alloc: Global, problem: &Problem) -> Result<KnownValues, NoMemory> {
     Ok(KnownValues {
         limit: 0,
-        supposed: vec![in alloc; NONE; problem.size]?,
         first: NONE,
         second: NONE,
-        values: vec![in alloc; UNKNOWN; problem.size]?,
-        needed: vec![in alloc; 0u64; problem.width]?,
+        reads: vec![in alloc; NOTHING; problem.size]?,
     })
 }
 
 /// Begins anew with so many facts, and nothing supposed.
 pub fn suppose_nothing(values: &mut KnownValues, limit: usize) {
     values.limit = limit;
-    for source in &mut values.supposed {
-        *source = NONE;
+    for known in &mut values.reads {
+        *known = NOTHING;
     }
     values.first = NONE;
     values.second = NONE;
 }
 
-fn source(branch: &Branch, values: &KnownValues, r: usize) -> usize {
-    let supposed = at(&values.supposed, r);
-    if supposed != NONE {
-        return supposed;
+/// Supposes that a read has a source, or none.
+pub fn suppose(values: &mut KnownValues, r: usize, s: usize) {
+    if let Some(known) = values.reads.get_mut(r) {
+        known.supposed = s;
     }
-    if at(&branch.source, r) < values.limit {
+}
+
+/// The source that a read is supposed to have.
+pub fn supposed(values: &KnownValues, r: usize) -> usize {
+    values.reads.get(r).copied().unwrap_or(NOTHING).supposed
+}
+
+fn put_value(values: &mut KnownValues, r: usize, value: u64) {
+    if let Some(known) = values.reads.get_mut(r) {
+        known.value = value;
+    }
+}
+
+/// Whether a write is known to come before another one to its location.
+pub fn is_overwritten(problem: &Problem, branch: &Branch, values: &KnownValues, w: usize) -> bool {
+    overwriting(problem, branch, values, w) != NONE
+}
+
+/// The source that a read has, or is supposed to have.
+pub fn source(branch: &Branch, values: &KnownValues, r: usize) -> usize {
+    let by_hand = supposed(values, r);
+    if by_hand != NONE {
+        return by_hand;
+    }
+    if at(&branch.tables.source, r) < values.limit {
         source_of(branch, r)
     } else {
         NONE
@@ -58,7 +91,7 @@ fn source(branch: &Branch, values: &KnownValues, r: usize) -> usize {
 }
 
 fn value(values: &KnownValues, r: usize) -> u64 {
-    values.values.get(r).copied().unwrap_or(UNKNOWN)
+    values.reads.get(r).copied().unwrap_or(NOTHING).value
 }
 
 fn sum(first: u64, second: u64) -> u64 {
@@ -69,7 +102,8 @@ fn sum(first: u64, second: u64) -> u64 {
     }
 }
 
-fn term_value(values: &KnownValues, term: Term) -> u64 {
+/// What a term is by the values that are known.
+pub fn term_value(values: &KnownValues, term: Term) -> u64 {
     match term {
         Term::Number(number) => u64::from(number),
         Term::Of(r) => value(values, r),
@@ -86,7 +120,7 @@ fn run_round(problem: &Problem, branch: &Branch, values: &mut KnownValues) -> bo
             if s != NONE {
                 let found = term_value(values, term_of(problem, s));
                 if found != UNKNOWN {
-                    put_word(&mut values.values, r, found);
+                    put_value(values, r, found);
                     changed = true;
                 }
             }
@@ -98,7 +132,7 @@ fn run_round(problem: &Problem, branch: &Branch, values: &mut KnownValues) -> bo
 /// Finds the values.
 pub fn run(problem: &Problem, branch: &Branch, values: &mut KnownValues) {
     for r in 0..problem.size {
-        put_word(&mut values.values, r, UNKNOWN);
+        put_value(values, r, UNKNOWN);
     }
     for _round in 0..problem.size {
         if !run_round(problem, branch, values) {
@@ -117,7 +151,7 @@ fn overwriting(problem: &Problem, branch: &Branch, values: &KnownValues, w: usiz
         return values.limit;
     }
     for v in problem.locations..problem.size {
-        let fact = at(&branch.pairs, cell(problem, w, v));
+        let fact = at(&branch.tables.pairs, cell(problem, w, v));
         if fact < values.limit {
             return fact;
         }
@@ -135,8 +169,7 @@ fn word_can_be(
 ) -> bool {
     let start = row(loc, problem.width);
     if is_empty(&problem.writes_to, start, problem.width) {
-        let first = problem.first_words.get(loc).copied().unwrap_or(0);
-        return (first == number) == truth;
+        return can_be(number, truth, term_value(values, term_of(problem, loc)));
     }
     for w in problem.locations..problem.size {
         if has(&problem.writes_to, start, w)
@@ -166,22 +199,13 @@ fn allows(
             word_can_be(problem, branch, values, usize::from(loc.0), *number, truth)
         }
         Prop::Not(inner) => allows(problem, branch, values, inner, !truth),
-        Prop::And(left, right) => {
-            if truth {
+        Prop::And(left, right) | Prop::Or(left, right) => {
+            if wants_both(prop, truth) {
                 allows(problem, branch, values, right, truth)
                     && allows(problem, branch, values, left, truth)
             } else {
                 allows(problem, branch, values, right, truth)
                     || allows(problem, branch, values, left, truth)
-            }
-        }
-        Prop::Or(left, right) => {
-            if truth {
-                allows(problem, branch, values, right, truth)
-                    || allows(problem, branch, values, left, truth)
-            } else {
-                allows(problem, branch, values, right, truth)
-                    && allows(problem, branch, values, left, truth)
             }
         }
     }
@@ -195,13 +219,19 @@ pub fn is_false(problem: &Problem, branch: &Branch, values: &KnownValues, test: 
     }
 }
 
+fn need_read(values: &mut KnownValues, r: usize) {
+    if let Some(known) = values.reads.get_mut(r) {
+        known.is_needed = true;
+    }
+}
+
 fn need_term(values: &mut KnownValues, term: Term) {
     match term {
         Term::Number(_) => {}
-        Term::Of(r) | Term::Plus(r, _) => add(&mut values.needed, 0, r),
+        Term::Of(r) | Term::Plus(r, _) => need_read(values, r),
         Term::Sum(r, q) => {
-            add(&mut values.needed, 0, r);
-            add(&mut values.needed, 0, q);
+            need_read(values, r);
+            need_read(values, q);
         }
     }
 }
@@ -258,31 +288,21 @@ fn need_prop(
             );
         }
         Prop::Not(inner) => need_prop(problem, branch, values, evidence, inner, !truth),
-        Prop::And(left, right) => {
-            if truth {
-                if allows(problem, branch, values, right, truth) {
-                    need_prop(problem, branch, values, evidence, left, truth);
-                } else {
-                    need_prop(problem, branch, values, evidence, right, truth);
-                }
-            } else {
+        Prop::And(left, right) | Prop::Or(left, right) => {
+            let both = wants_both(prop, truth);
+            let is_open = both && allows(problem, branch, values, right, truth);
+            if is_open || !both {
                 need_prop(problem, branch, values, evidence, left, truth);
-                need_prop(problem, branch, values, evidence, right, truth);
             }
-        }
-        Prop::Or(left, right) => {
-            if truth {
-                need_prop(problem, branch, values, evidence, left, truth);
+            if !is_open {
                 need_prop(problem, branch, values, evidence, right, truth);
-            } else {
-                if allows(problem, branch, values, right, truth) {
-                    need_prop(problem, branch, values, evidence, left, truth);
-                } else {
-                    need_prop(problem, branch, values, evidence, right, truth);
-                }
             }
         }
     }
+}
+
+fn is_needed(values: &KnownValues, r: usize) -> bool {
+    values.reads.get(r).copied().unwrap_or(NOTHING).is_needed
 }
 
 /// Adds the sources from which the needed values come.
@@ -295,12 +315,12 @@ fn need_sources(
     for _round in 0..problem.size {
         let mut changed = false;
         for r in problem.locations..problem.size {
-            if has(&values.needed, 0, r) && value(values, r) != UNKNOWN {
+            if is_needed(values, r) && value(values, r) != UNKNOWN {
                 // its value is told once, and forgotten
-                put_word(&mut values.values, r, UNKNOWN);
+                put_value(values, r, UNKNOWN);
                 changed = true;
-                if at(&values.supposed, r) == NONE {
-                    need(evidence, at(&branch.source, r));
+                if supposed(values, r) == NONE {
+                    need(evidence, at(&branch.tables.source, r));
                 }
                 let s = source(branch, values, r);
                 if s != NONE && !is_initial(problem, s) {
@@ -322,7 +342,9 @@ pub fn need_falsity(
     evidence: &mut Evidence,
     test: &Test,
 ) {
-    clear(&mut values.needed, 0, problem.width);
+    for known in &mut values.reads {
+        known.is_needed = false;
+    }
     if let Some(cond) = test.cond() {
         need_prop(
             problem,

@@ -2,15 +2,15 @@
 
 use crate::branch::{
     Answer, Branch, Conflict, Label, after, before, candidates, change, is_known, look_at,
-    look_at_readers,
+    look_at_all, look_at_readers,
 };
 use crate::deduction::{is_wrong_value, look_at_write, match_values, want_asked};
 use crate::edges::{add_edge, put_before};
 use crate::last_words::look_at_last;
 use crate::notes::{note, note_removed, source_of};
-use crate::problem::{Problem, Relations, event, is_initial, location, reads, writes};
+use crate::problem::{Problem, Relations, event, is_initial, location, partner, reads, writes};
 use crate::rows::{NONE, at, bit, has, lowest, put, put_word, rest, row, word};
-use tso_model::{Kind, NoMemory, Test};
+use tso_model::{Kind, Test};
 
 /// Whether a read from this write is an edge of the global relations.
 pub fn is_global_source(problem: &Problem, w: usize, r: usize) -> bool {
@@ -18,21 +18,17 @@ pub fn is_global_source(problem: &Problem, w: usize, r: usize) -> bool {
 }
 
 /// A read has this source. False where that closes a cycle.
-///
-/// Errors: out of memory only.
-pub fn put_source(
-    problem: &Problem,
-    branch: &mut Branch,
-    r: usize,
-    w: usize,
-    tried: bool,
-) -> Result<bool, NoMemory> {
-    let fact = note(branch, Answer::Source(r, w), tried)?;
-    put(&mut branch.source, r, fact);
+pub fn put_source(problem: &Problem, branch: &mut Branch, r: usize, w: usize, tried: bool) -> bool {
+    let fact = note(branch, Answer::Source(r, w), tried);
+    put(&mut branch.tables.source, r, fact);
     look_at(branch, r);
+    if branch.next != NONE {
+        branch.next = NONE;
+        look_at_all(problem, branch);
+    }
     if event(problem, r).kind == Kind::LR {
-        if at(&branch.reader, w) == NONE {
-            put(&mut branch.reader, w, r);
+        if at(&branch.tables.reader, w) == NONE {
+            put(&mut branch.tables.reader, w, r);
         }
         look_at_readers(problem, branch, location(problem, r));
     }
@@ -44,8 +40,8 @@ pub fn put_source(
         r,
         Label::ReadsFrom,
         fact,
-    )? {
-        return Ok(false);
+    ) {
+        return false;
     }
     if is_global_source(problem, w, r) {
         return add_edge(
@@ -58,18 +54,12 @@ pub fn put_source(
             fact,
         );
     }
-    Ok(true)
+    true
 }
 
 /// The read is before each of these writes, which are after its source.
-fn add_from_reads(
-    problem: &Problem,
-    branch: &mut Branch,
-    r: usize,
-    k: usize,
-    some: u64,
-) -> Result<bool, NoMemory> {
-    let fact = at(&branch.source, r);
+fn add_from_reads(problem: &Problem, branch: &mut Branch, r: usize, k: usize, some: u64) -> bool {
+    let fact = at(&branch.tables.source, r);
     let mut left = some;
     for _bit in 0..64u8 {
         if left == 0 {
@@ -85,7 +75,7 @@ fn add_from_reads(
             v,
             Label::FromReads,
             fact,
-        )? || !add_edge(
+        ) || !add_edge(
             problem,
             branch,
             Relations::Global,
@@ -93,11 +83,11 @@ fn add_from_reads(
             v,
             Label::FromReads,
             fact,
-        )? {
-            return Ok(false);
+        ) {
+            return false;
         }
     }
-    Ok(true)
+    true
 }
 
 /// Each of these writes but `own` is before `w`.
@@ -107,7 +97,7 @@ pub fn put_all_before(
     k: usize,
     some: u64,
     w: usize,
-) -> Result<bool, NoMemory> {
+) -> bool {
     let mut left = some;
     for _bit in 0..64u8 {
         if left == 0 {
@@ -115,21 +105,15 @@ pub fn put_all_before(
         }
         let v = row(k, 64).wrapping_add(lowest(left));
         left = rest(left);
-        if v != w && !put_before(problem, branch, v, w, false)? {
-            return Ok(false);
+        if v != w && !put_before(problem, branch, v, w, false) {
+            return false;
         }
     }
-    Ok(true)
+    true
 }
 
 /// Each of these writes but `w` is after `w`.
-fn put_all_after(
-    problem: &Problem,
-    branch: &mut Branch,
-    k: usize,
-    some: u64,
-    w: usize,
-) -> Result<bool, NoMemory> {
+fn put_all_after(problem: &Problem, branch: &mut Branch, k: usize, some: u64, w: usize) -> bool {
     let mut left = some;
     for _bit in 0..64u8 {
         if left == 0 {
@@ -137,11 +121,11 @@ fn put_all_after(
         }
         let v = row(k, 64).wrapping_add(lowest(left));
         left = rest(left);
-        if v != w && !put_before(problem, branch, w, v, false)? {
-            return Ok(false);
+        if v != w && !put_before(problem, branch, w, v, false) {
+            return false;
         }
     }
-    Ok(true)
+    true
 }
 
 /// No write comes between the source of a load part and its store part.
@@ -152,7 +136,7 @@ fn keep_together(
     own: usize,
     k: usize,
     them: u64,
-) -> Result<bool, NoMemory> {
+) -> bool {
     let later = word(
         &branch.rows,
         after(problem, Relations::Coherence, s).wrapping_add(k),
@@ -161,8 +145,8 @@ fn keep_together(
         &branch.rows,
         after(problem, Relations::Coherence, own).wrapping_add(k),
     );
-    if !put_all_after(problem, branch, k, later & them & !own_later, own)? {
-        return Ok(false);
+    if !put_all_after(problem, branch, k, later & them & !own_later, own) {
+        return false;
     }
     let earlier = word(
         &branch.rows,
@@ -173,7 +157,7 @@ fn keep_together(
         before(problem, Relations::Coherence, s).wrapping_add(k),
     );
     if is_initial(problem, s) {
-        return Ok(true);
+        return true;
     }
     put_all_before(problem, branch, k, earlier & them & !known, s)
 }
@@ -193,33 +177,27 @@ pub fn word_before(
 }
 
 /// What follows at a read whose source is known.
-fn look_at_known(
-    problem: &Problem,
-    branch: &mut Branch,
-    test: &Test,
-    r: usize,
-    s: usize,
-) -> Result<bool, NoMemory> {
+fn look_at_known(problem: &Problem, branch: &mut Branch, test: &Test, r: usize, s: usize) -> bool {
     let loc = row(location(problem, r), problem.width);
-    let own = at(&problem.partner, r);
+    let own = partner(problem, r);
     for k in 0..problem.width {
         let them = word(&problem.writes_to, loc.wrapping_add(k));
         let later = word_after(problem, branch, Relations::Coherence, s, k);
         let passed = word_after(problem, branch, Relations::OnLocation, r, k)
             & word_after(problem, branch, Relations::Global, r, k);
-        if !add_from_reads(problem, branch, r, k, later & !passed & them)? {
-            return Ok(false);
+        if !add_from_reads(problem, branch, r, k, later & !passed & them) {
+            return false;
         }
         let earlier = word_before(problem, branch, Relations::OnLocation, r, k)
             | word_before(problem, branch, Relations::Global, r, k);
         let known = word_before(problem, branch, Relations::Coherence, s, k);
         if !is_initial(problem, s)
-            && !put_all_before(problem, branch, k, earlier & them & !known, s)?
+            && !put_all_before(problem, branch, k, earlier & them & !known, s)
         {
-            return Ok(false);
+            return false;
         }
-        if own != NONE && !keep_together(problem, branch, s, own, k, them)? {
-            return Ok(false);
+        if own != NONE && !keep_together(problem, branch, s, own, k, them) {
+            return false;
         }
     }
     match_values(problem, branch, test, r, s)
@@ -232,7 +210,7 @@ fn is_impossible(problem: &Problem, branch: &Branch, r: usize, s: usize) -> bool
     {
         return true;
     }
-    let own = at(&problem.partner, r);
+    let own = partner(problem, r);
     let loc = row(location(problem, r), problem.width);
     for k in 0..problem.width {
         let later = word_after(problem, branch, Relations::Coherence, s, k)
@@ -251,12 +229,12 @@ fn is_impossible(problem: &Problem, branch: &Branch, r: usize, s: usize) -> bool
 
 /// Whether a locked instruction of another core reads from this write.
 pub fn is_read_by_another(problem: &Problem, branch: &Branch, r: usize, s: usize) -> bool {
-    let other = at(&branch.reader, s);
+    let other = at(&branch.tables.reader, s);
     other != NONE && other != r && event(problem, other).core.0 != event(problem, r).core.0
 }
 
 /// Takes a source from a read.
-fn take_source(problem: &Problem, branch: &mut Branch, r: usize, s: usize) -> Result<(), NoMemory> {
+fn take_source(problem: &Problem, branch: &mut Branch, r: usize, s: usize) {
     let place = candidates(problem, r).wrapping_add(s / 64);
     let bits = word(&branch.rows, place) & !bit(s);
     change(branch, place, bits);
@@ -279,12 +257,7 @@ fn only_candidate(problem: &Problem, branch: &Branch, r: usize) -> (usize, bool)
 }
 
 /// What follows at a read whose source is open.
-fn look_at_open(
-    problem: &Problem,
-    branch: &mut Branch,
-    test: &Test,
-    r: usize,
-) -> Result<bool, NoMemory> {
+fn look_at_open(problem: &Problem, branch: &mut Branch, test: &Test, r: usize) -> bool {
     for k in 0..problem.width {
         let mut left = word(&branch.rows, candidates(problem, r).wrapping_add(k));
         for _bit in 0..64u8 {
@@ -294,38 +267,33 @@ fn look_at_open(
             let s = row(k, 64).wrapping_add(lowest(left));
             left = rest(left);
             if is_impossible(problem, branch, r, s) || is_wrong_value(problem, branch, test, r, s) {
-                take_source(problem, branch, r, s)?;
+                take_source(problem, branch, r, s);
             }
         }
     }
     let (only, some) = only_candidate(problem, branch, r);
     if !some {
         branch.conflict = Conflict::NoSource(r);
-        return Ok(false);
+        return false;
     }
     if only == NONE {
-        return Ok(true);
+        return true;
     }
     put_source(problem, branch, r, only, false)
 }
 
-fn look_at_one(
-    problem: &Problem,
-    branch: &mut Branch,
-    test: &Test,
-    a: usize,
-) -> Result<bool, NoMemory> {
+fn look_at_one(problem: &Problem, branch: &mut Branch, test: &Test, a: usize) -> bool {
     if is_initial(problem, a) {
         if has(&problem.asked, 0, a) {
             return look_at_last(problem, branch, test, a);
         }
-        return Ok(true);
+        return true;
     }
     if writes(problem, a) {
         return look_at_write(problem, branch, a);
     }
     if !reads(problem, a) {
-        return Ok(true);
+        return true;
     }
     let s = source_of(branch, a);
     if s != NONE {
@@ -347,24 +315,22 @@ fn take_dirty(problem: &Problem, branch: &mut Branch) -> usize {
 }
 
 /// Notes all that follows. False where the branch is closed.
-///
-/// Errors: out of memory only.
-pub fn deduce(problem: &Problem, branch: &mut Branch, test: &Test) -> Result<bool, NoMemory> {
+pub fn deduce(problem: &Problem, branch: &mut Branch, test: &Test) -> bool {
     for _step in 0..u64::MAX {
         if branch.claim_is_dirty {
             branch.claim_is_dirty = false;
-            if !want_asked(problem, branch, test)? {
-                return Ok(false);
+            if !want_asked(problem, branch, test) {
+                return false;
             }
             continue;
         }
         let next = take_dirty(problem, branch);
         if next == NONE {
-            return Ok(true);
+            return true;
         }
-        if !look_at_one(problem, branch, test, next)? {
-            return Ok(false);
+        if !look_at_one(problem, branch, test, next) {
+            return false;
         }
     }
-    Ok(true)
+    true
 }

@@ -3,81 +3,45 @@
 use crate::branch::{Answer, Branch, Fact, UNKNOWN, cell, look_at};
 use crate::problem::Problem;
 use crate::rows::{NONE, at, put, put_word};
-use tso_model::NoMemory;
 
 /// Adds a fact, and gives its number.
-///
-/// Errors: out of memory only.
-pub fn note(branch: &mut Branch, answer: Answer, tried: bool) -> Result<usize, NoMemory> {
+pub fn note(branch: &mut Branch, answer: Answer, tried: bool) -> usize {
     let number = branch.facts.len();
-    let edges = branch.edges.len();
-    branch.facts.push(Fact {
+    let fact = Fact {
         answer,
         tried,
-        edges,
-    })?;
-    Ok(number)
+        edges: branch.edges.len(),
+    };
+    branch.is_refused |= branch.facts.push(fact).is_err();
+    number
 }
 
 /// Notes that a read can't have this source.
-///
-/// Errors: out of memory only.
-pub fn note_removed(
-    problem: &Problem,
-    branch: &mut Branch,
-    r: usize,
-    w: usize,
-) -> Result<(), NoMemory> {
+pub fn note_removed(problem: &Problem, branch: &mut Branch, r: usize, w: usize) {
     let place = cell(problem, r, w);
     let facts = branch.facts.len();
     let edges = branch.edges.len();
-    put(&mut branch.removed_facts, place, facts);
-    put(&mut branch.removed_edges, place, edges);
-    branch.removed.push(place)?;
-    Ok(())
+    put(&mut branch.tables.removed_facts, place, facts);
+    put(&mut branch.tables.removed_edges, place, edges);
+    branch.is_refused |= branch.removed.push(place).is_err();
 }
 
-/// The value that a read is known to return.
-pub fn value_known(branch: &Branch, r: usize) -> u64 {
-    branch.values.get(r).copied().unwrap_or(UNKNOWN)
+/// The value that a read returns, or a location has at the end, wherever what is asked is so.
+pub fn value_of(branch: &Branch, r: usize) -> u64 {
+    branch.tables.values.get(r).copied().unwrap_or(UNKNOWN)
 }
 
-/// The value that a read has to return, or that a location has to have at the end.
-pub fn value_wanted(problem: &Problem, branch: &Branch, r: usize) -> u64 {
-    let place = problem.size.wrapping_add(r);
-    branch.values.get(place).copied().unwrap_or(UNKNOWN)
-}
-
-/// Notes what a read returns.
-///
-/// Errors: out of memory only.
-pub fn note_known(branch: &mut Branch, r: usize, value: u64) -> Result<(), NoMemory> {
-    put_word(&mut branch.values, r, value);
-    branch.valued.push(r)?;
+/// Notes what a read returns, or a location has at the end.
+pub fn note_value(branch: &mut Branch, r: usize, value: u64) {
+    put_word(&mut branch.tables.values, r, value);
+    branch.is_refused |= branch.valued.push(r).is_err();
     look_at(branch, r);
     branch.claim_is_dirty = true;
-    Ok(())
-}
-
-/// Notes what a read has to return, or a location at the end.
-///
-/// Errors: out of memory only.
-pub fn note_wanted(
-    problem: &Problem,
-    branch: &mut Branch,
-    r: usize,
-    value: u32,
-) -> Result<(), NoMemory> {
-    let place = problem.size.wrapping_add(r);
-    put_word(&mut branch.values, place, u64::from(value));
-    branch.valued.push(place)?;
-    look_at(branch, r);
-    Ok(())
 }
 
 /// The write that a read is known to read from.
 pub fn source_of(branch: &Branch, r: usize) -> usize {
-    let number = at(&branch.source, r);
+    let number = at(&branch.tables.source, r);
     match branch.facts.get(number) {
         Some(
             Fact {

@@ -6,21 +6,23 @@ use crate::evidence::{
     Closing, Evidence, follow, make_evidence, need, need_order, offer, reset, visit, weigh,
 };
 use crate::growing::{Trees, no_trees};
-use crate::known_values::{KnownValues, is_false, make_values, need_falsity, run, suppose_nothing};
+use crate::known_values::{
+    KnownValues, is_false, make_values, need_falsity, run, suppose, suppose_nothing,
+};
 use crate::looking::{is_global_source, is_read_by_another};
 use crate::notes::source_of;
 use crate::paths::{Paths, begin, find, make_paths, start_from, start_from_later};
-use crate::problem::{Problem, Relations, event, location};
-use crate::rows::{NONE, at, has, put, row};
+use crate::problem::{Problem, Relations, event, location, partner};
+use crate::rows::{NONE, at, has, row};
 use std::alloc::Global;
 use tso_model::{NoMemory, Test};
 
 /// What reasons are made with.
 #[derive(Drop)]
 pub struct Desk {
+    pub alloc: Global,
     pub paths: Paths,
     pub inner: Paths,
-    pub later: Paths,
     pub best: Evidence,
     pub trial: Evidence,
     pub values: KnownValues,
@@ -41,9 +43,9 @@ pub struct Desk {
 /// Errors: out of memory only.
 pub fn make_desk(alloc: Global, problem: &Problem, facts: usize) -> Result<Desk, NoMemory> {
     Ok(Desk {
+        alloc,
         paths: make_paths(alloc, problem)?,
         inner: make_paths(alloc, problem)?,
-        later: make_paths(alloc, problem)?,
         best: make_evidence(alloc, problem)?,
         trial: make_evidence(alloc, problem)?,
         values: make_values(alloc, problem)?,
@@ -56,29 +58,38 @@ pub fn make_desk(alloc: Global, problem: &Problem, facts: usize) -> Result<Desk,
     })
 }
 
-/// Offers a cycle: the path from `from` to `to` by the first so many edges, and the edge back.
-fn offer_path(
+/// What kind of leaf a cycle of these relations is.
+fn closing_of(relations: Relations) -> Closing {
+    match relations {
+        Relations::Global => Closing::Global,
+        _ => Closing::OnLocation,
+    }
+}
+
+/// Offers the leaf in hand.
+fn offer_trial(desk: &mut Desk, length: usize) {
+    weigh(&mut desk.trial, &desk.used, length);
+    offer(&mut desk.best, &desk.trial);
+}
+
+fn offer_cycle(desk: &mut Desk) {
+    let length = desk.trial.cycle_length;
+    offer_trial(desk, length);
+}
+
+/// Takes in hand the cycle of a path to `to` by the first so many edges, and of an edge back. False where there is no path.
+fn take_cycle(
     problem: &Problem,
     branch: &Branch,
     desk: &mut Desk,
     relations: Relations,
-    from: usize,
     to: usize,
     limit: usize,
-    fact: usize,
-) {
-    begin(problem, &mut desk.paths);
-    start_from(&mut desk.paths, from);
+) -> bool {
     if !find(problem, branch, &mut desk.paths, relations, to, limit) {
-        return;
+        return false;
     }
-    let closing = if relations == Relations::Global {
-        Closing::Global
-    } else {
-        Closing::OnLocation
-    };
-    reset(&mut desk.trial, closing);
-    need(&mut desk.trial, fact);
+    reset(&mut desk.trial, closing_of(relations));
     follow(
         problem,
         branch,
@@ -87,9 +98,77 @@ fn offer_path(
         &mut desk.trial,
     );
     visit(&mut desk.trial, to);
-    let length = desk.trial.cycle_length;
-    weigh(&mut desk.trial, &desk.used, length);
-    offer(&mut desk.best, &desk.trial);
+    true
+}
+
+/// Makes the leaf in hand one of a write between two parts.
+fn put_between(desk: &mut Desk, r: usize, v: usize, own: usize) {
+    desk.trial.closing = Closing::Between;
+    desk.trial.cycle_length = 0;
+    visit(&mut desk.trial, r);
+    visit(&mut desk.trial, v);
+    visit(&mut desk.trial, own);
+}
+
+/// Offers a cycle: the path from `from` to `to`, and the edge back, which follows from a fact or from what is supposed.
+fn offer_path(
+    problem: &Problem,
+    branch: &Branch,
+    desk: &mut Desk,
+    relations: Relations,
+    ends: (usize, usize),
+    limit: usize,
+    fact: usize,
+) {
+    begin(problem, &mut desk.paths);
+    start_from(&mut desk.paths, ends.0);
+    if take_cycle(problem, branch, desk, relations, ends.1, limit) {
+        need(&mut desk.trial, fact);
+        offer_cycle(desk);
+    }
+}
+
+/// The same of both relations.
+fn offer_paths(
+    problem: &Problem,
+    branch: &Branch,
+    desk: &mut Desk,
+    ends: (usize, usize),
+    limit: usize,
+    fact: usize,
+) {
+    offer_path(
+        problem,
+        branch,
+        desk,
+        Relations::OnLocation,
+        ends,
+        limit,
+        fact,
+    );
+    offer_path(problem, branch, desk, Relations::Global, ends, limit, fact);
+}
+
+/// Adds to the leaf in hand that the source is before its first event.
+fn need_first(
+    problem: &Problem,
+    branch: &Branch,
+    desk: &mut Desk,
+    s: usize,
+    limit: usize,
+    shown: bool,
+) {
+    let x = at(&desk.trial.cycle, 0);
+    need_order(
+        problem,
+        branch,
+        &mut desk.inner,
+        &mut desk.trial,
+        s,
+        x,
+        limit,
+        shown,
+    );
 }
 
 /// Offers a cycle by from-reads: from a write after the source to the read, and back.
@@ -103,37 +182,10 @@ fn offer_from_reads(
     limit: usize,
 ) {
     start_from_later(problem, branch, &mut desk.paths, s, limit);
-    if !find(problem, branch, &mut desk.paths, relations, r, limit) {
-        return;
+    if take_cycle(problem, branch, desk, relations, r, limit) {
+        need_first(problem, branch, desk, s, limit, true);
+        offer_cycle(desk);
     }
-    let closing = if relations == Relations::Global {
-        Closing::Global
-    } else {
-        Closing::OnLocation
-    };
-    reset(&mut desk.trial, closing);
-    follow(
-        problem,
-        branch,
-        &desk.paths,
-        &mut desk.inner,
-        &mut desk.trial,
-    );
-    visit(&mut desk.trial, r);
-    let x = at(&desk.trial.cycle, 0);
-    need_order(
-        problem,
-        branch,
-        &mut desk.inner,
-        &mut desk.trial,
-        s,
-        x,
-        limit,
-        true,
-    );
-    let length = desk.trial.cycle_length;
-    weigh(&mut desk.trial, &desk.used, length);
-    offer(&mut desk.best, &desk.trial);
 }
 
 /// Offers a write between the source of a load part and its store part.
@@ -145,12 +197,11 @@ fn offer_between(
     s: usize,
     own: usize,
     limit: usize,
-    fact: usize,
 ) {
-    start_from_later(problem, branch, &mut desk.later, s, limit);
+    start_from_later(problem, branch, &mut desk.inner, s, limit);
     begin(problem, &mut desk.paths);
     for x in problem.locations..problem.size {
-        if has(&desk.later.starts, 0, x)
+        if has(&desk.inner.starts, 0, x)
             && x != own
             && event(problem, x).core.0 != event(problem, r).core.0
             && is_known(problem, branch, Relations::Coherence, x, own)
@@ -158,42 +209,12 @@ fn offer_between(
             start_from(&mut desk.paths, x);
         }
     }
-    if !find(
-        problem,
-        branch,
-        &mut desk.paths,
-        Relations::Coherence,
-        own,
-        limit,
-    ) {
-        return;
+    if take_cycle(problem, branch, desk, Relations::Coherence, own, limit) {
+        need_first(problem, branch, desk, s, limit, false);
+        let x = at(&desk.trial.cycle, 0);
+        put_between(desk, r, x, own);
+        offer_trial(desk, 6);
     }
-    reset(&mut desk.trial, Closing::Between);
-    need(&mut desk.trial, fact);
-    follow(
-        problem,
-        branch,
-        &desk.paths,
-        &mut desk.inner,
-        &mut desk.trial,
-    );
-    let x = at(&desk.trial.cycle, 0);
-    desk.trial.cycle_length = 0;
-    visit(&mut desk.trial, r);
-    visit(&mut desk.trial, x);
-    visit(&mut desk.trial, own);
-    need_order(
-        problem,
-        branch,
-        &mut desk.inner,
-        &mut desk.trial,
-        s,
-        x,
-        limit,
-        false,
-    );
-    weigh(&mut desk.trial, &desk.used, 6);
-    offer(&mut desk.best, &desk.trial);
 }
 
 /// Offers that what is asked is false by the values that are set.
@@ -204,8 +225,7 @@ fn offer_false(problem: &Problem, branch: &Branch, desk: &mut Desk, test: &Test)
     }
     reset(&mut desk.trial, Closing::False);
     need_falsity(problem, branch, &mut desk.values, &mut desk.trial, test);
-    weigh(&mut desk.trial, &desk.used, 0);
-    offer(&mut desk.best, &desk.trial);
+    offer_trial(desk, 0);
     true
 }
 
@@ -218,49 +238,68 @@ pub fn find_why_not(
     r: usize,
     s: usize,
 ) {
-    let facts = at(&branch.removed_facts, cell(problem, r, s));
+    let facts = at(&branch.tables.removed_facts, cell(problem, r, s));
     reset(&mut desk.best, Closing::None);
     suppose_nothing(&mut desk.values, facts);
-    put(&mut desk.values.supposed, r, s);
+    suppose(&mut desk.values, r, s);
     let _found = offer_false(problem, branch, desk, test);
     offer_orders(problem, branch, desk, r, s);
 }
 
 /// Offers the reasons by order why a read can't have a source.
-fn offer_orders(problem: &Problem, branch: &Branch, desk: &mut Desk, r: usize, s: usize) {
+pub fn offer_orders(problem: &Problem, branch: &Branch, desk: &mut Desk, r: usize, s: usize) {
     let place = cell(problem, r, s);
-    let facts = at(&branch.removed_facts, place);
-    let limit = at(&branch.removed_edges, place);
+    let facts = at(&branch.tables.removed_facts, place);
+    let limit = at(&branch.tables.removed_edges, place);
     if is_known(problem, branch, Relations::OnLocation, r, s) {
         offer_path(
             problem,
             branch,
             desk,
             Relations::OnLocation,
-            r,
-            s,
+            (r, s),
             limit,
             NONE,
         );
     }
     if is_global_source(problem, s, r) && is_known(problem, branch, Relations::Global, r, s) {
-        offer_path(problem, branch, desk, Relations::Global, r, s, limit, NONE);
+        offer_path(
+            problem,
+            branch,
+            desk,
+            Relations::Global,
+            (r, s),
+            limit,
+            NONE,
+        );
     }
     offer_from_reads(problem, branch, desk, Relations::OnLocation, r, s, limit);
     offer_from_reads(problem, branch, desk, Relations::Global, r, s, limit);
-    let own = at(&problem.partner, r);
+    let own = partner(problem, r);
     if own != NONE {
-        offer_between(problem, branch, desk, r, s, own, limit, NONE);
-        let other = at(&branch.reader, s);
-        if is_read_by_another(problem, branch, r, s) && at(&branch.source, other) < facts {
-            reset(&mut desk.trial, Closing::Twice);
-            need(&mut desk.trial, at(&branch.source, other));
-            visit(&mut desk.trial, other);
-            visit(&mut desk.trial, r);
-            visit(&mut desk.trial, s);
-            weigh(&mut desk.trial, &desk.used, 16);
-            offer(&mut desk.best, &desk.trial);
-        }
+        offer_between(problem, branch, desk, r, s, own, limit);
+        offer_twice(problem, branch, desk, r, s, facts);
+    }
+}
+
+/// Offers that another locked instruction reads the same write.
+fn offer_twice(
+    problem: &Problem,
+    branch: &Branch,
+    desk: &mut Desk,
+    r: usize,
+    s: usize,
+    facts: usize,
+) {
+    let other = at(&branch.tables.reader, s);
+    let source = at(&branch.tables.source, other);
+    if source < facts && is_read_by_another(problem, branch, r, s) {
+        reset(&mut desk.trial, Closing::Twice);
+        need(&mut desk.trial, source);
+        visit(&mut desk.trial, other);
+        visit(&mut desk.trial, r);
+        visit(&mut desk.trial, s);
+        offer_trial(desk, 16);
     }
 }
 
@@ -276,54 +315,43 @@ pub fn find_why_before(
     limit: usize,
 ) {
     reset(&mut desk.best, Closing::None);
-    offer_path(
-        problem,
-        branch,
-        desk,
-        Relations::OnLocation,
-        a,
-        b,
-        limit,
-        NONE,
-    );
-    offer_path(problem, branch, desk, Relations::Global, a, b, limit, NONE);
+    offer_paths(problem, branch, desk, (a, b), limit, NONE);
     let loc = location(problem, a);
     suppose_nothing(&mut desk.values, fact);
     desk.values.first = b;
     desk.values.second = a;
     if has(&problem.asked, 0, loc) {
-        offer_false(problem, branch, desk, test);
+        let _found = offer_false(problem, branch, desk, test);
     }
     for r in problem.locations..problem.size {
-        let source = at(&branch.source, r);
-        if has(&problem.readers_of, row(loc, problem.width), r) && source < fact {
-            let s = source_of(branch, r);
-            if s == b {
+        let source = at(&branch.tables.source, r);
+        if source < fact && has(&problem.readers_of, row(loc, problem.width), r) {
+            if source_of(branch, r) == b {
                 // b before a: r is before a
-                offer_path(
-                    problem,
-                    branch,
-                    desk,
-                    Relations::OnLocation,
-                    a,
-                    r,
-                    limit,
-                    source,
-                );
-                offer_path(
-                    problem,
-                    branch,
-                    desk,
-                    Relations::Global,
-                    a,
-                    r,
-                    limit,
-                    source,
-                );
+                offer_paths(problem, branch, desk, (a, r), limit, source);
             }
-            offer_parts(problem, branch, desk, a, b, r, s, limit, source);
+            offer_parts(problem, branch, desk, (a, b), r, limit);
         }
     }
+}
+
+/// The write that would stand between the parts of a locked instruction if b were before a, and the path by which a is before b.
+fn parted_by(
+    problem: &Problem,
+    branch: &Branch,
+    pair: (usize, usize),
+    r: usize,
+) -> Option<(usize, usize, usize)> {
+    let (a, b) = pair;
+    let own = partner(problem, r);
+    let s = source_of(branch, r);
+    if s == b && a != own && is_known(problem, branch, Relations::Coherence, a, own) {
+        return Some((a, a, own));
+    }
+    if own == a && s != b && is_known(problem, branch, Relations::Coherence, s, b) {
+        return Some((b, s, b));
+    }
+    None
 }
 
 /// Offers that b before a would put a write between the parts of a locked instruction.
@@ -331,53 +359,25 @@ fn offer_parts(
     problem: &Problem,
     branch: &Branch,
     desk: &mut Desk,
-    a: usize,
-    b: usize,
+    pair: (usize, usize),
     r: usize,
-    s: usize,
     limit: usize,
-    source: usize,
 ) {
-    let own = at(&problem.partner, r);
+    let own = partner(problem, r);
     if own == NONE {
         return;
     }
-    let mut between = NONE;
-    if s == b && a != own && is_known(problem, branch, Relations::Coherence, a, own) {
-        between = a;
-    }
-    if own == a && s != b && is_known(problem, branch, Relations::Coherence, s, b) {
-        between = b;
-    }
-    if between == NONE || event(problem, between).core.0 == event(problem, r).core.0 {
+    let Some((between, from, to)) = parted_by(problem, branch, pair, r) else {
+        return;
+    };
+    if event(problem, between).core.0 == event(problem, r).core.0 {
         return;
     }
     begin(problem, &mut desk.paths);
-    start_from(&mut desk.paths, if between == a { a } else { s });
-    let to = if between == a { own } else { b };
-    if !find(
-        problem,
-        branch,
-        &mut desk.paths,
-        Relations::Coherence,
-        to,
-        limit,
-    ) {
-        return;
+    start_from(&mut desk.paths, from);
+    if take_cycle(problem, branch, desk, Relations::Coherence, to, limit) {
+        need(&mut desk.trial, at(&branch.tables.source, r));
+        put_between(desk, r, between, own);
+        offer_trial(desk, 6);
     }
-    reset(&mut desk.trial, Closing::Between);
-    need(&mut desk.trial, source);
-    follow(
-        problem,
-        branch,
-        &desk.paths,
-        &mut desk.inner,
-        &mut desk.trial,
-    );
-    desk.trial.cycle_length = 0;
-    visit(&mut desk.trial, r);
-    visit(&mut desk.trial, between);
-    visit(&mut desk.trial, own);
-    weigh(&mut desk.trial, &desk.used, 6);
-    offer(&mut desk.best, &desk.trial);
 }

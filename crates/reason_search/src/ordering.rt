@@ -2,9 +2,9 @@
 
 use crate::branch::{Branch, UNKNOWN, before};
 use crate::deduction::written;
-use crate::notes::value_known;
-use crate::problem::{Problem, Relations, event, reads, writes};
-use crate::rows::{NONE, add, at, bit, has, join, remove, row, word};
+use crate::notes::value_of;
+use crate::problem::{Problem, Relations, event, partner, reads, writes};
+use crate::rows::{NONE, add, bit, has, join, remove, row, word};
 use refutations::events::is_before;
 use std::alloc::Global;
 use tso_model::{Entry, Kind, NoMemory};
@@ -43,9 +43,9 @@ fn is_waiting(problem: &Problem, waits: &[u64], left: &[u64], a: usize, but: usi
 }
 
 /// The value of an event. A fence has 0.
-fn value_of(problem: &Problem, branch: &Branch, a: usize) -> u32 {
+fn event_value(problem: &Problem, branch: &Branch, a: usize) -> u32 {
     let value = if reads(problem, a) {
-        value_known(branch, a)
+        value_of(branch, a)
     } else if writes(problem, a) {
         written(problem, branch, a)
     } else {
@@ -65,7 +65,7 @@ fn place(
     order: &mut Vec<Entry>,
     a: usize,
 ) -> Result<(), NoMemory> {
-    let value = value_of(problem, branch, a);
+    let value = event_value(problem, branch, a);
     order.push(Entry {
         value,
         ..event(problem, a)
@@ -86,7 +86,7 @@ fn place_ready(
         let kind = event(problem, a).kind;
         if has(left, 0, a) && kind != Kind::LW && !is_waiting(problem, waits, left, a, NONE) {
             if kind == Kind::LR {
-                let own = at(&problem.partner, a);
+                let own = partner(problem, a);
                 if !is_waiting(problem, waits, left, own, a) {
                     place(problem, branch, left, order, a)?;
                     place(problem, branch, left, order, own)?;

@@ -2,23 +2,37 @@
 
 use crate::branch::{Branch, Edge, head};
 use crate::problem::{Problem, Relations, is_initial, location};
-use crate::rows::{NONE, add, at, clear, has, lowest, put, put_word, rest, row, word};
+use crate::rows::{NONE, add, at, clear, has, lowest, put_word, rest, row, word};
 use std::alloc::Global;
 use tso_model::NoMemory;
 
-/// A search for paths: how each event was reached.
+/// What a search for paths keeps for each number below that of the events: of the event with this number by which one it was reached,
+/// and by which edge, if answers tell it; and what stands at this place of the queue, and of the path.
+#[derive(Clone, Copy)]
+struct Step {
+    back: usize,
+    by: usize,
+    queued: usize,
+    event: usize,
+    edge: usize,
+}
+
+const NO_STEP: Step = Step {
+    back: NONE,
+    by: NONE,
+    queued: NONE,
+    event: NONE,
+    edge: NONE,
+};
+
+/// A search for paths. The path that was found stands backwards, without its end.
 #[derive(Drop)]
 pub struct Paths {
-    back: Vec<usize>,
-    by: Vec<usize>,
-    queue: Vec<usize>,
+    steps: Vec<Step>,
     queued: usize,
     seen: Vec<u64>,
     /// The events from which paths begin.
     pub starts: Vec<u64>,
-    /// The events of the path that was found, backwards, without its end; each with the edge that leaves it, if answers tell it.
-    pub events: Vec<usize>,
-    pub edges: Vec<usize>,
     pub length: usize,
 }
 
@@ -26,18 +40,34 @@ pub struct Paths {
 ///
 /// Errors: out of memory only.
 pub fn make_paths(alloc: Global, problem: &Problem) -> Result<Paths, NoMemory> {
-    let size = problem.size;
     Ok(Paths {
-        back: vec![in alloc; NONE; size]?,
-        by: vec![in alloc; NONE; size]?,
-        queue: vec![in alloc; NONE; size]?,
+        steps: vec![in alloc; NO_STEP; problem.size]?,
         queued: 0,
         seen: vec![in alloc; 0u64; problem.width]?,
         starts: vec![in alloc; 0u64; problem.width]?,
-        events: vec![in alloc; NONE; size]?,
-        edges: vec![in alloc; NONE; size]?,
         length: 0,
     })
+}
+
+fn step_at(paths: &Paths, i: usize) -> Step {
+    paths.steps.get(i).copied().unwrap_or(NO_STEP)
+}
+
+fn put_in_queue(paths: &mut Paths, a: usize) {
+    if let Some(step) = paths.steps.get_mut(paths.queued) {
+        step.queued = a;
+    }
+    paths.queued = paths.queued.wrapping_add(1);
+}
+
+/// The event at a place of the path, from its end on.
+pub fn event_at(paths: &Paths, i: usize) -> usize {
+    step_at(paths, i).event
+}
+
+/// The number of the edge that leaves it, if answers tell it.
+pub fn edge_number(paths: &Paths, i: usize) -> usize {
+    step_at(paths, i).edge
 }
 
 fn reach(paths: &mut Paths, from: usize, by: usize, to: usize) {
@@ -45,10 +75,11 @@ fn reach(paths: &mut Paths, from: usize, by: usize, to: usize) {
         return;
     }
     add(&mut paths.seen, 0, to);
-    put(&mut paths.back, to, from);
-    put(&mut paths.by, to, by);
-    put(&mut paths.queue, paths.queued, to);
-    paths.queued = paths.queued.wrapping_add(1);
+    if let Some(step) = paths.steps.get_mut(to) {
+        step.back = from;
+        step.by = by;
+    }
+    put_in_queue(paths, to);
 }
 
 fn program_word(problem: &Problem, relations: Relations, a: usize, k: usize) -> u64 {
@@ -89,7 +120,7 @@ fn reach_by_answers(
     a: usize,
     limit: usize,
 ) {
-    let mut number = at(&branch.heads, head(problem, relations, a));
+    let mut number = at(&branch.tables.heads, head(problem, relations, a));
     for _edge in 0..branch.edges.len() {
         match branch.edges.get(number) {
             None => break,
@@ -108,10 +139,12 @@ fn trace(problem: &Problem, paths: &mut Paths, to: usize) {
     paths.length = 0;
     let mut b = to;
     for _step in 0..problem.size {
-        let a = at(&paths.back, b);
-        let by = at(&paths.by, b);
-        put(&mut paths.events, paths.length, a);
-        put(&mut paths.edges, paths.length, by);
+        let reached = step_at(paths, b);
+        let a = reached.back;
+        if let Some(step) = paths.steps.get_mut(paths.length) {
+            step.event = a;
+            step.edge = reached.by;
+        }
         paths.length = paths.length.wrapping_add(1);
         b = a;
         if has(&paths.starts, 0, b) {
@@ -133,8 +166,7 @@ pub fn start_from(paths: &mut Paths, a: usize) {
     if !has(&paths.starts, 0, a) {
         add(&mut paths.starts, 0, a);
         add(&mut paths.seen, 0, a);
-        put(&mut paths.queue, paths.queued, a);
-        paths.queued = paths.queued.wrapping_add(1);
+        put_in_queue(paths, a);
     }
 }
 
@@ -152,7 +184,7 @@ pub fn find(
         if next >= paths.queued {
             break;
         }
-        let a = at(&paths.queue, next);
+        let a = step_at(paths, next).queued;
         next = next.wrapping_add(1);
         reach_by_program(problem, paths, relations, a);
         reach_by_answers(problem, branch, paths, relations, a, limit);
@@ -173,25 +205,24 @@ pub fn start_from_later(
     limit: usize,
 ) {
     begin(problem, paths);
-    put(&mut paths.queue, 0, s);
-    paths.queued = 1;
+    put_in_queue(paths, s);
     let mut next = 0usize;
     for _event in 0..problem.size {
         if next >= paths.queued {
             break;
         }
-        let a = at(&paths.queue, next);
+        let a = step_at(paths, next).queued;
         next = next.wrapping_add(1);
         reach_by_program(problem, paths, Relations::Coherence, a);
         reach_by_answers(problem, branch, paths, Relations::Coherence, a, limit);
     }
     let reached = paths.queued;
+    paths.queued = 0;
     for i in 1..reached {
-        let a = at(&paths.queue, i);
+        let a = step_at(paths, i).queued;
         add(&mut paths.starts, 0, a);
-        put(&mut paths.queue, i.wrapping_sub(1), a);
+        put_in_queue(paths, a);
     }
-    paths.queued = reached.wrapping_sub(1);
     for k in 0..problem.width {
         let bits = word(&paths.starts, k);
         put_word(&mut paths.seen, k, bits);
@@ -200,5 +231,5 @@ pub fn start_from_later(
 
 /// The edge of a path at a place, if answers tell it.
 pub fn edge_at(branch: &Branch, paths: &Paths, i: usize) -> Option<Edge> {
-    branch.edges.get(at(&paths.edges, i)).copied()
+    branch.edges.get(edge_number(paths, i)).copied()
 }

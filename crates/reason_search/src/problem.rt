@@ -6,7 +6,7 @@ ghost use Rattle.std.specs.Prelude.{◌<◌, length};
 use crate::naming::{has_choice, mark_asked, mark_named, mark_relevant};
 use crate::rows::{NONE, add, row};
 use refutation_laws::Model;
-use refutations::events::{are_parts, is_access, is_before, is_locked, is_read, is_write};
+use refutations::events::{is_access, is_before, is_locked, is_read, is_write};
 use std::alloc::Global;
 use tso_model::{Action, Core, Entry, Kind, Loc, NoMemory, Operand, Quantifier, Test, Update};
 
@@ -40,8 +40,6 @@ pub struct Problem {
     pub locations: usize,
     pub sequential: bool,
     pub events: Vec<Entry>,
-    /// The other part of a locked instruction.
-    pub partner: Vec<usize>,
     /// The writes to each location but the initial one.
     pub writes_to: Vec<u64>,
     /// The reads of each location, and its initial write.
@@ -54,7 +52,6 @@ pub struct Problem {
     pub terms: Vec<Term>,
     /// What each register holds at the end, six to a core.
     pub finals: Vec<Term>,
-    pub first_words: Vec<u32>,
     /// The locations of which something is asked.
     pub asked: Vec<u64>,
     /// The reads on whose values what is asked may hang.
@@ -92,6 +89,15 @@ pub fn reads(problem: &Problem, i: usize) -> bool {
 /// Whether this is a write, and not an initial one.
 pub fn writes(problem: &Problem, i: usize) -> bool {
     !is_initial(problem, i) && is_write(&event(problem, i))
+}
+
+/// The other part of a locked instruction, which stands beside it.
+pub fn partner(problem: &Problem, a: usize) -> usize {
+    match event(problem, a).kind {
+        Kind::LR => a.wrapping_add(1),
+        Kind::LW => a.wrapping_sub(1),
+        _ => NONE,
+    }
 }
 
 /// What an event writes or returns.
@@ -161,31 +167,6 @@ fn add_accesses(problem: &mut Problem) {
             add(&mut problem.readers_of, start, a);
         }
     }
-}
-
-fn find_partner(events: &[Entry], a: usize, x: &Entry) -> usize {
-    let mut i = 0usize;
-    for y in events {
-        if i != a && (are_parts(x, y) || are_parts(y, x)) {
-            return i;
-        }
-        i = i.wrapping_add(1);
-    }
-    NONE
-}
-
-fn find_partners(alloc: Global, events: &[Entry]) -> Result<Vec<usize>, NoMemory> {
-    let mut partner = Vec::new(alloc);
-    let mut a = 0usize;
-    for x in events {
-        partner.push(if is_locked(x) {
-            find_partner(events, a, x)
-        } else {
-            NONE
-        })?;
-        a = a.wrapping_add(1);
-    }
-    Ok(partner)
 }
 
 fn held(registers: &[Term; 6], operand: Operand) -> Term {
@@ -270,6 +251,38 @@ fn initial_writes(alloc: Global, test: &Test) -> Result<Vec<Entry>, NoMemory> {
     Ok(initial)
 }
 
+/// The terms of all events and registers.
+fn run_cores(problem: &mut Problem, test: &Test) -> Result<(), NoMemory> {
+    for word in test.initial_words() {
+        problem.terms.push(Term::Number(*word))?;
+    }
+    for number in 0..test.cores() {
+        run_core(problem, test, Core(number))?;
+    }
+    Ok(())
+}
+
+/// Marks what is asked.
+fn mark_claim(problem: &mut Problem, test: &Test) {
+    if let Some(cond) = test.cond() {
+        mark_asked(&mut problem.asked, &cond.prop);
+        problem.has_choice = has_choice(&cond.prop, !matches!(cond.quantifier, Quantifier::Forall));
+        mark_named(problem, &cond.prop);
+    }
+    mark_relevant(problem);
+}
+
+/// The initial writes, and after them the events.
+fn with_initial_writes(
+    alloc: Global,
+    test: &Test,
+    events: &[Entry],
+) -> Result<Vec<Entry>, NoMemory> {
+    let mut all = initial_writes(alloc, test)?;
+    all.extend_from_slice(events)?;
+    Ok(all)
+}
+
 /// What a search for a reason works on.
 ///
 /// Errors: out of memory only.
@@ -279,47 +292,28 @@ pub fn make_problem(
     events: &[Entry],
     model: Model,
 ) -> Result<Problem, NoMemory> {
-    let mut all = initial_writes(alloc, test)?;
-    let locations = all.len();
-    all.extend_from_slice(events)?;
-    let size = all.len();
+    let locations = usize::from(test.locations());
+    let size = locations.wrapping_add(events.len());
     let width = size / 64 + 1;
-    let mut first_words = Vec::new(alloc);
-    first_words.extend_from_slice(test.initial_words())?;
-    let mut terms = Vec::new(alloc);
-    for word in test.initial_words() {
-        terms.push(Term::Number(*word))?;
-    }
     let mut problem = Problem {
         size,
         width,
         locations,
         sequential: matches!(model, Model::Sequential),
-        partner: find_partners(alloc, &all)?,
         writes_to: vec![in alloc; 0u64; row(locations, width)]?,
         readers_of: vec![in alloc; 0u64; row(locations, width)]?,
         on_location: vec![in alloc; 0u64; row(size, width)]?,
         global: vec![in alloc; 0u64; row(size, width)]?,
-        terms,
-        finals: Vec::new(alloc),
-        first_words,
         asked: vec![in alloc; 0u64; width]?,
         relevant: vec![in alloc; 0u64; width]?,
+        events: with_initial_writes(alloc, test, events)?,
+        terms: Vec::new(alloc),
+        finals: Vec::new(alloc),
         has_choice: false,
-        events: all,
     };
-    if let Some(cond) = test.cond() {
-        mark_asked(&mut problem.asked, &cond.prop);
-        problem.has_choice = has_choice(&cond.prop, !matches!(cond.quantifier, Quantifier::Forall));
-    }
+    run_cores(&mut problem, test)?;
     add_program_order(&mut problem);
     add_accesses(&mut problem);
-    for number in 0..test.cores() {
-        run_core(&mut problem, test, Core(number))?;
-    }
-    if let Some(cond) = test.cond() {
-        mark_named(&mut problem, &cond.prop);
-    }
-    mark_relevant(&mut problem);
+    mark_claim(&mut problem, test);
     Ok(problem)
 }

@@ -2,15 +2,16 @@
 //! that follows.
 
 use crate::branch::{Answer, Branch, Conflict, Edge, cell};
-use crate::closing::{add_best, add_false_leaf, heed, move_on};
+use crate::closing::{add_best, heed, move_on};
 use crate::evidence::{Closing, close_cycle, use_facts};
+use crate::falsity::add_false_tree;
 use crate::growing::{Growth, add_cycle, add_false, add_question, put_branch};
 use crate::known_values::suppose_nothing;
 use crate::notes::source_of;
 use crate::offers::{Desk, find_why_before, find_why_not};
 use crate::problem::{Problem, location};
 use crate::rows::{NONE, add, at, has, put, remove, row};
-use tso_model::{NoMemory, Test};
+use tso_model::Test;
 
 /// The tree for a source that a read can't have.
 fn add_closed_source(
@@ -20,38 +21,36 @@ fn add_closed_source(
     test: &Test,
     r: usize,
     s: usize,
-) -> Result<usize, NoMemory> {
+) -> usize {
     find_why_not(problem, branch, desk, test, r, s);
-    let limit = at(&branch.removed_edges, cell(problem, r, s));
+    let limit = at(&branch.tables.removed_edges, cell(problem, r, s));
     if desk.best.closing == Closing::None {
-        return add_false_leaf(problem, branch, desk, test);
+        return add_false_tree(problem, branch, desk, test, r);
     }
     add_best(problem, branch, desk, limit, s, (NONE, NONE))
 }
 
 /// The question what a read reads from: some sources have their trees in `branches`, the others are closed.
-///
-/// Errors: out of memory only.
 pub fn add_source_question(
     problem: &Problem,
     branch: &Branch,
     desk: &mut Desk,
     test: &Test,
     r: usize,
-) -> Result<usize, NoMemory> {
+) -> usize {
     let loc = location(problem, r);
     for s in problem.locations..problem.size {
         if has(&problem.writes_to, row(loc, problem.width), s) && at(&desk.branches, s) == NONE {
-            let tree = add_closed_source(problem, branch, desk, test, r, s)?;
+            let tree = add_closed_source(problem, branch, desk, test, r, s);
             put(&mut desk.branches, s, tree);
         }
     }
     if at(&desk.branches, loc) == NONE {
-        let tree = add_closed_source(problem, branch, desk, test, r, loc)?;
+        let tree = add_closed_source(problem, branch, desk, test, r, loc);
         put(&mut desk.branches, loc, tree);
     }
     heed(desk, r);
-    let question = add_question(&mut desk.trees, Growth::ReadsFrom, r, NONE)?;
+    let question = add_question(&mut desk.trees, Growth::ReadsFrom, r, NONE);
     for i in 0..problem.size {
         let s = problem.size.wrapping_sub(1).wrapping_sub(i);
         let tree = at(&desk.branches, s);
@@ -60,25 +59,23 @@ pub fn add_source_question(
             put_branch(&mut desk.trees, question, tree);
         }
     }
-    Ok(question)
+    question
 }
 
 /// The question which of two writes comes first, with both trees.
-///
-/// Errors: out of memory only.
 pub fn add_order_question(
     desk: &mut Desk,
     a: usize,
     b: usize,
     first: usize,
     second: usize,
-) -> Result<usize, NoMemory> {
+) -> usize {
     heed(desk, a);
     heed(desk, b);
-    let question = add_question(&mut desk.trees, Growth::ComesFirst, a, b)?;
+    let question = add_question(&mut desk.trees, Growth::ComesFirst, a, b);
     put_branch(&mut desk.trees, question, second);
     put_branch(&mut desk.trees, question, first);
-    Ok(question)
+    question
 }
 
 /// The tree where an order follows and an answer says the other one: why that can't be. `NONE` where no answer does.
@@ -88,20 +85,20 @@ fn add_turned(
     desk: &mut Desk,
     test: &Test,
     edge: &Edge,
-) -> Result<usize, NoMemory> {
+) -> usize {
     let Some(fact) = branch.facts.get(edge.fact).copied() else {
-        return Ok(NONE);
+        return NONE;
     };
     match fact.answer {
-        Answer::Source(..) => Ok(NONE),
+        Answer::Source(..) => NONE,
         Answer::Before(a, b) => {
-            let known = at(&branch.pairs, cell(problem, b, a));
+            let known = at(&branch.tables.pairs, cell(problem, b, a));
             if known == NONE || fact.tried {
-                return Ok(NONE);
+                return NONE;
             }
-            let tree = add_other(problem, branch, desk, test, a, b, edge.fact, fact.edges)?;
+            let tree = add_other(problem, branch, desk, test, a, b, edge.fact, fact.edges);
             add(&mut desk.used, 0, known);
-            Ok(tree)
+            tree
         }
     }
 }
@@ -116,31 +113,24 @@ fn add_other(
     b: usize,
     fact: usize,
     edges: usize,
-) -> Result<usize, NoMemory> {
+) -> usize {
     find_why_before(problem, branch, desk, test, a, b, fact, edges);
     if desk.best.closing == Closing::None {
-        return add_false_leaf(problem, branch, desk, test);
+        return add_false_tree(problem, branch, desk, test, location(problem, a));
     }
     let s = source_of(branch, at(&desk.best.cycle, 0));
     add_best(problem, branch, desk, edges, s, (b, a))
 }
 
 /// The tree of a branch that is closed.
-///
-/// Errors: out of memory only.
-pub fn add_conflict(
-    problem: &Problem,
-    branch: &Branch,
-    desk: &mut Desk,
-    test: &Test,
-) -> Result<usize, NoMemory> {
+pub fn add_conflict(problem: &Problem, branch: &Branch, desk: &mut Desk, test: &Test) -> usize {
     move_on(desk);
     desk.above = branch.facts.len();
     match branch.conflict {
         Conflict::Cycle(edge) => {
-            let tree = add_turned(problem, branch, desk, test, &edge)?;
+            let tree = add_turned(problem, branch, desk, test, &edge);
             if tree != NONE {
-                return Ok(tree);
+                return tree;
             }
             close_cycle(
                 problem,
@@ -154,17 +144,15 @@ pub fn add_conflict(
             add_cycle(&mut desk.trees, &desk.best)
         }
         Conflict::NoSource(r) => add_source_question(problem, branch, desk, test, r),
-        Conflict::False => {
+        Conflict::False(r) => {
             suppose_nothing(&mut desk.values, branch.facts.len());
-            add_false_leaf(problem, branch, desk, test)
+            add_false_tree(problem, branch, desk, test, r)
         }
         Conflict::Open => add_false(&mut desk.trees),
     }
 }
 
 /// Puts the facts that the tree uses, and that followed since this one, above it.
-///
-/// Errors: out of memory only.
 pub fn wrap(
     problem: &Problem,
     branch: &Branch,
@@ -172,7 +160,7 @@ pub fn wrap(
     test: &Test,
     from: usize,
     tree: usize,
-) -> Result<usize, NoMemory> {
+) -> usize {
     let mut whole = tree;
     let mut number = branch.facts.len();
     for _fact in from..branch.facts.len() {
@@ -191,12 +179,12 @@ pub fn wrap(
                         fact.answer,
                         fact.edges,
                         whole,
-                    )?;
+                    );
                 }
             }
         }
     }
-    Ok(whole)
+    whole
 }
 
 fn wrap_one(
@@ -208,14 +196,14 @@ fn wrap_one(
     answer: Answer,
     edges: usize,
     tree: usize,
-) -> Result<usize, NoMemory> {
+) -> usize {
     match answer {
         Answer::Source(r, s) => {
             put(&mut desk.branches, s, tree);
             add_source_question(problem, branch, desk, test, r)
         }
         Answer::Before(a, b) => {
-            let other = add_other(problem, branch, desk, test, a, b, number, edges)?;
+            let other = add_other(problem, branch, desk, test, a, b, number, edges);
             add_order_question(desk, a, b, tree, other)
         }
     }

@@ -100,3 +100,12 @@ pub fn join(rows: &mut [u64], start: usize, others: &[u64], other: usize, width:
         put_word(rows, place, bits);
     }
 }
+
+/// Adds to a row all of another one of the same rows.
+pub fn join_own(rows: &mut [u64], start: usize, other: usize, width: usize) {
+    for k in 0..width {
+        let place = start.wrapping_add(k);
+        let bits = word(rows, place) | word(rows, other.wrapping_add(k));
+        put_word(rows, place, bits);
+    }
+}
