@@ -163,7 +163,6 @@ pub fn cell(problem: &Problem, a: usize, b: usize) -> usize {
     a.wrapping_mul(problem.size).wrapping_add(b)
 }
 
-/// Closes the kept edges of one relation over chains.
 fn close_over(problem: &Problem, branch: &mut Branch, relations: Relations, edges: &[u64]) {
     let width = problem.width;
     for a in 0..problem.size {
@@ -197,7 +196,6 @@ fn close_over(problem: &Problem, branch: &mut Branch, relations: Relations, edge
     }
 }
 
-/// Each read may have each write to its location as its source.
 fn fill_candidates(problem: &Problem, branch: &mut Branch) {
     for r in problem.locations..problem.size {
         let loc = location(problem, r);
@@ -256,7 +254,6 @@ fn make_tables(alloc: Global, problem: &Problem) -> Result<Tables, NoMemory> {
     })
 }
 
-/// Notes what the program alone tells.
 fn start(problem: &Problem, branch: &mut Branch) {
     close_over(problem, branch, Relations::OnLocation, &problem.on_location);
     close_over(problem, branch, Relations::Global, &problem.global);
