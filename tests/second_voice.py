@@ -15,7 +15,8 @@ states can be reached than may be kept. They leave open which reason `why` print
 gives up only where a tree may have more cases than the limit. tests/why.py has more of it.
 
 The second program answers the rows of tests/data/rows/ too, with their output and their status. Of standard error it has what stands
-beside status 0, and beside `--words 3`. All other hints, `--help`, `--version` and the words on a refused command line aren't its own.
+beside status 0, beside status 4 of `outcomes` and `why`, and beside `--words 3`. All other hints, `--help`, `--version` and the words on
+a refused command line aren't its own.
 
 With --print no program is asked: the command line of the input with this number is printed, then its standard input. The last
 line is 'N passed, M failed'.

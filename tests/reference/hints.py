@@ -1,4 +1,5 @@
-"""What standard error has beside an answer with status 0: docs/MESSAGES.md, 'Answers that may mislead'."""
+"""What standard error has beside an answer with status 0, and beside one of `outcomes` or `why` that isn't as it was asserted, whose status
+is 4: docs/MESSAGES.md, 'Answers that may mislead'."""
 import re
 
 from . import seen
