@@ -27,7 +27,7 @@ from judging import BAD_LINE, DIVIDER, ENDED, FAULT, INVALID, MEMORY_FAULT, REFU
 EVERY_FORM = (b"(* a comment *) X86 every-form\n\"a quotation\" Key=value\n{ x=1; [y]=2; 0:EAX=3; }\n"
               b" P0          | P1               ;\n"
               b" MOV [x],$1  | XCHG [y],EAX     ;\n MOV EBX,[y] | LOCK XADD [z],EBX ;\n MFENCE      | MOV ECX,EAX      ;\n"
-              b" MOV EDX,7   | MOV [x],ECX      ;\n MOV [z],EDX |                  ;\nlocations [x; y;]\n"
+              b" MOV EDX,7   | MOV [x],ECX      ;\n MOV [z],EDX |                  ;\nlocations [x; 0:EAX;]\n"
               b"~exists ((not 0:EAX=1 \\/ true) /\\ (x=1 /\\ ~false))\n")
 SEEDED = b"0s 1d seed 5 4000\n"
 

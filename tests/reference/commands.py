@@ -159,7 +159,7 @@ def answer(words, given, told=b""):
         test, status, output = None, REFUSED, refused.line + "\n"
     seen.note("status of " + command, status)
     is_hinted = status == ENDED or status == INVALID and command in SEARCHING
-    errors = hints.beside(command, settings["json"], settings["depth"], test, output) if is_hinted else None
+    errors = hints.beside(command, settings["json"], settings["depth"], test, output, settings["show"]) if is_hinted else None
     return Answer(status, output.encode(), errors)
 
 

@@ -2,9 +2,10 @@
 is 4: docs/MESSAGES.md, 'Answers that may mislead'."""
 import re
 
-from . import seen
+from . import litmus, printing, seen
 
 UNUSED = "hint: line %d: the condition names %s, which no program uses and no initial state sets: it stays 0\n"
+LEFT_OUT = "hint: line %d: locations lists %s, which the states leave out: --show %s shows it\n"
 NEVER = "hint: Never is said of %s only:%s outcomes --depth %d decides\n"
 MORE_SEEDS = " more seeds (--seeds 1000) take milliseconds, and"
 
@@ -14,14 +15,18 @@ MOST_SEEDS = 1000
 NEVER_SEEN = re.compile(r"^Observation .* Never 0 ([1-9][0-9]*)\n\Z", re.MULTILINE)
 
 
-def beside(command, json, depth, test, output):
-    """All of standard error: the hint, or nothing. `output` is what is printed for the test."""
+def beside(command, json, depth, test, output, show=printing.CONDITION):
+    """All of standard error: the hint, or nothing. `output` is what is printed for the test; `show` is that of `outcomes`."""
     if json or command not in ("run", "trace", "sweep", "outcomes", "why"):
         return b""
     if test.unused is not None:
         seen.note("hint beside status 0", "a location that nothing uses, of " + command)
         name, line = test.unused
         return (UNUSED % (line, name)).encode()
+    told = left_out(test, show) if command == "outcomes" else None
+    if told is not None:
+        seen.note("hint beside status 0", "what a list has and no state")
+        return told.encode()
     found = NEVER_SEEN.search(output) if command == "sweep" else None
     if found is None:
         seen.note("hint beside status 0", "none")
@@ -30,3 +35,16 @@ def beside(command, json, depth, test, output):
     runs = int(found[1])
     counted = "1 run" if runs == 1 else "%d runs" % runs
     return (NEVER % (counted, MORE_SEEDS if runs < MOST_SEEDS else "", depth)).encode()
+
+
+def left_out(test, show):
+    """The hint on the first register or location of a list `locations [..]` that the states leave out and might show; or None."""
+    shown, most = printing.Looked(test, show), printing.Looked(test, printing.ALL)
+    for core, name, line in test.listed:
+        if core is None:
+            places, at = (shown.locations, most.locations), test.locations.index(name) if name in test.locations else None
+        else:
+            places, at = (shown.registers, most.registers), (core, litmus.register_of(name))
+        if at in places[1] and at not in places[0]:
+            return LEFT_OUT % (line, name, "all" if core is None else "registers")
+    return None

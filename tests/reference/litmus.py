@@ -48,7 +48,8 @@ class Instruction(typing.NamedTuple):
 @dataclasses.dataclass
 class Test:
     """A test as its text spells it. `quantifier` and `proposition` are None where it has no condition. `unused` is the first
-    location that the condition alone names, and the line on which it does so first; None where there is none."""
+    location that the condition alone names, and the line on which it does so first; None where there is none. `listed` are the names in
+    `locations [..]`, each with a core's number, or None, and its line."""
     name: str
     locations: list
     words: list
@@ -57,6 +58,7 @@ class Test:
     quantifier: typing.Optional[str] = None
     proposition: typing.Optional[tuple] = None
     unused: typing.Optional[tuple] = None
+    listed: tuple = ()
 
     def cores(self):
         return len(self.programs)

@@ -36,7 +36,7 @@ class TestReader:
 
     def __init__(self, text):
         self.text = text
-        self.names = []
+        self.names, self.listed = [], []
         self.settings = []
 
     def test(self):
@@ -51,7 +51,7 @@ class TestReader:
         self.locations()
         quantifier, proposition, unused = self.condition()
         return litmus.Test(name, self.names, self.first_words(), self.first_registers(), self.programs, quantifier, proposition,
-                           unused)
+                           unused, self.listed)
 
     # Header line and information lines: INPUT.md, 'Header line', 'Information lines'.
 
@@ -236,6 +236,7 @@ class TestReader:
         if not opener.is_symbol("["):
             case = "the end after locations" if opener.kind == lexing.END else "no [ after locations"
             raise Fault("BadToken", opener.place, case)
+        self.listed = self.names_listed(opener.place + 1)
         given, place = self.text.bytes, opener.place + 1
         while given[place:place + 1] != b"]":
             if place >= len(given):
@@ -243,6 +244,25 @@ class TestReader:
             place = self.text.comment_end(place, BRACKETS) if given.startswith(b"(*", place) else place + 1
         seen.note("spelling", "locations")
         self.tokens = Tokens(self.text, place + 1)
+
+    def names_listed(self, place):
+        """The names from this place up to a `]`, each with the core whose number stands before it, or None, and its line. Any bytes may
+        stand there, so what is no token ends them."""
+        tokens, found, core = Tokens(self.text, place), [], None
+        try:
+            while True:
+                token = tokens.take(BRACKETS)
+                if token.kind == lexing.END or token.is_symbol("]"):
+                    return found
+                if token.kind == lexing.NUMBER:
+                    value = lexing.value_of(token.text)
+                    core = value if value <= litmus.GREATEST_WORD else None
+                elif token.kind == lexing.NAME:
+                    found.append((core, token.text, self.text.line_of(token.place)))
+                elif token.is_symbol(";"):
+                    core = None
+        except Fault:
+            return found
 
     def condition(self):
         """The quantifier, the proposition and a location that nothing before names, or None; after them nothing stands."""

@@ -153,14 +153,14 @@ static OPTIONS: [Owned; 8] = [
         owners: "why",
     },
     Owned {
-        options: &["--json"],
-        commands: &["run", "trace", "outcomes", "why"],
-        owners: "run, trace, outcomes and why",
-    },
-    Owned {
         options: &["--assert"],
         commands: &["outcomes", "why"],
         owners: "outcomes and why",
+    },
+    Owned {
+        options: &["--json"],
+        commands: &["run", "trace", "outcomes", "why"],
+        owners: "run, trace, outcomes and why",
     },
 ];
 
@@ -186,6 +186,5 @@ fn is_exactly_one_of(words: &[&str], word: &[u8]) -> bool {
 /// Whether the next word is an option's value.
 fn takes_value(word: &str) -> bool {
     let bytes = word.as_bytes();
-    let is_flag = word == "--json" || word == "--assert";
-    bytes.starts_with(b"--") && !bytes.contains(&b'=') && !is_flag
+    bytes.starts_with(b"--") && !bytes.contains(&b'=') && word != "--json" && word != "--assert"
 }
