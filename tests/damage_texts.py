@@ -19,7 +19,7 @@ import judging
 import rows
 from great_texts import ONE_STORE, great_texts, greatest_test
 from judging import DIVIDER, ENDED, INVALID, REFUSED, UNFINISHED
-from reference import hints, reading, reasons
+from reference import hints, printing, reading, reasons
 
 # So many texts a process takes at once.
 AT_ONCE = 64
@@ -99,18 +99,19 @@ def is_outcomes(output):
     return is_ascending and len(numbers) == int(found[3] or 0)
 
 
-def is_told(command, given, done):
-    """Whether standard error is as it must be; beside an answer that tells of final states, as the reference has it."""
+def is_told(command, given, done, show):
+    """Whether standard error is as it must be; beside an answer that tells of final states, as the reference has it. `show` says what
+    these show."""
     if done.returncode == ENDED and command in ("run", "outcomes", "why"):
         test = reading.read_test(parts_of(given)[0])
-        return done.stderr == hints.beside(command, False, None, test, done.stdout.decode())
+        return done.stderr == hints.beside(command, False, None, test, done.stdout.decode(), show)
     return judging.is_told(done.returncode, done.stdout, done.stderr)
 
 
-def has_form(command, given, done):
-    """Whether the command has answers like this one, to this input."""
+def has_form(command, given, done, show):
+    """Whether the command has answers like this one, to this input, of states that show this."""
     output, status = done.stdout, done.returncode
-    if not is_told(command, given, done):
+    if not is_told(command, given, done, show):
         return False
     if status == REFUSED:
         test, rest = parts_of(given)
@@ -135,7 +136,8 @@ def has_form(command, given, done):
 
 
 def faults_of_form(line, given, done):
-    if has_form(line.split()[0], given, done):
+    command, *words = line.split()
+    if has_form(command, given, done, words[-1] if "--show" in words else printing.CONDITION):
         return []
     return ["no such answer is there: " + judging.described(done)]
 
