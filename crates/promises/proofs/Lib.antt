@@ -2,5 +2,6 @@ mod TracedRuns
 mod ExactSearches
 mod LinesAgain
 mod NoMore
+mod SomeExecution
 mod Waiting
 mod Refuting

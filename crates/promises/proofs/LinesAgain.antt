@@ -12,7 +12,10 @@ use Rattle.scheduler.specs.Printed.{printed_after, printed_choices}
 use Rattle.protocol_tables.specs.declared.kind.ProtocolKind.{ProtocolKind}
 use Rattle.machine_core.specs.Configuration.{Configuration}
 use Rattle.tso_report.specs.Report.{line, test_line}
-use Rattle.outcome_report.specs.Outcomes.{Outcome, shown_values, outcomes_line, state_line, by_line, outcome_lines, outcomes_text, observation_line}
+use Rattle.tso_report.specs.declared.named.Named.{Named}
+use Rattle.shown_values.specs.Shown.{named_in}
+use Rattle.shown_values.specs.declared.show.Show.{Show}
+use Rattle.outcome_report.specs.Outcomes.{Outcome, shown_values, outcomes_line, state_line, by_line, outcome_lines, outcomes_text, condition_lines}
 use Rattle.tso_cli.specs.Revisited.{IsRevisited, AreRevisited}
 use Rattle.tso_cli.specs.SweepHeadline.{HasPart}
 use Rattle.promises.specs.Searched.{line_by, IsRunAgain, LinesAreRunAgain}
@@ -34,8 +37,8 @@ line-is (Drain core ∷ rest) =
 
 -- ---- both lines
 
-abbrev both_lines : Litmus → Outcome → List ℕ
-both_lines t o = state_line t (shown_values t o) ++ by_line o.choices
+abbrev both_lines : Litmus → List Named → Outcome → List ℕ
+both_lines t names o = state_line t names (shown_values names o) ++ by_line o.choices
 
 regrouped : (front state by more back : List ℕ) → front ++ ((state ++ (by ++ more)) ++ back) ≡ front ++ ((state ++ by) ++ (more ++ back))
 regrouped front state by more back = simp append_assoc
@@ -43,30 +46,30 @@ regrouped front state by more back = simp append_assoc
 one-further : (front state by more back : List ℕ) → front ++ ((state ++ (by ++ more)) ++ back) ≡ (front ++ (state ++ by)) ++ (more ++ back)
 one-further front state by more back = simp append_assoc
 
-lines-stand : (t : Litmus) (front : List ℕ) (outcomes : List Outcome) (back : List ℕ)
-    → AllByRecursion (λ o. HasPart (front ++ (outcome_lines t outcomes ++ back)) (both_lines t o)) outcomes
-lines-stand t front [] back = tt
-lines-stand t front (o ∷ rest) back =
-    let state = state_line t (shown_values t o) in
+lines-stand : (t : Litmus) (names : List Named) (front : List ℕ) (outcomes : List Outcome) (back : List ℕ)
+    → AllByRecursion (λ o. HasPart (front ++ (outcome_lines t names outcomes ++ back)) (both_lines t names o)) outcomes
+lines-stand t names front [] back = tt
+lines-stand t names front (o ∷ rest) back =
+    let state = state_line t names (shown_values names o) in
     let by = by_line o.choices in
-    let more = outcome_lines t rest in (
+    let more = outcome_lines t names rest in (
       (front, more ++ back, regrouped front state by more back),
-      subst (λ (text : List ℕ). AllByRecursion (λ p. HasPart text (both_lines t p)) rest) (sym (one-further front state by more back)) (lines-stand t (front ++ (state ++ by)) rest back),
+      subst (λ (text : List ℕ). AllByRecursion (λ p. HasPart text (both_lines t names p)) rest) (sym (one-further front state by more back)) (lines-stand t names (front ++ (state ++ by)) rest back),
     )
 
-all-stand : (t : Litmus) (depth : ℕ) (outcomes : List Outcome) → AllByRecursion (λ o. HasPart (outcomes_text t depth outcomes) (both_lines t o)) outcomes
-all-stand t depth outcomes =
+all-stand : (t : Litmus) (names : List Named) (depth : ℕ) (outcomes : List Outcome) → AllByRecursion (λ o. HasPart (outcomes_text t names depth outcomes) (both_lines t names o)) outcomes
+all-stand t names depth outcomes =
     let first = test_line t in
     let second = outcomes_line depth (length outcomes) in
-    let last = observation_line t.name t.condition outcomes in
-    subst (λ (text : List ℕ). AllByRecursion (λ o. HasPart text (both_lines t o)) outcomes) (append_assoc first second (outcome_lines t outcomes ++ last))
-    (lines-stand t (first ++ second) outcomes last)
+    let last = condition_lines t.name t.condition outcomes in
+    subst (λ (text : List ℕ). AllByRecursion (λ o. HasPart text (both_lines t names o)) outcomes) (append_assoc first second (outcome_lines t names outcomes ++ last))
+    (lines-stand t names (first ++ second) outcomes last)
 
 -- ---- each is run again
 
-module _ (kind : ProtocolKind) (c : Configuration) (json : Bool) (test : List ℕ) (t : Litmus) (out : List ℕ) where
-  again : (outcomes : List Outcome) → AllByRecursion (λ o. HasPart out (both_lines t o)) outcomes → AllByRecursion (IsRevisited kind c json test t) outcomes
-      → AllByRecursion (λ o. IsRunAgain kind c json t test out (printed_choices o.choices)) outcomes
+module _ (kind : ProtocolKind) (c : Configuration) (json : Bool) (test : List ℕ) (t : Litmus) (names : List Named) (out : List ℕ) where
+  again : (outcomes : List Outcome) → AllByRecursion (λ o. HasPart out (both_lines t names o)) outcomes → AllByRecursion (IsRevisited kind c json test t names) outcomes
+      → AllByRecursion (λ o. IsRunAgain kind c json t names test out (printed_choices o.choices)) outcomes
   again [] stand revisited = tt
   again (o ∷ rest) stand revisited = (
     λ answer status answered.
@@ -75,8 +78,8 @@ module _ (kind : ProtocolKind) (c : Configuration) (json : Bool) (test : List �
           record {
             shown = report.0.shown;
             printed = report.0.printed;
-            lines = subst (λ (l : List ℕ). HasPart out (state_line t l ++ line_by (printed_choices o.choices))) (sym values)
-                (subst (λ (l : List ℕ). HasPart out (state_line t (shown_values t o) ++ l)) (line-is o.choices) stand.0);
+            lines = subst (λ (l : List ℕ). HasPart out (state_line t names l ++ line_by (printed_choices o.choices))) (sym values)
+                (subst (λ (l : List ℕ). HasPart out (state_line t names (shown_values names o) ++ l)) (line-is o.choices) stand.0);
             stalled = report.0.stalled;
             unused = report.0.unused;
           },
@@ -85,15 +88,16 @@ module _ (kind : ProtocolKind) (c : Configuration) (json : Bool) (test : List �
     again rest stand.1 revisited.1,
   )
 
-pub lines-again : (kind : ProtocolKind) (c : Configuration) (json : Bool) (test out : List ℕ) → AreRevisited kind c json false test out → LinesAreRunAgain kind c json test out
-lines-again kind c json test out r =
+pub lines-again : (kind : ProtocolKind) (c : Configuration) (show : Show) (json : Bool) (test out : List ℕ) → AreRevisited kind c show json false test out → LinesAreRunAgain kind c show json test out
+lines-again kind c show json test out r =
     let t = r.t in
-    let stand = subst (λ (text : List ℕ). AllByRecursion (λ o. HasPart text (both_lines t o)) r.outcomes) (sym r.printed) (all-stand t c.depth r.outcomes) in
+    let names = named_in show t in
+    let stand = subst (λ (text : List ℕ). AllByRecursion (λ o. HasPart text (both_lines t names o)) r.outcomes) (sym r.printed) (all-stand t names c.depth r.outcomes) in
     record {
       t = t;
       spelled = r.spelled;
       outcomes = r.outcomes;
       text = r.printed;
-      each = All-from_recursion (λ o. IsRunAgain kind c json t test out (printed_choices o.choices)) r.outcomes
-          (again kind c json test t out r.outcomes stand (recursion_from_All (IsRevisited kind c json test t) r.outcomes r.each));
+      each = All-from_recursion (λ o. IsRunAgain kind c json t names test out (printed_choices o.choices)) r.outcomes
+          (again kind c json test t names out r.outcomes stand (recursion_from_All (IsRevisited kind c json test t names) r.outcomes r.each));
     }

@@ -2,6 +2,7 @@
 
 ghost use Rattle.std.specs.Prelude.{◌+◌, ◌<◌, ◌^◌, ◌≡◌, ◌≢◌, ◌≤◌, All, Bool, IfSome, List, if◌then◌else◌, is_some, length, true, ℕ};
 ghost use Rattle.command_line.specs.Plan.{Plan, most_seeds};
+ghost use Rattle.command_line.specs.Search.{Search};
 ghost use Rattle.command_line.specs.declared.settings.Settings.{Settings};
 ghost use Rattle.commands.specs.Dividing.{EndsInFeed, HasNoDivider, IsJoinable, Parts};
 ghost use Rattle.commands.specs.Lines.{test_refusal};
@@ -24,6 +25,8 @@ ghost use Rattle.protocol_tables.specs.declared.kind.ProtocolKind.{ProtocolKind}
 ghost use Rattle.scheduler.specs.Grammar.{SpellsChoices};
 ghost use Rattle.scheduler.specs.Limits.{most_choices};
 ghost use Rattle.scheduler.specs.Printed.{printed_choices};
+ghost use Rattle.shown_values.specs.Shown.{named_in, values_at};
+ghost use Rattle.shown_values.specs.declared.show.Show.{Show};
 ghost use Rattle.simulator.specs.Runs.{AnswersFit, run_under};
 ghost use Rattle.sweeper.specs.Counting.{SweepAnswersFit, sweep_counts};
 ghost use Rattle.tso_cli.specs.Answers.{IsTableAnswer};
@@ -43,7 +46,8 @@ ghost use Rattle.tso_model.specs.declared.choice.Bus.TheVariants.{Atomic};
 ghost use Rattle.tso_model.specs.declared.choice.Choice.{Choice};
 ghost use Rattle.tso_report.specs.Limits.{IsSmall};
 ghost use Rattle.tso_report.specs.Shown.{IsOf, Shown};
-ghost use Rattle.tso_report.specs.Tally.{Ascend, count_of, ended_in, looked_at, runs_in, state_line, values_in, with_values};
+ghost use Rattle.tso_report.specs.Tally.{Ascend, count_of, ended_in, looked_at, runs_in, state_line, with_values};
+ghost use Rattle.tso_report.specs.declared.named.Named.{Named};
 
 use tso_cli::laws::runs_fit_their_tests;
 use tso_report::laws::one_more_run_is_counted;
@@ -81,17 +85,17 @@ pub fn a_sweep_prints_executions()
         → All (λ state. HasPart out (state_line t state)) said.counts.states }
 {}
 
-/// What `outcomes` prints is all that can be reached, and at depth 32 and 0 exactly what is allowed.
+/// What `outcomes` prints is all that can be reached, and at depth 32 and 0 exactly what is allowed, by the values that are shown.
 pub fn outcomes_prints_what_is_allowed()
-    ensures printed { (t : Litmus) (depth : ℕ) (json : Bool) (out : List ℕ) (said : PrintsAllOutcomes t depth json out)
-        → out ≡ outcomes_in json t depth said.outcomes }
-    ensures all { (t : Litmus) (depth : ℕ) (json : Bool) (out : List ℕ) (said : PrintsAllOutcomes t depth json out)
-        → AreAllOutcomes t depth said.outcomes }
-    ensures tso { (t : Litmus) (depth : ℕ) (json : Bool) (out : List ℕ) (said : PrintsAllOutcomes t depth json out)
-        → depth ≡ most_depth → AreExactly t said.outcomes (IsTsoExecution t) }
-    ensures sequential { (t : Litmus) (depth : ℕ) (json : Bool) (out : List ℕ) (said : PrintsAllOutcomes t depth json out)
-        → depth ≡ 0 → AreExactly t said.outcomes (IsSequentiallyConsistent t) }
-    ensures spelled { (t : Litmus) (depth : ℕ) (json : Bool) (out : List ℕ) (said : PrintsAllOutcomes t depth json out)
+    ensures printed { (t : Litmus) (s : Search) (json : Bool) (out : List ℕ) (said : PrintsAllOutcomes t s json out)
+        → out ≡ outcomes_in json t (named_in s.show t) s.depth said.outcomes }
+    ensures all { (t : Litmus) (s : Search) (json : Bool) (out : List ℕ) (said : PrintsAllOutcomes t s json out)
+        → AreAllOutcomes t (named_in s.show t) s.depth said.outcomes }
+    ensures tso { (t : Litmus) (s : Search) (json : Bool) (out : List ℕ) (said : PrintsAllOutcomes t s json out)
+        → s.depth ≡ most_depth → AreExactly t (named_in s.show t) said.outcomes (IsTsoExecution t) }
+    ensures sequential { (t : Litmus) (s : Search) (json : Bool) (out : List ℕ) (said : PrintsAllOutcomes t s json out)
+        → s.depth ≡ 0 → AreExactly t (named_in s.show t) said.outcomes (IsSequentiallyConsistent t) }
+    ensures spelled { (t : Litmus) (s : Search) (json : Bool) (out : List ℕ) (said : PrintsAllOutcomes t s json out)
         → All (λ o. SpellsChoices (length t.programs) (printed_choices o.choices) o.choices) said.outcomes }
 {}
 
@@ -104,18 +108,19 @@ pub fn a_table_is_printed()
 
 /// Choices of a printed state end there when they are run.
 pub fn printed_choices_end_in_printed_states()
-    ensures printed_states { (kind : ProtocolKind) (c : Configuration) (json told : Bool) (test out : List ℕ)
-        (said : AreRevisited kind c json told test out) → out ≡ outcomes_in told said.t c.depth said.outcomes }
-    ensures each { (kind : ProtocolKind) (c : Configuration) (json told : Bool) (test out : List ℕ)
-        (said : AreRevisited kind c json told test out) → All (IsRevisited kind c json test said.t) said.outcomes }
-    ensures printed { (t : Litmus) (kind : ProtocolKind) (c : Configuration) (json : Bool) (values out : List ℕ)
-        (said : ReportsValues t kind c json values out) → out ≡ report_in json t kind c said.shown }
-    ensures values_are { (t : Litmus) (kind : ProtocolKind) (c : Configuration) (json : Bool) (values out : List ℕ)
-        (said : ReportsValues t kind c json values out) → values_in t said.shown.registers said.shown.memory ≡ values }
-    ensures stalled { (t : Litmus) (kind : ProtocolKind) (c : Configuration) (json : Bool) (values out : List ℕ)
-        (said : ReportsValues t kind c json values out) → said.shown.stalled ≡ 0 }
-    ensures unused { (t : Litmus) (kind : ProtocolKind) (c : Configuration) (json : Bool) (values out : List ℕ)
-        (said : ReportsValues t kind c json values out) → said.shown.unused ≡ 0 }
+    ensures printed_states { (kind : ProtocolKind) (c : Configuration) (show : Show) (json told : Bool) (test out : List ℕ)
+        (said : AreRevisited kind c show json told test out) → out ≡ outcomes_in told said.t (named_in show said.t) c.depth said.outcomes }
+    ensures each { (kind : ProtocolKind) (c : Configuration) (show : Show) (json told : Bool) (test out : List ℕ)
+        (said : AreRevisited kind c show json told test out)
+        → All (IsRevisited kind c json test said.t (named_in show said.t)) said.outcomes }
+    ensures printed { (t : Litmus) (names : List Named) (kind : ProtocolKind) (c : Configuration) (json : Bool) (values out : List ℕ)
+        (said : ReportsValues t names kind c json values out) → out ≡ report_in json t kind c said.shown }
+    ensures values_are { (t : Litmus) (names : List Named) (kind : ProtocolKind) (c : Configuration) (json : Bool) (values out : List ℕ)
+        (said : ReportsValues t names kind c json values out) → values_at names said.shown.registers said.shown.memory ≡ values }
+    ensures stalled { (t : Litmus) (names : List Named) (kind : ProtocolKind) (c : Configuration) (json : Bool) (values out : List ℕ)
+        (said : ReportsValues t names kind c json values out) → said.shown.stalled ≡ 0 }
+    ensures unused { (t : Litmus) (names : List Named) (kind : ProtocolKind) (c : Configuration) (json : Bool) (values out : List ℕ)
+        (said : ReportsValues t names kind c json values out) → said.shown.unused ≡ 0 }
 {}
 
 /// What is shown of a run, and counted of a sweep, fits the test.

@@ -46,5 +46,6 @@ pub mod told_texts;
 pub mod traced;
 pub mod traced_machines;
 pub mod traces_told;
+pub mod verdicts_of_conditions;
 pub mod witnesses;
 pub mod words_of_outcomes;

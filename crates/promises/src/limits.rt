@@ -4,7 +4,7 @@ ghost use Rattle.std.specs.Prelude.{◌≡◌, ◌≤◌, ◌↔◌, ◌⊎◌, 
 
 use command_line::plan::{MAX_LENGTH, MAX_SEEDS};
 use command_line::search::MAX_STATES;
-use command_line::{SearchPlan, SweepPlan};
+use command_line::{SearchPlan, Show, SweepPlan};
 use litmus_reader::MAX_TEXT;
 use machine_core::{Bus, Config, Shape};
 use snoop_bus::bus::MAX_CORES as MAX_BUS_CORES;
@@ -108,12 +108,13 @@ pub fn a_plan_is_within_limits(plan: &SweepPlan) -> u32
 }
 
 /// A search keeps from 1 to 10,000,000 states, with store buffers of from 0 to 32 stores.
-pub fn a_search_within_limits_is_made(depth: u8, states: u32) -> Option<SearchPlan>
+pub fn a_search_within_limits_is_made(depth: u8, states: u32, show: Show) -> Option<SearchPlan>
     ensures made { IsSome result ↔ ((depth ≤ 32) × (1 ≤ states) × (states ≤ 10000000)) }
     ensures depth { IfSome result (λ p. p.depth ≡ depth) }
     ensures states { IfSome result (λ p. p.states ≡ states) }
+    ensures show { IfSome result (λ p. p.show ≡ show) }
 {
-    SearchPlan::new(depth, states)
+    SearchPlan::new(depth, states, show)
 }
 
 /// Whoever looks at a search knows that it is within the limits.

@@ -3,6 +3,7 @@
 ghost use Rattle.std.specs.Prelude.{◌++◌, ◌<◌, ◌^◌, ◌≡◌, ◌≤◌, ◌⊎◌, Bool, List, Some, false, length, map, true, ℕ};
 ghost use Rattle.command_line.specs.Limits.{IsWithinLimits};
 ghost use Rattle.command_line.specs.Plan.{Plan};
+ghost use Rattle.command_line.specs.Search.{Search};
 ghost use Rattle.command_line.specs.declared.settings.Settings.{Settings};
 ghost use Rattle.commands.specs.Answers.{IsCheckAnswer};
 ghost use Rattle.commands.specs.CheckLines.{valid_line};
@@ -13,10 +14,12 @@ ghost use Rattle.commands.specs.declared.answer.Status.{Status};
 ghost use Rattle.commands.specs.declared.answer.Status.TheVariants.{Good};
 ghost use Rattle.machine_core.specs.Configuration.{Configuration};
 ghost use Rattle.outcome_report.specs.Laws.{AreAlike};
-ghost use Rattle.outcome_report.specs.Outcomes.{Outcome, failed_in, held_in, shown_values};
+ghost use Rattle.outcome_report.specs.Outcomes.{Outcome, failed_in, held_in, shown_values, true_in};
+ghost use Rattle.outcome_report.specs.OutcomesJson.{holds_in};
 ghost use Rattle.outcome_report.specs.Printed.{outcomes_in};
 ghost use Rattle.protocol_tables.specs.declared.kind.ProtocolKind.{ProtocolKind};
 ghost use Rattle.scheduler.specs.Grammar.{SpellsChoices};
+ghost use Rattle.shown_values.specs.Shown.{named_in};
 ghost use Rattle.simulator.specs.Simulation.{IsEndingOf};
 ghost use Rattle.simulator.specs.declared.simulation.Ending.{Ending};
 ghost use Rattle.std.specs.Option.{ForSome};
@@ -35,6 +38,7 @@ ghost use Rattle.tso_model.specs.declared.choice.Choice.{Choice};
 ghost use Rattle.tso_model.specs.declared.execution.Entry.{Entry};
 ghost use Rattle.tso_report.specs.Json.{json_report};
 ghost use Rattle.tso_report.specs.Report.{head};
+ghost use Rattle.tso_report.specs.declared.named.Named.{Named};
 
 use tso_cli::headline_laws::headlines_leave_one_text;
 use tso_cli::laws::{inputs_have_one_answer, led_simulations_end, printed_runs_are_valid};
@@ -77,18 +81,22 @@ pub fn two_objects_tell_one_execution()
 
 /// Two texts of `outcomes` show states of one test that are alike.
 pub fn two_texts_show_the_same_states()
-    ensures first { (depth : ℕ) (json : Bool) (out other : List ℕ) (said : ShowTheSameStates depth json out other)
-        → out ≡ outcomes_in json said.t depth said.outcomes }
-    ensures second { (depth : ℕ) (json : Bool) (out other : List ℕ) (said : ShowTheSameStates depth json out other)
-        → other ≡ outcomes_in json said.t depth said.others }
-    ensures alike { (depth : ℕ) (json : Bool) (out other : List ℕ) (said : ShowTheSameStates depth json out other)
-        → AreAlike said.t said.outcomes said.others }
-    ensures values { (t : Litmus) (outcomes others : List Outcome) → AreAlike t outcomes others
-        → map (shown_values t) outcomes ≡ map (shown_values t) others }
-    ensures held { (t : Litmus) (outcomes others : List Outcome) → AreAlike t outcomes others
+    ensures first { (s : Search) (json : Bool) (out other : List ℕ) (said : ShowTheSameStates s json out other)
+        → out ≡ outcomes_in json said.t (named_in s.show said.t) s.depth said.outcomes }
+    ensures second { (s : Search) (json : Bool) (out other : List ℕ) (said : ShowTheSameStates s json out other)
+        → other ≡ outcomes_in json said.t (named_in s.show said.t) s.depth said.others }
+    ensures alike { (s : Search) (json : Bool) (out other : List ℕ) (said : ShowTheSameStates s json out other)
+        → AreAlike said.t (named_in s.show said.t) said.outcomes said.others }
+    ensures values { (t : Litmus) (names : List Named) (outcomes others : List Outcome) → AreAlike t names outcomes others
+        → map (shown_values names) outcomes ≡ map (shown_values names) others }
+    ensures holds { (t : Litmus) (names : List Named) (outcomes others : List Outcome) → AreAlike t names outcomes others
+        → map (holds_in t.condition) outcomes ≡ map (holds_in t.condition) others }
+    ensures held { (t : Litmus) (names : List Named) (outcomes others : List Outcome) → AreAlike t names outcomes others
         → ForSome t.condition (λ c. held_in c.claim outcomes ≡ held_in c.claim others) }
-    ensures failed { (t : Litmus) (outcomes others : List Outcome) → AreAlike t outcomes others
+    ensures failed { (t : Litmus) (names : List Named) (outcomes others : List Outcome) → AreAlike t names outcomes others
         → ForSome t.condition (λ c. failed_in c.claim outcomes ≡ failed_in c.claim others) }
+    ensures numbers { (t : Litmus) (names : List Named) (outcomes others : List Outcome) → AreAlike t names outcomes others
+        → ForSome t.condition (λ c. true_in c.claim outcomes ≡ true_in c.claim others) }
 {}
 
 /// Two texts of `witness` spell choices that lead to one order.

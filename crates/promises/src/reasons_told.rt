@@ -73,8 +73,9 @@ pub fn a_refutation_and_an_execution_are_never_both_printed()
 
 /// Two texts for one input and one model never tell the one that it never is and the other that it can be.
 pub fn reasons_for_one_input_agree()
-    ensures reasons { (plan another : Explanation) (json again : Bool) (input out other : List ℕ) → plan.model ≡ another.model
-        → InputHeadline (Settings.Why plan json) input out → InputHeadline (Settings.Why another again) input other
+    ensures reasons { (plan another : Explanation) (json again assert asserted : Bool) (input out other : List ℕ)
+        → plan.model ≡ another.model
+        → InputHeadline (Settings.Why plan json assert) input out → InputHeadline (Settings.Why another again asserted) input other
         → AreOneReason (parts_of input).test plan another json again out other }
 {
     headlines_leave_one_text();

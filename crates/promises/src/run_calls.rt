@@ -18,7 +18,7 @@ ghost use Rattle.tso_report.specs.Shown.{IsOf, shown};
 ghost use Rattle.tso_report.specs.Tally.{runs_in};
 ghost use Rattle.tso_report.specs.inner.Tally.{with_run};
 
-use command_line::{SearchPlan, Settings, settings_of};
+use command_line::{SearchPlan, Settings, Show, settings_of};
 use explorer::{Exploration, ExploreFault, explore};
 use flat_machine::{Snapshot, drive};
 use machine_core::{Bus, Choice, Config, Final, Machine};
@@ -43,6 +43,13 @@ pub fn a_search_has_its_depth(plan: SearchPlan) -> u8
     ensures value { result ≡ plan.depth }
 {
     plan.depth()
+}
+
+/// A search shows what it was made to show.
+pub fn a_search_shows_what_was_asked_for(plan: SearchPlan) -> Show
+    ensures value { result ≡ plan.show }
+{
+    plan.show()
 }
 
 /// A configuration has at least one set, and no more than the limit.

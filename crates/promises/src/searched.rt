@@ -1,7 +1,7 @@
 //! Final states, once more: what needs no deeper buffers is found, registers that nobody looks at are hidden, and each line `By` of
 //! a text leads to the line above it.
 
-ghost use Rattle.std.specs.Prelude.{◌≡◌, ◌<◌, ◌≤◌, ℕ, Bool, true, false, IfOk, List, length, Some, None};
+ghost use Rattle.std.specs.Prelude.{◌≡◌, ◌<◌, ◌≤◌, ℕ, All, Bool, true, false, IfOk, List, length, Some, None};
 ghost use Rattle.tso_model.specs.Condition.{Condition};
 ghost use Rattle.tso_model.specs.declared.choice.Bus.TheVariants.{Atomic};
 ghost use Rattle.tso_model.specs.declared.register.Reg.{Reg};
@@ -10,25 +10,29 @@ ghost use Rattle.explorer.specs.FinalStates.{AreDistinct, AreReached, AreWhat, H
 ghost use Rattle.explorer.specs.declared.search.Extent.{Extent};
 ghost use Rattle.protocol_tables.specs.declared.kind.ProtocolKind.{ProtocolKind};
 ghost use Rattle.machine_core.specs.Configuration.{Configuration};
-ghost use Rattle.tso_report.specs.Tally.{names_register};
+ghost use Rattle.tso_report.specs.Tally.{names_register, register_of};
+ghost use Rattle.tso_report.specs.inner.Tally.{IsKnown};
+ghost use Rattle.shown_values.specs.Shown as shown;
+ghost use Rattle.shown_values.specs.Shown.{is_shown};
 ghost use Rattle.outcome_report.specs.Hidden.{IsHidden};
 ghost use Rattle.command_line.specs.Limits.{IsWithinLimits};
 ghost use Rattle.command_line.specs.Search.{Search};
 ghost use Rattle.command_line.specs.declared.settings.Settings.{Settings};
 ghost use Rattle.commands.specs.Dividing.{parts_of, IsJoinable};
 ghost use Rattle.commands.specs.declared.answer.Status.{Status};
-ghost use Rattle.commands.specs.declared.answer.Status.TheVariants.{Good};
-ghost use Rattle.tso_cli.specs.Answers.{IsAnswer};
+ghost use Rattle.tso_cli.specs.Answers.{IsAnswer, IsPrinted};
 ghost use Rattle.tso_cli.specs.OneSearch.{AreOneSearch};
 ghost use Rattle.promises.specs.Searched.{LinesAreRunAgain};
 
 use explorer::{Exploration, ExploreFault, Met, Watcher, explore, explore_watched};
 use outcome_laws::ends_are_what_tso_allows;
 use outcome_report::hidden_registers;
+use shown_values::{Show, named_in};
 use std::alloc::Global;
 use tso_cli::headline_laws::headlines_leave_one_text;
 use tso_cli::laws::{answers_meet_the_headline, searches_reach_their_states};
 use tso_model::{NoMemory, Test};
+use tso_report::named::Named;
 
 /// With store buffers a search finds the final states of the TSO executions that need no deeper ones, but for registers that nobody
 /// looks at.
@@ -66,7 +70,7 @@ pub fn a_search_ends_at_its_limit<W: Watcher>(
     explore_watched(alloc, test, depth, limit, hidden, watcher)
 }
 
-/// A register that no atom of the condition names is hidden; without a condition each register is.
+/// Where nothing more is shown, a register that no atom of the condition names is hidden; without a condition each register is.
 pub fn what_nobody_looks_at_is_hidden(
     alloc: Global,
     test: &Test,
@@ -76,25 +80,51 @@ pub fn what_nobody_looks_at_is_hidden(
     ensures without { IfOk result (λ hidden. (core : ℕ) (reg : Reg) → test.now.condition ≡ None
         → core < length test.now.programs → IsHidden hidden.items core reg) }
 {
-    hidden_registers(alloc, test)
+    hidden_registers(alloc, test, Show::Condition)
+}
+
+/// What is shown is what was asked for, and each of it is a core's or a location of the test.
+pub fn what_is_shown_is_of_the_test(
+    alloc: Global,
+    test: &Test,
+    show: Show,
+) -> Result<Vec<Named>, NoMemory>
+    ensures list { IfOk result (λ list. list.items ≡ shown.named_in show test.now) }
+    ensures known { IfOk result (λ list. All (IsKnown (length test.now.programs) (length test.now.locations)) list.items) }
+{
+    named_in(alloc, test, show)
+}
+
+/// However much is shown, a register that isn't shown is hidden.
+pub fn what_is_not_shown_is_hidden(
+    alloc: Global,
+    test: &Test,
+    show: Show,
+) -> Result<Vec<[bool; 6]>, NoMemory>
+    ensures { IfOk result (λ hidden. (core : ℕ) (reg : Reg) → core < length test.now.programs
+        → is_shown show test.now (register_of core reg) ≡ false → IsHidden hidden.items core reg) }
+{
+    hidden_registers(alloc, test, show)
 }
 
 /// What stands behind `By` in the text of `outcomes`, handed to `run` at the same depth on the atomic bus with the same test, ends
 /// with the values of the line above.
 pub fn each_line_by_leads_to_the_line_above()
-    ensures { (kind : ProtocolKind) (c : Configuration) (search : Search) (json : Bool) (input out : List ℕ)
+    ensures { (kind : ProtocolKind) (c : Configuration) (search : Search) (json assert : Bool) (input out : List ℕ) (status : Status)
         → c.bus ≡ Atomic → search.depth ≡ c.depth → IsWithinLimits (Settings.Run kind c json) → IsJoinable (parts_of input).test
-        → IsAnswer (Settings.Outcomes search false) (Some input) out Good → LinesAreRunAgain kind c json (parts_of input).test out }
+        → IsPrinted status → IsAnswer (Settings.Outcomes search false assert) (Some input) out status
+        → LinesAreRunAgain kind c search.show json (parts_of input).test out }
 {
     searches_reach_their_states();
 }
 
-/// Lines and JSON of one input show one search: the same states and the same counts, of the test that was given.
+/// Lines and JSON of one input show one search: the same states, the same of them in which the condition's proposition is true, and
+/// the same counts, of the test that was given.
 pub fn both_forms_show_one_search()
-    ensures { (search : Search) (input out object : List ℕ) (status again : Status)
-        → IsWithinLimits (Settings.Outcomes search false) → IsWithinLimits (Settings.Outcomes search true)
-        → IsAnswer (Settings.Outcomes search false) (Some input) out status
-        → IsAnswer (Settings.Outcomes search true) (Some input) object again
+    ensures { (search : Search) (assert asserted : Bool) (input out object : List ℕ) (status again : Status)
+        → IsWithinLimits (Settings.Outcomes search false assert) → IsWithinLimits (Settings.Outcomes search true asserted)
+        → IsAnswer (Settings.Outcomes search false assert) (Some input) out status
+        → IsAnswer (Settings.Outcomes search true asserted) (Some input) object again
         → AreOneSearch (parts_of input).test search false true out object }
 {
     answers_meet_the_headline();

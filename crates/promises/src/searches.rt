@@ -20,11 +20,13 @@ ghost use Rattle.outcome_report.specs.Laws.{AreAlike};
 ghost use Rattle.command_line.specs.Limits.{IsWithinLimits};
 ghost use Rattle.command_line.specs.Search.{Search};
 ghost use Rattle.command_line.specs.declared.settings.Settings.{Settings};
-ghost use Rattle.tso_cli.specs.Answers.{IsAnswer};
+ghost use Rattle.tso_cli.specs.Answers.{IsAnswer, IsPrinted};
 ghost use Rattle.tso_cli.specs.OneText.{ShowTheSameStates};
 ghost use Rattle.commands.specs.Dividing.{parts_of, IsJoinable};
 ghost use Rattle.tso_cli.specs.Revisited.{AreRevisited};
-ghost use Rattle.commands.specs.declared.answer.Status.TheVariants.{Good};
+ghost use Rattle.commands.specs.declared.answer.Status.{Status};
+ghost use Rattle.shown_values.specs.Shown.{named_in};
+ghost use Rattle.shown_values.specs.declared.show.Show.{Show};
 
 use eager_laws::dead_registers_change_nothing;
 use explorer::{Exploration, ExploreFault, explore};
@@ -71,7 +73,8 @@ pub fn what_is_kept_is_reached_but_for_dead_registers()
 
 /// Of two states that look alike the condition's proposition is true in both, or in none.
 pub fn states_that_look_alike_have_one_truth()
-    ensures { (t : Litmus) (condition : Condition) (o p : Outcome) → IsTest t → t.condition ≡ Some condition → shown_values t o ≡ shown_values t p
+    ensures { (show : Show) (t : Litmus) (condition : Condition) (o p : Outcome) → IsTest t → t.condition ≡ Some condition
+        → shown_values (named_in show t) o ≡ shown_values (named_in show t) p
         → truth_of o.registers o.memory condition.claim ≡ truth_of p.registers p.memory condition.claim }
 {
     truth_is_shown();
@@ -79,27 +82,31 @@ pub fn states_that_look_alike_have_one_truth()
 
 /// Of final states that are the same but for registers that no value shows the same is printed, but for the choices.
 pub fn the_same_states_are_printed_alike()
-    ensures { (t : Litmus) (hidden : List (List Bool)) (finals others : List FinalState) (outcomes again : List Outcome) → IsTest t → AreNotShown t hidden
+    ensures { (show : Show) (t : Litmus) (hidden : List (List Bool)) (finals others : List FinalState) (outcomes again : List Outcome)
+        → IsTest t → AreNotShown (named_in show t) hidden
         → ((registers : List (List ℕ)) (memory : List ℕ) → Have hidden finals registers memory ↔ Have hidden others registers memory)
-        → ArePrinted t finals outcomes → ArePrinted t others again → AreAlike t outcomes again }
+        → ArePrinted (named_in show t) finals outcomes → ArePrinted (named_in show t) others again
+        → AreAlike t (named_in show t) outcomes again }
 {
     outcomes_are_one_but_for_choices();
 }
 
-/// Two answers of `outcomes` that print states print the same ones.
+/// Two answers of `outcomes` that print states print the same ones, with one status.
 pub fn two_answers_show_the_same_states()
-    ensures { (search : Search) (json : Bool) (input out other : List ℕ)
-        → IsAnswer (Settings.Outcomes search json) (Some input) out Good → IsAnswer (Settings.Outcomes search json) (Some input) other Good
-        → ShowTheSameStates search.depth json out other }
+    ensures { (search : Search) (json assert : Bool) (input out other : List ℕ) (status again : Status) → IsPrinted status → IsPrinted again
+        → IsAnswer (Settings.Outcomes search json assert) (Some input) out status
+        → IsAnswer (Settings.Outcomes search json assert) (Some input) other again
+        → ShowTheSameStates search json out other × (status ≡ again) }
 {
     inputs_have_one_answer();
 }
 
 /// The choices of each printed state, handed to `run`, end there.
 pub fn printed_choices_end_in_their_states()
-    ensures { (kind : ProtocolKind) (c : Configuration) (search : Search) (json told : Bool) (input out : List ℕ)
+    ensures { (kind : ProtocolKind) (c : Configuration) (search : Search) (json told assert : Bool) (input out : List ℕ) (status : Status)
         → c.bus ≡ Atomic → search.depth ≡ c.depth → IsWithinLimits (Settings.Run kind c json) → IsJoinable (parts_of input).test
-        → IsAnswer (Settings.Outcomes search told) (Some input) out Good → AreRevisited kind c json told (parts_of input).test out }
+        → IsPrinted status → IsAnswer (Settings.Outcomes search told assert) (Some input) out status
+        → AreRevisited kind c search.show json told (parts_of input).test out }
 {
     searches_reach_their_states();
 }

@@ -11,6 +11,8 @@ ghost use Rattle.outcome_laws.specs.Outcomes.{IsSequentiallyConsistent};
 ghost use Rattle.printed_laws.specs.Observed.{IsSoEverywhere, IsSoSomewhere, WordMeans, truth_after, truth_after_run};
 ghost use Rattle.printed_laws.specs.Outcomes.{OutcomesFit, ShowTheSame};
 ghost use Rattle.scheduler.specs.Printed.{printed_choices};
+ghost use Rattle.shown_values.specs.Shown as shown;
+ghost use Rattle.shown_values.specs.Shown.{named_in};
 ghost use Rattle.tso_cli.specs.OneSearch.{ShowOneSearch, ShowsNoState, without_choices};
 ghost use Rattle.tso_laws.specs.Depth.{needed};
 ghost use Rattle.tso_model.specs.Axioms.{IsTsoExecution};
@@ -19,11 +21,13 @@ ghost use Rattle.tso_model.specs.Litmus.{IsTest, Litmus};
 ghost use Rattle.tso_model.specs.Runs.{CoresExist, run};
 ghost use Rattle.tso_model.specs.declared.choice.Choice.{Choice};
 ghost use Rattle.tso_model.specs.declared.execution.Entry.{Entry};
+ghost use Rattle.tso_report.specs.declared.named.Named.{Named};
 
 use outcome_report::hidden_registers;
 use printed_laws::{
     outcomes_tell_their_states, outcomes_tell_their_tests, words_mean_what_they_say,
 };
+use shown_values::Show;
 use std::alloc::Global;
 use tso_model::{NoMemory, Test};
 
@@ -64,52 +68,61 @@ pub fn what_is_so_somewhere()
 /// Of one test, what is printed alike was found at one depth and shows the same, as lines and as JSON; and of any two tests it is
 /// of one name.
 pub fn what_is_printed_alike_is_the_same()
-    ensures lines { (t : Litmus) (depth other_depth : ℕ) (outcomes others : List Outcome)
-        → IsTest t → depth < 2 ^ 64 → other_depth < 2 ^ 64 → OutcomesFit t outcomes → OutcomesFit t others
-        → outcomes_in false t depth outcomes ≡ outcomes_in false t other_depth others
-        → (depth ≡ other_depth) × ShowTheSame t outcomes others }
-    ensures object { (t : Litmus) (depth other_depth : ℕ) (outcomes others : List Outcome)
-        → IsTest t → depth < 2 ^ 64 → other_depth < 2 ^ 64 → OutcomesFit t outcomes → OutcomesFit t others
-        → outcomes_in true t depth outcomes ≡ outcomes_in true t other_depth others
-        → (depth ≡ other_depth) × ShowTheSame t outcomes others }
-    ensures lines_name { (t u : Litmus) (depth other_depth : ℕ) (outcomes others : List Outcome)
-        → IsTest t → IsTest u → depth < 2 ^ 64 → other_depth < 2 ^ 64 → OutcomesFit t outcomes → OutcomesFit u others
-        → outcomes_in false t depth outcomes ≡ outcomes_in false u other_depth others → (t.name ≡ u.name) × (depth ≡ other_depth) }
-    ensures object_names { (t u : Litmus) (depth other_depth : ℕ) (outcomes others : List Outcome)
-        → IsTest t → IsTest u → depth < 2 ^ 64 → other_depth < 2 ^ 64 → OutcomesFit t outcomes → OutcomesFit u others
-        → outcomes_in true t depth outcomes ≡ outcomes_in true u other_depth others → (t.name ≡ u.name) × (depth ≡ other_depth) }
+    ensures lines { (show : Show) (t : Litmus) (depth other_depth : ℕ) (outcomes others : List Outcome)
+        → IsTest t → depth < 2 ^ 64 → other_depth < 2 ^ 64 → OutcomesFit (named_in show t) outcomes → OutcomesFit (named_in show t) others
+        → outcomes_in false t (named_in show t) depth outcomes ≡ outcomes_in false t (named_in show t) other_depth others
+        → (depth ≡ other_depth) × ShowTheSame t (named_in show t) outcomes others }
+    ensures object { (show : Show) (t : Litmus) (depth other_depth : ℕ) (outcomes others : List Outcome)
+        → IsTest t → depth < 2 ^ 64 → other_depth < 2 ^ 64 → OutcomesFit (named_in show t) outcomes → OutcomesFit (named_in show t) others
+        → outcomes_in true t (named_in show t) depth outcomes ≡ outcomes_in true t (named_in show t) other_depth others
+        → (depth ≡ other_depth) × ShowTheSame t (named_in show t) outcomes others }
+    ensures lines_name { (t u : Litmus) (names others_names : List Named) (depth other_depth : ℕ) (outcomes others : List Outcome)
+        → IsTest t → IsTest u → depth < 2 ^ 64 → other_depth < 2 ^ 64 → OutcomesFit names outcomes → OutcomesFit others_names others
+        → outcomes_in false t names depth outcomes ≡ outcomes_in false u others_names other_depth others
+        → (t.name ≡ u.name) × (depth ≡ other_depth) }
+    ensures object_names { (t u : Litmus) (names others_names : List Named) (depth other_depth : ℕ) (outcomes others : List Outcome)
+        → IsTest t → IsTest u → depth < 2 ^ 64 → other_depth < 2 ^ 64 → OutcomesFit names outcomes → OutcomesFit others_names others
+        → outcomes_in true t names depth outcomes ≡ outcomes_in true u others_names other_depth others
+        → (t.name ≡ u.name) × (depth ≡ other_depth) }
 {
     outcomes_tell_their_states();
     outcomes_tell_their_tests();
 }
 
-/// What shows the same is alike in its values and counts, and prints the same choices.
+/// What shows the same is alike in its values, its counts and the states in which the proposition is true, and prints the same
+/// choices.
 pub fn what_shows_the_same()
-    ensures alike { (t : Litmus) (outcomes others : List Outcome) → ShowTheSame t outcomes others → AreAlike t outcomes others }
-    ensures choices { (t : Litmus) (outcomes others : List Outcome) → ShowTheSame t outcomes others
+    ensures alike { (t : Litmus) (names : List Named) (outcomes others : List Outcome)
+        → ShowTheSame t names outcomes others → AreAlike t names outcomes others }
+    ensures choices { (t : Litmus) (names : List Named) (outcomes others : List Outcome) → ShowTheSame t names outcomes others
         → map (λ o. printed_choices o.choices) outcomes ≡ map (λ o. printed_choices o.choices) others }
 {}
 
 /// Texts of one search show states that are alike, and are one text but for the choices; a text without states says that there are
 /// more than may be kept.
 pub fn texts_of_one_search()
-    ensures first { (t : Litmus) (depth : ℕ) (json again : Bool) (out other : List ℕ) (said : ShowOneSearch t depth json again out other)
-        → out ≡ outcomes_in json t depth said.outcomes }
-    ensures second { (t : Litmus) (depth : ℕ) (json again : Bool) (out other : List ℕ) (said : ShowOneSearch t depth json again out other)
-        → other ≡ outcomes_in again t depth said.others }
-    ensures alike { (t : Litmus) (depth : ℕ) (json again : Bool) (out other : List ℕ) (said : ShowOneSearch t depth json again out other)
-        → AreAlike t said.outcomes said.others }
-    ensures but_for_choices { (t : Litmus) (depth : ℕ) (json again : Bool) (out other : List ℕ)
-        (said : ShowOneSearch t depth json again out other) → (form : Bool)
-        → outcomes_in form t depth (map without_choices said.outcomes) ≡ outcomes_in form t depth (map without_choices said.others) }
+    ensures first { (t : Litmus) (s : Search) (json again : Bool) (out other : List ℕ) (said : ShowOneSearch t s json again out other)
+        → out ≡ outcomes_in json t (named_in s.show t) s.depth said.outcomes }
+    ensures second { (t : Litmus) (s : Search) (json again : Bool) (out other : List ℕ) (said : ShowOneSearch t s json again out other)
+        → other ≡ outcomes_in again t (named_in s.show t) s.depth said.others }
+    ensures alike { (t : Litmus) (s : Search) (json again : Bool) (out other : List ℕ) (said : ShowOneSearch t s json again out other)
+        → AreAlike t (named_in s.show t) said.outcomes said.others }
+    ensures but_for_choices { (t : Litmus) (s : Search) (json again : Bool) (out other : List ℕ)
+        (said : ShowOneSearch t s json again out other) → (form : Bool)
+        → outcomes_in form t (named_in s.show t) s.depth (map without_choices said.outcomes)
+        ≡ outcomes_in form t (named_in s.show t) s.depth (map without_choices said.others) }
     ensures more { (t : Litmus) (s : Search) (json : Bool) (out : List ℕ) → ShowsNoState t s json out → HasMoreStates t s.depth s.states }
     ensures unfinished { (t : Litmus) (s : Search) (json : Bool) (out : List ℕ) → ShowsNoState t s json out
         → out ≡ unfinished_search_in json t s.states }
 {}
 
-/// Final states that differ in hidden registers alone look alike.
-pub fn what_is_hidden_is_not_shown(alloc: Global, test: &Test) -> Result<Vec<[bool; 6]>, NoMemory>
-    ensures not_shown { IfOk result (λ hidden. AreNotShown test.now hidden.items) }
+/// Final states that differ in hidden registers alone look alike, however much is shown.
+pub fn what_is_hidden_is_not_shown(
+    alloc: Global,
+    test: &Test,
+    show: Show,
+) -> Result<Vec<[bool; 6]>, NoMemory>
+    ensures not_shown { IfOk result (λ hidden. AreNotShown (shown.named_in show test.now) hidden.items) }
 {
-    hidden_registers(alloc, test)
+    hidden_registers(alloc, test, show)
 }

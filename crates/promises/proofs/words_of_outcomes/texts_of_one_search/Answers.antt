@@ -1,16 +1,16 @@
 use Rattle.promises.proofs.words_of_outcomes.texts_of_one_search.Goals as goal
 
 pub returns-clause-first : goal.returns-clause-first
-returns-clause-first c = λ t depth json again out other said. said.first
+returns-clause-first c = λ t s json again out other said. said.first
 
 pub returns-clause-second : goal.returns-clause-second
-returns-clause-second c = λ t depth json again out other said. said.second
+returns-clause-second c = λ t s json again out other said. said.second
 
 pub returns-clause-alike : goal.returns-clause-alike
-returns-clause-alike c = λ t depth json again out other said. said.alike
+returns-clause-alike c = λ t s json again out other said. said.alike
 
 pub returns-clause-but_for_choices : goal.returns-clause-but_for_choices
-returns-clause-but_for_choices c = λ t depth json again out other said. said.but_for_choices
+returns-clause-but_for_choices c = λ t s json again out other said. said.but_for_choices
 
 pub returns-clause-more : goal.returns-clause-more
 returns-clause-more c = λ t s json out none. none.more
