@@ -23,11 +23,12 @@ const Tso = valueIn(path.join(TOP, 'view', 'answers.js'), 'Tso');
 const REFUSED = 2;
 const MACHINE = ['protocol', 'bus', 'depth', 'sets', 'ways', 'words'];
 const OPTIONS = {
-  run: [...MACHINE, 'json'], sweep: [...MACHINE, 'from', 'seeds', 'length'], outcomes: ['depth', 'states', 'json'],
-  why: ['model', 'cases', 'json'],
+  run: [...MACHINE, 'json'], sweep: [...MACHINE, 'from', 'seeds', 'length'], outcomes: ['depth', 'states', 'show', 'json', 'assert'],
+  why: ['model', 'cases', 'json', 'assert'],
   trace: [...MACHINE, 'json'], step: MACHINE, check: [], witness: ['depth'], tables: ['protocol'],
 };
-const WORDS = { protocol: Tso.PROTOCOLS, bus: Tso.BUSES, model: Tso.MODELS };
+const WORDS = { protocol: Tso.PROTOCOLS, bus: Tso.BUSES, model: Tso.MODELS, show: Tso.SHOWN };
+const FLAGS = ['json', 'assert'];
 const MOST = { depth: 254, sets: 254, ways: 254, words: 254 };
 
 /** What a script of the page gives this name. */
@@ -59,7 +60,7 @@ function optionsOf([command, ...words]) {
   while (words.length > 0) {
     const [, name, joined] = /^--([a-z]+)(?:=(.*))?$/s.exec(words.shift()) ?? refuse();
     if (!OPTIONS[command].includes(name) || name in options) refuse();
-    options[name] = name === 'json' ? true : valueOf(name, joined ?? words.shift());
+    options[name] = FLAGS.includes(name) ? true : valueOf(name, joined ?? words.shift());
   }
   return command === 'outcomes' ? { depth: 32, ...options } : options;
 }

@@ -8,9 +8,11 @@ class Tso {
   static PROTOCOLS = ['msi', 'mesi', 'moesi', 'mosi'];
   static BUSES = ['atomic', 'split'];
   static MODELS = ['tso', 'sc'];
+  static SHOWN = ['condition', 'registers', 'all'];
   static DEFAULTS = {
     command: 'run', protocol: 'msi', bus: 'atomic', depth: 4, sets: 1, ways: 2, words: 1, json: false,
     from: 0, seeds: 10, length: 1000, states: 1000000, cases: 100000, model: 'tso',
+    show: 'condition', assert: false,
   };
   static STATUS = { good: 0, refused: 1, nothingAsked: 2, unended: 3, invalid: 4, noMemory: 5 };
 
@@ -69,12 +71,14 @@ class Tso {
 
   writeAsked(place, options) {
     const view = new DataView(this.exports.memory.buffer, place, 32);
-    const { command, protocol, bus, depth, sets, ways, words, json, from, seeds, length, states, cases, model } = options;
+    const { command, protocol, bus, depth, sets, ways, words, json, from, seeds, length, states, cases, model, show, assert } = options;
     const small = [Tso.COMMANDS.indexOf(command), Tso.PROTOCOLS.indexOf(protocol), Tso.BUSES.indexOf(bus), depth, sets, ways, words];
     small.forEach((number, at) => view.setUint8(at, Number.isInteger(number) && number >= 0 && number < 255 ? number : 255));
     view.setUint8(7, json ? 1 : 0);
     [from, seeds, length, states, cases].forEach((number, at) => view.setUint32(8 + 4 * at, number, true));
     view.setUint8(28, Tso.MODELS.indexOf(model) & 255);
+    view.setUint8(29, Tso.SHOWN.indexOf(show) & 255);
+    view.setUint8(30, assert ? 1 : 0);
   }
 
   readTold(place) {

@@ -1,6 +1,6 @@
 -- What the numbers of the page ask for, and what answers them: the same settings and answers as those of the program, so
 -- that its promises hold of the page.
-use Rattle.std.specs.Prelude.{ℕ, ◌≡◌, ◌<◌, ◌≤◌, ◌⊎◌, true, false, List, Some, length, take}
+use Rattle.std.specs.Prelude.{ℕ, ◌≡◌, ◌<◌, ◌≤◌, ◌⊎◌, true, List, Some, length, take}
 use Rattle.tso_model.specs.declared.choice.Bus.{Bus}
 use Rattle.snoop_bus.specs.Geometry.{geometry, IsShapeWithinLimits}
 use Rattle.protocol_tables.specs.declared.kind.ProtocolKind.{ProtocolKind}
@@ -9,7 +9,7 @@ use Rattle.tso_model.specs.Limits.{most_depth}
 use Rattle.machine_core.specs.Configuration.{Configuration}
 use Rattle.command_line.specs.Limits.{IsDepth}
 use Rattle.command_line.specs.Plan.{IsPlanWithinLimits}
-use Rattle.command_line.specs.Search.{IsSearchWithinLimits}
+use Rattle.command_line.specs.Search.{most_states}
 use Rattle.command_line.specs.Explanation.{most_told_apart}
 use Rattle.command_line.specs.declared.settings.Settings.{Settings}
 use Rattle.tso_cli.specs.Headline.{Headline}
@@ -23,6 +23,7 @@ use Rattle.page_exports.specs.declared.Told.{Told}
 use Rattle.tso_model.specs.declared.choice.Bus.TheVariants as buses
 use Rattle.protocol_tables.specs.declared.kind.ProtocolKind.TheVariants as kinds
 use Rattle.refutation_laws.specs.declared.model.Model.TheVariants as models
+use Rattle.shown_values.specs.declared.show.Show.{Show}
 use Rattle.shown_values.specs.declared.show.Show.TheVariants as shows
 use Rattle.command_line.specs.declared.settings.Settings.TheVariants as settings
 use Rattle.commands.specs.declared.answer.Status.TheVariants as statuses
@@ -41,6 +42,11 @@ bus_number buses.Split = 1
 abbrev pub model_number : Model → ℕ
 model_number models.Tso = 0
 model_number models.Sequential = 1
+
+abbrev pub show_number : Show → ℕ
+show_number shows.Condition = 0
+show_number shows.Registers = 1
+show_number shows.All = 2
 
 -- the number of a status is the command's exit status
 abbrev pub number_of : Status → ℕ
@@ -65,11 +71,11 @@ Asks a settings.Check = a.command ≡ 2
 Asks a (settings.Witness depth) = (a.command ≡ 3) × (depth ≡ a.depth)
 Asks a (settings.Tables kind) = (a.command ≡ 4) × (kind_number kind ≡ a.protocol)
 Asks a (settings.Outcomes search json assert) =
-    (a.command ≡ 5) × (search ≡ record { depth = a.depth; states = a.states; show = shows.Condition }) × (json ≡ a.json)
-    × (assert ≡ false)
+    (a.command ≡ 5) × (search.depth ≡ a.depth) × (search.states ≡ a.states) × (show_number search.show ≡ a.show) × (json ≡ a.json)
+    × (assert ≡ a.assert)
 Asks a (settings.Trace kind config json) = (a.command ≡ 6) × IsMachineOf a kind config × (json ≡ a.json)
 Asks a (settings.Why plan json assert) =
-    (a.command ≡ 8) × (model_number plan.model ≡ a.model) × (plan.cases ≡ a.cases) × (json ≡ a.json) × (assert ≡ false)
+    (a.command ≡ 8) × (model_number plan.model ≡ a.model) × (plan.cases ≡ a.cases) × (json ≡ a.json) × (assert ≡ a.assert)
 
 -- the question that the numbers ask: a command's, or for the last step of a trace
 abbrev pub AsksFor : Numbers → Question → Type 0
@@ -88,7 +94,7 @@ IsCommandAskable a =
     ⊎ (a.command ≡ 2)
     ⊎ ((a.command ≡ 3) × IsDepth a.depth)
     ⊎ ((a.command ≡ 4) × (a.protocol < 4))
-    ⊎ ((a.command ≡ 5) × IsSearchWithinLimits (record { depth = a.depth; states = a.states; show = shows.Condition }))
+    ⊎ ((a.command ≡ 5) × (a.show < 3) × (a.depth ≤ most_depth) × (1 ≤ a.states) × (a.states ≤ most_states))
     ⊎ ((a.command ≡ 6) × IsMachineAsked a)
     ⊎ ((a.command ≡ 8) × (a.model < 2) × (1 ≤ a.cases) × (a.cases ≤ most_told_apart))
 

@@ -7,7 +7,7 @@ ghost use Rattle.snoop_bus.specs.Geometry.{geometry, IsShapeWithinLimits};
 ghost use Rattle.command_line.specs.Limits.{HasDepth};
 ghost use Rattle.page_exports.specs.Questions.{AsksFor, IsAskable, Asks, IsCommandAskable, settings_of};
 ghost use Rattle.page_exports.specs.inner.Questions.{HasDepthFor};
-ghost use Rattle.page_exports.specs.Questions.{kind_number, bus_number, model_number, number_of};
+ghost use Rattle.page_exports.specs.Questions.{kind_number, bus_number, model_number, show_number, number_of};
 
 use command_line::{ReasonPlan, SearchPlan, Show, SweepPlan};
 use machine_core::Config;
@@ -50,6 +50,10 @@ pub struct Numbers {
     pub cases: u32,
     /// 0 tso, 1 sc.
     pub model: u8,
+    /// What final states show: 0 what the condition names, 1 also registers that are written, 2 also all locations.
+    pub show: u8,
+    /// Whether the status of either search tells where the verdict is `No`.
+    pub assert: bool,
 }
 
 /// What numbers ask for.
@@ -128,11 +132,11 @@ fn command_of(asked: &Numbers) -> Option<Settings>
         }
         4 => Some(Settings::Tables(kind_of(asked.protocol)?)),
         5 => {
-            let search = SearchPlan::new(asked.depth, asked.states, Show::Condition)?;
+            let search = SearchPlan::new(asked.depth, asked.states, show_of(asked.show)?)?;
             Some(Settings::Outcomes {
                 search,
                 json: asked.json,
-                assert: false,
+                assert: asked.assert,
             })
         }
         6 => {
@@ -148,7 +152,7 @@ fn command_of(asked: &Numbers) -> Option<Settings>
             Some(Settings::Why {
                 plan,
                 json: asked.json,
-                assert: false,
+                assert: asked.assert,
             })
         }
         _ => None,
@@ -209,6 +213,18 @@ fn model_of(number: u8) -> Option<Model>
     match number {
         0 => Some(Model::Tso),
         1 => Some(Model::Sequential),
+        _ => None,
+    }
+}
+
+fn show_of(number: u8) -> Option<Show>
+    ensures value { IfSome result (λ s. show_number s ≡ number) }
+    ensures valid { IsSome result ↔ (number < 3) }
+{
+    match number {
+        0 => Some(Show::Condition),
+        1 => Some(Show::Registers),
+        2 => Some(Show::All),
         _ => None,
     }
 }
