@@ -11,8 +11,10 @@ ghost use Rattle.outcome_report.specs.OutcomesJson.{value_members};
 ghost use Rattle.reason_report.specs.ReasonJson as spec;
 ghost use Rattle.reason_report.specs.ReasonText as text;
 ghost use Rattle.reason_report.specs.inner.Shown.{IsShown, reading_value, coherence_members_by, shown_value};
+ghost use Rattle.reason_report.specs.inner.Shown.{with_answer, with_candidate, with_end};
 
 use crate::allowed_text::{has_write, write_entry, write_read_source};
+use crate::as_json::put_text;
 use crate::as_text::key_text;
 use crate::asked::{asked_value, model_name};
 use crate::readings::Reading;
@@ -63,56 +65,75 @@ fn allowed_value(
     ensures { IfOk result (λ value. view value ≡ shown_value model test.now order.now readings.now values.now choices.now) }
 {
     let mut members = Map::new(alloc);
+    put_answer(&mut members, alloc, test, model)?;
+    put_candidate(&mut members, alloc, test, order, readings)?;
+    put_end(&mut members, alloc, test, names, values, choices)?;
+    Ok(Value::Object(members))
+}
+
+/// What is answered to what the test asks.
+fn put_answer(
+    members: &mut Map<String, Value>,
+    alloc: Global,
+    test: &Test,
+    model: Model,
+) -> Result<(), NoMemory>
+    ensures { OnOk result (members_view members.new.entries ≡ with_answer model test.now (members_view members.old.entries)) }
+{
+    put_text(members, alloc, "answer", "allowed")?;
+    put(members, alloc, "asked", asked_value(alloc, test)?)?;
+    put_text(members, alloc, "model", model_name(model))?;
+    put_text(members, alloc, "test", test.name())?;
+    put(members, alloc, "verdict", verdict_value(alloc, test, true)?)?;
+    Ok(())
+}
+
+/// What each read reads from, and the writes to each location in their order.
+fn put_candidate(
+    members: &mut Map<String, Value>,
+    alloc: Global,
+    test: &Test,
+    order: &[Entry],
+    readings: &[Reading],
+) -> Result<(), NoMemory>
+    ensures { OnOk result (members_view members.new.entries ≡ with_candidate test.now order.now readings.now (members_view members.old.entries)) }
+{
     put(
-        &mut members,
-        alloc,
-        "answer",
-        Value::try_from_str(alloc, "allowed")?,
-    )?;
-    put(&mut members, alloc, "asked", asked_value(alloc, test)?)?;
-    put(
-        &mut members,
-        alloc,
-        "choices",
-        Value::String(choices_text(alloc, choices)?),
-    )?;
-    put(
-        &mut members,
+        members,
         alloc,
         "coherence",
         coherence_value(alloc, test, order)?,
     )?;
     put(
-        &mut members,
-        alloc,
-        "model",
-        Value::try_from_str(alloc, model_name(model))?,
-    )?;
-    put(
-        &mut members,
+        members,
         alloc,
         "sources",
         sources_value(alloc, test, readings)?,
     )?;
+    Ok(())
+}
+
+/// Choices that lead there, and the values that are looked at.
+fn put_end(
+    members: &mut Map<String, Value>,
+    alloc: Global,
+    test: &Test,
+    names: &[Named],
+    values: &[u32],
+    choices: &[Choice],
+) -> Result<(), NoMemory>
+    requires { length values.now ≡ length names.now }
+    ensures { OnOk result (members_view members.new.entries ≡ with_end test.now names.now values.now choices.now (members_view members.old.entries)) }
+{
+    let choices = choices_text(alloc, choices)?;
+    put(members, alloc, "choices", Value::String(choices))?;
     put(
-        &mut members,
-        alloc,
-        "test",
-        Value::try_from_str(alloc, test.name())?,
-    )?;
-    put(
-        &mut members,
+        members,
         alloc,
         "values",
         values_value(alloc, test, names, values)?,
     )?;
-    put(
-        &mut members,
-        alloc,
-        "verdict",
-        verdict_value(alloc, test, true)?,
-    )?;
-    Ok(Value::Object(members))
+    Ok(())
 }
 
 fn coherence_value(alloc: Global, test: &Test, order: &[Entry]) -> Result<Value, NoMemory>
@@ -178,19 +199,24 @@ fn reading_value(alloc: Global, test: &Test, reading: &Reading) -> Result<Value,
     ensures { IfOk result (λ value. view value ≡ reading_value test.now reading.now) }
 {
     let mut members = Map::new(alloc);
-    put(
-        &mut members,
-        alloc,
-        "read",
-        entry_value(alloc, test, &reading.read)?,
-    )?;
-    put(
-        &mut members,
-        alloc,
-        "write",
-        source_value(alloc, test, &reading.write)?,
-    )?;
+    put_reading(&mut members, alloc, test, reading)?;
     Ok(Value::Object(members))
+}
+
+fn put_reading(
+    members: &mut Map<String, Value>,
+    alloc: Global,
+    test: &Test,
+    reading: &Reading,
+) -> Result<(), NoMemory>
+    requires { members.old.entries ≡ [] }
+    ensures { OnOk result (object (members_view members.new.entries) ≡ reading_value test.now reading.now) }
+{
+    let read = entry_value(alloc, test, &reading.read)?;
+    put(members, alloc, "read", read)?;
+    let write = source_value(alloc, test, &reading.write)?;
+    put(members, alloc, "write", write)?;
+    Ok(())
 }
 
 fn source_value(alloc: Global, test: &Test, write: &Option<Entry>) -> Result<Value, NoMemory>

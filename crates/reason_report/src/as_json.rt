@@ -1,9 +1,10 @@
 //! The steps of a refutation as JSON, for programs to read. It is one line, and its objects have their keys in the order of
 //! their bytes.
 
-ghost use Rattle.std.specs.Prelude.{◌≡◌, IfOk, OnOk, string_bytes, map};
-ghost use Rattle.serde_json.specs.Data.{object, array, string};
-ghost use Rattle.serde_json.specs.View.{view, items_of};
+ghost use Rattle.std.specs.Prelude.{◌≡◌, [], IfOk, OnOk, string_bytes, map, codes};
+ghost use Rattle.serde_json.specs.Data as values;
+ghost use Rattle.serde_json.specs.Data.{object, array, string, member, no_members};
+ghost use Rattle.serde_json.specs.View.{view, members_view, items_of};
 ghost use Rattle.tso_report.specs.Json.{count};
 ghost use Rattle.reason_report.specs.ReasonText as text;
 ghost use Rattle.reason_report.specs.ReasonJson as spec;
@@ -15,7 +16,7 @@ use crate::asked::{asked_value, model_name};
 use crate::steps::{Answer, Closing, Edge, Event, Place, Step, leaves_in};
 use outcome_report::verdict::verdict_value;
 use refutation_laws::Model;
-use serde_json::{Map, Value, json, put};
+use serde_json::{Map, Value, put};
 use std::alloc::Global;
 use tso_model::{NoMemory, Test};
 use tso_report::json::line_of;
@@ -48,15 +49,31 @@ pub fn unfinished_json(alloc: Global, test: &Test, limit: u32) -> Result<String,
 fn unfinished_value(alloc: Global, test: &Test, limit: u32) -> Result<Value, NoMemory>
     ensures { IfOk result (λ value. view value ≡ spec.unfinished_value test.now limit) }
 {
-    let name = Value::try_from_str(alloc, test.name())?;
     let mut members = Map::new(alloc);
-    put(&mut members, alloc, "test", name)?;
-    put(
-        &mut members,
-        alloc,
-        "unfinished",
-        json!(in alloc; {"cases": limit})?,
-    )?;
+    put_unfinished(&mut members, alloc, test, limit)?;
+    Ok(Value::Object(members))
+}
+
+fn put_unfinished(
+    members: &mut Map<String, Value>,
+    alloc: Global,
+    test: &Test,
+    limit: u32,
+) -> Result<(), NoMemory>
+    requires { members.old.entries ≡ [] }
+    ensures { OnOk result (object (members_view members.new.entries) ≡ spec.unfinished_value test.now limit) }
+{
+    let cases = cases_value(alloc, limit)?;
+    put(members, alloc, "unfinished", cases)?;
+    put_text(members, alloc, "test", test.name())
+}
+
+/// How many cases a search told apart.
+fn cases_value(alloc: Global, limit: u32) -> Result<Value, NoMemory>
+    ensures { IfOk result (λ value. view value ≡ object (member (codes "cases") (count limit) no_members)) }
+{
+    let mut members = Map::new(alloc);
+    put(&mut members, alloc, "cases", Value::from(limit))?;
     Ok(Value::Object(members))
 }
 
@@ -64,39 +81,33 @@ fn never_value(alloc: Global, test: &Test, model: Model, steps: &[Step]) -> Resu
     ensures { IfOk result (λ value. view value ≡ spec.never_value_of model test.now (map step_of steps.now)) }
 {
     let mut members = Map::new(alloc);
+    put_never(&mut members, alloc, test, model, steps)?;
+    Ok(Value::Object(members))
+}
+
+fn put_never(
+    members: &mut Map<String, Value>,
+    alloc: Global,
+    test: &Test,
+    model: Model,
+    steps: &[Step],
+) -> Result<(), NoMemory>
+    requires { members.old.entries ≡ [] }
+    ensures { OnOk result (object (members_view members.new.entries) ≡ spec.never_value_of model test.now (map step_of steps.now)) }
+{
+    put_text(members, alloc, "answer", "never")?;
+    put(members, alloc, "asked", asked_value(alloc, test)?)?;
+    put(members, alloc, "leaves", Value::from(leaves_in(steps)))?;
+    put_text(members, alloc, "model", model_name(model))?;
+    put(members, alloc, "steps", steps_value(alloc, test, steps)?)?;
+    put_text(members, alloc, "test", test.name())?;
     put(
-        &mut members,
-        alloc,
-        "answer",
-        Value::try_from_str(alloc, "never")?,
-    )?;
-    put(&mut members, alloc, "asked", asked_value(alloc, test)?)?;
-    put(&mut members, alloc, "leaves", Value::from(leaves_in(steps)))?;
-    put(
-        &mut members,
-        alloc,
-        "model",
-        Value::try_from_str(alloc, model_name(model))?,
-    )?;
-    put(
-        &mut members,
-        alloc,
-        "steps",
-        steps_value(alloc, test, steps)?,
-    )?;
-    put(
-        &mut members,
-        alloc,
-        "test",
-        Value::try_from_str(alloc, test.name())?,
-    )?;
-    put(
-        &mut members,
+        members,
         alloc,
         "verdict",
         verdict_value(alloc, test, false)?,
     )?;
-    Ok(Value::Object(members))
+    Ok(())
 }
 
 fn steps_value(alloc: Global, test: &Test, steps: &[Step]) -> Result<Value, NoMemory>
@@ -112,91 +123,65 @@ fn steps_value(alloc: Global, test: &Test, steps: &[Step]) -> Result<Value, NoMe
 fn step_value(alloc: Global, test: &Test, step: &Step) -> Result<Value, NoMemory>
     ensures { IfOk result (λ value. view value ≡ spec.step_value test.now (step_of step.now)) }
 {
+    let mut members = Map::new(alloc);
+    put_step(&mut members, alloc, test, step)?;
+    Ok(Value::Object(members))
+}
+
+fn put_step(
+    members: &mut Map<String, Value>,
+    alloc: Global,
+    test: &Test,
+    step: &Step,
+) -> Result<(), NoMemory>
+    requires { members.old.entries ≡ [] }
+    ensures { OnOk result (object (members_view members.new.entries) ≡ spec.step_value test.now (step_of step.now)) }
+{
     match step {
-        Step::Case(depth, answer) => answer_value(alloc, test, "case", *depth, answer),
-        Step::So(depth, answer) => answer_value(alloc, test, "so", *depth, answer),
-        Step::Leaf(depth, closing) => closing_value(alloc, test, *depth, closing),
-        Step::Endcases(depth) => {
-            let depth = *depth;
-            Ok(json!(in alloc; {"depth": depth, "step": "endcases"})?)
-        }
+        Step::Case(depth, answer) => put_answer(members, alloc, test, "case", *depth, answer),
+        Step::So(depth, answer) => put_answer(members, alloc, test, "so", *depth, answer),
+        Step::Leaf(depth, closing) => put_closing(members, alloc, test, *depth, closing),
+        Step::Endcases(depth) => put_place(members, alloc, "endcases", *depth),
     }
 }
 
-fn answer_value(
+/// What each step has: its name, and how deep it stands.
+fn put_place(
+    members: &mut Map<String, Value>,
+    alloc: Global,
+    step: &str,
+    depth: usize,
+) -> Result<(), NoMemory>
+    ensures { OnOk result (members_view members.new.entries
+        ≡ values.put (codes "step") (string step.now) (values.put (codes "depth") (count depth) (members_view members.old.entries))) }
+{
+    put(members, alloc, "depth", Value::from(depth))?;
+    put_text(members, alloc, "step", step)
+}
+
+fn put_answer(
+    members: &mut Map<String, Value>,
     alloc: Global,
     test: &Test,
     step: &str,
     depth: usize,
     answer: &Answer,
-) -> Result<Value, NoMemory>
-    ensures { IfOk result (λ value. view value ≡ spec.answer_value test.now step.now depth (answer_of answer.now)) }
+) -> Result<(), NoMemory>
+    requires { members.old.entries ≡ [] }
+    ensures { OnOk result (object (members_view members.new.entries) ≡ spec.answer_value test.now step.now depth (answer_of answer.now)) }
 {
+    put_place(members, alloc, step, depth)?;
     match answer {
-        Answer::From(read, writes) => reading_value(alloc, test, step, depth, read, writes),
-        Answer::Before(first, second) => ordering_value(alloc, test, step, depth, first, second),
+        Answer::From(read, writes) => {
+            put_event(members, alloc, test, "read", read)?;
+            put(members, alloc, "from", sources_value(alloc, test, writes)?)?;
+            Ok(())
+        }
+        Answer::Before(first, second) => {
+            put_event(members, alloc, test, "first", first)?;
+            put_event(members, alloc, test, "second", second)
+        }
     }
-}
-
-fn reading_value(
-    alloc: Global,
-    test: &Test,
-    step: &str,
-    depth: usize,
-    read: &Event,
-    writes: &[Option<Event>],
-) -> Result<Value, NoMemory>
-    ensures { IfOk result (λ value. view value ≡ spec.answer_value test.now step.now depth (steps.From read.now writes.now)) }
-{
-    let mut members = Map::new(alloc);
-    put(&mut members, alloc, "depth", Value::from(depth))?;
-    put(
-        &mut members,
-        alloc,
-        "from",
-        sources_value(alloc, test, writes)?,
-    )?;
-    put(&mut members, alloc, "read", event_value(alloc, test, read)?)?;
-    put(
-        &mut members,
-        alloc,
-        "step",
-        Value::try_from_str(alloc, step)?,
-    )?;
-    Ok(Value::Object(members))
-}
-
-fn ordering_value(
-    alloc: Global,
-    test: &Test,
-    step: &str,
-    depth: usize,
-    first: &Event,
-    second: &Event,
-) -> Result<Value, NoMemory>
-    ensures { IfOk result (λ value. view value ≡ spec.answer_value test.now step.now depth (steps.Before first.now second.now)) }
-{
-    let mut members = Map::new(alloc);
-    put(&mut members, alloc, "depth", Value::from(depth))?;
-    put(
-        &mut members,
-        alloc,
-        "first",
-        event_value(alloc, test, first)?,
-    )?;
-    put(
-        &mut members,
-        alloc,
-        "second",
-        event_value(alloc, test, second)?,
-    )?;
-    put(
-        &mut members,
-        alloc,
-        "step",
-        Value::try_from_str(alloc, step)?,
-    )?;
-    Ok(Value::Object(members))
 }
 
 fn sources_value(alloc: Global, test: &Test, writes: &[Option<Event>]) -> Result<Value, NoMemory>
@@ -217,6 +202,38 @@ fn source_value(alloc: Global, test: &Test, write: &Option<Event>) -> Result<Val
     Ok(Value::String(text))
 }
 
+/// Puts a text under a key.
+///
+/// Errors: out of memory only.
+pub fn put_text(
+    members: &mut Map<String, Value>,
+    alloc: Global,
+    key: &str,
+    text: &str,
+) -> Result<(), NoMemory>
+    ensures { OnOk result (members_view members.new.entries
+        ≡ values.put key.now (string text.now) (members_view members.old.entries)) }
+{
+    let value = Value::try_from_str(alloc, text)?;
+    put(members, alloc, key, value)?;
+    Ok(())
+}
+
+fn put_event(
+    members: &mut Map<String, Value>,
+    alloc: Global,
+    test: &Test,
+    key: &str,
+    event: &Event,
+) -> Result<(), NoMemory>
+    ensures { OnOk result (members_view members.new.entries
+        ≡ values.put key.now (spec.event_value test.now event.now) (members_view members.old.entries)) }
+{
+    let value = event_value(alloc, test, event)?;
+    put(members, alloc, key, value)?;
+    Ok(())
+}
+
 fn event_value(alloc: Global, test: &Test, event: &Event) -> Result<Value, NoMemory>
     ensures { IfOk result (λ value. view value ≡ spec.event_value test.now event.now) }
 {
@@ -225,48 +242,47 @@ fn event_value(alloc: Global, test: &Test, event: &Event) -> Result<Value, NoMem
     Ok(Value::String(text))
 }
 
-fn closing_value(
+fn put_closing(
+    members: &mut Map<String, Value>,
     alloc: Global,
     test: &Test,
     depth: usize,
     closing: &Closing,
-) -> Result<Value, NoMemory>
-    ensures { IfOk result (λ value. view value ≡ spec.closing_value test.now depth (closing_of closing.now)) }
+) -> Result<(), NoMemory>
+    requires { members.old.entries ≡ [] }
+    ensures { OnOk result (object (members_view members.new.entries) ≡ spec.closing_value test.now depth (closing_of closing.now)) }
 {
     match closing {
-        Closing::Uniproc(edges) => cycle_value(alloc, test, "uniproc", depth, edges),
-        Closing::Cycle(edges) => cycle_value(alloc, test, "cycle", depth, edges),
-        Closing::Between(read, between, write) => between_value(
-            alloc, test, depth, read, between, write,
-        ),
-        Closing::False(places) => false_value(alloc, test, depth, places),
+        Closing::Uniproc(edges) => put_cycle(members, alloc, test, "uniproc", depth, edges),
+        Closing::Cycle(edges) => put_cycle(members, alloc, test, "cycle", depth, edges),
+        Closing::Between(read, between, write) => {
+            put_place(members, alloc, "between", depth)?;
+            put_event(members, alloc, test, "read", read)?;
+            put_event(members, alloc, test, "between", between)?;
+            put_event(members, alloc, test, "write", write)
+        }
+        Closing::False(places) => {
+            put_place(members, alloc, "false", depth)?;
+            put(members, alloc, "places", places_value(alloc, test, places)?)?;
+            Ok(())
+        }
     }
 }
 
-fn cycle_value(
+fn put_cycle(
+    members: &mut Map<String, Value>,
     alloc: Global,
     test: &Test,
     step: &str,
     depth: usize,
     edges: &[Edge],
-) -> Result<Value, NoMemory>
-    ensures { IfOk result (λ value. view value ≡ spec.cycle_value test.now step.now depth edges.now) }
+) -> Result<(), NoMemory>
+    requires { members.old.entries ≡ [] }
+    ensures { OnOk result (object (members_view members.new.entries) ≡ spec.cycle_value test.now step.now depth edges.now) }
 {
-    let mut members = Map::new(alloc);
-    put(
-        &mut members,
-        alloc,
-        "cycle",
-        edges_value(alloc, test, edges)?,
-    )?;
-    put(&mut members, alloc, "depth", Value::from(depth))?;
-    put(
-        &mut members,
-        alloc,
-        "step",
-        Value::try_from_str(alloc, step)?,
-    )?;
-    Ok(Value::Object(members))
+    put_place(members, alloc, step, depth)?;
+    put(members, alloc, "cycle", edges_value(alloc, test, edges)?)?;
+    Ok(())
 }
 
 fn edges_value(alloc: Global, test: &Test, edges: &[Edge]) -> Result<Value, NoMemory>
@@ -283,84 +299,22 @@ fn edge_value(alloc: Global, test: &Test, edge: &Edge) -> Result<Value, NoMemory
     ensures { IfOk result (λ value. view value ≡ spec.edge_value test.now edge.now) }
 {
     let mut members = Map::new(alloc);
-    put(
-        &mut members,
-        alloc,
-        "from",
-        event_value(alloc, test, &edge.source)?,
-    )?;
-    put(
-        &mut members,
-        alloc,
-        "relation",
-        Value::try_from_str(alloc, relation_text(edge.relation))?,
-    )?;
-    put(
-        &mut members,
-        alloc,
-        "to",
-        event_value(alloc, test, &edge.target)?,
-    )?;
+    put_edge(&mut members, alloc, test, edge)?;
     Ok(Value::Object(members))
 }
 
-fn between_value(
+fn put_edge(
+    members: &mut Map<String, Value>,
     alloc: Global,
     test: &Test,
-    depth: usize,
-    read: &Event,
-    between: &Event,
-    write: &Event,
-) -> Result<Value, NoMemory>
-    ensures { IfOk result (λ value. view value ≡ spec.closing_value test.now depth (steps.Amid read.now between.now write.now)) }
+    edge: &Edge,
+) -> Result<(), NoMemory>
+    requires { members.old.entries ≡ [] }
+    ensures { OnOk result (object (members_view members.new.entries) ≡ spec.edge_value test.now edge.now) }
 {
-    let mut members = Map::new(alloc);
-    put(
-        &mut members,
-        alloc,
-        "between",
-        event_value(alloc, test, between)?,
-    )?;
-    put(&mut members, alloc, "depth", Value::from(depth))?;
-    put(&mut members, alloc, "read", event_value(alloc, test, read)?)?;
-    put(
-        &mut members,
-        alloc,
-        "step",
-        Value::try_from_str(alloc, "between")?,
-    )?;
-    put(
-        &mut members,
-        alloc,
-        "write",
-        event_value(alloc, test, write)?,
-    )?;
-    Ok(Value::Object(members))
-}
-
-fn false_value(
-    alloc: Global,
-    test: &Test,
-    depth: usize,
-    places: &[Place],
-) -> Result<Value, NoMemory>
-    ensures { IfOk result (λ value. view value ≡ spec.closing_value test.now depth (steps.False (map place_of places.now))) }
-{
-    let mut members = Map::new(alloc);
-    put(&mut members, alloc, "depth", Value::from(depth))?;
-    put(
-        &mut members,
-        alloc,
-        "places",
-        places_value(alloc, test, places)?,
-    )?;
-    put(
-        &mut members,
-        alloc,
-        "step",
-        Value::try_from_str(alloc, "false")?,
-    )?;
-    Ok(Value::Object(members))
+    put_event(members, alloc, test, "from", &edge.source)?;
+    put_text(members, alloc, "relation", relation_text(edge.relation))?;
+    put_event(members, alloc, test, "to", &edge.target)
 }
 
 fn places_value(alloc: Global, test: &Test, places: &[Place]) -> Result<Value, NoMemory>

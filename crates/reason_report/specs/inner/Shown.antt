@@ -1,6 +1,6 @@
 -- An execution as the code shows it: what its reads read from, by its order.
 use Rattle.std.specs.Prelude.{ℕ, ◌+◌, ◌≡◌, true, List, [], ◌∷◌, ◌++◌, map, filter, Option, Some, codes}
-use Rattle.serde_json.specs.Data.{Data, string, array, object, Members, no_members, member}
+use Rattle.serde_json.specs.Data.{Data, string, array, object, Members, no_members, member, put}
 use Rattle.serde_json.specs.View.{items_of}
 use Rattle.tso_model.specs.Litmus.{Litmus}
 use Rattle.tso_model.specs.ProgramOrder.{writes_to}
@@ -15,6 +15,7 @@ use Rattle.scheduler.specs.Printed.{printed_choices}
 use Rattle.order_builder.specs.PrintedOrder.{printed_entry}
 use Rattle.tso_report.specs.Report.{line}
 use Rattle.tso_report.specs.Tally.{looked_at}
+use Rattle.tso_report.specs.declared.named.Named.{Named}
 use Rattle.outcome_report.specs.OutcomesJson.{value_members}
 use Rattle.reason_report.specs.ReasonText.{model_name, read_source, reads_of, coherence_line, values_left}
 use Rattle.outcome_report.specs.Verdict.{verdict_value}
@@ -75,6 +76,27 @@ abbrev pub coherence_members_by : Litmus → List Entry → ℕ → List (List �
 coherence_members_by t order loc [] = no_members
 coherence_members_by t order loc (name ∷ names) =
     with_coherence t name (filter (writes_to loc) order) (coherence_members_by t order (loc + 1) names)
+
+-- these members, and what is answered to what the test asks
+abbrev pub with_answer : Model → Litmus → Members → Members
+with_answer model t members =
+    put (codes "verdict") (verdict_value t.condition true)
+    (put (codes "test") (string t.name)
+    (put (codes "model") (string (model_name model))
+    (put (codes "asked") (asked_value t.condition)
+    (put (codes "answer") (string (codes "allowed")) members))))
+
+-- and what each read reads from, and the writes to each location
+abbrev pub with_candidate : Litmus → List Entry → List Reading → Members → Members
+with_candidate t order readings members =
+    put (codes "sources") (array (items_of (map (reading_value t) readings)))
+    (put (codes "coherence") (object (coherence_members_by t order 0 t.locations)) members)
+
+-- and choices that lead there, and the values at these
+abbrev pub with_end : Litmus → List Named → List ℕ → List Choice → Members → Members
+with_end t names values choices members =
+    put (codes "values") (object (value_members t names values))
+    (put (codes "choices") (string (printed_choices choices)) members)
 
 -- all of it, as `allowed_value` has it of a candidate
 abbrev pub shown_value : Model → Litmus → List Entry → List Reading → List ℕ → List Choice → Data
