@@ -275,6 +275,9 @@ fn ask(problem: &Problem, desk: &mut Desk, asked: &mut Vec<Asked>, read: usize) 
 fn grow(problem: &Problem, branch: &Branch, desk: &mut Desk, test: &Test, clash: usize) -> usize {
     let mut asked = Vec::new(desk.alloc);
     for _leaf in 0..MOST_LEAVES {
+        if desk.trees.is_refused {
+            return NONE;
+        }
         let tree = add_closed(problem, branch, desk, test, &asked);
         if tree == NONE {
             let open = next_open(problem, branch, desk, test, clash);

@@ -61,7 +61,11 @@ fn add_twig(trees: &mut Trees, growth: Growth, first: usize, second: usize, thir
         beside: NONE,
         leaves: 1,
     };
-    trees.is_refused |= trees.twigs.push(twig).is_err();
+    if trees.twigs.push(twig).is_err() {
+        // A number that the next twig will have must not be handed out: trees would grow into themselves.
+        trees.is_refused = true;
+        return NONE;
+    }
     number
 }
 

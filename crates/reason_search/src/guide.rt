@@ -67,6 +67,7 @@ fn look_for_smaller(
             break;
         }
         let found = hunt_again(&guide.problem, &mut guide.hunt, test, &guide.start, effort);
+        check_memory(&guide.hunt)?;
         if let Find::Refuted(other) = found {
             let fewer = leaves_of(&guide.hunt.desk.trees, other);
             if fewer < leaves {
@@ -80,7 +81,9 @@ fn look_for_smaller(
 
 /// Searches: a tree, or a branch that is open to the end, or neither.
 fn run(alloc: Global, guide: &mut Guide, test: &Test) -> Result<(), NoMemory> {
-    match hunt_for(&guide.problem, &mut guide.hunt, test, MOST_CASES) {
+    let found = hunt_for(&guide.problem, &mut guide.hunt, test, MOST_CASES);
+    check_memory(&guide.hunt)?;
+    match found {
         Find::Allowed => guide.is_allowed = true,
         Find::Refuted(root) => {
             take_tree(alloc, guide, root)?;
@@ -89,7 +92,7 @@ fn run(alloc: Global, guide: &mut Guide, test: &Test) -> Result<(), NoMemory> {
         }
         Find::Paused => {}
     }
-    check_memory(&guide.hunt)
+    Ok(())
 }
 
 fn check_memory(hunt: &Hunt) -> Result<(), NoMemory> {

@@ -277,6 +277,9 @@ pub fn go_back(problem: &Problem, hunt: &mut Hunt, test: &Test) -> usize {
     clear(&mut hunt.desk.used, 0, width);
     let mut tree = add_conflict(problem, &hunt.branch, &mut hunt.desk, test);
     for _step in 0..u64::MAX {
+        if must_end(hunt) {
+            return NONE;
+        }
         let Some(frame) = hunt.frames.last().copied() else {
             return wrap(problem, &hunt.branch, &mut hunt.desk, test, 0, tree);
         };

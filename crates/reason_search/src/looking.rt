@@ -317,6 +317,10 @@ fn take_dirty(problem: &Problem, branch: &mut Branch) -> usize {
 /// Notes all that follows. False where the branch is closed.
 pub fn deduce(problem: &Problem, branch: &mut Branch, test: &Test) -> bool {
     for _step in 0..u64::MAX {
+        if branch.is_refused {
+            // What follows can't be noted any more, so it would follow again and again.
+            return true;
+        }
         if branch.claim_is_dirty {
             branch.claim_is_dirty = false;
             if !want_asked(problem, branch, test) {
