@@ -9,7 +9,7 @@
 
 PROMISE is run (on the atomic bus, plain), run-whole (the split bus and JSON too), trace and trace-whole (likewise), sweep, outcomes, why (both
 plain), check, witness, headline, axioms, state (the axioms, final state and verdict), answers, reach, page, models, refutations or laws
-(what the contracts name of all functions that README.md and docs/PROVED.md name and that are no methods; what a contract cites through
+(what the contracts name of all functions that PAGES name and that are no methods; what a contract cites through
 another name of a whole file, as `spec.reading_of`, is the code's own way said as a definition, and a word of the inside). A line counts
 where it is neither blank, a comment nor an import. tests/declared.py lists the types of the code that the headline names.
 
@@ -237,10 +237,14 @@ LAWS = {
 FREE_FUNCTION = re.compile(r"^pub (?:extern \"C\" )?fn (\w+)(?:[^{;]|; \d+\])*?\n    (?:ensures|requires)\b", re.M)
 
 
+# The pages whose names are promises.
+PAGES = ("README.md", "docs/REFERENCE.md", "docs/PROVED.md")
+
+
 def named_functions():
-    """The public functions, but for methods, that the README and the page of what is proved name: pairs of a crate and a name."""
+    """The public functions, but for methods, that PAGES name: pairs of a crate and a name."""
     text = ""
-    for page in ("README.md", "docs/PROVED.md"):
+    for page in PAGES:
         with open(os.path.join(TOP, page), encoding="utf-8") as file:
             text += file.read()
     words = {word for span in re.findall(r"`([^`\n]+)`", text) for word in re.findall(r"\w+", span)}

@@ -1,4 +1,4 @@
-"""The tables of README.md and docs/INPUT.md against a program, for tests/documents.py: commands, options, limits and statuses, by what the
+"""The tables of docs/REFERENCE.md and docs/INPUT.md against a program, for tests/documents.py: commands, options, limits and statuses, by what the
 program answers, its help, the manual page, and the limits as plain numbers (crates/promises/src/limits.rt).
 """
 import os
@@ -13,6 +13,7 @@ SECONDS = 120
 README = os.path.join(TOP, "README.md")
 MANUAL = os.path.join(TOP, "docs", "tso.1")
 INPUT = os.path.join(TOP, "docs", "INPUT.md")
+REFERENCE = os.path.join(TOP, "docs", "REFERENCE.md")
 
 SB = (judging.STORE_BUFFERING + judging.DIVIDER).decode()
 
@@ -39,7 +40,7 @@ def given_values(cell):
 
 
 def words_of(row):
-    """The option of a row of README's table, the commands that take it, its range and its default."""
+    """The option of a row of the reference's table, the commands that take it, its range and its default."""
     return row[0].strip("`"), re.findall(r"`(\w+)`", row[1]), row[2], row[3].strip("`")
 
 
@@ -78,17 +79,17 @@ def help_of(program, *words):
 
 
 def faults_of_commands(program):
-    """Each command of the help is in README.md's tables, in docs/INPUT.md's and in the manual page, with its options and no other."""
+    """Each command of the help is in docs/REFERENCE.md's tables, in docs/INPUT.md's and in the manual page, with its options and no other."""
     known = set(re.findall(r"^  (\w+) ", help_of(program).partition("Commands:\n")[2].partition("\n\n")[0], re.MULTILINE)) - {"help"}
-    tables = {"README.md": table_after(README, "## Commands"), "docs/INPUT.md": table_after(INPUT, "## The input")}
+    tables = {"docs/REFERENCE.md": table_after(REFERENCE, "## Commands"), "docs/INPUT.md": table_after(INPUT, "## The input")}
     faults = ["%s tells of other commands than the help" % name for name, rows in tables.items()
               if known != {command for row in rows for command in re.findall(r"`(\w+)`", row[0])}]
     faults += ["docs/tso.1 doesn't have " + command for command in known if "\n.It Cm %s\n" % command not in content(MANUAL)]
-    options = [words_of(row) for row in table_after(README, "### Options")]
+    options = [words_of(row) for row in table_after(REFERENCE, "## Options")]
     for command in sorted(known):
         told = {option for option, commands, *_ in options if command in commands}
         there = set(re.findall(r"^ +(?:-\w, )?(--\w+)", help_of(program, command), re.MULTILINE)) - {"--help"}
-        faults += ["%s: %s is in one of README.md and the help" % (command, option) for option in sorted(told ^ there)]
+        faults += ["%s: %s is in one of docs/REFERENCE.md and the help" % (command, option) for option in sorted(told ^ there)]
     return faults
 
 
@@ -126,13 +127,14 @@ def greatest(cell):
 
 
 def faults_of_numbers():
-    """The limits of texts and options are the numbers that the proofs have; those of README.md are among those of docs/INPUT.md."""
+    """The limits of texts and options are the numbers that the proofs have; those of docs/REFERENCE.md are among those of docs/INPUT.md."""
     limits, numbers = {row[0]: row[1] for row in table_after(INPUT, "## Limits")}, plain_numbers()
-    ranges = list(limits.items()) + [(row[0], row[2]) for row in table_after(README, "### Options")]
+    ranges = list(limits.items()) + [(row[0], row[2]) for row in table_after(REFERENCE, "## Options")]
     faults = ["%s: %s, and not %d" % (name, cell, numbers[NUMBERS[name]]) for name, cell in ranges
               if name in NUMBERS and greatest(cell) != numbers[NUMBERS[name]]]
     faults += ["no limit of " + name for name in NUMBERS if name not in dict(ranges)]
-    faults += ["README.md: the range of %s isn't docs/INPUT.md's" % name for name, cell in table_after(README, "### Limits")
+    faults += ["docs/REFERENCE.md: the range of %s isn't docs/INPUT.md's" % name
+               for name, cell in table_after(REFERENCE, "## Limits")
                if limits.get(name) != cell]
     return faults
 
@@ -182,12 +184,12 @@ STATUSES = {
 
 
 def faults_of_statuses(program):
-    """README.md tells of the statuses that the help has, and of that of ./tso; the manual page of the same; and the program has them."""
-    told = {row[0] for row in table_after(README, "### Exit statuses")}
+    """docs/REFERENCE.md tells of the statuses that the help has, and of that of ./tso; the manual page of the same; and the program has them."""
+    told = {row[0] for row in table_after(REFERENCE, "## Exit statuses")}
     there = set(re.findall(r"^  (\d)  ", help_of(program).partition("Exit status:\n")[2], re.MULTILINE))
-    faults = [] if there == set("012345") and told == there | {"70"} else ["README.md tells of other statuses than the help"]
+    faults = [] if there == set("012345") and told == there | {"70"} else ["docs/REFERENCE.md tells of other statuses than the help"]
     if told != set(re.findall(r"^\.It (\d+)$", content(MANUAL), re.MULTILINE)):
-        faults.append("docs/tso.1 tells of other statuses than README.md")
+        faults.append("docs/tso.1 tells of other statuses than docs/REFERENCE.md")
     for status, (words, given) in STATUSES.items():
         got = answer(program, words.split(), given).returncode
         faults += ["status %d, and not %s" % (got, status)] if str(got) != status else []
@@ -199,7 +201,7 @@ def faults_of_statuses(program):
 
 def rows_of(program):
     """What is held of the tables, by its name."""
-    for row in table_after(README, "### Options"):
+    for row in table_after(REFERENCE, "## Options"):
         yield "option " + row[0], lambda row=row: faults_of_option(program, row)
         yield "help of " + row[0], lambda row=row: faults_of_help(program, row)
     yield "commands", lambda: faults_of_commands(program)

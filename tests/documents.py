@@ -3,6 +3,7 @@
 
     tests/documents.py PROGRAM [PART-OF-NAME]              runs every command block, and compares
     tests/documents.py --write PROGRAM [PART-OF-NAME]      writes the answers in the blocks of such documents anew
+    tests/documents.py --sentences [FILE..]                the thirty longest sentences of these documents, or of all; needs no program
 
 A command block is fenced as `console`. In it a line that begins with `$ ` is a command, with the lines up to the end of its
 here-document, if it has one; what follows is all that a terminal shows then, standard output and standard error. `./tso` is
@@ -11,10 +12,12 @@ PROGRAM there. The blocks of a document run one after the other in one new folde
 
 Blocks fenced as `sh` aren't run: they prove, test, or need a fresh checkout, a browser or a pager (`./test`, `./tso --prove`).
 
-Then come the links of all documents and the files that they name, the names of refusals among the messages, the letters of breaches (each
+Then come the sentences of README.md and the pages of docs/, none of more than 40 words (tests/document_sentences.py says how they are
+counted), the links of all documents and the files that they name, the names of refusals among the messages, the letters of breaches (each
 beside its axiom's name), the page of what is proved (short cells; each definition with its file where it first has its name), the names
-of definitions, the lists of files that a further protocol or command touches (docs/HACKING.md), and the tables of README.md (commands, options, limits, statuses) and of docs/INPUT.md (limits), against the program, its help, the manual page
-and the limits as plain numbers (tests/document_tables.py). The last line is 'N passed, M failed'.
+of definitions, the lists of files that a further protocol or command touches (docs/HACKING.md), and the tables of docs/REFERENCE.md
+(commands, options, limits, statuses) and of docs/INPUT.md (limits), against the program, its help, the manual page and the limits as plain
+numbers (tests/document_tables.py). The last line is 'N passed, M failed'.
 """
 import difflib
 import glob
@@ -25,6 +28,7 @@ import sys
 import tempfile
 
 sys.dont_write_bytecode = True
+import document_sentences
 import document_tables
 import judging
 from document_tables import README, SECONDS
@@ -315,6 +319,8 @@ def rows_of(program):
         yield "files that %s names" % short(path), lambda path=path: faults_of_named_files(path)
         yield "number of tests in " + short(path), lambda path=path: faults_of_gallery(path)
         yield "letters of breaches in " + short(path), lambda path=path: faults_of_letters(path)
+    for path in document_sentences.pages():
+        yield "length of sentences in " + short(path), lambda path=path: document_sentences.faults_of_length(path)
     yield from document_tables.rows_of(program)
     yield "names of refusals", faults_of_names
     yield "scripts of tests/", faults_of_scripts
@@ -345,4 +351,6 @@ def write(words):
 
 
 if __name__ == "__main__":
+    if sys.argv[1:2] == ["--sentences"]:
+        sys.exit(0 if document_sentences.show(sys.argv[2:] or document_sentences.pages()) else 1)
     sys.exit(judging.check_or_write(judging.with_program(__doc__), check, write))

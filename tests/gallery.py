@@ -103,9 +103,9 @@ program's runs, and against a plain program that explores all runs of a machine 
 
 CYCLES = """## The cycles of those that are forbidden
 
-What `./tso why` prints of each: the lines that close its cases, but for those that are false by their values. So each line is a cycle of
-the published model, `x86tso.cat`, or a write between the parts of a locked instruction. Of several one stands here, of the global
-relation where there is such a cycle, and how many there are. [How to read them](../docs/DEFINITIONS.md#what-is-printed-of-reasons).
+The table has, of each test, one line with which `./tso why` closes a case: a cycle of the published model, `x86tso.cat`, or a write between
+the parts of a locked instruction. Lines `False` are left out. If there are several lines, it has one of the global relation if it can. The
+last column says how many there are. [How to read them](../docs/DEFINITIONS.md#what-is-printed-of-reasons).
 """
 
 SOURCES = """## Sources

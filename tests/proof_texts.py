@@ -66,6 +66,18 @@ def abbreviations():
     return found
 
 
+@lru_cache(None)
+def handed_on(module):
+    """What a crate's vocabulary hands on from other files: the module and the name there, by the name. Of any other file nothing."""
+    found = {}
+    if module.endswith(".proofs.Vocabulary"):
+        with open(os.path.join(TOP, "crates", *module.split(".")) + ".antt", encoding="utf-8") as file:
+            lines = [believed.IMPORT.match(line.removeprefix("unfoldable ").strip()) for line in file if "pub use " in line]
+        for line in lines:
+            found.update({name.strip(): (line.group(2), name.strip()) for name in line.group(3).split(",")})
+    return found
+
+
 class Source:
     """A file of proofs or of definitions: its module, what it imports, its text."""
 
@@ -85,7 +97,7 @@ class Source:
             elif found:
                 for item in found.group(3).split(","):
                     name, _, other = item.strip().partition(" as ")
-                    self.imports[other or name] = (found.group(2), name)
+                    self.imports[other or name] = handed_on(found.group(2)).get(name, (found.group(2), name))
         self.scope = Scope(self.module, self.imports)
 
 

@@ -139,7 +139,7 @@ def is_taken_over(words, told):
 
 
 def faults_of_told_ways(words):
-    """Whether the reference takes over the choices that README.md has beside the states of store buffering, and no spoiled ones."""
+    """Whether the reference takes over the choices that docs/TUTORIAL.md has beside the states of store buffering, and no spoiled ones."""
     left_open = commands.answer(words, judging.STORE_BUFFERING).output
     faults = [] if is_taken_over(words, with_ways(left_open, WAYS)) else ["the right choices aren't taken over"]
     return faults + ["choices are taken over: " + name for name, spoil in SPOILED.items()

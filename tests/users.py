@@ -5,8 +5,8 @@
     tests/users.py --list            each of them with what takes it up
     tests/users.py --renew TREE..    writes tests/data/silent_users.list anew, from what checks left in these trees
 
-What is looked at are the fields of the records that a promise of README.md or docs/PROVED.md reaches (tests/believed.py), and the named
-clauses of the public functions that these pages name. Such a thing is taken up
+What is looked at are the fields of the records that a promise of README.md, docs/REFERENCE.md or docs/PROVED.md reaches
+(tests/believed.py), and the named clauses of the public functions that these pages name. Such a thing is taken up
 
 - by a proof, a lemma or a definition that says `x.field` or `c.call.ensures.clause` (tests/proof_texts.py, by the texts alone);
 - by a function of `promises` that makes the call, and says the clause again;
@@ -85,9 +85,9 @@ def fields():
 
 
 def named_in_pages():
-    """The words that README.md and docs/PROVED.md have in backquotes, and the types whose methods they speak of."""
+    """The words that these pages have in backquotes, and the types whose methods they speak of."""
     text = ""
-    for page in ("README.md", "docs/PROVED.md"):
+    for page in believed.PAGES:
         with open(os.path.join(TOP, page), encoding="utf-8") as file:
             text += file.read()
     return {word for span in re.findall(r"`([^`\n]+)`", text) for word in re.findall(r"\w+", span)}, set(METHODS.findall(text))

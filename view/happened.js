@@ -20,14 +20,28 @@ const ACCESSES = {
 const isDrain = choice => choice.endsWith('d');
 const coreOfChoice = choice => Number.parseInt(choice, 10);
 
+/** Where a word is found, in words, by the name that the trace has for it. */
+const SOURCES = { buffer: 'its own store buffer', cache: 'its own cache', bus: 'the bus, which kept it', memory: 'memory' };
+
+const sourceName = supplied => SOURCES[supplied] ?? `${supplied}'s cache`;
+
+/** Where the trace tells that the word is found which a step reads or asks for: its name there, the reader, and the locations. */
+function supplyOf({ supplied, choice, entries, after }) {
+  if (!supplied) return null;
+  const reader = coreOfChoice(choice), owners = { buffer: reader, cache: reader, bus: null, memory: null };
+  const locations = entries.length > 0 ? [entryOf(entries[0]).location] : after.bus.line.split('+');
+  return { from: supplied, reader, owner: supplied in owners ? owners[supplied] : Number(supplied.slice(1)), locations };
+}
+
 /** What was committed, in one sentence. */
-function committedSentence({ choice, entries, forwarded }) {
+function committedSentence({ choice, entries, supplied }) {
+  const from = supplied ? ` from ${sourceName(supplied)}` : '';
   const [first, second] = entries.map(entryOf), core = coreOfChoice(choice), is = `${first.location}=${first.value}`;
   switch (first.kind) {
     case 'F': return `P${core}'s fence is done: memory has seen all its earlier stores.`;
-    case 'R': return `P${core} read ${is} ${forwarded ? 'from its own store buffer' : 'through its cache'}.`;
+    case 'R': return `P${core} read ${is}${from}.`;
     case 'LW': return `P${core}'s locked instruction wrote ${is}, and the bus is free again.`;
-    case 'LR': return `P${core}'s locked instruction read ${is}` +
+    case 'LR': return `P${core}'s locked instruction read ${is}${from}` +
       (second ? ` and wrote ${second.location}=${second.value}, in one step.` : '. It keeps the bus until it has written.');
     default: return isDrain(choice) ? `P${core}'s oldest store ${is} left its buffer: memory has seen it.` : `P${core} stored ${is}: memory has seen it.`;
   }
@@ -40,7 +54,7 @@ function stepSentences(step, before) {
     buffered: () => `P${core}'s store ${step.entries[0].replace(/^\S+ W /, '')} waits in its store buffer.`,
     committed: () => committedSentence(step),
     moved: () => `P${core} set ${step.moved}.`,
-    asked: () => `P${core} asked for the bus, and holds it now.`,
+    asked: () => `P${core} asked for the bus, and holds it now.${step.supplied ? ` The word is in ${sourceName(step.supplied)}.` : ''}`,
     stalled: () => `Stalled (${step.stall}), and nothing changed: ${STALLS[step.stall](core, before)}`,
   };
   const sentences = [said[step.outcome]()];

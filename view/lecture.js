@@ -4,10 +4,18 @@
 
 const isLecture = () => document.documentElement.classList.contains('lecture');
 
+/** Says on a button by which the mode begins or ends which of the two it does. */
+function nameLecture(button) {
+  setAll(button, { 'aria-pressed': String(isLecture()) });
+  button.textContent = isLecture() ? 'End the lecture' : 'For a lecture';
+  return button;
+}
+
+const lectureButton = () => nameLecture(html('button', { type: 'button', 'data-lecture': '' }));
+
 function putLecture(isOn) {
   document.documentElement.classList.toggle('lecture', isOn);
-  byId('lecture').setAttribute('aria-pressed', String(isOn));
-  byId('lecture').textContent = isOn ? 'End the lecture' : 'For a lecture';
+  document.querySelectorAll('[data-lecture]').forEach(nameLecture);
   if (isOn) byId('test-part').open = false;
   if (shown.run || drive.isOn) redraw();
   scrollTo(0, 0);
@@ -28,4 +36,4 @@ async function toggleLecture() {
 document.addEventListener('fullscreenchange', () => {
   if (!document.fullscreenElement && isLecture()) putLecture(false);
 });
-byId('lecture').addEventListener('click', toggleLecture);
+document.addEventListener('click', ({ target }) => target.matches('[data-lecture]') && toggleLecture());

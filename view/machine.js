@@ -7,6 +7,10 @@ const MOST_LINES = 8; // of a program that are in sight at a time
 const CACHED = { most: 4, height: 1.5625 }; // rows of a cache that have room while they aren't there, and a row's height in rem
 
 const marked = (name, isChanged) => (isChanged ? { class: `${name} changed` } : { class: name });
+
+/** Marks, where a word was read that stands there, who read it. */
+const sourced = (attributes, supply) => (supply ? { ...attributes, class: `${attributes.class} source`, 'data-reader': `→P${supply.reader}`, title: `P${supply.reader} reads from here.` } : attributes);
+const suppliesLine = (supply, line) => supply && line.split('+').some(location => supply.locations.includes(location)) && supply;
 const hidden = text => html('span', { class: 'unshown' }, text);
 
 // Parts of a core.
@@ -27,9 +31,10 @@ function registerItems(now, before, written) {
 }
 
 /** The stores that wait, the oldest first; after the last one that came in or left, and the room that is left. */
-function bufferItems(now, before, depth) {
+function bufferItems(now, before, depth, supply) {
   const isNew = at => now.length > before.length && at === now.length - 1;
-  const stores = now.map((store, at) => html('li', marked('slot', isNew(at)), store));
+  const newest = supply ? now.findLastIndex(store => supply.locations.includes(store.split('=')[0])) : -1;
+  const stores = now.map((store, at) => html('li', sourced(marked('slot', isNew(at)), at === newest && supply), store));
   const left = before.length > now.length ? [html('li', { class: 'slot left' }, hidden('left: '), before[0])] : [];
   const room = Math.min(depth, MOST_SLOTS) - now.length - left.length;
   const free = Array.from({ length: Math.max(0, room) }, () => html('li', { class: 'slot free', 'aria-hidden': 'true' }, '\u00a0'));
@@ -42,11 +47,11 @@ function stateCell(state, change) {
 }
 
 /** The rows of a cache: each line of each set, then those that a step took away, and one that is awaited. */
-function cacheRows(sets, changes, awaited) {
+function cacheRows(sets, changes, awaited, supply) {
   const changeOf = line => changes.find(change => change.line === line);
   const rowOf = (set, line, state, words, kind = '') => html('tr', { class: kind },
     ...(sets.length > 1 ? [html('td', { class: 'faint' }, set === '' ? '' : `set ${set}`)] : []),
-    html('th', { scope: 'row' }, line), stateCell(state, changeOf(line)), html('td', {}, words.join(' ')));
+    html('th', { scope: 'row' }, line), stateCell(state, changeOf(line)), html('td', sourced({ class: 'words' }, suppliesLine(supply, line)), words.join(' ')));
   const there = sets.flatMap((lines, set) => lines.map(({ line, state, words }) => rowOf(set, line, awaited?.line === line ? awaited.state : state, words)));
   const has = name => sets.some(lines => lines.some(({ line }) => line === name));
   const comes = awaited && !has(awaited.line) ? [rowOf('', awaited.line, awaited.state, ['…'])] : [];
@@ -104,13 +109,13 @@ class CorePanel {
   }
 
   /** Shows the core as it is after a step and what that step changed. `bus` is the bus where this core holds it, and else null. */
-  show(core, old, { bus, changes, hasEnded, isLast }) {
-    const key = JSON.stringify([core, old, bus, changes, hasEnded, isLast]);
+  show(core, old, { bus, changes, hasEnded, isLast, supply }) {
+    const key = JSON.stringify([core, old, bus, changes, hasEnded, isLast, supply]), isBuffer = supply?.from === 'buffer';
     if (key === this.key && !this.hasOffered) return;
     this.key = key;
     this.registers.show(core.registers, old.registers, this.program.slice(0, core.place).flatMap(writtenBy));
-    this.buffer.show(core.buffer, old.buffer, this.depth);
-    this.lines.show(core.lines, changes, bus?.state?.length > 1 ? { line: bus.line, state: bus.state } : null);
+    this.buffer.show(core.buffer, old.buffer, this.depth, isBuffer ? supply : null);
+    this.lines.show(core.lines, changes, bus?.state?.length > 1 ? { line: bus.line, state: bus.state } : null, isBuffer ? null : supply);
     this.showButtons(core, bus, hasEnded);
     this.showPlace(core.place, core.place !== old.place);
     this.element.classList.toggle('acted', isLast);
@@ -153,19 +158,19 @@ class CorePanel {
 
 // The bus and memory.
 
-function busItems(kind, bus, step) {
+function busItems(kind, bus, step, supply) {
   const held = bus && `P${bus.core} holds the bus for ${bus.line}` + (bus.state?.length > 1 ? `, which it awaits (${bus.state})` : '');
   const idle = kind === 'split' ? 'free' : 'free: each access has it for its own step';
   const passed = [step?.transaction, step?.flush && `flush ${step.flush}`, step?.write_back && `write-back ${step.write_back}`].filter(Boolean);
-  return [html('span', { class: held ? 'holder' : '' }, held ?? idle), ...passed.map(text => withMeaning({ class: 'word changed' }, text.split(' ')[0], text))];
+  return [html('span', sourced({ class: held ? 'holder' : '' }, supply), held ?? idle), ...passed.map(text => withMeaning({ class: 'word changed' }, text.split(' ')[0], text))];
 }
 
 /** Each location's word in memory, and beside it the newest word where a cache has another. */
-function memoryItems(now, before) {
+function memoryItems(now, before, supply) {
   return Object.keys(now.memory).map(location => {
     const isChanged = now.memory[location] !== before.memory[location] || now.seen[location] !== before.seen[location];
     const isNewer = now.seen[location] !== now.memory[location];
-    return html('li', marked('word', isChanged), `${location}=${now.memory[location]}`, ...(isNewer ? [html('span', { class: 'newer' }, ` newest ${now.seen[location]}`)] : []));
+    return html('li', sourced(marked('word', isChanged), suppliesLine(supply, location)), `${location}=${now.memory[location]}`, ...(isNewer ? [html('span', { class: 'newer' }, ` newest ${now.seen[location]}`)] : []));
   });
 }
 
@@ -191,13 +196,15 @@ class MachinePanel {
     this.history = history;
     const last = count <= history.steps.length ? history.steps[count - 1] : undefined;
     const now = history.machineAfter(count), before = last ? history.machineAfter(count - 1) : now;
-    const changes = last ? stateChanges(last) : [], hasEnded = history.hasEnded(count);
+    const changes = last ? stateChanges(last) : [], hasEnded = history.hasEnded(count), supply = last ? supplyOf(last) : null;
+    const suppliedBy = from => (supply?.from === from ? supply : null);
     this.panels.forEach((panel, core) => panel.show(now.cores[core], before.cores[core], {
+      supply: supply?.owner === core ? supply : null,
       bus: now.bus?.core === core ? now.bus : null, changes: changes.filter(change => change.core === core), hasEnded,
       isLast: last !== undefined && coreOfChoice(last.choice) === core,
     }));
-    this.bus.show(history.options.bus, now.bus, last && { transaction: last.transaction, flush: last.flush, write_back: last.write_back });
-    this.memory.show({ memory: now.memory, seen: now.seen }, { memory: before.memory, seen: before.seen });
+    this.bus.show(history.options.bus, now.bus, last && { transaction: last.transaction, flush: last.flush, write_back: last.write_back }, suppliedBy('bus'));
+    this.memory.show({ memory: now.memory, seen: now.seen }, { memory: before.memory, seen: before.seen }, suppliedBy('memory'));
     putText(this.said, count > history.steps.length ? 'Its test had ended before: this choice is left over.' : last ? stepSentences(last, before).join(' ') : '');
   }
 

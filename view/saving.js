@@ -18,7 +18,7 @@ function fileName(name, ending) {
 const saveText = (name, text, type = 'text/plain') => saveFile(name, new Blob([text], { type }));
 
 /** What a drawing takes from the page's style, and has to bring with it. */
-const STYLED = ['fill', 'stroke', 'stroke-width', 'stroke-dasharray', 'opacity', 'font-family', 'font-weight', 'font-size', 'text-anchor'];
+const STYLED = ['fill', 'stroke', 'stroke-width', 'stroke-dasharray', 'paint-order', 'opacity', 'font-family', 'font-weight', 'font-size', 'text-anchor'];
 const OF_THE_SCREEN = '.unseen, .cursor, .band';
 
 /** The picture that is shown: its parts, the lowest first, and its measures. Of a run that isn't over it is what has come, with the
@@ -27,6 +27,12 @@ function pictureNow() {
   if (drive.isOn) return { parts: drawn.picture.parts, label: drawn.picture.label, y: 0, width: drawn.picture.layout.width, height: drawn.picture.bottom };
   const picture = byId('frame').firstChild, { y, width, height } = picture.viewBox.baseVal;
   return { parts: [...picture.children], label: picture.getAttribute('aria-label'), y, width, height };
+}
+
+/** What the sheet of `why` draws: a cycle with the edges that are shown, or an execution. */
+function pictureOfReason() {
+  const figure = byId('states').querySelector('.reason figure'), [picture] = figure.children, { width, height } = picture.viewBox.baseVal;
+  return { parts: [...picture.children], label: figure.getAttribute('aria-label'), y: 0, width, height };
 }
 
 /** A copy of something that is drawn, with its style in its attributes. */
@@ -93,19 +99,23 @@ function traceNow() {
   return asked({ ...firstHistory().options, command: 'trace' }, inputOfWords(drive.words.slice(0, drive.count))).text;
 }
 
-async function savePoints() {
+async function savePoints(name, picture) {
   try {
-    saveFile(fileName(pictureName(), '.png'), await pictureInPoints(pictureNow()));
+    saveFile(fileName(name, '.png'), await pictureInPoints(picture));
   } catch (fault) {
     byId('message').textContent = `The picture isn't saved: ${fault.message}.`;
   }
 }
+
+const saveDrawn = (name, picture) => saveText(fileName(name, '.svg'), savedPicture(picture), 'image/svg+xml');
 
 const SAVES = {
   input: saveInput,
   report: () => saveText(fileName(testName(), '.txt'), reportNow().text),
   trace: () => saveText(fileName(testName(), '.trace.txt'), traceNow()),
   line: () => saveText(fileName(shown.run.test, '.json'), shown.line + '\n', 'application/json'),
-  svg: () => saveText(fileName(pictureName(), '.svg'), savedPicture(pictureNow()), 'image/svg+xml'),
-  png: savePoints,
+  svg: () => saveDrawn(pictureName(), pictureNow()),
+  png: () => savePoints(pictureName(), pictureNow()),
+  'reason-svg': () => saveDrawn(`${testName()}-why`, pictureOfReason()),
+  'reason-png': () => savePoints(`${testName()}-why`, pictureOfReason()),
 };

@@ -27,10 +27,22 @@ function showReason(answer, test) {
   byId('report-part').hidden = true;
   Object.assign(sheet, { told, programs, cycle: null });
   const parts = told.answer === 'never' ? refutedParts(told) : allowedParts(told, programs);
-  byId('states').replaceChildren(html('section', { class: 'reason', 'aria-label': 'Why' }, html('h3', {}, told.answer === 'never' ? 'Why it can\'t be' : 'How it can be'),
-    html('p', { role: 'status' }, reasonSentence(told, proposition)), ...parts));
+  const section = html('section', { class: 'reason', 'aria-label': 'Why' }, html('h3', {}, told.answer === 'never' ? 'Why it can\'t be' : 'How it can be'),
+    html('p', { role: 'status' }, reasonSentence(told, proposition)), ...parts);
+  byId('states').replaceChildren(section);
   const [first] = told.answer === 'never' ? cyclesOf(told.steps) : [];
   if (first) drawCycle(first.at);
+  section.append(sheetTools(section.querySelector('figure') !== null));
+}
+
+/** Buttons that save what the sheet draws, if it draws something, with the choice of its colours; and the one for a lecture. */
+function sheetTools(isDrawn) {
+  const colours = byId('saved-colours').parentElement.cloneNode(true), [choice] = colours.children;
+  choice.removeAttribute('id');
+  choice.value = byId('saved-colours').value;
+  choice.addEventListener('change', () => { byId('saved-colours').value = choice.value; });
+  const save = (kind, name) => html('button', { type: 'button', 'data-save': `reason-${kind}` }, name);
+  return html('p', { class: 'buttons tools' }, ...(isDrawn ? [save('svg', 'Save the picture as SVG'), save('png', 'as PNG'), colours] : []), lectureButton());
 }
 
 function refutedParts({ steps, leaves }) {

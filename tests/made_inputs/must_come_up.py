@@ -58,6 +58,7 @@ TRACES_AS_JSON = {
     "outcome of a step": ("committed", "buffered", "moved", "asked", "stalled"),
     "bus as JSON": ("nobody", "held, and nothing is awaited", "IS_D", "IM_D", "SM_D"),
     "words that the bus keeps": range(5),
+    "word as JSON": ("none", "buffer", "cache", "another core", "bus", "memory"),
     "pending stores as JSON": AMOUNTS,
     "copies of a set": AMOUNTS,
     "state of a copy": ("M", "O", "E", "S", "SM_D"),

@@ -1,8 +1,8 @@
 """The program a second time, in plain Python.
 
-It is written from docs/INPUT.md, docs/MESSAGES.md, docs/SCRIPTS.md, docs/TRACE.md, docs/DEFINITIONS.md and README.md, and from no
-code of the crates, so that what definition and code say alike is said once more by somebody else. Each module names the page that
-it follows. tests/second_voice.py holds a built program against it.
+It is written from docs/INPUT.md, docs/MESSAGES.md, docs/SCRIPTS.md, docs/TRACE.md, docs/DEFINITIONS.md, docs/REFERENCE.md and README.md,
+and from no code of the crates, so that what definition and code say alike is said once more by somebody else. Each module names the page
+that it follows. tests/second_voice.py holds a built program against it.
 
     lexing       bytes, lines, white space, comments and tokens
     litmus       what a test is, and its limits

@@ -58,12 +58,13 @@ class Copy:
 
 @dataclasses.dataclass
 class Noted:
-    """What one choice did: the kind of its access, the request that went on the bus and its line, whose copy went to memory, and the
-    dirty line that left."""
+    """What one choice did: the kind of its access, the request that went on the bus and its line, whose copy went to memory, the
+    dirty line that left, and where the words of the line came from."""
     access: typing.Optional[str] = None
     request: typing.Optional[tuple] = None
     flushed: typing.Optional[int] = None
     written_back: typing.Optional[int] = None
+    source: typing.Optional[str] = None
 
 
 @dataclasses.dataclass
@@ -107,10 +108,12 @@ class Caches:
         """The first half of an access: the others see the request, and what is awaited is kept."""
         line, own = location // self.line_size, self.copy_at(core, location)
         if self.hits(core, location, write):
+            self.noted.source = "cache"
             return Awaited(HIT)
         self.noted.request = "GetM" if write else "GetS", line
         words, shared = self.snoop(core, line, write)
         if own is not None:
+            self.noted.source = "cache"
             return Awaited(UPGRADE)
         return Awaited(MISS, words, M if write else self.protocol.filled(shared))
 
@@ -128,6 +131,7 @@ class Caches:
             snoop = self.protocol.getm(copy.state) if write else self.protocol.gets[copy.state]
             if snoop.supplies:
                 words = list(copy.words)
+                self.noted.source = "P%d" % other
             if snoop.to_memory:
                 self.memory[line] = list(copy.words)
                 self.count(other, FLUSH)
@@ -136,7 +140,9 @@ class Caches:
             copy.state = snoop.next
             if copy.state == I:
                 copies.remove(copy)
-        return words or list(self.memory[line]), shared
+        if words is None:
+            words, self.noted.source = list(self.memory[line]), "memory"
+        return words, shared
 
     def complete(self, core, location, write, awaited):
         """The second half: the line is filled or goes to the front, in its state. Answers the core's copy."""
@@ -144,6 +150,8 @@ class Caches:
         copies, copy = self.set_of(core, line), self.copy_at(core, location)
         self.count(core, awaited.kind)
         self.noted.access = awaited.kind
+        if self.noted.source is None:  # the ask was an earlier choice
+            self.noted.source = "bus" if awaited.kind == MISS else "cache"
         if awaited.kind == MISS:
             copy = Copy(line, awaited.state, awaited.words)
             self.make_room(core, copies)

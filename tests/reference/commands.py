@@ -1,4 +1,4 @@
-"""Command lines, the parts of an input, and the whole answer: README.md, 'Commands' to 'Exit statuses', docs/INPUT.md, 'The
+"""Command lines, the parts of an input, and the whole answer: docs/REFERENCE.md, 'Commands' to 'Exit statuses', docs/INPUT.md, 'The
 input', and docs/MESSAGES.md, 'Command lines'."""
 import re
 import typing

@@ -14,7 +14,7 @@ ATOMIC, SPLIT = "atomic", "split"
 
 
 class Configuration(typing.NamedTuple):
-    """The machine's options, by README.md, 'Options'."""
+    """The machine's options, by docs/REFERENCE.md, 'Options'."""
     protocol: str = "msi"
     depth: int = 4
     sets: int = 1

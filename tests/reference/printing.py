@@ -139,7 +139,7 @@ def observation(truths):
 
 
 def table(name):
-    """The printed table of a protocol: README.md and docs/DEFINITIONS.md, 'printed table'."""
+    """The printed table of a protocol: docs/TUTORIAL.md and docs/DEFINITIONS.md, 'printed table'."""
     protocol = PROTOCOLS[name]
 
     def yes(truth):

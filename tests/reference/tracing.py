@@ -1,4 +1,6 @@
 """What each choice of a run did, a line for each: docs/TRACE.md."""
+import re
+
 from . import litmus, seen
 from .caches import HIT, MISS, UPGRADE, I, M, Noted
 from .choices import STEP
@@ -6,7 +8,10 @@ from .machine import ASKED, BUFFERED, COMMITTED, MOVED, Machine
 from .orders import WRITE, Entry
 
 # Of a step as JSON the parts that don't always apply.
-PARTS = ("stall", "entries", "moved", "forwarded", "access", "transaction", "flush", "write_back", "states")
+PARTS = ("stall", "entries", "moved", "forwarded", "access", "transaction", "flush", "write_back", "states", "supplied")
+
+# The instructions that read a word.
+READERS = (litmus.LOAD, *litmus.LOCKED)
 
 OUTCOMES = {COMMITTED: "committed", BUFFERED: "buffered", MOVED: "moved", ASKED: "asked"}
 ACCESSES = {HIT: "hit", MISS: "miss", UPGRADE: "upgrade"}
@@ -30,20 +35,23 @@ class TracedMachine(Machine):
         core = self.cores[number]
         place, waiting, committed, states = core.place, len(core.pending), len(self.order), self.states()
         self.caches.noted, forwards = Noted(), self.caches.counts[number]["forwards"]
+        reads = action == STEP and place < len(core.program) and core.program[place].kind in READERS
         took = super().choose(number, action)
         noted = self.caches.noted
+        forwarded = self.caches.counts[number]["forwards"] > forwards
         step = {
             "choice": "%d%s" % (number, action),
             "outcome": OUTCOMES[self.outcome] if took else "stalled",
             "stall": None if took else self.outcome,
             "entries": [entry.text(self.test) for entry in self.order[committed:]] + self.pending_since(number, waiting),
             "moved": self.moved(core, place, action) if took else None,
-            "forwarded": self.caches.counts[number]["forwards"] > forwards,
+            "forwarded": forwarded,
             "access": ACCESSES[noted.access] if noted.access else None,
             "transaction": "%s %s" % (noted.request[0], self.line_names[noted.request[1]]) if noted.request else None,
             "flush": "P%d" % noted.flushed if noted.flushed is not None else None,
             "write_back": self.line_names[noted.written_back] if noted.written_back is not None else None,
             "states": self.changes(states),
+            "supplied": "buffer" if forwarded else noted.source if reads else None,
         }
         self.lines.append(self.line(step, number, len(core.pending) != waiting))
         if self.start is not None and len(self.steps) < MOST_STEPS:
@@ -219,6 +227,7 @@ def note_members(test, made):
         seen.note("outcome of a step", step["outcome"])
         for part in PARTS:
             seen.note("part of a step: " + part, "there" if step[part] else "not there")
+        seen.note("word as JSON", re.sub(r"^P\d$", "another core", step["supplied"] or "none"))
         note_machine(step["after"])
 
 

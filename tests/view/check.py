@@ -1,10 +1,11 @@
 #!/usr/bin/env python3
 """Opens view/index.html in a browser without a screen, and holds what it shows against the program and against the lines that it is given.
 
-    tests/view/check.py PROGRAM [FOLDER] [--only WORD] [--shipped]
+    tests/view/check.py PROGRAM [FOLDER] [--only WORD] [--shipped] [--picture FILE]
                                                          PROGRAM: a built tso; FOLDER: where the pictures go (a new one, named at the
                                                          end); WORD: the rows alone whose names have it; --shipped: with the module
-                                                         that ships, where PROGRAM is of its sources
+                                                         that ships, where PROGRAM is of its sources; --picture: the picture
+                                                         of the page for documents, and nothing else: docs/page.png
 
 It needs Debian's browser, on a machine that isn't the gate's: apt-get install -y --no-install-recommends chromium
 
@@ -210,13 +211,37 @@ def judge_rows(window, rows, only):
     return passed, failed
 
 
+MOST_BYTES = 200_000
+
+
+def take_picture(path, is_shipped):
+    """The page for documents: store buffering once both loads have read 0. Answers whether it is one."""
+    with tempfile.TemporaryDirectory(prefix="tso-view-folder-") as room, browser.Browser() as window:
+        view, missing = folder_with_module(room, is_shipped)
+        if missing:
+            print(missing)
+            return False
+        window.resize(1280, 720)
+        window.open("file://" + os.path.join(view, "index.html"))
+        window.value(READY)
+        for choice in ("0s", "1s", "0s", "1s"):
+            window.click("[data-choice='%s']" % choice)
+        window.screenshot(path, whole=False)
+        is_met = window.value("byId('task').matches('.met')")
+    print("%s has %d bytes%s" % (path, os.path.getsize(path), "" if is_met else ", and the task isn't met"))
+    return is_met and os.path.getsize(path) <= MOST_BYTES
+
+
 def main():
     parser = argparse.ArgumentParser(description=__doc__, formatter_class=argparse.RawDescriptionHelpFormatter)
     parser.add_argument("program", type=os.path.abspath)
     parser.add_argument("folder", type=os.path.abspath, nargs="?")
     parser.add_argument("--only", metavar="WORD", default="", help="the rows alone whose names have this word")
     parser.add_argument("--shipped", action="store_true", help="with the module that ships")
+    parser.add_argument("--picture", metavar="FILE", type=os.path.abspath, help="takes the picture for documents")
     asked = parser.parse_args()
+    if asked.picture:
+        return 0 if take_picture(asked.picture, asked.shipped) else 1
     folder = asked.folder or tempfile.mkdtemp(prefix="tso-view-")
     os.makedirs(folder, exist_ok=True)
     passed = failed = 0

@@ -41,6 +41,10 @@ SHOWN = """[...document.querySelectorAll('#machines .machine')].map(machine => (
     changes: [...core.querySelectorAll('.cache .changed')].map(each => each.parentElement.querySelector('th').textContent + ' ' + each.textContent.replace('→', '>')),
     acted: core.classList.contains('acted'),
   })),
+  sources: [...machine.querySelectorAll('.source')].map(each => {
+    const part = each.closest('.buffer, .cache, .bus, .memory').className, name = each.closest('tr')?.querySelector('th').textContent ?? each.textContent.split('=')[0];
+    return [part, each.closest('.core')?.dataset.core ?? '', part === 'bus' ? '' : name, each.dataset.reader];
+  }).sort(),
   bus: machine.querySelector('.bus').textContent,
   memory: [...machine.querySelectorAll('.memory li')].map(each => each.textContent),
 }))"""
@@ -121,6 +125,22 @@ def wanted_core(trace, step, before, machine, number):
     }
 
 
+def wanted_sources(step):
+    """Where a panel has to mark that a word was read: the part of the machine, its core, the location or the line, and the reader."""
+    supplied = step and step.get("supplied")  # a module that was made before has none
+    if not supplied:
+        return []
+    reader, owner = step["choice"][0], supplied[1:] if supplied[0] == "P" else step["choice"][0]
+    locations = [step["entries"][0].split(" ")[2].partition("=")[0]] if step["entries"] else step["after"]["bus"]["line"].split("+")
+    if supplied == "bus":
+        return [["bus", "", "", "→P" + reader]]
+    if supplied in ("buffer", "memory"):
+        return sorted([supplied, reader if supplied == "buffer" else "", location, "→P" + reader] for location in locations)
+    there = [line["line"] for lines in step["after"]["cores"][int(owner)]["lines"] for line in lines]
+    gone = [text.partition(".")[2].partition(" ")[0] for text in step["states"] if text.startswith("P%s." % owner) and text.endswith(">I")]
+    return [["cache", owner, line, "→P" + reader] for line in there + gone if set(locations) & set(line.split("+"))]
+
+
 def faults_of_machine(shown, trace, count):
     """Where a panel isn't the machine after so many steps of a trace."""
     steps = trace["trace"]["steps"]
@@ -135,6 +155,7 @@ def faults_of_machine(shown, trace, count):
             faults += [] if same else ["P%d after %d, %s: %r, and not %r" % (number, count, name, core[name], wanted[name])]
     words = ["%s=%d%s" % (name, word, "" if machine["seen"][name] == word else " newest %d" % machine["seen"][name]) for name, word in machine["memory"].items()]
     faults += differs("memory after %d" % count, sorted(shown["memory"]), sorted(words))
+    faults += differs("where a word was read after %d" % count, shown["sources"], wanted_sources(step))
     held = "P%(core)d holds the bus for %(line)s" % machine["bus"] if machine["bus"] else "free"
     faults += [] if shown["bus"].startswith(held) else ["the bus after %d: %s, and not %s" % (count, shown["bus"], held)]
     for name in ("transaction", "flush", "write_back"):

@@ -98,10 +98,10 @@ def too_long_row(bench, folder):
 
 
 class Handler(http.server.SimpleHTTPRequestHandler):
-    """Files of a folder, with the policy that README gives for a server."""
+    """Files of a folder, with the policy that docs/PAGE.md gives for a server."""
 
     def end_headers(self):
-        name, _, policy = re.search(r"^Content-Security-Policy: .*$", read(os.path.dirname(TESTS), "README.md"), re.MULTILINE).group().partition(": ")
+        name, _, policy = re.search(r"^Content-Security-Policy: .*$", read(os.path.dirname(TESTS), "docs", "PAGE.md"), re.MULTILINE).group().partition(": ")
         self.send_header(name, policy)
         super().end_headers()
 
@@ -124,7 +124,7 @@ def served(folder):
 
 
 def served_row(bench):
-    """From a server with README's policy in a header the page does the same: it drives, searches in a worker, and is saved."""
+    """From a server with the policy of docs/PAGE.md in a header the page does the same: it drives, searches in a worker, and is saved."""
     with served(bench.page.folder.removeprefix("file://")) as address:
         bench.window.open(address + "index.html")
         bench.value(READY)

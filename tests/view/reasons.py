@@ -4,7 +4,9 @@ Where the page's module doesn't answer `why`, the program's own answers stand in
 import json
 import os
 import subprocess
+import xml.etree.ElementTree
 
+import kept
 from bench import EXAMPLES, OVERHANGING, differs, read, safety
 from driver import Driver
 
@@ -146,6 +148,56 @@ def allowed_row(bench, folder, name, model):
     return faults + bench.value(OVERHANGING) + safety(bench)
 
 
+# The picture that is saved of the sheet, light and as shown.
+SAVED = """['light', 'shown'].map(value => {
+  const choice = document.querySelector('.tools select');
+  choice.value = value;
+  choice.dispatchEvent(new Event('change'));
+  return savedPicture(pictureOfReason());
+})"""
+POINTS = "(blob => [blob.type, blob.size > 1000])(await pictureInPoints(pictureOfReason()))"
+
+
+def told_by_picture(text):
+    """Of a picture its ground, whether it brings the points of its arrows along, how many these are, and its name."""
+    picture = xml.etree.ElementTree.fromstring(text)
+    points = [each.get("marker-end")[len("url(#"):-1].strip('"#') for each in picture.iter() if each.get("marker-end")]
+    there = {each.get("id") for each in picture.iter()}
+    return [next(each for each in picture.iter() if each.tag.endswith("rect")).get("fill"), set(points) <= there, len(points), picture.get("aria-label")]
+
+
+def saved_row(bench):
+    """What the sheet draws is saved, light in the dark too, unless it is wanted as it is shown; a cycle and an execution."""
+    def pictures():
+        bench.open()
+        made = []
+        for name, model in (("MP", "tso"), ("SB", "tso")):
+            ask(bench, name, model)
+            made.append([told_by_picture(text) for text in bench.value(SAVED)])
+        return made, bench.value("(async () => %s)()" % POINTS)
+    (cycle, execution), points = kept.in_dark(bench, pictures)
+    grounds = ["rgb(255, 255, 255)", "rgb(22, 24, 27)"]
+    faults = differs("the cycle", cycle, [[ground, True, 4, "A cycle of 4 edges"] for ground in grounds])
+    faults += differs("grounds of the execution", [each[0] for each in execution], grounds)
+    faults += differs("the execution", [each[1:] for each in execution], [[True, execution[0][2], "The execution"]] * 2)
+    return faults + differs("in points", points, ["image/png", True]) + safety(bench)
+
+
+def lecture_row(bench, folder):
+    """In a lecture hall the drawn code is large too, nothing hangs over, and the sheet has the button that ends it."""
+    bench.open()
+    bench.window.resize(1920, 1080)
+    ask(bench, "MP", "tso")
+    sizes = "[...document.querySelectorAll('.reason figure text')].map(each => parseFloat(getComputedStyle(each).fontSize) * each.ownerSVGElement.getScreenCTM().a)"
+    bench.window.click(".tools [data-lecture]")
+    bench.wait("isLecture()")
+    faults = [] if min(bench.value(sizes)) >= 20 else ["drawn code has a size of %.1f" % min(bench.value(sizes))]
+    faults += bench.value(OVERHANGING) + differs("in sight", bench.value("[...document.querySelectorAll('.tools > *')].filter(each => each.getClientRects().length > 0).map(each => each.textContent)"), ["End the lecture"])
+    bench.window.screenshot(os.path.join(folder, "why-lecture.png"), whole=False)
+    bench.value("toggleLecture()")
+    return faults + differs("after it", bench.value("isLecture()"), False) + safety(bench)
+
+
 def address_row(bench):
     """The address of a sheet opens it again."""
     bench.open()
@@ -169,4 +221,5 @@ def rows(page, folder):
     for name, model in ASKED:
         row = allowed_row if told_by(page.program, name, model)["answer"] == "allowed" else never_row
         found.append(("why, %s under %s" % (name, model), lambda row=row, name=name, model=model: row(bench, folder, name, model)))
-    return found + [("why, after a reload", lambda: address_row(bench)), ("why, at 360 pixels", lambda: narrow_row(bench, folder))]
+    return found + [("why, after a reload", lambda: address_row(bench)), ("why, at 360 pixels", lambda: narrow_row(bench, folder)),
+                    ("why, saved", lambda: saved_row(bench)), ("why, in a lecture", lambda: lecture_row(bench, folder))]

@@ -147,6 +147,7 @@ class Step:
     stall: typing.Optional[str]
     transaction: typing.Optional[str]
     write_back: typing.Optional[str]
+    supplied: typing.Optional[str] = None
 
 
 @dataclasses.dataclass(frozen=True)

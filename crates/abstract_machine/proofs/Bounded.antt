@@ -1,19 +1,5 @@
 -- What this project's machine reaches with bounded buffers, and what the abstract machine does.
-use Rattle.std.proofs.Common.{◌≤◌, ◌<◌, ◌↔◌, ℕ, suc, List, [], ◌∷◌, length, slice_index_or, arith, subst}
-use Rattle.tso_model.specs.Litmus.{Litmus, IsTest}
-use Rattle.tso_model.specs.Actions.{action_of}
-use Rattle.tso_model.specs.Axioms.{IsTsoExecution}
-use Rattle.tso_model.specs.declared.instruction.Instr.{Instr}
-use Rattle.tso_model.specs.declared.action.Action.{Action}
-use Rattle.tso_model.specs.declared.action.Action.TheVariants.{Store, Load, Move, Fence, Lock}
-use Rattle.tso_model.specs.declared.execution.Entry.{Entry}
-use Rattle.tso_laws.specs.Counting.{store_count, stores_in, most_stores}
-use Rattle.tso_laws.specs.Depth.{needed}
-use Rattle.tso_laws.specs.Along.{choices_along}
-use Rattle.tso_laws.specs.Reached.{IsReached}
-use Rattle.basic_laws.proofs.Basics.{max-within}
-use Rattle.abstract_machine.specs.Machine.{Machine}
-use Rattle.abstract_machine.specs.Ended.{EndsWith, IsReachedFreely}
+use Rattle.abstract_machine.proofs.Vocabulary.{◌≤◌, ◌<◌, ◌↔◌, ℕ, suc, List, [], ◌∷◌, length, slice_index_or, arith, subst, Litmus, IsTest, action_of, IsTsoExecution, Instr, Action, Store, Load, Move, Fence, Lock, Entry, store_count, stores_in, most_stores, needed, choices_along, IsReached, max-within, Machine, EndsWith, IsReachedFreely}
 use Rattle.abstract_machine.proofs.Leading.{Reaches}
 use Rattle.abstract_machine.proofs.Returning.{Executions}
 

@@ -1,24 +1,6 @@
 -- The states of the flat machine that runs of the abstract machine are held against: at a depth that no buffer fills, with
 -- plain stores alone pending.
-use Rattle.std.proofs.Common.{◌≡◌, ◌<◌, ◌≤◌, ℕ, ◌+◌, suc, Bool, true, false, List, [], ◌∷◌, ◌++◌, length, Some, slice_get, slice_set, arith, ap, sym, ◌∙◌, refl, ◌⊎◌, inl, inr, subst, if◌then◌else◌, nat_lt}
-use Rattle.std.specs.Prelude.{IfSome}
-use Rattle.std.proofs.lemmas.Bool.Decides.{nat_tests}
-use Rattle.std.proofs.lemmas.List.{get_or_past}
-use Rattle.tso_model.specs.Litmus.{Litmus, IsTest, KnownLocation}
-use Rattle.tso_model.specs.Actions.{action_of, location_of}
-use Rattle.tso_model.specs.ProgramOrder.{is_write}
-use Rattle.tso_model.specs.FlatMachine.{step, drain, CoreState, State, Effect, stored, effect_by, idle, program_of, effect_of, memory_after, applied, after_choice, started, start}
-use Rattle.tso_model.specs.declared.instruction.Loc.{Loc}
-use Rattle.tso_model.specs.declared.instruction.Instr.{Instr}
-use Rattle.tso_model.specs.declared.action.Operand.{Operand}
-use Rattle.tso_model.specs.declared.action.Action.{Action}
-use Rattle.tso_model.specs.declared.action.Action.TheVariants.{Store}
-use Rattle.tso_model.specs.declared.execution.Entry.{Entry}
-use Rattle.tso_model.specs.declared.execution.Kind.TheVariants.{W}
-use Rattle.tso_model.specs.declared.choice.Choice.{Choice}
-use Rattle.tso_model.specs.declared.choice.Outcome.TheVariants.{Committed, Buffered}
-use Rattle.tso_laws.specs.Choices.{IsPossible}
-use Rattle.basic_laws.proofs.Lists.{Each, each-at}
+use Rattle.abstract_machine.proofs.Vocabulary.{◌≡◌, ◌<◌, ◌≤◌, ℕ, ◌+◌, suc, Bool, true, false, List, [], ◌∷◌, ◌++◌, length, Some, slice_get, slice_set, arith, ap, sym, ◌∙◌, refl, ◌⊎◌, inl, inr, subst, if◌then◌else◌, nat_lt, IfSome, nat_tests, get_or_past, Litmus, IsTest, KnownLocation, action_of, location_of, is_write, step, drain, CoreState, State, Effect, stored, effect_by, idle, program_of, effect_of, memory_after, applied, after_choice, started, start, Loc, Instr, Operand, Action, Store, Entry, W, Choice, Committed, Buffered, IsPossible, Each, each-at}
 use Rattle.abstract_machine.proofs.Lists.{each-set, length-set, within, get-or}
 use Rattle.abstract_machine.proofs.States.{first-size}
 

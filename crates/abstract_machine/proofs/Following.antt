@@ -1,28 +1,8 @@
 -- A choice of the flat machine is followed by a run of the abstract machine.
-use Rattle.std.proofs.Common.{◌≡◌, ◌<◌, ℕ, ◌+◌, suc, Bool, true, false, List, [], ◌∷◌, ◌++◌, length, map, Option, None, Some, slice_get, slice_set, slice_index, slice_index_or, arith, ap, sym, ◌∙◌, refl, inl, inr, subst, if◌then◌else◌, nat_lt}
-use Rattle.std.proofs.lemmas.Option.{slice_get-get_or}
-use Rattle.tso_model.specs.Litmus.{Litmus}
-use Rattle.tso_model.specs.Actions.{action_of}
-use Rattle.tso_model.specs.Thread.{entry, fence, value_in, value_of, with_value, updated}
-use Rattle.tso_model.specs.ProgramOrder.{is_write}
-use Rattle.tso_model.specs.FlatMachine.{CoreState, State, Effect, is_none_pending, stalled, effect_by, step_of, drain_of, idle, program_of, core_of, chosen, effect_of, memory_after, applied, after_choice}
-use Rattle.tso_model.specs.declared.register.Reg.{Reg}
-use Rattle.tso_model.specs.declared.instruction.Loc.{Loc}
-use Rattle.tso_model.specs.declared.instruction.Instr.{Instr}
-use Rattle.tso_model.specs.declared.action.Update.{Update}
-use Rattle.tso_model.specs.declared.action.Action.{Action}
-use Rattle.tso_model.specs.declared.action.Action.TheVariants.{Store, Load, Move, Fence, Lock}
-use Rattle.tso_model.specs.declared.execution.Entry.{Entry}
-use Rattle.tso_model.specs.declared.execution.Kind.TheVariants.{W, LR, LW}
-use Rattle.tso_model.specs.declared.choice.Choice.{Choice}
+use Rattle.abstract_machine.proofs.Vocabulary.{◌≡◌, ◌<◌, ℕ, ◌+◌, suc, Bool, true, false, List, [], ◌∷◌, ◌++◌, length, map, Option, None, Some, slice_get, slice_set, slice_index, slice_index_or, arith, ap, sym, ◌∙◌, refl, inl, inr, subst, if◌then◌else◌, nat_lt, slice_get-get_or, Litmus, action_of, entry, fence, value_in, value_of, with_value, updated, is_write, CoreState, State, Effect, is_none_pending, stalled, effect_by, step_of, drain_of, idle, program_of, core_of, chosen, effect_of, memory_after, applied, after_choice, Reg, Loc, Instr, Update, Action, Store, Load, Move, Fence, Lock, Entry, W, LR, LW, Choice, Stall, Buffered, NotLocked, HasBegun, HasRead, HasWritten, HardwareThread, Machine, with_thread, with_word, with_buffer, from_memory, read, write, flush, move, mfence, lock, locked_read, locked_write, unlock, Runs, rests, goes_on, Each, each-append, each-at}
 use Rattle.tso_model.specs.declared.choice.Choice.TheVariants as choice
-use Rattle.tso_model.specs.declared.choice.Stall.{Stall}
 use Rattle.tso_model.specs.declared.choice.Stall.TheVariants as stall
-use Rattle.tso_model.specs.declared.choice.Outcome.TheVariants.{Buffered}
-use Rattle.abstract_machine.specs.Machine.{NotLocked, HasBegun, HasRead, HasWritten, HardwareThread, Machine, with_thread, with_word, with_buffer}
-use Rattle.abstract_machine.specs.Steps.{from_memory, read, write, flush, move, mfence, lock, locked_read, locked_write, unlock, Runs, rests, goes_on}
 use Rattle.abstract_machine.proofs.Lists.{map-set, map-get, set-get, set-set, set-same, length-set, length-map, each-set}
-use Rattle.basic_laws.proofs.Lists.{Each, each-append, each-at}
 use Rattle.abstract_machine.proofs.Reading.{can-read}
 use Rattle.abstract_machine.proofs.States.{thread, lifted}
 

@@ -1,11 +1,5 @@
 -- What the abstract machine gives, put together, against what the flat machine commits.
-use Rattle.std.proofs.Common.{◌≡◌, ◌==◌, ◌&&◌, Bool, true, false, if◌then◌else◌, List, [], ◌∷◌, ◌++◌, ap, sym, ◌∙◌, refl, append_assoc}
-use Rattle.tso_model.specs.ProgramOrder.{same_kind}
-use Rattle.tso_model.specs.ProgramOrder.{IsStorePart}
-use Rattle.tso_model.specs.Together.{put_before, put_together}
-use Rattle.tso_model.specs.declared.execution.Entry.{Entry}
-use Rattle.tso_model.specs.declared.execution.Kind.TheVariants.{W, LR, LW}
-use Rattle.basic_laws.proofs.Lists.{Each}
+use Rattle.abstract_machine.proofs.Vocabulary.{◌≡◌, ◌==◌, ◌&&◌, Bool, true, false, if◌then◌else◌, List, [], ◌∷◌, ◌++◌, ap, sym, ◌∙◌, refl, append_assoc, same_kind, IsStorePart, put_before, put_together, Entry, W, LR, LW, Each}
 use Rattle.abstract_machine.proofs.Together.{before-part}
 
 -- a load part that waits is put before its store part, in what comes after it

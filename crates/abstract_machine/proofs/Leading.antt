@@ -1,22 +1,7 @@
 -- A run of the flat machine that ends the test is followed by one of the abstract machine that ends it too.
-use Rattle.std.proofs.Common.{◌≡◌, ◌<◌, ◌≤◌, ◌==◌, ℕ, ◌+◌, zero, suc, Bool, true, false, List, [], ◌∷◌, ◌++◌, length, None, Some, slice_get, slice_index_or, arith, sym, ◌∙◌, refl, subst, if◌then◌else◌, append_assoc}
-use Rattle.std.proofs.lemmas.Bool.Decides.{nat_tests}
-use Rattle.tso_model.specs.Litmus.{Litmus, IsTest}
-use Rattle.tso_model.specs.Axioms.{IsAdjacent, IsTsoExecution}
-use Rattle.tso_model.specs.FlatMachine.{CoreState, State, is_none_pending, program_of, chosen, effect_of, after_choice, started, start}
-use Rattle.tso_model.specs.Runs.{is_done, all_done, has_ended, Run, resting, then_run, run_from, run, CoresExist}
-use Rattle.tso_model.specs.declared.instruction.Instr.{Instr}
-use Rattle.tso_model.specs.declared.execution.Entry.{Entry}
-use Rattle.tso_model.specs.declared.choice.Choice.{Choice}
-use Rattle.tso_laws.specs.Depth.{needed}
-use Rattle.tso_laws.specs.Along.{choices_along, LeadTo}
-use Rattle.abstract_machine.specs.Machine.{Machine}
-use Rattle.abstract_machine.specs.Steps.{Runs, rests, goes_on}
-use Rattle.abstract_machine.specs.Ended.{IsFinished, HasEnded, IsReachedFreely}
+use Rattle.abstract_machine.proofs.Vocabulary.{◌≡◌, ◌<◌, ◌≤◌, ◌==◌, ℕ, ◌+◌, zero, suc, Bool, true, false, List, [], ◌∷◌, ◌++◌, length, None, Some, slice_get, slice_index_or, arith, sym, ◌∙◌, refl, subst, if◌then◌else◌, append_assoc, nat_tests, Litmus, IsTest, IsAdjacent, IsTsoExecution, CoreState, State, is_none_pending, program_of, chosen, effect_of, after_choice, started, start, is_done, all_done, has_ended, Run, resting, then_run, run_from, run, CoresExist, Instr, Entry, Choice, needed, choices_along, LeadTo, Machine, Runs, rests, goes_on, IsFinished, HasEnded, IsReachedFreely, and-left, and-right, Each}
 use Rattle.abstract_machine.proofs.Together.{already-together}
-use Rattle.basic_laws.proofs.Basics.{and-left, and-right}
 use Rattle.abstract_machine.proofs.Lists.{get-map, length-set}
-use Rattle.basic_laws.proofs.Lists.{Each}
 use Rattle.abstract_machine.proofs.States.{thread, lifted, first-lifted, first-size}
 use Rattle.abstract_machine.proofs.Following.{AreWrites, OnlyWrites, by-choice, writes-choice}
 

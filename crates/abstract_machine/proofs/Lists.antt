@@ -1,6 +1,5 @@
 -- Small facts on lists that are written and mapped.
-use Rattle.std.proofs.Common.{◌≡◌, ◌≢◌, ◌<◌, ℕ, zero, suc, List, [], ◌∷◌, ◌++◌, length, map, Some, slice_get, slice_set, slice_index_or, arith, ap, sym, refl}
-use Rattle.basic_laws.proofs.Lists.{Each}
+use Rattle.abstract_machine.proofs.Vocabulary.{◌≡◌, ◌≢◌, ◌<◌, ℕ, zero, suc, List, [], ◌∷◌, ◌++◌, length, map, Some, slice_get, slice_set, slice_index_or, arith, ap, sym, refl, Each}
 
 pub map-set : {A B : Type 0} (f : A → B) (xs : List A) (k : ℕ) (v : A) → map f (slice_set xs k v) ≡ slice_set (map f xs) k (f v)
 map-set f [] k v = refl

@@ -1,11 +1,5 @@
 -- One step of a thread in any machine, rule by rule, against the lock.
-use Rattle.std.proofs.Common.{◌≡◌, ◌≢◌, ℕ, zero, suc, List, [], ◌∷◌, ◌++◌, Some, None, slice_get, slice_set, ap, sym, ◌∙◌, refl, ◌⊎◌, inl, inr}
-use Rattle.tso_model.specs.Litmus.{Litmus}
-use Rattle.tso_model.specs.declared.execution.Entry.{Entry}
-use Rattle.abstract_machine.specs.Machine.{NotLocked, HasWritten, HardwareThread, Machine, IsNotBlocked, with_buffer}
-use Rattle.abstract_machine.specs.Steps.{Step, read, write, flush, move, mfence, lock, locked_read, locked_write, unlock}
-use Rattle.abstract_machine.specs.OneStep.{IsBlocked, KeepsBuffer, ReadsAndFlushesNothing, Unlocks}
-use Rattle.basic_laws.proofs.Lists.{append-nil}
+use Rattle.abstract_machine.proofs.Vocabulary.{◌≡◌, ◌≢◌, ℕ, zero, suc, List, [], ◌∷◌, ◌++◌, Some, None, slice_get, slice_set, ap, sym, ◌∙◌, refl, ◌⊎◌, inl, inr, Litmus, Entry, NotLocked, HasWritten, HardwareThread, Machine, IsNotBlocked, with_buffer, Step, read, write, flush, move, mfence, lock, locked_read, locked_write, unlock, IsBlocked, KeepsBuffer, ReadsAndFlushesNothing, Unlocks, append-nil}
 
 -- what stands at a place that was written
 put : (xs : List HardwareThread) (p : ℕ) (h after : HardwareThread) → slice_get (slice_set xs p h) p ≡ Some after → h ≡ after

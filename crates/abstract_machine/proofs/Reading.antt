@@ -1,12 +1,5 @@
 -- What a thread can read is what a load of the flat machine gets.
-use Rattle.std.proofs.Common.{◌≡◌, ◌<◌, ℕ, Bool, true, false, List, [], ◌∷◌, ◌++◌, length, filter, slice_index, slice_set, ap, sym, refl, ◌⊎◌, inl, inr, subst, get_or-set_same, get_or-set_other}
-use Rattle.tso_model.specs.ProgramOrder.{writes_to}
-use Rattle.tso_model.specs.Axioms.{last_value}
-use Rattle.tso_model.specs.declared.execution.Entry.{Entry}
-use Rattle.tso_model.specs.declared.execution.Kind.TheVariants.{W}
-use Rattle.abstract_machine.specs.Machine.{HardwareThread, Machine}
-use Rattle.abstract_machine.specs.Steps.{CanRead, from_memory, from_buffer}
-use Rattle.basic_laws.proofs.Basics.{decide, test-true, test-false}
+use Rattle.abstract_machine.proofs.Vocabulary.{◌≡◌, ◌<◌, ℕ, Bool, true, false, List, [], ◌∷◌, ◌++◌, length, filter, slice_index, slice_set, ap, sym, refl, ◌⊎◌, inl, inr, subst, get_or-set_same, get_or-set_other, writes_to, last_value, Entry, W, HardwareThread, Machine, CanRead, from_memory, from_buffer, decide, test-true, test-false}
 
 record Newest (loc : ℕ) (q : List Entry) : Type 0 where
   older : List Entry

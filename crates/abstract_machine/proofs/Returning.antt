@@ -1,23 +1,6 @@
 -- A run of the abstract machine that ends the test leads to a state of the flat machine that has ended it too.
-use Rattle.std.proofs.Common.{◌≡◌, ◌<◌, ℕ, suc, true, List, [], ◌∷◌, ◌++◌, length, map, None, Some, slice_get, slice_set, slice_index_or, arith, ap, sym, ◌∙◌, refl, inl, inr, subst, append_assoc}
-use Rattle.tso_model.specs.Litmus.{Litmus, IsTest}
-use Rattle.tso_model.specs.Axioms.{IsTsoExecution}
-use Rattle.tso_model.specs.FinalState.{final_words, final_registers}
-use Rattle.tso_model.specs.FlatMachine.{CoreState, State, program_of, registers_in, start}
-use Rattle.tso_model.specs.Runs.{is_done, all_done, has_ended, run}
-use Rattle.tso_model.specs.Together.{put_together}
-use Rattle.tso_model.specs.declared.instruction.Instr.{Instr}
-use Rattle.tso_model.specs.declared.execution.Entry.{Entry}
-use Rattle.tso_model.specs.declared.choice.Choice.{Choice}
-use Rattle.tso_laws.specs.Choices.{IsPossible}
-use Rattle.tso_laws.specs.EndedRuns.{End, IsExecution}
-use Rattle.tso_laws.specs.inner.Stopping.{StopsAtTheEnd}
-use Rattle.abstract_machine.specs.Machine.{HardwareThread, Machine, first}
-use Rattle.abstract_machine.specs.Steps.{Step, Runs, rests, goes_on}
-use Rattle.abstract_machine.specs.Ended.{IsFinished, HasEnded, registers_of, EndsWith}
-use Rattle.basic_laws.proofs.Basics.{decide, test-true}
+use Rattle.abstract_machine.proofs.Vocabulary.{◌≡◌, ◌<◌, ℕ, suc, true, List, [], ◌∷◌, ◌++◌, length, map, None, Some, slice_get, slice_set, slice_index_or, arith, ap, sym, ◌∙◌, refl, inl, inr, subst, append_assoc, Litmus, IsTest, IsTsoExecution, final_words, final_registers, CoreState, State, program_of, registers_in, start, is_done, all_done, has_ended, run, put_together, Instr, Entry, Choice, IsPossible, End, IsExecution, StopsAtTheEnd, HardwareThread, Machine, first, Step, Runs, rests, goes_on, IsFinished, HasEnded, registers_of, EndsWith, decide, test-true, append-nil}
 use Rattle.abstract_machine.proofs.Lists.{map-get, map-map, set-get, within}
-use Rattle.basic_laws.proofs.Lists.{append-nil}
 use Rattle.abstract_machine.proofs.States.{thread, lifted, first-lifted}
 use Rattle.abstract_machine.proofs.FlatStates.{Nexts, HasRoom, IsKnown, test-room, test-known, first-base}
 use Rattle.abstract_machine.proofs.Tracks.{Tied, begun, has_read, written, left, locked_by, Tracks, unheld, held, open-step, other-step}

@@ -1,8 +1,5 @@
 -- The states of the flat machine as states of the abstract machine.
-use Rattle.std.proofs.Common.{◌≡◌, ℕ, ◌+◌, suc, List, [], ◌∷◌, length, map, None, slice_index_or, ap, refl}
-use Rattle.tso_model.specs.FlatMachine.{CoreState, State, started}
-use Rattle.tso_model.specs.declared.instruction.Instr.{Instr}
-use Rattle.abstract_machine.specs.Machine.{NotLocked, HardwareThread, Machine, first_threads}
+use Rattle.abstract_machine.proofs.Vocabulary.{◌≡◌, ℕ, ◌+◌, suc, List, [], ◌∷◌, length, map, None, slice_index_or, ap, refl, CoreState, State, started, Instr, NotLocked, HardwareThread, Machine, first_threads}
 
 -- a core of the flat machine, as a hardware thread that isn't in a locked instruction
 abbrev pub thread : CoreState → HardwareThread

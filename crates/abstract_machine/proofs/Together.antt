@@ -1,14 +1,5 @@
 -- An order in which each load part is followed by its store part is put together already.
-use Rattle.std.proofs.Common.{◌≡◌, suc, Bool, true, false, List, [], ◌∷◌, Some, slice_get, ap, ◌∙◌, refl, if◌then◌else◌}
-use Rattle.tso_model.specs.ProgramOrder.{same_kind}
-use Rattle.tso_model.specs.ProgramEntries.{is_at}
-use Rattle.tso_model.specs.Axioms.{IsAdjacent}
-use Rattle.tso_model.specs.ProgramOrder.{IsStorePart}
-use Rattle.tso_model.specs.Together.{put_before, put_together}
-use Rattle.tso_model.specs.declared.execution.Entry.{Entry}
-use Rattle.tso_model.specs.declared.execution.Kind.{Kind}
-use Rattle.tso_model.specs.declared.execution.Kind.TheVariants.{R, W, F, LR, LW}
-use Rattle.basic_laws.proofs.Basics.{test-true}
+use Rattle.abstract_machine.proofs.Vocabulary.{◌≡◌, suc, Bool, true, false, List, [], ◌∷◌, Some, slice_get, ap, ◌∙◌, refl, if◌then◌else◌, same_kind, is_at, IsAdjacent, IsStorePart, put_before, put_together, Entry, Kind, R, W, F, LR, LW, test-true}
 
 load-kind : (k : Kind) → same_kind k LR ≡ true → k ≡ LR
 load-kind R h = absurd (let z : ⊥ = cc in z)

@@ -1,21 +1,7 @@
 -- How far a run of the flat machine has come where the abstract machine stands: a locked instruction is made when its write
 -- leaves the buffer.
-use Rattle.std.proofs.Common.{◌≡◌, ◌≢◌, ℕ, ◌+◌, List, [], ◌∷◌, ◌++◌, map, Option, Some, None, slice_get, slice_set, ap, sym, ◌∙◌, refl, inl, inr, subst}
-use Rattle.tso_model.specs.Litmus.{Litmus}
-use Rattle.tso_model.specs.Actions.{action_of}
-use Rattle.tso_model.specs.Thread.{entry, value_in, with_value, updated}
-use Rattle.tso_model.specs.FlatMachine.{CoreState, State, load_value, program_of, memory_after, applied}
-use Rattle.tso_model.specs.declared.register.Reg.{Reg}
-use Rattle.tso_model.specs.declared.instruction.Loc.{Loc}
-use Rattle.tso_model.specs.declared.instruction.Instr.{Instr}
-use Rattle.tso_model.specs.declared.action.Update.{Update}
-use Rattle.tso_model.specs.declared.action.Action.TheVariants.{Lock}
-use Rattle.tso_model.specs.declared.execution.Entry.{Entry}
-use Rattle.tso_model.specs.declared.execution.Kind.TheVariants.{LR, LW}
-use Rattle.abstract_machine.specs.Machine.{HasBegun, HasRead, HasWritten, HardwareThread, Machine, IsNotBlocked, with_progress}
-use Rattle.abstract_machine.specs.Steps.{Step, read, write, flush, move, mfence, lock, locked_read, locked_write, unlock}
+use Rattle.abstract_machine.proofs.Vocabulary.{◌≡◌, ◌≢◌, ℕ, ◌+◌, List, [], ◌∷◌, ◌++◌, map, Option, Some, None, slice_get, slice_set, ap, sym, ◌∙◌, refl, inl, inr, subst, Litmus, action_of, entry, value_in, with_value, updated, CoreState, State, load_value, program_of, memory_after, applied, Reg, Loc, Instr, Update, Lock, Entry, LR, LW, HasBegun, HasRead, HasWritten, HardwareThread, Machine, IsNotBlocked, with_progress, Step, read, write, flush, move, mfence, lock, locked_read, locked_write, unlock, append-nil}
 use Rattle.abstract_machine.proofs.Lists.{map-set, get-map, get-other, set-apart}
-use Rattle.basic_laws.proofs.Lists.{append-nil}
 use Rattle.abstract_machine.proofs.States.{thread, lifted}
 use Rattle.abstract_machine.proofs.Joining.{Joins, plain-joins}
 use Rattle.abstract_machine.proofs.FlatStates.{Nexts, HasRoom, IsKnown, Base}

@@ -1,20 +1,5 @@
 -- A step of a thread that isn't in a locked instruction: a choice of the flat machine, or the beginning of one.
-use Rattle.std.proofs.Common.{◌≡◌, ℕ, ◌+◌, List, [], ◌∷◌, ◌++◌, filter, Some, None, slice_get, slice_set, slice_index, arith, ap, sym, ◌∙◌, refl}
-use Rattle.tso_model.specs.Litmus.{Litmus}
-use Rattle.tso_model.specs.Thread.{entry, fence, value_of}
-use Rattle.tso_model.specs.ProgramOrder.{writes_to}
-use Rattle.tso_model.specs.Axioms.{last_value}
-use Rattle.tso_model.specs.FlatMachine.{CoreState, State, Effect, advanced, advanced_with, memory_after, applied}
-use Rattle.tso_model.specs.declared.register.Reg.{Reg}
-use Rattle.tso_model.specs.declared.instruction.Loc.{Loc}
-use Rattle.tso_model.specs.declared.action.Update.{Update}
-use Rattle.tso_model.specs.declared.action.Action.TheVariants.{Store, Load, Move, Fence, Lock}
-use Rattle.tso_model.specs.declared.execution.Entry.{Entry}
-use Rattle.tso_model.specs.declared.execution.Kind.TheVariants.{R, W}
-use Rattle.tso_model.specs.declared.choice.Outcome.TheVariants.{Committed, Buffered, Moved}
-use Rattle.abstract_machine.specs.Machine.{NotLocked, HasBegun, Machine, with_thread, with_lock, with_progress}
-use Rattle.abstract_machine.specs.Steps.{StandsAt, Step, read, write, flush, move, mfence, lock, locked_read, locked_write, unlock}
-use Rattle.basic_laws.proofs.Lists.{Each, each-append, each-at}
+use Rattle.abstract_machine.proofs.Vocabulary.{◌≡◌, ℕ, ◌+◌, List, [], ◌∷◌, ◌++◌, filter, Some, None, slice_get, slice_set, slice_index, arith, ap, sym, ◌∙◌, refl, Litmus, entry, fence, value_of, writes_to, last_value, CoreState, State, Effect, advanced, advanced_with, memory_after, applied, Reg, Loc, Update, Store, Load, Move, Fence, Lock, Entry, R, W, Committed, Buffered, Moved, NotLocked, HasBegun, Machine, with_thread, with_lock, with_progress, StandsAt, Step, read, write, flush, move, mfence, lock, locked_read, locked_write, unlock, Each, each-append, each-at}
 use Rattle.abstract_machine.proofs.Lists.{append-one}
 use Rattle.abstract_machine.proofs.Reading.{was-read}
 use Rattle.abstract_machine.proofs.States.{thread}

@@ -1,16 +1,16 @@
 -- Entries of one core, place and kind, and lists in which no two are.
-use Rattle.std.proofs.Common.{◌≡◌, ◌<◌, ℕ, suc, zero, List, [], ◌∷◌, Some, slice_get, Bool, true, false, ◌==◌, ◌&&◌, ◌||◌, if◌then◌else◌, arith, ap, sym, ◌∙◌, inl, inr, subst, refl}
-use Rattle.std.proofs.lemmas.Bool.Decides.{eqb_tells}
+use Rattle.std.proofs.Common.{◌≡◌, ◌<◌, ◌+◌, ℕ, suc, zero, List, [], ◌∷◌, Some, slice_get, Bool, true, false, ◌==◌, ◌&&◌, ◌||◌, if◌then◌else◌, arith, ap, sym, ◌∙◌, ◌⊎◌, inl, inr, subst, refl}
+use Rattle.std.proofs.lemmas.Bool.{cases_order, eq-eqb, eqb-true, and_parts}
 use Rattle.tso_model.specs.Thread.{entry}
 use Rattle.tso_model.specs.ProgramOrder.{same_kind, is_read, is_write}
+use Rattle.basic_laws.specs.Ranks.{rank, part_of}
 use Rattle.basic_laws.proofs.Ranks.{is_read_kind, is_write_kind}
 use Rattle.tso_model.specs.ProgramEntries.{is_at, read_value}
 use Rattle.tso_model.specs.declared.execution.Entry.{Entry}
 use Rattle.tso_model.specs.declared.execution.Kind.{Kind}
 use Rattle.tso_model.specs.declared.execution.Kind.TheVariants.{R, W, F, LR, LW}
+use Rattle.axiom_checker.proofs.Firsts.{told-test}
 use Rattle.axiom_checker.specs.Entries.{same_action, same_but_value}
-use Rattle.axiom_checker.proofs.Firsts.{three-ways}
-use Rattle.axiom_checker.proofs.Slots.{each-at, AllApart}
 
 same_kind-is : (a b : Kind) → same_kind a b ≡ true → a ≡ b
 same_kind-is R R h = refl
@@ -27,34 +27,29 @@ same_kind-itself F = refl
 same_kind-itself LR = refl
 same_kind-itself LW = refl
 
+pub kind-or-not : (a b : Kind) → (a ≡ b) ⊎ (a ≡ b → ⊥)
+kind-or-not a b = elim (told-test (same_kind a b)) [ inl t ↦ inl (same_kind-is a b t) | inr n ↦ inr (λ e. n (subst (λ k. same_kind a k ≡ true) e (same_kind-itself a))) ]
+
 pub record SameAction (x y : Entry) : Type 0 where
   pub core : x.core.0 ≡ y.core.0
   pub place : x.place ≡ y.place
   pub kind : x.kind ≡ y.kind
 
-both : (a b : Bool) → (a && b) ≡ true → (a ≡ true) × (b ≡ true)
-both true true h = (refl, refl)
-both true false h = absurd (let z : ⊥ = cc in z)
-both false b h = absurd (let z : ⊥ = cc in z)
-
-test-is : (a b : ℕ) → (a == b) ≡ true → a ≡ b
-test-is a b h = elim (eqb_tells a b) [ inl p ↦ p.1 | inr p ↦ absurd (let q = p.0 in let z : ⊥ = cc in z) ]
-
-test-of : (a b : ℕ) → a ≡ b → (a == b) ≡ true
-test-of a b h = elim (eqb_tells a b) [ inl p ↦ p.0 | inr p ↦ absurd (p.1 h) ]
-
 pub same-parts : (x y : Entry) → same_action x y ≡ true → SameAction x y
 same-parts x y h =
-    let p = both ((y.core.0 == x.core.0) && (y.place == x.place)) (same_kind y.kind x.kind) h in
-    let q = both (y.core.0 == x.core.0) (y.place == x.place) p.0 in
-    record { core = sym (test-is y.core.0 x.core.0 q.0); place = sym (test-is y.place x.place q.1); kind = sym (same_kind-is y.kind x.kind p.1) }
+    let p = and_parts ((y.core.0 == x.core.0) && (y.place == x.place)) (same_kind y.kind x.kind) h in
+    let q = and_parts (y.core.0 == x.core.0) (y.place == x.place) p.0 in
+    record { core = sym (eqb-true y.core.0 x.core.0 q.0); place = sym (eqb-true y.place x.place q.1); kind = sym (same_kind-is y.kind x.kind p.1) }
 
 pub same-from : (x y : Entry) → SameAction x y → same_action x y ≡ true
 same-from x y s =
-    rw (test-of y.core.0 x.core.0 (sym s.core), test-of y.place x.place (sym s.place)) (subst (λ k. same_kind y.kind k ≡ true) (sym s.kind) (same_kind-itself y.kind))
+    rw (eq-eqb y.core.0 x.core.0 (sym s.core), eq-eqb y.place x.place (sym s.place)) (subst (λ k. same_kind y.kind k ≡ true) (sym s.kind) (same_kind-itself y.kind))
 
 pub same-turned : (x y : Entry) → SameAction x y → SameAction y x
 same-turned x y s = record { core = sym s.core; place = sym s.place; kind = sym s.kind }
+
+pub same-rank : (x y : Entry) → SameAction x y → rank x ≡ rank y
+same-rank x y s = ap (λ p. p + p + part_of x.kind) s.place ∙ ap (λ k. y.place + y.place + part_of k) s.kind
 
 pub same-itself : (x : Entry) → same_action x x ≡ true
 same-itself x = same-from x x (record { core = refl; place = refl; kind = refl })
@@ -75,16 +70,16 @@ neither k b f h = let w : (is_read_kind F || is_write_kind F || b) ≡ true = su
 
 pub same_but_value-parts : (e x : Entry) → same_but_value e x ≡ true → SameButValue e x
 same_but_value-parts e x h =
-    let p = both (same_action e x && (x.loc.0 == e.loc.0)) (is_read x || is_write x || (x.value == e.value)) h in
-    let q = both (same_action e x) (x.loc.0 == e.loc.0) p.0 in
+    let p = and_parts (same_action e x && (x.loc.0 == e.loc.0)) (is_read x || is_write x || (x.value == e.value)) h in
+    let q = and_parts (same_action e x) (x.loc.0 == e.loc.0) p.0 in
     record {
       action = same-parts e x q.0;
-      loc = test-is x.loc.0 e.loc.0 q.1;
-      fence = λ f. test-is x.value e.value (neither x.kind (x.value == e.value) f p.1);
+      loc = eqb-true x.loc.0 e.loc.0 q.1;
+      fence = λ f. eqb-true x.value e.value (neither x.kind (x.value == e.value) f p.1);
     }
 
 pub same_but_value-itself : (x : Entry) → same_but_value x x ≡ true
-same_but_value-itself x = rw (same-itself x, test-of x.loc.0 x.loc.0 refl, test-of x.value x.value refl) (any_true (is_read x) (is_write x))
+same_but_value-itself x = rw (same-itself x, eq-eqb x.loc.0 x.loc.0 refl, eq-eqb x.value x.value refl) (any_true (is_read x) (is_write x))
   where
     any_true : (a b : Bool) → (a || b || true) ≡ true
     any_true true true = refl
@@ -96,23 +91,12 @@ same_but_value-itself x = rw (same-itself x, test-of x.loc.0 x.loc.0 refl, test-
 abbrev pub NoneTwice : List Entry → Type 0
 NoneTwice list = (i j : ℕ) (x y : Entry) → j < i → slice_get list i ≡ Some x → slice_get list j ≡ Some y → SameAction x y → ⊥
 
-pub apart-none : (list : List Entry) → AllApart list → NoneTwice list
-apart-none [] a i j x y l e f s = absurd (let z : ⊥ = cc in z)
-apart-none (z ∷ zs) a zero j x y l e f s = absurd (omega arith)
-apart-none (z ∷ zs) a (suc i) zero x y l e f s =
-    let q : z ≡ y = cc in
-    let n : same_action z x ≡ false = each-at (λ w. same_action z w ≡ false) zs i x a.0 e in
-    let t : same_action y x ≡ true = same-from y x (same-turned x y s) in
-    let m : same_action z x ≡ true = subst (λ w. same_action w x ≡ true) (sym q) t in
-    absurd (let v : ⊥ = cc in v)
-apart-none (z ∷ zs) a (suc i) (suc j) x y l e f s = apart-none zs a.1 i j x y (omega arith) e f s
-
 after : (z : Entry) (zs : List Entry) → NoneTwice (z ∷ zs) → NoneTwice zs
 after z zs n i j x y l e f s = n (suc i) (suc j) x y (omega arith) e f s
 
 -- two entries of one core, place and kind are one
 pub one-place : (list : List Entry) → NoneTwice list → (i j : ℕ) (x y : Entry) → slice_get list i ≡ Some x → slice_get list j ≡ Some y → SameAction x y → i ≡ j
-one-place list n i j x y e f s = elim (three-ways i j) [
+one-place list n i j x y e f s = elim (cases_order i j) [
   | inl q ↦ q
   | inr w ↦ elim w [
     | inl l ↦ absurd (n j i y x l f e (same-turned x y s))

@@ -1,9 +1,10 @@
 -- A first breach is real, and an order has at most one.
-use Rattle.std.proofs.Common.{◌≡◌, ◌<◌, ℕ, suc, zero, List, Some, slice_get, arith, ap, sym, ◌∙◌, ◌⊎◌, inl, inr, subst}
+use Rattle.std.proofs.Common.{◌≡◌, ◌<◌, ℕ, ◌+◌, suc, zero, List, Some, slice_get, arith, ap, sym, ◌∙◌, inl, inr, subst}
+use Rattle.std.proofs.lemmas.Bool.{cases_order}
 use Rattle.tso_model.specs.Litmus.{Litmus}
 use Rattle.tso_model.specs.Thread.{entry}
 use Rattle.tso_model.specs.ProgramEntries.{made}
-use Rattle.tso_model.specs.Axioms.{IsWhole, KeepsProgramOrder, IsAdjacent, IsTsoExecution}
+use Rattle.tso_model.specs.Axioms.{IsWhole, KeepsProgramOrder, IsAdjacent, HasReadValues, IsTsoExecution}
 use Rattle.tso_model.specs.declared.execution.Entry.{Entry}
 use Rattle.axiom_checker.specs.First.{IsFirst, IsNowhere}
 use Rattle.axiom_checker.specs.Entries.{IsExtra, IsStray, IsMissing, IsWrongWrite, written_value}
@@ -11,7 +12,6 @@ use Rattle.axiom_checker.specs.AxiomBreaches.{Overtakes, IsLate, IsSeparated, Is
 use Rattle.axiom_checker.specs.FirstBreach.{IsFirstBreach}
 use Rattle.axiom_checker.specs.declared.breach.Breach.{Breach}
 use Rattle.axiom_checker.specs.declared.breach.Breach.TheVariants.{Extra, Twice, Missing, WrongValue, ProgramOrder, NotAdjacent, ReadValue, NoMemory}
-use Rattle.axiom_checker.proofs.Firsts.{three-ways}
 use Rattle.axiom_checker.proofs.Whole.{whole-clean}
 use Rattle.axiom_checker.proofs.Keeps.{none-late, none-separated, none-wrong}
 
@@ -26,90 +26,62 @@ level (NotAdjacent x) = 4
 level (ReadValue x due) = 5
 level NoMemory = 6
 
--- the fact holds of some entry
-abbrev pub Occurs : List Entry → (ℕ → Entry → Type 0) → Type 0
-Occurs list Fact = (at : ℕ) × (x : Entry) × (slice_get list at ≡ Some x) × Fact at x
+-- no breach of this letter occurs
+abbrev NoneAt : Litmus → List Entry → ℕ → Type 0
+NoneAt t order zero = IsNowhere order (IsStray (made t order) order)
+NoneAt t order (suc zero) = IsNowhere (made t order) (IsMissing order)
+NoneAt t order (suc (suc zero)) = IsNowhere order (IsWrongWrite (made t order))
+NoneAt t order (suc (suc (suc zero))) = KeepsProgramOrder order
+NoneAt t order (suc (suc (suc (suc zero)))) = IsAdjacent order
+NoneAt t order (suc (suc (suc (suc (suc n))))) = HasReadValues t order
 
-occurs : (list : List Entry) (Fact : ℕ → Entry → Type 0) (at : ℕ) (x : Entry) → IsFirst list Fact at x → Occurs list Fact
-occurs list Fact at x f = (at, x, f.stands, f.holds)
+occurs : (t : Litmus) (order : List Entry) (b : Breach) → IsFirstBreach t order b → NoneAt t order (level b) → ⊥
+occurs t order (Extra x) f none = none f.1.0 x f.1.1.stands f.1.1.holds
+occurs t order (Twice x) f none = none f.1.0 x f.1.1.stands f.1.1.holds
+occurs t order (Missing core place kind loc) f none = none f.1.0 (entry core.0 place kind loc f.1.1) f.1.2.stands f.1.2.holds
+occurs t order (WrongValue x due) f none = none f.2.0 x f.2.1.stands f.2.1.holds
+occurs t order (ProgramOrder a b) f none = none-late order none f.1.0 a f.1.2.stands f.1.2.holds
+occurs t order (NotAdjacent x) f none = none-separated order none f.2.0 x f.2.1.stands f.2.1.holds
+occurs t order (ReadValue x due) f none = none-wrong t order none f.3.0 x f.3.1.stands f.3.1.holds
+occurs t order NoMemory f none = f
 
-nowhere : (list : List Entry) (Fact : ℕ → Entry → Type 0) → IsNowhere list Fact → Occurs list Fact → ⊥
-nowhere list Fact n o = n o.0 o.1 o.2 o.3
-
--- a breach of this letter occurs
-abbrev pub OccursAt : Litmus → List Entry → ℕ → Type 0
-OccursAt t order zero = Occurs order (IsStray (made t order) order)
-OccursAt t order (suc zero) = Occurs (made t order) (IsMissing order)
-OccursAt t order (suc (suc zero)) = Occurs order (IsWrongWrite (made t order))
-OccursAt t order (suc (suc (suc zero))) = Occurs order (IsLate order)
-OccursAt t order (suc (suc (suc (suc zero)))) = Occurs order (IsSeparated order)
-OccursAt t order (suc (suc (suc (suc (suc n))))) = Occurs order (IsWrongRead t order)
-
-pub occurs-at : (t : Litmus) (order : List Entry) (b : Breach) → IsFirstBreach t order b → OccursAt t order (level b)
-occurs-at t order (Extra x) f = occurs order (IsStray (made t order) order) f.1.0 x f.1.1
-occurs-at t order (Twice x) f = occurs order (IsStray (made t order) order) f.1.0 x f.1.1
-occurs-at t order (Missing core place kind loc) f = occurs (made t order) (IsMissing order) f.1.0 (entry core.0 place kind loc f.1.1) f.1.2
-occurs-at t order (WrongValue x due) f = occurs order (IsWrongWrite (made t order)) f.2.0 x f.2.1
-occurs-at t order (ProgramOrder a b) f = occurs order (IsLate order) f.1.0 a f.1.2
-occurs-at t order (NotAdjacent x) f = occurs order (IsSeparated order) f.2.0 x f.2.1
-occurs-at t order (ReadValue x due) f = occurs order (IsWrongRead t order) f.3.0 x f.3.1
-occurs-at t order NoMemory f = absurd f
-
--- of a whole order, of one that keeps program order too, and of one that keeps pairs too
-clear-whole : (t : Litmus) (order : List Entry) → IsWhole t order → (n : ℕ) → n < 3 → OccursAt t order n → ⊥
-clear-whole t order w zero l o = nowhere order (IsStray (made t order) order) (whole-clean t order w).no_stray o
-clear-whole t order w (suc zero) l o = nowhere (made t order) (IsMissing order) (whole-clean t order w).no_missing o
-clear-whole t order w (suc (suc zero)) l o = nowhere order (IsWrongWrite (made t order)) (whole-clean t order w).no_wrong o
-clear-whole t order w (suc (suc (suc n))) l o = absurd (omega arith)
-
-below-or : (n m : ℕ) → n < suc m → (n ≡ m) ⊎ (n < m)
-below-or n m l = grind arith
-
-clear-ordered : (t : Litmus) (order : List Entry) → IsWhole t order → KeepsProgramOrder order → (n : ℕ) → n < 4 → OccursAt t order n → ⊥
-clear-ordered t order w k n l o = elim (below-or n 3 l) [
-  | inl q ↦ nowhere order (IsLate order) (none-late order k) (subst (λ m. OccursAt t order m) q o)
-  | inr s ↦ clear-whole t order w n s o
-]
-
-clear-paired : (t : Litmus) (order : List Entry) → IsWhole t order → KeepsProgramOrder order → IsAdjacent order → (n : ℕ) → n < 5 → OccursAt t order n → ⊥
-clear-paired t order w k p n l o = elim (below-or n 4 l) [
-  | inl q ↦ nowhere order (IsSeparated order) (none-separated order p) (subst (λ m. OccursAt t order m) q o)
-  | inr s ↦ clear-ordered t order w k n s o
-]
+-- of a whole order, and of one that keeps the next axioms too
+none-whole : (t : Litmus) (order : List Entry) → IsWhole t order → (level : ℕ) → ((m : ℕ) → suc (suc (suc m)) < level → NoneAt t order (suc (suc (suc m)))) → (n : ℕ) → n < level → NoneAt t order n
+none-whole t order w level rest zero l = (whole-clean t order w).no_stray
+none-whole t order w level rest (suc zero) l = (whole-clean t order w).no_missing
+none-whole t order w level rest (suc (suc zero)) l = (whole-clean t order w).no_wrong
+none-whole t order w level rest (suc (suc (suc m))) l = rest m l
 
 -- no breach of a lower letter occurs
-none-lower : (t : Litmus) (order : List Entry) (b : Breach) → IsFirstBreach t order b → (n : ℕ) → n < level b → OccursAt t order n → ⊥
-none-lower t order (Extra x) f n l o = absurd (omega arith)
-none-lower t order (Twice x) f n l o = absurd (omega arith)
-none-lower t order (Missing core place kind loc) f zero l o = nowhere order (IsStray (made t order) order) f.0 o
-none-lower t order (Missing core place kind loc) f (suc n) l o = absurd (omega arith)
-none-lower t order (WrongValue x due) f zero l o = nowhere order (IsStray (made t order) order) f.0 o
-none-lower t order (WrongValue x due) f (suc zero) l o = nowhere (made t order) (IsMissing order) f.1 o
-none-lower t order (WrongValue x due) f (suc (suc n)) l o = absurd (omega arith)
-none-lower t order (ProgramOrder a b) f n l o = clear-whole t order f.0 n l o
-none-lower t order (NotAdjacent x) f n l o = clear-ordered t order f.0 f.1 n l o
-none-lower t order (ReadValue x due) f n l o = clear-paired t order f.0 f.1 f.2 n l o
-none-lower t order NoMemory f n l o = f
-
--- no breach occurs in a TSO execution
-none-at-all : (t : Litmus) (order : List Entry) → IsTsoExecution t order → (n : ℕ) → n < 6 → OccursAt t order n → ⊥
-none-at-all t order e n l o = elim (below-or n 5 l) [
-  | inl q ↦ nowhere order (IsWrongRead t order) (none-wrong t order e.read_values) (subst (λ m. OccursAt t order m) q o)
-  | inr s ↦ clear-paired t order e.whole e.program_order e.adjacent n s o
-]
-
-level-below : (t : Litmus) (order : List Entry) (b : Breach) → IsFirstBreach t order b → level b < 6
-level-below t order (Extra x) f = omega arith
-level-below t order (Twice x) f = omega arith
-level-below t order (Missing core place kind loc) f = omega arith
-level-below t order (WrongValue x due) f = omega arith
-level-below t order (ProgramOrder a b) f = omega arith
-level-below t order (NotAdjacent x) f = omega arith
-level-below t order (ReadValue x due) f = omega arith
-level-below t order NoMemory f = absurd f
+none-lower : (t : Litmus) (order : List Entry) (b : Breach) → IsFirstBreach t order b → (n : ℕ) → n < level b → NoneAt t order n
+none-lower t order (Extra x) f n l = absurd (omega arith)
+none-lower t order (Twice x) f n l = absurd (omega arith)
+none-lower t order (Missing core place kind loc) f zero l = f.0
+none-lower t order (Missing core place kind loc) f (suc n) l = absurd (omega arith)
+none-lower t order (WrongValue x due) f zero l = f.0
+none-lower t order (WrongValue x due) f (suc zero) l = f.1
+none-lower t order (WrongValue x due) f (suc (suc n)) l = absurd (omega arith)
+none-lower t order (ProgramOrder a b) f n l = none-whole t order f.0 3 (λ m k. absurd (omega arith)) n l
+none-lower t order (NotAdjacent x) f n l = none-whole t order f.0 4 rest n l
+  where
+    rest : (m : ℕ) → suc (suc (suc m)) < 4 → NoneAt t order (suc (suc (suc m)))
+    rest zero k = f.1
+    rest (suc m) k = absurd (omega arith)
+none-lower t order (ReadValue x due) f n l = none-whole t order f.0 5 rest n l
+  where
+    rest : (m : ℕ) → suc (suc (suc m)) < 5 → NoneAt t order (suc (suc (suc m)))
+    rest zero k = f.1
+    rest (suc zero) k = f.2
+    rest (suc (suc m)) k = absurd (omega arith)
+none-lower t order NoMemory f n l = absurd f
 
 pub breach-is-real : (t : Litmus) (order : List Entry) (b : Breach) → IsFirstBreach t order b → IsTsoExecution t order → ⊥
-breach-is-real t order b f e = none-at-all t order e (level b) (level-below t order b f) (occurs-at t order b f)
+breach-is-real t order b f e = occurs t order b f (none-whole t order e.whole (level b + 1) rest (level b) (omega arith))
+  where
+    rest : (m : ℕ) → suc (suc (suc m)) < level b + 1 → NoneAt t order (suc (suc (suc m)))
+    rest zero k = e.program_order
+    rest (suc zero) k = e.adjacent
+    rest (suc (suc m)) k = e.read_values
 
 -- a list has one first entry of a fact
 record Same (i j : ℕ) (x y : Entry) : Type 0 where
@@ -117,7 +89,7 @@ record Same (i j : ℕ) (x y : Entry) : Type 0 where
   pub entry : x ≡ y
 
 one-first : (list : List Entry) (Fact : ℕ → Entry → Type 0) (i j : ℕ) (x y : Entry) → IsFirst list Fact i x → IsFirst list Fact j y → Same i j x y
-one-first list Fact i j x y f g = elim (three-ways i j) [
+one-first list Fact i j x y f g = elim (cases_order i j) [
   | inl q ↦ let s : slice_get list i ≡ Some y = subst (λ k. slice_get list k ≡ Some y) (sym q) g.stands in let e = f.stands in record { place = q; entry = cc }
   | inr w ↦ elim w [ inl l ↦ absurd (g.earliest i x l f.stands f.holds) | inr l ↦ absurd (f.earliest j y l g.stands g.holds) ]
 ]
@@ -148,10 +120,10 @@ same-letter t order (ReadValue x due) (ReadValue y due') l f g =
 same-letter t order b c l f g = absurd (omega arith)
 
 pub one-breach : (t : Litmus) (order : List Entry) (b c : Breach) → IsFirstBreach t order b → IsFirstBreach t order c → b ≡ c
-one-breach t order b c f g = elim (three-ways (level b) (level c)) [
+one-breach t order b c f g = elim (cases_order (level b) (level c)) [
   | inl q ↦ same-letter t order b c q f g
   | inr w ↦ elim w [
-    | inl l ↦ absurd (none-lower t order c g (level b) l (occurs-at t order b f))
-    | inr l ↦ absurd (none-lower t order b f (level c) l (occurs-at t order c g))
+    | inl l ↦ absurd (occurs t order b f (none-lower t order c g (level b) l))
+    | inr l ↦ absurd (occurs t order c g (none-lower t order b f (level c) l))
   ]
 ]

@@ -1,26 +1,23 @@
 -- How the programs' entry of an entry of the order is found, and which of the programs' entries came.
-use Rattle.std.proofs.Common.{◌≡◌, ◌<◌, ◌≤◌, ℕ, ◌+◌, ◌*◌, suc, zero, List, [], ◌∷◌, length, Option, Some, None, slice_get, slice_index, slice_index_or, slice_set, replicate, Bool, true, false, arith, ap, sym, ◌∙◌, ◌⊎◌, inl, inr, subst, refl}
-use Rattle.std.proofs.lemmas.Option.{slice_get_within, slice_get-get_or}
+use Rattle.std.proofs.Common.{◌≡◌, ◌<◌, ◌≤◌, ℕ, ◌+◌, ◌*◌, suc, zero, List, length, Option, Some, None, slice_get, slice_index, slice_index_or, slice_set, replicate, true, false, arith, ap, sym, ◌∙◌, ◌⊎◌, inl, inr, subst, refl}
+use Rattle.std.proofs.lemmas.Bool.{cases_eq, false_from_ne_true}
+use Rattle.std.proofs.lemmas.Option.{slice_get_within, slice_get-get_or, slice_get_cases}
 use Rattle.std.proofs.lemmas.List.{get_or-set_same, get_or-set_other}
 use Rattle.std.specs.Option.{is_some}
 use Rattle.tso_model.specs.Thread.{entry}
-use Rattle.basic_laws.specs.Ranks.{rank, part_of}
+use Rattle.basic_laws.specs.Ranks.{rank}
 use Rattle.tso_model.specs.ProgramEntries.{is_at}
 use Rattle.tso_model.specs.declared.execution.Entry.{Entry}
 use Rattle.axiom_checker.specs.First.{IsFirst, IsNowhere, NoneBefore}
 use Rattle.axiom_checker.specs.Entries.{same_action, same_but_value, IsExtra, IsTwice, IsStray, IsMissing}
 use Rattle.axiom_checker.specs.inner.Programs.{kept_in}
-use Rattle.axiom_checker.specs.inner.Slots.{slot_of, Ascends, IsIndex, HasCome, HasNotCome, slots_of_a_core}
-use Rattle.axiom_checker.proofs.Actions.{SameAction, same-parts, same-from, same-turned, same_but_value-parts, entry-is, NoneTwice}
-use Rattle.axiom_checker.proofs.Shapes.{AreAlike, alike-at, all-turned}
-use Rattle.axiom_checker.proofs.Keeps.{equal-or-not}
-use Rattle.axiom_checker.proofs.Ascending.{slots-rise, slot-within}
+use Rattle.axiom_checker.specs.inner.Slots.{slot_of, Ascends, AreWithin, IsIndex, HasCome, HasNotCome, slots_of_a_core}
+use Rattle.axiom_checker.proofs.Firsts.{some-is, same_or_below, at-place}
+use Rattle.axiom_checker.proofs.Actions.{SameAction, same-parts, same-from, same-turned, same_but_value-parts, entry-is, NoneTwice, same-rank}
+use Rattle.axiom_checker.proofs.Shapes.{AreAlike, alike-at}
 
 pub same-chained : (x y z : Entry) → SameAction x y → SameAction y z → SameAction x z
 same-chained x y z s u = record { core = s.core ∙ u.core; place = s.place ∙ u.place; kind = s.kind ∙ u.kind }
-
-pub same-rank : (x y : Entry) → SameAction x y → rank x ≡ rank y
-same-rank x y s = ap (λ p. p + p + part_of x.kind) s.place ∙ ap (λ k. y.place + y.place + part_of k) s.kind
 
 pub same-slot : (x y : Entry) → SameAction x y → slot_of x ≡ slot_of y
 same-slot x y s = ap (λ c. c * slots_of_a_core + rank x) s.core ∙ ap (λ r. y.core.0 * slots_of_a_core + r) (same-rank x y s)
@@ -28,20 +25,9 @@ same-slot x y s = ap (λ c. c * slots_of_a_core + rank x) s.core ∙ ap (λ r. y
 pub same-tested : (x y z : Entry) → SameAction x y → same_action x z ≡ same_action y z
 same-tested x y z s = ap (λ c. is_at c x.place x.kind z) s.core ∙ ap (λ p. is_at y.core.0 p x.kind z) s.place ∙ ap (λ k. is_at y.core.0 y.place k z) s.kind
 
-pub true-or-false : (b : Bool) → (b ≡ true) ⊎ (b ≡ false)
-true-or-false true = inl refl
-true-or-false false = inr refl
-
-pub not-true : (b : Bool) → (b ≡ true → ⊥) → b ≡ false
-not-true true n = absurd (n refl)
-not-true false n = refl
-
 pub there-or-not : {X : Type 0} (o : Option X) → (o ≡ None) ⊎ ((x : X) × (o ≡ Some x))
 there-or-not None = inl refl
 there-or-not (Some x) = inr (x, refl)
-
-pub some-is : {X : Type 0} (x y : X) → Some x ≡ Some y → x ≡ y
-some-is x y e = cc
 
 -- the index
 pub index-within : (list : List Entry) (slots : List (Option ℕ)) → IsIndex list slots → (s k : ℕ) → kept_in slots s ≡ Some k → k < length list
@@ -52,10 +38,10 @@ pub index-tells : (list : List Entry) (slots : List (Option ℕ)) → IsIndex li
 index-tells list slots index x e k f s = ap (λ n. kept_in slots n) (sym (same-slot e x (same_but_value-parts e x s).action)) ∙ index.has k e f
 
 pub found-none : (list : List Entry) (slots : List (Option ℕ)) → IsIndex list slots → (x : Entry) → kept_in slots (slot_of x) ≡ None → IsExtra list x
-found-none list slots index x h k e f = not-true (same_but_value e x) (λ s. let t = index-tells list slots index x e k f s in let z : ⊥ = cc in z)
+found-none list slots index x h k e f = false_from_ne_true (same_but_value e x) (λ s. let t = index-tells list slots index x e k f s in let z : ⊥ = cc in z)
 
 pub found-other : (list : List Entry) (slots : List (Option ℕ)) → IsIndex list slots → (x d : Entry) (i : ℕ) → kept_in slots (slot_of x) ≡ Some i → slice_get list i ≡ Some d → same_but_value d x ≡ false → IsExtra list x
-found-other list slots index x d i h g n k e f = not-true (same_but_value e x) (λ s.
+found-other list slots index x d i h g n k e f = false_from_ne_true (same_but_value e x) (λ s.
     let t = index-tells list slots index x e k f s in
     let q : i ≡ k = some-is i k (sym h ∙ t) in
     let p : d ≡ e = some-is d e (sym g ∙ ap (λ m. slice_get list m) q ∙ f) in
@@ -67,7 +53,7 @@ one-index list slots index i k d e f g s = some-is i k (sym (index.has i d f) �
 
 pub index-alike : (xs ys : List Entry) (slots : List (Option ℕ)) → AreAlike xs ys → IsIndex xs slots → IsIndex ys slots
 index-alike xs ys slots alike index = record {
-  has = λ k e f. let m = alike-at ys xs (all-turned xs ys alike) k e f in ap (λ n. kept_in slots n) (same-slot e m.0 m.2.action) ∙ index.has k m.0 m.1;
+  has = λ k e f. let m = alike-at ys xs (sym alike) k e f in ap (λ n. kept_in slots n) (same-slot e m.0 m.2.action) ∙ index.has k m.0 m.1;
   only = λ s k h. let r = index.only s k h in let m = alike-at xs ys alike k r.0 r.1 in (m.0, m.1);
 }
 
@@ -92,9 +78,6 @@ came-not shape order slots at came index come i e x f s h w =
     let g : kept_in came i ≡ Some w.1.value = ap (λ n. kept_in came n) q ∙ r.4 in
     let z : ⊥ = cc in z
 
-same_or_below : (i n : ℕ) → i < n + 1 → (i ≡ n) ⊎ (i < n)
-same_or_below i n h = grind arith
-
 pub comes : (shape order : List Entry) (at : ℕ) (came : List (Option ℕ)) → HasCome shape order at came → (i : ℕ) (e x : Entry) → slice_get shape i ≡ Some e → same_but_value e x ≡ true
     → slice_get order at ≡ Some x → kept_in came i ≡ None → i < length came → HasCome shape order (at + 1) (slice_set came i (Some x.value))
 comes shape order at came come i e x f s here h within =
@@ -109,7 +92,7 @@ comes shape order at came come i e x f s here h within =
             let other : r.0 ≡ i → ⊥ = λ q. let v : kept_in came r.0 ≡ None = ap (λ n. kept_in came n) q ∙ h in let w = r.4 in let z : ⊥ = cc in z in
             (r.0, r.1, r.2, r.3, get_or-set_other came i r.0 (Some x.value) None other ∙ r.4)
       ];
-      only = λ j v g. elim (equal-or-not j i) [
+      only = λ j v g. elim (cases_eq j i) [
         | inl q ↦
             let p : kept_in (slice_set came i (Some x.value)) i ≡ Some v = ap (λ n. kept_in (slice_set came i (Some x.value)) n) (sym q) ∙ g in
             (at, x, e, (let l : at < at + 1 = omega arith in l), here, ap (λ n. slice_get shape n) q ∙ f, same-from e x (same_but_value-parts e x s).action, some-is x.value v (sym now ∙ p))
@@ -122,7 +105,7 @@ comes shape order at came come i e x f s here h within =
 -- the entries that didn't come are those that are missing
 pub not-come : (shape order : List Entry) (slots : List (Option ℕ)) (at : ℕ) (came : List (Option ℕ)) → IsIndex shape slots → HasCome shape order at came → length order ≤ at → (i : ℕ) (e : Entry)
     → slice_get shape i ≡ Some e → kept_in came i ≡ None → IsMissing order i e
-not-come shape order slots at came index come all i e f h k x g = not-true (same_action e x) (λ s.
+not-come shape order slots at came index come all i e f h k x g = false_from_ne_true (same_action e x) (λ s.
     let r = come.has k x (let w = slice_get_within order k x g in omega arith) g in
     let a : SameAction r.1 x = (same_but_value-parts r.1 x r.3).action in
     let q : i ≡ r.0 = one-index shape slots index i r.0 e r.1 f r.2 (same-chained e x r.1 (same-parts e x s) (same-turned r.1 x a)) in
@@ -153,7 +136,7 @@ first-missing shape entries order slots at came alike index come all e k first =
         stands = m.1;
         holds = missing-alike order k e m.0 m.2.action (not-come shape order slots at came index come all k e first.stands first.holds);
         earliest = λ j y l f miss.
-            let n = alike-at entries shape (all-turned shape entries alike) j y f in
+            let n = alike-at entries shape (sym alike) j y f in
             first.earliest j n.0 l n.1 (missing-not-come shape order at came come j n.0 n.1 (missing-alike order j y n.0 n.2.action miss));
       }),
     )
@@ -161,13 +144,13 @@ first-missing shape entries order slots at came alike index come all e k first =
 pub none-missing : (shape entries order : List Entry) (at : ℕ) (came : List (Option ℕ)) → AreAlike shape entries → HasCome shape order at came
     → IsNowhere shape (HasNotCome came) → IsNowhere entries (IsMissing order)
 none-missing shape entries order at came alike come none j y f miss =
-    let n = alike-at entries shape (all-turned shape entries alike) j y f in
+    let n = alike-at entries shape (sym alike) j y f in
     none j n.0 n.1 (missing-not-come shape order at came come j n.0 n.1 (missing-alike order j y n.0 n.2.action miss))
 
 -- strays of the shape are strays of what the programs make
 pub stray-alike : (xs ys order : List Entry) → AreAlike xs ys → (k : ℕ) (x : Entry) → IsStray xs order k x → IsStray ys order k x
 stray-alike xs ys order alike k x s = elim s [
-  | inl e ↦ inl (λ j z f. let m = alike-at ys xs (all-turned xs ys alike) j z f in m.2.tested x ∙ e j m.0 m.1)
+  | inl e ↦ inl (λ j z f. let m = alike-at ys xs (sym alike) j z f in m.2.tested x ∙ e j m.0 m.1)
   | inr w ↦ inr w
 ]
 
@@ -185,55 +168,49 @@ not-extra shape x i e f s extra = let q = extra i e f in let z : ⊥ = cc in z
 pub index-none-twice : (list : List Entry) (slots : List (Option ℕ)) → IsIndex list slots → NoneTwice list
 index-none-twice list slots index i j x y l e f s = let q = one-index list slots index i j x y e f s in omega arith
 
-pub past : (list : List Entry) (k : ℕ) → slice_get list k ≡ None → length list ≤ k
-past [] k e = omega arith
-past (x ∷ xs) zero e = absurd (let z : ⊥ = cc in z)
-past (x ∷ xs) (suc k) e = let l = past xs k e in omega arith
-
 -- the table is filled from the front of the list
-pub index-more : (list : List Entry) (high : ℕ) → Ascends 0 high list → (slots : List (Option ℕ)) (i : ℕ) (x : Entry) (n : ℕ) → slice_get list i ≡ Some x → n ≡ slot_of x → n < length slots
-    → ((k : ℕ) (e : Entry) → k < i → slice_get list k ≡ Some e → kept_in slots (slot_of e) ≡ Some k) → ((s k : ℕ) → kept_in slots s ≡ Some k → k < i)
-    → ((k : ℕ) (e : Entry) → k < i + 1 → slice_get list k ≡ Some e → kept_in (slice_set slots n (Some i)) (slot_of e) ≡ Some k) × ((s k : ℕ) → kept_in (slice_set slots n (Some i)) s ≡ Some k → k < i + 1)
-index-more list high up slots i x n here is within has only = (
-  λ k e l f. elim (same_or_below k i l) [
-    | inl q ↦
-        let p : e ≡ x = some-is e x (sym f ∙ ap (λ m. slice_get list m) q ∙ here) in
-        ap (λ z. kept_in (slice_set slots n (Some i)) (slot_of z)) p ∙ ap (λ m. kept_in (slice_set slots n (Some i)) m) (sym is) ∙ get_or-set_same slots n (Some i) None within ∙ ap Some (sym q)
-    | inr b ↦
-        let r = slots-rise 0 high list up k i e x b f here in
-        get_or-set_other slots n (slot_of e) (Some i) None (λ q. let u = q ∙ is in omega (arith, u, r)) ∙ has k e b f
-  ],
-  λ s k h. elim (equal-or-not s n) [
-    | inl q ↦
-        let p : Some i ≡ Some k = sym (get_or-set_same slots n (Some i) None within) ∙ ap (λ m. kept_in (slice_set slots n (Some i)) m) (sym q) ∙ h in
-        let r = some-is i k p in (let l : k < i + 1 = omega arith in l)
-    | inr d ↦ let l = only s k (sym (get_or-set_other slots n s (Some i) None d) ∙ h) in (let m : k < i + 1 = omega arith in m)
-  ],
-)
+module _ (list : List Entry) (cores locations : ℕ) (up : Ascends list) (all : AreWithin cores locations list) where
+  -- the slot of the entry at a place of the list
+  pub slot-bound : (i : ℕ) (d : Entry) (n size : ℕ) → i < length list → n ≡ slot_of (slice_index_or list i d) → size ≡ cores * slots_of_a_core → n < size
+  slot-bound i d n size within is fits = let w = all i (slice_index_or list i d) (slice_get-get_or list i d within) in let c = w.core in let r = w.fits in omega arith
+
+  other-slot : (k i : ℕ) (d e : Entry) → k < i → slice_get list k ≡ Some d → slice_get list i ≡ Some e → slot_of d < slot_of e
+  other-slot k i d e l f g = let r = (all k d f).fits in elim (up k i d e l f g) [ inl m ↦ (let z : slot_of d < slot_of e = omega arith in z) | inr p ↦ (let c = p.0 in let m = p.1 in let z : slot_of d < slot_of e = omega arith in z) ]
+
+  pub index-step : (slots : List (Option ℕ)) (i : ℕ) (d : Entry) (n : ℕ) → i < length list → n ≡ slot_of (slice_index_or list i d) → length slots ≡ cores * slots_of_a_core
+      → ((k : ℕ) (e : Entry) → k < i → slice_get list k ≡ Some e → kept_in slots (slot_of e) ≡ Some k) → ((s k : ℕ) → kept_in slots s ≡ Some k → k < i)
+      → ((k : ℕ) (e : Entry) → k < i + 1 → slice_get list k ≡ Some e → kept_in (slice_set slots n (Some i)) (slot_of e) ≡ Some k) × ((s k : ℕ) → kept_in (slice_set slots n (Some i)) s ≡ Some k → k < i + 1)
+  index-step slots i d n inside is fits has only =
+      let x = slice_index_or list i d in
+      let here = slice_get-get_or list i d inside in
+      let within = slot-bound i d n (length slots) inside is fits in (
+        λ k e l f. elim (same_or_below k i l) [
+          | inl q ↦
+              ap (λ z. kept_in (slice_set slots n (Some i)) (slot_of z)) (at-place list i k x e here f q) ∙ ap (λ m. kept_in (slice_set slots n (Some i)) m) (sym is) ∙ get_or-set_same slots n (Some i) None within ∙ ap Some (sym q)
+          | inr b ↦
+              let r = other-slot k i e x b f here in
+              get_or-set_other slots n (slot_of e) (Some i) None (λ q. let u = q ∙ is in omega (arith, u, r)) ∙ has k e b f
+        ],
+        λ s k h. elim (cases_eq s n) [
+          | inl q ↦
+              let p : Some i ≡ Some k = sym (get_or-set_same slots n (Some i) None within) ∙ ap (λ m. kept_in (slice_set slots n (Some i)) m) (sym q) ∙ h in
+              let r = some-is i k p in (let l : k < i + 1 = omega arith in l)
+          | inr d ↦ let l = only s k (sym (get_or-set_other slots n s (Some i) None d) ∙ h) in (let m : k < i + 1 = omega arith in m)
+        ],
+      )
 
 pub index-only : (list : List Entry) (slots : List (Option ℕ)) (i : ℕ) → length list ≤ i → i ≤ length list
     → ((k : ℕ) (e : Entry) → k < i → slice_get list k ≡ Some e → kept_in slots (slot_of e) ≡ Some k) → ((s k : ℕ) → kept_in slots s ≡ Some k → k < i) → IsIndex list slots
 index-only list slots i all within has only = record {
   has = λ k e f. has k e (let l = slice_get_within list k e f in omega arith) f;
-  only = λ s k h. elim (there-or-not (slice_get list k)) [
-    | inl n ↦ let l = past list k n in let m = only s k h in absurd (omega arith)
-    | inr t ↦ t
+  only = λ s k h. elim (slice_get_cases list k).1 [
+    | inl t ↦ (t.0, t.2)
+    | inr past ↦ let l = past.0 in let m = only s k h in absurd (omega arith)
   ];
 }
 
 pub nothing-came : (shape order : List Entry) (came : List (Option ℕ)) → ((i : ℕ) → kept_in came i ≡ None) → HasCome shape order 0 came
 nothing-came shape order came none = record { has = λ k x l f. absurd (omega arith); only = λ i v h. let n = none i in absurd (let z : ⊥ = cc in z) }
-
--- the slot of the entry at a place of the list
-pub slot-bound : (list : List Entry) (high : ℕ) → Ascends 0 high list → (i : ℕ) (d : Entry) (n size : ℕ) → i < length list → n ≡ slot_of (slice_index_or list i d) → size ≡ high → n < size
-slot-bound list high up i d n size within is fits =
-    let l = (slot-within 0 high list up i (slice_index_or list i d) (slice_get-get_or list i d within)).1 in omega arith
-
-pub index-step : (list : List Entry) (high : ℕ) → Ascends 0 high list → (slots : List (Option ℕ)) (i : ℕ) (d : Entry) (n : ℕ) → i < length list → n ≡ slot_of (slice_index_or list i d) → length slots ≡ high
-    → ((k : ℕ) (e : Entry) → k < i → slice_get list k ≡ Some e → kept_in slots (slot_of e) ≡ Some k) → ((s k : ℕ) → kept_in slots s ≡ Some k → k < i)
-    → ((k : ℕ) (e : Entry) → k < i + 1 → slice_get list k ≡ Some e → kept_in (slice_set slots n (Some i)) (slot_of e) ≡ Some k) × ((s k : ℕ) → kept_in (slice_set slots n (Some i)) s ≡ Some k → k < i + 1)
-index-step list high up slots i d n within is fits has only =
-    index-more list high up slots i (slice_index_or list i d) n (slice_get-get_or list i d within) is (slot-bound list high up i d n (length slots) within is fits) has only
 
 -- the entry at this place came too
 pub came-too : (shape : List Entry) (came : List (Option ℕ)) (i : ℕ) → NoneBefore shape (HasNotCome came) i → (kept_in came i ≡ None → ⊥) → NoneBefore shape (HasNotCome came) (i + 1)

@@ -1,7 +1,8 @@
 -- What is due to a read, by the write that its own program has before it.
-use Rattle.std.proofs.Common.{◌≡◌, ◌<◌, ◌≤◌, ℕ, ◌+◌, ◌*◌, suc, zero, List, [], ◌∷◌, length, Option, Some, None, slice_get, slice_index, take, drop, filter, Bool, true, false, not, ◌&&◌, ◌==◌, cond, if◌then◌else◌, arith, ap, sym, ◌∙◌, inl, inr, subst, refl}
+use Rattle.std.proofs.Common.{◌≡◌, ◌<◌, ◌≤◌, ℕ, ◌+◌, suc, zero, List, [], ◌∷◌, Option, Some, None, slice_get, slice_index, take, drop, filter, Bool, true, false, not, ◌==◌, cond, if◌then◌else◌, arith, ap, sym, ◌∙◌, inl, inr, subst, refl}
+use Rattle.std.proofs.lemmas.Bool.{cases_order, eq-eqb, eqb-true, and_from, and_parts, not-true, and_right, not_from_false}
 use Rattle.std.proofs.lemmas.Bool.Decides.{leb_tells}
-use Rattle.tso_model.specs.Litmus.{Litmus, IsTest}
+use Rattle.tso_model.specs.Litmus.{Litmus}
 use Rattle.tso_model.specs.ProgramOrder.{is_before, may_be_passed, is_read, is_load, is_store, is_write, writes_to}
 use Rattle.basic_laws.specs.Ranks.{rank}
 use Rattle.basic_laws.proofs.Ranks.{is_load_kind, is_read_kind, is_write_kind}
@@ -11,20 +12,16 @@ use Rattle.tso_model.specs.declared.execution.Entry.{Entry}
 use Rattle.tso_model.specs.declared.execution.Kind.{Kind}
 use Rattle.tso_model.specs.declared.execution.Kind.TheVariants.{R, W, F, LR, LW}
 use Rattle.axiom_checker.specs.AxiomBreaches.{due_at}
-use Rattle.axiom_checker.specs.inner.Slots.{slots_of_a_core}
 use Rattle.axiom_checker.specs.inner.Sources.{IsLastOwn, IsSource}
 use Rattle.axiom_checker.specs.inner.Passing.{due_from}
-use Rattle.axiom_checker.proofs.Firsts.{three-ways}
+use Rattle.axiom_checker.proofs.Firsts.{some-is, at-place}
 use Rattle.axiom_checker.proofs.OwnReads.{made-read}
-use Rattle.axiom_checker.proofs.Actions.{apart-none, SameAction, one-place}
+use Rattle.axiom_checker.proofs.Actions.{SameAction, one-place}
 use Rattle.axiom_checker.proofs.Whole.{whole-clean, in-made, none-twice}
-use Rattle.axiom_checker.proofs.Slots as slots
-use Rattle.axiom_checker.proofs.Ascending.{one-slot, made-ascends}
+use Rattle.axiom_checker.proofs.Made.{one-at, made-ascends, made-once}
 use Rattle.axiom_checker.proofs.Finds.{last_counting}
-use Rattle.axiom_checker.proofs.Coming.{some-is}
-use Rattle.axiom_checker.proofs.Marking.{IsMark, past_loads, and-parts}
-use Rattle.axiom_checker.proofs.Sooner.{Before, and-both, before-from, before-parts, slot-of-equal, test-is, test-same}
-use Rattle.axiom_checker.proofs.OwnWrites.{at-place}
+use Rattle.axiom_checker.proofs.Marking.{IsMark, past_loads}
+use Rattle.axiom_checker.proofs.Sooner.{Before, before-from, before-parts}
 
 -- what is due to a read: its source's value where that hasn't come, else the word
 skips : (b c : Bool) (x : Entry) (q : Entry → Bool) (rest : List Entry) → q x ≡ c → (b ≡ true → c ≡ true → ⊥) → filter q rest ≡ [] → filter q (cond b (x ∷ rest) rest) ≡ []
@@ -86,27 +83,19 @@ write-is-no-read LR h r = let z : ⊥ = cc in z
 write-is-no-read LW h r = let z : ⊥ = cc in z
 
 not-passed : (x y : Entry) → is_load y ≡ false → may_be_passed x y ≡ false
-not-passed x y h = go (is_store x) (is_load y) h
-  where
-    go : (a b : Bool) → b ≡ false → (a && b) ≡ false
-    go true b e = e
-    go false b e = refl
-
-not-load : (b : Bool) → not b ≡ true → b ≡ false
-not-load true h = absurd (let z : ⊥ = cc in z)
-not-load false h = refl
+not-passed x y h = and_right (is_store x) (is_load y) h
 
 -- a read in an order that is whole and keeps program order
-module _ (t : Litmus) (order : List Entry) (at : ℕ) (x : Entry) (valid : IsTest t) (here : slice_get order at ≡ Some x) (read : is_read x ≡ true) (whole : IsWhole t order) (keeps : KeepsProgramOrder order) where
+module _ (t : Litmus) (order : List Entry) (at : ℕ) (x : Entry) (here : slice_get order at ≡ Some x) (read : is_read x ≡ true) (whole : IsWhole t order) (keeps : KeepsProgramOrder order) where
   own-made : (k : ℕ) (e : Entry) → slice_get order k ≡ Some e → (j : ℕ) × (slice_get (made t order) j ≡ Some e)
   own-made k e f =
-      let m = in-made (made t order) order (apart-none (made t order) (slots.made-apart t order)) (made-read t order) (whole-clean t order whole) k e f in (m.0, m.1)
+      let m = in-made (made t order) order (made-once t order) (made-read t order) (whole-clean t order whole) k e f in (m.0, m.1)
 
   same-entry : (e d : Entry) (k j : ℕ) → slice_get order k ≡ Some e → slice_get order j ≡ Some d → e.core.0 ≡ d.core.0 → rank e ≡ rank d → (k ≡ j) × (e ≡ d)
   same-entry e d k j f g c r =
       let m = own-made k e f in
       let n = own-made j d g in
-      let q : m.0 ≡ n.0 = one-slot 0 (length t.programs * slots_of_a_core) (made t order) (made-ascends t order valid) m.0 n.0 e d m.1 n.1 (slot-of-equal e d c r) in
+      let q : m.0 ≡ n.0 = one-at (made t order) (made-ascends t order) m.0 n.0 e d m.1 n.1 c r in
       let p : e ≡ d = at-place (made t order) n.0 m.0 d e n.1 m.1 q in
       let s : SameAction e d = record { core = ap (λ z. z.core.0) p; place = ap (λ z. z.place) p; kind = ap (λ z. z.kind) p } in
       (one-place order (none-twice (made t order) order (whole-clean t order whole).no_stray) k j e d f g s, p)
@@ -133,16 +122,16 @@ module _ (t : Litmus) (order : List Entry) (at : ℕ) (x : Entry) (valid : IsTes
         elim marked.tight [
           | inl z ↦ omega (arith, z, l)
           | inr b ↦
-              let p = and-parts (b.1.core.0 == x.core.0) (not (is_load b.1)) b.4 in
-              let same : e.core.0 ≡ b.1.core.0 = f.2.core ∙ sym (test-is b.1.core.0 x.core.0 p.0) in
+              let p = and_parts (b.1.core.0 == x.core.0) (not (is_load b.1)) b.4 in
+              let same : e.core.0 ≡ b.1.core.0 = f.2.core ∙ sym (eqb-true b.1.core.0 x.core.0 p.0) in
               let after = f.0 in
               let front = b.2 in
               let reach = b.5 in
-              elim (three-ways (rank e) (rank b.1)) [
+              elim (cases_order (rank e) (rank b.1)) [
                 | inl q ↦ let r = (same-entry e b.1 k b.0 f.1 b.3 same q).0 in omega arith
                 | inr w ↦ elim w [
                   | inl n ↦
-                      let r = keeps k b.0 e b.1 f.1 b.3 (before-from e b.1 (record { core = same; sooner = n })) (not-passed e b.1 (not-load (is_load b.1) p.1)) in omega arith
+                      let r = keeps k b.0 e b.1 f.1 b.3 (before-from e b.1 (record { core = same; sooner = n })) (not-passed e b.1 (not-true (is_load b.1) p.1)) in omega arith
                   | inr n ↦ omega arith
                 ]
               ]
@@ -152,16 +141,16 @@ module _ (t : Litmus) (order : List Entry) (at : ℕ) (x : Entry) (valid : IsTes
     due-pending word s own l =
         let stands = whole.each own.place s own.stands in
         let b = before-parts s x own.before in
-        let w = and-parts (is_write s) (s.loc.0 == x.loc.0) own.writes in
+        let w = and_parts (is_write s) (s.loc.0 == x.loc.0) own.writes in
         let no_load : is_load s ≡ false = write-is-no-load s.kind w.0 in
-        let after : at < stands.0 = elim (three-ways at stands.0) [
+        let after : at < stands.0 = elim (cases_order at stands.0) [
           | inl q ↦
               let p : s ≡ x = at-place order at stands.0 x s here stands.1 (sym q) in
               absurd (write-is-no-read s.kind w.0 (subst (λ z. is_read z ≡ true) (sym p) read))
           | inr d ↦ elim d [
             | inl m ↦ m
             | inr m ↦
-                let a = marked.above stands.0 s m stands.1 (and-both (s.core.0 == x.core.0) (not (is_load s)) (test-same s.core.0 x.core.0 b.core) (of-not (is_load s) no_load)) in
+                let a = marked.above stands.0 s m stands.1 (and_from (s.core.0 == x.core.0) (not (is_load s)) (eq-eqb s.core.0 x.core.0 b.core) (not_from_false (is_load s) no_load)) in
                 absurd (omega arith)
           ]
         ] in
@@ -172,31 +161,27 @@ module _ (t : Litmus) (order : List Entry) (at : ℕ) (x : Entry) (valid : IsTes
         let up_to = own.last n.0 e n.1 be we in
         let core : e.core.0 ≡ s.core.0 = fo.2.core ∙ sym b.core in
         let place = r.2 in
-        elim (three-ways (rank e) (rank s)) [
+        elim (cases_order (rank e) (rank s)) [
           | inl q ↦ let z = (same-entry e s (suc at + j) stands.0 fo.1 stands.1 core q).0 in omega arith
           | inr d ↦ elim d [
             | inl v ↦ let z = keeps (suc at + j) stands.0 e s fo.1 stands.1 (before-from e s (record { core = core; sooner = v })) (not-passed e s no_load) in omega arith
             | inr v ↦ omega arith
           ]
         ]))
-      where
-        of-not : (c : Bool) → c ≡ false → not c ≡ true
-        of-not true h = absurd (let z : ⊥ = cc in z)
-        of-not false h = refl
 
-pub due-right : (t : Litmus) (order : List Entry) (at : ℕ) (x : Entry) → IsTest t → slice_get order at ≡ Some x → is_read x ≡ true → IsWhole t order → KeepsProgramOrder order
+pub due-right : (t : Litmus) (order : List Entry) (at : ℕ) (x : Entry) → slice_get order at ≡ Some x → is_read x ≡ true → IsWhole t order → KeepsProgramOrder order
     → (settled words : List ℕ) → IsMark order at (past_loads x.core.0) (slice_index settled x.core.0) → slice_index words x.loc.0 ≡ last_value (filter (writes_to x.loc.0) (take at order)) (slice_index t.words x.loc.0)
     → (source : Option Entry) → IsSource (made t order) x source → due_from source settled words x ≡ due_at t order at x
-due-right t order at x valid here read whole keeps settled words marked word None own =
-    word ∙ due-none t order at x valid here read whole keeps (slice_index settled x.core.0) marked (last_value (filter (writes_to x.loc.0) (take at order)) (slice_index t.words x.loc.0)) own
+due-right t order at x here read whole keeps settled words marked word None own =
+    word ∙ due-none t order at x here read whole keeps (slice_index settled x.core.0) marked (last_value (filter (writes_to x.loc.0) (take at order)) (slice_index t.words x.loc.0)) own
     ∙ sym (last_counting x (take at order) (drop (suc at) order) (slice_index t.words x.loc.0))
-due-right t order at x valid here read whole keeps settled words marked word (Some s) own = elim (leb_tells (slice_index settled x.core.0) (rank s)) [
+due-right t order at x here read whole keeps settled words marked word (Some s) own = elim (leb_tells (slice_index settled x.core.0) (rank s)) [
   | inl p ↦
       ap (λ b. if b then s.value else slice_index words x.loc.0) p.0
-      ∙ due-pending t order at x valid here read whole keeps (slice_index settled x.core.0) marked (last_value (filter (writes_to x.loc.0) (take at order)) (slice_index t.words x.loc.0)) s own p.1
+      ∙ due-pending t order at x here read whole keeps (slice_index settled x.core.0) marked (last_value (filter (writes_to x.loc.0) (take at order)) (slice_index t.words x.loc.0)) s own p.1
       ∙ sym (last_counting x (take at order) (drop (suc at) order) (slice_index t.words x.loc.0))
   | inr p ↦
       ap (λ b. if b then s.value else slice_index words x.loc.0) p.0 ∙ word
-      ∙ due-come t order at x valid here read whole keeps (slice_index settled x.core.0) marked (last_value (filter (writes_to x.loc.0) (take at order)) (slice_index t.words x.loc.0)) s own p.1
+      ∙ due-come t order at x here read whole keeps (slice_index settled x.core.0) marked (last_value (filter (writes_to x.loc.0) (take at order)) (slice_index t.words x.loc.0)) s own p.1
       ∙ sym (last_counting x (take at order) (drop (suc at) order) (slice_index t.words x.loc.0))
 ]

@@ -1,16 +1,13 @@
 pub mod Firsts
 pub mod Finds
-pub mod Slots
 pub mod Actions
 pub mod OwnReads
 pub mod Pigeon
 pub mod Whole
 pub mod Keeps
-pub mod Known
 pub mod Breaches
-pub mod Named
 pub mod Judged
-pub mod Ascending
+pub mod Made
 pub mod Shapes
 pub mod Coming
 pub mod Reading

@@ -1,11 +1,11 @@
 -- What the walks over the programs have made after one more core or one more entry, and at the end.
-use Rattle.std.proofs.Common.{◌≡◌, ◌≤◌, ◌<◌, ℕ, ◌+◌, true, false, if◌then◌else◌, Option, List, [], ◌∷◌, ◌++◌, length, take, drop, get_or, slice_index_or, replicate, unwrap_or, append_assoc, append-nil, arith, ap, sym, ◌∙◌}
+use Rattle.std.proofs.Common.{◌≡◌, ◌≤◌, ◌<◌, ℕ, ◌+◌, true, false, if◌then◌else◌, Option, List, [], ◌∷◌, ◌++◌, length, take, drop, get_or, slice_index_or, unwrap_or, append_assoc, append-nil, arith, ap, sym, ◌∙◌}
 use Rattle.std.proofs.lemmas.List.{at_drop_more, at_drop_all}
 use Rattle.tso_model.specs.Thread.{entries_of, reads_in}
 use Rattle.tso_model.specs.ProgramOrder.{is_read}
 use Rattle.tso_model.specs.declared.instruction.Instr.{Instr}
 use Rattle.tso_model.specs.declared.execution.Entry.{Entry}
-use Rattle.axiom_checker.specs.inner.Programs.{shape_from, reads_of_all, made_reading, kept_in, reads_that_came}
+use Rattle.axiom_checker.specs.inner.Programs.{reads_of_all, made_reading, kept_in, reads_that_came}
 
 -- nothing is left
 pub made-all : {X Y : Type 0} (rest : List X → List Y) (list : List X) (n : ℕ) → rest [] ≡ [] → length list ≤ n → (whole done : List Y) → whole ≡ done ++ rest (drop n list) → done ≡ whole
@@ -13,12 +13,6 @@ made-all rest list n nothing all whole done so = sym (so ∙ ap (λ es. done ++ 
 
 -- one more core
 module _ (core : ℕ) (programs : List (List Instr)) (registers : List (List ℕ)) (within : core < length programs) where
-  pub shape-more : (whole done own after : List Entry) → own ≡ entries_of core 0 (slice_index_or programs core []) (slice_index_or registers core []) (replicate (reads_in (slice_index_or programs core [])) 0)
-      → after ≡ done ++ own → whole ≡ done ++ shape_from core (drop core programs) registers → whole ≡ after ++ shape_from (core + 1) (drop (core + 1) programs) registers
-  shape-more whole done own after own_is after_is so =
-      let rest = shape_from (core + 1) (drop (core + 1) programs) registers in
-      so ∙ ap (λ es. done ++ es) (at_drop_more (λ ps. shape_from core ps registers) programs core [] within) ∙ sym (append_assoc done _ rest) ∙ ap (λ es. (done ++ es) ++ rest) (sym own_is) ∙ ap (λ es. es ++ rest) (sym after_is)
-
   pub made-more : (left front back : List ℕ) → front ≡ take (reads_in (slice_index_or programs core [])) left → back ≡ drop (reads_in (slice_index_or programs core [])) left
       → (whole done own after : List Entry) → own ≡ entries_of core 0 (slice_index_or programs core []) (slice_index_or registers core []) front
       → after ≡ done ++ own → whole ≡ done ++ made_reading core (drop core programs) registers left → whole ≡ after ++ made_reading (core + 1) (drop (core + 1) programs) registers back

@@ -1,12 +1,12 @@
 -- What the second pass has met among the entries so far.
-use Rattle.std.proofs.Common.{◌≡◌, ◌≢◌, ◌<◌, ◌≤◌, ℕ, ◌+◌, suc, List, length, Option, Some, None, IfSome, IsNone, if◌then◌else◌, slice_get, slice_index, take, filter, Bool, true, false, arith, ap, sym, ◌∙◌, ◌⊎◌, inl, inr, subst, refl}
+use Rattle.std.proofs.Common.{◌≡◌, ◌≢◌, ◌<◌, ◌≤◌, ℕ, ◌+◌, suc, List, length, Option, Some, None, IfSome, IsNone, if◌then◌else◌, slice_get, slice_index, take, filter, Bool, true, false, arith, ap, sym, ◌∙◌, inl, inr, subst, refl}
 use Rattle.std.specs.Option.{unwrap_or}
 use Rattle.std.proofs.lemmas.Option.{slice_get-get_or}
 use Rattle.std.proofs.lemmas.Bool.Decides.{leb_tells}
-use Rattle.tso_model.specs.Litmus.{Litmus, IsTest}
+use Rattle.tso_model.specs.Litmus.{Litmus}
 use Rattle.tso_model.specs.ProgramOrder.{is_read, is_write, writes_to}
 use Rattle.tso_model.specs.ProgramEntries.{made}
-use Rattle.tso_model.specs.Axioms.{IsWhole, KeepsProgramOrder, last_value}
+use Rattle.tso_model.specs.Axioms.{last_value}
 use Rattle.tso_model.specs.ProgramOrder.{IsStorePart}
 use Rattle.tso_model.specs.declared.execution.Entry.{Entry}
 use Rattle.tso_model.specs.declared.execution.Kind.TheVariants.{LR, LW}
@@ -15,43 +15,19 @@ use Rattle.axiom_checker.specs.Entries.{IsWrongWrite, written_value}
 use Rattle.axiom_checker.specs.AxiomBreaches.{IsLate, IsSeparated, IsWrongRead, due_at}
 use Rattle.axiom_checker.specs.inner.Progress.{is_late}
 use Rattle.axiom_checker.specs.inner.Sources.{IsSource}
-use Rattle.axiom_checker.specs.inner.Passing.{HasMet, IsFirstWrongWrite, IsFirstWrongRead, NamesWrongWrite, NamesWrongRead, IsDueFrom, AreOfPrograms, first_of, due_from}
+use Rattle.axiom_checker.specs.inner.Passing.{IsFound, HasMet, IsFirstWrongWrite, IsFirstWrongRead, NamesWrongWrite, NamesWrongRead, IsDueFrom, AreOfPrograms, first_of, due_from}
 use Rattle.axiom_checker.proofs.Marking.{AreMarks, AreWords, of_core, past_loads, late-tells}
 use Rattle.axiom_checker.proofs.Following.{due-right}
 use Rattle.axiom_checker.specs.declared.passing.Met.{Met}
-use Rattle.axiom_checker.proofs.Firsts.{one_more, none_at_all, none_in_nothing}
+use Rattle.axiom_checker.proofs.Firsts.{one_more, none_in_nothing, same_or_below}
 
--- what is named is the first of which the fact holds; where nothing is, it holds of none before this place
-pub record SoFar {X : Type 0} (list : List Entry) (Fact : ℕ → Entry → Type 0) (at : ℕ) (Names : X → Type 0) (found : Option X) : Type 0 where
-  pub named : IfSome found Names
-  pub none : IsNone found → NoneBefore list Fact at
-
-pub record HasMetSoFar (t : Litmus) (order : List Entry) (at : ℕ) (met : Met) : Type 0 where
-  pub wrong_write : SoFar order (IsWrongWrite (made t order)) at (IsFirstWrongWrite t order) met.wrong_write
-  pub late : SoFar order (IsLate order) at (λ a. IsFirst order (IsLate order) a.0 a.1) met.late
-  pub separated : SoFar order (IsSeparated order) at (λ x. IsEarliest order (IsSeparated order) x) met.separated
-  pub wrong_read : IsWhole t order → KeepsProgramOrder order
-      → SoFar order (IsWrongRead t order) at (IsFirstWrongRead t order) met.wrong_read
-
-pub nothing-so-far : {X : Type 0} (list : List Entry) (Fact : ℕ → Entry → Type 0) (Names : X → Type 0) → SoFar list Fact 0 Names None
+pub nothing-so-far : {X : Type 0} (list : List Entry) (Fact : ℕ → Entry → Type 0) (Names : X → Type 0) → IsFound list Fact 0 Names None
 nothing-so-far list Fact Names = record { named = tt; none = λ _. none_in_nothing list Fact }
 
 pub so-far-more : {X : Type 0} (list : List Entry) (Fact : ℕ → Entry → Type 0) (at : ℕ) (Names : X → Type 0) (x : Entry) (found next : Option X) → slice_get list at ≡ Some x
-    → (NoneBefore list Fact at → IfSome next Names) → (IsNone next → Fact at x → ⊥) → SoFar list Fact at Names found → SoFar list Fact (at + 1) Names (first_of found next)
+    → (NoneBefore list Fact at → IfSome next Names) → (IsNone next → Fact at x → ⊥) → IsFound list Fact at Names found → IsFound list Fact (at + 1) Names (first_of found next)
 so-far-more list Fact at Names x None next here names none so = record { named = names (so.none refl); none = λ n. one_more list Fact at x here (so.none refl) (none n) }
 so-far-more list Fact at Names x (Some y) next here names none so = record { named = so.named; none = λ n. absurd (let z : ⊥ = cc in z) }
-
-pub met-all : (t : Litmus) (order : List Entry) (at : ℕ) (met : Met) → length order ≤ at → HasMetSoFar t order at met → HasMet t order met
-met-all t order at met all so = record {
-  wrong_write = so.wrong_write.named;
-  no_wrong_write = λ n. none_at_all order (IsWrongWrite (made t order)) at all (so.wrong_write.none n);
-  late = so.late.named;
-  none_late = λ n. none_at_all order (IsLate order) at all (so.late.none n);
-  separated = so.separated.named;
-  none_separated = λ n. none_at_all order (IsSeparated order) at all (so.separated.none n);
-  wrong_read = λ w k. (so.wrong_read w k).named;
-  no_wrong_read = λ w k n. none_at_all order (IsWrongRead t order) at all ((so.wrong_read w k).none n);
-}
 
 if-some : {X : Type 0} (P Q : X → Type 0) (o : Option X) → ((x : X) → P x → Q x) → IfSome o P → IfSome o Q
 if-some P Q None f h = tt
@@ -62,20 +38,15 @@ module _ (t : Litmus) (order : List Entry) (at : ℕ) (x : Entry) (here : slice_
   first-here : (Fact : ℕ → Entry → Type 0) (y : Entry) → y ≡ x → Fact at x → NoneBefore order Fact at → IsFirst order Fact at y
   first-here Fact y q f none = subst (λ z. IsFirst order Fact at z) (sym q) (record { stands = here; holds = f; earliest = none })
 
-  -- what the tests said of it
-  pub record Written (next : Option (Entry × ℕ)) : Type 0 where
-    pub found : IfSome next (NamesWrongWrite (made t order) x)
-    pub none : IsNone next → ¬ IsWrongWrite (made t order) 0 x
-
-  wrote : (found next : Option (Entry × ℕ)) → Written next → SoFar order (IsWrongWrite (made t order)) at (IsFirstWrongWrite t order) found
-      → SoFar order (IsWrongWrite (made t order)) (at + 1) (IsFirstWrongWrite t order) (first_of found next)
-  wrote found next w so =
+  wrote : (found next : Option (Entry × ℕ)) → IfSome next (NamesWrongWrite (made t order) x) → (IsNone next → ¬ IsWrongWrite (made t order) 0 x) → IsFound order (IsWrongWrite (made t order)) at (IsFirstWrongWrite t order) found
+      → IsFound order (IsWrongWrite (made t order)) (at + 1) (IsFirstWrongWrite t order) (first_of found next)
+  wrote found next found_it never so =
       so-far-more order (IsWrongWrite (made t order)) at (IsFirstWrongWrite t order) x found next here
-      (λ none. if-some _ _ next (λ v h. ((at, first-here (IsWrongWrite (made t order)) v.0 h.0 h.1 none), h.2 ∙ ap (λ y. written_value (made t order) y) (sym h.0))) w.found)
-      w.none so
+      (λ none. if-some _ _ next (λ v h. ((at, first-here (IsWrongWrite (made t order)) v.0 h.0 h.1 none), h.2 ∙ ap (λ y. written_value (made t order) y) (sym h.0))) found_it)
+      never so
 
-  after : (found : Option (ℕ × Entry)) (b : Bool) → (b ≡ true → IsLate order at x) → (b ≡ false → IsLate order at x → ⊥) → SoFar order (IsLate order) at (λ a. IsFirst order (IsLate order) a.0 a.1) found
-      → SoFar order (IsLate order) (at + 1) (λ a. IsFirst order (IsLate order) a.0 a.1) (first_of found (if b then Some (at, x) else None))
+  after : (found : Option (ℕ × Entry)) (b : Bool) → (b ≡ true → IsLate order at x) → (b ≡ false → IsLate order at x → ⊥) → IsFound order (IsLate order) at (λ a. IsFirst order (IsLate order) a.0 a.1) found
+      → IsFound order (IsLate order) (at + 1) (λ a. IsFirst order (IsLate order) a.0 a.1) (first_of found (if b then Some (at, x) else None))
   after found true found_it never so =
       so-far-more order (IsLate order) at (λ a. IsFirst order (IsLate order) a.0 a.1) x found (Some (at, x)) here
       (λ none. first-here (IsLate order) x refl (found_it refl) none) (λ n. absurd (let z : ⊥ = cc in z)) so
@@ -107,23 +78,23 @@ module _ (t : Litmus) (order : List Entry) (at : ℕ) (x : Entry) (here : slice_
           p.separated y f (subst (λ z. IsStorePart x z) (is ∙ next-is (slice_get order (at + 1)) y e) (part p.load_part))
 
   split : (found : Option Entry) (next : Entry) (now : Option Entry) → next ≡ unwrap_or (slice_get order (at + 1)) x → IfSome now (λ p. (p ≡ x) × (x.kind ≡ LR) × (IsStorePart x next → ⊥))
-      → (IsNone now → x.kind ≡ LR → IsStorePart x next) → SoFar order (IsSeparated order) at (λ x. IsEarliest order (IsSeparated order) x) found
-      → SoFar order (IsSeparated order) (at + 1) (λ x. IsEarliest order (IsSeparated order) x) (first_of found now)
+      → (IsNone now → x.kind ≡ LR → IsStorePart x next) → IsFound order (IsSeparated order) at (IsEarliest order (IsSeparated order)) found
+      → IsFound order (IsSeparated order) (at + 1) (IsEarliest order (IsSeparated order)) (first_of found now)
   split found next now is found_it never so =
-      so-far-more order (IsSeparated order) at (λ x. IsEarliest order (IsSeparated order) x) x found now here
+      so-far-more order (IsSeparated order) at (IsEarliest order (IsSeparated order)) x found now here
       (λ none. if-some _ _ now (λ p h. (at, first-here (IsSeparated order) p h.0 (separated-now next is h.1 h.2) none)) found_it)
       (λ n. together next is (never n)) so
 
   read : (found now : Option (Entry × ℕ)) → IfSome now (λ w. (w.0 ≡ x) × (is_read x ≡ true) × (x.value ≢ w.1) × (w.1 ≡ due_at t order at x)) → (IsNone now → is_read x ≡ true → x.value ≡ due_at t order at x)
-      → SoFar order (IsWrongRead t order) at (IsFirstWrongRead t order) found
-      → SoFar order (IsWrongRead t order) (at + 1) (IsFirstWrongRead t order) (first_of found now)
+      → IsFound order (IsWrongRead t order) at (IsFirstWrongRead t order) found
+      → IsFound order (IsWrongRead t order) (at + 1) (IsFirstWrongRead t order) (first_of found now)
   read found now found_it never so =
       so-far-more order (IsWrongRead t order) at (IsFirstWrongRead t order) x found now here
       (λ none. if-some _ _ now (λ w h. (at, first-here (IsWrongRead t order) w.0 h.0 (record { read = h.1; wrong = λ e. h.2 (e ∙ sym h.3) }) none, h.3 ∙ ap (λ y. due_at t order at y) (sym h.0))) found_it)
       (λ n f. f.wrong (never n f.read)) so
 
 -- what the second pass's tests say of an entry, and with it what was met is what was met so far
-pub met-more : (t : Litmus) (order : List Entry) (at : ℕ) (x : Entry) → IsTest t → slice_get order at ≡ Some x → (entries : List Entry) → entries ≡ made t order
+pub met-more : (t : Litmus) (order : List Entry) (at : ℕ) (x : Entry) → slice_get order at ≡ Some x → (entries : List Entry) → entries ≡ made t order
     → (all others words first : List ℕ) → t.words ≡ first → AreMarks order at of_core all → AreMarks order at past_loads others → AreWords order at first words → x.core.0 < length all → x.core.0 < length others
     → (next : Entry) → next ≡ unwrap_or (slice_get order (at + 1)) x
     → (write : Option (Entry × ℕ)) → IfSome write (NamesWrongWrite entries x) → (IsNone write → ¬ IsWrongWrite entries 0 x)
@@ -132,41 +103,36 @@ pub met-more : (t : Litmus) (order : List Entry) (at : ℕ) (x : Entry) → IsTe
     → (misread : Option (Entry × ℕ)) → IfSome misread (NamesWrongRead entries others words x)
     → (IsNone misread → is_read x ≡ true → IsDueFrom entries others words x x.value)
     → (met now : Met) → now.wrong_write ≡ first_of met.wrong_write write → now.late ≡ first_of met.late late → now.separated ≡ first_of met.separated separated → now.wrong_read ≡ first_of met.wrong_read misread
-    → HasMetSoFar t order at met → HasMetSoFar t order (at + 1) now
-met-more t order at x valid here entries is all others words first same_words a o ws l m next next_is write w_found w_none late late_is separated p_found p_none misread r_found r_none met now e1 e2 e3 e4 so =
+    → HasMet t order at met → HasMet t order (at + 1) now
+met-more t order at x here entries is all others words first same_words a o ws l m next next_is write w_found w_none late late_is separated p_found p_none misread r_found r_none met now e1 e2 e3 e4 so =
     let tells = late-tells order at all others x a o l m in
     record {
       wrong_write =
-          subst (λ f. SoFar order (IsWrongWrite (made t order)) (at + 1) (IsFirstWrongWrite t order) f) (sym e1)
-          (wrote t order at x here met.wrong_write write (record {
-            found = subst (λ es. IfSome write (NamesWrongWrite es x)) is w_found;
-            none = subst (λ es. IsNone write → ¬ IsWrongWrite es 0 x) is w_none;
-          }) so.wrong_write);
+          subst (λ f. IsFound order (IsWrongWrite (made t order)) (at + 1) (IsFirstWrongWrite t order) f) (sym e1)
+          (wrote t order at x here met.wrong_write write (subst (λ es. IfSome write (NamesWrongWrite es x)) is w_found) (subst (λ es. IsNone write → ¬ IsWrongWrite es 0 x) is w_none) so.wrong_write);
       late =
-          subst (λ f. SoFar order (IsLate order) (at + 1) (λ a. IsFirst order (IsLate order) a.0 a.1) f) (sym (e2 ∙ ap (λ n. first_of met.late n) late_is))
+          subst (λ f. IsFound order (IsLate order) (at + 1) (λ a. IsFirst order (IsLate order) a.0 a.1) f) (sym (e2 ∙ ap (λ n. first_of met.late n) late_is))
           (after t order at x here met.late (is_late all others x) tells.0 tells.1 so.late);
       separated =
-          subst (λ f. SoFar order (IsSeparated order) (at + 1) (λ x. IsEarliest order (IsSeparated order) x) f) (sym e3)
+          subst (λ f. IsFound order (IsSeparated order) (at + 1) (IsEarliest order (IsSeparated order)) f) (sym e3)
           (split t order at x here met.separated next separated next_is p_found p_none so.separated);
       wrong_read = λ whole keeps.
           let word : slice_index words x.loc.0 ≡ last_value (filter (writes_to x.loc.0) (take at order)) (slice_index t.words x.loc.0) =
           ws x.loc.0 ∙ ap (λ v. last_value (filter (writes_to x.loc.0) (take at order)) (slice_index v x.loc.0)) (sym same_words) in
           let due : is_read x ≡ true → (source : Option Entry) → IsSource entries x source → due_from source others words x ≡ due_at t order at x =
-          λ reads source own. due-right t order at x valid here reads whole keeps others words (o x.core.0 m) word source (subst (λ es. IsSource es x source) is own) in
-          subst (λ f. SoFar order (IsWrongRead t order) (at + 1) (IsFirstWrongRead t order) f) (sym e4)
+          λ reads source own. due-right t order at x here reads whole keeps others words (o x.core.0 m) word source (subst (λ es. IsSource es x source) is own) in
+          subst (λ f. IsFound order (IsWrongRead t order) (at + 1) (IsFirstWrongRead t order) f) (sym e4)
           (read t order at x here met.wrong_read misread
           (if-some _ (λ w. (w.0 ≡ x) × (is_read x ≡ true) × (x.value ≢ w.1) × (w.1 ≡ due_at t order at x)) misread (λ w h. (h.0, h.1, h.2, h.3.2 ∙ due h.1 h.3.0 h.3.1)) r_found)
           (λ n reads. let s = r_none n reads in s.2 ∙ due reads s.0 s.1) (so.wrong_read whole keeps));
     }
 
-pub nothing-met : (t : Litmus) (order : List Entry) (met : Met) → met.wrong_write ≡ None → met.late ≡ None → met.separated ≡ None → met.wrong_read ≡ None → HasMetSoFar t order 0 met
-nothing-met t order met e1 e2 e3 e4 = record {
-  wrong_write = subst (λ f. SoFar order (IsWrongWrite (made t order)) 0 (IsFirstWrongWrite t order) f) (sym e1)
-      (nothing-so-far order (IsWrongWrite (made t order)) (IsFirstWrongWrite t order));
-  late = subst (λ f. SoFar order (IsLate order) 0 (λ a. IsFirst order (IsLate order) a.0 a.1) f) (sym e2) (nothing-so-far order (IsLate order) (λ a. IsFirst order (IsLate order) a.0 a.1));
-  separated = subst (λ f. SoFar order (IsSeparated order) 0 (λ x. IsEarliest order (IsSeparated order) x) f) (sym e3) (nothing-so-far order (IsSeparated order) (λ x. IsEarliest order (IsSeparated order) x));
-  wrong_read = λ _ _. subst (λ f. SoFar order (IsWrongRead t order) 0 (IsFirstWrongRead t order) f) (sym e4)
-      (nothing-so-far order (IsWrongRead t order) (IsFirstWrongRead t order));
+pub nothing-met : (t : Litmus) (order : List Entry) → HasMet t order 0 (record { wrong_write = None; late = None; separated = None; wrong_read = None })
+nothing-met t order = record {
+  wrong_write = nothing-so-far order (IsWrongWrite (made t order)) (IsFirstWrongWrite t order);
+  late = nothing-so-far order (IsLate order) (λ a. IsFirst order (IsLate order) a.0 a.1);
+  separated = nothing-so-far order (IsSeparated order) (IsEarliest order (IsSeparated order));
+  wrong_read = λ _ _. nothing-so-far order (IsWrongRead t order) (IsFirstWrongRead t order);
 }
 
 -- the entry ahead, and the looks
@@ -182,14 +148,8 @@ no-more-looks before n at looks after l m u last = elim (leb_tells n (at + 1)) [
 ]
 
 -- whether the order has entries
-pub none-there : (n len : ℕ) → len ≡ n → len ≡ 0 → n ≤ 0
-none-there n len is none = omega arith
-
 pub some-there : (n len : ℕ) → len ≡ n → len ≢ 0 → 0 < n
 some-there n len is some = omega arith
-
-same_or_below : (i n : ℕ) → i < n + 1 → (i ≡ n) ⊎ (i < n)
-same_or_below i n h = grind arith
 
 pub one-more-fails : (order : List Entry) (p : Entry → Bool) (at : ℕ) (x : Entry) → slice_get order at ≡ Some x → ((k : ℕ) (y : Entry) → k < at → slice_get order k ≡ Some y → p y ≡ false) → p x ≡ false
     → (k : ℕ) (y : Entry) → k < at + 1 → slice_get order k ≡ Some y → p y ≡ false

@@ -11,7 +11,7 @@ use Rattle.tso_model.specs.declared.action.Action.{Action}
 use Rattle.tso_model.specs.declared.action.Action.TheVariants.{Store, Load, Move, Fence, Lock}
 use Rattle.tso_model.specs.declared.execution.Entry.{Entry}
 use Rattle.tso_model.specs.declared.execution.Kind.TheVariants.{W, LR, LW}
-use Rattle.axiom_checker.proofs.Slots.{Each, each-append}
+use Rattle.basic_laws.proofs.Lists.{Each, each-append}
 
 abbrev pub ReadsOwn : List Entry → Entry → Type 0
 ReadsOwn order e = is_read e ≡ true → e.value ≡ read_value e.core.0 e.place e.kind order

@@ -1,21 +1,12 @@
 -- Distinct members that all stand in a list which is no longer leave room for no other.
 use Rattle.std.proofs.Common.{◌≡◌, ◌<◌, ◌≤◌, ℕ, ◌+◌, suc, zero, List, [], ◌∷◌, ◌++◌, length, Some, slice_get, arith, ap, sym, ◌∙◌, ◌⊎◌, inl, inr, subst, refl, length-append}
-use Rattle.tso_model.specs.Standing.{StandsIn}
+use Rattle.basic_laws.proofs.Lists.{Member, member-at}
 use Rattle.tso_model.specs.declared.execution.Entry.{Entry}
-
-abbrev pub Member : Entry → List Entry → Type 0
-Member e [] = ⊥
-Member e (x ∷ xs) = (e ≡ x) ⊎ Member e xs
 
 pub at-member : (xs : List Entry) (i : ℕ) (e : Entry) → slice_get xs i ≡ Some e → Member e xs
 at-member [] i e h = absurd (let z : ⊥ = cc in z)
 at-member (x ∷ xs) zero e h = inl (let z : e ≡ x = cc in z)
 at-member (x ∷ xs) (suc i) e h = inr (at-member xs i e h)
-
-pub member-at : (e : Entry) (xs : List Entry) → Member e xs → StandsIn xs e
-member-at e [] h = absurd h
-member-at e (x ∷ xs) (inl q) = (0, ap Some (sym q))
-member-at e (x ∷ xs) (inr m) = let r = member-at e xs m in (suc r.0, r.1)
 
 abbrev pub Distinct : List Entry → Type 0
 Distinct [] = Unit {0}

@@ -1,12 +1,11 @@
 -- The values with which the reads came are the order's own read values, and with them the programs make what they make.
-use Rattle.std.proofs.Common.{◌≡◌, ◌≤◌, ℕ, ◌+◌, suc, List, [], ◌∷◌, ◌++◌, length, Option, Some, slice_get, slice_index, slice_index_or, take, drop, replicate, Bool, true, false, if◌then◌else◌, arith, ap, sym, ◌∙◌, refl, subst, inl, inr, length-append}
+use Rattle.std.proofs.Common.{◌≡◌, ◌≤◌, ℕ, ◌+◌, suc, List, [], ◌∷◌, ◌++◌, length, Option, Some, slice_get, slice_index, slice_index_or, take, drop, Bool, true, false, if◌then◌else◌, arith, ap, sym, ◌∙◌, refl, subst, inl, inr}
 use Rattle.std.specs.Option.{unwrap_or}
-use Rattle.std.proofs.Math.Seq.{take-append_seam}
 use Rattle.tso_model.specs.Actions.{action_of}
-use Rattle.tso_model.specs.Thread.{entries_by, is_reading, entries_of, reads_in}
+use Rattle.tso_model.specs.Thread.{entries_by, entries_of, reads_in}
 use Rattle.tso_model.specs.Litmus.{Litmus}
 use Rattle.tso_model.specs.ProgramOrder.{is_read}
-use Rattle.tso_model.specs.ProgramEntries.{read_value, values_by, made_from, made}
+use Rattle.tso_model.specs.ProgramEntries.{read_value, values_by, made}
 use Rattle.tso_model.specs.ProgramEntries.{read_values}
 use Rattle.tso_model.specs.declared.instruction.Instr.{Instr}
 use Rattle.tso_model.specs.declared.action.Action.{Action}
@@ -14,9 +13,10 @@ use Rattle.tso_model.specs.declared.action.Action.TheVariants.{Store, Load, Move
 use Rattle.tso_model.specs.declared.execution.Entry.{Entry}
 use Rattle.axiom_checker.specs.First.{IsNowhere}
 use Rattle.axiom_checker.specs.Entries.{IsStray}
-use Rattle.axiom_checker.specs.inner.Programs.{shape_from, reads_of_all, made_reading, kept_in, reads_that_came}
+use Rattle.axiom_checker.specs.inner.Programs.{reads_of_all, made_reading, kept_in, reads_that_came}
 use Rattle.axiom_checker.specs.inner.Slots.{HasCome, HasNotCome}
 use Rattle.axiom_checker.proofs.Actions.{SameAction, same-parts, same-turned, NoneTwice, value-at, looked-up}
+use Rattle.axiom_checker.proofs.Made.{all_reads, all-count, made-by-reads}
 use Rattle.axiom_checker.proofs.Whole.{none-twice}
 use Rattle.axiom_checker.proofs.Coming.{there-or-not}
 
@@ -27,10 +27,6 @@ reads_by value (e ∷ es) = if is_read e then value e ∷ reads_by value es else
 
 abbrev pub own_value : List Entry → Entry → ℕ
 own_value order e = read_value e.core.0 e.place e.kind order
-
-abbrev pub all_reads : ℕ → List (List Instr) → List Entry → List ℕ
-all_reads core [] order = []
-all_reads core (p ∷ ps) order = read_values core 0 p order ++ all_reads (core + 1) ps order
 
 step : (b : Bool) (u v : ℕ) (us vs : List ℕ) → (b ≡ true → u ≡ v) → us ≡ vs → (if b then u ∷ us else us) ≡ (if b then v ∷ vs else vs)
 step true u v us vs h e = ap (λ z. z ∷ us) (h refl) ∙ ap (λ z. v ∷ z) e
@@ -67,44 +63,13 @@ reads-append value [] ys = refl
 reads-append value (x ∷ xs) ys =
     ap (λ z. if is_read x then value x ∷ z else z) (reads-append value xs ys) ∙ if-append (is_read x) (value x) (reads_by value xs) (reads_by value ys)
 
-shape-reads : (core : ℕ) (programs : List (List Instr)) (registers : List (List ℕ)) (order : List Entry) → reads_by (own_value order) (shape_from core programs registers) ≡ all_reads core programs order
-shape-reads core [] registers order = refl
-shape-reads core (p ∷ ps) registers order =
-    reads-append (own_value order) (entries_of core 0 p (slice_index_or registers core []) (replicate (reads_in p) 0)) (shape_from (core + 1) ps registers)
-    ∙ ap (λ z. z ++ reads_by (own_value order) (shape_from (core + 1) ps registers)) (entries-reads core 0 p (slice_index_or registers core []) (replicate (reads_in p) 0) order)
-    ∙ ap (λ z. read_values core 0 p order ++ z) (shape-reads (core + 1) ps registers order)
-
-count-first : (core place : ℕ) (a : Action) (values : List ℕ) (order : List Entry) (n : ℕ) → length values ≡ n → length (values_by core place a order ++ values) ≡ (if is_reading a then suc n else n)
-count-first core place (Store loc operand) values order n h = h
-count-first core place (Load reg loc) values order n h = ap suc h
-count-first core place (Move reg operand) values order n h = h
-count-first core place Fence values order n h = h
-count-first core place (Lock loc reg update) values order n h = ap suc h
-
-reads-count : (core place : ℕ) (program : List Instr) (order : List Entry) → length (read_values core place program order) ≡ reads_in program
-reads-count core place [] order = refl
-reads-count core place (i ∷ rest) order = count-first core place (action_of i) (read_values core (place + 1) rest order) order (reads_in rest) (reads-count core (place + 1) rest order)
-
-drop-seam : (xs ys : List ℕ) → drop (length xs) (xs ++ ys) ≡ ys
-drop-seam [] ys = refl
-drop-seam (x ∷ xs) ys = drop-seam xs ys
-
-all-count : (core : ℕ) (programs : List (List Instr)) (order : List Entry) → length (all_reads core programs order) ≡ reads_of_all programs
-all-count core [] order = refl
-all-count core (p ∷ ps) order =
-    length-append (read_values core 0 p order) (all_reads (core + 1) ps order) ∙ ap (λ n. n + length (all_reads (core + 1) ps order)) (reads-count core 0 p order)
-    ∙ ap (λ n. reads_in p + n) (all-count (core + 1) ps order)
-
-made-by-reads : (core : ℕ) (programs : List (List Instr)) (registers : List (List ℕ)) (order : List Entry) → made_reading core programs registers (all_reads core programs order) ≡ made_from core programs registers order
-made-by-reads core [] registers order = refl
-made-by-reads core (p ∷ ps) registers order =
-    let own = read_values core 0 p order in
-    let rest = all_reads (core + 1) ps order in
-    let front : take (reads_in p) (own ++ rest) ≡ own = ap (λ n. take n (own ++ rest)) (sym (reads-count core 0 p order)) ∙ take-append_seam own rest in
-    let back : drop (reads_in p) (own ++ rest) ≡ rest = ap (λ n. drop n (own ++ rest)) (sym (reads-count core 0 p order)) ∙ drop-seam own rest in
-    ap (λ z. entries_of core 0 p (slice_index_or registers core []) z ++ made_reading (core + 1) ps registers (drop (reads_in p) (own ++ rest))) front
-    ∙ ap (λ z. entries_of core 0 p (slice_index_or registers core []) own ++ made_reading (core + 1) ps registers z) back
-    ∙ ap (λ z. entries_of core 0 p (slice_index_or registers core []) own ++ z) (made-by-reads (core + 1) ps registers order)
+shape-reads : (core : ℕ) (programs : List (List Instr)) (registers : List (List ℕ)) (reads : List ℕ) (order : List Entry) → reads_by (own_value order) (made_reading core programs registers reads) ≡ all_reads core programs order
+shape-reads core [] registers reads order = refl
+shape-reads core (p ∷ ps) registers reads order =
+    let rest = made_reading (core + 1) ps registers (drop (reads_in p) reads) in
+    reads-append (own_value order) (entries_of core 0 p (slice_index_or registers core []) (take (reads_in p) reads)) rest
+    ∙ ap (λ z. z ++ reads_by (own_value order) rest) (entries-reads core 0 p (slice_index_or registers core []) (take (reads_in p) reads) order)
+    ∙ ap (λ z. read_values core 0 p order ++ z) (shape-reads (core + 1) ps registers (drop (reads_in p) reads) order)
 
 -- where all came, each came with the order's own value
 came-own : (shape order : List Entry) (at : ℕ) (came : List (Option ℕ)) → NoneTwice order → HasCome shape order at came → IsNowhere shape (HasNotCome came)
@@ -122,12 +87,12 @@ pub record ReadsAll (t : Litmus) (order : List Entry) (reads : List ℕ) : Type 
   pub enough : reads_of_all t.programs ≤ length reads
   pub makes : made_reading 0 t.programs t.registers reads ≡ made t order
 
-pub came-reads : (t : Litmus) (order : List Entry) (at : ℕ) (came : List (Option ℕ)) (shape : List Entry) → shape ≡ shape_from 0 t.programs t.registers → IsNowhere order (IsStray shape order) → HasCome shape order at came
+pub came-reads : (t : Litmus) (order : List Entry) (at : ℕ) (came : List (Option ℕ)) (shape : List Entry) → (reads : List ℕ) × (shape ≡ made_reading 0 t.programs t.registers reads) → IsNowhere order (IsStray shape order) → HasCome shape order at came
     → IsNowhere shape (HasNotCome came) → ReadsAll t order (reads_that_came 0 came shape)
 came-reads t order at came shape is stray come all =
     let e : reads_that_came 0 came shape ≡ all_reads 0 t.programs order =
     came-by order came 0 shape (λ k e f. ap (λ n. unwrap_or (kept_in came n) 0) (let q : 0 + k ≡ k = omega arith in q) ∙ came-own shape order at came (none-twice shape order stray) come all k e f)
-    ∙ ap (λ s. reads_by (own_value order) s) is ∙ shape-reads 0 t.programs t.registers order in
+    ∙ ap (λ s. reads_by (own_value order) s) is.1 ∙ shape-reads 0 t.programs t.registers is.0 order in
     record {
       enough = let n = all-count 0 t.programs order in let m = ap length e in omega arith;
       makes = ap (λ r. made_reading 0 t.programs t.registers r) e ∙ made-by-reads 0 t.programs t.registers order;

@@ -1,7 +1,6 @@
 -- An order is whole exactly where no entry is extra, there twice, missing or a write of a wrong value.
-use Rattle.std.proofs.Common.{◌≡◌, ◌≢◌, ℕ, List, length, Some, slice_get, Bool, true, false, arith, ap, sym, ◌∙◌, inl, inr, subst, refl}
-use Rattle.std.specs.List.{list_any}
-use Rattle.std.proofs.lemmas.Bool.Decides.{eqb_tells}
+use Rattle.std.proofs.Common.{◌≡◌, ℕ, List, length, Some, slice_get, true, false, arith, ap, sym, ◌∙◌, inl, inr, subst, refl}
+use Rattle.std.proofs.lemmas.Bool.{cases_eq}
 use Rattle.tso_model.specs.Litmus.{Litmus}
 use Rattle.basic_laws.proofs.Ranks.{is_read_kind, is_write_kind}
 use Rattle.tso_model.specs.ProgramEntries.{made}
@@ -12,11 +11,13 @@ use Rattle.tso_model.specs.declared.execution.Kind.{Kind}
 use Rattle.tso_model.specs.declared.execution.Kind.TheVariants.{R, W, F, LR, LW}
 use Rattle.axiom_checker.specs.First.{IsNowhere}
 use Rattle.axiom_checker.specs.Entries.{same_action, same_but_value, IsExtra, IsStray, IsMissing, IsWrongWrite, written_value}
-use Rattle.axiom_checker.proofs.Firsts.{any_at, none_passes}
-use Rattle.axiom_checker.proofs.Slots.{Each, each-at, made-apart}
+use Rattle.axiom_checker.proofs.Firsts.{passing}
+use Rattle.basic_laws.proofs.Lists.{Each, each-at}
+use Rattle.axiom_checker.proofs.Made.{made-once}
 use Rattle.axiom_checker.proofs.OwnReads.{ReadsOwn, made-read}
-use Rattle.axiom_checker.proofs.Actions.{SameAction, same-parts, same-from, same-turned, same-itself, entry-is, SameButValue, same_but_value-parts, same_but_value-itself, NoneTwice, apart-none, one-entry, value-at, looked-up}
-use Rattle.axiom_checker.proofs.Pigeon.{at-member, member-at, Distinct, distinct-from, distinct-one, no_fewer, pigeon}
+use Rattle.axiom_checker.proofs.Actions.{same-parts, same-from, same-turned, same-itself, entry-is, SameButValue, same_but_value-parts, same_but_value-itself, NoneTwice, one-entry, value-at, looked-up}
+use Rattle.basic_laws.proofs.Lists.{member-at}
+use Rattle.axiom_checker.proofs.Pigeon.{at-member, Distinct, distinct-from, distinct-one, no_fewer, pigeon}
 
 -- an order without any of the four
 pub record IsClean (made order : List Entry) : Type 0 where
@@ -35,28 +36,10 @@ pub record Made (made : List Entry) (x : Entry) : Type 0 where
   pub same : SameButValue entry x
 
 pub made-of : (made : List Entry) (x : Entry) → (IsExtra made x → ⊥) → Made made x
-made-of made x n = go (list_any (λ e. same_but_value e x) made) refl
-  where
-    go : (b : Bool) → list_any (λ e. same_but_value e x) made ≡ b → Made made x
-    go true h = let r = any_at (λ e. same_but_value e x) made h in record { place = r.0; entry = r.1; stands = r.2; same = same_but_value-parts r.1 x r.3 }
-    go false h = absurd (n (none_passes (λ e. same_but_value e x) made h))
-
--- an entry of the order of e's core, place and kind
-record Found (order : List Entry) (e : Entry) : Type 0 where
-  pub place : ℕ
-  pub entry : Entry
-  pub stands : slice_get order place ≡ Some entry
-  pub same : SameAction e entry
-
-found-of : (order : List Entry) (k : ℕ) (e : Entry) → (IsMissing order k e → ⊥) → Found order e
-found-of order k e n = go (list_any (λ x. same_action e x) order) refl
-  where
-    go : (b : Bool) → list_any (λ x. same_action e x) order ≡ b → Found order e
-    go true h = let r = any_at (λ x. same_action e x) order h in record { place = r.0; entry = r.1; stands = r.2; same = same-parts e r.1 r.3 }
-    go false h = absurd (n (none_passes (λ x. same_action e x) order h))
-
-stable : (a b : ℕ) → (a ≢ b → ⊥) → a ≡ b
-stable a b n = elim (eqb_tells a b) [ inl p ↦ p.1 | inr p ↦ absurd (n p.1) ]
+made-of made x n = elim (passing (λ e. same_but_value e x) made) [
+  | inl r ↦ record { place = r.0; entry = r.1; stands = r.2; same = same_but_value-parts r.1 x r.3 }
+  | inr none ↦ absurd (n none)
+]
 
 -- a fence has the value of its entry, a read the order's own, a write its program's
 by-kind : (k : Kind) {P : Type 0} → (is_read_kind k ≡ true → P) → (is_write_kind k ≡ true → P) → (k ≡ F → P) → P
@@ -71,7 +54,7 @@ module _ (made order : List Entry) (one : NoneTwice made) (own : Each (ReadsOwn 
   same-value once written i x at_i k e at_k s = by-kind x.kind
       (λ r. sym (value-at order once i x at_i) ∙ looked-up x e order (same-turned e x s.action)
       ∙ sym (each-at (ReadsOwn order) made k e own at_k (subst (λ z. is_read_kind z ≡ true) (sym s.action.kind) r)))
-      (λ w. stable x.value (written_value made x) (λ ne. written i x at_i (w, ne)) ∙ looked-up x e made (same-turned e x s.action) ∙ value-at made one k e at_k)
+      (λ w. elim (cases_eq x.value (written_value made x)) [ inl e ↦ e | inr ne ↦ absurd (written i x at_i (w, ne)) ] ∙ looked-up x e made (same-turned e x s.action) ∙ value-at made one k e at_k)
       s.fence
 
   -- each entry of the order is one of the programs
@@ -84,11 +67,12 @@ module _ (made order : List Entry) (one : NoneTwice made) (own : Each (ReadsOwn 
 
   -- each entry of the programs stands in the order
   in-order : IsClean made order → (k : ℕ) (e : Entry) → slice_get made k ≡ Some e → StandsIn order e
-  in-order c k e h =
-      let f = found-of order k e (c.no_missing k e h) in
-      let m = in-made c f.place f.entry f.stands in
-      let q : f.entry ≡ e = one-entry made one m.0 k f.entry e m.1 h (same-turned e f.entry f.same) in
-      (f.place, f.stands ∙ ap Some q)
+  in-order c k e h = elim (passing (λ x. same_action e x) order) [
+    | inr none ↦ absurd (c.no_missing k e h none)
+    | inl r ↦
+        let m = in-made c r.0 r.1 r.2 in
+        (r.0, r.2 ∙ ap Some (one-entry made one m.0 k r.1 e m.1 h (same-turned e r.1 (same-parts e r.1 r.3))))
+  ]
 
   as-many : IsClean made order → length order ≡ length made
   as-many c =
@@ -120,9 +104,9 @@ module _ (made order : List Entry) (one : NoneTwice made) (own : Each (ReadsOwn 
 
 pub whole-from : (t : Litmus) (order : List Entry) → IsClean (made t order) order → IsWhole t order
 whole-from t order c =
-    let one = apart-none (made t order) (made-apart t order) in
+    let one = made-once t order in
     let own = made-read t order in
     record { count = as-many (made t order) order one own c; each = in-order (made t order) order one own c }
 
 pub whole-clean : (t : Litmus) (order : List Entry) → IsWhole t order → IsClean (made t order) order
-whole-clean t order w = clean (made t order) order (apart-none (made t order) (made-apart t order)) (made-read t order) w.count w.each
+whole-clean t order w = clean (made t order) order (made-once t order) (made-read t order) w.count w.each

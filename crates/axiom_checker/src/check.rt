@@ -1,6 +1,6 @@
 //! The judgement of an order: first whether it has each entry once, then the axioms, which mean nothing where it hasn't.
 //! (Primer, chapter 4; x86-TSO, section 3.)
-ghost use Rattle.std.specs.Prelude.{◌≡◌, ◌≢◌, ◌+◌, ◌*◌, ◌<◌, ◌≤◌, ℕ, None, length, OnOk, IfErr, IfOk, IsOkUnless, IfSome, IsNone};
+ghost use Rattle.std.specs.Prelude.{◌≡◌, ◌≢◌, ◌+◌, ◌*◌, ◌<◌, ◌≤◌, ℕ, List, None, length, OnOk, IfErr, IfOk, IsOkUnless, IfSome, IsNone};
 ghost use Rattle.tso_model.specs.Litmus.{Litmus, IsTest};
 ghost use Rattle.tso_model.specs.Axioms.{IsTsoExecution};
 ghost use Rattle.tso_model.specs.ProgramEntries as execution_programentries;
@@ -8,7 +8,7 @@ ghost use Rattle.tso_model.specs.Axioms as execution_axioms;
 ghost use Rattle.tso_model.specs.ProgramOrder as execution_axioms_programorder;
 ghost use Rattle.tso_model.specs.SequentialConsistency as execution_sequentialconsistency;
 ghost use Rattle.axiom_checker.specs.inner.Passing.{IsMatched, HasMet};
-ghost use Rattle.axiom_checker.specs.inner.Programs.{shape_from, kept_in};
+ghost use Rattle.axiom_checker.specs.inner.Programs.{made_reading, kept_in};
 ghost use Rattle.axiom_checker.specs.inner.Slots.{IsIndex};
 ghost use Rattle.axiom_checker.specs.FirstBreach.{IsFirstBreach, IsJudged};
 ghost use Rattle.axiom_checker.specs.inner.FirstBreach.{TellsFirstBreach};
@@ -17,13 +17,16 @@ use crate::arrivals::{first_missing, first_stray};
 use crate::breach::Breach;
 use crate::index::index_of;
 use crate::passing::{Met, Programs, first_overtaking, pass};
-use crate::programs::{made_entries, reads_in_order, shape};
+use crate::programs::{made_entries, reads_in_order};
 use crate::sources::own_writes;
 use std::alloc::Global;
 use std::marker::Brand;
 use std::sync::ledger::{Blank, Ledger};
-use tso_model::limits::MAX_CORES;
+use tso_model::limits::{MAX_CORES, MAX_INSTRUCTIONS};
 use tso_model::{Entry, Execution, NoMemory, Test, Watched};
+
+/// Maximum number of reads of a test: each instruction may be one.
+const MAX_READS: usize = MAX_CORES * MAX_INSTRUCTIONS;
 
 /// Whether the order is a TSO execution of the test: it holds each memory action of the programs
 /// exactly once, with the values that the programs give, keeps program order but for a plain store
@@ -82,7 +85,8 @@ fn first_breach<L: Ledger>(
     ensures same { order.new.order ≡ order.old.order }
     ensures looks { order.new.looks ≤ order.old.looks + 3 * length order.old.order }
 {
-    let shape = shape(alloc, test)?;
+    test.know_limits();
+    let shape = made_entries(alloc, test, &[0; MAX_READS])?;
     let slots = index_of(alloc, test.cores(), &shape)?;
     let mut came = vec![in alloc; None; shape.len()]?;
     breach_by_shape(alloc, test, &shape, &slots, &mut came, order)
@@ -98,7 +102,7 @@ fn breach_by_shape<L: Ledger>(
     order: &mut Watched<'_, L>,
 ) -> Result<Option<Breach>, NoMemory>
     requires test { IsTest test.now }
-    requires shape { shape.now ≡ shape_from 0 test.now.programs test.now.registers }
+    requires shape { (reads : List ℕ) × (shape.now ≡ made_reading 0 test.now.programs test.now.registers reads) }
     requires index { IsIndex shape.now slots.now }
     requires size { length came.old ≡ length shape.now }
     requires fresh { (i : ℕ) → kept_in came.old i ≡ None }
@@ -150,9 +154,9 @@ fn breach_of_all<L: Ledger>(
 /// The first of the axioms' order among what was met.
 fn first_met<L: Ledger>(met: Met, order: &mut Watched<'_, L>) -> Option<Breach>
     requires { IfSome met.late (λ a. a.0 < length order.old.order) }
-    ensures found { (t : Litmus) → IsMatched t order.old.order → HasMet t order.old.order met
+    ensures found { (t : Litmus) → IsMatched t order.old.order → HasMet t order.old.order (length order.old.order) met
         → IfSome result (IsFirstBreach t order.old.order) }
-    ensures none { (t : Litmus) → IsMatched t order.old.order → HasMet t order.old.order met
+    ensures none { (t : Litmus) → IsMatched t order.old.order → HasMet t order.old.order (length order.old.order) met
         → IsNone result → IsTsoExecution t order.old.order }
     ensures same { order.new.order ≡ order.old.order }
     ensures looks { order.new.looks ≤ order.old.looks + length order.old.order }

@@ -1,31 +1,12 @@
-//! What the programs make, for reads that return 0 and for given values. Which entries there are doesn't depend on the
-//! values; so the order can be held against them before its reads are believed.
+//! What the programs make for given read values. Which entries there are doesn't depend on the values; so the order can be
+//! held against what they make with any, before its reads are believed.
 ghost use Rattle.std.specs.Prelude.{◌≡◌, ◌≤◌, length, IfOk};
-ghost use Rattle.tso_model.specs.Litmus.{IsTest};
-ghost use Rattle.axiom_checker.specs.inner.Programs.{shape_from, reads_that_came, reads_of_all, made_reading};
+ghost use Rattle.axiom_checker.specs.inner.Programs.{reads_that_came, reads_of_all, made_reading};
 
 use crate::entries::is_read;
 use crate::index::kept;
 use std::alloc::Global;
 use tso_model::{Core, Entry, NoMemory, Test, read_count, thread_entries};
-
-/// What the programs make where each read returns 0: the entries of all cores, core by core and in
-/// program order. With other reads only the values differ.
-///
-/// Errors: out of memory only.
-pub fn shape(alloc: Global, test: &Test) -> Result<Vec<Entry>, NoMemory>
-    ensures entries { IfOk result (λ es. es.items ≡ shape_from 0 test.now.programs test.now.registers) }
-    ensures test { IsTest test.now }
-{
-    let mut entries = Vec::new(alloc);
-    for number in 0..test.cores() {
-        let core = Core(number);
-        let zeros = vec![in alloc; 0u32; read_count(test, core)]?;
-        let thread = thread_entries(alloc, test, core, &zeros)?;
-        entries.extend_from_slice(&thread.entries)?;
-    }
-    Ok(entries)
-}
 
 /// The values with which the reads among the programs' entries came, in the order of these entries.
 ///

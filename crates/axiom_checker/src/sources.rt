@@ -2,11 +2,10 @@
 //! (forwarding). (Primer, chapter 4; x86-TSO, section 3.)
 ghost use Rattle.std.specs.Prelude.{◌≡◌, ◌<◌, ℕ, length, slice_get, slice_set, Some, None, true, IfOk};
 ghost use Rattle.tso_model.specs.ProgramOrder as program_order;
-ghost use Rattle.basic_laws.specs.Ranks as ranks;
 ghost use Rattle.tso_model.specs.declared.execution.Entry.{Entry};
 ghost use Rattle.axiom_checker.specs.Entries.{IsExtra, written_value};
 ghost use Rattle.axiom_checker.specs.inner.Programs.{kept_in};
-ghost use Rattle.axiom_checker.specs.inner.Slots.{slots_of_a_core, Ascends, IsIndex};
+ghost use Rattle.axiom_checker.specs.inner.Slots.{Ascends, AreWithin, IsIndex};
 ghost use Rattle.axiom_checker.specs.inner.Sources.{own_write, IsSource, HasSources, noted_write};
 
 use crate::entries::is_write;
@@ -23,9 +22,8 @@ pub fn own_writes(
     locations: u8,
     made: &[Entry],
 ) -> Result<Vec<Option<Entry>>, NoMemory>
-    requires ascends { (high : ℕ) × Ascends 0 high made.now }
-    requires fit { (k : ℕ) (e : Entry) → slice_get made.now k ≡ Some e → ranks.rank e < slots_of_a_core }
-    requires known { (k : ℕ) (e : Entry) → slice_get made.now k ≡ Some e → program_order.is_write e ≡ true → e.loc.0 < locations }
+    requires ascends { Ascends made.now }
+    requires within { (cores : ℕ) × AreWithin cores locations made.now }
     ensures { IfOk result (λ sources. HasSources made.now sources.items) }
 {
     let mut latest = vec![in alloc; None; usize::from(locations)]?;
@@ -39,9 +37,8 @@ fn find_sources(
     latest: &mut [Option<Entry>],
 ) -> Result<Vec<Option<Entry>>, NoMemory>
     requires none_yet { (loc : ℕ) → kept_in latest.old loc ≡ None }
-    requires ascends { (high : ℕ) × Ascends 0 high made.now }
-    requires fit { (k : ℕ) (e : Entry) → slice_get made.now k ≡ Some e → ranks.rank e < slots_of_a_core }
-    requires known { (k : ℕ) (e : Entry) → slice_get made.now k ≡ Some e → program_order.is_write e ≡ true → e.loc.0 < length latest.old }
+    requires ascends { Ascends made.now }
+    requires within { (cores : ℕ) × AreWithin cores (length latest.old) made.now }
     ensures { IfOk result (λ sources. HasSources made.now sources.items) }
 {
     let mut sources = Vec::new(alloc);

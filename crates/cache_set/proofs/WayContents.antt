@@ -1,5 +1,5 @@
 -- What each call of `lru` makes of a set's ways, and that it makes of the copies in them what the set's contents are to be.
-use Rattle.std.proofs.Common.{arith, ◌≡◌, ◌<◌, ◌≤◌, ◌-◌, ℕ, zero, suc, true, false, List, ◌∷◌, length, take, slice_get, Option, Some, None, IsSome, option_map, nat_eq, inl, inr, refl, sym, ◌∙◌}
+use Rattle.std.proofs.Common.{arith, ◌≡◌, ◌<◌, ◌-◌, ℕ, zero, suc, true, false, List, [], ◌∷◌, ap, length, take, slice_get, Option, Some, None, IsSome, option_map, nat_eq, inl, inr, refl, sym, ◌∙◌}
 use Rattle.std.proofs.lemmas.Bool.{eq-eqb}
 use Rattle.std.proofs.lemmas.List.{take_all}
 use Rattle.std.specs.Map.{lookup, remove_entry, set_value}
@@ -12,7 +12,7 @@ use Rattle.cache_set.specs.Contents.{Contents, contents, victim_of}
 use Rattle.cache_set.specs.inner.Contents.{IsCacheSet, to_front, with_new, with_changed, without}
 use Rattle.cache_set.specs.inner.Ways.{is_invalid, is_empty, copies_in, way_of, first_empty, IsForNew, copy_left, NumbersBelow, AreWays}
 use Rattle.cache_set.proofs.Entries.{set_value-changed}
-use Rattle.cache_set.proofs.WayLists.{NoNumberTwice, way_of-found, lookup-way, copies-remove, copies-set, copies-emptied, lookup_entry-way, length-set, below-set, numbered-front, below-found, below-remove, below-more, length-remove-way, absent-below, length-copies, length-some-empty, empty-way, copies-take, copies-at, full-at, lookup-way-at, remove-last, past-end}
+use Rattle.cache_set.proofs.WayLists.{NoNumberTwice, way_of-found, lookup-way, copies-remove, copies-set, copies-emptied, lookup_entry-way, length-set, below-set, numbered-front, below-found, below-remove, below-more, length-remove-way, absent-below, length-some-empty, empty-way, copies-take, copies-at, full-at, lookup-way-at, remove-last, past-end}
 
 -- a way with this line and this copy
 abbrev pub way_with : ℕ → Line → Way
@@ -36,6 +36,7 @@ AreWays-promoted line w room es h ways =
     let size = length-remove-way w there.0 es there.1 in
     rw (promoted-is w there.0 es there.1) (record {
       few = ways.few;
+      all = size ∙ ways.all;
       numbered = numbered-front (length es) w there.0 (remove_entry (nat_eq w) es) size (below-found (length es) w there.0 es ways.numbered there.1) (below-remove (length es) w es ways.numbered);
     })
 
@@ -56,17 +57,21 @@ pub contents-emptied : (line w room : ℕ) (way : Way) (es : List (ℕ × Way)) 
 contents-emptied line w room way es once h = rw (copies-emptied line w (emptied way) es once h refl) refl
 
 pub AreWays-set : (w room : ℕ) (new : Way) (es : List (ℕ × Way)) → AreWays es room → AreWays (set_value (nat_eq w) es new) room
-AreWays-set w room new es ways = record { few = ways.few; numbered = rw (length-set w new es) (below-set (length es) w new es ways.numbered) }
+AreWays-set w room new es ways = record {
+  few = ways.few;
+  all = length-set w new es ∙ ways.all;
+  numbered = rw (length-set w new es) (below-set (length es) w new es ways.numbered);
+}
 
 -- A line comes in.
 
-module _ (line n : ℕ) (copy : Line) (es : List (ℕ × Way)) (valid : is_invalid copy.state ≡ false) (within : length es ≤ suc n) (once : NoNumberTwice es) (numbered : NumbersBelow (length es) es) where
+module _ (line n : ℕ) (copy : Line) (es : List (ℕ × Way)) (valid : is_invalid copy.state ≡ false) (full : length es ≡ suc n) (once : NoNumberTwice es) where
   abbrev old : Contents
   old = contents (copies_in es) (suc n)
 
-  -- what the ways are then, and which copy leaves
+  -- what the ways hold then, and which copy leaves
   abbrev IsFilled : List (ℕ × Way) → Option Victim → Type 0
-  IsFilled new left = (contents (copies_in new) (suc n) ≡ with_new line copy old) × ((left ≡ victim_of old) × NumbersBelow (length new) new)
+  IsFilled new left = (contents (copies_in new) (suc n) ≡ with_new line copy old) × (left ≡ victim_of old)
 
   one : suc n - 1 ≡ n
   one = omega arith
@@ -74,9 +79,6 @@ module _ (line n : ℕ) (copy : Line) (es : List (ℕ × Way)) (valid : is_inval
   module _ (w : ℕ) (way : Way) (found : lookup (nat_eq w) es ≡ Some way) where
     abbrev over : List (ℕ × Way)
     over = (w, way_with line copy) ∷ remove_entry (nat_eq w) es
-
-    still : NumbersBelow (length over) over
-    still = numbered-front (length es) w (way_with line copy) (remove_entry (nat_eq w) es) (length-remove-way w way es found) (below-found (length es) w way es numbered found) (below-remove (length es) w es numbered)
 
     -- an empty way is taken over: nothing leaves
     over-empty : first_empty es ≡ Some w → IsFilled over (copy_left way)
@@ -88,71 +90,66 @@ module _ (line n : ℕ) (copy : Line) (es : List (ℕ × Way)) (valid : is_inval
         let fewer = length-some-empty w es h in
         let whole : take (suc n) ((line, copy) ∷ copies_in es) ≡ (line, copy) ∷ copies_in es = take_all (suc n) ((line, copy) ∷ copies_in es) (omega arith) in
         let none : slice_get (copies_in es) n ≡ None = past-end n (copies_in es) (omega arith) in
-        (rw (valid, e.1, whole) refl, (rw (empty, one, none) refl, still))
+        (rw (valid, e.1, whole) refl, rw (empty, one, none) refl)
 
     -- the last way of a full set: its line leaves
-    over-last : (x : ℕ × Way) → first_empty es ≡ None → length es ≡ suc n → slice_get es n ≡ Some x → x.0 ≡ w → IsFilled over (copy_left way)
-    over-last x none full last same =
+    over-last : (x : ℕ × Way) → first_empty es ≡ None → slice_get es n ≡ Some x → x.0 ≡ w → IsFilled over (copy_left way)
+    over-last x none last same =
         let there : Some x.1 ≡ Some way = sym (rw same at (lookup-way-at n x es once last)) ∙ found in
         let is : x.1 ≡ way = cc in
         let cut : remove_entry (nat_eq w) es ≡ take n es = rw same at (remove-last n x es once full last) in
         let held : is_empty way ≡ false = rw is at (full-at n x es none last) in
-        (rw (valid, cut, copies-take n es none) refl, (rw (held, one, copies-at n es none, last, is) refl, still))
+        (rw (valid, cut, copies-take n es none) refl, rw (held, one, copies-at n es none, last, is) refl)
 
-    pub is-taken-over : IsForNew es (suc n) (Some w) → IsFilled over (copy_left way)
+    pub is-taken-over : IsForNew es w → IsFilled over (copy_left way)
     is-taken-over h = elim h [
       | inl e ↦ over-empty e
-      | inr f ↦ at-last (slice_get es (length es - 1)) f.0 f.1.0 refl f.1.1
+      | inr f ↦ at-last (slice_get es (length es - 1)) f.0 refl f.1
     ]
       where
-        at-last : (o : Option (ℕ × Way)) → first_empty es ≡ None → suc n ≤ length es → slice_get es (length es - 1) ≡ o → option_map (λ e. e.0) o ≡ Some w → IsFilled over (copy_left way)
-        at-last None none room last h = cc
-        at-last (Some x) none room last h =
-            let full : length es ≡ suc n = omega arith in
-            over-last x none full (rw (full, one) at last) cc
+        at-last : (o : Option (ℕ × Way)) → first_empty es ≡ None → slice_get es (length es - 1) ≡ o → option_map (λ e. e.0) o ≡ Some w → IsFilled over (copy_left way)
+        at-last None none last h = cc
+        at-last (Some x) none last h = over-last x none (rw (full, one) at last) cc
 
-  -- a way that was never used: nothing leaves
-  abbrev put : List (ℕ × Way)
-  put = put_entries nat_eq (lru_cache es (suc n)) (length es) (way_with line copy)
-
-  pub is-put : first_empty es ≡ None → length es < suc n → IsFilled put None
-  is-put none room =
-      let absent : lookup (nat_eq (length es)) es ≡ None = absent-below (length es) (length es) es numbered (omega arith) in
-      let fewer = length-copies es in
-      let all : take n es ≡ es = take_all n es (omega arith) in
-      let whole : take (suc n) ((line, copy) ∷ copies_in es) ≡ (line, copy) ∷ copies_in es = take_all (suc n) ((line, copy) ∷ copies_in es) (omega arith) in
-      let is : put ≡ (length es, way_with line copy) ∷ es = rw (lookup_entry-way (length es) es, absent, one, all) refl in
-      let no_copy : slice_get (copies_in es) n ≡ None = past-end n (copies_in es) (omega arith) in (
-        rw (is, valid, whole) refl,
-        (
-          rw (one, no_copy) refl,
-          rw is (numbered-front (suc (length es)) (length es) (way_with line copy) es refl (omega arith) (below-more (length es) es numbered)),
-        ),
-      )
-
--- the same where the room is any number but 0
+-- what the ways hold once a line came in, which copy leaves, and that they are ways still
 abbrev pub Fills : ℕ → Line → List (ℕ × Way) → ℕ → List (ℕ × Way) → Option Victim → Type 0
-Fills line copy es room new left = (contents (copies_in new) room ≡ with_new line copy (contents (copies_in es) room)) × ((left ≡ victim_of (contents (copies_in es) room)) × NumbersBelow (length new) new)
+Fills line copy es room new left = (contents (copies_in new) room ≡ with_new line copy (contents (copies_in es) room)) × ((left ≡ victim_of (contents (copies_in es) room)) × AreWays new room)
 
-pub taken-over-fills : (line w room : ℕ) (copy : Line) (way : Way) (es : List (ℕ × Way)) → 0 < room → is_invalid copy.state ≡ false → length es ≤ room → NoNumberTwice es → NumbersBelow (length es) es
-    → lookup (nat_eq w) es ≡ Some way → IsForNew es room (Some w) → Fills line copy es room ((w, way_with line copy) ∷ remove_entry (nat_eq w) es) (copy_left way)
-taken-over-fills line w zero copy way es some valid within once numbered found h = absurd (omega arith)
-taken-over-fills line w (suc n) copy way es some valid within once numbered found h = is-taken-over line n copy es valid within once numbered w way found h
+pub taken-over-fills : (line w room : ℕ) (copy : Line) (way : Way) (es : List (ℕ × Way)) → 0 < room → is_invalid copy.state ≡ false → NoNumberTwice es → AreWays es room
+    → lookup (nat_eq w) es ≡ Some way → IsForNew es w → Fills line copy es room ((w, way_with line copy) ∷ remove_entry (nat_eq w) es) (copy_left way)
+taken-over-fills line w zero copy way es some valid once ways found h = absurd (omega arith)
+taken-over-fills line w (suc n) copy way es some valid once ways found h =
+    let size = length-remove-way w way es found in
+    let filled = is-taken-over line n copy es valid ways.all once w way found h in (
+      filled.0,
+      (
+        filled.1,
+        record {
+          few = ways.few;
+          all = size ∙ ways.all;
+          numbered = numbered-front (length es) w (way_with line copy) (remove_entry (nat_eq w) es) size (below-found (length es) w way es ways.numbered found) (below-remove (length es) w es ways.numbered);
+        },
+      ),
+    )
 
-pub put-fills : (line w room : ℕ) (copy : Line) (es : List (ℕ × Way)) → 0 < room → is_invalid copy.state ≡ false → length es ≤ room → NoNumberTwice es → NumbersBelow (length es) es
-    → IsForNew es room None → w ≡ length es → Fills line copy es room (put_entries nat_eq (lru_cache es room) w (way_with line copy)) None
-put-fills line w zero copy es some valid within once numbered h next = absurd (omega arith)
-put-fills line w (suc n) copy es some valid within once numbered h next = rw next (is-put line n copy es valid within once numbered h.0 h.1)
+-- one more of the ways that are there from the beginning
+pub put-unused : (n room : ℕ) (way : Way) (es : List (ℕ × Way)) → n < room → length es ≡ n → NumbersBelow n es → copies_in es ≡ [] → is_empty way ≡ true
+    → (length (put_entries nat_eq (lru_cache es room) n way) ≡ suc n) × (NumbersBelow (suc n) (put_entries nat_eq (lru_cache es room) n way) × (copies_in (put_entries nat_eq (lru_cache es room) n way) ≡ []))
+put-unused n room way es less size numbered nothing empty =
+    let absent : lookup (nat_eq n) es ≡ None = absent-below n n es numbered (omega arith) in
+    let all : take (room - 1) es ≡ es = take_all (room - 1) es (omega arith) in
+    let is : put_entries nat_eq (lru_cache es room) n way ≡ (n, way) ∷ es = rw (lookup_entry-way n es, absent, all) refl in
+    rw is (ap suc size, ((omega arith, below-more n es numbered), rw empty nothing))
 
 -- a way that is there is written at the front
 pub set-promoted : (w : ℕ) (way new : Way) (es : List (ℕ × Way)) → lookup (nat_eq w) es ≡ Some way → set_value (nat_eq w) (promoted (nat_eq w) es) new ≡ (w, new) ∷ remove_entry (nat_eq w) es
 set-promoted w way new es found = rw (promoted-is w way es found, eq-eqb w w refl) refl
 
 -- the way that a new line takes over is there
-pub taken-over-found : (w room : ℕ) (es : List (ℕ × Way)) → NoNumberTwice es → IsForNew es room (Some w) → IsSome (lookup (nat_eq w) es)
-taken-over-found w room es once h = elim h [
+pub taken-over-found : (w : ℕ) (es : List (ℕ × Way)) → NoNumberTwice es → IsForNew es w → IsSome (lookup (nat_eq w) es)
+taken-over-found w es once h = elim h [
   | inl e ↦ let there = empty-way w es once e in rw there.0.1.0 refl
-  | inr f ↦ at-last (slice_get es (length es - 1)) refl f.1.1
+  | inr f ↦ at-last (slice_get es (length es - 1)) refl f.1
 ]
   where
     at-last : (o : Option (ℕ × Way)) → slice_get es (length es - 1) ≡ o → option_map (λ e. e.0) o ≡ Some w → IsSome (lookup (nat_eq w) es)

@@ -3,7 +3,7 @@
 //! the caller's to say: `touch` and `fill` bring a line to the front, and nothing else moves one.
 #![tactic(auto)]
 
-ghost use Rattle.std.specs.Prelude.{◌≡◌, ◌≢◌, ◌<◌, ◌≤◌, ℕ, [], Some, None, IsSome, IfSome, IfOk, OnErr, option_map, option_copied, slice_get};
+ghost use Rattle.std.specs.Prelude.{◌≡◌, ◌≢◌, ◌<◌, ◌≤◌, ℕ, [], Some, None, IsSome, IfSome, IsOk, IfOk, OnErr, option_map, option_copied, slice_get};
 ghost use Rattle.cache_set.specs.Limits.{most_ways, most_words};
 
 mod hashing;
@@ -72,8 +72,7 @@ impl CacheSet {
     ghost use Rattle.cache_set.specs.inner.Contents.{ChangesLine, Fills};
     ghost use Rattle.cache_set.specs.inner.Copy.{copy_with, with_state, with_word};
 
-    /// An empty set for `ways` lines, from 1 to `MAX_WAYS`. Of the other calls only `fill` takes
-    /// memory.
+    /// An empty set for `ways` lines, from 1 to `MAX_WAYS`. All its room is made here: the other calls take no memory.
     ///
     /// Errors: out of memory only.
     pub fn new(alloc: Global, ways: u8) -> Result<Self, NoMemory>
@@ -120,7 +119,7 @@ impl CacheSet {
     /// A line that is not here comes in at the front, in a state other than I. A full set hands its
     /// last line back.
     ///
-    /// Errors: out of memory only; nothing is changed then.
+    /// Errors: out of memory only; nothing is changed then. A set takes its memory when it is made, so it always succeeds.
     pub fn fill(
         &mut self,
         line: u8,
@@ -134,18 +133,14 @@ impl CacheSet {
         ensures copies { IfOk result (Fills line (copy_with state words) self.old self.new) }
         ensures was_here { IfOk result (λ v. IfSome v (λ x. copy_of self.old x.line ≡ Some x.content)) }
         ensures err { OnErr result (self.new ≡ self.old) }
+        ensures succeeds { IsOk result }
         ensures valid { IsCacheSet self.new }
     {
-        let used = self.ways.len();
+        let _numbers = self.ways.len();
         let copy = Line { state, words };
         let new = Way { line, copy };
-        match way_to_take_over(&self.ways) {
-            Some(number) => Ok(victim_in(take_over(&mut self.ways, number, new))),
-            None => {
-                self.ways.push(used as u8, new)?;
-                Ok(None)
-            }
-        }
+        let number = way_to_take_over(&self.ways);
+        Ok(victim_in(take_over(&mut self.ways, number, new)))
     }
 
     /// A line that is here goes to another state than I, and keeps its place.

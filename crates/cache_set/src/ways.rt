@@ -2,19 +2,21 @@
 //! its way empty, and a new line takes over an empty way, or that of the line which it displaces: the numbers stay, so that
 //! nothing is hashed anew.
 
-ghost use Rattle.std.specs.Prelude.{◌≡◌, ◌<◌, [], ◌∷◌, Some, IsSome, IfOk, slice_get, option_copied, nat_eq};
+ghost use Rattle.std.specs.Prelude.{◌≡◌, ◌<◌, ◌≤◌, true, [], ◌∷◌, Some, IsSome, IfOk, length, slice_get, option_copied, nat_eq};
+ghost use Rattle.cache_set.specs.Limits.{most_ways};
 ghost use Rattle.std.specs.Map.{lookup, remove_entry};
 ghost use Rattle.lru.specs.LruCache.{lru_cache};
 ghost use Rattle.cache_set.specs.inner.Ways.{is_empty, has_line, copies_in, way_of, is_first, first_empty, first_full, copy_left, IsForNew, AreWays};
 
 use crate::hashing::NumberHasher;
-use crate::{Line, Victim};
+use crate::{Line, MAX_WORDS, Victim};
 use lru::LruCache;
 use protocol_tables::State;
-use std::alloc::{AllocError, Global};
+use std::alloc::Global;
 use std::num::NonZeroUsize;
+use tso_model::NoMemory;
 
-/// The ways of a set by their numbers, the most recently used first. A way that was never used isn't there yet.
+/// The ways of a set by their numbers, the most recently used first. All are there from the beginning.
 pub type Ways = LruCache<u8, Way, NumberHasher>;
 
 /// A way of a set: the line that lies in it, and its copy. In state I there is none.
@@ -32,6 +34,19 @@ impl Way {
         matches!(self.copy.state, State::I)
     }
 
+    /// A way in which no line lies yet.
+    fn unused() -> Way
+        ensures { is_empty result ≡ true }
+    {
+        Way {
+            line: 0,
+            copy: Line {
+                state: State::I,
+                words: [0; MAX_WORDS],
+            },
+        }
+    }
+
     /// Whether this line lies here.
     pub fn has(&self, line: u8) -> bool
         ensures { result ≡ has_line line self.now }
@@ -40,15 +55,21 @@ impl Way {
     }
 }
 
-/// The ways of a set of which none was used yet.
+/// The ways of a set of which none was used yet. A line that comes in takes over one of these, and so takes no memory.
 ///
 /// Errors: out of memory only.
-pub fn empty_ways(alloc: Global, ways: u8) -> Result<Ways, AllocError>
-    requires { 0 < ways }
-    ensures { IfOk result (λ w. w ≡ lru_cache [] ways) }
+pub fn empty_ways(alloc: Global, count: u8) -> Result<Ways, NoMemory>
+    requires { (0 < count) × (count ≤ most_ways) }
+    ensures copies { IfOk result (λ w. copies_in w.entries ≡ []) }
+    ensures room { IfOk result (λ w. w.cap ≡ count) }
+    ensures ways { IfOk result (λ w. AreWays w.entries w.cap) }
 {
-    let capacity = NonZeroUsize::new(usize::from(ways)).unwrap();
-    LruCache::with_hasher(alloc, capacity, NumberHasher::new())
+    let capacity = NonZeroUsize::new(usize::from(count)).unwrap();
+    let mut ways = LruCache::with_hasher(alloc, capacity, NumberHasher::new())?;
+    for number in 0..count {
+        ways.push(number, Way::unused())?;
+    }
+    Ok(ways)
 }
 
 /// The copy of a line, if it lies here.
@@ -127,20 +148,16 @@ pub fn empty_all(ways: &mut Ways)
     }
 }
 
-/// The number of the way that a new line takes over: of the first that is empty, else of the way used longest ago; `None`
-/// where there is room for one that was never used.
-pub fn way_to_take_over(ways: &Ways) -> Option<u8>
-    requires { 0 < ways.now.cap }
-    ensures { IsForNew ways.now.entries ways.now.cap result }
+/// The number of the way that a new line takes over: of the first that is empty, else of the way used longest ago.
+pub fn way_to_take_over(ways: &Ways) -> u8
+    requires { 0 < length ways.now.entries }
+    ensures { IsForNew ways.now.entries result }
 {
     if let Some(number) = first_empty(ways) {
-        return Some(number);
-    }
-    if ways.len() < ways.cap().get() {
-        return None;
+        return number;
     }
     let (number, _) = ways.peek_lru().unwrap();
-    Some(*number)
+    *number
 }
 
 /// A line comes into a way that is there, which goes to the front. Answers what the way had.

@@ -1,4 +1,3 @@
-pub mod Plan
 pub mod Search
 pub mod Explanation
 pub mod Limits

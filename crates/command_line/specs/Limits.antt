@@ -2,7 +2,7 @@
 use Rattle.std.specs.Prelude.{ℕ, ◌≤◌}
 use Rattle.tso_model.specs.Limits.{least_depth, most_depth}
 use Rattle.machine_core.specs.Configuration.{IsConfigurationWithinLimits}
-use Rattle.command_line.specs.Plan.{IsPlanWithinLimits}
+use Rattle.scheduler.specs.Plan.{IsPlanWithinLimits}
 use Rattle.command_line.specs.Search.{IsSearchWithinLimits}
 use Rattle.command_line.specs.Explanation.{IsExplanationWithinLimits}
 use Rattle.command_line.specs.declared.settings.Settings.{Settings}

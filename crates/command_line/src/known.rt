@@ -3,13 +3,13 @@
 
 ghost use Rattle.machine_core.specs.Configuration.{IsConfigurationWithinLimits};
 ghost use Rattle.command_line.specs.Explanation.{IsExplanationWithinLimits};
-ghost use Rattle.command_line.specs.Plan.{IsPlanWithinLimits};
+ghost use Rattle.scheduler.specs.Plan.{IsPlanWithinLimits};
 ghost use Rattle.command_line.specs.Search.{IsSearchWithinLimits};
 
 use crate::explanation::ReasonPlan;
-use crate::plan::SweepPlan;
 use crate::search::SearchPlan;
 use machine_core::Config;
+use scheduler::SweepPlan;
 
 /// A configuration is within its limits.
 pub(crate) fn know_config(config: Config)

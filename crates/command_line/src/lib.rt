@@ -6,12 +6,10 @@ pub mod explanation;
 mod help;
 mod known;
 mod options;
-pub mod plan;
 pub mod search;
 pub mod settings;
 
 pub use explanation::ReasonPlan;
-pub use plan::SweepPlan;
 pub use search::SearchPlan;
 pub use settings::{LineFault, Settings, settings_of};
 pub use shown_values::Show;

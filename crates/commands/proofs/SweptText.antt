@@ -5,7 +5,7 @@ use Rattle.protocol_tables.specs.declared.kind.ProtocolKind.{ProtocolKind}
 use Rattle.machine_core.specs.Configuration.{Configuration}
 use Rattle.tso_report.specs.Report.{head}
 use Rattle.tso_report.specs.Tally.{RunCounts, tally_text}
-use Rattle.command_line.specs.Plan.{Plan}
+use Rattle.scheduler.specs.Plan.{Plan}
 use Rattle.commands.specs.Sweep.{sweep_lines}
 use Rattle.sweeper.specs.Counting.{sweep_counts}
 

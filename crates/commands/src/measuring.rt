@@ -9,10 +9,10 @@ ghost use Rattle.commands.specs.inner.Answers.{Says};
 ghost use Rattle.commands.specs.inner.Trace.{used_in, IsMeasured};
 
 use crate::answer::{Answer, Status};
-use hints::{Cause, Stalls};
+use hints::Cause;
 use machine_core::{Choice, Config};
 use protocol_tables::ProtocolKind;
-use scheduler::ChoiceFault;
+use scheduler::{ChoiceFault, Stalls};
 use simulator::{Ending, SimFault, simulate_noting};
 use std::alloc::Global;
 use trace_json::{MAX_STEPS, word_beyond};

@@ -11,10 +11,10 @@ ghost use Rattle.simulator.specs.Runs.{AnswersFit};
 ghost use Rattle.commands.specs.RunTexts.{report_in, unfinished_in};
 
 use crate::answer::{Answer, Status};
-use hints::{Cause, Stalls};
+use hints::Cause;
 use machine_core::{Choice, Config};
 use protocol_tables::ProtocolKind;
-use scheduler::{ChoiceFault, read_choices, spelled_cores_exist};
+use scheduler::{ChoiceFault, Stalls, read_choices, spelled_cores_exist};
 use simulator::{Ending, SimFault, simulate_noting};
 use std::alloc::Global;
 use tso_model::{NoMemory, Test};

@@ -4,10 +4,10 @@ ghost use Rattle.std.specs.Prelude.{◌≡◌, if◌then◌else◌, IfOk, string
 ghost use Rattle.commands.specs.Sweep.{IsSweepAnswer};
 
 use crate::answer::{Answer, Status};
-use command_line::SweepPlan;
 use hints::Cause;
 use machine_core::Config;
 use protocol_tables::ProtocolKind;
+use scheduler::SweepPlan;
 use std::alloc::Global;
 use sweeper::{Swept, sweep};
 use tso_model::{NoMemory, Test};

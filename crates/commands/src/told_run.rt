@@ -14,9 +14,9 @@ ghost use Rattle.simulator.specs.Runs.{run_by, run_under, counts_by, counts_unde
 ghost use Rattle.simulator.specs.Simulation.{IsEndingOf, FitsEnding, HasCounts};
 ghost use Rattle.simulator.specs.inner.Simulation.{Drives};
 
-use hints::Stalls;
 use machine_core::{Choice, Config, Machine};
 use protocol_tables::{Mesi, Moesi, Mosi, Msi, Protocol, ProtocolKind};
+use scheduler::Stalls;
 use simulator::{Ending, Progress, ended_runs_of_machines_are_executions, ending_of};
 use split_laws::{
     atomic_runs_are_flat_runs, attempts_lead_from_state_to_state,

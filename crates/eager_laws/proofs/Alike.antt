@@ -1,25 +1,6 @@
 -- States that differ in dead registers alone: a choice does the same in both.
-use Rattle.std.proofs.Common.{◌≡◌, ℕ, ◌+◌, zero, suc, List, [], ◌∷◌, ◌++◌, Bool, true, false, Option, Some, None, length, slice_get, slice_set, slice_index, slice_index_or, drop, arith, ap, sym, ◌∙◌, refl, subst, if◌then◌else◌, nat_lt}
-use Rattle.basic_laws.proofs.Lists.{drop-at}
-use Rattle.tso_model.specs.Registers.{index_of}
-use Rattle.tso_model.specs.Actions.{action_of}
-use Rattle.tso_model.specs.Litmus.{Litmus}
-use Rattle.tso_model.specs.Thread.{entry, value_of, updated}
-use Rattle.tso_model.specs.FlatMachine.{CoreState, State, Effect, idle, program_of, core_of, effect_by, step_of, drain_of, effect_of, applied, after_choice, memory_after, is_none_pending, stored, stalled, when_drained, locked, load_value, chosen}
-use Rattle.tso_model.specs.declared.execution.Kind.TheVariants.{W, LR, LW}
-use Rattle.tso_model.specs.declared.instruction.Instr.{Instr}
-use Rattle.tso_model.specs.declared.action.Action.{Action}
-use Rattle.tso_model.specs.declared.action.Action.TheVariants.{Store, Load, Move, Fence, Lock}
-use Rattle.tso_model.specs.declared.execution.Entry.{Entry}
-use Rattle.tso_model.specs.declared.choice.Choice.{Choice}
-use Rattle.tso_model.specs.declared.choice.Choice.TheVariants.{Step, Drain}
-use Rattle.tso_model.specs.declared.choice.Stall.{Stall}
+use Rattle.eager_laws.proofs.Vocabulary.{◌≡◌, ℕ, ◌+◌, zero, suc, List, [], ◌∷◌, ◌++◌, Bool, true, false, Option, Some, None, length, slice_get, slice_set, slice_index, slice_index_or, drop, arith, ap, sym, ◌∙◌, refl, subst, if◌then◌else◌, nat_lt, drop-at, index_of, action_of, Litmus, entry, value_of, updated, CoreState, State, Effect, idle, program_of, core_of, effect_by, step_of, drain_of, effect_of, applied, after_choice, memory_after, is_none_pending, stored, stalled, when_drained, locked, load_value, chosen, W, LR, LW, Instr, Action, Store, Load, Move, Fence, Lock, Entry, Choice, Step, Drain, Stall, Buffered, Reg, Loc, Update, dead_before, dead_at, cleared, hidden_of, forgotten_core, forgotten_cores, forgotten, AreAlike}
 use Rattle.tso_model.specs.declared.choice.Stall.TheVariants as stall
-use Rattle.tso_model.specs.declared.choice.Outcome.TheVariants.{Buffered}
-use Rattle.tso_model.specs.declared.register.Reg.{Reg}
-use Rattle.tso_model.specs.declared.instruction.Loc.{Loc}
-use Rattle.tso_model.specs.declared.action.Update.{Update}
-use Rattle.eager_laws.specs.Dead.{dead_before, dead_at, cleared, hidden_of, forgotten_core, forgotten_cores, forgotten, AreAlike}
 use Rattle.eager_laws.proofs.Clearing.{clear-none, write-dead, write-any, read-live, operand-live}
 
 -- ---- one core

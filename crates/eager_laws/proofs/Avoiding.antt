@@ -1,16 +1,6 @@
 -- What a core's choice writes, reads and leaves to do.
-use Rattle.std.proofs.Common.{◌≡◌, ◌≢◌, ◌≤◌, ℕ, ◌+◌, zero, suc, List, [], ◌∷◌, ◌++◌, Bool, true, false, Option, Some, None, length, slice_get, drop, take, arith, ap, ◌∙◌, refl, subst, ◌==◌, if◌then◌else◌, nat_lt}
-use Rattle.std.proofs.lemmas.Bool.Decides.{nat_tests}
-use Rattle.tso_model.specs.Actions.{action_of}
-use Rattle.tso_model.specs.FlatMachine.{CoreState, Effect, stored, when_drained, stalled, is_none_pending, effect_by, step_of, drain_of, advanced}
-use Rattle.tso_model.specs.declared.instruction.Instr.{Instr}
-use Rattle.tso_model.specs.declared.action.Action.{Action}
-use Rattle.tso_model.specs.declared.action.Action.TheVariants.{Store, Load, Move, Fence, Lock}
-use Rattle.tso_model.specs.declared.execution.Entry.{Entry}
-use Rattle.tso_model.specs.declared.choice.Stall.{Stall}
+use Rattle.eager_laws.proofs.Vocabulary.{◌≡◌, ◌≢◌, ◌≤◌, ℕ, ◌+◌, zero, suc, List, [], ◌∷◌, ◌++◌, Bool, true, false, Option, Some, None, length, slice_get, drop, take, arith, ap, ◌∙◌, refl, subst, ◌==◌, if◌then◌else◌, nat_lt, nat_tests, action_of, CoreState, Effect, stored, when_drained, stalled, is_none_pending, effect_by, step_of, drain_of, advanced, Instr, Action, Store, Load, Move, Fence, Lock, Entry, Stall, Committed, Buffered, meets, Avoids}
 use Rattle.tso_model.specs.declared.choice.Stall.TheVariants as stall
-use Rattle.tso_model.specs.declared.choice.Outcome.TheVariants.{Committed, Buffered}
-use Rattle.eager_laws.specs.Eager.{meets, Avoids}
 use Rattle.eager_laws.proofs.Places.{NotAt}
 
 pub differ : (a b : ℕ) → (a == b) ≡ false → a ≢ b

@@ -1,24 +1,6 @@
 -- An eager choice beside any other choice.
-use Rattle.std.proofs.Common.{◌≡◌, ◌<◌, ◌≤◌, ℕ, ◌+◌, zero, suc, List, [], ◌∷◌, Bool, true, false, Option, Some, None, length, slice_get, slice_index_or, arith, ap, sym, ◌∙◌, refl, subst, inl, inr, nat_lt, if◌then◌else◌, get_or-set_same}
-use Rattle.std.proofs.Math.ListN.{length-set}
-use Rattle.std.proofs.lemmas.Bool.Decides.{nat_tests}
-use Rattle.tso_model.specs.Actions.{action_of, location_of}
-use Rattle.tso_model.specs.Litmus.{Litmus, IsTest, KnownLocation}
-use Rattle.tso_model.specs.FlatMachine.{CoreState, State, Effect, idle, program_of, core_of, effect_by, step_of, drain_of, effect_of, chosen, applied, after_choice, started, start, stored, stalled, when_drained, is_none_pending, step, drain}
-use Rattle.std.specs.Prelude.{IfSome}
-use Rattle.tso_model.specs.declared.register.Reg.{Reg}
-use Rattle.tso_model.specs.declared.instruction.Loc.{Loc}
-use Rattle.tso_model.specs.declared.instruction.Instr.{Instr}
-use Rattle.tso_model.specs.declared.action.Action.{Action}
-use Rattle.tso_model.specs.declared.action.Action.TheVariants.{Store, Load, Move, Fence, Lock}
-use Rattle.tso_model.specs.declared.execution.Entry.{Entry}
-use Rattle.tso_model.specs.declared.choice.Choice.{Choice}
-use Rattle.tso_model.specs.declared.choice.Choice.TheVariants.{Step, Drain}
-use Rattle.tso_model.specs.declared.choice.Stall.{Stall}
+use Rattle.eager_laws.proofs.Vocabulary.{◌≡◌, ◌<◌, ◌≤◌, ℕ, ◌+◌, zero, suc, List, [], ◌∷◌, Bool, true, false, Option, Some, None, length, slice_get, slice_index_or, arith, ap, sym, ◌∙◌, refl, subst, inl, inr, nat_lt, if◌then◌else◌, get_or-set_same, length-set, nat_tests, action_of, location_of, Litmus, IsTest, KnownLocation, CoreState, State, Effect, idle, program_of, core_of, effect_by, step_of, drain_of, effect_of, chosen, applied, after_choice, started, start, stored, stalled, when_drained, is_none_pending, step, drain, IfSome, Reg, Loc, Instr, Action, Store, Load, Move, Fence, Lock, Entry, Choice, Step, Drain, Stall, decide, lt-or, Avoids, OthersAvoid, IsEagerBy, IsEagerStep, IsEagerDrain, IsEager, IsDead, IsSized}
 use Rattle.tso_model.specs.declared.choice.Stall.TheVariants as stall
-use Rattle.basic_laws.proofs.Basics.{decide, lt-or}
-use Rattle.eager_laws.specs.Eager.{Avoids, OthersAvoid, IsEagerBy, IsEagerStep, IsEagerDrain, IsEager}
-use Rattle.eager_laws.specs.inner.Ending.{IsDead, IsSized}
 use Rattle.eager_laws.proofs.Places.{set-same, length-memory}
 use Rattle.eager_laws.proofs.Avoiding.{holding, buffered}
 use Rattle.eager_laws.proofs.Waits.{Beside, itself, stalls, commutes}

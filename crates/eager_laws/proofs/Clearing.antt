@@ -1,10 +1,5 @@
 -- Registers with 0 in those that are dead, and what is written and read of them.
-use Rattle.std.proofs.Common.{◌≡◌, ℕ, zero, suc, List, [], ◌∷◌, Bool, true, false, slice_set, slice_index, if◌then◌else◌, ap, refl}
-use Rattle.tso_model.specs.Registers.{index_of}
-use Rattle.tso_model.specs.Thread.{value_of}
-use Rattle.tso_model.specs.declared.action.Operand.{Operand}
-use Rattle.tso_model.specs.declared.action.Operand.TheVariants.{Number, Held}
-use Rattle.eager_laws.specs.Dead.{unless_read, cleared}
+use Rattle.eager_laws.proofs.Vocabulary.{◌≡◌, ℕ, zero, suc, List, [], ◌∷◌, Bool, true, false, slice_set, slice_index, if◌then◌else◌, ap, refl, index_of, value_of, Operand, Number, Held, unless_read, cleared}
 
 pub clear-none : (ds : List Bool) → cleared ds [] ≡ []
 clear-none [] = refl

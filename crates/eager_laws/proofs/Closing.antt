@@ -1,17 +1,5 @@
 -- Closed states miss none of the ended ones, but for dead registers and exchanges of cores that are alike.
-use Rattle.std.proofs.Common.{◌≡◌, ℕ, zero, suc, List, [], ◌∷◌, ◌++◌, Bool, true, length, inl, inr, refl, ap, sym, ◌∙◌, subst}
-use Rattle.tso_model.specs.Litmus.{Litmus, IsTest}
-use Rattle.tso_model.specs.FlatMachine.{State, start, chosen, after_choice}
-use Rattle.tso_model.specs.Runs.{run}
-use Rattle.tso_model.specs.declared.choice.Choice.{Choice}
-use Rattle.tso_laws.specs.Choices.{state_after}
-use Rattle.tso_laws.specs.inner.Laws.{RunsStopWhereTheyEnd}
-use Rattle.basic_laws.proofs.Basics.{lt-or}
-use Rattle.eager_laws.specs.Eager.{IsEager}
-use Rattle.eager_laws.specs.inner.Ending.{IsDead, Reaches, IsSized}
-use Rattle.eager_laws.specs.Dead.{forgotten, AreAlike}
-use Rattle.eager_laws.specs.Exchanged.{exchanged_choice, exchanged, exchanged_by, IsOneOf, AreOf, AreAllAlike, IsExchangeable}
-use Rattle.eager_laws.specs.Closed.{LeadsEagerly, IsIn, AreClosed, IsAlikeOneOf}
+use Rattle.eager_laws.proofs.Vocabulary.{◌≡◌, ℕ, zero, suc, List, [], ◌∷◌, ◌++◌, Bool, true, length, inl, inr, refl, ap, sym, ◌∙◌, subst, Litmus, IsTest, State, start, chosen, after_choice, run, Choice, state_after, RunsStopWhereTheyEnd, lt-or, IsEager, IsDead, Reaches, IsSized, forgotten, AreAlike, exchanged_choice, exchanged, exchanged_by, IsOneOf, AreOf, AreAllAlike, IsExchangeable, LeadsEagerly, IsIn, AreClosed, IsAlikeOneOf}
 use Rattle.eager_laws.proofs.Waits.{eager-first}
 use Rattle.eager_laws.proofs.Alike.{alike-after}
 use Rattle.eager_laws.proofs.EagerAlike.{eager-alike}

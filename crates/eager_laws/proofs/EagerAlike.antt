@@ -1,15 +1,5 @@
 -- A choice is eager by places, pending stores and programs alone: so it is in each of two states that differ in dead registers.
-use Rattle.std.proofs.Common.{◌≡◌, ◌<◌, ℕ, List, Bool, true, false, length, slice_get, arith, ap, sym, ◌∙◌, subst}
-use Rattle.tso_model.specs.Actions.{action_of}
-use Rattle.tso_model.specs.Litmus.{Litmus}
-use Rattle.tso_model.specs.FlatMachine.{CoreState, State, program_of, core_of}
-use Rattle.tso_model.specs.declared.instruction.Instr.{Instr}
-use Rattle.tso_model.specs.declared.action.Action.{Action}
-use Rattle.tso_model.specs.declared.action.Action.TheVariants.{Store, Load, Move, Fence, Lock}
-use Rattle.tso_model.specs.declared.choice.Choice.{Choice}
-use Rattle.tso_model.specs.declared.choice.Choice.TheVariants.{Step, Drain}
-use Rattle.eager_laws.specs.Eager.{Avoids, OthersAvoid, IsEagerBy, IsEager}
-use Rattle.eager_laws.specs.Dead.{hidden_of, AreAlike}
+use Rattle.eager_laws.proofs.Vocabulary.{◌≡◌, ◌<◌, ℕ, List, Bool, true, false, length, slice_get, arith, ap, sym, ◌∙◌, subst, action_of, Litmus, CoreState, State, program_of, core_of, Instr, Action, Store, Load, Move, Fence, Lock, Choice, Step, Drain, Avoids, OthersAvoid, IsEagerBy, IsEager, hidden_of, AreAlike}
 use Rattle.eager_laws.proofs.Alike.{place-same, pending-same, cores-alike}
 
 avoids-same : (loads : Bool) (l : ℕ) (p : List Instr) (s r : CoreState) → s.place ≡ r.place → s.pending ≡ r.pending → Avoids loads l p s → Avoids loads l p r

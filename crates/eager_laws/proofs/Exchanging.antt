@@ -1,28 +1,7 @@
 -- Two cores that are alike, exchanged: what the one did the other does.
-use Rattle.std.proofs.Common.{◌≡◌, ◌<◌, ◌≤◌, ℕ, ◌+◌, zero, suc, List, [], ◌∷◌, ◌++◌, Bool, true, false, Option, Some, None, length, map, filter, slice_get, slice_set, slice_index, slice_index_or, if◌then◌else◌, inl, inr, nat_lt, arith, ap, sym, ◌∙◌, refl, subst, ◌==◌, ◌&&◌, get_or-set_same, get_or-set_other}
-use Rattle.std.proofs.Math.ListN.{length-set}
-use Rattle.std.proofs.lemmas.List.{length-map, map-append}
-use Rattle.tso_model.specs.Actions.{action_of}
-use Rattle.tso_model.specs.Axioms.{last_value}
-use Rattle.tso_model.specs.Litmus.{Litmus}
-use Rattle.tso_model.specs.ProgramOrder.{writes_to}
-use Rattle.tso_model.specs.Thread.{entry, value_of, with_value}
-use Rattle.tso_model.specs.FlatMachine.{CoreState, State, Effect, idle, program_of, core_of, effect_by, step_of, drain_of, effect_of, chosen, applied, after_choice, memory_after, started, start, is_none_pending, stored, stalled, when_drained}
-use Rattle.tso_model.specs.Runs.{is_done, all_done, has_ended}
-use Rattle.tso_model.specs.declared.execution.Kind.TheVariants.{W}
-use Rattle.tso_model.specs.declared.instruction.Instr.{Instr}
-use Rattle.tso_model.specs.declared.instruction.Loc.{Loc}
-use Rattle.tso_model.specs.declared.action.Action.{Action}
-use Rattle.tso_model.specs.declared.action.Action.TheVariants.{Store, Load, Move, Fence, Lock}
-use Rattle.tso_model.specs.declared.execution.Entry.{Entry}
-use Rattle.tso_model.specs.declared.choice.Choice.{Choice}
-use Rattle.tso_model.specs.declared.choice.Choice.TheVariants.{Step, Drain}
-use Rattle.tso_model.specs.declared.choice.Stall.{Stall}
+use Rattle.eager_laws.proofs.Vocabulary.{◌≡◌, ◌<◌, ◌≤◌, ℕ, ◌+◌, zero, suc, List, [], ◌∷◌, ◌++◌, Bool, true, false, Option, Some, None, length, map, slice_get, slice_set, slice_index, slice_index_or, if◌then◌else◌, inl, inr, nat_lt, arith, ap, sym, ◌∙◌, refl, subst, ◌==◌, ◌&&◌, get_or-set_same, get_or-set_other, length-set, length-map, map-append, action_of, last_value, Litmus, writes_to, entry, value_of, with_value, CoreState, State, Effect, idle, program_of, core_of, effect_by, step_of, drain_of, effect_of, chosen, applied, after_choice, memory_after, started, start, is_none_pending, stored, stalled, when_drained, is_done, all_done, has_ended, W, Instr, Loc, Action, Store, Load, Move, Fence, Lock, Entry, Choice, Step, Drain, Stall, Buffered, decide, lt-or, and-left, and-right, hidden_of, forgotten_core, forgotten_cores, forgotten, CoresAreAlike, exchanged_core, exchanged_choice, exchanged_entry, renamed, exchanged, IsExchangeable}
+use Rattle.std.proofs.Common.{filter}
 use Rattle.tso_model.specs.declared.choice.Stall.TheVariants as stall
-use Rattle.tso_model.specs.declared.choice.Outcome.TheVariants.{Buffered}
-use Rattle.basic_laws.proofs.Basics.{decide, lt-or, and-left, and-right}
-use Rattle.eager_laws.specs.Dead.{hidden_of, forgotten_core, forgotten_cores, forgotten}
-use Rattle.eager_laws.specs.Exchanged.{CoresAreAlike, exchanged_core, exchanged_choice, exchanged_entry, renamed, exchanged, IsExchangeable}
 use Rattle.eager_laws.proofs.Alike.{core-at}
 use Rattle.eager_laws.proofs.Names.{core-twice, same-at, core-within, core-beyond, same-cores, same-state, cores-exchanged, core-exchanged, exchanged-twice}
 

@@ -1,3 +1,4 @@
+pub mod Vocabulary
 pub mod Waits
 pub mod Places
 pub mod Avoiding

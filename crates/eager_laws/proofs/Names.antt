@@ -1,14 +1,5 @@
 -- Two names exchanged: of a core, of the places of a list, and of what a core has pending.
-use Rattle.std.proofs.Common.{◌≡◌, ◌≢◌, ◌<◌, ◌≤◌, ◌==◌, ℕ, zero, suc, List, [], ◌∷◌, length, map, swap, slice_set, slice_index_or, if◌then◌else◌, inl, inr, arith, ap, sym, ◌∙◌, refl, subst, get_or-set_same, get_or-set_other}
-use Rattle.std.proofs.Math.ListN.{length-set}
-use Rattle.std.proofs.lemmas.List.Edits.{length-swap}
-use Rattle.std.proofs.lemmas.List.{length-map}
-use Rattle.tso_model.specs.FlatMachine.{CoreState, State, idle, core_of}
-use Rattle.tso_model.specs.declared.execution.Entry.{Entry}
-use Rattle.tso_model.specs.declared.choice.Choice.{Choice}
-use Rattle.tso_model.specs.declared.choice.Choice.TheVariants.{Step, Drain}
-use Rattle.basic_laws.proofs.Basics.{decide, test-true, test-false}
-use Rattle.eager_laws.specs.Exchanged.{exchanged_core, exchanged_choice, exchanged_entry, renamed, exchanged}
+use Rattle.eager_laws.proofs.Vocabulary.{◌≡◌, ◌≢◌, ◌<◌, ◌≤◌, ◌==◌, ℕ, zero, suc, List, [], ◌∷◌, length, map, swap, slice_set, slice_index_or, if◌then◌else◌, inl, inr, arith, ap, sym, ◌∙◌, refl, subst, get_or-set_same, get_or-set_other, length-set, length-swap, length-map, CoreState, State, idle, core_of, Entry, Choice, Step, Drain, decide, test-true, test-false, exchanged_core, exchanged_choice, exchanged_entry, renamed, exchanged}
 
 -- ---- a core's name
 

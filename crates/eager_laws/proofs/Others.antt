@@ -1,22 +1,6 @@
 -- An eager choice of one core beside a choice of another.
-use Rattle.std.proofs.Common.{◌≡◌, ◌≢◌, ◌<◌, ℕ, zero, suc, List, [], ◌∷◌, Bool, true, false, Option, Some, None, length, slice_get, slice_index, arith, ap, sym, ◌∙◌, refl, subst, inl, inr, nat_lt, if◌then◌else◌, get_or-set_same, get_or-set_other}
-use Rattle.std.specs.Prelude.{filter}
-use Rattle.tso_model.specs.Actions.{action_of}
-use Rattle.tso_model.specs.Litmus.{Litmus}
-use Rattle.tso_model.specs.Axioms.{last_value}
-use Rattle.tso_model.specs.ProgramOrder.{writes_to}
-use Rattle.tso_model.specs.Thread.{entry, value_in, value_of, updated}
-use Rattle.tso_model.specs.FlatMachine.{CoreState, State, idle, program_of, core_of, effect_by, step_of, drain_of, effect_of, chosen, memory_after, applied, after_choice, loaded, locked, stalled}
-use Rattle.tso_model.specs.declared.execution.Kind.TheVariants.{R, W}
-use Rattle.tso_model.specs.declared.instruction.Instr.{Instr}
-use Rattle.tso_model.specs.declared.action.Action.{Action}
-use Rattle.tso_model.specs.declared.action.Action.TheVariants.{Store, Load, Move, Fence, Lock}
-use Rattle.tso_model.specs.declared.execution.Entry.{Entry}
-use Rattle.tso_model.specs.declared.choice.Choice.{Choice}
-use Rattle.tso_model.specs.declared.choice.Choice.TheVariants.{Step, Drain}
+use Rattle.eager_laws.proofs.Vocabulary.{◌≡◌, ◌≢◌, ◌<◌, ℕ, zero, suc, List, [], ◌∷◌, Bool, true, false, Option, Some, None, length, slice_get, slice_index, arith, ap, sym, ◌∙◌, refl, subst, inl, inr, nat_lt, if◌then◌else◌, get_or-set_same, get_or-set_other, filter, action_of, Litmus, last_value, writes_to, entry, value_in, value_of, updated, CoreState, State, idle, program_of, core_of, effect_by, step_of, drain_of, effect_of, chosen, memory_after, applied, after_choice, loaded, locked, stalled, R, W, Instr, Action, Store, Load, Move, Fence, Lock, Entry, Choice, Step, Drain, decide, meets, Avoids, OthersAvoid, IsEagerBy, IsEager}
 use Rattle.tso_model.specs.declared.choice.Stall.TheVariants as stall
-use Rattle.basic_laws.proofs.Basics.{decide}
-use Rattle.eager_laws.specs.Eager.{meets, Avoids, OthersAvoid, IsEagerBy, IsEager}
 use Rattle.eager_laws.proofs.Places.{set-set-other, Silent, Only, NotAt, silent-same, elsewhere, only-elsewhere, commute}
 use Rattle.eager_laws.proofs.Avoiding.{differ, buffered, by-wait, by-drain, step-avoids, drain-avoids, step-after, drain-after}
 use Rattle.eager_laws.proofs.Waits.{Commutes}

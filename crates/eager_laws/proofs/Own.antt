@@ -1,18 +1,5 @@
 -- An eager choice of a core beside another choice of the same core.
-use Rattle.std.proofs.Common.{◌≡◌, ◌≢◌, ◌<◌, ℕ, ◌+◌, zero, suc, List, [], ◌∷◌, ◌++◌, Bool, true, false, Some, length, slice_get, slice_set, slice_index, arith, ap, sym, ◌∙◌, refl, ◌==◌, ◌&&◌, nat_lt, if◌then◌else◌, get_or-set_same, get_or-set_other}
-use Rattle.std.proofs.lemmas.Bool.Decides.{nat_tests}
-use Rattle.std.specs.Prelude.{filter}
-use Rattle.tso_model.specs.Actions.{action_of}
-use Rattle.tso_model.specs.Litmus.{Litmus}
-use Rattle.tso_model.specs.Axioms.{last_value}
-use Rattle.tso_model.specs.ProgramOrder.{is_write, writes_to}
-use Rattle.tso_model.specs.Thread.{entry, value_of, with_value}
-use Rattle.tso_model.specs.FlatMachine.{CoreState, State, Effect, idle, program_of, core_of, effect_by, step_of, drain_of, applied, after_choice, stored, stalled, step, drain}
-use Rattle.tso_model.specs.declared.execution.Kind.TheVariants.{W}
-use Rattle.tso_model.specs.declared.instruction.Instr.{Instr}
-use Rattle.tso_model.specs.declared.action.Action.{Action}
-use Rattle.tso_model.specs.declared.action.Action.TheVariants.{Store, Load, Move, Fence, Lock}
-use Rattle.tso_model.specs.declared.execution.Entry.{Entry}
+use Rattle.eager_laws.proofs.Vocabulary.{◌≡◌, ◌≢◌, ◌<◌, ℕ, ◌+◌, zero, suc, List, [], ◌∷◌, ◌++◌, Bool, true, false, Some, length, slice_get, slice_set, slice_index, arith, ap, sym, ◌∙◌, refl, ◌==◌, ◌&&◌, nat_lt, if◌then◌else◌, get_or-set_same, get_or-set_other, nat_tests, filter, action_of, Litmus, last_value, is_write, writes_to, entry, value_of, with_value, CoreState, State, Effect, idle, program_of, core_of, effect_by, step_of, drain_of, applied, after_choice, stored, stalled, step, drain, W, Instr, Action, Store, Load, Move, Fence, Lock, Entry}
 use Rattle.tso_model.specs.declared.choice.Stall.TheVariants as stall
 use Rattle.eager_laws.proofs.Places.{set-set-same, Silent, silent-same, put}
 use Rattle.eager_laws.proofs.Avoiding.{holding, drained, buffered}

@@ -1,10 +1,5 @@
 -- Writes at places of a list, and what entries do to memory.
-use Rattle.std.proofs.Common.{◌≡◌, ◌≢◌, ℕ, zero, suc, List, [], ◌∷◌, Bool, true, false, length, slice_set, slice_index, slice_index_or, ap, sym, ◌∙◌, refl, if◌then◌else◌, get_or-set_other}
-use Rattle.std.proofs.Math.ListN.{length-set}
-use Rattle.tso_model.specs.ProgramOrder.{is_write}
-use Rattle.tso_model.specs.FlatMachine.{CoreState, idle, memory_after}
-use Rattle.tso_model.specs.declared.execution.Entry.{Entry}
-use Rattle.basic_laws.proofs.Lists.{Each}
+use Rattle.eager_laws.proofs.Vocabulary.{◌≡◌, ◌≢◌, ℕ, zero, suc, List, [], ◌∷◌, Bool, true, false, length, slice_set, slice_index, slice_index_or, ap, sym, ◌∙◌, refl, if◌then◌else◌, get_or-set_other, length-set, is_write, CoreState, idle, memory_after, Entry, Each}
 
 pub set-set-same : {A : Type 0} (xs : List A) (k : ℕ) (a b : A) → slice_set (slice_set xs k a) k b ≡ slice_set xs k b
 set-set-same [] k a b = refl

@@ -1,13 +1,5 @@
 -- Where the test has ended, and what is seen there, by states that differ in dead registers alone.
-use Rattle.std.proofs.Common.{◌≡◌, ℕ, ◌+◌, suc, List, [], ◌∷◌, Bool, true, length, slice_index_or, map, drop, arith, ap, sym, ◌∙◌, refl, ◌==◌, ◌&&◌}
-use Rattle.std.proofs.lemmas.Bool.Decides.{nat_tests}
-use Rattle.basic_laws.proofs.Basics.{and-left, and-right}
-use Rattle.basic_laws.proofs.Lists.{drop-end}
-use Rattle.tso_model.specs.Litmus.{Litmus}
-use Rattle.tso_model.specs.FlatMachine.{CoreState, State, program_of, is_none_pending, registers_in}
-use Rattle.tso_model.specs.Runs.{is_done, all_done, has_ended}
-use Rattle.tso_model.specs.declared.instruction.Instr.{Instr}
-use Rattle.eager_laws.specs.Dead.{dead_at, cleared, none_hidden, hidden_of, forgotten_core, forgotten_cores, forgotten, AreAlike, seen_from, seen}
+use Rattle.eager_laws.proofs.Vocabulary.{◌≡◌, ℕ, ◌+◌, suc, List, [], ◌∷◌, Bool, true, length, slice_index_or, map, drop, arith, ap, sym, ◌∙◌, refl, ◌==◌, ◌&&◌, nat_tests, and-left, and-right, drop-end, Litmus, CoreState, State, program_of, is_none_pending, registers_in, is_done, all_done, has_ended, Instr, dead_at, cleared, none_hidden, hidden_of, forgotten_core, forgotten_cores, forgotten, AreAlike, seen_from, seen}
 use Rattle.eager_laws.proofs.Clearing.{clear-twice}
 
 -- where none is hidden all is seen

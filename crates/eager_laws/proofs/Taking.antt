@@ -1,15 +1,6 @@
 -- An eager choice takes effect.
-use Rattle.std.proofs.Common.{◌≡◌, ℕ, ap, ◌∙◌, refl}
-use Rattle.tso_model.specs.Actions.{action_of}
-use Rattle.tso_model.specs.Litmus.{Litmus}
-use Rattle.tso_model.specs.FlatMachine.{State, core_of, effect_by, effect_of, step_of}
-use Rattle.tso_model.specs.Runs.{stall_count}
-use Rattle.tso_model.specs.declared.action.Action.{Action}
-use Rattle.tso_model.specs.declared.action.Action.TheVariants.{Store, Load, Move, Fence, Lock}
-use Rattle.tso_model.specs.declared.choice.Choice.{Choice}
-use Rattle.tso_model.specs.declared.choice.Choice.TheVariants.{Step, Drain}
+use Rattle.eager_laws.proofs.Vocabulary.{◌≡◌, ℕ, ap, ◌∙◌, refl, action_of, Litmus, State, core_of, effect_by, effect_of, step_of, stall_count, Action, Store, Load, Move, Fence, Lock, Choice, Step, Drain, IsEagerBy, IsEager}
 use Rattle.tso_model.specs.declared.choice.Stall.TheVariants as stall
-use Rattle.eager_laws.specs.Eager.{IsEagerBy, IsEager}
 use Rattle.eager_laws.proofs.Beside.{acts-when}
 use Rattle.eager_laws.proofs.Own.{drain-is, store-room}
 

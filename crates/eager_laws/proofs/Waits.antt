@@ -1,10 +1,5 @@
 -- An eager choice can be made first: whatever the choices to the end, they lead there after it too, and are one fewer.
-use Rattle.std.proofs.Common.{◌≡◌, ℕ, zero, suc, inl, inr, sym, ◌∙◌, subst}
-use Rattle.tso_model.specs.Litmus.{Litmus}
-use Rattle.tso_model.specs.FlatMachine.{State, after_choice}
-use Rattle.tso_model.specs.declared.choice.Choice.{Choice}
-use Rattle.eager_laws.specs.Eager.{IsEager}
-use Rattle.eager_laws.specs.inner.Ending.{IsDead, Reaches, IsSized}
+use Rattle.eager_laws.proofs.Vocabulary.{◌≡◌, ℕ, zero, suc, inl, inr, sym, ◌∙◌, subst, Litmus, State, after_choice, Choice, IsEager, IsDead, Reaches, IsSized}
 
 -- the other choice leaves it eager, and the two may be made in either order
 pub record Commutes (d : ℕ) (t : Litmus) (s : State) (e c : Choice) : Type 0 where

@@ -1,4 +1,4 @@
--- An order in which no entry stands behind one that comes later in its program keeps all of program order.
+-- An order keeps all of program order exactly where no entry stands behind one that comes later in its program.
 use Rattle.std.proofs.Common.{◌≡◌, ◌<◌, ◌&&◌, ◌||◌, ℕ, zero, suc, true, false, not, Bool, List, [], ◌∷◌, Some, slice_get, arith, sym, refl, subst}
 use Rattle.std.specs.List.{list_any}
 use Rattle.std.proofs.lemmas.Bool.Decides.{nat_tests}
@@ -37,3 +37,21 @@ keeps_all (e ∷ es) h (suc i) zero x y p q b =
     absurd (none-at (λ v. is_before v e) es (not-both (is_preceded_by e es) (keeps es) h).0 i x p (subst (λ v. is_before x v ≡ true) (sym s) b))
 keeps_all (e ∷ es) h (suc i) (suc j) x y p q b =
     let l : i < j = keeps_all es (not-both (is_preceded_by e es) (keeps es) h).1 i j x y p q b in omega arith
+
+-- an entry that passes a test
+any-step : (p : Entry → Bool) (x : Entry) (xs : List Entry) (b : Bool) → p x ≡ b → (b || list_any p xs) ≡ true → (list_any p xs ≡ true → (k : ℕ) × (y : Entry) × (slice_get xs k ≡ Some y) × (p y ≡ true))
+    → (k : ℕ) × (y : Entry) × (slice_get (x ∷ xs) k ≡ Some y) × (p y ≡ true)
+any-step p x xs true e h rest = (0, x, refl, e)
+any-step p x xs false e h rest = let r = rest h in (suc r.0, r.1, r.2, r.3)
+
+any-at : (p : Entry → Bool) (xs : List Entry) → list_any p xs ≡ true → (k : ℕ) × (y : Entry) × (slice_get xs k ≡ Some y) × (p y ≡ true)
+any-at p [] h = absurd (let z : ⊥ = cc in z)
+any-at p (x ∷ xs) h = any-step p x xs (p x) refl h (any-at p xs)
+
+pub all_kept : (order : List Entry) → KeepsAllOrder order → keeps order ≡ true
+all_kept [] h = refl
+all_kept (x ∷ xs) h = both (is_preceded_by x xs) refl (all_kept xs (λ i j y z p q b. let l : suc i < suc j = h (suc i) (suc j) y z p q b in omega arith))
+  where
+    both : (b : Bool) → is_preceded_by x xs ≡ b → keeps xs ≡ true → (not b && keeps xs) ≡ true
+    both false e k = k
+    both true e k = let r = any-at (λ y. is_before y x) xs e in absurd (let l : suc r.0 < 0 = h (suc r.0) 0 r.1 x r.2 refl r.3 in omega arith)

@@ -1,5 +1,5 @@
 //! Whether an order is an execution of a model in whose final state what a test asks is true.
-ghost use Rattle.std.specs.Prelude.{◌≡◌, true, IfOk, length};
+ghost use Rattle.std.specs.Prelude.{◌≡◌, ◌↔◌, true, false, IfOk, IsTrue, length};
 ghost use Rattle.tso_model.specs.Condition.{truth_of, NamesExist};
 ghost use Rattle.tso_model.specs.FinalState.{final_registers, final_words};
 ghost use Rattle.tso_model.specs.SequentialConsistency.{KeepsAllOrder};
@@ -38,7 +38,7 @@ fn keeps_all_order(order: &[Entry]) -> bool
 
 /// Whether the order is a TSO execution.
 fn is_tso_execution(alloc: Global, test: &Test, execution: &Execution) -> Result<bool, NoMemory>
-    ensures { IfOk result (λ b. b ≡ true → IsTsoExecution test.now execution.now.order.items) }
+    ensures { IfOk result (λ b. IsTrue b ↔ IsTsoExecution test.now execution.now.order.items) }
 {
     match check_order(alloc, test, execution) {
         Ok(()) => Ok(true),
@@ -47,14 +47,14 @@ fn is_tso_execution(alloc: Global, test: &Test, execution: &Execution) -> Result
     }
 }
 
-#[tactic(auto, using(crate::proofs::Keeping::keeps_all))]
+#[tactic(auto, using(crate::proofs::Keeping::keeps_all, crate::proofs::Keeping::all_kept))]
 fn is_execution(
     alloc: Global,
     test: &Test,
     model: Model,
     execution: &Execution,
 ) -> Result<bool, NoMemory>
-    ensures { IfOk result (λ b. b ≡ true → IsExecutionOf model test.now execution.now.order.items) }
+    ensures { IfOk result (λ b. IsTrue b ↔ IsExecutionOf model test.now execution.now.order.items) }
 {
     match model {
         Model::Tso => is_tso_execution(alloc, test, execution),
@@ -95,7 +95,8 @@ pub fn is_met(
     model: Model,
     execution: &Execution,
 ) -> Result<bool, NoMemory>
-    ensures { IfOk result (λ b. b ≡ true → IsMet model test.now (asked test.now.condition) execution.now.order.items) }
+    ensures met { IfOk result (λ b. b ≡ true → IsMet model test.now (asked test.now.condition) execution.now.order.items) }
+    ensures unmet { IfOk result (λ b. b ≡ false → ¬ IsMet model test.now (asked test.now.condition) execution.now.order.items) }
 {
     if !is_execution(alloc, test, model, execution)? {
         return Ok(false);

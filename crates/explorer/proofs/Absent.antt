@@ -1,12 +1,5 @@
 -- A core that isn't there has nothing to do.
-use Rattle.std.proofs.Common.{◌≡◌, ◌≤◌, ℕ, zero, suc, Bool, List, [], ◌∷◌, length, map, slice_get, slice_index_or, arith, ap, refl}
-use Rattle.tso_model.specs.Litmus.{Litmus}
-use Rattle.tso_model.specs.FlatMachine.{program_of, core_of, idle}
-use Rattle.tso_model.specs.declared.instruction.Instr.{Instr}
-use Rattle.eager_laws.specs.Eager.{Avoids}
-use Rattle.flat_machine.specs.State.{state_of, core_of_processor}
-use Rattle.flat_machine.specs.declared.snapshot.Processor.{Processor}
-use Rattle.flat_machine.specs.declared.snapshot.Snapshot.{Snapshot}
+use Rattle.explorer.proofs.Vocabulary.{◌≡◌, ◌≤◌, ℕ, zero, suc, Bool, List, [], ◌∷◌, length, map, slice_get, slice_index_or, arith, ap, refl, Litmus, program_of, core_of, idle, Instr, Avoids, state_of, core_of_processor, Processor, Snapshot}
 
 no-program : (ps : List (List Instr)) (k : ℕ) → length ps ≤ k → slice_index_or ps k [] ≡ []
 no-program [] k l = refl

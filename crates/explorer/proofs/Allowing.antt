@@ -1,11 +1,5 @@
 -- The final states that a search finds are what TSO allows.
-use Rattle.std.proofs.Common.{◌≡◌, ℕ, Bool, List, sym, subst}
-use Rattle.tso_model.specs.Limits.{most_depth}
-use Rattle.tso_model.specs.Litmus.{Litmus, IsTest}
-use Rattle.tso_model.specs.declared.choice.Choice.{Choice}
-use Rattle.outcome_laws.specs.Outcomes.{IsEnd, LeadToEnd, EndsAreWhatTsoAllows}
-use Rattle.explorer.specs.FinalStates.{AreReached, HaveEveryEnd, AreWhatTsoAllows, AreWhatSequentialConsistencyAllows}
-use Rattle.explorer.specs.declared.final_states.FinalState.{FinalState}
+use Rattle.explorer.proofs.Vocabulary.{◌≡◌, ℕ, Bool, List, sym, subst, most_depth, Litmus, IsTest, Choice, IsEnd, LeadToEnd, EndsAreWhatTsoAllows, AreReached, HaveEveryEnd, AreWhatTsoAllows, AreWhatSequentialConsistencyAllows, FinalState}
 
 -- what choices lead to is an end
 end-of : (t : Litmus) (d : ℕ) (cs : List Choice) (r : List (List ℕ)) (m : List ℕ) → LeadToEnd t d cs r m → IsEnd t d r m

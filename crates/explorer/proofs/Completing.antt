@@ -1,20 +1,5 @@
 -- What exchanges make of the snapshots in which the test has ended, and that what was exchanged on the way is found among them.
-use Rattle.std.proofs.Common.{◌≡◌, ◌<◌, ◌≤◌, ℕ, ◌+◌, zero, suc, Bool, true, List, [], ◌∷◌, length, map, Some, slice_get, inl, inr, arith, ap, sym, ◌∙◌, subst, refl}
-use Rattle.std.proofs.Math.ListN.{length-set}
-use Rattle.basic_laws.proofs.Basics.{lt-or}
-use Rattle.tso_model.specs.Litmus.{Litmus}
-use Rattle.tso_model.specs.FlatMachine.{State, start, effect_of, after_choice, chosen}
-use Rattle.tso_model.specs.Runs.{run, has_ended}
-use Rattle.tso_model.specs.declared.choice.Choice.{Choice}
-use Rattle.tso_laws.specs.Choices.{state_after}
-use Rattle.tso_laws.specs.inner.Laws.{RunsStopWhereTheyEnd}
-use Rattle.eager_laws.specs.Closed.{IsIn}
-use Rattle.eager_laws.specs.Dead.{forgotten, AreAlike, DeadRegistersChangeNothing}
-use Rattle.eager_laws.specs.Exchanged.{exchanged, exchanged_by, IsOneOf, AreOf, AreAllAlike, AlikeCoresAreExchangeable}
-use Rattle.flat_machine.specs.State.{state_of}
-use Rattle.explorer.specs.inner.Arranged.{HasExchanged, AreExchanged}
-use Rattle.explorer.specs.inner.Settled.{Grows, HaveCores, LeadTo}
-use Rattle.flat_machine.specs.declared.snapshot.Snapshot.{Snapshot}
+use Rattle.explorer.proofs.Vocabulary.{◌≡◌, ◌<◌, ◌≤◌, ℕ, ◌+◌, zero, suc, Bool, true, List, [], ◌∷◌, length, map, Some, slice_get, inl, inr, arith, ap, sym, ◌∙◌, subst, refl, length-set, lt-or, Litmus, State, start, effect_of, after_choice, chosen, run, has_ended, Choice, state_after, RunsStopWhereTheyEnd, IsIn, forgotten, AreAlike, DeadRegistersChangeNothing, exchanged, exchanged_by, IsOneOf, AreOf, AreAllAlike, AlikeCoresAreExchangeable, state_of, HasExchanged, AreExchanged, Grows, HaveCores, LeadTo, Snapshot}
 use Rattle.explorer.proofs.Ending.{length-map}
 use Rattle.explorer.proofs.Exchanging.{start-cores, length-exchanged}
 use Rattle.explorer.proofs.Linking.{get-back, get-within, get-or}

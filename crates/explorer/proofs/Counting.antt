@@ -1,16 +1,5 @@
 -- The snapshots of a set have as many states as they are.
-use Rattle.std.proofs.Common.{◌≡◌, ◌<◌, ℕ, zero, suc, Bool, false, List, [], ◌∷◌, Some, slice_get, length, arith, ap, sym, ◌∙◌, subst, refl}
-use Rattle.std.specs.List.{IsDistinct, AllByRecursion}
-use Rattle.std.proofs.lemmas.Map.Keys.{IsDistinct-head, IsDistinct-tail, IsDistinct-cons}
-use Rattle.tso_model.specs.Litmus.{Litmus}
-use Rattle.tso_model.specs.FlatMachine.{State}
-use Rattle.eager_laws.specs.Dead.{forgotten, DeadRegistersChangeNothing}
-use Rattle.eager_laws.specs.Exchanged.{AlikeCoresAreExchangeable}
-use Rattle.flat_machine.specs.State.{state_of}
-use Rattle.explorer.specs.inner.Settled.{AreLinked}
-use Rattle.explorer.specs.FinalStates.{IsReachable, HasMoreStates}
-use Rattle.flat_machine.specs.declared.snapshot.Snapshot.{Snapshot}
-use Rattle.explorer.specs.declared.link.Link.{Link}
+use Rattle.explorer.proofs.Vocabulary.{◌≡◌, ◌<◌, ℕ, zero, suc, Bool, false, List, [], ◌∷◌, Some, slice_get, length, arith, ap, sym, ◌∙◌, subst, refl, IsDistinct, AllByRecursion, IsDistinct-head, IsDistinct-tail, IsDistinct-cons, Litmus, State, forgotten, DeadRegistersChangeNothing, AlikeCoresAreExchangeable, state_of, AreLinked, IsReachable, HasMoreStates, Snapshot, Link}
 use Rattle.flat_machine.specs.contracts.snapshot.SnapshotPartialEq.TheImpl as snapshot_eq
 use Rattle.explorer.proofs.Same.{snapshots-equal}
 use Rattle.explorer.proofs.Linking.{linked-leads, reachable}

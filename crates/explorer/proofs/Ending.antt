@@ -1,23 +1,5 @@
 -- States in which the test has ended, and choices that lead there.
-use Rattle.std.proofs.Common.{◌≡◌, ◌<◌, ℕ, ◌+◌, zero, suc, Bool, true, false, ◌==◌, List, [], ◌∷◌, length, map, drop, slice_index_or, if◌then◌else◌, arith, ap, sym, ◌∙◌, refl}
-use Rattle.std.proofs.Math.ListN.{length-set}
-use Rattle.std.proofs.lemmas.Bool.Decides.{nat_tests}
-use Rattle.std.proofs.lemmas.Option.{slice_get-get_or}
-use Rattle.basic_laws.proofs.Lists.{drop-at}
-use Rattle.basic_laws.proofs.Basics.{and-left, and-right}
-use Rattle.tso_model.specs.Litmus.{Litmus}
-use Rattle.tso_model.specs.FlatMachine.{CoreState, State, idle, is_none_pending, program_of, core_of, step_of, drain_of, effect_of, chosen, after_choice, start, registers_in}
-use Rattle.tso_model.specs.Runs.{is_done, all_done, has_ended, stall_count, resting, then_run, run_from}
-use Rattle.tso_model.specs.declared.instruction.Instr.{Instr}
-use Rattle.tso_model.specs.declared.execution.Entry.{Entry}
-use Rattle.tso_model.specs.declared.choice.Choice.{Choice}
-use Rattle.tso_model.specs.declared.choice.Choice.TheVariants.{Step, Drain}
-use Rattle.outcome_laws.specs.Outcomes.{LeadToEnd}
-use Rattle.flat_machine.specs.State.{core_of_processor, state_of}
-use Rattle.explorer.specs.Settled.{LeadsBy}
-use Rattle.flat_machine.specs.declared.snapshot.Processor.{Processor}
-use Rattle.flat_machine.specs.declared.snapshot.Snapshot.{Snapshot}
-use Rattle.flat_machine.proofs.Choosing.{beyond}
+use Rattle.explorer.proofs.Vocabulary.{◌≡◌, ◌<◌, ℕ, ◌+◌, zero, suc, Bool, true, false, ◌==◌, List, [], ◌∷◌, length, map, drop, slice_index_or, if◌then◌else◌, arith, ap, sym, ◌∙◌, refl, length-set, nat_tests, slice_get-get_or, drop-at, and-left, and-right, Litmus, CoreState, State, idle, is_none_pending, program_of, core_of, step_of, drain_of, effect_of, chosen, after_choice, start, registers_in, is_done, all_done, has_ended, stall_count, resting, then_run, run_from, Instr, Entry, Choice, Step, Drain, LeadToEnd, core_of_processor, state_of, LeadsBy, Processor, Snapshot, beyond}
 use Rattle.explorer.proofs.Exchanging.{start-cores}
 use Rattle.explorer.proofs.Linking.{leads-cores}
 

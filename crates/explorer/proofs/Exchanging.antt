@@ -1,20 +1,5 @@
 -- Exchanges of cores that are alike, in choices that lead from the first state to another one.
-use Rattle.std.proofs.Common.{◌≡◌, ◌<◌, ℕ, ◌+◌, zero, suc, Bool, true, false, List, [], ◌∷◌, ◌++◌, length, map, Some, slice_get, if◌then◌else◌, ◌==◌, ap, sym, ◌∙◌, subst, refl, append_assoc}
-use Rattle.std.proofs.Math.ListN.{length-set}
-use Rattle.std.proofs.lemmas.List.{length-map}
-use Rattle.std.proofs.lemmas.List.Edits.{length-swap}
-use Rattle.tso_model.specs.Litmus.{Litmus}
-use Rattle.tso_model.specs.FlatMachine.{State, started, start, effect_of, after_choice, chosen}
-use Rattle.tso_model.specs.Runs.{stall_count}
-use Rattle.tso_model.specs.declared.instruction.Instr.{Instr}
-use Rattle.tso_model.specs.declared.choice.Choice.{Choice}
-use Rattle.tso_model.specs.declared.choice.Choice.TheVariants.{Step, Drain}
-use Rattle.eager_laws.specs.Dead.{forgotten}
-use Rattle.eager_laws.specs.Exchanged.{exchanged_core, exchanged_choice, renamed, exchanged, exchanged_by, AreOf, CoresAreAlike, AreAllAlike, IsExchangeable, AlikeCoresAreExchangeable}
-use Rattle.explorer.specs.Settled.{LeadsBy, LeadsTo}
-use Rattle.explorer.specs.inner.Arranged.{played}
-use Rattle.explorer.specs.declared.link.Turn.TheVariants.{Made, Exchanged}
-use Rattle.basic_laws.proofs.Lists.{append-nil}
+use Rattle.explorer.proofs.Vocabulary.{◌≡◌, ◌<◌, ℕ, ◌+◌, zero, suc, Bool, true, false, List, [], ◌∷◌, ◌++◌, length, map, Some, slice_get, if◌then◌else◌, ◌==◌, ap, sym, ◌∙◌, subst, refl, append_assoc, length-set, length-map, length-swap, Litmus, State, started, start, effect_of, after_choice, chosen, stall_count, Instr, Choice, Step, Drain, forgotten, exchanged_core, exchanged_choice, renamed, exchanged, exchanged_by, AreOf, CoresAreAlike, AreAllAlike, IsExchangeable, AlikeCoresAreExchangeable, LeadsBy, LeadsTo, played, Made, Exchanged, append-nil}
 
 -- ---- pairs
 

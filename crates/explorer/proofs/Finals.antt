@@ -1,20 +1,5 @@
 -- The final states among the snapshots, one more at a time.
-use Rattle.std.proofs.Common.{◌≡◌, ◌<◌, ℕ, ◌+◌, Bool, true, false, List, [], ◌∷◌, ◌++◌, length, map, Some, slice_get, inl, inr, arith, ap, sym, ◌∙◌, subst, refl}
-use Rattle.std.specs.List.{IsDistinct}
-use Rattle.basic_laws.proofs.Basics.{lt-or}
-use Rattle.tso_model.specs.Litmus.{Litmus, IsTest}
-use Rattle.tso_model.specs.FlatMachine.{State, registers_in}
-use Rattle.tso_model.specs.Runs.{run, has_ended}
-use Rattle.tso_laws.specs.inner.Laws.{RunsStopWhereTheyEnd}
-use Rattle.eager_laws.specs.Closed.{ClosedStatesMissNone}
-use Rattle.eager_laws.specs.Dead.{forgotten, AreAlike, seen, DeadRegistersChangeNothing}
-use Rattle.eager_laws.specs.Exchanged.{AreAllAlike, AlikeCoresAreExchangeable}
-use Rattle.flat_machine.specs.State.{state_of}
-use Rattle.explorer.specs.inner.Settled.{HaveCores}
-use Rattle.explorer.specs.FinalStates.{AreReached, Have, HaveEveryEnd, AreDistinct}
-use Rattle.explorer.specs.inner.Collected.{IsFinalOf, IsMadeOf, AreFinalsOf, IsWhole}
-use Rattle.flat_machine.specs.declared.snapshot.Snapshot.{Snapshot}
-use Rattle.explorer.specs.declared.final_states.FinalState.{FinalState}
+use Rattle.explorer.proofs.Vocabulary.{◌≡◌, ◌<◌, ℕ, ◌+◌, Bool, true, false, List, [], ◌∷◌, ◌++◌, length, map, Some, slice_get, inl, inr, arith, ap, sym, ◌∙◌, subst, refl, IsDistinct, lt-or, Litmus, IsTest, State, registers_in, run, has_ended, RunsStopWhereTheyEnd, ClosedStatesMissNone, forgotten, AreAlike, seen, DeadRegistersChangeNothing, AreAllAlike, AlikeCoresAreExchangeable, state_of, HaveCores, AreReached, Have, HaveEveryEnd, AreDistinct, IsFinalOf, IsMadeOf, AreFinalsOf, IsWhole, Snapshot, FinalState}
 use Rattle.flat_machine.specs.contracts.snapshot.SnapshotPartialEq.TheImpl as snapshot_eq
 use Rattle.explorer.proofs.Counting.{apart}
 use Rattle.explorer.proofs.Ending.{ended-same, leads-to-end}

@@ -1,13 +1,5 @@
 -- Dead registers, forgotten one after the other, and core by core.
-use Rattle.std.proofs.Common.{◌≡◌, ◌<◌, ◌≤◌, ℕ, ◌+◌, ◌-◌, zero, suc, Bool, true, false, List, [], ◌∷◌, ◌++◌, length, Some, slice_get, slice_set, slice_index, slice_index_or, inl, inr, drop, take, if◌then◌else◌, arith, ap, sym, ◌∙◌, refl}
-use Rattle.std.proofs.lemmas.Option.{slice_get-get_or}
-use Rattle.basic_laws.proofs.Basics.{lt-or}
-use Rattle.basic_laws.proofs.Lists.{drop-end}
-use Rattle.tso_model.specs.Litmus.{Litmus}
-use Rattle.tso_model.specs.FlatMachine.{CoreState, idle, program_of}
-use Rattle.tso_model.specs.declared.instruction.Instr.{Instr}
-use Rattle.eager_laws.specs.Dead.{dead_at, cleared, hidden_of, forgotten_core, forgotten_cores}
-use Rattle.explorer.specs.inner.Planned.{AreDead}
+use Rattle.explorer.proofs.Vocabulary.{◌≡◌, ◌<◌, ◌≤◌, ℕ, ◌+◌, ◌-◌, zero, suc, Bool, true, false, List, [], ◌∷◌, ◌++◌, length, Some, slice_get, slice_set, slice_index, slice_index_or, inl, inr, drop, take, if◌then◌else◌, arith, ap, sym, ◌∙◌, refl, slice_get-get_or, lt-or, drop-end, Litmus, CoreState, idle, program_of, Instr, dead_at, cleared, hidden_of, forgotten_core, forgotten_cores, AreDead}
 
 -- ---- one register more
 

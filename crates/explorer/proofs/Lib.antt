@@ -1,3 +1,4 @@
+pub mod Vocabulary
 pub mod Same
 pub mod Absent
 pub mod Exchanging

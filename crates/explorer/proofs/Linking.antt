@@ -1,27 +1,5 @@
 -- Links lead to their snapshots.
-use Rattle.std.proofs.Common.{◌≡◌, ◌<◌, ◌≤◌, ℕ, ◌+◌, zero, suc, Bool, true, false, List, [], ◌∷◌, ◌++◌, length, Some, slice_get, slice_index_or, if◌then◌else◌, inl, inr, arith, ap, sym, ◌∙◌, subst, refl, length-append, get_or, take, map, append_assoc}
-use Rattle.std.specs.Prelude.{not}
-use Rattle.std.proofs.lemmas.Option.{slice_get-get_or}
-use Rattle.std.proofs.lemmas.List.{map-append, take_more}
-use Rattle.std.specs.List.{list_any}
-use Rattle.indexmap.specs.IndexSet.{insert_key}
-use Rattle.basic_laws.proofs.Basics.{lt-or}
-use Rattle.tso_model.specs.Litmus.{Litmus}
-use Rattle.tso_model.specs.FlatMachine.{State, after_choice, start, effect_of, chosen}
-use Rattle.tso_model.specs.Runs.{CoresExist, stall_count}
-use Rattle.tso_model.specs.declared.choice.Choice.{Choice}
-use Rattle.tso_laws.specs.Choices.{state_after}
-use Rattle.flat_machine.specs.State.{state_of}
-use Rattle.eager_laws.specs.Closed.{LeadsEagerly}
-use Rattle.eager_laws.specs.Dead.{forgotten, AreAlike, DeadRegistersChangeNothing}
-use Rattle.eager_laws.specs.Exchanged.{exchanged_by, AreOf, AreAllAlike, AlikeCoresAreExchangeable}
-use Rattle.explorer.specs.Settled.{LeadsBy, LeadsTo, IsSettled}
-use Rattle.explorer.specs.inner.Settled.{LeadByTurns, IsReached, IsLinked, AreLinked, IsPath, GoBack}
-use Rattle.explorer.specs.inner.Arranged.{played, IsArranged}
-use Rattle.explorer.specs.declared.link.Turn.{Turn}
-use Rattle.explorer.specs.FinalStates.{IsReachable}
-use Rattle.flat_machine.specs.declared.snapshot.Snapshot.{Snapshot}
-use Rattle.explorer.specs.declared.link.Link.{Link}
+use Rattle.explorer.proofs.Vocabulary.{◌≡◌, ◌<◌, ◌≤◌, ℕ, ◌+◌, zero, suc, Bool, true, false, List, [], ◌∷◌, ◌++◌, length, Some, slice_get, slice_index_or, if◌then◌else◌, inl, inr, arith, ap, sym, ◌∙◌, subst, refl, length-append, get_or, take, map, append_assoc, not, slice_get-get_or, map-append, take_more, list_any, insert_key, lt-or, Litmus, State, after_choice, start, effect_of, chosen, CoresExist, stall_count, Choice, state_after, state_of, LeadsEagerly, forgotten, AreAlike, DeadRegistersChangeNothing, exchanged_by, AreOf, AreAllAlike, AlikeCoresAreExchangeable, LeadsBy, LeadsTo, IsSettled, LeadByTurns, IsReached, IsLinked, AreLinked, IsPath, GoBack, played, IsArranged, Turn, IsReachable, Snapshot, Link}
 use Rattle.explorer.proofs.Exchanging.{leads-exchanged, of-alike, played-is}
 
 -- ---- places of a list

@@ -1,13 +1,5 @@
 -- Which registers are dead, worked out from the end of a program on.
-use Rattle.std.proofs.Common.{◌≡◌, ◌≤◌, ℕ, ◌+◌, Bool, List, [], ◌∷◌, ◌++◌, length, Some, slice_get, slice_index_or, inl, inr, drop, arith, ap, sym, ◌∙◌, subst, refl, length-append}
-use Rattle.std.proofs.lemmas.Option.{slice_get-get_or}
-use Rattle.basic_laws.proofs.Basics.{lt-or}
-use Rattle.basic_laws.proofs.Lists.{drop-at, drop-end}
-use Rattle.tso_model.specs.Actions.{action_of}
-use Rattle.tso_model.specs.declared.instruction.Instr.{Instr}
-use Rattle.tso_model.specs.declared.action.Action.{Action}
-use Rattle.eager_laws.specs.Dead.{dead_before, dead_at}
-use Rattle.explorer.specs.inner.Planned.{AreDead}
+use Rattle.explorer.proofs.Vocabulary.{◌≡◌, ◌≤◌, ℕ, ◌+◌, Bool, List, [], ◌∷◌, ◌++◌, length, Some, slice_get, slice_index_or, inl, inr, drop, arith, ap, sym, ◌∙◌, subst, refl, length-append, slice_get-get_or, lt-or, drop-at, drop-end, action_of, Instr, Action, dead_before, dead_at, AreDead}
 use Rattle.explorer.proofs.Linking.{get-left, get-back, get-last}
 
 -- the rows of the places with at most so many instructions still to come

@@ -1,15 +1,6 @@
 -- Snapshots are equal by == exactly where their states are the same.
-use Rattle.std.proofs.Common.{◌≡◌, ℕ, List, [], ◌∷◌, Bool, true, ◌&&◌, map, ap, refl, rules, subst}
-use Rattle.std.specs.Cmp.Lexicographic.{pointwise}
-use Rattle.std.proofs.lemmas.Bool.{eqb-true, eq-eqb}
-use Rattle.std.proofs.Common.{eqb, false, sym}
+use Rattle.explorer.proofs.Vocabulary.{◌≡◌, ℕ, List, [], ◌∷◌, Bool, true, ◌&&◌, map, ap, refl, rules, subst, pointwise, eqb-true, eq-eqb, eqb, false, sym, and-left, and-right, Entry, CoreState, State, core_of_processor, state_of, Processor, Snapshot}
 use mathlib.Core.Bool.{beq}
-use Rattle.basic_laws.proofs.Basics.{and-left, and-right}
-use Rattle.tso_model.specs.declared.execution.Entry.{Entry}
-use Rattle.tso_model.specs.FlatMachine.{CoreState, State}
-use Rattle.flat_machine.specs.State.{core_of_processor, state_of}
-use Rattle.flat_machine.specs.declared.snapshot.Processor.{Processor}
-use Rattle.flat_machine.specs.declared.snapshot.Snapshot.{Snapshot}
 use Rattle.tso_model.specs.contracts.execution.EntryPartialEq.TheImpl as entry_eq
 use Rattle.flat_machine.specs.contracts.snapshot.ProcessorPartialEq.TheImpl as processor_eq
 use Rattle.flat_machine.specs.contracts.snapshot.SnapshotPartialEq.TheImpl as snapshot_eq

@@ -1,25 +1,5 @@
 -- What the search keeps, step by step.
-use Rattle.std.proofs.Common.{◌≡◌, ◌<◌, ◌≤◌, ℕ, ◌+◌, zero, suc, Bool, true, false, List, [], ◌∷◌, ◌++◌, length, map, Some, slice_get, slice_index_or, if◌then◌else◌, inl, inr, arith, ap, sym, ◌∙◌, subst, refl, append_assoc, length-append, drop, ◌==◌, ◌||◌}
-use Rattle.std.specs.List.{list_any}
-use Rattle.indexmap.specs.IndexSet.{insert_key}
-use Rattle.basic_laws.proofs.Basics.{lt-or}
-use Rattle.basic_laws.proofs.Lists.{append-nil}
-use Rattle.tso_model.specs.Litmus.{Litmus}
-use Rattle.tso_model.specs.FlatMachine.{State, after_choice, effect_of, start, chosen, step, drain}
-use Rattle.tso_model.specs.declared.execution.Entry.{Entry}
-use Rattle.tso_model.specs.declared.choice.Choice.{Choice}
-use Rattle.tso_model.specs.declared.choice.Choice.TheVariants.{Step, Drain}
-use Rattle.tso_model.specs.Runs.{stall_count}
-use Rattle.eager_laws.specs.Eager.{IsEager}
-use Rattle.eager_laws.specs.Closed.{LeadsEagerly, IsIn, IsCovered, IsExpanded, AreClosed}
-use Rattle.eager_laws.specs.Dead.{forgotten}
-use Rattle.eager_laws.specs.Exchanged.{exchanged_by}
-use Rattle.flat_machine.specs.State.{state_of}
-use Rattle.explorer.specs.Settled.{LeadsBy, IsSettled}
-use Rattle.explorer.specs.inner.Settled.{Grows, HaveCores, IsFirst, IsReached, IsVisited, AreVisited, AreLinked}
-use Rattle.flat_machine.specs.declared.snapshot.Snapshot.{Snapshot}
-use Rattle.explorer.specs.declared.link.Link.{Link}
-use Rattle.explorer.specs.declared.link.Turn.TheVariants.{Made, Exchanged}
+use Rattle.explorer.proofs.Vocabulary.{◌≡◌, ◌<◌, ◌≤◌, ℕ, ◌+◌, zero, suc, Bool, true, false, List, [], ◌∷◌, ◌++◌, length, map, Some, slice_get, slice_index_or, if◌then◌else◌, inl, inr, arith, ap, sym, ◌∙◌, subst, refl, append_assoc, length-append, drop, ◌==◌, ◌||◌, list_any, insert_key, lt-or, append-nil, Litmus, State, after_choice, effect_of, start, chosen, step, drain, Entry, Choice, Step, Drain, stall_count, IsEager, LeadsEagerly, IsIn, IsCovered, IsExpanded, AreClosed, forgotten, exchanged_by, state_of, LeadsBy, IsSettled, Grows, HaveCores, IsFirst, IsReached, IsVisited, AreVisited, AreLinked, Snapshot, Link, Made, Exchanged}
 use Rattle.explorer.proofs.Exchanging.{none-alike}
 use Rattle.explorer.proofs.Linking.{get-left, get-back, leads-append, linked-first}
 

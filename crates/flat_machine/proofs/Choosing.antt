@@ -1,20 +1,6 @@
 -- A choice in a snapshot is the choice in its state.
-use Rattle.std.proofs.Common.{◌≡◌, ℕ, ◌<◌, ◌≤◌, zero, suc, List, [], ◌∷◌, length, map, Some, None, slice_get, slice_set, slice_index_or, Result, Ok, Err, OnOk, refl, ap, sym, ◌∙◌, arith, true, false, ◌==◌}
-use Rattle.std.proofs.lemmas.Option.{slice_get-get_or}
-use Rattle.tso_model.specs.Actions.{action_of}
-use Rattle.tso_model.specs.Litmus.{Litmus}
-use Rattle.tso_model.specs.FlatMachine.{CoreState, State, Effect, idle, program_of, core_of, step_of, effect_by, drain_of, effect_of, memory_after, applied, after_choice, chosen, step, drain, stalled}
-use Rattle.tso_model.specs.declared.instruction.Instr.{Instr}
-use Rattle.tso_model.specs.declared.action.Action.{Action}
-use Rattle.tso_model.specs.declared.choice.Choice.{Choice}
-use Rattle.tso_model.specs.declared.choice.Stall.{Stall}
+use Rattle.flat_machine.proofs.Vocabulary.{◌≡◌, ℕ, ◌<◌, ◌≤◌, zero, suc, List, [], ◌∷◌, length, map, Some, None, slice_get, slice_set, slice_index_or, Result, Ok, Err, OnOk, refl, ap, sym, ◌∙◌, arith, true, false, ◌==◌, slice_get-get_or, action_of, Litmus, CoreState, State, Effect, idle, program_of, core_of, step_of, effect_by, drain_of, effect_of, memory_after, applied, after_choice, chosen, step, drain, stalled, Instr, Action, Choice, Stall, Outcome, Committed, Buffered, Moved, Asked, Stalled, stall_count, core_of_processor, state_of, Processor, Snapshot}
 use Rattle.tso_model.specs.declared.choice.Stall.TheVariants as stall
-use Rattle.tso_model.specs.declared.choice.Outcome.{Outcome}
-use Rattle.tso_model.specs.declared.choice.Outcome.TheVariants.{Committed, Buffered, Moved, Asked, Stalled}
-use Rattle.tso_model.specs.Runs.{stall_count}
-use Rattle.flat_machine.specs.State.{core_of_processor, state_of}
-use Rattle.flat_machine.specs.declared.snapshot.Processor.{Processor}
-use Rattle.flat_machine.specs.declared.snapshot.Snapshot.{Snapshot}
 
 pub on-ok : {A E : Type 0} {P Q : Type 0} (r : Result A E) → (P → Q) → OnOk r P → OnOk r Q
 on-ok (Ok a) f h = f h

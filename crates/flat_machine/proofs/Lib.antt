@@ -1,3 +1,4 @@
+pub mod Vocabulary
 pub mod Starting
 pub mod Choosing
 pub mod Onward

@@ -1,12 +1,5 @@
 -- A run, as far as it was made: what is left of the choices leaves from here on what the whole run leaves.
-use Rattle.std.proofs.Common.{◌≡◌, ℕ, Bool, true, false, if◌then◌else◌, List, [], ◌∷◌, length, slice_set, refl, ap, sym, ◌∙◌}
-use Rattle.std.proofs.Math.ListN.{length-set}
-use Rattle.tso_model.specs.Litmus.{Litmus}
-use Rattle.tso_model.specs.FlatMachine.{State, after_choice, effect_of, memory_after}
-use Rattle.tso_model.specs.ProgramOrder.{is_write}
-use Rattle.tso_model.specs.declared.execution.Entry.{Entry}
-use Rattle.tso_model.specs.Runs.{Run, has_ended, run_from, then_run}
-use Rattle.tso_model.specs.declared.choice.Choice.{Choice}
+use Rattle.flat_machine.proofs.Vocabulary.{◌≡◌, ℕ, Bool, true, false, if◌then◌else◌, List, [], ◌∷◌, length, slice_set, refl, ap, sym, ◌∙◌, length-set, Litmus, State, after_choice, effect_of, memory_after, is_write, Entry, Run, has_ended, run_from, then_run, Choice}
 
 pub record IsOnItsWay (t : Litmus) (depth : ℕ) (first : State) (all : List Choice) (now : State) (left : List Choice) : Type 0 where
   pub ended : (run_from t depth first all).ended ≡ (run_from t depth now left).ended

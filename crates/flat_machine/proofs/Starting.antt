@@ -1,11 +1,5 @@
 -- The cores begin one after the other, and are copied so.
-use Rattle.std.proofs.Common.{◌≡◌, ℕ, ◌+◌, ◌<◌, ◌≤◌, zero, suc, List, [], ◌∷◌, ◌++◌, length, take, map, slice_index_or, refl, ap, sym, ◌∙◌, arith}
-use Rattle.std.proofs.lemmas.List.{take_all}
-use Rattle.tso_model.specs.FlatMachine.{CoreState, State, started, start}
-use Rattle.tso_model.specs.Litmus.{Litmus}
-use Rattle.tso_model.specs.declared.instruction.Instr.{Instr}
-use Rattle.flat_machine.specs.State.{core_of_processor}
-use Rattle.flat_machine.specs.declared.snapshot.Processor.{Processor}
+use Rattle.flat_machine.proofs.Vocabulary.{◌≡◌, ℕ, ◌+◌, ◌<◌, ◌≤◌, zero, suc, List, [], ◌∷◌, ◌++◌, length, take, map, slice_index_or, refl, ap, sym, ◌∙◌, arith, take_all, CoreState, State, started, start, Litmus, Instr, core_of_processor, Processor}
 
 pub map-last : (xs : List Processor) (y : Processor) → map core_of_processor (xs ++ y ∷ []) ≡ map core_of_processor xs ++ core_of_processor y ∷ []
 map-last [] y = refl

@@ -4,12 +4,11 @@
 use crate::orders::{from_line_at_fault, names_no_location};
 use crate::reader::Reader;
 use crate::search_end::SearchEnd;
-use crate::stalls::Stalls;
 use crate::unended::{count_instructions, count_plain_stores, has_no_choices};
 use crate::unused::unused_location;
 use litmus_reader::Fault;
 use order_builder::OrderFault;
-use scheduler::ChoiceFault;
+use scheduler::{ChoiceFault, Stalls};
 use std::alloc::Global;
 use tso_model::{NoMemory, Test};
 

@@ -27,7 +27,6 @@ mod quotes;
 mod reader;
 mod rows;
 mod search_end;
-mod stalls;
 mod tables;
 mod unended;
 mod unused;
@@ -42,4 +41,3 @@ pub use reader::Reader;
 pub use search_end::{
     MAX_RUNS_LINE, SearchEnd, Sighting, limit_of_runs_lines_is_as_defined, runs_line,
 };
-pub use stalls::Stalls;

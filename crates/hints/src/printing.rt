@@ -7,8 +7,8 @@ ghost use Rattle.hints.specs.Hint.{IsHint, longest_hint};
 ghost use Rattle.hints.specs.inner.Hint.{most_words, shown_byte};
 
 use crate::quotes::{first_bytes, is_bare};
-use crate::stalls::Stalls;
 use crate::words::{Piece, Words};
+use scheduler::Stalls;
 use std::alloc::{AllocError, Global};
 use tso_model::{Choice, NoMemory, Stall};
 

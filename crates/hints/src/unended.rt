@@ -2,8 +2,8 @@
 //! that never saw a state doesn't show that there is none.
 
 use crate::orders::first_word;
-use crate::stalls::Stalls;
 use crate::words::{Piece, Words, around, eight, plain};
+use scheduler::Stalls;
 use tso_model::{Core, Instr, Test};
 
 /// Maximum number of seeds of a sweep.

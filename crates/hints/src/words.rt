@@ -1,6 +1,6 @@
 //! The words of a hint, before they are printed: a few pieces, borrowed, so that none takes memory.
 
-use crate::stalls::Stalls;
+use scheduler::Stalls;
 
 /// A piece of a hint's words.
 #[derive(Clone, Copy)]

@@ -1,19 +1,5 @@
 -- What the answer of a reader that gives its text's reading says of that text.
-use Rattle.std.proofs.Common.{◌≡◌, ◌≢◌, ℕ, ◌^◌, ◌<◌, List, length, Some, None, Result, Ok, Err, All, ◌⊎◌, inl, inr, refl, subst}
-use Rattle.std.specs.Prelude.{IfOk, IfErr}
-use Rattle.tso_model.specs.Litmus.{Litmus, IsTest}
-use Rattle.tso_model.specs.declared.execution.Entry.{Entry}
-use Rattle.tso_model.specs.declared.execution.Execution.{Execution}
-use Rattle.order_builder.specs.Spelling.{HasAccess, IsEntryFor, IsOrderFor, SpellsOrder, HasFault}
-use Rattle.order_builder.specs.PrintedOrder.{IsLocationFor, HasLocation}
-use Rattle.std.proofs.lemmas.List.Elements.{All-weaker}
-use Rattle.tso_model.specs.declared.execution.Kind.{Kind}
-use Rattle.tso_model.specs.declared.execution.Kind.TheVariants.{R, W, F, LR, LW}
-use Rattle.order_builder.specs.Reading.{entries_of, Gives}
-use Rattle.order_builder.specs.inner.Reading.{order_of, order_start, entries_in}
-use Rattle.order_builder.specs.Lines.{lines_of}
-use Rattle.order_builder.specs.declared.fault.OrderFault.{OrderFault}
-use Rattle.order_builder.specs.declared.fault.OrderFault.TheVariants.{NoOrder, BadLine, BadCount, NoMemory}
+use Rattle.order_builder.proofs.Vocabulary.{◌≡◌, ◌≢◌, ℕ, ◌^◌, ◌<◌, List, length, Some, None, Result, Ok, Err, All, ◌⊎◌, inl, inr, refl, subst, IfOk, IfErr, Litmus, IsTest, Entry, Execution, HasAccess, IsEntryFor, IsOrderFor, SpellsOrder, HasFault, IsLocationFor, HasLocation, All-weaker, Kind, R, W, F, LR, LW, entries_of, Gives, order_of, order_start, entries_in, lines_of, OrderFault, NoOrder, BadLine, BadCount, NoMemory}
 use Rattle.order_builder.proofs.SpellingLaws.{spelled_from_read, read_from_spelled}
 use Rattle.order_builder.proofs.FaultLaws.{order_fault_found, order_fault_again}
 

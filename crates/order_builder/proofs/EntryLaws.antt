@@ -1,20 +1,5 @@
 -- The lines of entries and of ends: what is printed is read, and what is read is printed so.
-use Rattle.std.specs.Char.{is_ascii_digit}
-use Rattle.std.proofs.Common.{◌≡◌, ℕ, ◌-◌, ◌^◌, ◌<◌, Bool, true, false, cond, eqb, inl, inr, List, [], ◌∷◌, ◌++◌, length, take, drop, get_or, Option, Some, None, refl, sym, ap, subst, ◌∙◌, arith}
-use Rattle.std.specs.Prelude.{codes}
-use Rattle.std.specs.Fmt.{decimal}
-use Rattle.std.specs.Str.{bytes_eq}
-use Rattle.std.proofs.lemmas.List.{take-append-drop, append_assoc, take_at, drop_at}
-use Rattle.std.proofs.lemmas.List.Elements.{All-append, All-cons}
-use Rattle.tso_model.specs.Litmus.{Litmus, IsTest}
-use Rattle.tso_model.specs.declared.execution.Entry.{Entry}
-use Rattle.tso_model.specs.declared.execution.Kind.{Kind}
-use Rattle.tso_model.specs.declared.execution.Kind.TheVariants.{R, W, F, LR, LW}
-use Rattle.order_builder.specs.Numbers.{is_number}
-use Rattle.order_builder.specs.inner.Numbers.{number_in}
-use Rattle.order_builder.specs.PrintedOrder.{letters_of, printed_access, printed_entry}
-use Rattle.order_builder.specs.Spelling.{HasAccess, IsEntryFor}
-use Rattle.order_builder.specs.inner.Reading.{◌>>=◌, split_once, without_prefix, kind_of, location_named, entry_at, place_in, access_in, action_in, entry_in, numeral, end_in}
+use Rattle.order_builder.proofs.Vocabulary.{is_ascii_digit, ◌≡◌, ℕ, ◌-◌, ◌^◌, ◌<◌, Bool, true, false, cond, eqb, inl, inr, List, [], ◌∷◌, ◌++◌, length, take, drop, get_or, Option, Some, None, refl, sym, ap, subst, ◌∙◌, arith, codes, decimal, bytes_eq, take-append-drop, append_assoc, take_at, drop_at, All-append, All-cons, Litmus, IsTest, Entry, Kind, R, W, F, LR, LW, is_number, number_in, letters_of, printed_access, printed_entry, HasAccess, IsEntryFor, ◌>>=◌, split_once, without_prefix, kind_of, location_named, entry_at, place_in, access_in, action_in, entry_in, numeral, end_in}
 use Rattle.order_builder.proofs.Choosing.{chosen, same_bytes, bytes_eq-same}
 use Rattle.order_builder.proofs.LineLemmas.{Lacks, split_once-at, split_once-Some}
 use Rattle.order_builder.proofs.NumberLaws.{number_again, number_found}

@@ -1,18 +1,5 @@
 -- The fault of a text that spells no order: it is the one that reading meets first.
-use Rattle.std.proofs.Common.{◌≡◌, ◌≢◌, ℕ, suc, ◌+◌, false, eqb, inl, inr, List, [], ◌∷◌, ◌++◌, length, map, Some, None, Result, Ok, Err, refl, ap, subst, ◌∙◌, arith}
-use Rattle.std.specs.Prelude.{codes}
-use Rattle.std.proofs.lemmas.Bool.{eqb-false}
-use Rattle.std.proofs.lemmas.Bool.Decides.{nat_tests}
-use Rattle.std.proofs.lemmas.List.Elements.{All-cons, All-nil}
-use Rattle.tso_model.specs.Litmus.{Litmus, IsTest}
-use Rattle.tso_model.specs.declared.execution.Entry.{Entry}
-use Rattle.order_builder.specs.Lines.{lines_of}
-use Rattle.decimals.specs.Decimals.{decimal_value}
-use Rattle.order_builder.specs.PrintedOrder.{printed_entry}
-use Rattle.order_builder.specs.Spelling.{IsEntryFor, IsOrderFor, BeginsOrder, IsNoEntry, IsNoEnd, HasNoCount, HasFault}
-use Rattle.order_builder.specs.inner.Reading.{entries_in, entry_in, end_in, order_start, order_of}
-use Rattle.order_builder.specs.declared.fault.OrderFault.{OrderFault}
-use Rattle.order_builder.specs.declared.fault.OrderFault.TheVariants.{NoOrder, BadLine, BadCount, NoMemory}
+use Rattle.order_builder.proofs.Vocabulary.{◌≡◌, ◌≢◌, ℕ, suc, ◌+◌, false, eqb, inl, inr, List, [], ◌∷◌, ◌++◌, length, map, Some, None, Result, Ok, Err, refl, ap, subst, ◌∙◌, arith, codes, eqb-false, nat_tests, All-cons, All-nil, Litmus, IsTest, Entry, lines_of, decimal_value, printed_entry, IsEntryFor, IsOrderFor, BeginsOrder, IsNoEntry, IsNoEnd, HasNoCount, HasFault, entries_in, entry_in, end_in, order_start, order_of, OrderFault, NoOrder, BadLine, BadCount, NoMemory}
 use Rattle.order_builder.proofs.Choosing.{chosen}
 use Rattle.order_builder.proofs.EntryLaws.{entry_again, entry_found, end_again, end_found}
 use Rattle.order_builder.proofs.SpellingLaws.{start_again, none_again, StartsAt, start_found, none_found, after_entries, entries_again, after-Err, onto-Err, two_ways}

@@ -1,3 +1,4 @@
+pub mod Vocabulary
 pub mod Pairing
 pub mod Together
 pub mod Choosing

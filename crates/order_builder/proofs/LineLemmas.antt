@@ -1,18 +1,5 @@
 -- Texts that are split_once at a byte, and their lines.
-use Rattle.std.proofs.Common.{◌≡◌, ℕ, ◌+◌, ◌<◌, ◌≤◌, true, false, ltb, eqb, List, [], ◌∷◌, ◌++◌, length, get_or, take, drop, Option, Some, None, All, refl, sym, ap, subst, ◌∙◌, inl, inr, arith}
-use Rattle.std.specs.List.{position, position_or_len, slice_split}
-use Rattle.std.specs.Option.{option_map}
-use Rattle.std.specs.Str.Lines.{strip_carriage_return}
-use Rattle.std.specs.Str.{bytes_eq}
-use Rattle.std.proofs.lemmas.Bool.{lt-ltb, le-ltb, ltb-false, eqb-true}
-use Rattle.std.proofs.lemmas.Bool.Decides.{nat_tests}
-use Rattle.std.proofs.lemmas.List.{take_at, drop_at, append_assoc, length-append, length-take, get_or-take, get_or_at, get_or_append_left, length_push, take-append-drop, drop_more, nil_from_length}
-use Rattle.std.proofs.lemmas.List.Elements.{All-get_or, All-from_get_or}
-use Rattle.std.proofs.lemmas.List.Quantifiers.{position-Some}
-use Rattle.std.proofs.lemmas.List.Sums.{position_or_len_is, fails_before_first, count_by-le-length}
-use Rattle.std.proofs.lemmas.List.Splits.{slice_split_none, slice_split_at, length-slice_split}
-use Rattle.order_builder.specs.Lines.{lines_in, lines_of, is_line_feed}
-use Rattle.order_builder.specs.inner.Reading.{split_once, halves_at}
+use Rattle.order_builder.proofs.Vocabulary.{◌≡◌, ℕ, ◌+◌, ◌<◌, ◌≤◌, true, false, ltb, eqb, List, [], ◌∷◌, ◌++◌, length, get_or, take, drop, Option, Some, None, All, refl, sym, ap, subst, ◌∙◌, inl, inr, arith, position, position_or_len, slice_split, option_map, strip_carriage_return, bytes_eq, lt-ltb, le-ltb, ltb-false, eqb-true, nat_tests, take_at, drop_at, append_assoc, length-append, length-take, get_or-take, get_or_at, get_or_append_left, length_push, take-append-drop, drop_more, nil_from_length, All-get_or, All-from_get_or, position-Some, position_or_len_is, fails_before_first, count_by-le-length, slice_split_none, slice_split_at, length-slice_split, lines_in, lines_of, is_line_feed, split_once, halves_at}
 use Rattle.order_builder.proofs.Choosing.{chosen}
 
 -- no byte of the text is this one

@@ -1,13 +1,6 @@
 -- Lines one after the other, as loops read them.
-use Rattle.std.proofs.Common.{◌≡◌, ℕ, ◌+◌, true, false, eqb, List, [], ◌∷◌, ◌++◌, length, Some, None, Result, Ok, Err, refl, sym, ap, ◌∙◌, append_assoc}
-use Rattle.std.proofs.lemmas.List.{append-nil, length-append}
-use Rattle.tso_model.specs.Litmus.{Litmus}
-use Rattle.tso_model.specs.declared.execution.Entry.{Entry}
-use Rattle.order_builder.specs.Lines.{lines_of}
-use Rattle.decimals.specs.Decimals.{decimal_value}
-use Rattle.order_builder.specs.inner.Reading.{onto, entries_in, entry_in, end_in}
-use Rattle.order_builder.specs.declared.fault.OrderFault.{OrderFault}
-use Rattle.order_builder.specs.declared.fault.OrderFault.TheVariants.{BadLine, BadCount}
+use Rattle.order_builder.proofs.Vocabulary.{◌≡◌, ℕ, ◌+◌, true, false, eqb, List, [], ◌∷◌, ◌++◌, length, Some, None, Result, Ok, Err, refl, sym, ap, ◌∙◌, append-nil, length-append, Litmus, Entry, lines_of, decimal_value, onto, entries_in, entry_in, end_in, OrderFault, BadLine, BadCount}
+use Rattle.std.proofs.Common.{append_assoc}
 
 -- what was read before, and what is still read
 abbrev pub with_front : List Entry → Result (List Entry) OrderFault → Result (List Entry) OrderFault

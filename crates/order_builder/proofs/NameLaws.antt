@@ -1,16 +1,5 @@
 -- Bytes that stand in no number and in no name, and the numbers of locations.
-use Rattle.std.specs.Char.{is_ascii_digit}
-use Rattle.std.proofs.Common.{◌≡◌, ◌≢◌, ℕ, zero, suc, ◌^◌, ◌<◌, Bool, true, false, not, ◌||◌, eqb, ◌⊎◌, inl, inr, List, [], ◌∷◌, length, get_or, Some, refl, sym, subst, arith}
-use Rattle.std.specs.Fmt.{decimal}
-use Rattle.std.specs.List.{list_all, list_any}
-use Rattle.std.specs.Str.{bytes_eq}
-use Rattle.std.proofs.lemmas.Bool.{and_parts, and_from, eqb-true}
-use Rattle.std.proofs.lemmas.Bool.Decides.{nat_tests}
-use Rattle.std.proofs.lemmas.List.Quantifiers.{position-Some}
-use Rattle.std.proofs.lemmas.List.Elements.{All-cons, All-nil}
-use Rattle.tso_model.specs.Litmus.{Litmus, IsTest, are_distinct}
-use Rattle.tso_model.specs.Names.{is_name, is_location_name, begins_name, continues_name, is_among}
-use Rattle.order_builder.specs.inner.Reading.{location_named}
+use Rattle.order_builder.proofs.Vocabulary.{is_ascii_digit, ◌≡◌, ◌≢◌, ℕ, zero, suc, ◌^◌, ◌<◌, Bool, true, false, not, ◌||◌, eqb, ◌⊎◌, inl, inr, List, [], ◌∷◌, length, get_or, Some, refl, sym, subst, arith, decimal, list_all, list_any, bytes_eq, and_parts, and_from, eqb-true, nat_tests, position-Some, All-cons, All-nil, Litmus, IsTest, are_distinct, is_name, is_location_name, begins_name, continues_name, is_among, location_named}
 use Rattle.order_builder.proofs.Choosing.{same_bytes, bytes_eq-same, bytes_eq-other}
 use Rattle.order_builder.proofs.LineLemmas.{Lacks, named_at}
 use Rattle.order_builder.proofs.NumberLaws.{is_digits-decimal}

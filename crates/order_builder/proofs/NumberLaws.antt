@@ -1,16 +1,5 @@
 -- A number without leading zeros is what is printed of what its digits say.
-use Rattle.std.specs.Char.{is_ascii_digit}
-use Rattle.std.proofs.Common.{◌≡◌, ℕ, zero, suc, ◌^◌, ◌<◌, ◌≤◌, true, leb, inl, inr, List, length, get_or, Some, None, refl, sym, ap, ◌∙◌, arith, rules}
-use Rattle.std.specs.Fmt.{decimal}
-use Rattle.std.specs.List.{list_all}
-use Rattle.std.proofs.lemmas.Bool.{le-leb, leb-true}
-use Rattle.std.proofs.lemmas.Bool.Decides.{nat_tests}
-use Rattle.std.proofs.lemmas.Fmt.{digits_decimal, digits_value-decimal, decimal_nonempty, first_decimal, decimal_digit, decimal-digits_value}
-use Rattle.std.proofs.lemmas.Str.Parse.{IsNumeralModel, numerals_by_fold}
-use Rattle.decimals.specs.Decimals.{decimal_from, decimal_value}
-use Rattle.decimals.specs.inner.Decimals.{number_up_to}
-use Rattle.order_builder.specs.Numbers.{is_number}
-use Rattle.order_builder.specs.inner.Numbers.{number_in}
+use Rattle.order_builder.proofs.Vocabulary.{is_ascii_digit, ◌≡◌, ℕ, zero, suc, ◌^◌, ◌<◌, ◌≤◌, true, leb, inl, inr, List, length, get_or, Some, None, refl, sym, ap, ◌∙◌, arith, rules, decimal, list_all, le-leb, leb-true, nat_tests, digits_decimal, digits_value-decimal, decimal_nonempty, first_decimal, decimal_digit, decimal-digits_value, IsNumeralModel, numerals_by_fold, decimal_from, decimal_value, number_up_to, is_number, number_in}
 use Rattle.order_builder.proofs.Choosing.{chosen}
 
 own : IsNumeralModel (λ ds. list_all is_ascii_digit ds ≡ true) (decimal_from 0)

@@ -1,14 +1,5 @@
 -- Where each load part is put directly before its store part, the pairs are kept.
-use Rattle.std.proofs.Common.{◌≡◌, ◌≢◌, zero, suc, ◌==◌, ◌&&◌, Bool, true, false, if◌then◌else◌, List, [], ◌∷◌, Some, slice_get, refl, sym, ap, ◌∙◌, subst}
-use Rattle.tso_model.specs.ProgramOrder.{same_kind}
-use Rattle.tso_model.specs.ProgramEntries.{is_at}
-use Rattle.tso_model.specs.Axioms.{IsAdjacent}
-use Rattle.tso_model.specs.ProgramOrder.{IsStorePart}
-use Rattle.tso_model.specs.Together.{put_before, put_together}
-use Rattle.tso_model.specs.declared.execution.Entry.{Entry}
-use Rattle.tso_model.specs.declared.execution.Kind.{Kind}
-use Rattle.tso_model.specs.declared.execution.Kind.TheVariants.{R, W, F, LR, LW}
-use Rattle.order_builder.specs.Pairs.{IsPaired, is_answered, are_answered}
+use Rattle.order_builder.proofs.Vocabulary.{◌≡◌, ◌≢◌, zero, suc, ◌==◌, ◌&&◌, Bool, true, false, if◌then◌else◌, List, [], ◌∷◌, Some, slice_get, refl, sym, ap, ◌∙◌, subst, same_kind, is_at, IsAdjacent, IsStorePart, put_before, put_together, Entry, Kind, R, W, F, LR, LW, IsPaired, is_answered, are_answered}
 use Rattle.order_builder.proofs.Together.{and_first, and_second, is_core, isn't_core, load_kind, same-core, skipped, answers, no_load_part, elsewhere}
 
 store_kind : (k : Kind) → same_kind k LW ≡ true → k ≡ LW

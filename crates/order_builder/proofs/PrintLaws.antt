@@ -1,22 +1,5 @@
 -- What is printed of an order spells it, in the midst of other lines too.
-use Rattle.std.proofs.Common.{◌≡◌, ℕ, zero, suc, ◌+◌, ◌-◌, ◌/◌, ◌%◌, ◌<◌, Bool, true, false, not, eqb, ltb, leb, inl, inr, List, [], ◌∷◌, ◌++◌, length, map, get_or, take, All, refl, sym, ap, ◌∙◌, arith}
-use Rattle.std.specs.Prelude.{codes}
-use Rattle.std.specs.Fmt.{decimal, digits, digits_onto, digit_glyph}
-use Rattle.std.specs.List.{list_all}
-use Rattle.std.specs.Str.Lines.{strip_carriage_return}
-use Rattle.std.proofs.lemmas.Bool.{and_parts, and_from, eqb-true}
-use Rattle.std.proofs.lemmas.Bool.Decides.{nat_tests}
-use Rattle.std.proofs.lemmas.List.{append_assoc, append-nil, take_all, take_more}
-use Rattle.std.proofs.lemmas.List.Elements.{All-cons, All-nil, All-head, All-tail, All-get_or}
-use Rattle.std.proofs.lemmas.List.Folds.{list_all-append}
-use Rattle.tso_model.specs.Litmus.{Litmus, IsTest}
-use Rattle.tso_model.specs.Names.{continues_name}
-use Rattle.tso_model.specs.declared.execution.Entry.{Entry}
-use Rattle.tso_model.specs.declared.execution.Kind.{Kind}
-use Rattle.tso_model.specs.declared.execution.Kind.TheVariants.{R, W, F, LR, LW}
-use Rattle.order_builder.specs.Lines.{lines_of}
-use Rattle.order_builder.specs.PrintedOrder.{letters_of, printed_access, printed_entry, printed_end, order_lines, printed_lines, printed_order}
-use Rattle.order_builder.specs.Spelling.{HasAccess, IsEntryFor, IsOrderFor, IsOther, IsBefore, SpellsOrder}
+use Rattle.order_builder.proofs.Vocabulary.{◌≡◌, ℕ, zero, suc, ◌+◌, ◌-◌, ◌/◌, ◌%◌, ◌<◌, Bool, true, false, not, eqb, ltb, leb, inl, inr, List, [], ◌∷◌, ◌++◌, length, map, get_or, take, All, refl, sym, ap, ◌∙◌, arith, codes, decimal, digits, digits_onto, digit_glyph, list_all, strip_carriage_return, and_parts, and_from, eqb-true, nat_tests, append_assoc, append-nil, take_all, take_more, All-cons, All-nil, All-head, All-tail, All-get_or, list_all-append, Litmus, IsTest, continues_name, Entry, Kind, R, W, F, LR, LW, lines_of, letters_of, printed_access, printed_entry, printed_end, order_lines, printed_lines, printed_order, HasAccess, IsEntryFor, IsOrderFor, IsOther, IsBefore, SpellsOrder}
 use Rattle.order_builder.proofs.Choosing.{chosen}
 use Rattle.order_builder.proofs.LineLemmas.{Lacks, lines_of-line}
 use Rattle.order_builder.proofs.NameLaws.{lacks_from_all, all_of_location}

@@ -1,10 +1,5 @@
 -- Printed lines.
-use Rattle.std.proofs.Common.{◌≡◌, ℕ, List, [], ◌∷◌, ◌++◌, length, map, refl, sym, ap, ◌∙◌}
-use Rattle.std.specs.Prelude.{codes}
-use Rattle.std.proofs.lemmas.List.{append_assoc}
-use Rattle.tso_model.specs.Litmus.{Litmus}
-use Rattle.tso_model.specs.declared.execution.Entry.{Entry}
-use Rattle.order_builder.specs.PrintedOrder.{printed_entry, printed_end, printed_lines, printed_order}
+use Rattle.order_builder.proofs.Vocabulary.{◌≡◌, ℕ, List, [], ◌∷◌, ◌++◌, length, map, refl, sym, ap, ◌∙◌, codes, append_assoc, Litmus, Entry, printed_entry, printed_end, printed_lines, printed_order}
 
 pub printed_lines-append : (xs ys : List (List ℕ)) → printed_lines (xs ++ ys) ≡ printed_lines xs ++ printed_lines ys
 printed_lines-append [] ys = refl

@@ -1,21 +1,5 @@
 -- What a text spells is read, and what is read it spells.
-use Rattle.std.proofs.Common.{◌≡◌, ℕ, suc, ◌+◌, ◌^◌, ◌<◌, true, false, eqb, ◌⊎◌, inl, inr, List, [], ◌∷◌, ◌++◌, length, map, All, Option, Some, None, Result, Ok, Err, refl, sym, ap, subst, ◌∙◌, arith}
-use Rattle.std.specs.Prelude.{codes}
-use Rattle.std.specs.Fmt.{decimal}
-use Rattle.std.specs.Str.{bytes_eq}
-use Rattle.std.proofs.lemmas.Bool.{eqb-true}
-use Rattle.std.proofs.lemmas.Bool.Decides.{nat_tests}
-use Rattle.std.proofs.lemmas.List.{append_assoc, length-append, length-map}
-use Rattle.std.proofs.lemmas.List.Elements.{All-cons, All-nil, All-head, All-tail}
-use Rattle.tso_model.specs.Litmus.{Litmus, IsTest}
-use Rattle.tso_model.specs.declared.execution.Entry.{Entry}
-use Rattle.order_builder.specs.Lines.{lines_of}
-use Rattle.decimals.specs.Decimals.{decimal_value}
-use Rattle.order_builder.specs.PrintedOrder.{printed_entry, printed_end, order_lines}
-use Rattle.order_builder.specs.Spelling.{IsEntryFor, IsOrderFor, IsOther, SpellsOrder}
-use Rattle.order_builder.specs.inner.Reading.{onto, entries_in, entry_in, end_in, order_start, order_of}
-use Rattle.order_builder.specs.declared.fault.OrderFault.{OrderFault}
-use Rattle.order_builder.specs.declared.fault.OrderFault.TheVariants.{NoOrder, BadLine, BadCount}
+use Rattle.order_builder.proofs.Vocabulary.{◌≡◌, ℕ, suc, ◌+◌, ◌^◌, ◌<◌, true, false, eqb, ◌⊎◌, inl, inr, List, [], ◌∷◌, ◌++◌, length, map, All, Option, Some, None, Result, Ok, Err, refl, sym, ap, subst, ◌∙◌, arith, codes, decimal, bytes_eq, eqb-true, nat_tests, append_assoc, length-append, length-map, All-cons, All-nil, All-head, All-tail, Litmus, IsTest, Entry, lines_of, decimal_value, printed_entry, printed_end, order_lines, IsEntryFor, IsOrderFor, IsOther, SpellsOrder, onto, entries_in, entry_in, end_in, order_start, order_of, OrderFault, NoOrder, BadLine, BadCount}
 use Rattle.order_builder.proofs.Choosing.{chosen, same_bytes, bytes_eq-same, bytes_eq-other}
 use Rattle.order_builder.proofs.NumberLaws.{is_number-decimal, value-decimal, decimal-value}
 use Rattle.order_builder.proofs.LineLemmas.{lines_of-length}

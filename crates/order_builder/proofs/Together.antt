@@ -1,14 +1,6 @@
 -- The loop that puts each load part directly before its store part.
-use Rattle.std.proofs.Common.{◌≡◌, ◌≢◌, ◌<◌, ◌+◌, ℕ, zero, suc, ◌==◌, ◌&&◌, Bool, true, false, if◌then◌else◌, List, [], ◌∷◌, ◌++◌, length, take, drop, drop-cons, add-one, slice_index_or, None, Some, refl, sym, ap, ◌∙◌, append_assoc, append-nil, arith, subst}
-use Rattle.std.proofs.lemmas.Bool.Decides.{nat_tests}
-use Rattle.tso_model.specs.ProgramOrder.{same_kind}
-use Rattle.tso_model.specs.ProgramEntries.{is_at}
-use Rattle.tso_model.specs.Together.{put_before, put_together}
-use Rattle.tso_model.specs.declared.execution.Entry.{Entry}
-use Rattle.tso_model.specs.declared.execution.Kind.{Kind}
-use Rattle.tso_model.specs.declared.execution.Kind.TheVariants.{R, W, F, LR, LW}
-use Rattle.order_builder.specs.Pairs.{is_answered, are_answered}
-use Rattle.order_builder.specs.inner.Waiting.{all_put, first_of, others_of, IsNoneOf, AreWaiting, IsBuiltSoFar}
+use Rattle.order_builder.proofs.Vocabulary.{◌≡◌, ◌≢◌, ◌<◌, ◌+◌, ℕ, zero, suc, ◌==◌, ◌&&◌, Bool, true, false, if◌then◌else◌, List, [], ◌∷◌, ◌++◌, length, take, drop, drop-cons, add-one, slice_index_or, None, Some, refl, sym, ap, ◌∙◌, arith, subst, nat_tests, same_kind, is_at, put_before, put_together, Entry, Kind, R, W, F, LR, LW, is_answered, are_answered, all_put, first_of, others_of, IsNoneOf, AreWaiting, IsBuiltSoFar}
+use Rattle.std.proofs.Common.{append_assoc, append-nil}
 
 pub same-core : (m n : ℕ) → m ≡ n → (m == n) ≡ true
 same-core m n h = grind (arith, nat_tests, h)

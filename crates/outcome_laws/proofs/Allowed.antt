@@ -1,15 +1,5 @@
 -- The ends of runs are what TSO allows.
-use Rattle.std.proofs.Common.{◌≡◌, ◌<◌, ℕ, List, ap, sym, ◌∙◌, refl}
-use Rattle.tso_model.specs.Limits.{most_depth}
-use Rattle.tso_model.specs.Litmus.{Litmus, IsTest}
-use Rattle.tso_model.specs.FinalState.{final_words, final_registers}
-use Rattle.tso_model.specs.Runs.{run}
-use Rattle.tso_model.specs.declared.choice.Choice.{Choice}
-use Rattle.tso_model.specs.declared.execution.Entry.{Entry}
-use Rattle.tso_laws.specs.EndedRuns.{End, IsExecution}
-use Rattle.tso_laws.specs.Reached.{IsReached}
-use Rattle.tso_laws.specs.Laws.{RunsReachExactlyTheExecutions}
-use Rattle.outcome_laws.specs.Outcomes.{IsEnd, IsAllowed, IsAllowedByTso, IsAllowedSequentially, UnbufferedRunsReachExactlyTheSequentiallyConsistent, EndsAreWhatTsoAllows}
+use Rattle.outcome_laws.proofs.Vocabulary.{◌≡◌, ◌<◌, ℕ, List, ap, sym, ◌∙◌, refl, most_depth, Litmus, IsTest, final_words, final_registers, run, Choice, Entry, End, IsExecution, IsReached, RunsReachExactlyTheExecutions, IsEnd, IsAllowed, IsAllowedByTso, IsAllowedSequentially, UnbufferedRunsReachExactlyTheSequentiallyConsistent, EndsAreWhatTsoAllows}
 
 module _ (exactly : RunsReachExactlyTheExecutions) (sequential : UnbufferedRunsReachExactlyTheSequentiallyConsistent)
     (ended : (t : Litmus) (depth : ℕ) (choices : List Choice) → IsTest t → End t depth choices → IsExecution t (run t depth choices)) where

@@ -1,19 +1,5 @@
 -- A core without a store buffer that is behind the same core with one.
-use Rattle.std.proofs.Common.{◌≡◌, ◌<◌, ℕ, ◌+◌, zero, suc, List, [], ◌∷◌, ◌++◌, Some, slice_get, slice_set, slice_index_or, length, ◌⊎◌, arith, ap, sym, ◌∙◌, subst, refl, get_or-set_same}
-use Rattle.tso_model.specs.Actions.{action_of}
-use Rattle.tso_model.specs.Litmus.{Litmus}
-use Rattle.tso_model.specs.Thread.{entry, value_of}
-use Rattle.tso_model.specs.FlatMachine.{CoreState, State, idle, advanced, advanced_with, moved, step_of, core_of, program_of, effect_of, after_choice, applied, step}
-use Rattle.tso_model.specs.declared.instruction.Instr.{Instr}
-use Rattle.tso_model.specs.declared.instruction.Loc.{Loc}
-use Rattle.tso_model.specs.declared.register.Reg.{Reg}
-use Rattle.tso_model.specs.declared.action.Operand.{Operand}
-use Rattle.tso_model.specs.declared.action.Action.TheVariants.{Store, Move}
-use Rattle.tso_model.specs.declared.execution.Entry.{Entry}
-use Rattle.tso_model.specs.declared.execution.Kind.TheVariants.{W}
-use Rattle.tso_model.specs.Runs.{CoresExist}
-use Rattle.tso_laws.specs.Choices.{state_after, commits_of}
-use Rattle.tso_laws.specs.Along.{steps}
+use Rattle.outcome_laws.proofs.Vocabulary.{◌≡◌, ◌<◌, ℕ, ◌+◌, zero, suc, List, [], ◌∷◌, ◌++◌, Some, slice_get, slice_set, slice_index_or, length, ◌⊎◌, arith, ap, sym, ◌∙◌, subst, refl, get_or-set_same, action_of, Litmus, entry, value_of, CoreState, State, idle, advanced, advanced_with, moved, step_of, core_of, program_of, effect_of, after_choice, applied, step, Instr, Loc, Reg, Operand, Store, Move, Entry, W, CoresExist, state_after, commits_of, steps}
 
 -- so many register moves lead from the one core to the other
 abbrev pub Moves : List Instr → ℕ → CoreState → CoreState → Type 0

@@ -1,11 +1,5 @@
 -- All choices to an end are as many.
-use Rattle.std.proofs.Common.{◌≡◌, ◌<◌, ◌+◌, ℕ, List, length, arith}
-use Rattle.tso_model.specs.Litmus.{Litmus}
-use Rattle.tso_model.specs.declared.choice.Choice.{Choice}
-use Rattle.tso_laws.specs.Counting.{instructions, stores}
-use Rattle.tso_laws.specs.Laws.{RunsAreCounted}
-use Rattle.tso_laws.specs.inner.Laws.{RunsStopWhereTheyEnd}
-use Rattle.outcome_laws.specs.Outcomes.{LeadToEnd, ChoicesToAnEndAreCounted}
+use Rattle.outcome_laws.proofs.Vocabulary.{◌≡◌, ◌<◌, ◌+◌, ℕ, List, length, arith, Litmus, Choice, instructions, stores, RunsAreCounted, RunsStopWhereTheyEnd, LeadToEnd, ChoicesToAnEndAreCounted}
 
 module _ (count : RunsAreCounted) (stop : RunsStopWhereTheyEnd) where
   buffered : (t : Litmus) (d : ℕ) (cs : List Choice) (r : List (List ℕ)) (m : List ℕ) → 0 < d → LeadToEnd t d cs r m → length cs ≡ instructions t.programs + stores t.programs

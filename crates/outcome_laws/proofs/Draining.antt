@@ -1,19 +1,5 @@
 -- What is pending is committed before the end.
-use Rattle.std.proofs.Common.{◌≡◌, ◌<◌, ℕ, zero, suc, Bool, true, false, List, [], ◌∷◌, ◌++◌, Option, Some, None, slice_get, length, inl, inr, ◌⊎◌, if◌then◌else◌, nat_lt, arith, sym, subst, refl, get_or-set_same, get_or-set_other}
-use Rattle.std.proofs.Math.ListN.{length-set}
-use Rattle.basic_laws.proofs.Basics.{decide}
-use Rattle.basic_laws.proofs.Lists.{Member}
-use Rattle.tso_model.specs.Actions.{action_of}
-use Rattle.tso_model.specs.Litmus.{Litmus}
-use Rattle.tso_model.specs.FlatMachine.{CoreState, State, Effect, idle, is_none_pending, stalled, stored, when_drained, effect_by, step_of, drain_of, core_of, program_of, effect_of, chosen, after_choice}
-use Rattle.tso_model.specs.declared.instruction.Instr.{Instr}
-use Rattle.tso_model.specs.declared.action.Action.{Action}
-use Rattle.tso_model.specs.declared.action.Action.TheVariants.{Store, Load, Move, Fence, Lock}
-use Rattle.tso_model.specs.declared.execution.Entry.{Entry}
-use Rattle.tso_model.specs.declared.choice.Choice.{Choice}
-use Rattle.tso_model.specs.declared.choice.Choice.TheVariants.{Step, Drain}
-use Rattle.tso_model.specs.declared.choice.Stall.{Stall}
-use Rattle.tso_laws.specs.Choices.{state_after, commits_of}
+use Rattle.outcome_laws.proofs.Vocabulary.{◌≡◌, ◌<◌, ℕ, zero, suc, Bool, true, false, List, [], ◌∷◌, ◌++◌, Option, Some, None, slice_get, length, inl, inr, ◌⊎◌, if◌then◌else◌, nat_lt, arith, sym, subst, refl, get_or-set_same, get_or-set_other, length-set, decide, Member, action_of, Litmus, CoreState, State, Effect, idle, is_none_pending, stalled, stored, when_drained, effect_by, step_of, drain_of, core_of, program_of, effect_of, chosen, after_choice, Instr, Action, Store, Load, Move, Fence, Lock, Entry, Choice, Step, Drain, Stall, state_after, commits_of}
 
 member-left : (e : Entry) (xs ys : List Entry) → Member e xs → Member e (xs ++ ys)
 member-left e [] ys m = absurd m

@@ -1,3 +1,4 @@
+pub mod Vocabulary
 pub mod Allowed
 pub mod Counted
 pub mod Passing

@@ -1,10 +1,5 @@
 -- An order that keeps all of program order needs store buffers of depth 1 at most.
-use Rattle.std.proofs.Common.{max, ◌≡◌, ◌≤◌, ℕ, suc, Bool, true, false, ◌&&◌, if◌then◌else◌, List, [], ◌∷◌, Some, slice_get, length, filter, arith, ap, refl}
-use Rattle.basic_laws.proofs.Basics.{and-right}
-use Rattle.tso_model.specs.ProgramOrder.{is_before, is_load, is_store}
-use Rattle.tso_model.specs.SequentialConsistency.{KeepsAllOrder}
-use Rattle.tso_model.specs.declared.execution.Entry.{Entry}
-use Rattle.tso_laws.specs.Depth.{stores_before, most_passed, one_for_stores, needed}
+use Rattle.outcome_laws.proofs.Vocabulary.{max, ◌≡◌, ◌≤◌, ℕ, suc, Bool, true, false, ◌&&◌, if◌then◌else◌, List, [], ◌∷◌, Some, slice_get, length, filter, arith, ap, refl, and-right, is_before, is_load, is_store, KeepsAllOrder, Entry, stores_before, most_passed, one_for_stores, needed}
 
 filter-none : (f : Entry → Bool) (xs : List Entry) → ((j : ℕ) (y : Entry) → slice_get xs j ≡ Some y → f y ≡ true → ⊥) → filter f xs ≡ []
 filter-none f [] h = refl

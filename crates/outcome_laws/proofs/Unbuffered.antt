@@ -1,28 +1,5 @@
 -- Every order that keeps all of program order is that of a run without store buffers.
-use Rattle.std.proofs.Common.{◌≡◌, ◌<◌, ℕ, ◌+◌, zero, suc, true, ◌==◌, List, [], ◌∷◌, ◌++◌, Some, slice_get, slice_index_or, length, inl, inr, arith, ap, sym, ◌∙◌, subst, refl, append_assoc}
-use Rattle.basic_laws.proofs.Basics.{and-left, and-right, before}
-use Rattle.basic_laws.proofs.Lists.{Member, member-at}
-use Rattle.tso_model.specs.Actions.{action_of}
-use Rattle.tso_model.specs.Litmus.{Litmus, IsTest}
-use Rattle.tso_model.specs.Thread.{entry}
-use Rattle.tso_model.specs.Axioms.{IsTsoExecution}
-use Rattle.tso_model.specs.SequentialConsistency.{KeepsAllOrder}
-use Rattle.tso_model.specs.FlatMachine.{CoreState, State, idle, is_none_pending, loaded, load_value, step_of, core_of, program_of, effect_of, chosen, after_choice, started, start, step}
-use Rattle.tso_model.specs.Runs.{CoresExist, is_done, all_done, has_ended, run}
-use Rattle.tso_model.specs.declared.instruction.Instr.{Instr}
-use Rattle.tso_model.specs.declared.instruction.Loc.{Loc}
-use Rattle.tso_model.specs.declared.register.Reg.{Reg}
-use Rattle.tso_model.specs.declared.action.Action.TheVariants.{Load}
-use Rattle.tso_model.specs.declared.execution.Entry.{Entry}
-use Rattle.tso_model.specs.declared.execution.Kind.TheVariants.{R, W}
-use Rattle.tso_model.specs.declared.choice.Choice.{Choice}
-use Rattle.tso_model.specs.declared.choice.Choice.TheVariants.{Step, Drain}
-use Rattle.tso_laws.specs.Choices.{state_after, commits_of}
-use Rattle.tso_laws.specs.EndedRuns.{End, IsExecution}
-use Rattle.tso_laws.specs.Reached.{IsReached}
-use Rattle.tso_laws.specs.Laws.{RunsReachExactlyTheExecutions}
-use Rattle.tso_laws.specs.inner.Laws.{StallsChangeNothing, RunsStopWhereTheyEnd}
-use Rattle.outcome_laws.specs.Outcomes.{IsSequentiallyConsistent, UnbufferedRunsReachExactlyTheSequentiallyConsistent}
+use Rattle.outcome_laws.proofs.Vocabulary.{◌≡◌, ◌<◌, ℕ, ◌+◌, zero, suc, true, ◌==◌, List, [], ◌∷◌, ◌++◌, Some, slice_get, slice_index_or, length, inl, inr, arith, ap, sym, ◌∙◌, subst, refl, append_assoc, and-left, and-right, before, Member, member-at, action_of, Litmus, IsTest, entry, IsTsoExecution, KeepsAllOrder, CoreState, State, idle, is_none_pending, loaded, load_value, step_of, core_of, program_of, effect_of, chosen, after_choice, started, start, step, CoresExist, is_done, all_done, has_ended, run, Instr, Loc, Reg, Load, Entry, R, W, Choice, Step, Drain, state_after, commits_of, End, IsExecution, IsReached, RunsReachExactlyTheExecutions, StallsChangeNothing, RunsStopWhereTheyEnd, IsSequentiallyConsistent, UnbufferedRunsReachExactlyTheSequentiallyConsistent}
 use Rattle.outcome_laws.proofs.Passing.{keeps-rest, needs-one}
 use Rattle.outcome_laws.proofs.Draining.{pending-committed}
 use Rattle.outcome_laws.proofs.Behind.{length-set, moves-place, IsBehind, Follows}

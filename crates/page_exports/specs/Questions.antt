@@ -8,7 +8,7 @@ use Rattle.refutation_laws.specs.declared.model.Model.{Model}
 use Rattle.tso_model.specs.Limits.{most_depth}
 use Rattle.machine_core.specs.Configuration.{Configuration}
 use Rattle.command_line.specs.Limits.{IsDepth}
-use Rattle.command_line.specs.Plan.{IsPlanWithinLimits}
+use Rattle.scheduler.specs.Plan.{IsPlanWithinLimits}
 use Rattle.command_line.specs.Search.{most_states}
 use Rattle.command_line.specs.Explanation.{most_told_apart}
 use Rattle.command_line.specs.declared.settings.Settings.{Settings}

@@ -9,10 +9,11 @@ ghost use Rattle.page_exports.specs.Questions.{AsksFor, IsAskable, Asks, IsComma
 ghost use Rattle.page_exports.specs.inner.Questions.{HasDepthFor};
 ghost use Rattle.page_exports.specs.Questions.{kind_number, bus_number, model_number, show_number, number_of};
 
-use command_line::{ReasonPlan, SearchPlan, Show, SweepPlan};
+use command_line::{ReasonPlan, SearchPlan, Show};
 use machine_core::Config;
 use protocol_tables::ProtocolKind;
 use refutation_laws::Model;
+use scheduler::SweepPlan;
 use snoop_bus::Shape;
 use tso_cli::{Settings, Status};
 use tso_model::Bus;

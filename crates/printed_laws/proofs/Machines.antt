@@ -18,7 +18,7 @@ use Rattle.tso_report.specs.Shown.{Shown}
 use Rattle.tso_report.specs.Report.{register_lines, memory_line, condition_line, choices_line, cache_lines}
 use Rattle.tso_report.specs.Json.{with_bus, machine_members, machine_value, run_value}
 use Rattle.tso_report.specs.Tally.{RunCounts, state_lines, ended_in, runs_in, observation, tally_text}
-use Rattle.command_line.specs.Plan.{Plan}
+use Rattle.scheduler.specs.Plan.{Plan}
 use Rattle.printed_laws.specs.Telling.{ReportsTellTheirMachines, SweepsTellTheirMachines}
 use Rattle.printed_laws.proofs.Cutting.{next-cut}
 use Rattle.printed_laws.proofs.Heads.{protocol-cut, line-small, same-configuration, head-cut}

@@ -45,7 +45,7 @@ use Rattle.trace_json.specs.MachineJson.{words_in, copy_json, sets_json, core_js
 use Rattle.trace_json.specs.OwnWords.{own_word, own_words_from, own_words, is_newer_in}
 use Rattle.trace_json.specs.Programs.{instruction_text, program_value, programs_value}
 use Rattle.trace_json.specs.Proposition.{proposition_text, proposition_value}
-use Rattle.trace_json.specs.TraceJson.{step_to, steps_json, trace_json}
+use Rattle.trace_json.specs.TraceJson.{sourced_by, step_to, steps_json, trace_json}
 use Rattle.printed_laws.specs.Traces.{IsReadable}
 use Rattle.printed_laws.proofs.JsonNumbers.{memory-numbers, memory-depth}
 use Rattle.printed_laws.proofs.MachinesFit.{word-at, CoreFits, HolderFits}
@@ -253,13 +253,13 @@ own-words m before all memory = from 0 before m.state.flat.memory all memory
 
 -- ---- the trace
 
-step-readable : (m : Running) (choice : Choice) (own : List ℕ) → MachineFits (machine_after m choice) → All IsWord own → IsReadable 8 (step_to (step_of m choice) (machine_after m choice) own)
+step-readable : (m : Running) (choice : Choice) (own : List ℕ) → MachineFits (machine_after m choice) → All IsWord own → IsReadable 8 (step_to (sourced_by m choice) (machine_after m choice) own)
 step-readable m choice own f words =
     let next = machine_after m choice in
     let after = machine-readable next own f words in
     record {
-      numbers = step-numbers next.test (words_in next) (step_of m choice) (machine_json next own) after.numbers;
-      depth = step-depth next.test (words_in next) (step_of m choice) (machine_json next own) 7 (omega arith) after.depth;
+      numbers = step-numbers next.test (words_in next) (step_of m choice) (sourced_by m choice).supplied (machine_json next own) after.numbers;
+      depth = step-depth next.test (words_in next) (step_of m choice) (sourced_by m choice).supplied (machine_json next own) 7 (omega arith) after.depth;
     }
 
 -- each item is readable
@@ -278,7 +278,7 @@ steps-readable m own (choice ∷ choices) test exist f words =
     let here = exist.0 in
     let fits = fits-next m choice (omega (arith, few, here)) f in
     let own_next = own-words next own words fits.memory in
-    by_end (has_ended m.test m.state.flat) (step_to (step_of m choice) next (own_words next own)) (steps_json next (own_words next own) choices)
+    by_end (has_ended m.test m.state.flat) (step_to (sourced_by m choice) next (own_words next own)) (steps_json next (own_words next own) choices)
     (step-readable m choice (own_words next own) fits own_next) (steps-readable next (own_words next own) choices test exist.1 fits own_next)
   where
     by_end : (ended : Bool) (d : Data) (ds : List Data) → IsReadable 8 d → AreReadable 8 ds → AreReadable 8 (if ended then [] else d ∷ ds)

@@ -1,5 +1,5 @@
 -- The object of a step tells the step: each member is read as the part of a line that has the same words.
-use Rattle.std.proofs.Common.{◌≡◌, ◌∙◌, ℕ, ◌+◌, ◌<◌, ◌≤◌, ◌==◌, if◌then◌else◌, List, [], ◌∷◌, ◌++◌, map, get_or, Option, Some, None, refl, sym, ap, arith}
+use Rattle.std.proofs.Common.{◌≡◌, ◌∙◌, ℕ, ◌+◌, ◌<◌, ◌≤◌, ◌==◌, if◌then◌else◌, List, [], ◌∷◌, ◌++◌, map, get_or, Option, Some, None, IfSome, refl, sym, ap, arith}
 use Rattle.std.specs.Prelude.{codes}
 use Rattle.std.specs.Option.{option_map}
 use Rattle.json.specs.Json as json
@@ -26,7 +26,10 @@ use Rattle.trace_report.specs.declared.step.StateChange.{StateChange}
 use Rattle.trace_report.specs.declared.step.Moved as move
 use Rattle.trace_json.specs.Values.{text_or_null}
 use Rattle.trace_json.specs.StepJson.{outcome_word, stall_in, step_json}
-use Rattle.printed_laws.specs.Traces.{told_by_object, StepFits, ObjectsTellTheirSteps}
+use Rattle.trace_json.specs.Supplied.{source_text}
+use Rattle.trace_json.specs.declared.supplied.Source.{Source}
+use Rattle.trace_json.specs.declared.supplied.Source.TheVariants.{Buffer, Cache, Other, Bus as OnBus, Memory}
+use Rattle.printed_laws.specs.Traces.{told_by_object, StepFits, SourceFits, ObjectsTellTheirSteps}
 use Rattle.printed_laws.proofs.JsonTexts.{value-told, items_in, text_in, truth_in, value_at, text_at}
 use Rattle.printed_laws.proofs.TraceWords.{choice-cut}
 use Rattle.printed_laws.proofs.TraceParts.{Follows, entries-cut, moved-cut, access-cut, request-cut, flush-cut, write-back-cut, changes-cut}
@@ -151,9 +154,9 @@ outcome-told a b word stall = sym (outcome-there a) ∙ ((λ i. outcome_from (wo
 
 -- ---- the object
 
-pub step-told : (t : Litmus) (words : ℕ) (a b : Shown) (after other : Data) → IsTest t → StepFits t words a → StepFits t words b
-    → outline (step_json t words a after) ≡ outline (step_json t words b other) → (told_by_object a ≡ told_by_object b) × (outline after ≡ outline other)
-step-told t words a b after other test p q same =
+pub step-told : (t : Litmus) (words : ℕ) (a b : Shown) (u v : Option Source) (after other : Data) → IsTest t → StepFits t words a → StepFits t words b
+    → outline (step_json t words a u after) ≡ outline (step_json t words b v other) → (told_by_object a ≡ told_by_object b) × (outline after ≡ outline other)
+step-told t words a b u v after other test p q same =
     let texts = λ (n : ℕ) (x y : Option (List ℕ)) (e : outline (text_or_null x) ≡ outline (text_or_null y)). option-told x y e in
     let access_same = texts 0 (option_map access_name a.access) (option_map access_name b.access) (ap (value_at 0) same) in
     let access = access-cut a.access b.access [] [] (nothing-follows 5 (omega arith)) (nothing-follows 5 (omega arith))
@@ -177,10 +180,10 @@ step-told t words a b after other test p q same =
     sym (words-there (map (printed_change t words) a.changes)) ∙ (ap (λ (j : json.Json). texts_of (items_in (value_at 9 j))) same ∙ words-there (map (printed_change t words) b.changes)) in
     let changes = changes-cut t words a.changes b.changes [] [] test (changes-fit t words a p) (changes-fit t words b q) (nothing-follows 9 (omega arith)) (nothing-follows 9 (omega arith))
     (alone (changes_text t words a.changes) (changes_text t words b.changes) (changes-part t words a.changes ∙ (ap each_grouped changes_same ∙ sym (changes-part t words b.changes)))) in
-    let request_same = texts 10 (option_map (printed_request t words) a.request) (option_map (printed_request t words) b.request) (ap (value_at 10) same) in
+    let request_same = texts 11 (option_map (printed_request t words) a.request) (option_map (printed_request t words) b.request) (ap (value_at 11) same) in
     let request = request-cut t words a.request b.request [] [] test p.known.request q.known.request (nothing-follows 6 (omega arith)) (nothing-follows 6 (omega arith))
     (alone (request_text t words a.request) (request_text t words b.request) (request-part t words a.request ∙ (ap spaced request_same ∙ sym (request-part t words b.request)))) in
-    let wrote_back_same = texts 11 (option_map (line_name t words) a.wrote_back) (option_map (line_name t words) b.wrote_back) (ap (value_at 11) same) in
+    let wrote_back_same = texts 12 (option_map (line_name t words) a.wrote_back) (option_map (line_name t words) b.wrote_back) (ap (value_at 12) same) in
     let wrote_back = write-back-cut t words a.wrote_back b.wrote_back [] [] test p.known.wrote_back q.known.wrote_back (nothing-follows 8 (omega arith)) (nothing-follows 8 (omega arith))
     (alone (write_back_text t words a.wrote_back) (write_back_text t words b.wrote_back)
     (write-back-part t words a.wrote_back ∙ (ap write_back_of wrote_back_same ∙ sym (write-back-part t words b.wrote_back)))) in (
@@ -226,8 +229,8 @@ pub words-depth : (xs : List (List ℕ)) → items_depth (items_outline (items_o
 words-depth [] = omega arith
 words-depth (x ∷ xs) = omega (arith, words-depth xs)
 
-pub step-numbers : (t : Litmus) (words : ℕ) (s : Shown) (after : Data) → HasNumbers (outline after) → HasNumbers (outline (step_json t words s after))
-step-numbers t words s after numbers = (
+pub step-numbers : (t : Litmus) (words : ℕ) (s : Shown) (u : Option Source) (after : Data) → HasNumbers (outline after) → HasNumbers (outline (step_json t words s u after))
+step-numbers t words s u after numbers = (
   text-numbers (option_map access_name s.access),
   (
     numbers,
@@ -247,7 +250,10 @@ step-numbers t words s after numbers = (
                   text-numbers (option_map stall_name (stall_in s.outcome)),
                   (
                     words-numbers (map (printed_change t words) s.changes),
-                    (text-numbers (option_map (printed_request t words) s.request), (text-numbers (option_map (line_name t words) s.wrote_back), tt)),
+                    (
+                      text-numbers (option_map source_text u),
+                      (text-numbers (option_map (printed_request t words) s.request), (text-numbers (option_map (line_name t words) s.wrote_back), tt)),
+                    ),
                   ),
                 ),
               ),
@@ -259,8 +265,9 @@ step-numbers t words s after numbers = (
   ),
 )
 
-pub step-depth : (t : Litmus) (words : ℕ) (s : Shown) (after : Data) (levels : ℕ) → 0 < levels → depth_of (outline after) ≤ levels → depth_of (outline (step_json t words s after)) ≤ levels + 1
-step-depth t words s after levels some deep =
+pub step-depth : (t : Litmus) (words : ℕ) (s : Shown) (u : Option Source) (after : Data) (levels : ℕ) → 0 < levels → depth_of (outline after) ≤ levels
+    → depth_of (outline (step_json t words s u after)) ≤ levels + 1
+step-depth t words s u after levels some deep =
     omega (
       arith,
       some,
@@ -271,15 +278,76 @@ step-depth t words s after levels some deep =
       text-depth (option_map printed_move s.moved),
       text-depth (option_map stall_name (stall_in s.outcome)),
       words-depth (map (printed_change t words) s.changes),
+      text-depth (option_map source_text u),
       text-depth (option_map (printed_request t words) s.request),
       text-depth (option_map (line_name t words) s.wrote_back),
     )
 
+-- ---- where a word is found
+
+-- by the third letter of its name, where that is no core's
+abbrev read_source : List ℕ → Source
+read_source text =
+    let third = get_or text 2 0 in
+    if third == 102 then Buffer else if third == 99 then Cache else if third == 115 then OnBus else Memory
+
+plain-told : (a b : Source) → read_source (source_text a) ≡ a → read_source (source_text b) ≡ b → source_text a ≡ source_text b → a ≡ b
+plain-told a b again again' same = sym again ∙ (ap read_source same ∙ again')
+
+-- a core's name begins with P, and no other with it
+first-told : (a b : Source) → source_text a ≡ source_text b → get_or (source_text a) 0 0 ≡ get_or (source_text b) 0 0
+first-told a b same = ap (λ (l : List ℕ). get_or l 0 0) same
+
+source-told : (a b : Source) → SourceFits a → SourceFits b → source_text a ≡ source_text b → a ≡ b
+source-told (Other i) (Other j) p q same =
+    let cut = flush-cut (Some i) (Some j) [] [] p q (nothing-follows 7 (omega arith)) (nothing-follows 7 (omega arith))
+    (alone (flush_text (Some i)) (flush_text (Some j)) (ap (λ (l : List ℕ). codes " flush " ++ l) same)) in
+    ap by_core cut.0
+  where
+    by_core : Option Core → Source
+    by_core None = Memory
+    by_core (Some core) = Other core
+source-told (Other i) Buffer p q same = let e = first-told (Other i) Buffer same in absurd (omega (arith, e))
+source-told (Other i) Cache p q same = let e = first-told (Other i) Cache same in absurd (omega (arith, e))
+source-told (Other i) OnBus p q same = let e = first-told (Other i) OnBus same in absurd (omega (arith, e))
+source-told (Other i) Memory p q same = let e = first-told (Other i) Memory same in absurd (omega (arith, e))
+source-told Buffer (Other j) p q same = let e = first-told Buffer (Other j) same in absurd (omega (arith, e))
+source-told Cache (Other j) p q same = let e = first-told Cache (Other j) same in absurd (omega (arith, e))
+source-told OnBus (Other j) p q same = let e = first-told OnBus (Other j) same in absurd (omega (arith, e))
+source-told Memory (Other j) p q same = let e = first-told Memory (Other j) same in absurd (omega (arith, e))
+source-told Buffer Buffer p q same = refl
+source-told Buffer Cache p q same = plain-told Buffer Cache refl refl same
+source-told Buffer OnBus p q same = plain-told Buffer OnBus refl refl same
+source-told Buffer Memory p q same = plain-told Buffer Memory refl refl same
+source-told Cache Buffer p q same = plain-told Cache Buffer refl refl same
+source-told Cache Cache p q same = refl
+source-told Cache OnBus p q same = plain-told Cache OnBus refl refl same
+source-told Cache Memory p q same = plain-told Cache Memory refl refl same
+source-told OnBus Buffer p q same = plain-told OnBus Buffer refl refl same
+source-told OnBus Cache p q same = plain-told OnBus Cache refl refl same
+source-told OnBus OnBus p q same = refl
+source-told OnBus Memory p q same = plain-told OnBus Memory refl refl same
+source-told Memory Buffer p q same = plain-told Memory Buffer refl refl same
+source-told Memory Cache p q same = plain-told Memory Cache refl refl same
+source-told Memory OnBus p q same = plain-told Memory OnBus refl refl same
+source-told Memory Memory p q same = refl
+
+supplied-told : (u v : Option Source) → IfSome u SourceFits → IfSome v SourceFits → option_map source_text u ≡ option_map source_text v → u ≡ v
+supplied-told None None p q same = refl
+supplied-told None (Some b) p q same = let z : ⊥ = cc in absurd z
+supplied-told (Some a) None p q same = let z : ⊥ = cc in absurd z
+supplied-told (Some a) (Some b) p q same = ap Some (source-told a b p q (ap text_or_nothing same))
+  where
+    text_or_nothing : Option (List ℕ) → List ℕ
+    text_or_nothing None = []
+    text_or_nothing (Some text) = text
+
 pub objects-tell : ObjectsTellTheirSteps
-objects-tell t words a b after other test p q readable readable' e =
-    let deep = step-depth t words a after 100 (omega arith) readable.depth in
-    let deep' = step-depth t words b other 100 (omega arith) readable'.depth in
-    let x = step_json t words a after in
-    let y = step_json t words b other in
-    step-told t words a b after other test p q
-    (value-told x y (step-numbers t words a after readable.numbers) (step-numbers t words b other readable'.numbers) (omega (arith, deep)) (omega (arith, deep')) e)
+objects-tell t words a b u v after other test p q f g readable readable' e =
+    let deep = step-depth t words a u after 100 (omega arith) readable.depth in
+    let deep' = step-depth t words b v other 100 (omega arith) readable'.depth in
+    let x = step_json t words a u after in
+    let y = step_json t words b v other in
+    let same = value-told x y (step-numbers t words a u after readable.numbers) (step-numbers t words b v other readable'.numbers) (omega (arith, deep)) (omega (arith, deep')) e in
+    let told = step-told t words a b u v after other test p q same in
+    (told.0, (supplied-told u v f g (option-told (option_map source_text u) (option_map source_text v) (ap (value_at 10) same)), told.1))

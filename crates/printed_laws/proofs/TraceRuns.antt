@@ -19,7 +19,7 @@ use Rattle.trace_report.proofs.Whole.{traced-next}
 use Rattle.trace_json.specs.MachineJson.{words_in, machine_json}
 use Rattle.trace_json.specs.StepJson.{step_json}
 use Rattle.trace_json.specs.OwnWords.{own_words}
-use Rattle.trace_json.specs.TraceJson.{step_to, steps_json, trace_json}
+use Rattle.trace_json.specs.TraceJson.{Sourced, sourced_by, step_to, steps_json, trace_json}
 use Rattle.printed_laws.specs.Traces.{told_by_object, StepFits}
 use Rattle.printed_laws.proofs.JsonTexts.{value_at, items_in, first_item, more_items, has_item, uneven}
 use Rattle.printed_laws.proofs.StepsFit.{MachineFits, fits-first, fits-next, step-fits}
@@ -64,10 +64,10 @@ choices-told view keeps xs ys same = sym (kept xs) ∙ (ap choices_of same ∙ k
 -- ---- the steps in a value
 
 -- a step with the machine after it, by the test and the configuration
-as-step : (t : Litmus) (c : Configuration) (s : Shown) (next : Running) (own : List ℕ) → IsTraced t c next → step_to s next own ≡ step_json t c.shape.words s (machine_json next own)
+as-step : (t : Litmus) (c : Configuration) (s : Sourced) (next : Running) (own : List ℕ) → IsTraced t c next → step_to s next own ≡ step_json t c.shape.words s.step s.supplied (machine_json next own)
 as-step t c s next own traced =
-    ap (λ (u : Litmus). step_json u (words_in next) s (machine_json next own)) traced.test
-    ∙ ap (λ (x : Configuration). step_json t x.shape.words s (machine_json next own)) traced.config
+    ap (λ (u : Litmus). step_json u (words_in next) s.step s.supplied (machine_json next own)) traced.test
+    ∙ ap (λ (x : Configuration). step_json t x.shape.words s.step s.supplied (machine_json next own)) traced.config
 
 -- a machine on which choices of the test's cores are made
 record Makes (t : Litmus) (c : Configuration) (m : Running) (choices : List Choice) : Type 0 where
@@ -92,14 +92,14 @@ module _ (t : Litmus) (c d : Configuration) (test : IsTest t) (words : d.shape.w
   Value m own choices = items_outline (items_of (steps_json m own choices))
 
   first-told : (m n : Running) (x y : Choice) (xs ys : List Choice) (own other : List ℕ) → Makes t c m (x ∷ xs) → Makes t d n (y ∷ ys)
-      → outline (step_to (step_of m x) (machine_after m x) own) ≡ outline (step_to (step_of n y) (machine_after n y) other) → told_by_object (step_of m x) ≡ told_by_object (step_of n y)
+      → outline (step_to (sourced_by m x) (machine_after m x) own) ≡ outline (step_to (sourced_by n y) (machine_after n y) other) → told_by_object (step_of m x) ≡ told_by_object (step_of n y)
   first-told m n x y xs ys own other f g same =
       let after = machine_json (machine_after m x) own in
       let after' = machine_json (machine_after n y) other in
-      let a = as-step t c (step_of m x) (machine_after m x) own (makes-next c m x xs f).traced in
-      let b = as-step t d (step_of n y) (machine_after n y) other (makes-next d n y ys g).traced ∙ ap (λ (k : ℕ). step_json t k (step_of n y) after') words in
+      let a = as-step t c (sourced_by m x) (machine_after m x) own (makes-next c m x xs f).traced in
+      let b = as-step t d (sourced_by n y) (machine_after n y) other (makes-next d n y ys g).traced ∙ ap (λ (k : ℕ). step_json t k (step_of n y) (sourced_by n y).supplied after') words in
       let fits = subst (λ (k : ℕ). StepFits t k (step_of n y)) words (step-fits t d n y test g.within g.traced g.exist.0 g.fits) in
-      (step-told t c.shape.words (step_of m x) (step_of n y) after after' test (step-fits t c m x test f.within f.traced f.exist.0 f.fits) fits (sym (ap outline a) ∙ (same ∙ ap outline b))).0
+      (step-told t c.shape.words (step_of m x) (step_of n y) (sourced_by m x).supplied (sourced_by n y).supplied after after' test (step-fits t c m x test f.within f.traced f.exist.0 f.fits) fits (sym (ap outline a) ∙ (same ∙ ap outline b))).0
 
   abbrev Items : Bool → Data → List Data → json.Items
   Items ended d ds = items_outline (items_of (if ended then [] else d ∷ ds))
@@ -125,14 +125,14 @@ module _ (t : Litmus) (c d : Configuration) (test : IsTest t) (words : d.shape.w
   steps-told m n own other [] [] f g same = refl
   steps-told m n own other [] (y ∷ ys) f g same =
       let next = machine_after n y in
-      nothing (has_ended n.test n.state.flat) (step_to (step_of n y) next (own_words next other)) (steps_json next (own_words next other) ys) (step_of n y) (steps_from next ys) same
+      nothing (has_ended n.test n.state.flat) (step_to (sourced_by n y) next (own_words next other)) (steps_json next (own_words next other) ys) (step_of n y) (steps_from next ys) same
   steps-told m n own other (x ∷ xs) [] f g same =
       let next = machine_after m x in
-      sym (nothing (has_ended m.test m.state.flat) (step_to (step_of m x) next (own_words next own)) (steps_json next (own_words next own) xs) (step_of m x) (steps_from next xs) (sym same))
+      sym (nothing (has_ended m.test m.state.flat) (step_to (sourced_by m x) next (own_words next own)) (steps_json next (own_words next own) xs) (step_of m x) (steps_from next xs) (sym same))
   steps-told m n own other (x ∷ xs) (y ∷ ys) f g same =
       let p = machine_after m x in
       let q = machine_after n y in
-      either (has_ended m.test m.state.flat) (has_ended n.test n.state.flat) (step_to (step_of m x) p (own_words p own)) (step_to (step_of n y) q (own_words q other))
+      either (has_ended m.test m.state.flat) (has_ended n.test n.state.flat) (step_to (sourced_by m x) p (own_words p own)) (step_to (sourced_by n y) q (own_words q other))
       (steps_json p (own_words p own) xs) (steps_json q (own_words q other) ys) (step_of m x) (step_of n y) (steps_from p xs) (steps_from q ys)
       (first-told m n x y xs ys (own_words p own) (own_words q other) f g)
       (steps-told p q (own_words p own) (own_words q other) xs ys (makes-next c m x xs f) (makes-next d n y ys g)) same

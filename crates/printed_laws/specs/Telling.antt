@@ -6,7 +6,7 @@ use Rattle.protocol_tables.specs.declared.kind.ProtocolKind.{ProtocolKind}
 use Rattle.machine_core.specs.Configuration.{Configuration, IsConfigurationWithinLimits}
 use Rattle.tso_report.specs.Shown.{Shown}
 use Rattle.tso_report.specs.Tally.{RunCounts, runs_in}
-use Rattle.command_line.specs.Plan.{Plan, IsPlanWithinLimits as IsPlan}
+use Rattle.scheduler.specs.Plan.{Plan, IsPlanWithinLimits as IsPlan}
 use Rattle.commands.specs.RunTexts.{report_in, unfinished_in}
 use Rattle.commands.specs.Sweep.{sweep_lines}
 use Rattle.tso_cli.specs.Fitting.{FitsTest, CountsFitTest}

@@ -1,5 +1,5 @@
 -- What `trace` prints tells what each choice did: of one test, steps that are told alike are the same.
-use Rattle.std.specs.Prelude.{ℕ, ◌≡◌, ◌<◌, ◌≤◌, Bool, true, List, ◌++◌, map, length, All, None, IfSome}
+use Rattle.std.specs.Prelude.{ℕ, ◌≡◌, ◌<◌, ◌≤◌, Bool, true, List, ◌++◌, map, length, All, Option, None, IfSome}
 use Rattle.std.specs.Option.{option_map}
 use Rattle.json.specs.Tree.{depth, HasNumbers}
 use Rattle.serde_json.specs.Data.{Data}
@@ -22,6 +22,8 @@ use Rattle.trace_report.specs.Shown.{Shown}
 use Rattle.trace_report.specs.Steps.{trace_under}
 use Rattle.trace_json.specs.StepJson.{step_json}
 use Rattle.trace_json.specs.TraceJson.{trace_json}
+use Rattle.trace_json.specs.declared.supplied.Source.{Source}
+use Rattle.trace_json.specs.declared.supplied.Source.TheVariants.{Buffer, Cache, Other, Bus, Memory}
 use Rattle.commands.specs.Trace.{traced_in}
 use Rattle.simulator.specs.Runs.{run_under, AnswersFit}
 use Rattle.printed_laws.specs.OfRuns.{LeaveTheSame}
@@ -76,6 +78,14 @@ pub record StepFits (t : Litmus) (words : ℕ) (s : Shown) : Type 0 where
   pub changes : All (λ c. c.core.0 < 256) s.changes
   pub buffer : IfSome s.buffer (All HasWord)
 
+-- where a word is found: another core's number is a core's
+abbrev pub SourceFits : Source → Type 0
+SourceFits Buffer = Unit {0}
+SourceFits Cache = Unit {0}
+SourceFits (Other core) = core.0 < 256
+SourceFits Bus = Unit {0}
+SourceFits Memory = Unit {0}
+
 -- a value that is read back from its text: its numbers are JSON's, and it nests no deeper than this
 pub record IsReadable (levels : ℕ) (d : Data) : Type 0 where
   pub numbers : HasNumbers (outline d)
@@ -91,13 +101,15 @@ TracesTellTheirSteps =
     → trace_text t words steps ++ rest ≡ trace_text t words others ++ other_rest
     → (map told_by_line steps ≡ map told_by_line others) × (rest ≡ other_rest)
 
--- the object of a step tells the step, and the value of the machine after it up to how numbers are spelled
+-- the object of a step tells the step, where the word was found that it read, and the value of the machine after it up to how numbers
+-- are spelled
 abbrev pub ObjectsTellTheirSteps : Type 0
 ObjectsTellTheirSteps =
-    (t : Litmus) (words : ℕ) (s other : Shown) (after other_after : Data)
-    → IsTest t → StepFits t words s → StepFits t words other → IsReadable 100 after → IsReadable 100 other_after
-    → compact_text (step_json t words s after) ≡ compact_text (step_json t words other other_after)
-    → (told_by_object s ≡ told_by_object other) × (outline after ≡ outline other_after)
+    (t : Litmus) (words : ℕ) (s other : Shown) (supplied other_supplied : Option Source) (after other_after : Data)
+    → IsTest t → StepFits t words s → StepFits t words other → IfSome supplied SourceFits → IfSome other_supplied SourceFits
+    → IsReadable 100 after → IsReadable 100 other_after
+    → compact_text (step_json t words s supplied after) ≡ compact_text (step_json t words other other_supplied other_after)
+    → (told_by_object s ≡ told_by_object other) × ((supplied ≡ other_supplied) × (outline after ≡ outline other_after))
 
 -- ---- of runs
 

@@ -8,11 +8,11 @@ ghost use Rattle.printed_laws.specs.Traces.{TracedStepsFit, PrintedTracesAreTold
 use crate::{printed_runs_are_told, reports_tell_their_machines};
 use tso_cli::laws::runs_fit_their_tests;
 
-/// The lines of a trace tell its steps, the object of a step tells the step, and the JSON value of a trace its steps: the choice
-/// and its outcome, with the reason of a stall; the entries; the register and its value; whether the core's own stores answered;
-/// the access, the request and its line; whose copy went to memory; the line that was written back; and each line whose state
-/// changed, with both states. A line also tells the location and the value of each store that is pending, where that changed; an
-/// object tells the value of the machine after the step.
+/// The lines of a trace tell its steps, the object of a step tells the step and where the word was found that it read, and the
+/// JSON value of a trace its steps: the choice and its outcome, with the reason of a stall; the entries; the register and its
+/// value; whether the core's own stores answered; the access, the request and its line; whose copy went to memory; the line
+/// that was written back; and each line whose state changed, with both states. A line also tells the location and the value of
+/// each store that is pending, where that changed; an object tells the value of the machine after the step.
 pub fn traces_tell_their_steps()
     ensures lines { TracesTellTheirSteps }
     ensures object { ObjectsTellTheirSteps }

@@ -1,7 +1,7 @@
 //! What the headline says of each command, field by field.
 
 ghost use Rattle.std.specs.Prelude.{◌+◌, ◌<◌, ◌^◌, ◌≡◌, ◌≢◌, ◌≤◌, All, Bool, IfSome, List, if◌then◌else◌, is_some, length, true, ℕ};
-ghost use Rattle.command_line.specs.Plan.{Plan, most_seeds};
+ghost use Rattle.scheduler.specs.Plan.{Plan, most_seeds};
 ghost use Rattle.command_line.specs.Search.{Search};
 ghost use Rattle.command_line.specs.declared.settings.Settings.{Settings};
 ghost use Rattle.commands.specs.Dividing.{EndsInFeed, HasNoDivider, IsJoinable, Parts};

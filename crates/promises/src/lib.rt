@@ -41,6 +41,7 @@ pub mod threads;
 pub mod told_choices;
 pub mod told_cores;
 pub mod told_reasons;
+pub mod told_sources;
 pub mod told_steps;
 pub mod told_texts;
 pub mod traced;

@@ -2,11 +2,12 @@
 
 ghost use Rattle.std.specs.Prelude.{◌≡◌, ◌≤◌, ◌↔◌, ◌⊎◌, IsSome, IfSome};
 
-use command_line::plan::{MAX_LENGTH, MAX_SEEDS};
 use command_line::search::MAX_STATES;
-use command_line::{SearchPlan, Show, SweepPlan};
+use command_line::{SearchPlan, Show};
 use litmus_reader::MAX_TEXT;
 use machine_core::{Bus, Config, Shape};
+use scheduler::SweepPlan;
+use scheduler::plan::{MAX_LENGTH, MAX_SEEDS};
 use snoop_bus::bus::MAX_CORES as MAX_BUS_CORES;
 use snoop_bus::shape::{MAX_SETS, MAX_WAYS, MAX_WORDS};
 use trace_json::MAX_STEPS;

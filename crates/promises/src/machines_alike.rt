@@ -2,7 +2,7 @@
 //! lines, or members.
 
 ghost use Rattle.std.specs.Prelude.{◌++◌, ◌≡◌, ◌≢◌, Bool, List, Some, length, ℕ};
-ghost use Rattle.command_line.specs.Plan.{Plan};
+ghost use Rattle.scheduler.specs.Plan.{Plan};
 ghost use Rattle.command_line.specs.declared.settings.Settings.{Settings};
 ghost use Rattle.commands.specs.Dividing.{EndsInFeed};
 ghost use Rattle.commands.specs.declared.answer.Status.{Status};

@@ -2,7 +2,7 @@
 
 ghost use Rattle.std.specs.Prelude.{◌++◌, ◌<◌, ◌^◌, ◌≡◌, ◌≤◌, ◌⊎◌, Bool, List, Some, false, length, map, true, ℕ};
 ghost use Rattle.command_line.specs.Limits.{IsWithinLimits};
-ghost use Rattle.command_line.specs.Plan.{Plan};
+ghost use Rattle.scheduler.specs.Plan.{Plan};
 ghost use Rattle.command_line.specs.Search.{Search};
 ghost use Rattle.command_line.specs.declared.settings.Settings.{Settings};
 ghost use Rattle.commands.specs.Answers.{IsCheckAnswer};

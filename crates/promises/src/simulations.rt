@@ -6,9 +6,9 @@ ghost use Rattle.tso_laws.specs.Counting.{instructions, longest};
 ghost use Rattle.simulator.specs.Runs.{AnswersFit, counts_under, run_under};
 ghost use Rattle.simulator.specs.Simulation.{FitsEnding, HasAllOrder, HasCounts, HasEnded, HasRounds, IsCounted, IsEndingOf};
 
-use hints::Stalls;
 use machine_core::{Bus, Choice, Config};
 use protocol_tables::ProtocolKind;
+use scheduler::Stalls;
 use simulator::simulate_noting;
 use std::alloc::Global;
 use tso_cli::{Ending, SimFault, simulate};

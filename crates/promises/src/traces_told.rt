@@ -1,18 +1,19 @@
 //! What a printed trace tells of each step, field by field.
 
-ghost use Rattle.std.specs.Prelude.{◌≡◌, ◌≤◌, ◌++◌, All, List, false, length, map, true, ℕ};
+ghost use Rattle.std.specs.Prelude.{◌≡◌, ◌≤◌, ◌++◌, All, IfSome, List, Option, false, length, map, true, ℕ};
 ghost use Rattle.std.specs.Option.{option_map};
 ghost use Rattle.commands.specs.Trace.{traced_in};
 ghost use Rattle.machine_core.specs.Configuration.{Configuration, IsConfigurationWithinLimits};
 ghost use Rattle.printed_laws.specs.OfRuns.{LeaveTheSame};
 ghost use Rattle.printed_laws.specs.Telling.{NameTheSame};
-ghost use Rattle.printed_laws.specs.Traces.{IsReadable, IsTraceable, StepFits, bare_store, told_by_line, told_by_object};
+ghost use Rattle.printed_laws.specs.Traces.{IsReadable, IsTraceable, SourceFits, StepFits, bare_store, told_by_line, told_by_object};
 ghost use Rattle.protocol_tables.specs.declared.kind.ProtocolKind.{ProtocolKind};
 ghost use Rattle.serde_json.specs.Data.{Data};
 ghost use Rattle.serde_json.specs.Written.{compact_text, outline};
 ghost use Rattle.simulator.specs.Runs.{AnswersFit, run_under};
 ghost use Rattle.trace_json.specs.StepJson.{step_json};
 ghost use Rattle.trace_json.specs.TraceJson.{trace_json};
+ghost use Rattle.trace_json.specs.declared.supplied.Source.{Source};
 ghost use Rattle.trace_report.specs.Lines.{trace_text};
 ghost use Rattle.trace_report.specs.Shown.{Shown};
 ghost use Rattle.trace_report.specs.Steps.{trace_under};
@@ -26,8 +27,8 @@ use printed_laws::{
     traces_tell_their_steps,
 };
 
-/// Lines that are the same tell the same steps, and the same stands behind them; so do objects, and with them the machines after
-/// the steps; and so do values of whole traces.
+/// Lines that are the same tell the same steps, and the same stands behind them; so do objects, and with them where the words were
+/// found and the machines after the steps; and so do values of whole traces.
 pub fn steps_are_told_apart()
     ensures lines { (t : Litmus) (words : ℕ) (steps others : List Shown) (rest other_rest : List ℕ)
         → IsTest t → All (StepFits t words) steps → All (StepFits t words) others
@@ -36,13 +37,20 @@ pub fn steps_are_told_apart()
     ensures behind { (t : Litmus) (words : ℕ) (steps others : List Shown) (rest other_rest : List ℕ)
         → IsTest t → All (StepFits t words) steps → All (StepFits t words) others
         → trace_text t words steps ++ rest ≡ trace_text t words others ++ other_rest → rest ≡ other_rest }
-    ensures object { (t : Litmus) (words : ℕ) (s other : Shown) (after other_after : Data)
-        → IsTest t → StepFits t words s → StepFits t words other → IsReadable 100 after → IsReadable 100 other_after
-        → compact_text (step_json t words s after) ≡ compact_text (step_json t words other other_after)
+    ensures object { (t : Litmus) (words : ℕ) (s other : Shown) (supplied other_supplied : Option Source) (after other_after : Data)
+        → IsTest t → StepFits t words s → StepFits t words other → IfSome supplied SourceFits → IfSome other_supplied SourceFits
+        → IsReadable 100 after → IsReadable 100 other_after
+        → compact_text (step_json t words s supplied after) ≡ compact_text (step_json t words other other_supplied other_after)
         → told_by_object s ≡ told_by_object other }
-    ensures after { (t : Litmus) (words : ℕ) (s other : Shown) (after other_after : Data)
-        → IsTest t → StepFits t words s → StepFits t words other → IsReadable 100 after → IsReadable 100 other_after
-        → compact_text (step_json t words s after) ≡ compact_text (step_json t words other other_after)
+    ensures supplied { (t : Litmus) (words : ℕ) (s other : Shown) (supplied other_supplied : Option Source) (after other_after : Data)
+        → IsTest t → StepFits t words s → StepFits t words other → IfSome supplied SourceFits → IfSome other_supplied SourceFits
+        → IsReadable 100 after → IsReadable 100 other_after
+        → compact_text (step_json t words s supplied after) ≡ compact_text (step_json t words other other_supplied other_after)
+        → supplied ≡ other_supplied }
+    ensures after { (t : Litmus) (words : ℕ) (s other : Shown) (supplied other_supplied : Option Source) (after other_after : Data)
+        → IsTest t → StepFits t words s → StepFits t words other → IfSome supplied SourceFits → IfSome other_supplied SourceFits
+        → IsReadable 100 after → IsReadable 100 other_after
+        → compact_text (step_json t words s supplied after) ≡ compact_text (step_json t words other other_supplied other_after)
         → outline after ≡ outline other_after }
     ensures value { (t : Litmus) (kind other_kind : ProtocolKind) (c d : Configuration) (choices other : List Choice)
         → IsTest t → IsConfigurationWithinLimits c → IsConfigurationWithinLimits d → c.shape.words ≡ d.shape.words

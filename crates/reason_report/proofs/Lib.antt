@@ -1,5 +1,6 @@
 pub mod Cutting
 pub mod Grouping
+pub mod Growing
 pub mod Laying
 pub mod Moving
 pub mod NoFloats

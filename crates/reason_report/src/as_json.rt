@@ -339,7 +339,13 @@ fn words_value(alloc: Global, words: &[u32]) -> Result<Value, NoMemory>
 {
     let mut values = Vec::new(alloc);
     for word in words {
-        values.push(Value::from(*word))?;
+        values.push(word_value(*word))?;
     }
     Ok(Value::Array(values))
+}
+
+fn word_value(word: u32) -> Value
+    ensures { view result ≡ count word }
+{
+    Value::from(word)
 }

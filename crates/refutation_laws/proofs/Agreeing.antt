@@ -1,19 +1,5 @@
 -- The edges that a candidate has which agrees with what is known.
-use Rattle.std.proofs.Common.{◌≡◌, ◌&&◌, true, List, [], ◌∷◌, Option, Some, None, refl, sym, ap, ◌∙◌, ◌⊎◌, inl, inr, subst}
-use Rattle.std.specs.List.{list_any}
-use Rattle.tso_model.specs.Litmus.{Litmus}
-use Rattle.tso_model.specs.ProgramOrder.{is_read, writes_to}
-use Rattle.tso_model.specs.declared.execution.Entry.{Entry}
-use Rattle.relational_model.specs.Events.{IsIn, IsEarlier}
-use Rattle.relational_model.specs.Candidates.{Candidate, Returns, IsCandidate, events}
-use Rattle.relational_model.specs.Relations.{ReadsFrom, IsBefore, StandsAfter, FromReads}
-use Rattle.relational_model.proofs.KindFacts.{and-both, or-either}
-use Rattle.relational_model.proofs.Order.{location}
-use Rattle.relational_model.proofs.Events.{Sound}
-use Rattle.refutation_laws.specs.Known.{Known, same_event, is_write_of, comes_before, is_overwritten, from_reads}
-use Rattle.refutation_laws.specs.declared.known.Source.{Source}
-use Rattle.refutation_laws.specs.declared.known.Pair.{Pair}
-use Rattle.refutation_laws.specs.Agreement.{Stands, IsSource, HasSources, HasPairs, Agrees}
+use Rattle.refutation_laws.proofs.Vocabulary.{◌≡◌, ◌&&◌, true, List, [], ◌∷◌, Option, Some, None, refl, sym, ap, ◌∙◌, ◌⊎◌, inl, inr, subst, list_any, Litmus, is_read, writes_to, Entry, IsIn, IsEarlier, Candidate, Returns, IsCandidate, events, ReadsFrom, IsBefore, StandsAfter, FromReads, and-both, or-either, location, Sound, Known, same_event, is_write_of, comes_before, is_overwritten, from_reads, Source, Pair, Stands, IsSource, HasSources, HasPairs, Agrees}
 use Rattle.refutation_laws.proofs.Standing.{same-bare, one-entry}
 
 pub stands-for : (t : Litmus) (c : Candidate) (d e x : Entry) → same_event d e ≡ true → Stands t c e x → Stands t c d x

@@ -1,37 +1,10 @@
 -- The candidate of a full case with no cycle, and with no write between two parts, is allowed: each of its edges is known.
-use Rattle.std.proofs.Common.{◌≡◌, ◌≢◌, ℕ, ◌==◌, ◌&&◌, ◌||◌, Bool, true, false, not, if◌then◌else◌, List, [], ◌∷◌, Option, Some, None, refl, sym, ap, ◌∙◌, ◌⊎◌, inl, inr, subst}
-use Rattle.std.specs.List.{list_all}
-use Rattle.tso_model.specs.Litmus.{Litmus}
-use Rattle.tso_model.specs.ProgramOrder.{is_before, is_read, is_write, writes_to, same_kind}
-use Rattle.tso_model.specs.declared.execution.Entry.{Entry}
-use Rattle.tso_model.specs.declared.execution.Kind.TheVariants.{F, LR, LW}
-use Rattle.relational_model.specs.Events.{IsIn, IsEarlier, LeadsTo, at_once, onward, IsAcyclic}
-use Rattle.relational_model.specs.Candidates.{Candidate, IsCandidate, events}
-use Rattle.relational_model.specs.Relations.{is_access, share_location, ReadsFrom, IsBefore, StandsAfter, FromReads}
-use Rattle.relational_model.specs.Model.{IsBeforeOnLocation, po_loc, rf, co, fr, HappensBefore, write_before_write, read_before_access, mfence, implied, rfe, IsAtomic, is_locked}
-use Rattle.relational_model.proofs.Lists.{in-filter, filter-in}
-use Rattle.relational_model.proofs.KindFacts.{and-both, or-either, number-same, same-number}
-use Rattle.relational_model.proofs.Found.{kind-itself}
-use Rattle.relational_model.proofs.Sources.{never-itself}
-use Rattle.relational_model.proofs.Order.{stand-once, location}
-use Rattle.relational_model.proofs.Forward.{starts-in}
-use Rattle.relational_model.specs.inner.Rows.{Ordered}
-use Rattle.relational_model.proofs.Events.{Sound, sound}
+use Rattle.refutation_laws.proofs.Vocabulary.{◌≡◌, ◌≢◌, ℕ, ◌==◌, ◌&&◌, ◌||◌, Bool, true, false, not, if◌then◌else◌, List, [], ◌∷◌, Option, Some, None, refl, sym, ap, ◌∙◌, ◌⊎◌, inl, inr, subst, list_all, Litmus, is_before, is_read, is_write, writes_to, same_kind, Entry, F, LR, LW, IsIn, IsEarlier, LeadsTo, at_once, onward, IsAcyclic, Candidate, IsCandidate, events, is_access, share_location, ReadsFrom, IsBefore, StandsAfter, FromReads, IsBeforeOnLocation, po_loc, rf, co, fr, HappensBefore, write_before_write, read_before_access, mfence, implied, rfe, IsAtomic, is_locked, in-filter, filter-in, and-both, or-either, number-same, same-number, kind-itself, never-itself, stand-once, location, starts-in, Ordered, Sound, sound, IsBeforeSequentially, Known, bare, events_of, same_event, is_event, is_write_of, reads_from, comes_before, is_overwritten, from_reads, Source, relates, on_location, global_in, is_edge, are_parts, is_between, IsAllowedBy, Model, Tso, Sequential, Relation, Mfence, IsPossible, NoneBetween}
 use Rattle.relational_model.specs.SequentialModel as sc
-use Rattle.relational_model.specs.SequentialModel.{IsBeforeSequentially}
-use Rattle.refutation_laws.specs.Known.{Known, bare, events_of, same_event, is_event, is_write_of, reads_from, comes_before, is_overwritten, from_reads}
-use Rattle.refutation_laws.specs.declared.known.Source.{Source}
-use Rattle.refutation_laws.specs.Edges.{relates, on_location, global_in, is_edge, are_parts, is_between}
-use Rattle.refutation_laws.specs.Models.{IsAllowedBy}
-use Rattle.refutation_laws.specs.declared.model.Model.{Model}
-use Rattle.refutation_laws.specs.declared.model.Model.TheVariants.{Tso, Sequential}
-use Rattle.refutation_laws.specs.declared.model.Relation.{Relation}
-use Rattle.refutation_laws.specs.declared.model.Relation.TheVariants.{Mfence}
 use Rattle.refutation_laws.proofs.Standing.{Of, of-event, same-bare}
 use Rattle.refutation_laws.proofs.Tests.{and-of, or-first, or-second, any-in}
 use Rattle.refutation_laws.proofs.Relating.{OneOf, edge-by, of-bare, fr-bare}
 use Rattle.refutation_laws.proofs.Rows.{Edge, ordered-acyclic, never-back-at}
-use Rattle.refutation_laws.specs.inner.FullCases.{IsPossible, NoneBetween}
 use Rattle.refutation_laws.proofs.Settling.{First, IsOpen, entry_among, entry_of, found, is-event, own_events, own_candidate, writes-row, own-in, place, one-own, first-source, settled}
 
 matched : (xs : List Entry) (w y : Entry) → entry_among xs w ≡ Some y → same_event w y ≡ true

@@ -1,20 +1,7 @@
 -- All questions asked: each case in which every read has a source and every two writes of a location are ordered has an answer, so
 -- the whole has one.
-use Rattle.std.proofs.Common.{◌≡◌, ◌&&◌, ◌||◌, Bool, true, false, not, List, [], ◌∷◌, ◌++◌, Option, Some, None, refl, sym, ap, ◌⊎◌, inl, inr, subst}
-use Rattle.std.specs.Prelude.{map, filter}
-use Rattle.std.specs.List.{list_any}
-use Rattle.tso_model.specs.Litmus.{Litmus}
-use Rattle.tso_model.specs.Condition.{Claim}
-use Rattle.tso_model.specs.ProgramOrder.{is_read, is_write, writes_to}
-use Rattle.tso_model.specs.declared.execution.Entry.{Entry}
-use Rattle.basic_laws.proofs.Lists.{Member}
-use Rattle.relational_model.specs.Events.{IsIn}
-use Rattle.relational_model.proofs.Lists.{in-case, in-none, in-first, in-later, in-filter}
-use Rattle.refutation_laws.specs.Known.{Known, events_of, same_event, is_event, nothing, with_source, with_pair, comes_before}
-use Rattle.refutation_laws.specs.declared.known.Source.{Source}
-use Rattle.refutation_laws.specs.declared.model.Model.{Model}
-use Rattle.refutation_laws.specs.Refutations.{Node, ReadsFrom, ComesFirst, OnLocation, Globally, Between, FalseClaim, is_node, branches}
-use Rattle.refutation_laws.specs.inner.FullCases.{IsPossible, ArePossible, has_source, are_ordered, may_ask, is_answered, IsFull}
+use Rattle.refutation_laws.proofs.Vocabulary.{◌≡◌, ◌&&◌, ◌||◌, Bool, true, false, not, List, [], ◌∷◌, ◌++◌, Option, Some, None, refl, sym, ap, ◌⊎◌, inl, inr, subst, map, filter, list_any, Litmus, Claim, is_read, is_write, writes_to, Entry, Member, IsIn, in-case, in-none, in-first, in-later, in-filter, Known, events_of, same_event, is_event, nothing, with_source, with_pair, comes_before, Source, Model, Node, ComesFirst, OnLocation, Globally, Between, FalseClaim, is_node, branches, IsPossible, ArePossible, has_source, are_ordered, may_ask, is_answered, IsFull}
+use Rattle.refutation_laws.specs.Refutations.{ReadsFrom}
 use Rattle.refutation_laws.proofs.Soundness.{itself}
 use Rattle.refutation_laws.proofs.Tests.{or-first, or-second}
 use Rattle.refutation_laws.proofs.Composing.{HasTrees, EachHasOne, has-tree}

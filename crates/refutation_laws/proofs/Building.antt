@@ -1,22 +1,5 @@
 -- The events of a test whose reads return what is given; each event is there once, and so a known write has one value.
-use Rattle.std.proofs.Common.{◌≡◌, ℕ, zero, suc, ◌+◌, Bool, true, false, if◌then◌else◌, List, [], ◌∷◌, ◌++◌, Option, Some, None, slice_get, slice_index, slice_index_or, arith, refl, sym, ap, ◌∙◌, ◌⊎◌, inl, inr, subst}
-use Rattle.tso_model.specs.Litmus.{Litmus}
-use Rattle.tso_model.specs.Actions.{action_of}
-use Rattle.tso_model.specs.Thread.{entry, value_in, value_of, updated, entries_by, registers_by, values_after, entries_of}
-use Rattle.tso_model.specs.ProgramOrder.{is_read, is_write}
-use Rattle.tso_model.specs.declared.instruction.Instr.{Instr}
-use Rattle.tso_model.specs.declared.action.Action.{Action}
-use Rattle.tso_model.specs.declared.action.Action.TheVariants.{Store, Load, Move, Fence, Lock}
-use Rattle.tso_model.specs.declared.execution.Entry.{Entry}
-use Rattle.tso_model.specs.declared.execution.Kind.TheVariants.{R, W, LR, LW}
-use Rattle.basic_laws.specs.Ranks.{part_of}
-use Rattle.relational_model.specs.Events.{IsIn}
-use Rattle.relational_model.specs.Candidates.{events_from}
-use Rattle.relational_model.proofs.Lists.{in-case, in-none, in-first, in-later, in-append}
-use Rattle.relational_model.proofs.Same.{only}
-use Rattle.relational_model.proofs.Events.{same-events-from}
-use Rattle.refutation_laws.specs.Known.{bare, same_event}
-use Rattle.refutation_laws.specs.Values.{writes_from, value_among}
+use Rattle.refutation_laws.proofs.Vocabulary.{◌≡◌, ℕ, zero, suc, ◌+◌, Bool, true, false, if◌then◌else◌, List, [], ◌∷◌, ◌++◌, Option, Some, None, slice_get, slice_index, slice_index_or, arith, refl, sym, ap, ◌∙◌, ◌⊎◌, inl, inr, subst, Litmus, action_of, entry, value_in, value_of, updated, entries_by, registers_by, values_after, entries_of, is_read, is_write, Instr, Action, Store, Load, Move, Fence, Lock, Entry, R, W, LR, LW, part_of, IsIn, events_from, in-case, in-none, in-first, in-later, in-append, only, same-events-from, bare, same_event, writes_from, value_among}
 use Rattle.refutation_laws.proofs.Standing.{same-bare}
 use Rattle.refutation_laws.proofs.Soundness.{bare-same}
 use Rattle.refutation_laws.proofs.Knowing.{Tells, Given, all-writes-in}

@@ -1,24 +1,5 @@
 -- What a claim can be, where this much is known: no state of an agreeing candidate gives it another truth.
-use Rattle.std.proofs.Common.{◌≡◌, ◌<◌, ℕ, zero, suc, ◌+◌, ◌==◌, ◌&&◌, ◌||◌, Bool, true, false, not, if◌then◌else◌, List, [], ◌∷◌, length, Option, Some, None, slice_index, slice_index_or, arith, refl, sym, ap, ◌⊎◌, inl, inr, subst}
-use Rattle.std.specs.Prelude.{map, filter}
-use Rattle.std.specs.List.{list_any}
-use Rattle.tso_model.specs.Litmus.{Litmus}
-use Rattle.tso_model.specs.Thread.{entries_of, registers_after}
-use Rattle.tso_model.specs.ProgramOrder.{writes_to}
-use Rattle.tso_model.specs.Condition.{Claim, TruthClaim, RegClaim, LocClaim, NotClaim, AndClaim, OrClaim, truth_of, NamesExist}
-use Rattle.tso_model.specs.declared.instruction.Instr.{Instr}
-use Rattle.tso_model.specs.declared.execution.Entry.{Entry}
-use Rattle.relational_model.specs.Events.{IsIn, IsEarlier}
-use Rattle.relational_model.specs.Candidates.{Candidate, events_from, events, last_word, words_left_from, words_left, registers_left_from, registers_left}
-use Rattle.relational_model.specs.CandidatesOfOrders.{last_in}
-use Rattle.relational_model.proofs.Lists.{in-none, in-left, in-right, last-is-in, last-last, Precedes, from-precedes}
-use Rattle.relational_model.proofs.KindFacts.{and-both}
-use Rattle.relational_model.proofs.Sources.{never-itself, never-back}
-use Rattle.relational_model.proofs.Order.{stand-once, location}
-use Rattle.relational_model.proofs.Events.{Sound}
-use Rattle.refutation_laws.specs.Known.{Known, bare, events_of, comes_before}
-use Rattle.refutation_laws.specs.Values.{left_of, first_registers, value_among, all_known, value_read, can_be, can_be_last, words_at_end, register_at_end, allows}
-use Rattle.refutation_laws.specs.Agreement.{Stands, Agrees}
+use Rattle.refutation_laws.proofs.Vocabulary.{◌≡◌, ◌<◌, ℕ, zero, suc, ◌+◌, ◌==◌, ◌&&◌, ◌||◌, Bool, true, false, not, if◌then◌else◌, List, [], ◌∷◌, length, Option, Some, None, slice_index, slice_index_or, arith, refl, sym, ap, ◌⊎◌, inl, inr, subst, map, filter, list_any, Litmus, entries_of, registers_after, writes_to, Claim, TruthClaim, RegClaim, LocClaim, NotClaim, AndClaim, OrClaim, truth_of, NamesExist, Instr, Entry, IsIn, IsEarlier, Candidate, events_from, events, last_word, words_left_from, words_left, registers_left_from, registers_left, last_in, in-none, in-left, in-right, last-is-in, last-last, Precedes, from-precedes, and-both, never-itself, never-back, stand-once, location, Sound, Known, bare, events_of, comes_before, left_of, first_registers, value_among, all_known, value_read, can_be, can_be_last, words_at_end, register_at_end, allows, Stands, Agrees}
 use Rattle.refutation_laws.proofs.Tests.{and-of, or-first, or-second, any-in, any-holds, any-picked}
 use Rattle.refutation_laws.proofs.Standing.{event-in, of-event}
 use Rattle.refutation_laws.proofs.Agreeing.{has-co}

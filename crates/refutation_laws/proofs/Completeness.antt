@@ -1,22 +1,8 @@
 -- Each claim has a refutation, or an allowed candidate makes it true.
-use Rattle.std.proofs.Common.{◌≡◌, ◌≤◌, ◌+◌, Bool, true, false, not, List, [], ◌∷◌, length, slice_index_or, arith, refl, sym, ap, ◌⊎◌, inl, inr, subst}
-use Rattle.std.specs.List.{list_any}
-use Rattle.tso_model.specs.Litmus.{Litmus, IsTest}
-use Rattle.tso_model.specs.Registers.{AreRegisters}
-use Rattle.tso_model.specs.Condition.{Claim, NamesExist}
-use Rattle.tso_model.specs.declared.execution.Entry.{Entry}
-use Rattle.relational_model.specs.Events.{IsIn}
-use Rattle.refutation_laws.specs.Known.{Known, events_of, nothing}
-use Rattle.refutation_laws.specs.Edges.{on_location, global_in, is_edge, is_between}
-use Rattle.refutation_laws.specs.declared.model.Model.{Model}
-use Rattle.refutation_laws.specs.Values.{allows}
-use Rattle.refutation_laws.specs.Refutations.{Node, OnLocation, Globally, Between, FalseClaim, is_node, branches}
-use Rattle.refutation_laws.specs.Models.{IsRefuted, HasCandidate}
+use Rattle.refutation_laws.proofs.Vocabulary.{◌≡◌, ◌≤◌, ◌+◌, Bool, true, false, not, List, [], ◌∷◌, length, slice_index_or, arith, refl, sym, ap, ◌⊎◌, inl, inr, subst, list_any, Litmus, IsTest, AreRegisters, Claim, NamesExist, Entry, IsIn, Known, events_of, nothing, on_location, global_in, is_edge, is_between, Model, allows, Node, OnLocation, Globally, Between, FalseClaim, is_node, branches, IsRefuted, HasCandidate, Ordered, IsFull, NoneBetween}
 use Rattle.refutation_laws.proofs.Tests.{any-in, any-holds}
 use Rattle.refutation_laws.proofs.Composing.{HasTrees, EachHasOne, has-tree}
-use Rattle.relational_model.specs.inner.Rows.{Ordered}
 use Rattle.refutation_laws.proofs.Rows.{HasCycle, Edge, cycle-or-row}
-use Rattle.refutation_laws.specs.inner.FullCases.{IsFull, NoneBetween}
 use Rattle.refutation_laws.proofs.Asking.{Answer, all-asked}
 use Rattle.refutation_laws.proofs.Determined.{HaveSix}
 use Rattle.refutation_laws.proofs.Settling.{is-event, IsOpen, own_candidate}

@@ -1,11 +1,5 @@
 -- Trees are put together: a question whose branches all have a tree has one.
-use Rattle.std.proofs.Common.{◌≡◌, true, List, [], ◌∷◌, ◌++◌, append-nil, append_assoc, refl, sym, subst}
-use Rattle.tso_model.specs.Litmus.{Litmus}
-use Rattle.tso_model.specs.Condition.{Claim}
-use Rattle.relational_model.proofs.KindFacts.{and-both}
-use Rattle.refutation_laws.specs.Known.{Known}
-use Rattle.refutation_laws.specs.declared.model.Model.{Model}
-use Rattle.refutation_laws.specs.Refutations.{Node, is_node, branches, close}
+use Rattle.refutation_laws.proofs.Vocabulary.{◌≡◌, true, List, [], ◌∷◌, ◌++◌, append-nil, append_assoc, refl, sym, subst, Litmus, Claim, and-both, Known, Model, Node, is_node, branches, close}
 use Rattle.refutation_laws.proofs.Tests.{and-of}
 
 module _ (model : Model) (t : Litmus) (claim : Claim) where

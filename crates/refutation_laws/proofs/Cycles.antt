@@ -1,26 +1,6 @@
 -- The three leaves of relations: an allowed candidate that agrees with what is known has none of them.
-use Rattle.std.proofs.Common.{◌≡◌, ◌≢◌, ℕ, ◌==◌, ◌&&◌, ◌||◌, Bool, true, not, List, [], ◌∷◌, refl, sym, ap, ◌∙◌, ◌⊎◌, inl, inr, subst}
-use Rattle.std.specs.List.{list_all}
-use Rattle.tso_model.specs.Litmus.{Litmus}
-use Rattle.tso_model.specs.ProgramOrder.{is_before, is_read, is_write, same_kind}
-use Rattle.tso_model.specs.declared.execution.Entry.{Entry}
-use Rattle.tso_model.specs.declared.execution.Kind.TheVariants.{F, LR, LW}
-use Rattle.relational_model.specs.Events.{LeadsTo, at_once, onward}
-use Rattle.relational_model.specs.Candidates.{Candidate, events}
-use Rattle.relational_model.specs.Relations.{is_access, share_location, ReadsFrom}
-use Rattle.relational_model.specs.Model.{IsBeforeOnLocation, po_loc, rf, co, fr, HappensBefore, write_before_write, read_before_access, mfence, implied, rfe, IsAtomic, IsAllowed, is_locked}
+use Rattle.refutation_laws.proofs.Vocabulary.{◌≡◌, ◌≢◌, ℕ, ◌==◌, ◌&&◌, ◌||◌, Bool, true, not, List, [], ◌∷◌, refl, sym, ap, ◌∙◌, ◌⊎◌, inl, inr, subst, list_all, Litmus, is_before, is_read, is_write, same_kind, Entry, F, LR, LW, LeadsTo, at_once, onward, Candidate, events, is_access, share_location, ReadsFrom, IsBeforeOnLocation, po_loc, rf, co, fr, HappensBefore, write_before_write, read_before_access, mfence, implied, rfe, IsAtomic, IsAllowed, is_locked, IsBeforeSequentially, and-both, or-either, same-number, number-same, equal-kinds, Sound, Known, bare, events_of, is_event, reads_from, comes_before, from_reads, relates, on_location, global_in, is_edge, leads_back, is_cycle, are_parts, is_between, Stands, Agrees, IsAllowedBy, Model, Tso, Sequential, Mfence}
 use Rattle.relational_model.specs.SequentialModel as sc
-use Rattle.relational_model.specs.SequentialModel.{IsBeforeSequentially}
-use Rattle.relational_model.proofs.KindFacts.{and-both, or-either, same-number, number-same}
-use Rattle.relational_model.proofs.Found.{equal-kinds}
-use Rattle.relational_model.proofs.Events.{Sound}
-use Rattle.refutation_laws.specs.Known.{Known, bare, events_of, is_event, reads_from, comes_before, from_reads}
-use Rattle.refutation_laws.specs.Edges.{relates, on_location, global_in, is_edge, leads_back, is_cycle, are_parts, is_between}
-use Rattle.refutation_laws.specs.Agreement.{Stands, Agrees}
-use Rattle.refutation_laws.specs.Models.{IsAllowedBy}
-use Rattle.refutation_laws.specs.declared.model.Model.{Model}
-use Rattle.refutation_laws.specs.declared.model.Model.TheVariants.{Tso, Sequential}
-use Rattle.refutation_laws.specs.declared.model.Relation.TheVariants.{Mfence}
 use Rattle.refutation_laws.proofs.Tests.{any-holds}
 use Rattle.refutation_laws.proofs.Standing.{standing, of-event}
 use Rattle.refutation_laws.proofs.Agreeing.{has-rf, has-co, has-fr}

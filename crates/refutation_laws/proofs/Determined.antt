@@ -1,33 +1,5 @@
 -- Where reads are given, registers are known, and writes: a write whose earlier reads are given is among those that are known.
-use Rattle.std.proofs.Common.{◌≡◌, ◌<◌, ◌≤◌, ℕ, zero, suc, ◌+◌, true, List, [], ◌∷◌, ◌++◌, length, Option, Some, None, slice_index, slice_index_or, arith, refl, sym, ap, ◌∙◌, ◌⊎◌, inl, inr, subst}
-use Rattle.std.specs.Prelude.{map, slice_set}
-use Rattle.tso_model.specs.Litmus.{Litmus}
-use Rattle.tso_model.specs.Registers.{index_of}
-use Rattle.tso_model.specs.Actions.{action_of}
-use Rattle.tso_model.specs.Thread.{entry, value_in, value_of, updated, entries_by, registers_by, values_after, entries_of, registers_after}
-use Rattle.tso_model.specs.ProgramOrder.{is_before, is_read, is_write}
-use Rattle.tso_model.specs.declared.register.Reg.{Reg}
-use Rattle.tso_model.specs.declared.register.Reg.TheVariants.{Eax, Ebx, Ecx, Edx, Esi, Edi}
-use Rattle.tso_model.specs.declared.instruction.Loc.{Loc}
-use Rattle.tso_model.specs.declared.instruction.Instr.{Instr}
-use Rattle.tso_model.specs.declared.action.Operand.{Operand}
-use Rattle.tso_model.specs.declared.action.Operand.TheVariants.{Number, Held}
-use Rattle.tso_model.specs.declared.action.Update.{Update}
-use Rattle.tso_model.specs.declared.action.Update.TheVariants.{Exchange, Add}
-use Rattle.tso_model.specs.declared.action.Action.{Action}
-use Rattle.tso_model.specs.declared.action.Action.TheVariants.{Store, Load, Move, Fence, Lock}
-use Rattle.tso_model.specs.declared.execution.Entry.{Entry}
-use Rattle.tso_model.specs.declared.execution.Kind.{Kind}
-use Rattle.tso_model.specs.declared.execution.Kind.TheVariants.{R, W, LR, LW}
-use Rattle.basic_laws.specs.Ranks.{rank}
-use Rattle.basic_laws.proofs.Basics.{part-small}
-use Rattle.relational_model.specs.Events.{IsIn}
-use Rattle.relational_model.specs.Candidates.{events_from}
-use Rattle.relational_model.proofs.Lists.{in-case, in-none, in-first, in-append, in-left, in-right}
-use Rattle.relational_model.proofs.Ranks.{rank-before}
-use Rattle.relational_model.proofs.Same.{only, here-by, from-place}
-use Rattle.refutation_laws.specs.Known.{bare}
-use Rattle.refutation_laws.specs.Values.{known_in, known_operand, known_update, write_with, word_given, writes_by, left_by, writes_of, left_of, first_registers, writes_from}
+use Rattle.refutation_laws.proofs.Vocabulary.{◌≡◌, ◌<◌, ◌≤◌, ℕ, zero, suc, ◌+◌, true, List, [], ◌∷◌, ◌++◌, length, Option, Some, None, slice_index, slice_index_or, arith, refl, sym, ap, ◌∙◌, ◌⊎◌, inl, inr, subst, map, slice_set, Litmus, index_of, action_of, entry, value_in, value_of, updated, entries_by, registers_by, values_after, entries_of, registers_after, is_before, is_read, is_write, Reg, Eax, Ebx, Ecx, Edx, Esi, Edi, Loc, Instr, Operand, Number, Held, Update, Exchange, Add, Action, Store, Load, Move, Fence, Lock, Entry, Kind, R, W, LR, LW, rank, part-small, IsIn, events_from, in-case, in-none, in-first, in-append, in-left, in-right, rank-before, only, here-by, from-place, bare, known_in, known_operand, known_update, write_with, word_given, writes_by, left_by, writes_of, left_of, first_registers, writes_from}
 use Rattle.refutation_laws.proofs.Building.{unwritten}
 
 -- ---- registers that are all known

@@ -1,22 +1,5 @@
 -- In a full case with no cycle nothing is open: what a claim can be, it is in the state that the case's candidate leaves.
-use Rattle.std.proofs.Common.{◌≡◌, ◌<◌, ◌≤◌, ℕ, zero, suc, ◌+◌, ◌==◌, ◌&&◌, ◌||◌, Bool, true, false, not, if◌then◌else◌, List, [], ◌∷◌, length, Option, Some, None, slice_index, slice_index_or, arith, refl, sym, ap, ◌∙◌, ◌⊎◌, inl, inr, subst}
-use Rattle.std.specs.Prelude.{map, filter}
-use Rattle.std.specs.List.{list_any}
-use Rattle.tso_model.specs.Litmus.{Litmus}
-use Rattle.tso_model.specs.Thread.{value_in, entries_of, registers_after}
-use Rattle.tso_model.specs.ProgramOrder.{is_write, writes_to}
-use Rattle.tso_model.specs.Condition.{Claim, TruthClaim, RegClaim, LocClaim, NotClaim, AndClaim, OrClaim, truth_of, NamesExist}
-use Rattle.tso_model.specs.declared.instruction.Instr.{Instr}
-use Rattle.tso_model.specs.declared.execution.Entry.{Entry}
-use Rattle.relational_model.specs.Events.{IsIn, IsEarlier}
-use Rattle.relational_model.specs.Candidates.{Candidate, events_from, last_word, registers_left_from, registers_left, words_left}
-use Rattle.relational_model.specs.CandidatesOfOrders.{last_in}
-use Rattle.relational_model.proofs.Lists.{in-none, in-left, in-right, filter-in, last-is-in, last-last, Precedes, from-precedes}
-use Rattle.relational_model.proofs.KindFacts.{and-both, or-either}
-use Rattle.relational_model.proofs.Order.{location}
-use Rattle.refutation_laws.specs.Known.{Known, bare, events_of, comes_before}
-use Rattle.refutation_laws.specs.Values.{known_in, left_of, first_registers, value_among, all_known, can_be, can_be_last, words_at_end, register_at_end, allows}
-use Rattle.refutation_laws.specs.declared.model.Model.{Model}
+use Rattle.refutation_laws.proofs.Vocabulary.{◌≡◌, ◌<◌, ◌≤◌, ℕ, zero, suc, ◌+◌, ◌==◌, ◌&&◌, ◌||◌, Bool, true, false, not, if◌then◌else◌, List, [], ◌∷◌, length, Option, Some, None, slice_index, slice_index_or, arith, refl, sym, ap, ◌∙◌, ◌⊎◌, inl, inr, subst, map, filter, list_any, Litmus, value_in, entries_of, registers_after, is_write, writes_to, Claim, TruthClaim, RegClaim, LocClaim, NotClaim, AndClaim, OrClaim, truth_of, NamesExist, Instr, Entry, IsIn, IsEarlier, Candidate, events_from, last_word, registers_left_from, registers_left, words_left, last_in, in-none, in-left, in-right, filter-in, last-is-in, last-last, Precedes, from-precedes, and-both, or-either, location, Known, bare, events_of, comes_before, known_in, left_of, first_registers, value_among, all_known, can_be, can_be_last, words_at_end, register_at_end, allows, Model}
 use Rattle.refutation_laws.proofs.Tests.{from-not, any-in, picked-of}
 use Rattle.refutation_laws.proofs.Standing.{Of, of-event}
 use Rattle.refutation_laws.proofs.ClaimFacts.{words-at, ends, Empty, Last}

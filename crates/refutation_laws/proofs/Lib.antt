@@ -1,3 +1,4 @@
+pub mod Vocabulary
 pub mod Tests
 pub mod Standing
 pub mod Agreeing

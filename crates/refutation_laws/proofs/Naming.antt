@@ -1,11 +1,5 @@
 -- The first relation of an edge.
-use Rattle.std.proofs.Common.{◌≡◌, ◌||◌, Bool, true, false, if◌then◌else◌, List, [], ◌∷◌, Some, refl, ap, ◌∙◌, sym}
-use Rattle.tso_model.specs.Litmus.{Litmus}
-use Rattle.tso_model.specs.declared.execution.Entry.{Entry}
-use Rattle.refutation_laws.specs.Known.{Known}
-use Rattle.refutation_laws.specs.Edges.{relates, is_edge}
-use Rattle.refutation_laws.specs.Shown.{first_of}
-use Rattle.refutation_laws.specs.declared.model.Relation.{Relation}
+use Rattle.refutation_laws.proofs.Vocabulary.{◌≡◌, ◌||◌, Bool, true, false, if◌then◌else◌, List, [], ◌∷◌, Some, refl, ap, ◌∙◌, sym, Litmus, Entry, Known, relates, is_edge, first_of, Relation}
 use Rattle.refutation_laws.proofs.Tests.{or-first, or-second}
 
 pub has-first : (t : Litmus) (k : Known) (rs : List Relation) (x y : Entry) → is_edge t k rs x y ≡ true

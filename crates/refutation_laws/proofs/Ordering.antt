@@ -1,50 +1,10 @@
 -- The order of a full case that no leaf closes: a row of its events in which each edge goes forward, with the values that are known and each
 -- load part put before its store part, is an execution of the model, and what is asked is true in its final state.
-use Rattle.std.proofs.Common.{◌≡◌, ◌+◌, ◌==◌, ◌&&◌, ◌||◌, ℕ, Bool, true, false, not, if◌then◌else◌, List, [], ◌∷◌, ◌++◌, length, Option, Some, None, slice_index, slice_index_or, refl, sym, ap, ◌∙◌, ◌⊎◌, inl, inr, subst}
-use Rattle.std.specs.Prelude.{map, filter}
-use Rattle.std.specs.List.{list_any}
-use Rattle.tso_model.specs.Litmus.{Litmus}
-use Rattle.tso_model.specs.Actions.{action_of}
-use Rattle.tso_model.specs.Thread.{entry, fence, value_in, updated, entries_by, registers_by, values_after, entries_of}
-use Rattle.tso_model.specs.ProgramOrder.{is_before, is_read, is_write, may_be_passed, same_kind}
-use Rattle.tso_model.specs.Condition.{Claim, NamesExist, truth_of}
-use Rattle.tso_model.specs.FinalState.{final_words, final_registers}
-use Rattle.tso_model.specs.declared.instruction.Instr.{Instr}
-use Rattle.tso_model.specs.declared.action.Action.{Action}
-use Rattle.tso_model.specs.declared.action.Action.TheVariants.{Store, Load, Move, Fence, Lock}
-use Rattle.tso_model.specs.declared.execution.Entry.{Entry}
-use Rattle.tso_model.specs.declared.execution.Kind.TheVariants.{R, W, F, LR, LW}
-use Rattle.relational_model.specs.Events.{IsIn}
-use Rattle.relational_model.specs.Candidates.{Candidate, events, events_from, registers_left, words_left}
-use Rattle.relational_model.specs.CandidatesOfOrders.{LeaveTheSame}
-use Rattle.relational_model.specs.Model.{ArePair, IsAllowed}
-use Rattle.relational_model.specs.SequentialModel.{IsSequential}
-use Rattle.relational_model.specs.Relations.{is_access}
-use Rattle.relational_model.proofs.Lists.{in-case, in-none, in-first, in-later, in-append}
-use Rattle.relational_model.proofs.KindFacts.{and-both, same-number, number-same, write-is-no-read}
-use Rattle.relational_model.proofs.Found.{equal-kinds, kind-itself}
-use Rattle.relational_model.proofs.Fences.{parts}
-use Rattle.relational_model.proofs.Same.{only}
-use Rattle.relational_model.specs.inner.Rows.{GoesForward, Once}
-use Rattle.relational_model.proofs.Decisions.{Goes, kinds}
-use Rattle.relational_model.proofs.Together.{Toward, pair, answer, load-of, put, in-put}
-use Rattle.relational_model.proofs.Events.{sound}
-use Rattle.relational_model.proofs.Converse.{CanBeKept, IsKeptIn, Others, in-order, goes-kept}
-use Rattle.relational_model.proofs.SequentialOrders.{Step, keeps, step-kept}
-use Rattle.relational_model.proofs.SequentialFacts.{tso-allows}
-use Rattle.refutation_laws.specs.Known.{Known, bare, events_of, reads_from, comes_before, from_reads}
-use Rattle.refutation_laws.specs.Edges.{are_parts}
-use Rattle.refutation_laws.specs.Values.{all_known, value_among, value_read, allows}
-use Rattle.refutation_laws.specs.Shown.{value_known}
-use Rattle.refutation_laws.specs.Models.{IsExecutionOf, IsMet}
-use Rattle.refutation_laws.specs.declared.model.Model.{Model}
-use Rattle.refutation_laws.specs.declared.model.Model.TheVariants.{Tso, Sequential}
-use Rattle.refutation_laws.specs.inner.Orders.{is_kept_by, must_precede, comes_toward, is_load_part, IsRow, value_or_zero, value_in_order, valued, with_loads, order_of}
+use Rattle.refutation_laws.proofs.Vocabulary.{◌≡◌, ◌+◌, ◌==◌, ◌&&◌, ◌||◌, ℕ, Bool, true, false, not, if◌then◌else◌, List, [], ◌∷◌, ◌++◌, length, Option, Some, None, slice_index, slice_index_or, refl, sym, ap, ◌∙◌, ◌⊎◌, inl, inr, subst, map, filter, list_any, Litmus, action_of, entry, fence, value_in, updated, entries_by, registers_by, values_after, entries_of, is_before, is_read, is_write, may_be_passed, same_kind, Claim, NamesExist, truth_of, final_words, final_registers, Instr, Action, Store, Load, Move, Fence, Lock, Entry, R, W, F, LR, LW, IsIn, Candidate, events, events_from, registers_left, words_left, LeaveTheSame, ArePair, IsAllowed, IsSequential, is_access, in-case, in-none, in-first, in-later, in-append, and-both, same-number, number-same, write-is-no-read, equal-kinds, kind-itself, parts, only, GoesForward, Once, Goes, kinds, Toward, pair, answer, load-of, put, in-put, sound, CanBeKept, IsKeptIn, Others, in-order, goes-kept, Step, keeps, step-kept, tso-allows, Known, bare, events_of, reads_from, comes_before, from_reads, are_parts, all_known, value_among, value_read, allows, value_known, IsExecutionOf, IsMet, Model, Tso, Sequential, is_kept_by, must_precede, comes_toward, is_load_part, IsRow, value_or_zero, value_in_order, valued, with_loads, order_of, NoneBetween}
 use Rattle.refutation_laws.proofs.Tests.{and-of, or-first, or-second, any-in}
 use Rattle.refutation_laws.proofs.Standing.{Of, of-event, bare-events}
 use Rattle.refutation_laws.proofs.Relating.{rf-bare, fr-bare}
 use Rattle.refutation_laws.proofs.Settling.{IsOpen, own_events, own_candidate, own-in, one-own, all-given, all-known-values}
-use Rattle.refutation_laws.specs.inner.FullCases.{NoneBetween}
 use Rattle.refutation_laws.proofs.Allowing.{different, rf-known, co-known, fr-known, is-allowed}
 use Rattle.refutation_laws.proofs.Exactness.{claim-exact}
 

@@ -1,35 +1,6 @@
 -- In a full case that no leaf closes, some event of those that are left can stand next: the candidate of the case gives all answers, and
 -- its edges never go round.
-use Rattle.std.proofs.Common.{◌≡◌, ◌<◌, ◌==◌, ◌&&◌, ◌||◌, ℕ, Bool, true, false, not, if◌then◌else◌, List, [], ◌∷◌, Option, Some, None, slice_get, arith, refl, sym, ap, ◌∙◌, ◌⊎◌, inl, inr, subst}
-use Rattle.std.specs.Prelude.{map}
-use Rattle.std.specs.List.{list_any}
-use Rattle.tso_model.specs.Litmus.{Litmus}
-use Rattle.tso_model.specs.ProgramOrder.{is_before, is_read, is_write, writes_to, may_be_passed}
-use Rattle.tso_model.specs.declared.execution.Entry.{Entry}
-use Rattle.relational_model.specs.Events.{IsIn, at_once, IsAcyclic}
-use Rattle.relational_model.specs.Candidates.{Candidate, events}
-use Rattle.relational_model.specs.Relations.{IsBefore}
-use Rattle.relational_model.specs.Model.{ArePair, IsAllowed}
-use Rattle.relational_model.proofs.Lists.{in-case, in-none, in-first, in-later, filter-in}
-use Rattle.relational_model.proofs.KindFacts.{and-both, or-either, same-number, number-same}
-use Rattle.relational_model.proofs.Order.{location}
-use Rattle.relational_model.proofs.Decisions.{Goes, member}
-use Rattle.relational_model.specs.inner.Rows.{GoesForward, Row}
-use Rattle.relational_model.proofs.Sorting.{in-a-row}
-use Rattle.relational_model.proofs.Together.{Toward, toward, pair-goes, way, others, is-other, other-is}
-use Rattle.relational_model.proofs.Events.{Sound, sound}
-use Rattle.relational_model.proofs.Converse.{CanBeKept, goes-kept}
-use Rattle.relational_model.proofs.SequentialOrders.{Step, step-kept}
-use Rattle.relational_model.proofs.SequentialFacts.{tso-allows}
-use Rattle.refutation_laws.specs.Known.{Known, bare, events_of, same_event, reads_from, comes_before, from_reads}
-use Rattle.refutation_laws.specs.Edges.{are_parts}
-use Rattle.refutation_laws.specs.Agreement.{Stands, IsSource, HasSources, HasPairs, Agrees}
-use Rattle.refutation_laws.specs.declared.known.Source.{Source}
-use Rattle.refutation_laws.specs.declared.known.Pair.{Pair}
-use Rattle.refutation_laws.specs.declared.model.Model.{Model}
-use Rattle.refutation_laws.specs.declared.model.Model.TheVariants.{Tso, Sequential}
-use Rattle.refutation_laws.specs.inner.FullCases.{IsPossible, ArePossible, AreSingle, AreOfReads, ArePairsOfWrites, IsSound, NoneBetween}
-use Rattle.refutation_laws.specs.inner.Orders.{is_kept_by, must_precede, comes_toward, is_load_part, valued}
+use Rattle.refutation_laws.proofs.Vocabulary.{◌≡◌, ◌<◌, ◌==◌, ◌&&◌, ◌||◌, ℕ, Bool, true, false, not, if◌then◌else◌, List, [], ◌∷◌, Option, Some, None, slice_get, arith, refl, sym, ap, ◌∙◌, ◌⊎◌, inl, inr, subst, map, list_any, Litmus, is_before, is_read, is_write, writes_to, may_be_passed, Entry, IsIn, at_once, IsAcyclic, Candidate, events, IsBefore, ArePair, IsAllowed, in-case, in-none, in-first, in-later, filter-in, and-both, or-either, same-number, number-same, location, Goes, member, GoesForward, Row, in-a-row, Toward, toward, pair-goes, way, others, is-other, other-is, Sound, sound, CanBeKept, goes-kept, Step, step-kept, tso-allows, Known, bare, events_of, same_event, reads_from, comes_before, from_reads, are_parts, Stands, IsSource, HasSources, HasPairs, Agrees, Source, Pair, Model, Tso, Sequential, IsPossible, ArePossible, AreSingle, AreOfReads, ArePairsOfWrites, IsSound, NoneBetween, is_kept_by, must_precede, comes_toward, is_load_part, valued}
 use Rattle.refutation_laws.proofs.Tests.{and-of, or-first, or-second, any-in, any-holds}
 use Rattle.refutation_laws.proofs.Standing.{Of, of-event, same-bare}
 use Rattle.refutation_laws.proofs.Soundness.{bare-same}

@@ -1,14 +1,5 @@
 -- An edge is one of a model's relations, and the values of its events have no part in it.
-use Rattle.std.proofs.Common.{◌≡◌, ◌==◌, ◌&&◌, ◌||◌, Bool, true, not, List, [], ◌∷◌, Option, Some, None, refl, sym, ap, ◌∙◌, ◌⊎◌, inl, inr}
-use Rattle.std.specs.List.{list_any}
-use Rattle.tso_model.specs.Litmus.{Litmus}
-use Rattle.tso_model.specs.declared.execution.Entry.{Entry}
-use Rattle.relational_model.proofs.KindFacts.{or-either}
-use Rattle.refutation_laws.specs.Known.{Known, bare, same_event, is_write_of, reads_from, is_overwritten, from_reads}
-use Rattle.refutation_laws.specs.Edges.{relates, is_edge}
-use Rattle.refutation_laws.specs.declared.known.Source.{Source}
-use Rattle.refutation_laws.specs.declared.model.Relation.{Relation}
-use Rattle.refutation_laws.specs.declared.model.Relation.TheVariants.{Po, PoLoc, PoGhb, Mfence, Implied, Rf, Rfe, Co, Fr}
+use Rattle.refutation_laws.proofs.Vocabulary.{◌≡◌, ◌==◌, ◌&&◌, ◌||◌, Bool, true, not, List, [], ◌∷◌, Option, Some, None, refl, sym, ap, ◌∙◌, ◌⊎◌, inl, inr, list_any, Litmus, Entry, or-either, Known, bare, same_event, is_write_of, reads_from, is_overwritten, from_reads, relates, is_edge, Source, Relation, Po, PoLoc, PoGhb, Mfence, Implied, Rf, Rfe, Co, Fr}
 use Rattle.refutation_laws.proofs.Tests.{or-first, or-second}
 
 -- ---- one of some relations

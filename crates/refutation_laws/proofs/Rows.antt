@@ -1,15 +1,5 @@
 -- The events of a test have a cycle of some edges, as a list, or stand in a row in which each edge goes forward.
-use Rattle.std.proofs.Common.{◌≡◌, ◌<◌, ℕ, zero, suc, Bool, true, List, [], ◌∷◌, Some, slice_get, arith, refl, sym, ◌∙◌, ◌⊎◌, inl, inr, subst}
-use Rattle.std.specs.List.{list_all}
-use Rattle.tso_model.specs.Litmus.{Litmus}
-use Rattle.tso_model.specs.declared.execution.Entry.{Entry}
-use Rattle.relational_model.specs.Events.{IsIn, LeadsTo, at_once, onward, IsAcyclic}
-use Rattle.relational_model.proofs.Decisions.{is-true}
-use Rattle.relational_model.proofs.Forward.{starts-in}
-use Rattle.relational_model.specs.inner.Rows.{GoesForward, Ordered}
-use Rattle.relational_model.proofs.Sorting.{Decided, GoesRound, ordered-or-round}
-use Rattle.refutation_laws.specs.Known.{events_of, is_event}
-use Rattle.refutation_laws.specs.Edges.{leads_back, is_cycle}
+use Rattle.refutation_laws.proofs.Vocabulary.{◌≡◌, ◌<◌, ℕ, zero, suc, Bool, true, List, [], ◌∷◌, Some, slice_get, arith, refl, sym, ◌∙◌, ◌⊎◌, inl, inr, subst, list_all, Litmus, Entry, IsIn, LeadsTo, at_once, onward, IsAcyclic, is-true, starts-in, GoesForward, Ordered, Decided, GoesRound, ordered-or-round, events_of, is_event, leads_back, is_cycle}
 use Rattle.refutation_laws.proofs.Tests.{and-of}
 
 -- ---- places in the row

@@ -1,35 +1,11 @@
 -- In a full case with no cycle all values are known: a read is given after so many rounds as its place in a row of the model's global relation says. The
 -- candidate of the case has those values.
-use Rattle.std.proofs.Common.{◌≡◌, ◌<◌, ◌≤◌, ℕ, zero, suc, ◌+◌, ◌==◌, ◌&&◌, ◌||◌, Bool, true, false, not, if◌then◌else◌, List, [], ◌∷◌, length, Option, Some, None, slice_get, slice_index, arith, refl, sym, ap, ◌∙◌, ◌⊎◌, inl, inr, subst}
-use Rattle.std.specs.Prelude.{filter}
-use Rattle.std.specs.List.{list_any}
-use Rattle.tso_model.specs.Litmus.{Litmus}
-use Rattle.tso_model.specs.ProgramOrder.{is_before, is_read, is_write, writes_to}
-use Rattle.tso_model.specs.declared.execution.Entry.{Entry}
-use Rattle.basic_laws.specs.Ranks.{rank, part_of}
-use Rattle.basic_laws.proofs.Basics.{part-small}
-use Rattle.relational_model.specs.Events.{IsIn, LeadsTo, at_once, onward}
-use Rattle.relational_model.specs.Candidates.{Candidate, Returns}
-use Rattle.relational_model.specs.Relations.{is_access, share_location}
-use Rattle.relational_model.proofs.Lists.{in-case, in-none, in-first, in-later, in-filter}
-use Rattle.relational_model.proofs.KindFacts.{and-both, same-number, write-is-no-read}
-use Rattle.relational_model.proofs.Ranks.{rank-before, before-trans}
-use Rattle.relational_model.proofs.Decisions.{number}
-use Rattle.relational_model.proofs.Order.{location, share}
-use Rattle.relational_model.specs.inner.Rows.{Row, Ordered}
-use Rattle.relational_model.proofs.Sorting.{in-a-row}
-use Rattle.refutation_laws.specs.Known.{Known, bare, events_of, same_event, is_event, is_write_of, reads_from, comes_before}
-use Rattle.refutation_laws.specs.declared.known.Source.{Source}
-use Rattle.refutation_laws.specs.Edges.{on_location, global_in, is_edge}
-use Rattle.refutation_laws.specs.declared.model.Model.{Model}
-use Rattle.refutation_laws.specs.declared.model.Model.TheVariants.{Tso, Sequential}
-use Rattle.refutation_laws.specs.Values.{value_among, returned_from, returned, known_writes, all_known}
+use Rattle.refutation_laws.proofs.Vocabulary.{◌≡◌, ◌<◌, ◌≤◌, ℕ, zero, suc, ◌+◌, ◌==◌, ◌&&◌, ◌||◌, Bool, true, false, not, if◌then◌else◌, List, [], ◌∷◌, length, Option, Some, None, slice_get, slice_index, arith, refl, sym, ap, ◌∙◌, ◌⊎◌, inl, inr, subst, filter, list_any, Litmus, is_before, is_read, is_write, writes_to, Entry, rank, part_of, part-small, IsIn, LeadsTo, at_once, onward, Candidate, Returns, is_access, share_location, in-case, in-none, in-first, in-later, in-filter, and-both, same-number, write-is-no-read, rank-before, before-trans, number, location, share, Row, Ordered, in-a-row, Known, bare, events_of, same_event, is_event, is_write_of, reads_from, comes_before, Source, on_location, global_in, is_edge, Model, Tso, Sequential, value_among, returned_from, returned, known_writes, all_known, IsPossible, ArePossible, IsFull}
 use Rattle.refutation_laws.proofs.Standing.{Of, event-in, of-event, same-bare}
 use Rattle.refutation_laws.proofs.Soundness.{itself, bare-same}
 use Rattle.refutation_laws.proofs.Tests.{and-of, or-first, or-second, any-in}
 use Rattle.refutation_laws.proofs.Relating.{edge-by, of-bare}
 use Rattle.refutation_laws.proofs.Rows.{edge-forward, ordered-acyclic, Edge, edge-decided}
-use Rattle.refutation_laws.specs.inner.FullCases.{IsPossible, ArePossible, IsFull}
 use Rattle.refutation_laws.proofs.Building.{or_zero, reads_given, events_given, returns-chosen, one-event, same-place, known-value}
 use Rattle.refutation_laws.proofs.Determined.{HaveSix, EarlyGiven, AllGiven, known-write}
 

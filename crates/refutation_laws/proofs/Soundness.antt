@@ -1,29 +1,6 @@
 -- A refuted claim is false of each allowed candidate: at each node, the candidate has one of the answers.
-use Rattle.std.proofs.Common.{◌≡◌, ◌==◌, ◌&&◌, Bool, true, false, not, List, [], ◌∷◌, ◌++◌, length, Option, Some, None, refl, sym, ap, ◌∙◌, ◌⊎◌, inl, inr, subst}
-use Rattle.std.specs.Prelude.{map, filter}
-use Rattle.tso_model.specs.Litmus.{Litmus}
-use Rattle.tso_model.specs.Condition.{Claim, truth_of, NamesExist}
-use Rattle.tso_model.specs.ProgramOrder.{is_read, is_write, writes_to}
-use Rattle.tso_model.specs.declared.execution.Entry.{Entry}
-use Rattle.relational_model.specs.Events.{IsIn, IsEarlier}
-use Rattle.relational_model.specs.Candidates.{Candidate, words_left, registers_left}
-use Rattle.relational_model.specs.Relations.{IsBefore}
-use Rattle.relational_model.specs.Model.{IsAllowed}
-use Rattle.relational_model.proofs.Lists.{in-case, in-none, filter-in}
-use Rattle.relational_model.proofs.KindFacts.{and-both, number-same}
-use Rattle.relational_model.proofs.Found.{at-itself}
-use Rattle.relational_model.proofs.Order.{location}
-use Rattle.relational_model.proofs.Uniproc.{writes-at}
-use Rattle.relational_model.proofs.Sources.{one-way}
-use Rattle.relational_model.proofs.Events.{Sound, sound}
-use Rattle.relational_model.proofs.SequentialFacts.{tso-allows}
-use Rattle.refutation_laws.specs.Known.{Known, bare, events_of, same_event, is_event, nothing, with_source, with_pair}
-use Rattle.refutation_laws.specs.Values.{allows}
-use Rattle.refutation_laws.specs.Agreement.{Stands, IsSource, Agrees}
-use Rattle.refutation_laws.specs.Models.{IsAllowedBy}
-use Rattle.refutation_laws.specs.declared.model.Model.{Model}
-use Rattle.refutation_laws.specs.declared.model.Model.TheVariants.{Tso, Sequential}
-use Rattle.refutation_laws.specs.Refutations.{Node, ReadsFrom, ComesFirst, OnLocation, Globally, Between, FalseClaim, sources_of, is_node, branches, close, refutes}
+use Rattle.refutation_laws.proofs.Vocabulary.{◌≡◌, ◌==◌, ◌&&◌, Bool, true, false, not, List, [], ◌∷◌, ◌++◌, length, Option, Some, None, refl, sym, ap, ◌∙◌, ◌⊎◌, inl, inr, subst, map, filter, Litmus, Claim, truth_of, NamesExist, is_read, is_write, writes_to, Entry, IsIn, IsEarlier, Candidate, words_left, registers_left, IsBefore, IsAllowed, in-case, in-none, filter-in, and-both, number-same, at-itself, location, writes-at, one-way, Sound, sound, tso-allows, Known, bare, events_of, same_event, is_event, nothing, with_source, with_pair, allows, Stands, IsSource, Agrees, IsAllowedBy, Model, Tso, Sequential, Node, ComesFirst, OnLocation, Globally, Between, FalseClaim, sources_of, is_node, branches, close, refutes}
+use Rattle.refutation_laws.specs.Refutations.{ReadsFrom}
 use Rattle.refutation_laws.proofs.Standing.{standing, event-in, one-stands}
 use Rattle.refutation_laws.proofs.Agreeing.{source-in}
 use Rattle.refutation_laws.proofs.Cycles.{carried-one, no-cycle-on-location, no-cycle-globally, none-between}

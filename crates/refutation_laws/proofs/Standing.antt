@@ -1,24 +1,5 @@
 -- The events of a test are those of each of its candidates, without their values.
-use Rattle.std.proofs.Common.{◌≡◌, ℕ, ◌+◌, ◌==◌, true, List, [], ◌∷◌, ◌++◌, slice_index, slice_index_or, refl, sym, ap, ◌∙◌, ◌⊎◌, inl, inr, subst}
-use Rattle.std.specs.Prelude.{map}
-use Rattle.tso_model.specs.Litmus.{Litmus}
-use Rattle.tso_model.specs.Actions.{action_of}
-use Rattle.tso_model.specs.Thread.{entry, entries_by, registers_by, values_after, entries_of}
-use Rattle.tso_model.specs.ProgramOrder.{same_kind}
-use Rattle.tso_model.specs.ProgramEntries.{is_at}
-use Rattle.tso_model.specs.declared.instruction.Instr.{Instr}
-use Rattle.tso_model.specs.declared.action.Action.{Action}
-use Rattle.tso_model.specs.declared.action.Action.TheVariants.{Store, Load, Move, Fence, Lock}
-use Rattle.tso_model.specs.declared.execution.Entry.{Entry}
-use Rattle.basic_laws.specs.Ranks.{part_of}
-use Rattle.relational_model.specs.Events.{IsIn}
-use Rattle.relational_model.specs.Candidates.{Candidate, events_from, events}
-use Rattle.relational_model.proofs.Lists.{in-case, in-none, in-first, in-later}
-use Rattle.relational_model.proofs.Found.{equal-kinds, apart-three}
-use Rattle.relational_model.proofs.KindFacts.{and-both, same-number}
-use Rattle.relational_model.proofs.Events.{Sound}
-use Rattle.refutation_laws.specs.Known.{bare, events_of, same_event, is_event}
-use Rattle.refutation_laws.specs.Agreement.{Stands}
+use Rattle.refutation_laws.proofs.Vocabulary.{◌≡◌, ℕ, ◌+◌, ◌==◌, true, List, [], ◌∷◌, ◌++◌, slice_index, slice_index_or, refl, sym, ap, ◌∙◌, ◌⊎◌, inl, inr, subst, map, Litmus, action_of, entry, entries_by, registers_by, values_after, entries_of, same_kind, is_at, Instr, Action, Store, Load, Move, Fence, Lock, Entry, part_of, IsIn, Candidate, events_from, events, in-case, in-none, in-first, in-later, equal-kinds, apart-three, and-both, same-number, Sound, bare, events_of, same_event, is_event, Stands}
 use Rattle.refutation_laws.proofs.Tests.{any-holds}
 
 -- ---- one event

@@ -1,19 +1,5 @@
 -- What the answers of a branch tell of values, said of a candidate that gives them.
-use Rattle.std.proofs.Common.{◌≡◌, ◌<◌, ℕ, Bool, true, false, if◌then◌else◌, [], length, Option, Some, None, slice_index, slice_index_or, arith, refl, sym, ◌∙◌}
-use Rattle.std.specs.List.{list_any}
-use Rattle.tso_model.specs.Litmus.{Litmus}
-use Rattle.tso_model.specs.Thread.{value_in}
-use Rattle.tso_model.specs.ProgramOrder.{is_read}
-use Rattle.tso_model.specs.declared.register.Reg.{Reg}
-use Rattle.tso_model.specs.declared.execution.Entry.{Entry}
-use Rattle.relational_model.specs.Events.{IsIn}
-use Rattle.relational_model.specs.Candidates.{Candidate, IsCandidate, events, last_word, registers_left, words_left}
-use Rattle.relational_model.proofs.KindFacts.{number-same}
-use Rattle.relational_model.proofs.Events.{Sound, sound}
-use Rattle.refutation_laws.specs.Known.{Known, bare, events_of}
-use Rattle.refutation_laws.specs.Values.{value_among, all_known, value_read, can_be, words_at_end, register_at_end}
-use Rattle.refutation_laws.specs.Shown.{value_known}
-use Rattle.refutation_laws.specs.Agreement.{Agrees}
+use Rattle.refutation_laws.proofs.Vocabulary.{◌≡◌, ◌<◌, ℕ, Bool, true, false, if◌then◌else◌, [], length, Option, Some, None, slice_index, slice_index_or, arith, refl, sym, ◌∙◌, list_any, Litmus, value_in, is_read, Reg, Entry, IsIn, Candidate, IsCandidate, events, last_word, registers_left, words_left, number-same, Sound, sound, Known, bare, events_of, value_among, all_known, value_read, can_be, words_at_end, register_at_end, value_known, Agrees}
 use Rattle.refutation_laws.proofs.Knowing.{Tells, tells-in, tells-among, known-in, given-known}
 use Rattle.refutation_laws.proofs.ClaimFacts.{left-at, words-at, word-allowed}
 

@@ -1,10 +1,5 @@
 -- Tests put together and taken apart: conjunctions, disjunctions, and that a test holds of a member of a list.
-use Rattle.std.proofs.Common.{◌≡◌, ◌&&◌, ◌||◌, Bool, true, false, not, List, [], ◌∷◌, refl, sym, ap, ◌⊎◌, inl, inr, subst}
-use Rattle.std.specs.Prelude.{map, filter}
-use Rattle.std.specs.List.{list_any}
-use Rattle.tso_model.specs.declared.execution.Entry.{Entry}
-use Rattle.relational_model.specs.Events.{IsIn}
-use Rattle.relational_model.proofs.Lists.{in-case, in-none, in-first, in-later, in-filter, filter-in}
+use Rattle.refutation_laws.proofs.Vocabulary.{◌≡◌, ◌&&◌, ◌||◌, Bool, true, false, not, List, [], ◌∷◌, refl, sym, ap, ◌⊎◌, inl, inr, subst, map, filter, list_any, Entry, IsIn, in-case, in-none, in-first, in-later, in-filter, filter-in}
 
 pub and-of : (a b : Bool) → a ≡ true → b ≡ true → (a && b) ≡ true
 and-of true b p q = q

@@ -1,8 +1,5 @@
 -- What a test asks names what exists in it.
-use Rattle.std.proofs.Common.{◌≡◌, length, Some, sym, subst}
-use Rattle.tso_model.specs.Litmus.{Litmus, IsTest, IsCondition}
-use Rattle.tso_model.specs.Condition.{NamesExist, claim_of, condition_of}
-use Rattle.tso_model.specs.declared.condition.Cond.{Cond}
+use Rattle.refutations.proofs.Vocabulary.{◌≡◌, length, Some, sym, subst, Litmus, IsTest, IsCondition, NamesExist, claim_of, condition_of, Cond}
 
 pub condition-names : (t : Litmus) (d : Cond) → IsTest t → Some (condition_of d) ≡ t.condition
     → NamesExist (length t.programs) (length t.words) (claim_of d.prop)

@@ -1,13 +1,6 @@
 -- The events of a test are made core by core.
-use Rattle.std.proofs.Common.{◌≡◌, ◌<◌, ◌+◌, ℕ, List, [], ◌++◌, length, slice_index_or, drop, append_assoc, sym, ap, ◌∙◌}
+use Rattle.refutations.proofs.Vocabulary.{◌≡◌, ◌<◌, ◌+◌, ℕ, List, [], ◌++◌, length, slice_index_or, drop, append_assoc, sym, ap, ◌∙◌, at_drop_more, entries_of, Instr, Entry, events_from, bare, map-append, by-program}
 use Rattle.std.specs.Prelude.{map}
-use Rattle.std.proofs.lemmas.List.{at_drop_more}
-use Rattle.tso_model.specs.Thread.{entries_of}
-use Rattle.tso_model.specs.declared.instruction.Instr.{Instr}
-use Rattle.tso_model.specs.declared.execution.Entry.{Entry}
-use Rattle.relational_model.specs.Candidates.{events_from}
-use Rattle.refutation_laws.specs.Known.{bare}
-use Rattle.refutation_laws.proofs.Standing.{map-append, by-program}
 
 -- the events of one more core
 pub events-more : (number : ℕ) (ps : List (List Instr)) (registers : List (List ℕ)) (values : List ℕ) (whole done after own : List Entry)

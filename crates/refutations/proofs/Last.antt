@@ -1,14 +1,5 @@
 -- Last writes: which writes an answer puts before another one, and the words that the others leave.
-use Rattle.std.proofs.Common.{◌≡◌, ◌&&◌, ◌||◌, cond, Bool, true, false, List, [], ◌∷◌, Option, map, if◌then◌else◌, refl, sym, ap, ◌∙◌, ℕ}
-use Rattle.std.specs.Prelude.{filter}
-use Rattle.std.specs.List.{list_any}
-use Rattle.tso_model.specs.declared.execution.Entry.{Entry}
-use Rattle.refutation_laws.specs.Known.{Known, same_event, comes_before}
-use Rattle.tso_model.specs.Litmus.{Litmus}
-use Rattle.tso_model.specs.ProgramOrder.{writes_to}
-use Rattle.refutation_laws.specs.Known.{events_of}
-use Rattle.refutation_laws.specs.Values.{all_known, value_among, can_be_last, words_at_end}
-use Rattle.refutation_laws.specs.declared.known.Pair.{Pair}
+use Rattle.refutations.proofs.Vocabulary.{◌≡◌, ◌&&◌, ◌||◌, cond, Bool, true, false, List, [], ◌∷◌, Option, map, if◌then◌else◌, refl, sym, ap, ◌∙◌, ℕ, filter, list_any, Entry, Known, same_event, comes_before, Litmus, writes_to, events_of, all_known, value_among, can_be_last, words_at_end, Pair}
 
 any-none : (xs : List Entry) → list_any (λ (v : Entry). false) xs ≡ false
 any-none [] = refl

@@ -1,3 +1,4 @@
+pub mod Vocabulary
 pub mod Walking
 pub mod Stack
 pub mod Relating

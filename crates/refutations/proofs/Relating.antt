@@ -1,11 +1,5 @@
 -- Some relation leads from x to y just where a first one does.
-use Rattle.std.proofs.Common.{◌≡◌, ◌||◌, cond, Bool, true, false, List, [], ◌∷◌, Option, Some, None, refl}
-use Rattle.tso_model.specs.Litmus.{Litmus}
-use Rattle.tso_model.specs.declared.execution.Entry.{Entry}
-use Rattle.refutation_laws.specs.Known.{Known}
-use Rattle.refutation_laws.specs.Edges.{relates, is_edge}
-use Rattle.refutation_laws.specs.Shown.{first_of}
-use Rattle.refutation_laws.specs.declared.model.Relation.{Relation}
+use Rattle.refutations.proofs.Vocabulary.{◌≡◌, ◌||◌, cond, Bool, true, false, List, [], ◌∷◌, Option, Some, None, refl, Litmus, Entry, Known, relates, is_edge, first_of, Relation}
 
 abbrev pub is_found : Option Relation → Bool
 is_found None = false

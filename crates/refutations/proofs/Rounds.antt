@@ -1,12 +1,5 @@
 -- The rounds of known writes: where one knows no more than the one before, no later one does.
-use Rattle.std.proofs.Common.{◌≡◌, ◌<◌, ◌≤◌, ◌+◌, ℕ, zero, suc, Bool, true, List, [], ◌∷◌, arith, refl, sym, ap, ◌∙◌, ◌⊎◌, inl, inr, subst, length}
-use Rattle.std.specs.Cmp.Lexicographic.{pointwise}
-use Rattle.tso_model.specs.Litmus.{Litmus}
-use Rattle.tso_model.specs.declared.execution.Entry.{Entry}
-use Rattle.refutation_laws.specs.declared.known.Source.{Source}
-use Rattle.relational_model.proofs.KindFacts.{and-both}
-use Rattle.refutation_laws.specs.Known.{Known, events_of}
-use Rattle.refutation_laws.specs.Values.{known_writes, all_known, writes_from, returned}
+use Rattle.refutations.proofs.Vocabulary.{◌≡◌, ◌<◌, ◌≤◌, ◌+◌, ℕ, zero, suc, Bool, true, List, [], ◌∷◌, arith, refl, sym, ap, ◌∙◌, ◌⊎◌, inl, inr, subst, length, pointwise, Litmus, Entry, Source, and-both, Known, events_of, known_writes, all_known, writes_from, returned}
 
 pub settled : (t : Litmus) (k : Known) (n all : ℕ) → n ≤ all → known_writes t k (suc n) ≡ known_writes t k n
     → known_writes t k all ≡ known_writes t k n

@@ -1,19 +1,5 @@
 -- The stack of cases: what is pushed comes first.
-use Rattle.std.proofs.Common.{◌≡◌, ◌<◌, ◌≤◌, ℕ, suc, arith, ◌+◌, ◌==◌, ◌&&◌, Bool, true, false, cond, List, [], ◌∷◌, ◌++◌, length, get_or, drop, map, refl, ap, sym, ◌∙◌}
-use Rattle.std.specs.Prelude.{filter}
-use Rattle.std.proofs.lemmas.List.{at_drop_more, at_drop_all}
-use Rattle.std.proofs.lemmas.Bool.Decides.{nat_tests}
-use Rattle.tso_model.specs.Litmus.{Litmus}
-use Rattle.tso_model.specs.Condition.{Claim}
-use Rattle.tso_model.specs.declared.execution.Entry.{Entry}
-use Rattle.refutation_laws.specs.Refutations.{is_node, branches, close}
-use Rattle.refutation_laws.specs.declared.model.Model.{Model}
-use Rattle.refutation_laws.specs.Known.{Known}
-use Rattle.refutations.specs.Trees.{node_of}
-use Rattle.refutations.specs.inner.Trees.{known_of}
-use Rattle.refutations.specs.inner.Stack.{cases_of}
-use Rattle.refutations.specs.declared.answers.Answers.{Answers}
-use Rattle.refutations.specs.declared.tree.Node.{Node}
+use Rattle.refutations.proofs.Vocabulary.{◌≡◌, ◌<◌, ◌≤◌, ℕ, suc, arith, ◌+◌, ◌==◌, ◌&&◌, Bool, true, false, cond, List, [], ◌∷◌, ◌++◌, length, get_or, drop, map, refl, ap, sym, ◌∙◌, filter, at_drop_more, at_drop_all, nat_tests, Litmus, Claim, Entry, is_node, branches, close, Model, Known, node_of, known_of, cases_of, Answers, Node}
 
 pub cases-push : (old : List Answers) (a : Answers) → cases_of (old ++ (a ∷ [])) ≡ known_of a ∷ cases_of old
 cases-push [] a = refl

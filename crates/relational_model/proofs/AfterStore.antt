@@ -1,15 +1,5 @@
 -- What must come after the load part of a locked instruction must come after its store part.
-use Rattle.std.proofs.Common.{◌≡◌, ◌<◌, ◌≤◌, ℕ, ◌+◌, ◌||◌, true, arith, sym, ap, ◌∙◌, ◌⊎◌, inl, inr, subst}
-use Rattle.tso_model.specs.Litmus.{Litmus}
-use Rattle.tso_model.specs.ProgramOrder.{is_before, is_read, is_write, writes_to, same_kind}
-use Rattle.tso_model.specs.declared.execution.Entry.{Entry}
-use Rattle.tso_model.specs.declared.execution.Kind.{Kind}
-use Rattle.tso_model.specs.declared.execution.Kind.TheVariants.{R, W, F, LR, LW}
-use Rattle.relational_model.specs.Events.{IsIn, IsEarlier, at_once, onward}
-use Rattle.relational_model.specs.Candidates.{Candidate, events}
-use Rattle.relational_model.specs.Relations.{IsBefore}
-use Rattle.relational_model.specs.Model.{ArePair, IsAllowed, is_locked, is_locked_kind, po_loc, fr, write_before_write, co}
-use Rattle.basic_laws.specs.Ranks.{rank, part_of}
+use Rattle.relational_model.proofs.Vocabulary.{◌≡◌, ◌<◌, ◌≤◌, ℕ, ◌+◌, ◌||◌, true, arith, sym, ap, ◌∙◌, ◌⊎◌, inl, inr, subst, Litmus, is_before, is_read, is_write, writes_to, same_kind, Entry, Kind, R, W, F, LR, LW, IsIn, IsEarlier, at_once, onward, Candidate, events, IsBefore, ArePair, IsAllowed, is_locked, is_locked_kind, po_loc, fr, write_before_write, co, rank, part_of}
 use Rattle.relational_model.proofs.Ranks.{before-rank, rank-before}
 use Rattle.relational_model.proofs.KindFacts.{write-is-no-read, kept-with-locked}
 use Rattle.relational_model.proofs.Sources.{one-way}

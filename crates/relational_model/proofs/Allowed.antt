@@ -1,15 +1,5 @@
 -- The candidate of a TSO execution is one of the test, and the relational model allows it.
-use Rattle.std.proofs.Common.{◌≡◌, ◌<◌, ℕ, suc, true, List, [], ◌∷◌, Option, Some, None, slice_get, slice_index, arith, refl, sym, ap, ◌∙◌, subst, length}
-use Rattle.std.specs.Prelude.{filter}
-use Rattle.tso_model.specs.Litmus.{Litmus}
-use Rattle.tso_model.specs.ProgramOrder.{is_read, writes_to}
-use Rattle.tso_model.specs.ProgramEntries.{made}
-use Rattle.tso_model.specs.Axioms.{counting, last_value, IsTsoExecution}
-use Rattle.tso_model.specs.declared.execution.Entry.{Entry}
-use Rattle.relational_model.specs.Events.{IsIn, IsEarlier}
-use Rattle.relational_model.specs.Candidates.{Candidate, Returns, IsCandidate, events}
-use Rattle.relational_model.specs.CandidatesOfOrders.{last_in, IsCandidateOf}
-use Rattle.relational_model.specs.Model.{IsAtomic, IsAllowed}
+use Rattle.relational_model.proofs.Vocabulary.{◌≡◌, ◌<◌, ℕ, suc, true, List, [], ◌∷◌, Option, Some, None, slice_get, slice_index, arith, refl, sym, ap, ◌∙◌, subst, length, filter, Litmus, is_read, writes_to, made, counting, last_value, IsTsoExecution, Entry, IsIn, IsEarlier, Candidate, Returns, IsCandidate, events, last_in, IsCandidateOf, IsAtomic, IsAllowed}
 use Rattle.relational_model.proofs.Lists.{Cut, cut, filter-in}
 use Rattle.relational_model.proofs.Sources.{StandOnce, Known, source-counts, coherence-earlier, event-in}
 use Rattle.relational_model.proofs.Forward.{overwritten-later, global-acyclic}

@@ -1,19 +1,9 @@
 -- Edges that can be kept are kept by an order of the candidate that is a TSO execution: the events without the load parts of locked
 -- instructions go into a row, and each load part directly before its store part.
-use Rattle.std.proofs.Common.{◌≡◌, ◌≤◌, zero, suc, List, [], ◌∷◌, ◌++◌, arith, refl, sym, ap, ◌∙◌, ◌⊎◌, inl, inr, subst, length}
-use Rattle.tso_model.specs.Litmus.{Litmus}
-use Rattle.tso_model.specs.Axioms.{IsAdjacent, IsTsoExecution}
-use Rattle.tso_model.specs.declared.execution.Entry.{Entry}
-use Rattle.tso_model.specs.declared.execution.Kind.TheVariants.{LR, LW}
-use Rattle.relational_model.specs.Events.{IsIn, at_once, onward, IsAcyclic}
-use Rattle.relational_model.specs.Candidates.{Candidate, events}
-use Rattle.relational_model.specs.CandidatesOfOrders.{IsCandidateOf, LeaveTheSame, IsOfAnExecution}
-use Rattle.relational_model.specs.Model.{ArePair, IsAllowed}
+use Rattle.relational_model.proofs.Vocabulary.{◌≡◌, ◌≤◌, zero, suc, List, [], ◌∷◌, ◌++◌, arith, refl, sym, ap, ◌∙◌, ◌⊎◌, inl, inr, subst, length, Litmus, IsAdjacent, IsTsoExecution, Entry, LR, LW, IsIn, at_once, onward, IsAcyclic, Candidate, events, IsCandidateOf, LeaveTheSame, IsOfAnExecution, ArePair, IsAllowed, part_of, GoesForward, Row, Once}
 use Rattle.relational_model.proofs.Lists.{in-case, in-first, in-later, in-append}
-use Rattle.basic_laws.specs.Ranks.{part_of}
 use Rattle.relational_model.proofs.Sizes.{once-filter, no-more}
 use Rattle.relational_model.proofs.Decisions.{Decision, kinds, Goes, goes}
-use Rattle.relational_model.specs.inner.Rows.{GoesForward, Row, Once}
 use Rattle.relational_model.proofs.Sorting.{Decided, in-a-row}
 use Rattle.relational_model.proofs.Events.{Sound, sound, once-append, pigeons}
 use Rattle.relational_model.proofs.Fences.{goes-acyclic}

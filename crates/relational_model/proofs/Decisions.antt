@@ -1,12 +1,5 @@
 -- The edges between events can be decided.
-use Rattle.std.proofs.Common.{◌≡◌, ◌≢◌, ℕ, ◌==◌, Bool, true, false, List, [], ◌∷◌, Option, Some, None, refl, ap, ◌∙◌, ◌⊎◌, inl, inr, subst}
-use Rattle.tso_model.specs.Thread.{entry}
-use Rattle.tso_model.specs.ProgramOrder.{is_before, is_read, same_kind, may_be_passed}
-use Rattle.tso_model.specs.declared.execution.Entry.{Entry}
-use Rattle.tso_model.specs.declared.execution.Kind.{Kind}
-use Rattle.relational_model.specs.Events.{IsIn, IsEarlier}
-use Rattle.relational_model.specs.Candidates.{Candidate}
-use Rattle.relational_model.specs.Relations.{ReadsFrom, IsBefore, StandsAfter, FromReads}
+use Rattle.relational_model.proofs.Vocabulary.{◌≡◌, ◌≢◌, ℕ, ◌==◌, Bool, true, false, List, [], ◌∷◌, Option, Some, None, refl, ap, ◌∙◌, ◌⊎◌, inl, inr, subst, entry, is_before, is_read, same_kind, may_be_passed, Entry, Kind, IsIn, IsEarlier, Candidate, ReadsFrom, IsBefore, StandsAfter, FromReads}
 use Rattle.relational_model.proofs.Lists.{in-case, in-none, in-first, in-later, Precedes, to-precedes, from-precedes}
 use Rattle.relational_model.proofs.KindFacts.{same-number, number-same}
 use Rattle.relational_model.proofs.Found.{equal-kinds, kind-itself}

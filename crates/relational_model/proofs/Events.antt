@@ -1,21 +1,7 @@
 -- The events of a candidate stand once each, and so do the writes in its coherence orders.
-use Rattle.std.proofs.Common.{◌≡◌, ◌≤◌, ℕ, ◌+◌, suc, true, List, [], ◌∷◌, ◌++◌, slice_index, slice_index_or, arith, refl, sym, ap, ◌∙◌, ◌⊎◌, inl, inr, subst, length}
-use Rattle.std.specs.Prelude.{filter}
-use Rattle.tso_model.specs.Actions.{action_of}
-use Rattle.tso_model.specs.Thread.{entry, fence, value_in, value_of, updated, entries_by, registers_by, values_after, entries_of}
-use Rattle.tso_model.specs.ProgramOrder.{writes_to}
-use Rattle.tso_model.specs.Litmus.{Litmus}
-use Rattle.tso_model.specs.declared.instruction.Instr.{Instr}
-use Rattle.tso_model.specs.declared.action.Action.{Action}
-use Rattle.tso_model.specs.declared.action.Action.TheVariants.{Store, Load, Move, Fence, Lock}
-use Rattle.tso_model.specs.declared.execution.Entry.{Entry}
-use Rattle.tso_model.specs.declared.execution.Kind.TheVariants.{R, W, LR, LW}
-use Rattle.relational_model.specs.Events.{IsIn}
-use Rattle.relational_model.specs.Candidates.{Candidate, IsCandidate, events_from, events}
-use Rattle.basic_laws.specs.Ranks.{part_of}
+use Rattle.relational_model.proofs.Vocabulary.{◌≡◌, ◌≤◌, ℕ, ◌+◌, suc, true, List, [], ◌∷◌, ◌++◌, slice_index, slice_index_or, arith, refl, sym, ap, ◌∙◌, ◌⊎◌, inl, inr, subst, length, filter, action_of, entry, fence, value_in, value_of, updated, entries_by, registers_by, values_after, entries_of, writes_to, Litmus, Instr, Action, Store, Load, Move, Fence, Lock, Entry, R, W, LR, LW, IsIn, Candidate, IsCandidate, events_from, events, part_of, Once}
 use Rattle.relational_model.proofs.Lists.{Cut, cut, in-case, in-none, in-first, in-later, in-append, in-left, in-right, in-filter}
 use Rattle.relational_model.proofs.Same.{here-by, from-place, same-of}
-use Rattle.relational_model.specs.inner.Rows.{Once}
 use Rattle.relational_model.proofs.Sizes.{once-filter, length-middle}
 
 pub once-append : (xs ys : List Entry) → Once xs → Once ys → ((x : Entry) → IsIn xs x → IsIn ys x → ⊥) → Once (xs ++ ys)

@@ -1,14 +1,5 @@
 -- Where what happens before is acyclic, so it is together with the program order to and from fences.
-use Rattle.std.proofs.Common.{◌≡◌, ℕ, ◌==◌, ◌&&◌, ◌||◌, Bool, true, false, List, Option, Some, None, refl, sym, ◌∙◌, ◌⊎◌, inl, inr, subst}
-use Rattle.tso_model.specs.Litmus.{Litmus}
-use Rattle.tso_model.specs.ProgramOrder.{is_before, is_read, is_write, writes_to, same_kind}
-use Rattle.tso_model.specs.declared.execution.Entry.{Entry}
-use Rattle.tso_model.specs.declared.execution.Kind.{Kind}
-use Rattle.tso_model.specs.declared.execution.Kind.TheVariants.{R, W, F, LR, LW}
-use Rattle.relational_model.specs.Events.{IsIn, LeadsTo, at_once, onward, IsAcyclic}
-use Rattle.relational_model.specs.Candidates.{Candidate, Returns, events}
-use Rattle.relational_model.specs.Relations.{ReadsFrom, StandsAfter, FromReads}
-use Rattle.relational_model.specs.Model.{is_locked_kind, HappensBefore, write_before_write, read_before_access, mfence, implied, rfe, co, fr}
+use Rattle.relational_model.proofs.Vocabulary.{◌≡◌, ℕ, ◌==◌, ◌&&◌, ◌||◌, Bool, true, false, List, Option, Some, None, refl, sym, ◌∙◌, ◌⊎◌, inl, inr, subst, Litmus, is_before, is_read, is_write, writes_to, same_kind, Entry, Kind, R, W, F, LR, LW, IsIn, LeadsTo, at_once, onward, IsAcyclic, Candidate, Returns, events, ReadsFrom, StandsAfter, FromReads, is_locked_kind, HappensBefore, write_before_write, read_before_access, mfence, implied, rfe, co, fr}
 use Rattle.relational_model.proofs.Ranks.{before-trans, before-irreflexive}
 use Rattle.relational_model.proofs.KindFacts.{and-both}
 use Rattle.relational_model.proofs.Forward.{starts-in}

@@ -1,16 +1,5 @@
 -- Worked candidates that the model forbids: each is a candidate of its test, and a cycle or a write in between shows that it isn't allowed.
-use Rattle.std.proofs.Common.{◌≡◌, ◌<◌, ℕ, ◌==◌, zero, suc, Bool, true, false, List, [], ◌∷◌, refl, sym, ap, ◌∙◌, ◌⊎◌, inl, inr, subst, length, arith}
-use Rattle.std.specs.Prelude.{filter}
-use Rattle.tso_model.specs.Litmus.{Litmus}
-use Rattle.tso_model.specs.Thread.{entry, fence}
-use Rattle.tso_model.specs.Examples.{loc_x, loc_y}
-use Rattle.tso_model.specs.ProgramOrder.{is_read, is_write, writes_to}
-use Rattle.tso_model.specs.declared.execution.Entry.{Entry}
-use Rattle.tso_model.specs.declared.execution.Kind.TheVariants.{R, W, LR, LW}
-use Rattle.relational_model.specs.Events.{IsIn, at_once, onward}
-use Rattle.relational_model.specs.Candidates.{Candidate, Returns, IsCandidate, events}
-use Rattle.relational_model.specs.Model.{IsAllowed, IsForbidden, write_before_write, read_before_access, mfence, implied, rfe, fr}
-use Rattle.relational_model.specs.WorkedCandidates.{of_x_and_y, fenced, fenced_candidate, exchanged, exchanged_candidate, passing, passing_candidate, buffering, buffering_candidate, independent, independent_candidate, between, between_candidate}
+use Rattle.relational_model.proofs.Vocabulary.{◌≡◌, ◌<◌, ℕ, ◌==◌, zero, suc, Bool, true, false, List, [], ◌∷◌, refl, sym, ap, ◌∙◌, ◌⊎◌, inl, inr, subst, length, arith, filter, Litmus, entry, fence, loc_x, loc_y, is_read, is_write, writes_to, Entry, R, W, LR, LW, IsIn, at_once, onward, Candidate, Returns, IsCandidate, events, IsAllowed, IsForbidden, write_before_write, read_before_access, mfence, implied, rfe, fr, of_x_and_y, fenced, fenced_candidate, exchanged, exchanged_candidate, passing, passing_candidate, buffering, buffering_candidate, independent, independent_candidate, between, between_candidate}
 use Rattle.relational_model.proofs.Fences.{writes}
 use Rattle.relational_model.proofs.Lists.{in-case, in-none}
 use Rattle.relational_model.proofs.Worked.{Without, filter-none, not-first, not-second}

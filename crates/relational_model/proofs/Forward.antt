@@ -1,13 +1,6 @@
 -- Of a TSO execution, what happens before stands before in the order; and no write stands between the parts of a locked
 -- instruction.
-use Rattle.std.proofs.Common.{◌≡◌, true, false, List, Option, Some, None, refl, ◌⊎◌, inl, inr, subst}
-use Rattle.tso_model.specs.Litmus.{Litmus}
-use Rattle.tso_model.specs.ProgramOrder.{is_before, is_read, is_write, writes_to, may_be_passed}
-use Rattle.tso_model.specs.declared.execution.Entry.{Entry}
-use Rattle.relational_model.specs.Events.{IsIn, IsEarlier, LeadsTo, at_once, onward, IsAcyclic}
-use Rattle.relational_model.specs.Candidates.{Candidate, events}
-use Rattle.relational_model.specs.Relations.{StandsAfter, FromReads}
-use Rattle.relational_model.specs.Model.{HappensBefore, write_before_write, read_before_access, mfence, implied, rfe, co, fr}
+use Rattle.relational_model.proofs.Vocabulary.{◌≡◌, true, false, List, Option, Some, None, refl, ◌⊎◌, inl, inr, subst, Litmus, is_before, is_read, is_write, writes_to, may_be_passed, Entry, IsIn, IsEarlier, LeadsTo, at_once, onward, IsAcyclic, Candidate, events, StandsAfter, FromReads, HappensBefore, write_before_write, read_before_access, mfence, implied, rfe, co, fr}
 use Rattle.relational_model.proofs.Ranks.{before-rank}
 use Rattle.relational_model.proofs.KindFacts.{write-is-no-read, before-write-kept, read-kept-before, kept-before-fence, kept-after-fence, kept-with-locked, and-both}
 use Rattle.relational_model.proofs.Sources.{Known, Counts, earlier-trans, never-itself, never-back, one-way, source-counts, source-last, source-none, coherence-in, coherence-earlier, event-in}

@@ -1,19 +1,5 @@
 -- Each TSO execution has a candidate.
-use Rattle.std.proofs.Common.{◌≡◌, ℕ, ◌+◌, ◌==◌, ◌&&◌, zero, suc, Bool, true, false, if◌then◌else◌, List, [], ◌∷◌, ◌++◌, Option, Some, None, slice_get, slice_index_or, arith, refl, sym, ap, ◌∙◌, subst, append_assoc}
-use Rattle.std.specs.Prelude.{filter}
-use Rattle.tso_model.specs.Litmus.{Litmus}
-use Rattle.tso_model.specs.Thread.{entries_of}
-use Rattle.tso_model.specs.ProgramOrder.{same_kind, writes_to}
-use Rattle.tso_model.specs.ProgramEntries.{is_at, made_by, made_from}
-use Rattle.tso_model.specs.Axioms.{counting}
-use Rattle.tso_model.specs.ProgramEntries.{read_values}
-use Rattle.tso_model.specs.declared.instruction.Instr.{Instr}
-use Rattle.tso_model.specs.declared.execution.Entry.{Entry}
-use Rattle.tso_model.specs.declared.execution.Kind.{Kind}
-use Rattle.tso_model.specs.declared.execution.Kind.TheVariants.{R, W, F, LR, LW}
-use Rattle.relational_model.specs.Events.{IsIn}
-use Rattle.relational_model.specs.Candidates.{Candidate, events_from}
-use Rattle.relational_model.specs.CandidatesOfOrders.{last_in, IsCandidateOf}
+use Rattle.relational_model.proofs.Vocabulary.{◌≡◌, ℕ, ◌+◌, ◌==◌, ◌&&◌, zero, suc, Bool, true, false, if◌then◌else◌, List, [], ◌∷◌, ◌++◌, Option, Some, None, slice_get, slice_index_or, arith, refl, sym, ap, ◌∙◌, subst, append_assoc, filter, Litmus, entries_of, same_kind, writes_to, is_at, made_by, made_from, counting, read_values, Instr, Entry, Kind, R, W, F, LR, LW, IsIn, Candidate, events_from, last_in, IsCandidateOf}
 use Rattle.relational_model.proofs.Lists.{in-first, in-later, in-left, in-right, precedes-across, from-precedes, Precedes}
 use Rattle.relational_model.proofs.KindFacts.{same-number, number-same}
 use Rattle.relational_model.proofs.Sources.{never-itself}

@@ -1,15 +1,5 @@
 -- Independent reads of independent writes: no candidate that the model allows has two readers that see the writes in opposite orders.
-use Rattle.std.proofs.Common.{◌≡◌, ℕ, zero, suc, true, false, List, [], ◌∷◌, Option, Some, None, slice_index, slice_index_or, drop, refl, sym, ap, ◌∙◌, ◌⊎◌, inl, inr, subst}
-use Rattle.tso_model.specs.Thread.{entry}
-use Rattle.tso_model.specs.Examples.{loc_x, loc_y, zeros}
-use Rattle.tso_model.specs.ProgramOrder.{is_read, is_write, writes_to}
-use Rattle.tso_model.specs.declared.execution.Entry.{Entry}
-use Rattle.tso_model.specs.declared.execution.Kind.TheVariants.{R, W}
-use Rattle.relational_model.specs.Events.{IsIn, at_once, onward}
-use Rattle.relational_model.specs.Candidates.{Candidate, Returns, events, registers_left}
-use Rattle.relational_model.specs.Relations.{ReadsFrom, StandsAfter, FromReads}
-use Rattle.relational_model.specs.Model.{IsAllowed, read_before_access, rfe, fr}
-use Rattle.relational_model.specs.WorkedCandidates.{independent, opposite_registers}
+use Rattle.relational_model.proofs.Vocabulary.{◌≡◌, ℕ, zero, suc, true, false, List, [], ◌∷◌, Option, Some, None, slice_index, slice_index_or, drop, refl, sym, ap, ◌∙◌, ◌⊎◌, inl, inr, subst, entry, loc_x, loc_y, zeros, is_read, is_write, writes_to, Entry, R, W, IsIn, at_once, onward, Candidate, Returns, events, registers_left, ReadsFrom, StandsAfter, FromReads, IsAllowed, read_before_access, rfe, fr, independent, opposite_registers}
 use Rattle.relational_model.proofs.Fences.{writes}
 
 abbrev write-x : Entry

@@ -1,11 +1,5 @@
 -- Facts on kinds of entries.
-use Rattle.std.proofs.Common.{◌≡◌, ℕ, Bool, true, false, ◌==◌, ◌&&◌, ◌||◌, arith, refl, ◌⊎◌, inl, inr}
-use Rattle.std.proofs.lemmas.Bool.Decides.{nat_tests}
-use Rattle.tso_model.specs.ProgramOrder.{same_kind, is_read, is_write, may_be_passed}
-use Rattle.tso_model.specs.declared.execution.Entry.{Entry}
-use Rattle.tso_model.specs.declared.execution.Kind.{Kind}
-use Rattle.tso_model.specs.declared.execution.Kind.TheVariants.{R, W, F, LR, LW}
-use Rattle.relational_model.specs.Model.{is_locked, is_locked_kind}
+use Rattle.relational_model.proofs.Vocabulary.{◌≡◌, ℕ, Bool, true, false, ◌==◌, ◌&&◌, ◌||◌, arith, refl, ◌⊎◌, inl, inr, nat_tests, same_kind, is_read, is_write, may_be_passed, Entry, Kind, R, W, F, LR, LW, is_locked, is_locked_kind}
 
 not-both : (k : Kind) → (same_kind k W || same_kind k LW) ≡ true → (same_kind k R || same_kind k LR) ≡ true → ⊥
 not-both R w r = let z : ⊥ = cc in z

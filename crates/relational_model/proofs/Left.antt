@@ -1,21 +1,5 @@
 -- What a candidate leaves is what its order leaves.
-use Rattle.std.proofs.Common.{◌≡◌, ℕ, ◌+◌, suc, List, [], ◌∷◌, ◌++◌, slice_index, slice_index_or, arith, refl, ap, ◌∙◌, subst, length}
-use Rattle.std.specs.Prelude.{filter}
-use Rattle.tso_model.specs.Actions.{action_of}
-use Rattle.tso_model.specs.Thread.{entry, entries_by, registers_by, values_after, entries_of, registers_after, with_value}
-use Rattle.tso_model.specs.ProgramOrder.{writes_to}
-use Rattle.tso_model.specs.Axioms.{last_value}
-use Rattle.tso_model.specs.ProgramEntries.{read_values}
-use Rattle.tso_model.specs.ProgramEntries.{made_by, made_from}
-use Rattle.tso_model.specs.FinalState.{word_after, words_from, registers_of, registers_from}
-use Rattle.tso_model.specs.Litmus.{Litmus}
-use Rattle.tso_model.specs.declared.instruction.Instr.{Instr}
-use Rattle.tso_model.specs.declared.action.Action.{Action}
-use Rattle.tso_model.specs.declared.action.Action.TheVariants.{Store, Load, Move, Fence, Lock}
-use Rattle.tso_model.specs.declared.execution.Entry.{Entry}
-use Rattle.tso_model.specs.declared.execution.Kind.TheVariants.{R, LR}
-use Rattle.relational_model.specs.Candidates.{Candidate, events_from, last_word, words_left_from, registers_left_from}
-use Rattle.relational_model.specs.CandidatesOfOrders.{IsCandidateOf, LeaveTheSame}
+use Rattle.relational_model.proofs.Vocabulary.{◌≡◌, ℕ, ◌+◌, suc, List, [], ◌∷◌, ◌++◌, slice_index, slice_index_or, arith, refl, ap, ◌∙◌, subst, length, filter, action_of, entry, entries_by, registers_by, values_after, entries_of, registers_after, with_value, writes_to, last_value, read_values, made_by, made_from, word_after, words_from, registers_of, registers_from, Litmus, Instr, Action, Store, Load, Move, Fence, Lock, Entry, R, LR, Candidate, events_from, last_word, words_left_from, registers_left_from, IsCandidateOf, LeaveTheSame}
 
 -- ---- memory
 

@@ -1,9 +1,5 @@
 -- Facts on places in lists of entries.
-use Rattle.std.proofs.Common.{◌≡◌, ◌<◌, ℕ, zero, suc, Bool, true, false, if◌then◌else◌, List, [], ◌∷◌, ◌++◌, Some, None, slice_get, arith, refl, sym, ap, ◌∙◌, ◌⊎◌, inl, inr}
-use Rattle.std.specs.Prelude.{filter}
-use Rattle.tso_model.specs.declared.execution.Entry.{Entry}
-use Rattle.relational_model.specs.Events.{IsIn, IsEarlier}
-use Rattle.relational_model.specs.CandidatesOfOrders.{last_in}
+use Rattle.relational_model.proofs.Vocabulary.{◌≡◌, ◌<◌, ℕ, zero, suc, Bool, true, false, if◌then◌else◌, List, [], ◌∷◌, ◌++◌, Some, None, slice_get, arith, refl, sym, ap, ◌∙◌, ◌⊎◌, inl, inr, filter, Entry, IsIn, IsEarlier, last_in}
 
 -- ---- members
 

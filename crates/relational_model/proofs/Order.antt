@@ -1,24 +1,11 @@
 -- A row of a candidate's events in which no edge goes back is an order of that candidate.
-use Rattle.std.proofs.Common.{◌≡◌, ◌<◌, ◌≤◌, ℕ, ◌+◌, ◌==◌, ◌&&◌, zero, suc, Bool, true, false, if◌then◌else◌, List, [], ◌∷◌, ◌++◌, Option, Some, None, arith, refl, sym, ap, ◌∙◌, ◌⊎◌, inl, inr, subst, length}
-use Rattle.std.specs.Prelude.{filter}
-use Rattle.tso_model.specs.Litmus.{Litmus}
-use Rattle.tso_model.specs.ProgramOrder.{is_before, is_read, is_write, writes_to}
-use Rattle.tso_model.specs.Axioms.{counting, KeepsProgramOrder}
-use Rattle.tso_model.specs.declared.execution.Entry.{Entry}
-use Rattle.tso_model.specs.declared.execution.Kind.{Kind}
-use Rattle.tso_model.specs.declared.execution.Kind.TheVariants.{R, W, F, LR, LW}
-use Rattle.relational_model.specs.Events.{IsIn, IsEarlier, at_once, onward}
-use Rattle.relational_model.specs.Candidates.{Candidate, events}
-use Rattle.relational_model.specs.CandidatesOfOrders.{last_in}
-use Rattle.relational_model.specs.Relations.{is_access, share_location, ReadsFrom, IsBefore, StandsAfter, FromReads}
-use Rattle.relational_model.specs.Model.{IsAllowed, po_loc, rf, fr}
+use Rattle.relational_model.proofs.Vocabulary.{◌≡◌, ◌<◌, ◌≤◌, ℕ, ◌+◌, ◌==◌, ◌&&◌, zero, suc, Bool, true, false, if◌then◌else◌, List, [], ◌∷◌, ◌++◌, Option, Some, None, arith, refl, sym, ap, ◌∙◌, ◌⊎◌, inl, inr, subst, length, filter, Litmus, is_before, is_read, is_write, writes_to, counting, KeepsProgramOrder, Entry, Kind, R, W, F, LR, LW, IsIn, IsEarlier, at_once, onward, Candidate, events, last_in, is_access, share_location, ReadsFrom, IsBefore, StandsAfter, FromReads, IsAllowed, po_loc, fr, rank, part_of, GoesForward, Row, Once}
+use Rattle.relational_model.specs.Model.{rf}
 use Rattle.relational_model.proofs.Lists.{in-case, in-none, in-first, in-later, in-filter, filter-in, in-right, Precedes, to-precedes, from-precedes, precedes-second, last-is-in, last-none, last-last}
-use Rattle.basic_laws.specs.Ranks.{rank, part_of}
 use Rattle.relational_model.proofs.Ranks.{rank-before}
 use Rattle.relational_model.proofs.KindFacts.{same-number, number-same, write-is-no-read}
 use Rattle.relational_model.proofs.Sources.{StandOnce, Counts, never-back, one-way, counts-in, in-counts, counting-earlier}
 use Rattle.relational_model.proofs.Decisions.{Goes, number}
-use Rattle.relational_model.specs.inner.Rows.{GoesForward, Row, Once}
 use Rattle.relational_model.proofs.Events.{Sound, pigeons}
 use Rattle.relational_model.proofs.Fences.{writes, source-writes, goes-acyclic, true-or}
 

@@ -1,16 +1,5 @@
 -- The two parts of a locked instruction: each has the other.
-use Rattle.std.proofs.Common.{◌≡◌, ℕ, ◌+◌, List, [], ◌∷◌, ◌++◌, slice_index, slice_index_or, refl, sym, ap, ◌∙◌, ◌⊎◌, inl, inr, subst}
-use Rattle.tso_model.specs.Actions.{action_of}
-use Rattle.tso_model.specs.Thread.{entry, fence, value_in, value_of, updated, entries_by, registers_by, values_after, entries_of}
-use Rattle.tso_model.specs.Litmus.{Litmus}
-use Rattle.tso_model.specs.declared.instruction.Instr.{Instr}
-use Rattle.tso_model.specs.declared.action.Action.{Action}
-use Rattle.tso_model.specs.declared.action.Action.TheVariants.{Store, Load, Move, Fence, Lock}
-use Rattle.tso_model.specs.declared.execution.Entry.{Entry}
-use Rattle.tso_model.specs.declared.execution.Kind.TheVariants.{R, W, LR, LW}
-use Rattle.relational_model.specs.Events.{IsIn}
-use Rattle.relational_model.specs.Candidates.{Candidate, events_from, events}
-use Rattle.relational_model.specs.Model.{ArePair}
+use Rattle.relational_model.proofs.Vocabulary.{◌≡◌, ℕ, ◌+◌, List, [], ◌∷◌, ◌++◌, slice_index, slice_index_or, refl, sym, ap, ◌∙◌, ◌⊎◌, inl, inr, subst, action_of, entry, fence, value_in, value_of, updated, entries_by, registers_by, values_after, entries_of, Litmus, Instr, Action, Store, Load, Move, Fence, Lock, Entry, R, W, LR, LW, IsIn, Candidate, events_from, events, ArePair}
 use Rattle.relational_model.proofs.Lists.{in-case, in-none, in-append, in-left, in-right}
 use Rattle.relational_model.proofs.Same.{only}
 

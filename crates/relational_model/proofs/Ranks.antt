@@ -1,10 +1,5 @@
 -- What program order keeps, as an order of numbers.
-use Rattle.std.proofs.Common.{◌≡◌, ◌<◌, ℕ, true, ◌==◌, ◌&&◌, nat_lt, arith, sym, ◌∙◌}
-use Rattle.std.proofs.lemmas.Bool.Decides.{nat_tests}
-use Rattle.tso_model.specs.ProgramOrder.{is_before}
-use Rattle.tso_model.specs.declared.execution.Entry.{Entry}
-use Rattle.basic_laws.specs.Ranks.{rank}
-use Rattle.basic_laws.proofs.Ranks.{by-rank}
+use Rattle.relational_model.proofs.Vocabulary.{◌≡◌, ◌<◌, ℕ, true, ◌==◌, ◌&&◌, nat_lt, arith, sym, ◌∙◌, nat_tests, is_before, Entry, rank, by-rank}
 
 both : (a b c d : ℕ) → ((a == b) && nat_lt c d) ≡ true → (a ≡ b) × (c < d)
 both a b c d h = (grind (arith, nat_tests), grind (arith, nat_tests))

@@ -1,16 +1,7 @@
 -- Sequential consistency: the candidate of an order that keeps all of program order is sequential, and what is sequential x86-TSO allows.
-use Rattle.std.proofs.Common.{◌≡◌, true, List, ◌⊎◌, inl, inr}
-use Rattle.tso_model.specs.Litmus.{Litmus}
-use Rattle.tso_model.specs.Axioms.{IsTsoExecution}
-use Rattle.tso_model.specs.ProgramOrder.{is_before}
-use Rattle.tso_model.specs.SequentialConsistency.{KeepsAllOrder}
-use Rattle.tso_model.specs.declared.execution.Entry.{Entry}
-use Rattle.relational_model.specs.Events.{IsIn, IsEarlier, LeadsTo, at_once, onward, IsAcyclic}
-use Rattle.relational_model.specs.Candidates.{Candidate, events}
-use Rattle.relational_model.specs.CandidatesOfOrders.{IsCandidateOf}
-use Rattle.relational_model.specs.Model.{IsAllowed, IsBeforeOnLocation, HappensBefore}
+use Rattle.relational_model.proofs.Vocabulary.{◌≡◌, true, List, ◌⊎◌, inl, inr, Litmus, IsTsoExecution, is_before, KeepsAllOrder, Entry, IsIn, IsEarlier, LeadsTo, at_once, onward, IsAcyclic, Candidate, events, IsCandidateOf, IsAllowed, IsBeforeOnLocation, HappensBefore, IsBeforeSequentially, po, rf, IsSequential}
 use Rattle.relational_model.specs.Model as model
-use Rattle.relational_model.specs.SequentialModel.{IsBeforeSequentially, po, rf, co, fr, IsSequential}
+use Rattle.relational_model.specs.SequentialModel.{co, fr}
 use Rattle.relational_model.proofs.Ranks.{before-trans}
 use Rattle.relational_model.proofs.Sources.{Known, earlier-trans, never-itself, source-counts, coherence-earlier, event-in}
 use Rattle.relational_model.proofs.Forward.{overwritten-later, starts-in}

@@ -1,18 +1,9 @@
 -- Each sequential candidate has an order that keeps all of program order: `Converse`, with program order among the edges that are kept.
-use Rattle.std.proofs.Common.{◌≡◌, ◌<◌, ℕ, true, List, Some, slice_get, arith, sym, ◌∙◌, ◌⊎◌, inl, inr, subst}
-use Rattle.tso_model.specs.Litmus.{Litmus}
-use Rattle.tso_model.specs.ProgramOrder.{is_before}
-use Rattle.tso_model.specs.SequentialConsistency.{KeepsAllOrder}
-use Rattle.tso_model.specs.declared.execution.Entry.{Entry}
-use Rattle.relational_model.specs.Events.{IsIn, LeadsTo, at_once, onward}
-use Rattle.relational_model.specs.Candidates.{Candidate, events}
-use Rattle.relational_model.specs.CandidatesOfOrders.{IsOfASequentialExecution}
-use Rattle.relational_model.specs.Model.{ArePair}
-use Rattle.relational_model.specs.SequentialModel.{IsBeforeSequentially, po, rf, co, fr, IsSequential}
+use Rattle.relational_model.proofs.Vocabulary.{◌≡◌, ◌<◌, ℕ, true, List, Some, slice_get, arith, sym, ◌∙◌, ◌⊎◌, inl, inr, subst, Litmus, is_before, KeepsAllOrder, Entry, IsIn, LeadsTo, at_once, onward, Candidate, events, IsOfASequentialExecution, ArePair, IsBeforeSequentially, po, rf, IsSequential, GoesForward}
+use Rattle.relational_model.specs.SequentialModel.{co, fr}
 use Rattle.relational_model.proofs.Lists.{to-precedes}
 use Rattle.relational_model.proofs.Ranks.{before-irreflexive}
 use Rattle.relational_model.proofs.Decisions.{either, is-true, Goes, goes}
-use Rattle.relational_model.specs.inner.Rows.{GoesForward}
 use Rattle.relational_model.proofs.Sorting.{Decided}
 use Rattle.relational_model.proofs.Events.{Sound, sound}
 use Rattle.relational_model.proofs.Order.{forward-never}

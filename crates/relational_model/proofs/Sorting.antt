@@ -1,8 +1,5 @@
 -- Events can be put in a row in which no edge goes back, or some edges lead round: a finite acyclic relation extends to a total order.
-use Rattle.std.proofs.Common.{◌≡◌, suc, List, [], ◌∷◌, refl, ap, ◌∙◌, ◌⊎◌, inl, inr, subst}
-use Rattle.tso_model.specs.declared.execution.Entry.{Entry}
-use Rattle.relational_model.specs.Events.{IsIn, LeadsTo, at_once, onward, IsAcyclic}
-use Rattle.relational_model.specs.inner.Rows.{NoneBefore, GoesForward, Row, Ordered}
+use Rattle.relational_model.proofs.Vocabulary.{◌≡◌, suc, List, [], ◌∷◌, refl, ap, ◌∙◌, ◌⊎◌, inl, inr, subst, Entry, IsIn, LeadsTo, at_once, onward, IsAcyclic, NoneBefore, GoesForward, Row, Ordered}
 use Rattle.relational_model.proofs.Lists.{in-case, in-none, in-first, in-later}
 
 -- a relation that can be decided

@@ -1,14 +1,5 @@
 -- What is known of an order that is a TSO execution, and of its candidate: where the source of a read stands.
-use Rattle.std.proofs.Common.{◌≡◌, ◌≢◌, ◌<◌, ℕ, Bool, true, false, ◌==◌, List, ◌∷◌, ◌++◌, Some, None, slice_get, arith, refl, sym, ◌∙◌, ◌⊎◌, inl, inr, subst}
-use Rattle.std.specs.Prelude.{filter}
-use Rattle.tso_model.specs.Litmus.{Litmus}
-use Rattle.tso_model.specs.ProgramOrder.{is_before, is_read, writes_to}
-use Rattle.tso_model.specs.ProgramEntries.{made}
-use Rattle.tso_model.specs.Axioms.{counting, IsTsoExecution}
-use Rattle.tso_model.specs.declared.execution.Entry.{Entry}
-use Rattle.relational_model.specs.Events.{IsIn, IsEarlier}
-use Rattle.relational_model.specs.Candidates.{Candidate, events}
-use Rattle.relational_model.specs.CandidatesOfOrders.{last_in, IsCandidateOf}
+use Rattle.relational_model.proofs.Vocabulary.{◌≡◌, ◌≢◌, ◌<◌, ℕ, Bool, true, false, ◌==◌, List, ◌∷◌, ◌++◌, Some, None, slice_get, arith, refl, sym, ◌∙◌, ◌⊎◌, inl, inr, subst, filter, Litmus, is_before, is_read, writes_to, made, counting, IsTsoExecution, Entry, IsIn, IsEarlier, Candidate, events, last_in, IsCandidateOf}
 use Rattle.relational_model.proofs.Lists.{Cut, cut, Precedes, to-precedes, from-precedes, precedes-filter, precedes-left, precedes-right, precedes-across, precedes-parts, in-first, in-later, in-left, in-right, in-append, in-case, in-filter, filter-in, last-is-in, last-none, last-last, precedes-second}
 use Rattle.relational_model.proofs.Ranks.{before-irreflexive}
 use Rattle.relational_model.proofs.KindFacts.{same-number, number-same}

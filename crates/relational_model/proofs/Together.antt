@@ -1,13 +1,7 @@
 -- A row of the events in which each load part of a locked instruction stands directly before its store part.
-use Rattle.std.proofs.Common.{◌≡◌, Bool, true, false, List, [], ◌∷◌, ◌++◌, arith, refl, ap, ◌⊎◌, inl, inr, subst}
-use Rattle.std.specs.Prelude.{filter, not}
-use Rattle.tso_model.specs.declared.execution.Entry.{Entry}
-use Rattle.tso_model.specs.declared.execution.Kind.TheVariants.{LR, LW}
-use Rattle.relational_model.specs.Events.{IsIn, LeadsTo, at_once, onward}
-use Rattle.relational_model.specs.Candidates.{Candidate}
-use Rattle.relational_model.specs.Model.{ArePair, is_locked, is_locked_kind}
+use Rattle.relational_model.proofs.Vocabulary.{◌≡◌, Bool, true, false, List, [], ◌∷◌, ◌++◌, arith, refl, ap, ◌⊎◌, inl, inr, subst, filter, Entry, LR, LW, IsIn, LeadsTo, at_once, onward, Candidate, ArePair, is_locked, is_locked_kind, part_of}
+use Rattle.std.specs.Prelude.{not}
 use Rattle.relational_model.proofs.Lists.{in-case, in-none, in-first, in-later, in-append, in-left, in-right, in-filter, filter-in}
-use Rattle.basic_laws.specs.Ranks.{part_of}
 use Rattle.relational_model.proofs.Ranks.{rank-before}
 use Rattle.relational_model.proofs.KindFacts.{kept-with-locked}
 use Rattle.relational_model.proofs.Decisions.{Decision, both, either, carried, number, kinds, Goes}

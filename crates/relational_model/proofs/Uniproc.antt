@@ -1,14 +1,7 @@
 -- Of a TSO execution, the accesses of one location are acyclic: each step goes up from the place of a write, or of the write
 -- that a read reads from; and of reads of one write, in program order.
-use Rattle.std.proofs.Common.{◌≡◌, ◌<◌, ◌+◌, ◌==◌, ◌&&◌, ℕ, Bool, true, false, List, Option, Some, None, slice_get, arith, refl, sym, ◌∙◌, ◌⊎◌, inl, inr, subst}
-use Rattle.tso_model.specs.Litmus.{Litmus}
-use Rattle.tso_model.specs.ProgramOrder.{is_before, is_read, is_write, writes_to}
-use Rattle.tso_model.specs.declared.execution.Entry.{Entry}
-use Rattle.relational_model.specs.Events.{IsIn, IsEarlier, LeadsTo, at_once, onward, IsAcyclic}
-use Rattle.relational_model.specs.Candidates.{Candidate, events}
-use Rattle.relational_model.specs.Relations.{is_access, share_location, StandsAfter}
-use Rattle.relational_model.specs.Model.{IsBeforeOnLocation, po_loc, rf, co, fr}
-use Rattle.basic_laws.specs.Ranks.{rank}
+use Rattle.relational_model.proofs.Vocabulary.{◌≡◌, ◌<◌, ◌+◌, ◌==◌, ◌&&◌, ℕ, Bool, true, false, List, Option, Some, None, slice_get, arith, refl, sym, ◌∙◌, ◌⊎◌, inl, inr, subst, Litmus, is_before, is_read, is_write, writes_to, Entry, IsIn, IsEarlier, LeadsTo, at_once, onward, IsAcyclic, Candidate, events, is_access, share_location, StandsAfter, IsBeforeOnLocation, po_loc, co, fr, rank}
+use Rattle.relational_model.specs.Model.{rf}
 use Rattle.relational_model.proofs.Ranks.{before-rank, before-trans}
 use Rattle.relational_model.proofs.KindFacts.{write-is-no-read, before-write-kept, read-kept-before, and-both, or-either, same-number, number-same}
 use Rattle.relational_model.proofs.Sources.{Known, Counts, earlier-trans, source-counts, source-last, source-none, coherence-in, coherence-earlier, event-in}

@@ -1,13 +1,5 @@
 -- The candidate that uniproc alone forbids: a load reads the initial word after its own core's store to the location.
-use Rattle.std.proofs.Common.{◌≡◌, List, [], ◌∷◌, refl, ap, ◌∙◌, sym, ◌⊎◌, inl, inr, subst}
-use Rattle.tso_model.specs.Thread.{entry}
-use Rattle.tso_model.specs.Examples.{loc_x}
-use Rattle.tso_model.specs.declared.execution.Entry.{Entry}
-use Rattle.tso_model.specs.declared.execution.Kind.TheVariants.{R, W, F, LR}
-use Rattle.relational_model.specs.Events.{IsIn, IsEarlier, LeadsTo, at_once, onward}
-use Rattle.relational_model.specs.Candidates.{IsCandidate}
-use Rattle.relational_model.specs.Model.{IsForbidden, IsForbiddenByUniproc, IsBeforeOnLocation, po_loc, HappensBefore, write_before_write, read_before_access, mfence, implied, rfe, co, fr}
-use Rattle.relational_model.specs.WorkedCandidates.{unseen, unseen_candidate}
+use Rattle.relational_model.proofs.Vocabulary.{◌≡◌, List, [], ◌∷◌, refl, ap, ◌∙◌, sym, ◌⊎◌, inl, inr, subst, entry, loc_x, Entry, R, W, F, LR, IsIn, IsEarlier, LeadsTo, at_once, onward, IsCandidate, IsForbidden, IsForbiddenByUniproc, IsBeforeOnLocation, po_loc, HappensBefore, write_before_write, read_before_access, mfence, implied, rfe, co, fr, unseen, unseen_candidate}
 use Rattle.relational_model.proofs.Forward.{starts-in}
 use Rattle.relational_model.proofs.Lists.{in-case, in-none, Precedes, to-precedes}
 use Rattle.relational_model.proofs.Worked.{not-first}

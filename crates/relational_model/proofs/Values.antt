@@ -1,22 +1,6 @@
 -- An order of a candidate's events gives its reads the values that the candidate gives them: it is a TSO execution.
-use Rattle.std.proofs.Common.{◌≡◌, ℕ, ◌+◌, ◌==◌, suc, Bool, true, false, if◌then◌else◌, List, [], ◌∷◌, ◌++◌, Option, Some, None, slice_index, slice_index_or, refl, sym, ap, ◌∙◌, ◌⊎◌, inl, inr, subst, length}
-use Rattle.tso_model.specs.Actions.{action_of}
-use Rattle.tso_model.specs.Thread.{entry, entries_by, registers_by, values_after, entries_of}
-use Rattle.tso_model.specs.ProgramOrder.{same_kind}
-use Rattle.tso_model.specs.ProgramEntries.{is_at, read_value, values_by, made_by, made_from, made}
-use Rattle.tso_model.specs.Axioms.{counting, due_value, HasReadValues, IsAdjacent, IsTsoExecution}
-use Rattle.tso_model.specs.ProgramEntries.{read_values}
-use Rattle.tso_model.specs.Litmus.{Litmus}
-use Rattle.tso_model.specs.declared.instruction.Instr.{Instr}
-use Rattle.tso_model.specs.declared.action.Action.{Action}
-use Rattle.tso_model.specs.declared.action.Action.TheVariants.{Store, Load, Move, Fence, Lock}
-use Rattle.tso_model.specs.declared.execution.Entry.{Entry}
-use Rattle.tso_model.specs.declared.execution.Kind.TheVariants.{R, LR}
-use Rattle.relational_model.specs.Events.{IsIn}
-use Rattle.relational_model.specs.Candidates.{Candidate, Returns, events_from, events}
-use Rattle.relational_model.specs.CandidatesOfOrders.{last_in, IsCandidateOf}
+use Rattle.relational_model.proofs.Vocabulary.{◌≡◌, ℕ, ◌+◌, ◌==◌, suc, Bool, true, false, if◌then◌else◌, List, [], ◌∷◌, ◌++◌, Option, Some, None, slice_index, slice_index_or, refl, sym, ap, ◌∙◌, ◌⊎◌, inl, inr, subst, length, action_of, entry, entries_by, registers_by, values_after, entries_of, same_kind, is_at, read_value, values_by, made_by, made_from, made, counting, due_value, HasReadValues, IsAdjacent, IsTsoExecution, read_values, Litmus, Instr, Action, Store, Load, Move, Fence, Lock, Entry, R, LR, IsIn, Candidate, Returns, events_from, events, last_in, IsCandidateOf, part_of}
 use Rattle.relational_model.proofs.Lists.{in-case, in-none, in-first, in-left, in-right}
-use Rattle.basic_laws.specs.Ranks.{part_of}
 use Rattle.relational_model.proofs.KindFacts.{same-number}
 use Rattle.relational_model.proofs.Allowed.{value-none, value-some}
 use Rattle.relational_model.proofs.Found.{at-itself, apart-three, equal-kinds}

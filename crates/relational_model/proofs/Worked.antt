@@ -1,12 +1,5 @@
 -- The sources of a candidate's reads, told entry by entry; and lists in which nothing is picked.
-use Rattle.std.proofs.Common.{◌≡◌, ℕ, suc, Bool, true, false, ◌==◌, arith, List, [], ◌∷◌, ◌++◌, refl, sym, ap, ◌∙◌, subst, append_assoc}
-use Rattle.std.specs.Prelude.{filter}
-use Rattle.std.proofs.lemmas.Bool.Decides.{nat_tests}
-use Rattle.tso_model.specs.ProgramOrder.{is_read}
-use Rattle.tso_model.specs.Axioms.{counting}
-use Rattle.tso_model.specs.declared.execution.Entry.{Entry}
-use Rattle.relational_model.specs.Candidates.{Candidate}
-use Rattle.relational_model.specs.CandidatesOfOrders.{last_in}
+use Rattle.relational_model.proofs.Vocabulary.{◌≡◌, ℕ, suc, Bool, true, false, ◌==◌, arith, List, [], ◌∷◌, ◌++◌, refl, sym, ap, ◌∙◌, subst, append_assoc, filter, nat_tests, is_read, counting, Entry, Candidate, last_in}
 
 -- each read of the list, which stands after `front`, has its source
 abbrev pub SourcesFrom : Candidate → List Entry → List Entry → Type 0

@@ -1,14 +1,6 @@
 -- The choices along an order, made one entry after the other.
-use Rattle.std.proofs.Common.{◌≡◌, ℕ, ◌+◌, ◌-◌, ◌<◌, ◌≤◌, zero, suc, List, [], ◌∷◌, ◌++◌, length, get_or, drop, replicate, refl, ap, sym, ◌∙◌, add-one, append_assoc, All}
-use Rattle.std.proofs.Math.ListN.{length-set}
-use Rattle.std.proofs.lemmas.List.{append-nil, drop_more, drop_all}
-use Rattle.std.proofs.lemmas.List.Elements.{All-get_or}
+use Rattle.scheduler.proofs.Vocabulary.{◌≡◌, ℕ, ◌+◌, ◌-◌, ◌<◌, ◌≤◌, zero, suc, List, [], ◌∷◌, ◌++◌, length, get_or, drop, replicate, refl, ap, sym, ◌∙◌, add-one, append_assoc, All, length-set, append-nil, drop_more, drop_all, All-get_or, Litmus, Entry, Instr, Choice, steps, beginnings, choices_for, places_after, last_steps, choices_from, choices_along}
 use Rattle.tso_model.specs.FlatMachine.{step}
-use Rattle.tso_model.specs.Litmus.{Litmus}
-use Rattle.tso_model.specs.declared.execution.Entry.{Entry}
-use Rattle.tso_model.specs.declared.instruction.Instr.{Instr}
-use Rattle.tso_model.specs.declared.choice.Choice.{Choice}
-use Rattle.tso_laws.specs.Along.{steps, beginnings, choices_for, places_after, last_steps, choices_from, choices_along}
 
 -- one step more goes last
 pub steps-more : (core n : ℕ) → steps core n ++ step core ∷ [] ≡ steps core (n + 1)

@@ -1,13 +1,5 @@
 -- A number that is read digit by digit, and not past a greatest one.
-use Rattle.std.proofs.Common.{◌≡◌, ℕ, ◌+◌, ◌-◌, ◌*◌, ◌<◌, true, false, List, [], ◌∷◌, ◌++◌, length, take, get_or, min, refl, ap, ◌∙◌, arith}
-use Rattle.std.specs.Char.{is_ascii_digit}
-use Rattle.std.specs.List.{list_all}
-use Rattle.std.specs.Prelude.{nat_lt}
-use Rattle.std.proofs.lemmas.List.{take_more}
-use Rattle.std.proofs.lemmas.List.Folds.{list_all_at}
-use Rattle.std.proofs.lemmas.Bool.{lt-ltb}
-use Rattle.decimals.specs.Decimals.{decimal_from, decimal_value}
-use Rattle.scheduler.specs.Words.{is_numeral}
+use Rattle.scheduler.proofs.Vocabulary.{◌≡◌, ℕ, ◌+◌, ◌-◌, ◌*◌, ◌<◌, true, false, List, [], ◌∷◌, ◌++◌, length, take, get_or, min, refl, ap, ◌∙◌, arith, is_ascii_digit, list_all, nat_lt, take_more, list_all_at, lt-ltb, decimal_from, decimal_value, is_numeral}
 
 from_append : (n digit : ℕ) (digits : List ℕ) → decimal_from n (digits ++ digit ∷ []) ≡ decimal_from n digits * 10 + (digit - 48)
 unfolding decimal_from

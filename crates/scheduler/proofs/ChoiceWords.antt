@@ -1,20 +1,6 @@
 -- Words that are choices, against what is read of them.
-use Rattle.std.proofs.Common.{◌≡◌, ℕ, ◌+◌, ◌-◌, ◌<◌, ◌≤◌, Bool, true, false, cond, eqb, leb, List, [], ◌∷◌, ◌++◌, length, get_or, take, Option, Some, None, Ok, Err, refl, sym, ap, subst, ◌∙◌, ◌⊎◌, inl, inr, take_all, arith}
-use Rattle.std.specs.Str.{bytes_eq}
-use Rattle.std.specs.Prelude.{codes}
-use Rattle.std.proofs.lemmas.Bool.{le-leb, lt-leb, leb-true, and_parts, eqb-true, cases_lt}
-use Rattle.std.proofs.lemmas.List.{take_more}
-use Rattle.tso_model.specs.FlatMachine.{chosen}
-use Rattle.tso_model.specs.declared.choice.Choice.{Choice}
-use Rattle.scheduler.specs.declared.fault.ChoiceFault.TheVariants.{BadWord, NoSuchCore, TooMany}
-use Rattle.scheduler.specs.declared.item.ChoiceKind.{ChoiceKind}
+use Rattle.scheduler.proofs.Vocabulary.{◌≡◌, ℕ, ◌+◌, ◌-◌, ◌<◌, ◌≤◌, Bool, true, false, cond, eqb, leb, List, [], ◌∷◌, ◌++◌, length, get_or, take, Option, Some, None, Ok, Err, refl, sym, ap, subst, ◌∙◌, ◌⊎◌, inl, inr, take_all, arith, bytes_eq, codes, le-leb, lt-leb, leb-true, and_parts, eqb-true, cases_lt, take_more, chosen, Choice, BadWord, NoSuchCore, TooMany, ChoiceKind, One, decimal_value, number_up_to, is_numeral, IsChoiceWord, step, drain, kind_of, choice_by, one_at, one_of}
 use Rattle.scheduler.specs.declared.item.ChoiceKind.TheVariants.{Step, Drain}
-use Rattle.scheduler.specs.declared.item.ChoiceItem.TheVariants.{One}
-use Rattle.decimals.specs.Decimals.{decimal_value}
-use Rattle.decimals.specs.inner.Decimals.{number_up_to}
-use Rattle.scheduler.specs.Words.{is_numeral}
-use Rattle.scheduler.specs.Grammar.{IsChoiceWord, step, drain}
-use Rattle.scheduler.specs.inner.Reading.{kind_of, choice_by, one_at, one_of}
 use Rattle.scheduler.proofs.Items.{one_is, one_none}
 
 -- which way a test went

@@ -1,12 +1,5 @@
 -- The choices that a text spells are of cores that are there.
-use Rattle.std.proofs.Common.{◌≡◌, ◌<◌, ℕ, ◌*◌, ◌/◌, ◌%◌, ◌==◌, Bool, true, false, cond, List, [], ◌∷◌, ◌++◌, map, arith, refl, subst, sym, lit<}
-use Rattle.std.proofs.Math.Nat.{div-lt_iff_lt-mul}
-use Rattle.tso_model.specs.FlatMachine.{chosen}
-use Rattle.tso_model.specs.Runs.{CoresExist}
-use Rattle.tso_model.specs.declared.choice.Choice.{Choice}
-use Rattle.tso_model.specs.declared.choice.Choice.TheVariants.{Step, Drain}
-use Rattle.scheduler.specs.Seeds.{choice_of_word}
-use Rattle.scheduler.specs.Grammar.{IsItem, one, seeded, AreItems, none, more, SpellsChoices}
+use Rattle.scheduler.proofs.Vocabulary.{◌≡◌, ◌<◌, ℕ, ◌*◌, ◌/◌, ◌%◌, ◌==◌, Bool, true, false, cond, List, [], ◌∷◌, ◌++◌, map, arith, refl, subst, sym, lit<, div-lt_iff_lt-mul, chosen, CoresExist, Choice, Step, Drain, choice_of_word, IsItem, one, seeded, AreItems, none, more, SpellsChoices}
 
 CoresExist-append : (cores : ℕ) (xs ys : List Choice) → CoresExist cores xs → CoresExist cores ys → CoresExist cores (xs ++ ys)
 CoresExist-append cores [] ys h k = k

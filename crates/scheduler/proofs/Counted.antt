@@ -1,19 +1,8 @@
 -- One entry more at the front of those that are passed, in the counts of plain stores.
-use Rattle.std.proofs.Common.{◌≡◌, ◌≢◌, ℕ, ◌+◌, ◌-◌, ◌<◌, ◌≤◌, ◌==◌, ◌&&◌, nat_lt, zero, suc, Bool, true, false, if◌then◌else◌, List, [], ◌∷◌, ◌++◌, length, get_or, take, replicate, drop, filter, sum, refl, ap, sym, ◌∙◌, ◌||◌, not, arith, drop-cons, subst, max, length-drop, All, ◌⊎◌, inl, inr}
-use Rattle.std.proofs.Math.ListN.{set, length-set}
-use Rattle.std.proofs.lemmas.List.{drop_all, length_push, length-replicate, take-set-le, get_or-take, get_or-set_same, get_or-set_other, length-take, get_or_default, take_all}
-use Rattle.std.proofs.Math.Seq.{take-set-lt}
-use Rattle.std.proofs.lemmas.List.Elements.{All-get_or}
-use Rattle.std.proofs.lemmas.List.Sums.{sum_by-set, get_or-le-sum_by}
-use Rattle.std.specs.Ordering.{ord_max, nat_cmp}
+use Rattle.scheduler.proofs.Vocabulary.{◌≡◌, ◌≢◌, ℕ, ◌+◌, ◌-◌, ◌<◌, ◌≤◌, ◌==◌, ◌&&◌, zero, suc, Bool, true, false, if◌then◌else◌, List, [], ◌∷◌, ◌++◌, length, get_or, take, replicate, drop, filter, sum, refl, ap, sym, ◌∙◌, ◌||◌, not, arith, drop-cons, subst, max, All, ◌⊎◌, inl, inr, set, length-set, drop_all, length_push, length-replicate, take-set-le, get_or-take, get_or-set_same, get_or-set_other, length-take, get_or_default, take-set-lt, All-get_or, sum_by-set, get_or-le-sum_by, ord_max, nat_cmp, same_kind, is_store, is_load, is_before, needed, asked, HaveCounted, stores_below, Entry, Kind, R, W, F, LR, LW}
+use Rattle.std.proofs.Common.{nat_lt, length-drop}
+use Rattle.std.proofs.lemmas.List.{take_all}
 use borrow.Author.Tests.{tests}
-use Rattle.tso_model.specs.ProgramOrder.{same_kind, is_store, is_load, is_before}
-use Rattle.tso_laws.specs.Depth.{needed}
-use Rattle.tso_laws.specs.inner.Depth.{asked}
-use Rattle.scheduler.specs.inner.Passed.{HaveCounted, stores_below}
-use Rattle.tso_model.specs.declared.execution.Entry.{Entry}
-use Rattle.tso_model.specs.declared.execution.Kind.{Kind}
-use Rattle.tso_model.specs.declared.execution.Kind.TheVariants.{R, W, F, LR, LW}
 
 -- what was passed, and the entry in front of it
 pub passed-more : {X : Type 0} (xs : List X) (i : ℕ) (d : X) → i < length xs →

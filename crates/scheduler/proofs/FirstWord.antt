@@ -1,9 +1,5 @@
 -- The first word of a text, and the words after it.
-use Rattle.std.proofs.Common.{◌≡◌, ℕ, ◌+◌, ◌<◌, suc, Bool, true, false, not, List, [], ◌∷◌, length, take, drop, filter, refl, sym, ap, subst, ◌∙◌, inl, inr, eqb, arith}
-use Rattle.std.specs.List.{prefix_len, slice_split, onto_first}
-use Rattle.std.proofs.lemmas.Bool.Decides.{nat_tests}
-use Rattle.std.proofs.lemmas.List.{length-drop}
-use Rattle.scheduler.specs.Words.{is_space, words_of}
+use Rattle.scheduler.proofs.Vocabulary.{◌≡◌, ℕ, ◌+◌, ◌<◌, suc, Bool, true, false, not, List, [], ◌∷◌, length, take, drop, filter, refl, sym, ap, subst, ◌∙◌, inl, inr, eqb, arith, prefix_len, slice_split, onto_first, nat_tests, length-drop, is_space, words_of}
 use Rattle.scheduler.proofs.ChoiceWords.{either}
 
 abbrev is_of_word : ℕ → Bool

@@ -1,12 +1,5 @@
 -- The entries of an execution are of its test.
-use Rattle.std.proofs.Common.{ℕ, ◌<◌, List, [], length, get_or, arith}
-use Rattle.std.proofs.lemmas.Option.{slice_get-get_or}
-use Rattle.std.proofs.lemmas.List.Elements.{All-get_or}
-use Rattle.tso_model.specs.Litmus.{Litmus, IsTest, IsProgram}
-use Rattle.tso_model.specs.Axioms.{IsWhole}
-use Rattle.tso_model.specs.Standing.{StandsIn}
-use Rattle.tso_model.specs.declared.execution.Entry.{Entry}
-use Rattle.tso_laws.specs.Entries.{FitsTest}
+use Rattle.scheduler.proofs.Vocabulary.{ℕ, ◌<◌, List, [], length, get_or, arith, slice_get-get_or, All-get_or, Litmus, IsTest, IsProgram, IsWhole, StandsIn, Entry, FitsTest}
 
 -- the law that each entry of a whole order is of the test
 abbrev pub Fits : Type 0

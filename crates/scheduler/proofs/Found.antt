@@ -1,25 +1,6 @@
 -- What reading an item gives is what the grammar and the refusals say of its words.
-use Rattle.std.proofs.Common.{◌≡◌, ℕ, zero, suc, ◌+◌, ◌<◌, ◌≤◌, ◌^◌, true, List, [], ◌∷◌, length, take, Option, Some, None, Result, Ok, Err, refl, sym, ap, subst, ◌∙◌, inl, inr, arith}
-use Rattle.std.specs.Str.{bytes_eq}
-use Rattle.std.specs.Prelude.{codes, ◌≢◌}
-use Rattle.std.proofs.lemmas.Bool.{cases_lt, false≢true}
-use Rattle.std.proofs.lemmas.List.{length-map}
-use Rattle.std.proofs.lemmas.Slice.Eq.{bytes_eq-Decides}
-use Rattle.rand_pcg.specs.Lcg.{Lcg}
-use Rattle.rand_pcg.specs.Pcg.{pcg32}
-use Rattle.tso_model.specs.declared.choice.Choice.{Choice}
-use Rattle.scheduler.specs.declared.fault.ChoiceFault.{ChoiceFault}
-use Rattle.scheduler.specs.declared.fault.ChoiceFault.TheVariants.{BadWord, TooMany}
-use Rattle.scheduler.specs.declared.item.ChoiceItem.{ChoiceItem}
-use Rattle.scheduler.specs.declared.item.ChoiceItem.TheVariants.{Seeded}
-use Rattle.decimals.specs.Decimals.{decimal_value}
-use Rattle.scheduler.specs.Words.{is_numeral}
-use Rattle.tso_model.specs.FlatMachine.{chosen}
-use Rattle.scheduler.specs.Seeds.{seeded_choices, drawn_words, generator, choice_of_word}
-use Rattle.scheduler.specs.Limits.{most_choices}
-use Rattle.scheduler.specs.Grammar.{IsChoiceWord, IsItem, one, seeded}
-use Rattle.scheduler.specs.Refusals.{IsItemAtFault, bad_form, cut_seed, bad_seed, bad_count, no_core, too_many}
-use Rattle.scheduler.specs.inner.Reading.{made_of, words_in, one_of, seed_of, seeded_from, seeded_of, item_of}
+use Rattle.scheduler.proofs.Vocabulary.{◌≡◌, ℕ, zero, suc, ◌+◌, ◌<◌, ◌≤◌, ◌^◌, true, List, [], ◌∷◌, length, take, Option, Some, None, Result, Ok, Err, refl, sym, ap, subst, ◌∙◌, inl, inr, arith, bytes_eq, codes, cases_lt, false≢true, length-map, bytes_eq-Decides, Lcg, pcg32, Choice, ChoiceFault, BadWord, TooMany, ChoiceItem, Seeded, decimal_value, is_numeral, chosen, seeded_choices, drawn_words, generator, choice_of_word, most_choices, IsChoiceWord, IsItem, one, seeded, IsItemAtFault, bad_form, cut_seed, bad_seed, bad_count, no_core, too_many, made_of, words_in, one_of, seed_of, seeded_from, seeded_of, item_of}
+use Rattle.std.specs.Prelude.{◌≢◌}
 use Rattle.scheduler.proofs.ChoiceWords.{either, number_in, number_out, reads_absent, reads_full, reads_there, not_a_choice, word_cases}
 
 -- as many words as one asks for, and as many choices

@@ -1,8 +1,5 @@
 -- The words of a generator, one after the other.
-use Rattle.std.proofs.Common.{◌≡◌, ◌≢◌, ℕ, ◌-◌, zero, suc, [], ◌∷◌, length, refl, ap, sym, ◌∙◌, map, arith}
-use Rattle.rand_pcg.specs.Lcg.{Lcg}
-use Rattle.rand_pcg.specs.Pcg.{pcg32}
-use Rattle.scheduler.specs.Seeds.{drawn_words}
+use Rattle.scheduler.proofs.Vocabulary.{◌≡◌, ◌≢◌, ℕ, ◌-◌, zero, suc, [], ◌∷◌, length, refl, ap, sym, ◌∙◌, map, arith, Lcg, pcg32, drawn_words}
 
 -- as many words as were asked for
 pub length-words : {X : Type 0} (f : ℕ → X) (n : ℕ) (g : Lcg) → length (map f (drawn_words n g)) ≡ n

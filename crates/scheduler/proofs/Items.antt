@@ -1,18 +1,5 @@
 -- How one item is read, case by case.
-use Rattle.std.proofs.Common.{◌≡◌, ◌≢◌, ℕ, ◌+◌, ◌-◌, ◌<◌, true, false, leb, min, List, [], ◌∷◌, ◌++◌, length, get_or, take, drop, Some, None, Result, Ok, Err, refl, ap, ◌∙◌, arith}
-use Rattle.std.specs.Str.{bytes_eq}
-use Rattle.std.specs.Prelude.{codes}
-use Rattle.std.proofs.lemmas.Bool.{le-leb, lt-leb, ne_eqb}
-use Rattle.std.proofs.lemmas.List.{take_at, get_or_at, length-append}
-use Rattle.scheduler.specs.declared.fault.ChoiceFault.TheVariants.{BadWord, NoSuchCore, TooMany}
-use Rattle.scheduler.specs.declared.item.ChoiceKind.{ChoiceKind}
-use Rattle.scheduler.specs.declared.fault.ChoiceFault.{ChoiceFault}
-use Rattle.scheduler.specs.declared.item.ChoiceItem.{ChoiceItem}
-use Rattle.scheduler.specs.declared.item.ChoiceItem.TheVariants.{One, Seeded}
-use Rattle.decimals.specs.Decimals.{decimal_value}
-use Rattle.decimals.specs.inner.Decimals.{number_up_to}
-use Rattle.scheduler.specs.Words.{is_numeral}
-use Rattle.scheduler.specs.inner.Reading.{kind_of, choice_by, one_from, one_of, seed_of, seeded_from, seeded_of, item_of}
+use Rattle.scheduler.proofs.Vocabulary.{◌≡◌, ◌≢◌, ℕ, ◌+◌, ◌-◌, ◌<◌, true, false, leb, min, List, [], ◌∷◌, ◌++◌, length, get_or, take, drop, Some, None, Result, Ok, Err, refl, ap, ◌∙◌, arith, bytes_eq, codes, le-leb, lt-leb, ne_eqb, take_at, get_or_at, length-append, BadWord, NoSuchCore, TooMany, ChoiceKind, ChoiceFault, ChoiceItem, One, Seeded, decimal_value, number_up_to, is_numeral, kind_of, choice_by, one_from, one_of, seed_of, seeded_from, seeded_of, item_of}
 
 pub one_is : (cores room number : ℕ) (word digits : List ℕ) (letter : ℕ) → word ≡ digits ++ letter ∷ [] → one_of cores room number word ≡ one_from cores room number digits (kind_of letter)
 unfolding one_of

@@ -1,3 +1,4 @@
+pub mod Vocabulary
 pub mod Generated
 pub mod Items
 pub mod ChoiceWords

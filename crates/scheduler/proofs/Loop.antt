@@ -1,15 +1,5 @@
 -- One item more, after items that were read.
-use Rattle.std.proofs.Common.{◌≡◌, ℕ, ◌+◌, ◌-◌, ◌<◌, ◌≤◌, List, [], ◌∷◌, ◌++◌, length, take, drop, Ok, Err, refl, sym, ap, subst, ◌∙◌, append_assoc, take_all, arith}
-use Rattle.std.proofs.Math.Seq.{take-add}
-use Rattle.std.proofs.lemmas.List.{append-nil, length-append, length-drop, length-take, take-append-drop, drop-drop}
-use Rattle.tso_model.specs.declared.choice.Choice.{Choice}
-use Rattle.scheduler.specs.declared.fault.ChoiceFault.{ChoiceFault}
-use Rattle.scheduler.specs.declared.item.ChoiceItem.{ChoiceItem}
-use Rattle.scheduler.specs.declared.item.ChoiceItem.TheVariants.{One, Seeded}
-use Rattle.scheduler.specs.Limits.{most_choices}
-use Rattle.scheduler.specs.Grammar.{IsItem, AreItems, none, more}
-use Rattle.scheduler.specs.Refusals.{IsItemAtFault, AreRefused}
-use Rattle.scheduler.specs.inner.Reading.{made_of, words_in, item_of}
+use Rattle.scheduler.proofs.Vocabulary.{◌≡◌, ℕ, ◌+◌, ◌-◌, ◌<◌, ◌≤◌, List, [], ◌∷◌, ◌++◌, length, take, drop, Ok, Err, refl, sym, ap, subst, ◌∙◌, append_assoc, take_all, arith, take-add, append-nil, length-append, length-drop, length-take, take-append-drop, drop-drop, Choice, ChoiceFault, ChoiceItem, One, Seeded, most_choices, IsItem, AreItems, none, more, IsItemAtFault, AreRefused, made_of, words_in, item_of}
 use Rattle.scheduler.proofs.Found.{Fits, IsRead, item_read}
 
 -- an item after items

@@ -1,23 +1,7 @@
 -- What is printed of choices spells them.
-use Rattle.std.proofs.Common.{◌≡◌, ◌<◌, ◌≤◌, ◌^◌, ℕ, Bool, true, false, IsTrue, All, not, eqb, List, [], ◌∷◌, ◌++◌, length, map, filter, codes, arith, rules, refl, sym, ap, subst, ◌∙◌, append_assoc, append-nil, length-append}
-use Rattle.std.specs.Char.{is_ascii_digit}
+use Rattle.scheduler.proofs.Vocabulary.{◌≡◌, ◌<◌, ◌≤◌, ◌^◌, ℕ, Bool, true, false, IsTrue, All, not, eqb, List, [], ◌∷◌, ◌++◌, length, map, filter, arith, rules, refl, sym, ap, subst, ◌∙◌, append_assoc, is_ascii_digit, slice_split, list_all, and_parts, nat_tests, digits_decimal, digits_value-decimal, decimal_nonempty, All-nil, All-cons, All-append, slice_split_none, slice_split_at, slice_split-cons_yes, IsNumeralModel, numerals_by_fold, chosen, CoresExist, Choice, Step, Drain, most_choices, decimal_from, decimal_value, is_space, is_numeral, words_of, IsChoiceWord, step, drain, one, AreItems, none, more, SpellsChoices, printed_choice, printed_after, printed_choices}
+use Rattle.std.proofs.Common.{codes, append-nil, length-append}
 use Rattle.std.specs.Fmt as fmt
-use Rattle.std.specs.List.{slice_split, list_all}
-use Rattle.std.proofs.lemmas.Bool.{and_parts}
-use Rattle.std.proofs.lemmas.Bool.Decides.{nat_tests}
-use Rattle.std.proofs.lemmas.Fmt.{digits_decimal, digits_value-decimal, decimal_nonempty}
-use Rattle.std.proofs.lemmas.List.Elements.{All-nil, All-cons, All-append}
-use Rattle.std.proofs.lemmas.List.Splits.{slice_split_none, slice_split_at, slice_split-cons_yes}
-use Rattle.std.proofs.lemmas.Str.Parse.{IsNumeralModel, numerals_by_fold}
-use Rattle.tso_model.specs.FlatMachine.{chosen}
-use Rattle.tso_model.specs.Runs.{CoresExist}
-use Rattle.tso_model.specs.declared.choice.Choice.{Choice}
-use Rattle.tso_model.specs.declared.choice.Choice.TheVariants.{Step, Drain}
-use Rattle.scheduler.specs.Limits.{most_choices}
-use Rattle.decimals.specs.Decimals.{decimal_from, decimal_value}
-use Rattle.scheduler.specs.Words.{is_space, is_numeral, words_of}
-use Rattle.scheduler.specs.Grammar.{IsChoiceWord, step, drain, one, AreItems, none, more, SpellsChoices}
-use Rattle.scheduler.specs.Printed.{printed_choice, printed_after, printed_choices}
 
 -- ---- numbers
 

@@ -1,21 +1,6 @@
 -- The word that says a choice is the word at which one reading of the words stops, where as many choices have room as stand
 -- before that one.
-use Rattle.std.proofs.Common.{◌≡◌, ℕ, ◌+◌, ◌-◌, ◌<◌, ◌≤◌, List, [], ◌∷◌, ◌++◌, length, take, drop, Option, Some, Ok, Err, refl, sym, ap, subst, ◌∙◌, inl, inr, append_assoc, arith}
-use Rattle.std.specs.Prelude.{IfSome, IsSome, is_some}
-use Rattle.std.proofs.Math.Seq.{take-add}
-use Rattle.std.proofs.lemmas.Bool.{cases_lt}
-use Rattle.std.proofs.lemmas.List.{length-append, length-drop, length-take, take-append-drop, drop-drop}
-use Rattle.tso_model.specs.declared.choice.Choice.{Choice}
-use Rattle.scheduler.specs.declared.fault.ChoiceFault.{ChoiceFault}
-use Rattle.scheduler.specs.declared.fault.ChoiceFault.TheVariants.{TooMany}
-use Rattle.scheduler.specs.declared.item.ChoiceItem.{ChoiceItem}
-use Rattle.scheduler.specs.declared.item.ChoiceItem.TheVariants.{One, Seeded}
-use Rattle.scheduler.specs.Limits.{most_choices}
-use Rattle.scheduler.specs.Grammar.{IsItem, AreItems, none, more, WordsSpell}
-use Rattle.scheduler.specs.Refusals.{IsItemAtFault, bad_form, cut_seed, bad_seed, bad_count, no_core, too_many}
-use Rattle.scheduler.specs.WordOfChoice.{SayAt}
-use Rattle.scheduler.specs.inner.Reading.{made_of, words_in, item_of}
-use Rattle.scheduler.specs.inner.TooMany.{too_many_at}
+use Rattle.scheduler.proofs.Vocabulary.{◌≡◌, ℕ, ◌+◌, ◌-◌, ◌<◌, ◌≤◌, List, [], ◌∷◌, ◌++◌, length, take, drop, Option, Some, Ok, Err, refl, sym, ap, subst, ◌∙◌, inl, inr, append_assoc, arith, IfSome, IsSome, is_some, take-add, cases_lt, length-append, length-drop, length-take, take-append-drop, drop-drop, Choice, ChoiceFault, TooMany, ChoiceItem, One, Seeded, most_choices, IsItem, AreItems, none, more, WordsSpell, IsItemAtFault, bad_form, cut_seed, bad_seed, bad_count, no_core, too_many, SayAt, made_of, words_in, item_of, too_many_at}
 use Rattle.scheduler.proofs.Found.{Fits, IsRead, item_read}
 use Rattle.scheduler.proofs.Loop.{one_more}
 use Rattle.scheduler.proofs.Whole.{with_front, whole, items_whole, fault_whole}

@@ -1,21 +1,6 @@
 -- A text spells at most one list of choices, or gets at most one refusal: both are what one reading of its words gives.
-use Rattle.std.proofs.Common.{◌≡◌, ℕ, zero, suc, ◌+◌, ◌-◌, ◌<◌, ◌≤◌, Bool, true, false, List, [], ◌∷◌, ◌++◌, length, take, drop, Result, Ok, Err, refl, sym, ap, subst, ◌∙◌, ◌⊎◌, inl, inr, append_assoc, arith}
-use Rattle.std.specs.Str.{bytes_eq}
-use Rattle.std.specs.Prelude.{codes, ◌≢◌, MatchResult, IfOk, IfErr}
-use Rattle.std.specs.Global.{Vec}
-use Rattle.std.proofs.lemmas.List.{append-nil, length-append, length-drop, take-append-drop}
-use Rattle.std.proofs.lemmas.Slice.Eq.{bytes_eq-Decides}
-use Rattle.tso_model.specs.declared.choice.Choice.{Choice}
-use Rattle.scheduler.specs.declared.fault.ChoiceFault.{ChoiceFault}
-use Rattle.scheduler.specs.declared.fault.ChoiceFault.TheVariants.{BadWord, NoMemory}
-use Rattle.scheduler.specs.declared.item.ChoiceItem.{ChoiceItem}
-use Rattle.scheduler.specs.declared.item.ChoiceItem.TheVariants.{One, Seeded}
-use Rattle.decimals.specs.Decimals.{decimal_value}
-use Rattle.scheduler.specs.Words.{words_of}
-use Rattle.scheduler.specs.Limits.{most_choices}
-use Rattle.scheduler.specs.Grammar.{IsChoiceWord, IsItem, one, seeded, AreItems, none, more, WordsSpell}
-use Rattle.scheduler.specs.Refusals.{IsItemAtFault, bad_form, cut_seed, bad_seed, bad_count, no_core, too_many, AreRefused, IsDecided}
-use Rattle.scheduler.specs.inner.Reading.{made_of, words_in, one_of, seeded_of, item_of}
+use Rattle.scheduler.proofs.Vocabulary.{◌≡◌, ℕ, zero, suc, ◌+◌, ◌-◌, ◌<◌, ◌≤◌, Bool, true, false, List, [], ◌∷◌, ◌++◌, length, take, drop, Result, Ok, Err, refl, sym, ap, subst, ◌∙◌, ◌⊎◌, inl, inr, append_assoc, arith, bytes_eq, codes, MatchResult, IfOk, IfErr, Vec, append-nil, length-append, length-drop, take-append-drop, bytes_eq-Decides, Choice, ChoiceFault, BadWord, NoMemory, ChoiceItem, One, Seeded, decimal_value, words_of, most_choices, IsChoiceWord, IsItem, one, seeded, AreItems, none, more, WordsSpell, IsItemAtFault, bad_form, cut_seed, bad_seed, bad_count, no_core, too_many, AreRefused, IsDecided, made_of, words_in, one_of, seeded_of, item_of}
+use Rattle.std.specs.Prelude.{◌≢◌}
 use Rattle.scheduler.proofs.ChoiceWords.{number_in, number_out, reads_absent, reads_full, reads_there, word_cases, choice_is_no_seed}
 use Rattle.scheduler.proofs.Found.{IsRead, item_read, length_seeded, seed_in, seed_out}
 use Rattle.scheduler.proofs.Loop.{one_more}

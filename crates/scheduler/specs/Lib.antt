@@ -1,4 +1,5 @@
 pub mod Limits
+pub mod Plan
 pub mod Words
 pub mod Seeds
 pub mod Grammar

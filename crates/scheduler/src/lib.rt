@@ -1,5 +1,5 @@
 //! What is chosen next, and by which core: the texts that say it, the choices of a seed, and those that reach a given
-//! order. By them alone a run on the machine is decided.
+//! order. By them alone a run on the machine is decided. Here too: the seeds of a sweep, and which choices of a run stalled.
 #![tactic(auto)]
 
 mod along;
@@ -10,9 +10,11 @@ pub mod fault;
 mod item;
 pub mod laws;
 mod placing;
+pub mod plan;
 mod printing;
 mod reaching;
 mod seeds;
+mod stalls;
 mod words;
 
 pub use choices::{MAX_CHOICES, read_choices};
@@ -20,6 +22,8 @@ pub use coming::{Choices, Listed, Seeded};
 pub use fault::{ChoiceFault, WitnessFault};
 pub use laws::{printed_choices_are_spelled, spelled_cores_exist, texts_are_decided};
 pub use placing::word_of_choice;
+pub use plan::SweepPlan;
 pub use printing::{choices_text, write_after};
 pub use reaching::witness;
 pub use seeds::seeded_choices;
+pub use stalls::{FirstStall, Stalls};

@@ -10,10 +10,9 @@ ghost use Rattle.split_laws.specs.BusChoices.{IsPossibleOn};
 ghost use Rattle.tso_laws.specs.Counting.{instructions, longest};
 
 use crate::laws::ended_runs_of_machines_are_executions;
-use hints::Stalls;
 use machine_core::{Bus, Choice, Config, Machine, Outcome};
 use protocol_tables::{Mesi, Moesi, Mosi, Msi, Protocol, ProtocolKind};
-use scheduler::{Choices, Listed};
+use scheduler::{Choices, Listed, Stalls};
 use split_laws::{
     atomic_runs_are_flat_runs, attempts_lead_from_state_to_state, fair_rounds_end_on_either_bus,
     runs_on_either_bus_stop_where_they_end, what_holds_so_far_on_either_bus,

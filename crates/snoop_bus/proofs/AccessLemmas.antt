@@ -18,15 +18,9 @@ pub loaded-hit : (t : Table) (caches : List Sets) (core line : ℕ) (copy : Line
     loaded t core line (tags_of caches) ≡ accessed Hit false None (used_by core line copy.state (tags_of caches))
 loaded-hit t caches core line copy found = ap (loaded_in t core line (tags_of caches)) (tag_here caches core line ∙ ap (option_map (λ copy. copy.state)) found)
 
-pub loaded-miss : (t : Table) (caches : List Sets) (core line : ℕ) → copy_at caches core line ≡ None → loaded t core line (tags_of caches) ≡ loaded_in t core line (tags_of caches) None
-loaded-miss t caches core line absent = ap (loaded_in t core line (tags_of caches)) (tag_here caches core line ∙ ap (option_map (λ copy. copy.state)) absent)
-
 pub written-here : (t : Table) (caches : List Sets) (core line : ℕ) (copy : Line) → copy_at caches core line ≡ Some copy →
     written t core line (tags_of caches) ≡ written_in t core line (tags_of caches) (t.written copy.state)
 written-here t caches core line copy found = ap (write_in t core line (tags_of caches)) (tag_here caches core line ∙ ap (option_map (λ copy. copy.state)) found)
-
-pub written-miss : (t : Table) (caches : List Sets) (core line : ℕ) → copy_at caches core line ≡ None → written t core line (tags_of caches) ≡ write_in t core line (tags_of caches) None
-written-miss t caches core line absent = ap (write_in t core line (tags_of caches)) (tag_here caches core line ∙ ap (option_map (λ copy. copy.state)) absent)
 
 pub writes_back-tags : (t : Table) (caches : List Sets) (core line : ℕ) → writes_back t core line (tags_of caches) ≡ dirty_in t (victim_tag (victim_at caches core line))
 writes_back-tags t caches core line =

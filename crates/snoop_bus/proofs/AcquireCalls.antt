@@ -1,10 +1,10 @@
 -- What the calls of a write access rest on, and what it leaves where nobody else holds the bus.
 use Rattle.std.proofs.lemmas.List.{get_or_default}
-use Rattle.std.proofs.Common.{◌≡◌, ◌≢◌, ℕ, ◌<◌, true, false, is_some, Option, Some, None, IsSome, IfSome, Result, IfOk, List, [], length, slice_index_or, refl, sym, ap, ◌∙◌}
+use Rattle.std.proofs.Common.{◌≡◌, ℕ, ◌<◌, true, false, is_some, Option, Some, None, IsSome, IfSome, List, [], length, slice_index_or, refl, sym, ap, ◌∙◌}
 use Rattle.protocol_tables.specs.Laws.{WritesInPlace}
 use Rattle.protocol_tables.specs.Tables.{Table}
 use Rattle.protocol_tables.specs.declared.state.State.{State}
-use Rattle.protocol_tables.specs.declared.state.State.TheVariants.{I, M}
+use Rattle.protocol_tables.specs.declared.state.State.TheVariants.{M}
 use Rattle.cache_set.specs.declared.Line.{Line}
 use Rattle.snoop_bus.specs.declared.access.Access.{Access}
 use Rattle.snoop_bus.specs.declared.hierarchy.Hierarchy.{Hierarchy}
@@ -30,13 +30,9 @@ module _ (caches : List Sets) (core line : ℕ) (sets : Sets) (looked : Option L
 pub is_present : (o : Option Line) (copy : Line) → o ≡ Some copy → IsSome o
 is_present o copy e = rw e refl
 
-pub not_present : {A : Type 0} (o : Option Line) → o ≡ None → IsSome o → A
-not_present None e some = cc
-not_present (Some copy) e some = cc
-
--- a write in place goes to M
-pub written_valid : (t : Table) → WritesInPlace t.written → (s next : State) → Some next ≡ t.written s → next ≢ I
-written_valid t law s next e = λ i. let m : next ≡ M = written_m s next (sym (law s) ∙ sym e) in cc
+-- a copy that is written in place goes to M
+pub in_m : (t : Table) → WritesInPlace t.written → (s next : State) → t.written s ≡ Some next → t.written s ≡ Some M
+in_m t law s next e = e ∙ ap (λ (n : State). Some n) (written_m s next (sym (law s) ∙ e))
 
 -- nobody holds the bus
 pub is_free : (held : Option HeldBus) → is_some held ≡ false → held ≡ None
@@ -56,6 +52,6 @@ module _ (held : Option HeldBus) (free : held ≡ None) where
   pub words_alone : (c0 c2 : List Sets) (m0 m2 : List Words) → KeepsWords c0 c2 m0 m2 → KeepsWords (counted held c0) (counted held c2) m0 m2
   words_alone c0 c2 m0 m2 keeps = rw free keeps
 
-  pub acquired_alone : {E : Type 0} (r : Result (Words × Access) E) (t : Table) (core line : ℕ) (c0 c2 : List Sets) (m0 m2 : List Words) →
-      IfOk r (λ r. Acquires t None core line c0 c2 m0 m2 r.0 r.1) → IfOk r (λ r. Acquires t held core line c0 c2 m0 m2 r.0 r.1)
-  acquired_alone r t core line c0 c2 m0 m2 ok = rw free ok
+  pub acquired_alone : (t : Table) (core line : ℕ) (c0 c2 : List Sets) (m0 m2 : List Words) (words : Words) (access : Access) →
+      Acquires t None core line c0 c2 m0 m2 words access → Acquires t held core line c0 c2 m0 m2 words access
+  acquired_alone t core line c0 c2 m0 m2 words access a = rw free a

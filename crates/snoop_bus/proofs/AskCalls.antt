@@ -22,7 +22,7 @@ use Rattle.snoop_bus.proofs.RowLemmas.{table_of-rows}
 use Rattle.snoop_bus.proofs.WordLemmas.{words-same}
 
 -- what a transaction awaits goes by the lines and states alone
-awaited-for : (t : Table) (request : Request) (core line : ℕ) (words : Words) (caches : List TagSets) →
+pub awaited-for : (t : Table) (request : Request) (core line : ℕ) (words : Words) (caches : List TagSets) →
     awaited_in (transaction_of t request core line words caches) ≡ option_map (awaiting t request line caches) (asked_for request core line caches)
 unfolding transacting awaiting
 awaited-for t request core line words caches = by_transient (asked_for request core line caches)

@@ -1,35 +1,46 @@
 -- What an ask answers and leaves.
-use Rattle.std.proofs.Common.{◌≡◌, ℕ, ◌<◌, false, Option, None, is_some, List, length, refl, ◌∙◌, slice_set, if◌then◌else◌}
+use Rattle.std.proofs.lemmas.List.{get_or-set_same, get_or-set_other, length-set}
 use Rattle.std.specs.List.{list_any}
-use Rattle.protocol_tables.specs.inner.Laws.{GivesUp, Shares, CleansByMemory, Supplies, FillsExclusiveOnlyAlone, WritesBackDirty}
+use Rattle.std.proofs.Common.{◌≡◌, ◌≢◌, ◌⊎◌, inl, inr, ℕ, ◌<◌, Bool, true, false, Option, Some, None, is_some, List, [], length, refl, sym, ap, subst, ◌∙◌, slice_set, if◌then◌else◌}
+use Rattle.protocol_tables.specs.Laws.{is_dirty}
+use Rattle.protocol_tables.specs.inner.Laws.{GivesUp, Shares, CleansByMemory, Supplies, FillsExclusiveOnlyAlone}
 use Rattle.protocol_tables.specs.Tables.{Table}
 use Rattle.protocol_tables.specs.declared.state.State.{State}
-use Rattle.protocol_tables.specs.declared.state.State.TheVariants.{M}
+use Rattle.protocol_tables.specs.declared.state.State.TheVariants.{I, M}
+use Rattle.protocol_tables.specs.declared.state.Snoop.{Snoop}
 use Rattle.protocol_tables.specs.declared.requests.Request.TheVariants.{GetS, GetM}
 use Rattle.protocol_tables.specs.declared.requests.Transient.TheVariants.{IsD, ImD}
 use Rattle.tso_model.specs.declared.instruction.Core.{Core}
-use Rattle.cache_set.specs.declared.Victim.{Victim}
+use Rattle.cache_set.specs.declared.Line.{Line}
 use Rattle.cache_set.specs.inner.Copy.{copy_with}
 use Rattle.snoop_bus.specs.Lines.{Words, line_in}
-use Rattle.snoop_bus.specs.CacheContents.{flusher_from}
-use Rattle.snoop_bus.specs.Copies.{Sets, in_set, copy_in, copy_at, cache_of, tags_of}
+use Rattle.snoop_bus.specs.Coherent.{Coherent, state_of}
+use Rattle.snoop_bus.specs.CacheContents.{is_held, flusher_from}
+use Rattle.snoop_bus.specs.Copies.{Sets, copy_in, copy_at, cache_of, tags_of}
 use Rattle.snoop_bus.specs.inner.Copies.{ways_of}
 use Rattle.snoop_bus.specs.Bus.{current_words, AllCoherent}
-use Rattle.snoop_bus.specs.inner.Requests.{LeftByOthers, Supplied}
+use Rattle.snoop_bus.specs.MemoryAfter.{flushed, sent_words}
+use Rattle.snoop_bus.specs.inner.Requests.{left_by, LeftByOthers, Supplied}
 use Rattle.snoop_bus.specs.inner.Accessing.{KeepsWords}
-use Rattle.snoop_bus.specs.Held.{with_copy, counting}
+use Rattle.snoop_bus.specs.Held.{counting}
 use Rattle.snoop_bus.specs.Asks.{asked_memory}
 use Rattle.snoop_bus.specs.inner.Asks.{transacting}
-use Rattle.snoop_bus.proofs.NewLemmas.{same_cores}
-use Rattle.snoop_bus.proofs.HeldLemmas.{copy_in-with, left-counting, ways-counting, same_sets}
-use Rattle.snoop_bus.proofs.WriteMiss.{Basis as WriteBasis, words_are as write_words_are, coherent_after as write_coherent_after, seen_after as write_seen_after}
-use Rattle.snoop_bus.proofs.LoadMiss.{Basis, words_are, state_is, memory_is, coherent_after, seen_after}
+use Rattle.snoop_bus.proofs.CacheTags.{is_held-copies}
+use Rattle.snoop_bus.proofs.Coherence.{shared-coherent, fill-coherent, write-coherent}
+use Rattle.snoop_bus.proofs.Asked.{Asked, own_line, others_line, asked-keeps}
+use Rattle.snoop_bus.proofs.LoadLemmas.{SendsOrNot, sends, found_words, fill_shares}
+use Rattle.snoop_bus.proofs.WriteLemmas.{gives_up}
 
--- no copy leaves at an ask
-abbrev nobody : Option Victim
-nobody = None
+-- nothing is sent by no copy
+quiet_none : (on : State → Snoop) → CleansByMemory on → (o : Option Line) → ((copy : Line) → o ≡ Some copy → (on copy.state).to_memory ≡ false) → (on (state_of o)).to_memory ≡ false
+quiet_none on law (Some copy) h = h copy refl
+quiet_none on law None h = by_flag (on I).to_memory refl
+  where
+    by_flag : (b : Bool) → (on I).to_memory ≡ b → (on I).to_memory ≡ false
+    by_flag true e = let no : is_dirty I ≡ true = law.1 I e in cc
+    by_flag false e = e
 
-module _ (t : Table) (fills : FillsExclusiveOnlyAlone t.filled) (shares : Shares t.on_get_s) (cleans : CleansByMemory t.on_get_s) (supplies : Supplies t.on_get_s) (back : WritesBackDirty t.evicts_dirty)
+module _ (t : Table) (fills : FillsExclusiveOnlyAlone t.filled) (shares : Shares t.on_get_s) (cleans : CleansByMemory t.on_get_s) (supplies : Supplies t.on_get_s)
     (c0 c1 : List Sets) (m0 m1 : List Words) (core line : ℕ) (w : Words) (x : State) (f : Option Core) where
   -- the steps of an ask for a load
   pub record LoadAsk : Type 0 where
@@ -46,83 +57,92 @@ module _ (t : Table) (fills : FillsExclusiveOnlyAlone t.filled) (shares : Shares
     pub memory : m1 ≡ (if is_some f then slice_set m0 line w else m0)
 
   module _ (h : LoadAsk) where
-    abbrev own : Sets
-    own = in_set line (with_copy line (copy_with x w)) (cache_of c0 core)
+    words_are : w ≡ current_words c0 m0 line
+    words_are = found_words t.on_get_s supplies c0 line (line_in m0 line) w (current_words c0 m0 line) h.words (h.coherent.each line h.within)
 
-    -- the copy that the bus keeps counts as one that came in, while none left
-    pub asked_basis : Basis t fills shares cleans supplies back c0 (counting core line (copy_with x w) c1) m0 m1 core line w x nobody own f false
-    asked_basis = record {
+    state_is : x ≡ t.filled (is_held line (tags_of c0))
+    state_is = h.state ∙ ap t.filled (is_held-copies line c0)
+
+    load_asked : Asked t.on_get_s c0 c1 m0 m1 core line (copy_with x w)
+    load_asked = record {
       coherent = h.coherent;
       core_in = h.core_in;
+      some_set = h.some_set;
       within = h.within;
-      absent = h.absent;
-      words = h.words;
-      state = h.state;
-      filled = λ k. copy_in-with (cache_of c0 core) line k (copy_with x w) h.some_set;
-      was_here = tt;
-      left = left-counting t.on_get_s core line (copy_with x w) c0 c1 h.core_in (rw (same_cores c0 c1 h.ways) h.core_in) h.some_set (same_sets c0 c1 core h.ways h.some_set) h.left;
-      flusher = h.flusher;
-      memory = h.memory;
+      left = h.left;
+      ways = h.ways;
+      size = ap length h.memory ∙ size (is_some f);
+      elsewhere = λ k d. ap (λ (m : List Words). line_in m k) h.memory ∙ elsewhere k d (is_some f);
     }
+      where
+        size : (b : Bool) → length (if b then slice_set m0 line w else m0) ≡ length m0
+        size true = length-set m0 line w
+        size false = refl
+
+        elsewhere : (k : ℕ) → k ≢ line → (b : Bool) → line_in (if b then slice_set m0 line w else m0) k ≡ line_in m0 k
+        elsewhere k d true = get_or-set_other m0 line k w [] d
+        elsewhere k d false = refl
+
+    was : Coherent w (line_in m0 line) (λ i. copy_at c0 i line)
+    was = subst (λ (u : Words). Coherent u (line_in m0 line) (λ i. copy_at c0 i line)) (sym words_are) (h.coherent.each line h.within)
+
+    -- the line has the words in memory then, or no copy was sent there
+    flusher : (o : Option Core) → SendsOrNot t.on_get_s line c0 o → f ≡ o →
+        (m1 ≡ flushed line (sent_words t.on_get_s line c0) m0) × ((line_in m1 line ≡ w) ⊎ ((line_in m1 line ≡ line_in m0 line) × ((i : ℕ) → (t.on_get_s (state_of (copy_at c0 i line))).to_memory ≡ false)))
+    flusher o (inl p) e =
+        let quiet : m1 ≡ m0 = rw (e, p.0) at h.memory in
+        (rw p.1 quiet, inr (ap (λ (m : List Words). line_in m line) quiet, λ i. quiet_none t.on_get_s cleans (copy_at c0 i line) (p.2 i)))
+    flusher o (inr p) e =
+        let copied : p.1.words ≡ w = was.same p.0 p.1 p.2 in
+        let sent : m1 ≡ slice_set m0 line w = rw (e, p.4) at h.memory in
+        (rw (p.3, copied) sent, inl (ap (λ (m : List Words). line_in m line) sent ∙ get_or-set_same m0 line w [] h.within))
+
+    flushing : (m1 ≡ flushed line (sent_words t.on_get_s line c0) m0) × ((line_in m1 line ≡ w) ⊎ ((line_in m1 line ≡ line_in m0 line) × ((i : ℕ) → (t.on_get_s (state_of (copy_at c0 i line))).to_memory ≡ false)))
+    flushing = flusher (flusher_from 0 t.on_get_s line (tags_of c0)) (sends t.on_get_s line 0 c0) h.flusher
 
     pub load_ask-transaction : record { transient = IsD; copy = copy_with x w; flushed = f } ≡ transacting t GetS line (current_words c0 m0 line) (tags_of c0) IsD
     unfolding transacting
-    load_ask-transaction =
-        let words : w ≡ current_words c0 m0 line = words_are t fills shares cleans supplies back c0 (counting core line (copy_with x w) c1) m0 m1 core line w x nobody own f false asked_basis in
-        let state = state_is t fills shares cleans supplies back c0 (counting core line (copy_with x w) c1) m0 m1 core line w x nobody own f false asked_basis in
-        rw (h.flusher, state, words) refl
+    load_ask-transaction = rw (h.flusher, words_are, state_is) refl
 
     pub load_ask-memory : m1 ≡ asked_memory t GetS line c0 m0
-    load_ask-memory = memory_is t fills shares cleans supplies back c0 (counting core line (copy_with x w) c1) m0 m1 core line w x nobody own f false asked_basis
+    load_ask-memory = flushing.0
 
     pub load_ask-words : KeepsWords c0 (counting core line (copy_with x w) c1) m0 m1
-    load_ask-words = record {
-      coherent = coherent_after t fills shares cleans supplies back c0 (counting core line (copy_with x w) c1) m0 m1 core line w x nobody own f false asked_basis;
-      words = seen_after t fills shares cleans supplies back c0 (counting core line (copy_with x w) c1) m0 m1 core line w x nobody own f false asked_basis;
-      ways = ways-counting c1 core line (copy_with x w) ∙ h.ways;
-    }
+    load_ask-words =
+        let may = fill_shares t.filled fills t.on_get_s shares c0 line x state_is in
+        let shared : Coherent w (line_in m1 line) (λ i. left_by t.on_get_s (copy_at c0 i line)) =
+        shared-coherent t.on_get_s shares cleans w (line_in m0 line) (line_in m1 line) (λ i. copy_at c0 i line) was flushing.1 in
+        let new = counting core line (copy_with x w) c1 in
+        asked-keeps t.on_get_s c0 c1 m0 m1 core line (copy_with x w) load_asked
+        (subst (λ (u : Words). Coherent u (line_in m1 line) (λ i. copy_at new i line)) words_are
+        (fill-coherent w (line_in m1 line) core x (λ i. left_by t.on_get_s (copy_at c0 i line)) (λ i. copy_at new i line) shared (rw h.absent refl) may.0 (λ i d. may.1 i)
+        (record { here = own_line t.on_get_s c0 c1 m0 m1 core line (copy_with x w) load_asked; others = others_line t.on_get_s c0 c1 m0 m1 core line (copy_with x w) load_asked })))
 
 -- An ask for a write access.
 
-module _ (t : Table) (gives : GivesUp t.on_get_m) (supplies : Supplies t.on_get_m) (back : WritesBackDirty t.evicts_dirty)
-    (c0 c1 : List Sets) (m : List Words) (core line : ℕ) (w : Words) where
-  -- the steps of an ask for a write access to a line that isn't there
+module _ (t : Table) (gives : GivesUp t.on_get_m) (c0 c1 : List Sets) (m : List Words) (core line : ℕ) (w : Words) where
+  -- its steps: of an upgrade too, where the words are those of the core's own copy
   pub record WriteAsk : Type 0 where
     pub coherent : AllCoherent c0 m
     pub core_in : core < length c0
     pub some_set : 0 < length (cache_of c0 core)
     pub within : line < length m
-    pub absent : copy_at c0 core line ≡ None
-    pub words : Supplied t.on_get_m c0 line (line_in m line) w
+    pub words : w ≡ current_words c0 m line
     pub left : LeftByOthers t.on_get_m core line c0 c1
     pub ways : ways_of c1 ≡ ways_of c0
 
   module _ (h : WriteAsk) where
-    abbrev written_own : Sets
-    written_own = in_set line (with_copy line (copy_with M w)) (cache_of c0 core)
+    write_asked : Asked t.on_get_m c0 c1 m m core line (copy_with M w)
+    write_asked = record { coherent = h.coherent; core_in = h.core_in; some_set = h.some_set; within = h.within; left = h.left; ways = h.ways; size = refl; elsewhere = λ k d. refl }
 
-    pub write_basis : WriteBasis t gives supplies back c0 (counting core line (copy_with M w) c1) m m core line w nobody written_own false
-    write_basis = record {
-      coherent = h.coherent;
-      core_in = h.core_in;
-      within = h.within;
-      absent = h.absent;
-      words = h.words;
-      filled = λ k. copy_in-with (cache_of c0 core) line k (copy_with M w) h.some_set;
-      was_here = tt;
-      left = left-counting t.on_get_m core line (copy_with M w) c0 c1 h.core_in (rw (same_cores c0 c1 h.ways) h.core_in) h.some_set (same_sets c0 c1 core h.ways h.some_set) h.left;
-      memory = refl;
-    }
+    pub write_ask-words : KeepsWords c0 (counting core line (copy_with M w) c1) m m
+    write_ask-words =
+        let new = counting core line (copy_with M w) c1 in
+        asked-keeps t.on_get_m c0 c1 m m core line (copy_with M w) write_asked
+        (subst (λ (u : Words). Coherent u (line_in m line) (λ i. copy_at new i line)) h.words
+        (write-coherent w (line_in m line) core (λ i. copy_at new i line) (own_line t.on_get_m c0 c1 m m core line (copy_with M w) write_asked)
+        (λ i d. others_line t.on_get_m c0 c1 m m core line (copy_with M w) write_asked i d ∙ gives_up t.on_get_m gives (copy_at c0 i line))))
 
     pub write_ask-transaction : record { transient = ImD; copy = copy_with M w; flushed = None } ≡ transacting t GetM line (current_words c0 m line) (tags_of c0) ImD
     unfolding transacting
-    write_ask-transaction =
-        let words : w ≡ current_words c0 m line = write_words_are t gives supplies back c0 (counting core line (copy_with M w) c1) m m core line w nobody written_own false write_basis in
-        rw words refl
-
-    pub write_ask-words : KeepsWords c0 (counting core line (copy_with M w) c1) m m
-    write_ask-words = record {
-      coherent = write_coherent_after t gives supplies back c0 (counting core line (copy_with M w) c1) m m core line w nobody written_own false write_basis;
-      words = write_seen_after t gives supplies back c0 (counting core line (copy_with M w) c1) m m core line w nobody written_own false write_basis;
-      ways = ways-counting c1 core line (copy_with M w) ∙ h.ways;
-    }
+    write_ask-transaction = rw h.words refl

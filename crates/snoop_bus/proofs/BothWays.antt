@@ -1,6 +1,5 @@
 -- Memory, the lines and states, and the words after a whole access, and after its two halves.
-use Rattle.std.proofs.lemmas.Bool.Decides.{eqb_tells}
-use Rattle.std.proofs.Common.{◌≡◌, ◌≢◌, ◌⊎◌, inl, inr, ℕ, ◌/◌, ◌-◌, ◌<◌, ◌≤◌, zero, suc, nat_eq, Bool, true, false, if◌then◌else◌, cond, List, [], ◌∷◌, length, slice_get, slice_set, Option, Some, None, option_map, refl, sym, ap, ◌∙◌, subst}
+use Rattle.std.proofs.Common.{◌≡◌, ◌≢◌, inl, inr, ℕ, ◌-◌, zero, suc, nat_eq, Bool, true, false, if◌then◌else◌, cond, List, [], ◌∷◌, length, slice_get, slice_set, Option, Some, None, option_map, refl, sym, ap, ◌∙◌, subst}
 use Rattle.std.specs.Map.{lookup}
 use Rattle.protocol_tables.specs.Laws.{WritesInPlace}
 use Rattle.protocol_tables.specs.Tables.{Table}
@@ -14,14 +13,14 @@ use Rattle.tso_model.specs.declared.instruction.Core.{Core}
 use Rattle.tso_model.specs.declared.instruction.Loc.{Loc}
 use Rattle.snoop_bus.specs.declared.access.Access.{Access}
 use Rattle.snoop_bus.specs.Lines.{Words}
-use Rattle.snoop_bus.specs.Rows.{Rows, table_of_rows}
-use Rattle.snoop_bus.specs.CacheContents.{TagSets, Accessed}
+use Rattle.snoop_bus.specs.Rows.{table_of_rows}
+use Rattle.snoop_bus.specs.CacheContents.{Accessed}
 use Rattle.snoop_bus.specs.Copies.{Sets, set_at, cache_of, copy_at, tags_of}
 use Rattle.snoop_bus.specs.Held.{counted}
 use Rattle.snoop_bus.specs.Bus.{BusModel, IsFree, IsCoherent, AllCoherent, words_of}
 use Rattle.snoop_bus.specs.MemoryAfter.{written_back, flushed, sent_words, victim_at, loaded_memory, loaded_memory_in, written_memory, written_memory_in}
-use Rattle.snoop_bus.specs.Asks.{tag_at, hits, Awaited, awaiting, asking, asked_for, asked_memory, completed, completed_memory}
-use Rattle.snoop_bus.specs.Accesses.{contents_of, memory_of, line_of, load_of, write_of, would_hit, awaited_of, ask_of, completion_of, memory_after_completion, LoadsAt, WritesAt}
+use Rattle.snoop_bus.specs.Asks.{tag_at, awaiting, asking, asked_memory, completed, completed_memory}
+use Rattle.snoop_bus.specs.Accesses.{contents_of, line_of, load_of, write_of, would_hit, ask_of, completion_of, LoadsAt, WritesAt}
 use Rattle.snoop_bus.specs.WholeAccesses.{InHalves, LoadsInHalves, WritesInHalves, LeaveTheSame, LoadsAgree}
 use Rattle.snoop_bus.proofs.Numbers.{itself, inside}
 use Rattle.snoop_bus.proofs.AccessLemmas.{tag_here}
@@ -143,7 +142,7 @@ load-agrees old whole between new core loc word other a b misses one two =
     }
 
 -- where copies are coherent none is in I
-valid-tag : (caches : List Sets) (memory : List Words) (core line : ℕ) → AllCoherent caches memory → tag_at core line (tags_of caches) ≢ Some I
+pub valid-tag : (caches : List Sets) (memory : List Words) (core line : ℕ) → AllCoherent caches memory → tag_at core line (tags_of caches) ≢ Some I
 valid-tag caches memory core line coherent e = by_copy (copy_at caches core line) refl (sym (tag_here caches core line) ∙ e)
   where
     by_copy : (o : Option Line) → copy_at caches core line ≡ o → option_map (λ (copy : Line). copy.state) o ≡ Some I → ⊥

@@ -1,28 +1,25 @@
 -- What the calls of a bus do, in the bus's own words, from what they do to its caches and memory.
-use Rattle.std.proofs.Common.{◌≡◌, ◌⊎◌, inl, inr, ℕ, ◌<◌, ◌≤◌, ◌*◌, ◌/◌, ◌%◌, Bool, IsTrue, Option, Some, None, IsSome, Result, Ok, Err, IsOk, IfOk, OnErr, List, length, refl, sym, ap, ◌∙◌}
+use Rattle.std.proofs.Common.{◌≡◌, ◌⊎◌, inl, inr, ℕ, ◌<◌, ◌≤◌, ◌*◌, ◌/◌, ◌%◌, Bool, IsTrue, Option, Some, None, List, length, refl, sym, ap, ◌∙◌}
 use Rattle.protocol_tables.specs.Tables.{Table}
-use Rattle.cache_set.specs.declared.Line.{Line}
 use Rattle.snoop_bus.specs.declared.access.Access.{Access}
 use Rattle.snoop_bus.specs.declared.access.Updated.{Updated}
 use Rattle.snoop_bus.specs.declared.hierarchy.Hierarchy.{Hierarchy}
-use Rattle.snoop_bus.specs.declared.access.AccessKind.TheVariants.{Miss}
 use Rattle.snoop_bus.specs.Geometry.{Geometry}
 use Rattle.snoop_bus.specs.Lines.{Words, line_in, words_in}
 use Rattle.snoop_bus.specs.Rows.{rows_of, table_of_rows}
-use Rattle.snoop_bus.specs.CacheContents.{Accessed, loaded, written}
-use Rattle.snoop_bus.specs.Copies.{Sets, copy_at, tags_of}
+use Rattle.snoop_bus.specs.CacheContents.{loaded, written}
+use Rattle.snoop_bus.specs.Copies.{Sets, tags_of}
 use Rattle.snoop_bus.specs.declared.holding.HeldBus.{HeldBus}
 use Rattle.snoop_bus.specs.Held.{counted}
 use Rattle.snoop_bus.specs.Bus.{BusModel, bus_with, current_words, program_words}
 use Rattle.snoop_bus.specs.inner.Bus.{IsBus}
-use Rattle.snoop_bus.specs.Accesses.{load_of, write_of, IsCurrentWord, LoadsAt, WritesAt, KeepsHolder}
-use Rattle.snoop_bus.specs.inner.Accesses.{MayGoOn, IsOutOfMemory}
+use Rattle.snoop_bus.specs.Accesses.{IsCurrentWord, LoadsAt, WritesAt, KeepsHolder}
+use Rattle.snoop_bus.specs.inner.Accesses.{MayGoOn}
 use Rattle.snoop_bus.specs.MemoryAfter.{loaded_memory, written_memory}
-use Rattle.snoop_bus.specs.inner.Accessing.{IsReady, KeepsWords, Loads, Updates, IsUnchanged}
+use Rattle.snoop_bus.specs.inner.Accessing.{IsReady, KeepsWords, Loads, Updates}
 use Rattle.snoop_bus.proofs.RowLemmas.{table_of-rows}
 use Rattle.snoop_bus.specs.Asks.{hits}
 use Rattle.snoop_bus.proofs.HolderLemmas.{free-held}
-use Rattle.snoop_bus.proofs.AccessLemmas.{loaded-miss, written-miss}
 use Rattle.snoop_bus.proofs.WordLemmas.{length-words, line_below, words-get, words-same, words-set}
 
 -- a location that has a word has a line
@@ -63,10 +60,10 @@ module _ (t : Table) (shape : Geometry) (locations : ℕ) (old new : Hierarchy) 
   back : t ≡ table_of_rows (rows_of t)
   back = sym (table_of-rows t)
 
-  pub load_done : {E : Type 0} (r : Result (ℕ × Access) E) → 0 < shape.words → locations ≤ length old.memory.items * shape.words → loc < locations →
-      IfOk r (λ r. Loads t held core (loc / shape.words) (loc % shape.words) old.caches.items new.caches.items old.memory.items new.memory.items r.0 r.1) → KeepsWords (counted held old.caches.items) (counted held new.caches.items) old.memory.items new.memory.items → IfOk r (λ r. LoadsAt before after core loc r.0 r.1)
-  load_done (Err e) some enough within h keeps = tt
-  load_done (Ok x) some enough within h keeps = record {
+  pub load_done : (word : ℕ) (access : Access) → 0 < shape.words → locations ≤ length old.memory.items * shape.words → loc < locations →
+      Loads t held core (loc / shape.words) (loc % shape.words) old.caches.items new.caches.items old.memory.items new.memory.items word access →
+      KeepsWords (counted held old.caches.items) (counted held new.caches.items) old.memory.items new.memory.items → LoadsAt before after core loc word access
+  load_done word access some enough within h keeps = record {
     word_is = words-get shape.words (current_words (counted held old.caches.items) old.memory.items) locations loc within ∙ ap (λ (w : ℕ). Some w) (sym h.word_is);
     words = words-same shape.words locations (length old.memory.items) (current_words (counted held old.caches.items) old.memory.items) (current_words (counted held new.caches.items) new.memory.items) some enough keeps.words;
     access_is = h.access_is ∙ ap (λ (u : Table). (loaded u core (loc / shape.words) (tags_of old.caches.items)).access) back;
@@ -75,44 +72,20 @@ module _ (t : Table) (shape : Geometry) (locations : ℕ) (old new : Hierarchy) 
     held = same_holder;
   }
 
-  -- the word that was there
-  pub write_word : {E : Type 0} (r : Result Updated E) → loc < locations → IfOk r (Updates t held core (loc / shape.words) (loc % shape.words) old.caches.items new.caches.items old.memory.items new.memory.items) →
-      IfOk r (λ r. IsCurrentWord before loc r.before)
-  write_word (Err e) within h = tt
-  write_word (Ok x) within h = words-get shape.words (current_words (counted held old.caches.items) old.memory.items) locations loc within ∙ ap (λ (w : ℕ). Some w) (sym h.word_is)
+  module _ (x : Updated) (within : loc < locations) (h : Updates t held core (loc / shape.words) (loc % shape.words) old.caches.items new.caches.items old.memory.items new.memory.items x) where
+    -- the word that was there
+    pub write_word : IsCurrentWord before loc x.before
+    write_word = words-get shape.words (current_words (counted held old.caches.items) old.memory.items) locations loc within ∙ ap (λ (w : ℕ). Some w) (sym h.word_is)
 
-  -- the word that is written may rest on the one that was there
-  pub write_done : {E : Type 0} (r : Result Updated E) → 0 < shape.words → locations ≤ length old.memory.items * shape.words → loc < locations →
-      IfOk r (Updates t held core (loc / shape.words) (loc % shape.words) old.caches.items new.caches.items old.memory.items new.memory.items) → IfOk r (λ r. WritesAt before after core loc r.after r.access)
-  write_done (Err e) some enough within h = tt
-  write_done (Ok x) some enough within h = record {
-    words = words-set shape.words locations (length old.memory.items) (current_words (counted held old.caches.items) old.memory.items) (current_words (counted held new.caches.items) new.memory.items) loc x.after some enough within h.offset_in h.lines;
-    access_is = h.access_is ∙ ap (λ (u : Table). (written u core (loc / shape.words) (tags_of old.caches.items)).access) back;
-    contents = h.tags ∙ ap (λ (u : Table). (written u core (loc / shape.words) (tags_of old.caches.items)).caches) back;
-    memory = h.memory ∙ ap (λ (u : Table). written_memory u core (loc / shape.words) old.caches.items old.memory.items) back;
-    held = same_holder;
-  }
-
-  same_bus : new.caches.items ≡ old.caches.items → new.memory.items ≡ old.memory.items → after ≡ before
-  same_bus p q = rw (p, q) refl
-
-  pub load_refused : {V E : Type 0} (r : Result V E) → (IsSome (copy_at old.caches.items core (loc / shape.words)) → IsOk r) → OnErr r (IsUnchanged old new) →
-      OnErr r (IsOutOfMemory before after (load_of before core loc).access)
-  load_refused (Ok x) succeeds unchanged = tt
-  load_refused (Err e) succeeds unchanged = record { miss = by_copy (copy_at old.caches.items core (loc / shape.words)) refl; same = same_bus unchanged.caches unchanged.memory }
-    where
-      by_copy : (o : Option Line) → copy_at old.caches.items core (loc / shape.words) ≡ o → (load_of before core loc).access.kind ≡ Miss
-      by_copy None absent = ap (λ (a : Accessed). a.access.kind) (loaded-miss (table_of_rows (rows_of t)) old.caches.items core (loc / shape.words) absent)
-      by_copy (Some copy) found = let here : IsSome (copy_at old.caches.items core (loc / shape.words)) = rw found refl in let no = succeeds here in cc
-
-  pub write_refused : {V E : Type 0} (r : Result V E) → (IsSome (copy_at old.caches.items core (loc / shape.words)) → IsOk r) → OnErr r (IsUnchanged old new) →
-      OnErr r (IsOutOfMemory before after (write_of before core loc).access)
-  write_refused (Ok x) succeeds unchanged = tt
-  write_refused (Err e) succeeds unchanged = record { miss = by_copy (copy_at old.caches.items core (loc / shape.words)) refl; same = same_bus unchanged.caches unchanged.memory }
-    where
-      by_copy : (o : Option Line) → copy_at old.caches.items core (loc / shape.words) ≡ o → (write_of before core loc).access.kind ≡ Miss
-      by_copy None absent = ap (λ (a : Accessed). a.access.kind) (written-miss (table_of_rows (rows_of t)) old.caches.items core (loc / shape.words) absent)
-      by_copy (Some copy) found = let here : IsSome (copy_at old.caches.items core (loc / shape.words)) = rw found refl in let no = succeeds here in cc
+    -- the word that is written may rest on the one that was there
+    pub write_done : 0 < shape.words → locations ≤ length old.memory.items * shape.words → WritesAt before after core loc x.after x.access
+    write_done some enough = record {
+      words = words-set shape.words locations (length old.memory.items) (current_words (counted held old.caches.items) old.memory.items) (current_words (counted held new.caches.items) new.memory.items) loc x.after some enough within h.offset_in h.lines;
+      access_is = h.access_is ∙ ap (λ (u : Table). (written u core (loc / shape.words) (tags_of old.caches.items)).access) back;
+      contents = h.tags ∙ ap (λ (u : Table). (written u core (loc / shape.words) (tags_of old.caches.items)).caches) back;
+      memory = h.memory ∙ ap (λ (u : Table). written_memory u core (loc / shape.words) old.caches.items old.memory.items) back;
+      held = same_holder;
+    }
 
 -- once memory has each line that is seen, its own words are the words that are seen
 pub settled_words : (words locations : ℕ) (c0 : List Sets) (m0 m2 : List Words) → 0 < words → locations ≤ length m0 * words →

@@ -18,7 +18,7 @@ use Rattle.snoop_bus.proofs.Numbers.{differ, itself, inside}
 use Rattle.snoop_bus.proofs.Coherence.{drop-coherent}
 use Rattle.snoop_bus.proofs.CurrentWords.{copy_at-set, seen_is, coherent_along, all_coherent}
 use Rattle.snoop_bus.proofs.UseLemmas.{ways-set_cache}
-use Rattle.snoop_bus.proofs.MissLemmas.{left_after, length-written_back, written_back-other, written_back-here}
+use Rattle.snoop_bus.proofs.MemoryLemmas.{left_after, length-written_back, written_back-other, written_back-here}
 use Rattle.snoop_bus.proofs.HeldLemmas.{counting-at, ways-counting}
 
 module _ (t : Table) (law : WritesBackDirty t.evicts_dirty) (d0 c2 : List Sets) (m0 m2 : List Words) (core : ℕ) (v : Option Victim) where

@@ -27,7 +27,7 @@ use Rattle.snoop_bus.specs.Asks.{awaited_in, completed_memory, completed_memory_
 use Rattle.snoop_bus.specs.Accesses.{IsCurrentWord, CompletesAt}
 use Rattle.snoop_bus.specs.inner.Completing.{words_due, Completes}
 use Rattle.snoop_bus.specs.inner.Accessing.{KeepsWords, SetsWord}
-use Rattle.snoop_bus.proofs.MissLemmas.{length-written_back}
+use Rattle.snoop_bus.proofs.MemoryLemmas.{length-written_back}
 use Rattle.snoop_bus.proofs.WordLemmas.{words-get, words-same, words-set}
 use Rattle.snoop_bus.proofs.NewLemmas.{same_cores, bus-kept, bus-set}
 use Rattle.snoop_bus.proofs.HolderLemmas.{Holds, holds, same_held}

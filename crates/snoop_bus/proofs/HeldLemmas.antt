@@ -3,15 +3,12 @@ use Rattle.std.proofs.lemmas.Bool.{cases_eq}
 use Rattle.std.proofs.lemmas.List.{get_or-set_same, get_or-set_other, length-set, length-map}
 use Rattle.std.proofs.Math.ListN.{get_or-map}
 use Rattle.std.proofs.Math.Seq.{map-set_same}
-use Rattle.std.proofs.Common.{arith, ◌≡◌, ◌≢◌, ◌⊎◌, inl, inr, ℕ, ◌<◌, ◌%◌, Bool, true, false, ◌&&◌, not, nat_eq, Some, List, [], length, map, refl, sym, ap, ◌∙◌, slice_index_or, if◌then◌else◌}
-use Rattle.protocol_tables.specs.declared.state.State.{State}
-use Rattle.protocol_tables.specs.declared.state.Snoop.{Snoop}
+use Rattle.std.proofs.Common.{arith, ◌≡◌, ◌≢◌, ◌⊎◌, inl, inr, ℕ, ◌<◌, ◌%◌, false, ◌&&◌, nat_eq, Some, List, [], length, map, refl, sym, ap, ◌∙◌, slice_index_or, if◌then◌else◌}
 use Rattle.cache_set.specs.declared.Line.{Line}
 use Rattle.cache_set.specs.Contents.{Contents, contents, copy_of}
 use Rattle.snoop_bus.specs.Copies.{Sets, set_at, in_set, copy_in, copy_at, cache_of}
 use Rattle.snoop_bus.specs.inner.Copies.{ways_of}
 use Rattle.snoop_bus.specs.Held.{with_copy, counting}
-use Rattle.snoop_bus.specs.inner.Requests.{left_by, LeftByOthers, ChangesCopy}
 use Rattle.snoop_bus.proofs.Numbers.{differ, itself}
 use Rattle.snoop_bus.proofs.CurrentWords.{copy_at-set}
 use Rattle.snoop_bus.proofs.UseLemmas.{ways-set_cache}
@@ -45,24 +42,6 @@ counting-at caches core line copy i k within some =
 pub ways-counting : (caches : List Sets) (core line : ℕ) (copy : Line) → ways_of (counting core line copy caches) ≡ ways_of caches
 ways-counting caches core line copy = ways-set_cache caches core (in_set line (with_copy line copy) (cache_of caches core))
     (map-set_same (λ (s : Contents). s.ways) (cache_of caches core) (line % length (cache_of caches core)) (with_copy line copy (set_at (cache_of caches core) line)) (contents [] 1) refl)
-
--- the others see a request for the line, whether or not the core's own copy counts yet
-pub left-counting : (on : State → Snoop) (core line : ℕ) (copy : Line) (c0 c1 : List Sets) → core < length c0 → core < length c1 → 0 < length (cache_of c0 core) → 0 < length (cache_of c1 core) →
-    LeftByOthers on core line c0 c1 → LeftByOthers on core line (counting core line copy c0) (counting core line copy c1)
-left-counting on core line copy c0 c1 in0 in1 some0 some1 left i k =
-    rw (counting-at c0 core line copy i k in0 some0, counting-at c1 core line copy i k in1 some1, left i k) (by_tests (nat_eq i core) (nat_eq k line))
-  where
-    by_tests : (a b : Bool) →
-        (if a && b then Some copy else (if not a && b then left_by on (copy_at c0 i k) else copy_at c0 i k))
-        ≡ (if not a && b then left_by on (if a && b then Some copy else copy_at c0 i k) else (if a && b then Some copy else copy_at c0 i k))
-    by_tests true true = refl
-    by_tests true false = refl
-    by_tests false true = refl
-    by_tests false false = refl
-
-pub counting-changes : (core line : ℕ) (copy : Line) (caches : List Sets) → core < length caches → 0 < length (cache_of caches core) →
-    ChangesCopy core line (Some copy) caches (counting core line copy caches)
-counting-changes core line copy caches within some i k = counting-at caches core line copy i k within some
 
 -- as many sets, where each has the room that it had
 pub same_sets : (c0 c1 : List Sets) (core : ℕ) → ways_of c1 ≡ ways_of c0 → 0 < length (cache_of c0 core) → 0 < length (cache_of c1 core)

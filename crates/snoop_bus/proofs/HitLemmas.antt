@@ -1,25 +1,23 @@
--- What a hit and an upgrade answer and leave.
+-- What a hit answers and leaves.
 use Rattle.std.proofs.lemmas.Bool.{cases_eq}
 use Rattle.std.proofs.Common.{◌≡◌, ◌≢◌, ◌⊎◌, inl, inr, ℕ, ◌<◌, true, false, nat_eq, Option, Some, None, IfSome, option_map, List, length, map, refl, sym, ap, ◌∙◌, slice_set, slice_index, if◌then◌else◌}
 use Rattle.protocol_tables.specs.Laws.{WritesInPlace, in_place}
-use Rattle.protocol_tables.specs.inner.Laws.{GivesUp}
 use Rattle.protocol_tables.specs.Tables.{Table}
 use Rattle.protocol_tables.specs.declared.state.State.{State}
 use Rattle.protocol_tables.specs.declared.state.State.TheVariants.{M}
-use Rattle.protocol_tables.specs.declared.state.Snoop.{Snoop}
 use Rattle.cache_set.specs.declared.Line.{Line}
 use Rattle.cache_set.specs.inner.Contents.{to_front}
-use Rattle.cache_set.specs.inner.Copy.{copy_with, with_state}
+use Rattle.cache_set.specs.inner.Copy.{with_state}
 use Rattle.snoop_bus.specs.declared.access.AccessKind.{AccessKind}
-use Rattle.snoop_bus.specs.declared.access.AccessKind.TheVariants.{Hit, Upgrade}
+use Rattle.snoop_bus.specs.declared.access.AccessKind.TheVariants.{Hit}
 use Rattle.snoop_bus.specs.declared.access.Access.{Access}
-use Rattle.snoop_bus.specs.CacheContents.{Accessed, used_by, requested, written_in, written}
+use Rattle.snoop_bus.specs.CacheContents.{Accessed, used_by, written_in, written}
 use Rattle.snoop_bus.specs.Lines.{Words}
 use Rattle.snoop_bus.specs.Coherent.{state_of}
 use Rattle.snoop_bus.specs.Copies.{Sets, in_set, copy_in, copy_at, cache_of, tags_of}
 use Rattle.snoop_bus.specs.inner.Copies.{ways_of}
 use Rattle.snoop_bus.specs.Bus.{current_words, AllCoherent}
-use Rattle.snoop_bus.specs.inner.Requests.{ChangesCopy, LeftByOthers}
+use Rattle.snoop_bus.specs.inner.Requests.{ChangesCopy}
 use Rattle.snoop_bus.specs.inner.Accessing.{KeepsWords, Loads, Acquires}
 use Rattle.snoop_bus.specs.declared.holding.HeldBus.{HeldBus}
 use Rattle.snoop_bus.specs.Held.{counted}
@@ -30,7 +28,7 @@ use Rattle.snoop_bus.proofs.CurrentWords.{same_copies, same-coherent, same-seen}
 use Rattle.snoop_bus.proofs.UseLemmas.{tags-touched, ways-set_cache}
 use Rattle.snoop_bus.proofs.AccessLemmas.{loaded-hit, written-here}
 use Rattle.snoop_bus.proofs.OwnLemmas.{Owned, owned-coherent, owned-seen}
-use Rattle.snoop_bus.proofs.WriteLemmas.{here_now, written_m, hit_owned, upgrade_owned}
+use Rattle.snoop_bus.proofs.WriteLemmas.{here_now, written_m, hit_owned}
 
 abbrev quiet_access : AccessKind → Access
 quiet_access kind = record { kind = kind; wrote_back = false; flushed = None }
@@ -115,30 +113,3 @@ write_hit t law held c0 c2 m core line copy next h awaited line_in found writes 
 
     kind : written t core line (tags_of c0) ≡ written_in t core line (tags_of c0) (Some next)
     kind = written-here t c0 core line copy found ∙ ap (written_in t core line (tags_of c0)) writes
-
-pub write_upgrade : (t : Table) → GivesUp t.on_get_m → (c0 c1 c2 : List Sets) (m : List Words) (core line : ℕ) (copy : Line) → AllCoherent c0 m → line < length m →
-    copy_at c0 core line ≡ Some copy → t.written copy.state ≡ None → LeftByOthers t.on_get_m core line c0 c1 →
-    ChangesCopy core line (option_map (with_state M) (copy_at c1 core line)) c1 c2 →
-    tags_of c1 ≡ requested t.on_get_m core line (tags_of c0) → tags_of c2 ≡ used_by core line M (tags_of c1) → ways_of c1 ≡ ways_of c0 → ways_of c2 ≡ ways_of c1 →
-    Acquires t None core line c0 c2 m m copy.words (quiet_access Upgrade) × KeepsWords c0 c2 m m
-write_upgrade t law c0 c1 c2 m core line copy h line_in found writes left to tags1 tags2 ways1 ways2 =
-    let words : copy.words ≡ current_words c0 m line = (h.each line line_in).same core copy found in
-    let own : Owned c0 c2 m core line (current_words c0 m line) = upgrade_owned t.on_get_m law c0 c1 c2 m core line copy h line_in found left to in
-    let kind : written t core line (tags_of c0) ≡ written_in t core line (tags_of c0) None = written-here t c0 core line copy found ∙ ap (written_in t core line (tags_of c0)) writes in (
-      record {
-        words_are = words;
-        own = own.here ∙ ap (λ (w : Words). Some (copy_with M w)) (sym words);
-        access_is = sym (ap (λ (a : Accessed). a.access) kind);
-        tags = tags2 ∙ ap (used_by core line M) tags1 ∙ sym (ap (λ (a : Accessed). a.caches) kind);
-        memory = rw found refl;
-      },
-      record {
-        coherent = owned-coherent c0 c2 m core line (current_words c0 m line) own;
-        words = same_words c0 c2 m core line own;
-        ways = ways2 ∙ ways1;
-      },
-    )
-
--- a copy stays here where the others see a request
-pub still_here : (on : State → Snoop) (core line : ℕ) (c0 c1 : List Sets) → LeftByOthers on core line c0 c1 → copy_at c1 core line ≡ copy_at c0 core line
-still_here on core line c0 c1 left = rw (itself core) at (left core line)

@@ -9,16 +9,14 @@ pub mod UseLemmas
 pub mod SnoopLemmas
 pub mod FindLemmas
 pub mod AccessLemmas
-pub mod MissLemmas
+pub mod MemoryLemmas
 pub mod FillCalls
 pub mod LoadLemmas
-pub mod LoadMiss
 pub mod OwnLemmas
 pub mod WordLemmas
 pub mod LineLemmas
 pub mod NewLemmas
 pub mod WriteLemmas
-pub mod WriteMiss
 pub mod AcquireCalls
 pub mod HitLemmas
 pub mod WordWritten
@@ -27,6 +25,7 @@ pub mod SettleTags
 pub mod SettleSteps
 pub mod SettleAll
 pub mod HeldLemmas
+pub mod Asked
 pub mod AskLemmas
 pub mod UpgradeAsk
 pub mod CompleteLemmas
@@ -39,4 +38,5 @@ pub mod Emptied
 pub mod CallLemmas
 pub mod AskCalls
 pub mod BothWays
+pub mod TwoHalves
 pub mod LookingLemmas

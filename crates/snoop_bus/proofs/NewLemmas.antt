@@ -1,5 +1,5 @@
 -- A new bus, and what holds of a bus from one access to the next.
-use Rattle.std.proofs.Common.{arith, ◌≡◌, ◌⊎◌, inl, inr, ℕ, zero, suc, ◌+◌, ◌*◌, ◌/◌, ◌<◌, ◌≤◌, ◌%◌, nat_lt, true, Option, None, IfSome, Result, Ok, Err, IfOk, OnErr, List, [], ◌∷◌, length, map, replicate, slice_index, slice_index_or, refl, sym, ap, ◌∙◌}
+use Rattle.std.proofs.Common.{arith, ◌≡◌, ◌⊎◌, inl, inr, ℕ, zero, suc, ◌+◌, ◌*◌, ◌/◌, ◌<◌, ◌≤◌, ◌%◌, nat_lt, true, Option, None, IfSome, List, [], ◌∷◌, length, map, replicate, slice_index, slice_index_or, refl, sym, ap, ◌∙◌}
 use Rattle.std.specs.Int.{div_ceil}
 use Rattle.std.proofs.lemmas.List.{length-map}
 use Rattle.std.proofs.lemmas.List.FromFn.{length-map-range_with_len, get_or-map-range_with_len, fill_by_all}
@@ -24,7 +24,7 @@ use Rattle.snoop_bus.specs.declared.hierarchy.Hierarchy.{Hierarchy}
 use Rattle.snoop_bus.specs.declared.holding.HeldBus.{HeldBus}
 use Rattle.snoop_bus.specs.Held.{counted}
 use Rattle.snoop_bus.specs.inner.Held.{IsHeld, IsPlaced}
-use Rattle.snoop_bus.specs.inner.Accessing.{KeepsWords, SetsWord, Updates, IsUnchanged}
+use Rattle.snoop_bus.specs.inner.Accessing.{KeepsWords, SetsWord, Updates}
 use Rattle.snoop_bus.proofs.LineLemmas.{lines-same, lines-set}
 use Rattle.snoop_bus.proofs.WordLemmas.{words-same, line_below}
 
@@ -169,13 +169,12 @@ pub bus-set : (shape : Geometry) (locations : ℕ) (old new : Hierarchy) (h0 : O
 bus-set shape locations old new h0 loc value h size within sets ways = bus-after shape locations old new h0 None h size sets.coherent ways
     (λ k b. lines-set shape.words locations (length old.memory.items) (current_words (counted h0 old.caches.items) old.memory.items) (current_words new.caches.items new.memory.items) loc value h.some_word h.enough_lines within sets.offset_in sets.lines h.lines k (rw size at b)) tt tt
 
--- a bus once a write access was made, or was refused
-pub bus-written : {E : Type 0} (t : Table) (held : Option HeldBus) (r : Result Updated E) (shape : Geometry) (locations : ℕ) (old new : Hierarchy) (core loc : ℕ) →
+-- a bus once a write access was made
+pub bus-written : (t : Table) (held : Option HeldBus) (x : Updated) (shape : Geometry) (locations : ℕ) (old new : Hierarchy) (core loc : ℕ) →
     IsBus shape locations old.caches.items old.memory.items held → length new.memory.items ≡ length old.memory.items → loc < locations → AllCoherent (counted held new.caches.items) new.memory.items → IfSome held (IsHeld new.caches.items new.memory.items) → ways_of new.caches.items ≡ ways_of old.caches.items →
-    IfOk r (Updates t held core (loc / shape.words) (loc % shape.words) old.caches.items new.caches.items old.memory.items new.memory.items) → OnErr r (IsUnchanged old new) → IsBus shape locations new.caches.items new.memory.items held
-bus-written t held (Ok x) shape locations old new core loc h size within coherent awaited ways writes unchanged = bus-after shape locations old new held held h size coherent ways
+    Updates t held core (loc / shape.words) (loc % shape.words) old.caches.items new.caches.items old.memory.items new.memory.items x → IsBus shape locations new.caches.items new.memory.items held
+bus-written t held x shape locations old new core loc h size within coherent awaited ways writes = bus-after shape locations old new held held h size coherent ways
     (λ k b. lines-set shape.words locations (length old.memory.items) (current_words (counted held old.caches.items) old.memory.items) (current_words (counted held new.caches.items) new.memory.items) loc x.after h.some_word h.enough_lines within writes.offset_in writes.lines h.lines k (rw size at b)) awaited h.placed
-bus-written t held (Err e) shape locations old new core loc h size within coherent awaited ways writes unchanged = rw (unchanged.caches, unchanged.memory) h
 
 -- each core has as many sets as the shape says
 pub cache-sets : (shape : Geometry) (locations : ℕ) (caches : List Sets) (memory : List Words) (held : Option HeldBus) (core : ℕ) → IsBus shape locations caches memory held → core < length caches → length (cache_of caches core) ≡ shape.sets

@@ -1,7 +1,5 @@
 -- The state of a line in the caches.
-use Rattle.std.proofs.Common.{◌≡◌, ◌∙◌, ℕ, List, Option, option_map, ap}
-use Rattle.protocol_tables.specs.declared.state.State.{State}
-use Rattle.cache_set.specs.declared.Line.{Line}
+use Rattle.std.proofs.Common.{◌≡◌, ◌∙◌, ℕ, List, option_map, ap}
 use Rattle.snoop_bus.specs.CacheContents.{TagSets, tag_in}
 use Rattle.snoop_bus.specs.Asks.{tag_at}
 use Rattle.snoop_bus.specs.Copies.{Sets, cache_of, copy_at, tags_of}

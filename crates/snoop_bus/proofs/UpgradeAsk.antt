@@ -1,40 +1,33 @@
 -- An ask for a write access to a line that the core has.
-use Rattle.std.proofs.Common.{◌≡◌, ◌≢◌, ◌⊎◌, inl, inr, ℕ, ◌<◌, Bool, true, false, not, IsTrue, IsSome, is_some, Option, Some, None, option_map, List, length, refl, sym, ap, ◌∙◌}
+use Rattle.std.proofs.Common.{◌≡◌, ◌⊎◌, inl, inr, ℕ, ◌<◌, Bool, true, false, not, IsTrue, IsSome, is_some, Option, Some, None, option_map, List, length, refl, sym, ap, ◌∙◌}
 use Rattle.tso_model.specs.declared.instruction.Core.{Core}
 use Rattle.tso_model.specs.declared.instruction.Loc.{Loc}
-use Rattle.protocol_tables.specs.inner.Laws.{GivesUp}
 use Rattle.protocol_tables.specs.Tables.{Table}
 use Rattle.protocol_tables.specs.Transients.{transient_of}
 use Rattle.protocol_tables.specs.declared.state.State.{State}
-use Rattle.protocol_tables.specs.declared.state.State.TheVariants.{I, M}
+use Rattle.protocol_tables.specs.declared.state.State.TheVariants.{M}
 use Rattle.protocol_tables.specs.declared.requests.Request.TheVariants.{GetS, GetM}
 use Rattle.protocol_tables.specs.declared.requests.Transient.{Transient}
 use Rattle.protocol_tables.specs.declared.requests.Transient.TheVariants.{IsD, ImD}
 use Rattle.cache_set.specs.declared.Line.{Line}
-use Rattle.cache_set.specs.inner.Copy.{copy_with, with_state}
+use Rattle.cache_set.specs.inner.Copy.{copy_with}
 use Rattle.snoop_bus.specs.Lines.{Words}
 use Rattle.snoop_bus.specs.Coherent.{state_of}
 use Rattle.snoop_bus.specs.CacheContents.{TagSets, requested}
 use Rattle.snoop_bus.specs.Copies.{Sets, copy_at, cache_of, tags_of}
 use Rattle.snoop_bus.specs.inner.Copies.{ways_of}
-use Rattle.snoop_bus.specs.Bus.{current_words, AllCoherent}
-use Rattle.snoop_bus.specs.inner.Requests.{LeftByOthers, ChangesCopy}
-use Rattle.snoop_bus.specs.inner.Accessing.{KeepsWords}
+use Rattle.snoop_bus.specs.Bus.{current_words}
 use Rattle.snoop_bus.specs.declared.holding.HeldBus.{HeldBus}
 use Rattle.snoop_bus.specs.declared.holding.Transaction.{Transaction}
 use Rattle.snoop_bus.specs.declared.holding.Stage.{Stage}
 use Rattle.snoop_bus.specs.declared.holding.Stage.TheVariants.{Load, Write}
-use Rattle.snoop_bus.specs.Held.{counting, stage_for}
+use Rattle.snoop_bus.specs.Held.{stage_for}
 use Rattle.snoop_bus.specs.inner.Held.{Awaits, IsHeld, held_by}
 use Rattle.snoop_bus.specs.Asks.{hits, hit_in, request_for, asked_for, asked_caches, or_invalid}
 use Rattle.snoop_bus.specs.inner.Asks.{transacting, transaction_of}
-use Rattle.snoop_bus.proofs.Numbers.{itself}
 use Rattle.snoop_bus.proofs.NewLemmas.{same_cores}
 use Rattle.snoop_bus.proofs.AccessLemmas.{tag_here}
-use Rattle.snoop_bus.proofs.HeldLemmas.{counting-changes, ways-counting, same_sets}
-use Rattle.snoop_bus.proofs.WriteLemmas.{upgrade_owned}
-use Rattle.snoop_bus.proofs.OwnLemmas.{Owned, owned-coherent}
-use Rattle.snoop_bus.proofs.HitLemmas.{same_words}
+use Rattle.snoop_bus.proofs.HeldLemmas.{same_sets}
 
 -- what is asked for goes by the core's own copy
 pub asked_by-copy : (caches : List Sets) (core line : ℕ) → asked_for GetM core line (tags_of caches) ≡ transient_of (state_of (copy_at caches core line)) GetM
@@ -55,48 +48,14 @@ pub miss-awaits : (t : Table) (core line : ℕ) (words : Words) (tags : List Tag
 unfolding transacting
 miss-awaits t core line words tags own x e absent = rw e (λ p. cc, (absent, refl))
 
-module _ (t : Table) (gives : GivesUp t.on_get_m) (c0 c1 : List Sets) (m : List Words) (core line : ℕ) (copy : Line) (x : Transient) where
-  -- the steps of an upgrade's ask
-  pub record UpgradeAsk : Type 0 where
-    pub coherent : AllCoherent c0 m
-    pub core_in : core < length c0
-    pub some_set : 0 < length (cache_of c0 core)
-    pub within : line < length m
-    pub found : copy_at c0 core line ≡ Some copy
-    pub asks : transient_of copy.state GetM ≡ Some x
-    pub left : LeftByOthers t.on_get_m core line c0 c1
-    pub tags : tags_of c1 ≡ requested t.on_get_m core line (tags_of c0)
-    pub ways : ways_of c1 ≡ ways_of c0
+module _ (t : Table) (c0 : List Sets) (core line : ℕ) (copy : Line) (x : Transient) (found : copy_at c0 core line ≡ Some copy) (asks : transient_of copy.state GetM ≡ Some x) where
+  -- the transaction of an upgrade keeps the words that the core has
+  pub upgrade_ask-transaction : (words : Words) → copy.words ≡ words → Some (record { transient = x; copy = copy_with M copy.words; flushed = None }) ≡ transaction_of t GetM core line words (tags_of c0)
+  unfolding transacting
+  upgrade_ask-transaction words is = rw (asked_by-found c0 core line copy found, asks, is) refl
 
-  module _ (h : UpgradeAsk) where
-    valid : copy.state ≢ I
-    valid = (h.coherent.each line h.within).valid core copy h.found
-
-    words : copy.words ≡ current_words c0 m line
-    words = (h.coherent.each line h.within).same core copy h.found
-
-    pub upgrade_ask-transaction : Some (record { transient = x; copy = copy_with M copy.words; flushed = None }) ≡ transaction_of t GetM core line (current_words c0 m line) (tags_of c0)
-    unfolding transacting
-    upgrade_ask-transaction = rw (asked_by-found c0 core line copy h.found, h.asks, words) refl
-
-    pub upgrade_ask-tags : tags_of c1 ≡ asked_caches t GetM core line (tags_of c0)
-    upgrade_ask-tags = h.tags ∙ rw (asked_by-found c0 core line copy h.found, h.asks) refl
-
-    still : copy_at c1 core line ≡ Some copy
-    still = let same : copy_at c1 core line ≡ copy_at c0 core line = rw (itself core) at (h.left core line) in same ∙ h.found
-
-    pub upgrade_ask-words : KeepsWords c0 (counting core line (copy_with M copy.words) c1) m m
-    upgrade_ask-words = record {
-      coherent = owned-coherent c0 (counting core line (copy_with M copy.words) c1) m core line (current_words c0 m line) owned;
-      words = same_words c0 (counting core line (copy_with M copy.words) c1) m core line owned;
-      ways = ways-counting c1 core line (copy_with M copy.words) ∙ h.ways;
-    }
-      where
-        changes : ChangesCopy core line (option_map (with_state M) (copy_at c1 core line)) c1 (counting core line (copy_with M copy.words) c1)
-        changes = rw still (counting-changes core line (copy_with M copy.words) c1 (rw (same_cores c0 c1 h.ways) h.core_in) (same_sets c0 c1 core h.ways h.some_set))
-
-        owned : Owned c0 (counting core line (copy_with M copy.words) c1) m core line (current_words c0 m line)
-        owned = upgrade_owned t.on_get_m gives c0 c1 (counting core line (copy_with M copy.words) c1) m core line copy h.coherent h.within h.found h.left changes
+  pub upgrade_ask-tags : (new : List TagSets) → new ≡ requested t.on_get_m core line (tags_of c0) → new ≡ asked_caches t GetM core line (tags_of c0)
+  upgrade_ask-tags new tags = tags ∙ rw (asked_by-found c0 core line copy found, asks) refl
 
 -- a load asks where there is no copy
 pub load_asks : (caches : List Sets) (core line : ℕ) → copy_at caches core line ≡ None → asked_for GetS core line (tags_of caches) ≡ Some IsD
@@ -141,19 +100,9 @@ hits-write t caches core line true copy placed found e is = is ∙ sym (hits-fou
 hits-write t caches core line false copy placed found e is = cc
 
 -- what is no hit has the bus to itself
-pub alone_found : (t : Table) (held : Option HeldBus) (caches : List Sets) (core line : ℕ) (copy : Line) → (held ≡ None) ⊎ IsTrue (hits t core line true (tags_of caches)) → copy_at caches core line ≡ Some copy → t.written copy.state ≡ None → held ≡ None
-alone_found t held caches core line copy (inl e) found writes = e
-alone_found t held caches core line copy (inr e) found writes =
-    let misses : hits t core line true (tags_of caches) ≡ false = hits-found t caches core line true copy found ∙ ap (λ (o : Option State). is_some o) writes in
-    let hit : hits t core line true (tags_of caches) ≡ true = e in
-    cc
-
-pub alone_absent : (t : Table) (held : Option HeldBus) (caches : List Sets) (core line : ℕ) → (held ≡ None) ⊎ IsTrue (hits t core line true (tags_of caches)) → copy_at caches core line ≡ None → held ≡ None
-alone_absent t held caches core line (inl e) absent = e
-alone_absent t held caches core line (inr e) absent =
-    let misses : false ≡ hits t core line true (tags_of caches) = hits-absent t caches core line true absent in
-    let hit : hits t core line true (tags_of caches) ≡ true = e in
-    cc
+pub alone : (t : Table) (held : Option HeldBus) (caches : List Sets) (core line : ℕ) → (held ≡ None) ⊎ IsTrue (hits t core line true (tags_of caches)) → hits t core line true (tags_of caches) ≡ false → held ≡ None
+alone t held caches core line (inl e) misses = e
+alone t held caches core line (inr hit) misses = cc
 
 -- a load that hits has its copy
 pub free_load : (t : Table) (held : Option HeldBus) (caches : List Sets) (core line : ℕ) → (held ≡ None) ⊎ IsTrue (hits t core line false (tags_of caches)) → (held ≡ None) ⊎ IsSome (copy_at caches core line)

@@ -1,5 +1,5 @@
 -- A write access, from what each of its steps gives.
-use Rattle.std.proofs.Common.{◌≡◌, ◌≢◌, ℕ, ◌<◌, not, ◌&&◌, Bool, true, false, nat_eq, Option, Some, None, option_map, List, length, slice_set, refl, ap, ◌∙◌, if◌then◌else◌}
+use Rattle.std.proofs.Common.{◌≡◌, ◌≢◌, ℕ, ◌<◌, ◌&&◌, Bool, true, false, nat_eq, Option, Some, None, option_map, List, length, slice_set, refl, ap, ◌∙◌, if◌then◌else◌}
 use Rattle.protocol_tables.specs.Laws.{in_place}
 use Rattle.protocol_tables.specs.inner.Laws.{GivesUp}
 use Rattle.protocol_tables.specs.declared.state.State.{State}
@@ -11,7 +11,7 @@ use Rattle.snoop_bus.specs.Lines.{Words, line_in}
 use Rattle.snoop_bus.specs.Coherent.{Coherent}
 use Rattle.snoop_bus.specs.Copies.{Sets, copy_at}
 use Rattle.snoop_bus.specs.Bus.{current_words, AllCoherent}
-use Rattle.snoop_bus.specs.inner.Requests.{copy_if, left_by, LeftByOthers, ChangesCopy}
+use Rattle.snoop_bus.specs.inner.Requests.{copy_if, left_by, ChangesCopy}
 use Rattle.snoop_bus.proofs.Numbers.{differ, itself}
 use Rattle.snoop_bus.proofs.Coherence.{alone}
 use Rattle.snoop_bus.proofs.OwnLemmas.{Owned}
@@ -58,34 +58,6 @@ hit_owned c0 c2 m core line copy next h within here writes to =
           ∙ alone (current_words c0 m line) (line_in m line) core (λ i. copy_at c0 i line) copy was here (rw to_m at writes) i d;
       elsewhere = λ i k d. other_line core line (option_map (with_state next) (copy_at c0 core line)) c0 c2 to i k d;
     }
-
--- an upgrade: the others gave their copies up
-pub upgrade_owned : (on : State → Snoop) → GivesUp on → (c0 c1 c2 : List Sets) (m : List Words) (core line : ℕ) (copy : Line) → AllCoherent c0 m → line < length m →
-    copy_at c0 core line ≡ Some copy → LeftByOthers on core line c0 c1 → ChangesCopy core line (option_map (with_state M) (copy_at c1 core line)) c1 c2 →
-    Owned c0 c2 m core line (current_words c0 m line)
-upgrade_owned on law c0 c1 c2 m core line copy h within here left to =
-    let was : Coherent (current_words c0 m line) (line_in m line) (λ i. copy_at c0 i line) = h.each line within in
-    let words : copy.words ≡ current_words c0 m line = was.same core copy here in
-    record {
-      coherent = h;
-      within = within;
-      here = here_now core line (option_map (with_state M) (copy_at c1 core line)) c1 c2 to ∙ rw (kept, here, words) refl;
-      alone = λ i d. other_core core line (option_map (with_state M) (copy_at c1 core line)) c1 c2 to i line d ∙ lost i d;
-      elsewhere = λ i k d. other_line core line (option_map (with_state M) (copy_at c1 core line)) c1 c2 to i k d ∙ unseen i k d;
-    }
-  where
-    kept : copy_at c1 core line ≡ copy_at c0 core line
-    kept = rw (itself core) at (left core line)
-
-    lost : (i : ℕ) → i ≢ core → copy_at c1 i line ≡ None
-    lost i d = let e : nat_eq i core ≡ false = differ i core d in let a : copy_at c1 i line ≡ left_by on (copy_at c0 i line) = rw (e, itself line) at (left i line) in a ∙ gives_up on law (copy_at c0 i line)
-
-    unseen : (i k : ℕ) → k ≢ line → copy_at c1 i k ≡ copy_at c0 i k
-    unseen i k d = let e : nat_eq k line ≡ false = differ k line d in by_core (nat_eq i core) (rw e at (left i k))
-      where
-        by_core : (b : Bool) → copy_at c1 i k ≡ (if not b && false then left_by on (copy_at c0 i k) else copy_at c0 i k) → copy_at c1 i k ≡ copy_at c0 i k
-        by_core true p = p
-        by_core false p = p
 
 -- a word is written to a copy in M
 pub write_owned : (c0 c2 : List Sets) (m : List Words) (core line offset value : ℕ) (old : Words) → AllCoherent c0 m → line < length m →

@@ -36,13 +36,15 @@ pub const MAX_LOCATIONS: usize = tso_model::limits::MAX_LOCATIONS;
 /// The caches of all cores on one bus, and memory after them. Where a line has so many words, location `l`
 /// lies in line `l / words` at offset `l % words`.
 ///
-/// Each access is whole when its call returns: first the copy of the core itself, if it has one; then,
-/// on a miss, the words from the copy that supplies them or from memory, and a victim to memory if it is
-/// dirty; then what the other caches make of the request. The line is then at the front of its set.
+/// An access that hits is made with the core's own copy alone. Any other has two halves: at the ask the other
+/// caches see the request, and the words come from the copy that supplies them or from memory; at the completion
+/// the core's own line is filled, and a victim goes to memory if it is dirty. The line is then at the front of its set.
 ///
-/// An access may also be made in two halves: at the ask the other caches see the request and the core's
-/// action holds the bus, at the completion the core's own line is filled. In between only accesses that hit
-/// go on.
+/// `load`, `store`, `swap` and `add` make both halves, and are whole when they return. In between a core's
+/// action may also hold the bus; then only accesses that hit go on.
+///
+/// The caches take all their memory when they are made. An access answers a `Result` all the same, which leaves room for
+/// caches that take it at a miss.
 #[derive(Drop)]
 pub struct SnoopBus<P: Protocol> {
     protocol: P,
@@ -113,7 +115,7 @@ impl<P: Protocol> SnoopBus<P> {
         ensures machine { IsSameMachine self.old self.new }
     {
         let target = self.shape.target_of(core, loc);
-        self.hierarchy.load(&self.protocol, self.held, target)
+        Ok(self.hierarchy.load(&self.protocol, self.held, target))
     }
 
     /// Writes the word at a location. Answers what the access was. No other word that is seen changes.
@@ -196,8 +198,10 @@ impl<P: Protocol> SnoopBus<P> {
     {
         let target = self.shape.target_of(core, loc);
         let change = Change { update, value };
-        self.hierarchy
-            .update(&self.protocol, self.held, target, change)
+        Ok(
+            self.hierarchy
+                .update(&self.protocol, self.held, target, change),
+        )
     }
 
     /// Whether an access would be a hit, which needs no bus. While another core's write access holds the bus,
@@ -254,7 +258,7 @@ impl<P: Protocol> SnoopBus<P> {
         let target = self.shape.target_of(core, loc);
         let done = self
             .hierarchy
-            .complete_load(&self.protocol, target, held.transaction)?;
+            .complete_load(&self.protocol, target, held.transaction);
         self.held = None;
         Ok(done)
     }
@@ -278,7 +282,7 @@ impl<P: Protocol> SnoopBus<P> {
         let target = self.shape.target_of(core, loc);
         let access = self
             .hierarchy
-            .complete_store(&self.protocol, target, held.transaction, value)?;
+            .complete_store(&self.protocol, target, held.transaction, value);
         self.held = None;
         Ok(access)
     }
@@ -304,7 +308,7 @@ impl<P: Protocol> SnoopBus<P> {
         let target = self.shape.target_of(core, loc);
         let done = self
             .hierarchy
-            .complete_read(&self.protocol, target, held.transaction)?;
+            .complete_read(&self.protocol, target, held.transaction);
         self.held = Some(held_at(core, loc, Stage::Locked, held.line, None));
         Ok(done)
     }

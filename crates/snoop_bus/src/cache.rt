@@ -1,6 +1,6 @@
 //! The whole cache of one core. Each step says what it makes of the sets (`exact`), what is then found
 //! at each line (`copies`), and that the room in each set stays (`ways`).
-ghost use Rattle.std.specs.Prelude.{◌≡◌, ◌≢◌, ◌<◌, ◌%◌, ℕ, [], Some, None, IsSome, IfOk, IfSome, OnErr};
+ghost use Rattle.std.specs.Prelude.{◌≡◌, ◌≢◌, ◌<◌, ◌%◌, ℕ, [], Some, None, IsSome, IfOk, IfSome};
 ghost use Rattle.std.specs.Prelude.{length, map, replicate, slice_index_or, option_copied, option_map};
 ghost use Rattle.cache_set.specs.Limits.{most_words};
 ghost use Rattle.cache_set.specs.Contents.{contents, victim_of};
@@ -101,27 +101,19 @@ impl Cache {
         set.touch(line);
     }
 
-    /// A line that is not here comes in, and another may leave.
-    ///
-    /// Errors: out of memory only; nothing is changed then.
-    pub fn fill(
-        &mut self,
-        line: u8,
-        state: State,
-        words: [u32; MAX_WORDS],
-    ) -> Result<Option<Victim>, NoMemory>
+    /// A line that is not here comes in, and another may leave. Its set has had room for it since it was made.
+    pub fn fill(&mut self, line: u8, state: State, words: [u32; MAX_WORDS]) -> Option<Victim>
         requires absent { copy_in self.old line ≡ None }
         requires valid { state ≢ State.I }
-        ensures exact { IfOk result (λ _. self.new ≡ in_set line (with_new line (copy_with state words)) self.old) }
-        ensures victim { IfOk result (λ v. v ≡ victim_of (set_at self.old line)) }
-        ensures copies { IfOk result (IsAfterFill line (copy_with state words) self.old self.new) }
-        ensures was_here { IfOk result (λ v. IfSome v (λ x. copy_in self.old x.line ≡ Some x.content)) }
-        ensures err { OnErr result (self.new ≡ self.old) }
+        ensures exact { self.new ≡ in_set line (with_new line (copy_with state words)) self.old }
+        ensures victim { result ≡ victim_of (set_at self.old line) }
+        ensures copies { IsAfterFill line (copy_with state words) self.old self.new result }
+        ensures was_here { IfSome result (λ x. copy_in self.old x.line ≡ Some x.content) }
         ensures ways { ways_in self.new ≡ ways_in self.old }
     {
         let at = self.home(line);
         let set = &mut self.sets[at];
-        set.fill(line, state, words)
+        set.fill(line, state, words).unwrap()
     }
 
     /// A line that is here goes to another state than I.

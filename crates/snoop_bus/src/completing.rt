@@ -1,18 +1,18 @@
 //! The second half of an access that needs the bus: the core's own line is filled, with the words that the bus kept since
 //! the ask, and a dirty victim is written back. (Primer, chapter 7.)
-ghost use Rattle.std.specs.Prelude.{◌≡◌, ◌≢◌, ◌<◌, Some, None, IsOk, IfOk, OnOk, OnErr, length, slice_index};
+ghost use Rattle.std.specs.Prelude.{◌≡◌, ◌<◌, Some, None, length, slice_index};
 ghost use Rattle.cache_set.specs.Limits.{most_words};
 ghost use Rattle.cache_set.specs.inner.Copy.{copy_with};
 ghost use Rattle.snoop_bus.specs.declared.holding.Stage.TheVariants.{Load, Write};
 ghost use Rattle.protocol_tables.specs.declared.state.State.TheVariants.{M};
 ghost use Rattle.snoop_bus.specs.CacheContents.{writes_back, filled_by};
 ghost use Rattle.snoop_bus.specs.MemoryAfter.{written_back, victim_at};
-ghost use Rattle.snoop_bus.specs.inner.Completing.{IsAwaited, Completes, words_due, completion_at};
+ghost use Rattle.snoop_bus.specs.inner.Completing.{IsAwaited, Completes, words_due};
 ghost use Rattle.snoop_bus.specs.Held.{counting, counted_in};
 ghost use Rattle.snoop_bus.specs.Copies.{cache_of, copy_at, tags_of};
 ghost use Rattle.snoop_bus.specs.inner.Copies.{ways_of};
 ghost use Rattle.snoop_bus.specs.Bus.{AllCoherent};
-ghost use Rattle.snoop_bus.specs.inner.Accessing.{KeepsWords, SetsWord, IsUnchanged};
+ghost use Rattle.snoop_bus.specs.inner.Accessing.{KeepsWords, SetsWord};
 ghost use Rattle.snoop_bus.specs.Coherent.{state_of};
 ghost use Rattle.snoop_bus.specs.declared.access.AccessKind.TheVariants.{Miss};
 
@@ -22,82 +22,72 @@ use crate::holding::Transaction;
 use crate::target::Target;
 use cache_set::{Line, MAX_WORDS};
 use protocol_tables::{Protocol, State, Transient};
-use tso_model::NoMemory;
 
 impl Hierarchy {
     /// Fills a core's line with the copy that the bus keeps; another may leave. Answers what the access was: a miss.
-    ///
-    /// Errors: out of memory only; nothing is changed then.
     pub fn fill_asked<P: Protocol>(
         &mut self,
         protocol: &P,
         core: usize,
         line: u8,
         transaction: Transaction,
-    ) -> Result<Access, NoMemory>
+    ) -> Access
         requires coherent { AllCoherent (counting core line transaction.copy self.old.caches.items) self.old.memory.items }
         requires core { core < length self.old.caches.items }
         requires some_set { 0 < length (cache_of self.old.caches.items core) }
         requires line { line < length self.old.memory.items }
         requires absent { copy_at self.old.caches.items core line ≡ None }
 
-        ensures access { IfOk result (λ a. a ≡ record { kind = Miss; wrote_back = writes_back (P.table protocol.now) core line (tags_of self.old.caches.items); flushed = transaction.flushed }) }
-        ensures tags { OnOk result (tags_of self.new.caches.items ≡ filled_by core line transaction.copy.state (tags_of self.old.caches.items)) }
-        ensures memory { OnOk result (self.new.memory.items ≡ written_back (P.table protocol.now) (victim_at self.old.caches.items core line) self.old.memory.items) }
-        ensures own { OnOk result (copy_at self.new.caches.items core line ≡ Some transaction.copy) }
-        ensures words { OnOk result (KeepsWords (counting core line transaction.copy self.old.caches.items) self.new.caches.items self.old.memory.items self.new.memory.items) }
+        ensures access { result ≡ record { kind = Miss; wrote_back = writes_back (P.table protocol.now) core line (tags_of self.old.caches.items); flushed = transaction.flushed } }
+        ensures tags { tags_of self.new.caches.items ≡ filled_by core line transaction.copy.state (tags_of self.old.caches.items) }
+        ensures memory { self.new.memory.items ≡ written_back (P.table protocol.now) (victim_at self.old.caches.items core line) self.old.memory.items }
+        ensures own { copy_at self.new.caches.items core line ≡ Some transaction.copy }
+        ensures words { KeepsWords (counting core line transaction.copy self.old.caches.items) self.new.caches.items self.old.memory.items self.new.memory.items }
         ensures ways { ways_of self.new.caches.items ≡ ways_of self.old.caches.items }
-
-        ensures refused { OnErr result (IsUnchanged self.old self.new) }
     {
         let cache = &mut self.caches[core];
         let Line { state, words } = transaction.copy;
-        let victim = cache.fill(line, state, words)?;
-        Ok(Access {
+        let victim = cache.fill(line, state, words);
+        Access {
             kind: AccessKind::Miss,
             wrote_back: self.write_back(protocol, victim),
             flushed: transaction.flushed,
-        })
+        }
     }
 
     /// Completes a write access, but for the word that it writes: the core's copy is then in M, and no other
     /// core has one. Answers the words that the line has, and what the access was.
-    ///
-    /// Errors: out of memory only, which only a miss takes; nothing is changed then.
     pub fn acquire_asked<P: Protocol>(
         &mut self,
         protocol: &P,
         core: usize,
         line: u8,
         transaction: Option<Transaction>,
-    ) -> Result<([u32; MAX_WORDS], Access), NoMemory>
+    ) -> ([u32; MAX_WORDS], Access)
         requires awaited { IsAwaited Write transaction core line self.old }
 
-        ensures found { IfOk result (λ r. r.0 ≡ words_due transaction core line self.old) }
-        ensures ok { IfOk result (λ r. Completes (P.table protocol.now) transaction core line self.old self.new r.1) }
-        ensures own { OnOk result (copy_at self.new.caches.items core line ≡ Some (copy_with M (words_due transaction core line self.old))) }
-        ensures words { OnOk result (KeepsWords (counted_in core line transaction self.old.caches.items) self.new.caches.items self.old.memory.items self.new.memory.items) }
+        ensures found { result.0 ≡ words_due transaction core line self.old }
+        ensures ok { Completes (P.table protocol.now) transaction core line self.old self.new result.1 }
+        ensures own { copy_at self.new.caches.items core line ≡ Some (copy_with M (words_due transaction core line self.old)) }
+        ensures words { KeepsWords (counted_in core line transaction self.old.caches.items) self.new.caches.items self.old.memory.items self.new.memory.items }
         ensures ways { ways_of self.new.caches.items ≡ ways_of self.old.caches.items }
-
-        ensures succeeds { (completion_at (P.table protocol.now) transaction core line self.old.caches.items).access.kind ≢ Miss → IsOk result }
-        ensures refused { OnErr result (IsUnchanged self.old self.new) }
     {
         match transaction {
             None => {
                 let words = self.caches[core].look(line).unwrap().words;
                 self.enter(core, line, State::M);
-                Ok((words, Access::quiet(AccessKind::Hit)))
+                (words, Access::quiet(AccessKind::Hit))
             }
             Some(transaction) => {
                 let words = transaction.copy.words;
                 match transaction.transient {
                     Transient::SmD => {
                         self.enter(core, line, State::M);
-                        Ok((words, Access::quiet(AccessKind::Upgrade)))
+                        (words, Access::quiet(AccessKind::Upgrade))
                     }
                     Transient::IsD | Transient::ImD => {
-                        let access = self.fill_asked(protocol, core, line, transaction)?;
-                        Ok((words, access))
+                        let access = self.fill_asked(protocol, core, line, transaction);
+                        (words, access)
                     }
                 }
             }
@@ -105,80 +95,66 @@ impl Hierarchy {
     }
 
     /// Completes a load that missed, of the word at an offset in a line. Answers the word, and what the access was.
-    ///
-    /// Errors: out of memory only; nothing is changed then.
     pub fn complete_load<P: Protocol>(
         &mut self,
         protocol: &P,
         target: Target,
         transaction: Option<Transaction>,
-    ) -> Result<(u32, Access), NoMemory>
+    ) -> (u32, Access)
         requires awaited { IsAwaited Load transaction target.core target.line self.old }
         requires offset { target.offset < most_words }
 
-        ensures word { IfOk result (λ r. r.0 ≡ slice_index (words_due transaction target.core target.line self.old) target.offset) }
-        ensures ok { IfOk result (λ r. Completes (P.table protocol.now) transaction target.core target.line self.old self.new r.1) }
-        ensures words { OnOk result (KeepsWords (counted_in target.core target.line transaction self.old.caches.items) self.new.caches.items self.old.memory.items self.new.memory.items) }
+        ensures word { result.0 ≡ slice_index (words_due transaction target.core target.line self.old) target.offset }
+        ensures ok { Completes (P.table protocol.now) transaction target.core target.line self.old self.new result.1 }
+        ensures words { KeepsWords (counted_in target.core target.line transaction self.old.caches.items) self.new.caches.items self.old.memory.items self.new.memory.items }
         ensures ways { ways_of self.new.caches.items ≡ ways_of self.old.caches.items }
-
-        ensures refused { OnErr result (IsUnchanged self.old self.new) }
     {
         let transaction = transaction.unwrap();
         let Target { core, line, offset } = target;
-        let access = self.fill_asked(protocol, core, line, transaction)?;
-        Ok((transaction.copy.words[usize::from(offset)], access))
+        let access = self.fill_asked(protocol, core, line, transaction);
+        (transaction.copy.words[usize::from(offset)], access)
     }
 
     /// Completes a store at an offset in a line. Answers what the access was.
-    ///
-    /// Errors: out of memory only, which only a miss takes; nothing is changed then.
     pub fn complete_store<P: Protocol>(
         &mut self,
         protocol: &P,
         target: Target,
         transaction: Option<Transaction>,
         value: u32,
-    ) -> Result<Access, NoMemory>
+    ) -> Access
         requires awaited { IsAwaited Write transaction target.core target.line self.old }
         requires offset { target.offset < most_words }
 
-        ensures ok { IfOk result (Completes (P.table protocol.now) transaction target.core target.line self.old self.new) }
-        ensures words { OnOk result (SetsWord target.line target.offset value (counted_in target.core target.line transaction self.old.caches.items) self.new.caches.items self.old.memory.items self.new.memory.items) }
+        ensures ok { Completes (P.table protocol.now) transaction target.core target.line self.old self.new result }
+        ensures words { SetsWord target.line target.offset value (counted_in target.core target.line transaction self.old.caches.items) self.new.caches.items self.old.memory.items self.new.memory.items }
         ensures ways { ways_of self.new.caches.items ≡ ways_of self.old.caches.items }
-
-        ensures succeeds { (completion_at (P.table protocol.now) transaction target.core target.line self.old.caches.items).access.kind ≢ Miss → IsOk result }
-        ensures refused { OnErr result (IsUnchanged self.old self.new) }
     {
         let Target { core, line, .. } = target;
-        let (_, access) = self.acquire_asked(protocol, core, line, transaction)?;
+        let (_, access) = self.acquire_asked(protocol, core, line, transaction);
         self.write(target, value);
-        Ok(access)
+        access
     }
 
     /// Completes the read of a locked instruction at an offset in a line. Answers the word, and what the access was; the core's copy
     /// is then in M.
-    ///
-    /// Errors: out of memory only, which only a miss takes; nothing is changed then.
     pub fn complete_read<P: Protocol>(
         &mut self,
         protocol: &P,
         target: Target,
         transaction: Option<Transaction>,
-    ) -> Result<(u32, Access), NoMemory>
+    ) -> (u32, Access)
         requires awaited { IsAwaited Write transaction target.core target.line self.old }
         requires offset { target.offset < most_words }
 
-        ensures word { IfOk result (λ r. r.0 ≡ slice_index (words_due transaction target.core target.line self.old) target.offset) }
-        ensures ok { IfOk result (λ r. Completes (P.table protocol.now) transaction target.core target.line self.old self.new r.1) }
-        ensures own { OnOk result (state_of (copy_at self.new.caches.items target.core target.line) ≡ M) }
-        ensures words { OnOk result (KeepsWords (counted_in target.core target.line transaction self.old.caches.items) self.new.caches.items self.old.memory.items self.new.memory.items) }
+        ensures word { result.0 ≡ slice_index (words_due transaction target.core target.line self.old) target.offset }
+        ensures ok { Completes (P.table protocol.now) transaction target.core target.line self.old self.new result.1 }
+        ensures own { state_of (copy_at self.new.caches.items target.core target.line) ≡ M }
+        ensures words { KeepsWords (counted_in target.core target.line transaction self.old.caches.items) self.new.caches.items self.old.memory.items self.new.memory.items }
         ensures ways { ways_of self.new.caches.items ≡ ways_of self.old.caches.items }
-
-        ensures succeeds { (completion_at (P.table protocol.now) transaction target.core target.line self.old.caches.items).access.kind ≢ Miss → IsOk result }
-        ensures refused { OnErr result (IsUnchanged self.old self.new) }
     {
         let Target { core, line, offset } = target;
-        let (words, access) = self.acquire_asked(protocol, core, line, transaction)?;
-        Ok((words[usize::from(offset)], access))
+        let (words, access) = self.acquire_asked(protocol, core, line, transaction);
+        (words[usize::from(offset)], access)
     }
 }

@@ -1,15 +1,5 @@
 -- On the atomic bus a run is the flat machine's.
-use Rattle.std.proofs.Common.{◌≡◌, ℕ, suc, List, [], ◌∷◌, ◌++◌, Bool, true, false, length, ap, ◌∙◌, refl, if◌then◌else◌}
-use Rattle.tso_model.specs.Litmus.{Litmus}
-use Rattle.tso_model.specs.FlatMachine.{State, effect_of, after_choice, start}
-use Rattle.tso_model.specs.Runs.{has_ended, resting, then_run, run_from, run}
-use Rattle.tso_model.specs.SplitMachine.{Free, Attempt}
-use Rattle.tso_model.specs.EitherBus.{BusRun, unheld, effect_on, resting_on, then_on, run_on_from, run_on, choices_in, HitsFit}
-use Rattle.tso_model.specs.Together.{put_together}
-use Rattle.tso_model.specs.declared.choice.Bus.TheVariants.{Atomic}
-use Rattle.tso_model.specs.declared.choice.Choice.{Choice}
-use Rattle.tso_laws.specs.Choices.{commits_of}
-use Rattle.tso_laws.specs.inner.Stopping.{StopsAtTheEnd}
+use Rattle.split_laws.proofs.Vocabulary.{◌≡◌, ℕ, suc, List, [], ◌∷◌, ◌++◌, Bool, true, false, length, ap, ◌∙◌, refl, if◌then◌else◌, Litmus, State, effect_of, after_choice, start, has_ended, resting, then_run, run_from, run, Free, Attempt, BusRun, unheld, effect_on, resting_on, then_on, run_on_from, run_on, choices_in, HitsFit, put_together, Atomic, Choice, commits_of, StopsAtTheEnd}
 use Rattle.split_laws.proofs.Waiting.{AllStores, choice-stores, start-stores}
 use Rattle.split_laws.proofs.Following.{choice-whole}
 

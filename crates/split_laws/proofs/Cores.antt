@@ -1,18 +1,5 @@
 -- The cores of a state: what an effect of one leaves of each, and when they are done.
-use Rattle.std.proofs.Common.{◌≡◌, ◌≢◌, ◌<◌, ◌≤◌, ℕ, ◌+◌, zero, suc, List, [], ◌∷◌, Bool, true, false, length, slice_get, slice_set, slice_index, slice_index_or, None, arith, ap, sym, ◌∙◌, refl, ◌⊎◌, inl, inr, ◌==◌, if◌then◌else◌, get_or-set_same, get_or-set_other}
-use Rattle.std.proofs.lemmas.List.{get_or_past, set-get_or}
-use Rattle.std.proofs.lemmas.Option.{slice_get_past}
-use Rattle.std.proofs.lemmas.Bool.Decides.{nat_tests}
-use Rattle.std.proofs.Math.ListN.{length-set}
-use Rattle.tso_model.specs.Litmus.{Litmus}
-use Rattle.tso_model.specs.ProgramOrder.{is_write}
-use Rattle.tso_model.specs.FlatMachine.{is_none_pending, CoreState, State, Effect, idle, program_of, core_of, memory_after, applied, started}
-use Rattle.tso_model.specs.Runs.{is_done, all_done, has_ended}
-use Rattle.tso_model.specs.declared.instruction.Instr.{Instr}
-use Rattle.tso_model.specs.declared.execution.Entry.{Entry}
-use Rattle.tso_model.specs.declared.choice.Outcome.{Outcome}
-use Rattle.basic_laws.proofs.Basics.{decide, lt-or, test-true, and-left, and-right}
-use Rattle.basic_laws.proofs.Lists.{Each}
+use Rattle.split_laws.proofs.Vocabulary.{◌≡◌, ◌≢◌, ◌<◌, ◌≤◌, ℕ, ◌+◌, zero, suc, List, [], ◌∷◌, Bool, true, false, length, slice_get, slice_set, slice_index, slice_index_or, None, arith, ap, sym, ◌∙◌, refl, ◌⊎◌, inl, inr, ◌==◌, if◌then◌else◌, get_or-set_same, get_or-set_other, get_or_past, set-get_or, slice_get_past, nat_tests, length-set, Litmus, is_write, is_none_pending, CoreState, State, Effect, idle, program_of, core_of, memory_after, applied, started, is_done, all_done, has_ended, Instr, Entry, Outcome, decide, lt-or, test-true, and-left, and-right, Each}
 
 -- after an effect of a core, each core is as before, or is that one
 pub core-cases : (state : State) (c k : ℕ) (f : Effect) → ((k ≡ c) × (c < length state.cores) × (core_of (applied state c f) k ≡ f.after)) ⊎ (core_of (applied state c f) k ≡ core_of state k)

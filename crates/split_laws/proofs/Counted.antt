@@ -1,17 +1,5 @@
 -- A run on either bus, and the flat machine's run that follows it, choice by choice: what both use, stall and leave over.
-use Rattle.std.proofs.Common.{◌≡◌, ◌<◌, ℕ, ◌+◌, suc, Bool, true, false, if◌then◌else◌, List, [], ◌∷◌, ◌++◌, length, take, arith, ap, sym, ◌∙◌, refl, subst, append_assoc}
-use Rattle.std.proofs.lemmas.List.{append-nil}
-use Rattle.tso_model.specs.Litmus.{Litmus}
-use Rattle.tso_model.specs.FlatMachine.{State, effect_of, after_choice, chosen, applied}
-use Rattle.tso_model.specs.Runs.{Run, has_ended, stall_count, then_run, run_from, CoresExist}
-use Rattle.tso_model.specs.SplitMachine.{Holder, Free, HeldBy, HeldBetween, Attempt}
-use Rattle.tso_model.specs.EitherBus.{BusState, BusRun, effect_on, after_on, resting_on, then_on, run_on_from, choices_in, HitsFit}
-use Rattle.tso_model.specs.Together.{put_together}
-use Rattle.tso_model.specs.declared.choice.Bus.{Bus}
-use Rattle.tso_model.specs.declared.choice.Choice.{Choice}
-use Rattle.tso_laws.specs.Choices.{state_after, commits_of}
-use Rattle.split_laws.specs.Holders.{HolderFits}
-use Rattle.split_laws.specs.BusRuns.{waiting, wait_count, bus_count, made_for_bus, wait_for_bus}
+use Rattle.split_laws.proofs.Vocabulary.{◌≡◌, ◌<◌, ℕ, ◌+◌, suc, Bool, true, false, if◌then◌else◌, List, [], ◌∷◌, ◌++◌, length, take, arith, ap, sym, ◌∙◌, refl, subst, append_assoc, append-nil, Litmus, State, effect_of, after_choice, chosen, applied, Run, has_ended, stall_count, then_run, run_from, CoresExist, Holder, Free, HeldBy, HeldBetween, Attempt, BusState, BusRun, effect_on, after_on, resting_on, then_on, run_on_from, choices_in, HitsFit, put_together, Bus, Choice, state_after, commits_of, HolderFits, waiting, wait_count, bus_count, made_for_bus, wait_for_bus}
 use Rattle.split_laws.proofs.Waiting.{AllStores}
 use Rattle.split_laws.proofs.Moving.{moved}
 use Rattle.split_laws.proofs.Following.{Counts, for_bus, as_flat, Goes, choice-goes}

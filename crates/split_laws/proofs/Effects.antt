@@ -1,22 +1,5 @@
 -- Each choice takes something off what is left, or changes nothing, whatever the caches answer.
-use Rattle.std.proofs.Common.{◌≡◌, ◌≢◌, ◌≤◌, ℕ, ◌+◌, suc, List, [], ◌∷◌, Bool, true, false, length, arith, ap, sym, ◌∙◌, refl, ◌⊎◌, inl, inr, subst, if◌then◌else◌}
-use Rattle.std.proofs.Math.ListN.{length-set}
-use Rattle.std.proofs.lemmas.List.{set-get_or}
-use Rattle.tso_model.specs.Litmus.{Litmus}
-use Rattle.tso_model.specs.FlatMachine.{State, Effect, idle, effect_of, chosen, core_of, program_of, applied, start}
-use Rattle.tso_model.specs.Runs.{stall_count}
-use Rattle.tso_model.specs.MemoryAccess.{MemoryAccess, NoAccess, Reads, Writes, Locks, access_of}
-use Rattle.tso_model.specs.SplitMachine.{Holder, Free, HeldBy, HeldBetween, Attempt, BusEffect, same_choice, needs_bus, acts, asks, begins, load_part, reads_first, completes, as_read, after_first, writes_last, split_effect}
-use Rattle.tso_model.specs.EitherBus.{BusState, unheld, effect_on, after_on}
-use Rattle.tso_model.specs.declared.choice.Bus.{Bus}
-use Rattle.tso_model.specs.declared.choice.Bus.TheVariants.{Atomic, Split}
-use Rattle.tso_model.specs.declared.instruction.Loc.{Loc}
-use Rattle.tso_model.specs.declared.execution.Entry.{Entry}
-use Rattle.tso_model.specs.declared.choice.Choice.{Choice}
-use Rattle.tso_model.specs.declared.choice.Choice.TheVariants.{Step, Drain}
-use Rattle.tso_model.specs.declared.choice.Outcome.{Outcome}
-use Rattle.tso_model.specs.declared.choice.Outcome.TheVariants.{Committed, Asked}
-use Rattle.split_laws.specs.BusChoices.{state_on}
+use Rattle.split_laws.proofs.Vocabulary.{◌≡◌, ◌≢◌, ◌≤◌, ℕ, ◌+◌, suc, List, [], ◌∷◌, Bool, true, false, length, arith, ap, sym, ◌∙◌, refl, ◌⊎◌, inl, inr, subst, if◌then◌else◌, length-set, set-get_or, Litmus, State, Effect, idle, effect_of, chosen, core_of, program_of, applied, start, stall_count, MemoryAccess, NoAccess, Reads, Writes, Locks, access_of, Holder, Free, HeldBy, HeldBetween, Attempt, BusEffect, same_choice, needs_bus, acts, asks, begins, load_part, reads_first, completes, as_read, after_first, writes_last, split_effect, BusState, unheld, effect_on, after_on, Bus, Atomic, Split, Loc, Entry, Choice, Step, Drain, Outcome, Committed, Asked, state_on}
 use Rattle.split_laws.proofs.Cores.{core-cases, quiet, quiet-same, starts-idle, length-starts}
 use Rattle.split_laws.proofs.Steps.{drain-no-lock}
 use Rattle.split_laws.proofs.Waiting.{access-kept}

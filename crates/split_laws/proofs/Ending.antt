@@ -1,17 +1,5 @@
 -- Ended runs on either bus are ended runs of the flat machine, and so what its laws say of those.
-use Rattle.std.proofs.Common.{◌≡◌, ℕ, List, ◌++◌, ap, sym, ◌∙◌}
-use Rattle.std.proofs.lemmas.List.{append-nil}
-use Rattle.tso_model.specs.Litmus.{Litmus, IsTest}
-use Rattle.tso_model.specs.SequentialConsistency.{KeepsAllOrder}
-use Rattle.tso_model.specs.FlatMachine.{start}
-use Rattle.tso_model.specs.Runs.{run}
-use Rattle.tso_model.specs.SplitMachine.{Attempt}
-use Rattle.tso_model.specs.EitherBus.{unheld, run_on, HitsFit}
-use Rattle.tso_model.specs.Together.{put_together, together}
-use Rattle.tso_model.specs.declared.choice.Bus.{Bus}
-use Rattle.tso_model.specs.declared.choice.Choice.{Choice}
-use Rattle.tso_laws.specs.EndedRuns.{End, IsExecution}
-use Rattle.split_laws.specs.BusRuns.{EndOn, waiting, IsFlatRun}
+use Rattle.split_laws.proofs.Vocabulary.{◌≡◌, ℕ, List, ◌++◌, ap, sym, ◌∙◌, append-nil, Litmus, IsTest, KeepsAllOrder, start, run, Attempt, unheld, run_on, HitsFit, put_together, together, Bus, Choice, End, IsExecution, EndOn, waiting, IsFlatRun}
 use Rattle.split_laws.proofs.Waiting.{start-stores}
 use Rattle.split_laws.proofs.Counted.{run-follows-from}
 use Rattle.split_laws.proofs.Stopping.{end-free}

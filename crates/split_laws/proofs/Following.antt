@@ -1,36 +1,6 @@
 -- A run on either bus is followed by one of the flat machine, which makes a locked instruction when its store part is
 -- committed.
-use Rattle.std.proofs.Common.{◌≡◌, ◌≢◌, ℕ, ◌+◌, zero, suc, Option, Some, None, length, nat_lt, List, [], ◌∷◌, ◌++◌, Bool, true, false, drop, slice_set, arith, ap, sym, ◌∙◌, refl, inl, inr, append_assoc, subst, if◌then◌else◌}
-use Rattle.std.proofs.lemmas.List.{append-nil, set-get_or}
-use Rattle.std.proofs.lemmas.Bool.Decides.{nat_tests}
-use Rattle.tso_model.specs.Litmus.{Litmus}
-use Rattle.tso_model.specs.Thread.{entry}
-use Rattle.tso_model.specs.Actions.{action_of}
-use Rattle.tso_model.specs.FlatMachine.{CoreState, State, Effect, stored, effect_by, step_of, effect_of, after_choice, chosen, core_of, applied, memory_after, is_none_pending}
-use Rattle.tso_model.specs.Runs.{stall_count}
-use Rattle.tso_model.specs.MemoryAccess.{MemoryAccess, NoAccess, Reads, Writes, Locks, next_of, access_of}
-use Rattle.tso_model.specs.SplitMachine.{Holder, Free, HeldBy, HeldBetween, Attempt, BusEffect, same_choice, needs_bus, acts, asks, begins, load_part, reads_first, completes, as_read, after_first, writes_last, split_effect}
-use Rattle.tso_model.specs.EitherBus.{BusState, effect_on, after_on, HitFits, HitsFit}
-use Rattle.tso_model.specs.Together.{put_together}
-use Rattle.tso_model.specs.declared.choice.Bus.{Bus}
-use Rattle.tso_model.specs.declared.choice.Bus.TheVariants.{Atomic, Split}
-use Rattle.tso_model.specs.declared.instruction.Loc.{Loc}
-use Rattle.tso_model.specs.declared.instruction.Instr.{Instr}
-use Rattle.tso_model.specs.declared.action.Action.{Action}
-use Rattle.tso_model.specs.declared.action.Action.TheVariants.{Store, Load, Move, Fence, Lock}
-use Rattle.tso_model.specs.declared.execution.Entry.{Entry}
-use Rattle.tso_model.specs.declared.execution.Kind.TheVariants.{LW}
-use Rattle.tso_model.specs.declared.choice.Choice.{Choice}
-use Rattle.tso_model.specs.declared.choice.Choice.TheVariants.{Step, Drain}
-use Rattle.tso_model.specs.declared.choice.Outcome.{Outcome}
-use Rattle.tso_model.specs.declared.choice.Outcome.TheVariants.{Committed, Asked}
-use Rattle.tso_laws.specs.Choices.{state_after, commits_of}
-use Rattle.split_laws.specs.BusChoices.{state_on, commits_on}
-use Rattle.split_laws.specs.Holders.{HasRead, HolderFits}
-use Rattle.split_laws.specs.BusRuns.{waiting, ask_count, wait_count, load_part_count, bus_count}
-use Rattle.basic_laws.proofs.Basics.{decide, test-true}
-use Rattle.basic_laws.proofs.Lists.{Each}
-use Rattle.basic_laws.proofs.WithPending.{drain_with}
+use Rattle.split_laws.proofs.Vocabulary.{◌≡◌, ◌≢◌, ℕ, ◌+◌, zero, suc, Option, Some, None, length, nat_lt, List, [], ◌∷◌, ◌++◌, Bool, true, false, drop, slice_set, arith, ap, sym, ◌∙◌, refl, inl, inr, append_assoc, subst, if◌then◌else◌, append-nil, set-get_or, nat_tests, Litmus, entry, action_of, CoreState, State, Effect, stored, effect_by, step_of, effect_of, after_choice, chosen, core_of, applied, memory_after, is_none_pending, stall_count, MemoryAccess, NoAccess, Reads, Writes, Locks, next_of, access_of, Holder, Free, HeldBy, HeldBetween, Attempt, BusEffect, same_choice, needs_bus, acts, asks, begins, load_part, reads_first, completes, as_read, after_first, writes_last, split_effect, BusState, effect_on, after_on, HitFits, HitsFit, put_together, Bus, Atomic, Split, Loc, Instr, Action, Store, Load, Move, Fence, Lock, Entry, LW, Choice, Step, Drain, Outcome, Committed, Asked, state_after, commits_of, state_on, commits_on, HasRead, HolderFits, waiting, ask_count, wait_count, load_part_count, bus_count, decide, test-true, Each, drain_with}
 use Rattle.split_laws.proofs.Cores.{quiet, quiet-same}
 use Rattle.split_laws.proofs.Steps.{IsPlain, drain-no-lock, choice-plain, choice-pair, Pairs}
 use Rattle.split_laws.proofs.Waiting.{AllStores, choice-stores, access-kept, same-part, reading-kept, reader-writes-nothing, reader-commits-nothing}

@@ -1,22 +1,8 @@
 -- What is left to do, and what each choice takes off it: a core has 3 for each instruction in front of it, and 2 for each
 -- pending store, which asks and is drained. A locked instruction takes up to three choices (it asks, reads and writes), a
 -- plain store three (it becomes pending, asks and is drained), all else fewer.
-use Rattle.std.proofs.Common.{◌≡◌, ◌≢◌, ◌<◌, ◌≤◌, ℕ, ◌+◌, ◌*◌, zero, suc, List, [], ◌∷◌, Option, Some, None, length, slice_get, slice_set, slice_index_or, drop, arith, ap, refl, ◌⊎◌, inl, inr, length-append}
-use Rattle.std.proofs.lemmas.Option.{slice_get_within}
-use Rattle.tso_model.specs.Litmus.{Litmus}
-use Rattle.tso_model.specs.FlatMachine.{CoreState, State, Effect, idle, stalled, step_of, effect_of, chosen, core_of, program_of, applied, started}
-use Rattle.tso_model.specs.Runs.{stall_count}
-use Rattle.tso_model.specs.MemoryAccess.{MemoryAccess, NoAccess, Reads, Writes, Locks, step_access, drain_access, next_of, access_of}
-use Rattle.tso_model.specs.declared.instruction.Instr.{Instr}
-use Rattle.tso_model.specs.declared.execution.Entry.{Entry}
-use Rattle.tso_model.specs.declared.choice.Choice.{Choice}
-use Rattle.tso_model.specs.declared.choice.Choice.TheVariants.{Step, Drain}
-use Rattle.tso_model.specs.declared.choice.Stall.{Stall}
+use Rattle.split_laws.proofs.Vocabulary.{◌≡◌, ◌≢◌, ◌<◌, ◌≤◌, ℕ, ◌+◌, ◌*◌, zero, suc, List, [], ◌∷◌, Option, Some, None, length, slice_get, slice_set, slice_index_or, drop, arith, ap, refl, ◌⊎◌, inl, inr, length-append, slice_get_within, Litmus, CoreState, State, Effect, idle, stalled, step_of, effect_of, chosen, core_of, program_of, applied, started, stall_count, MemoryAccess, NoAccess, Reads, Writes, Locks, step_access, drain_access, next_of, access_of, Instr, Entry, Choice, Step, Drain, Stall, instructions, drain_with, lt-or, drop-at}
 use Rattle.tso_model.specs.declared.choice.Stall.TheVariants as stall
-use Rattle.tso_laws.specs.Counting.{instructions}
-use Rattle.basic_laws.proofs.WithPending.{drain_with}
-use Rattle.basic_laws.proofs.Basics.{lt-or}
-use Rattle.basic_laws.proofs.Lists.{drop-at}
 use Rattle.split_laws.proofs.Cores.{no-program, no-core}
 use Rattle.split_laws.proofs.Steps.{put, StepForm, stalls, buffers, makes, pairs, step-form}
 

@@ -1,3 +1,4 @@
+pub mod Vocabulary
 pub mod Cores
 pub mod Steps
 pub mod Waiting

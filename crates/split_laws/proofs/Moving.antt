@@ -1,16 +1,5 @@
 -- Load parts that are put before their store parts, and what is committed in between.
-use Rattle.std.proofs.Common.{◌≡◌, ◌≢◌, ℕ, List, [], ◌∷◌, ◌++◌, Bool, true, false, ap, sym, refl, ◌∙◌, ◌==◌, ◌&&◌, inl, inr}
-use Rattle.tso_model.specs.ProgramOrder.{same_kind}
-use Rattle.tso_model.specs.ProgramEntries.{is_at}
-use Rattle.tso_model.specs.ProgramOrder.{IsStorePart}
-use Rattle.tso_model.specs.MemoryAccess.{MemoryAccess}
-use Rattle.tso_model.specs.SplitMachine.{Holder, Free, HeldBy, HeldBetween}
-use Rattle.tso_model.specs.Together.{put_before, put_together}
-use Rattle.tso_model.specs.declared.execution.Entry.{Entry}
-use Rattle.tso_model.specs.declared.execution.Kind.TheVariants.{LR, LW}
-use Rattle.split_laws.specs.Between.{IsAnswered, ArePaired}
-use Rattle.basic_laws.proofs.Basics.{decide, test-true}
-use Rattle.basic_laws.proofs.Lists.{Each}
+use Rattle.split_laws.proofs.Vocabulary.{◌≡◌, ◌≢◌, ℕ, List, [], ◌∷◌, ◌++◌, Bool, true, false, ap, sym, refl, ◌∙◌, ◌==◌, ◌&&◌, inl, inr, same_kind, is_at, IsStorePart, MemoryAccess, Holder, Free, HeldBy, HeldBetween, put_before, put_together, Entry, LR, LW, IsAnswered, ArePaired, decide, test-true, Each}
 use Rattle.split_laws.proofs.Steps.{IsPlain}
 
 -- what is to come, with the load part that waits put before its store part

@@ -1,21 +1,5 @@
 -- In each round some choice takes effect, as long as there is something left to do.
-use Rattle.std.proofs.Common.{◌≡◌, ◌<◌, ◌≤◌, ℕ, ◌+◌, ◌*◌, zero, suc, List, [], ◌∷◌, ◌++◌, Option, Some, None, Bool, true, false, length, slice_index_or, arith, ap, sym, ◌∙◌, refl, ◌⊎◌, inl, inr, subst, if◌then◌else◌}
-use Rattle.tso_model.specs.Litmus.{Litmus}
-use Rattle.tso_model.specs.FlatMachine.{State, idle, effect_of, chosen, core_of, program_of, start, step, drain}
-use Rattle.tso_model.specs.Runs.{stall_count, is_done, has_ended}
-use Rattle.tso_model.specs.MemoryAccess.{next_of, access_of}
-use Rattle.tso_model.specs.SplitMachine.{Holder, Free, HeldBy, HeldBetween, Attempt, needs_bus, acts, asks}
-use Rattle.tso_model.specs.EitherBus.{BusState, unheld, effect_on, after_on, resting_on, then_on, run_on_from, choices_in}
-use Rattle.tso_model.specs.declared.choice.Bus.{Bus}
-use Rattle.tso_model.specs.declared.choice.Bus.TheVariants.{Atomic, Split}
-use Rattle.tso_model.specs.declared.instruction.Instr.{Instr}
-use Rattle.tso_model.specs.declared.execution.Entry.{Entry}
-use Rattle.tso_model.specs.declared.choice.Choice.{Choice}
-use Rattle.tso_model.specs.declared.choice.Choice.TheVariants.{Step, Drain}
-use Rattle.tso_laws.specs.Counting.{instructions}
-use Rattle.tso_laws.specs.Rounds.{Among, IsRound, CanBeCutIntoRounds}
-use Rattle.split_laws.specs.BusChoices.{state_on}
-use Rattle.split_laws.specs.BusRuns.{EndOn}
+use Rattle.split_laws.proofs.Vocabulary.{◌≡◌, ◌<◌, ◌≤◌, ℕ, ◌+◌, ◌*◌, zero, suc, List, [], ◌∷◌, ◌++◌, Option, Some, None, Bool, true, false, length, slice_index_or, arith, ap, sym, ◌∙◌, refl, ◌⊎◌, inl, inr, subst, if◌then◌else◌, Litmus, State, idle, effect_of, chosen, core_of, program_of, start, step, drain, stall_count, is_done, has_ended, next_of, access_of, Holder, Free, HeldBy, HeldBetween, Attempt, needs_bus, acts, asks, BusState, unheld, effect_on, after_on, resting_on, then_on, run_on_from, choices_in, Bus, Atomic, Split, Instr, Entry, Choice, Step, Drain, instructions, Among, IsRound, CanBeCutIntoRounds, state_on, EndOn}
 use Rattle.split_laws.proofs.Cores.{done-now, all-done}
 use Rattle.split_laws.proofs.Following.{same-self}
 use Rattle.split_laws.proofs.Left.{left, price-access, access-pays, step-takes, total, paid-total, left-present, left-within, busy-or-none, drop-past, drop-none, start-total}

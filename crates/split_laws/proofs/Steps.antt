@@ -1,28 +1,6 @@
 -- What a choice of the flat machine does, by the access that it makes. The eight instructions are gone through here alone.
-use Rattle.std.proofs.Common.{◌≡◌, ◌≢◌, ℕ, ◌+◌, zero, suc, List, [], ◌∷◌, ◌++◌, Option, Some, None, Bool, true, false, length, slice_index, arith, ap, sym, refl, ◌⊎◌, inl, inr, subst, nat_lt, if◌then◌else◌}
-use Rattle.std.proofs.lemmas.Bool.Decides.{nat_tests}
-use Rattle.std.specs.Prelude.{filter}
-use Rattle.tso_model.specs.Litmus.{Litmus}
-use Rattle.tso_model.specs.Actions.{action_of}
-use Rattle.tso_model.specs.Thread.{entry, value_in, value_of, updated}
-use Rattle.tso_model.specs.ProgramOrder.{same_kind, is_write, writes_to}
-use Rattle.tso_model.specs.FlatMachine.{CoreState, State, Effect, stalled, stored, effect_by, step_of, core_of, chosen, effect_of}
-use Rattle.tso_model.specs.Runs.{stall_count}
-use Rattle.tso_model.specs.MemoryAccess.{MemoryAccess, NoAccess, Writes, Locks, store_access, load_access, locked_access, access_by, step_access, drain_access, next_of, access_of}
-use Rattle.tso_model.specs.declared.register.Reg.{Reg}
-use Rattle.tso_model.specs.declared.instruction.Loc.{Loc}
-use Rattle.tso_model.specs.declared.instruction.Instr.{Instr}
-use Rattle.tso_model.specs.declared.action.Action.{Action}
-use Rattle.tso_model.specs.declared.action.Action.TheVariants.{Store, Load, Move, Fence, Lock}
-use Rattle.tso_model.specs.declared.execution.Entry.{Entry}
-use Rattle.tso_model.specs.declared.execution.Kind.TheVariants.{W, LR, LW}
-use Rattle.tso_model.specs.declared.choice.Choice.{Choice}
-use Rattle.tso_model.specs.declared.choice.Choice.TheVariants.{Step, Drain}
-use Rattle.tso_model.specs.declared.choice.Stall.{Stall}
+use Rattle.split_laws.proofs.Vocabulary.{◌≡◌, ◌≢◌, ℕ, ◌+◌, zero, suc, List, [], ◌∷◌, ◌++◌, Option, Some, None, Bool, true, false, length, slice_index, arith, ap, sym, refl, ◌⊎◌, inl, inr, subst, nat_lt, if◌then◌else◌, nat_tests, filter, Litmus, action_of, entry, value_in, value_of, updated, same_kind, is_write, writes_to, CoreState, State, Effect, stalled, stored, effect_by, step_of, core_of, chosen, effect_of, stall_count, MemoryAccess, NoAccess, Writes, Locks, store_access, load_access, locked_access, access_by, step_access, drain_access, next_of, access_of, Reg, Loc, Instr, Action, Store, Load, Move, Fence, Lock, Entry, W, LR, LW, Choice, Step, Drain, Stall, Committed, Buffered, drain_with, fenced_with, locked_with, Each}
 use Rattle.tso_model.specs.declared.choice.Stall.TheVariants as stall
-use Rattle.tso_model.specs.declared.choice.Outcome.TheVariants.{Committed, Buffered}
-use Rattle.basic_laws.proofs.WithPending.{drain_with, fenced_with, locked_with}
-use Rattle.basic_laws.proofs.Lists.{Each}
 
 -- a plain store of this core, as all that it has pending is
 pub record IsStore (core : ℕ) (e : Entry) : Type 0 where

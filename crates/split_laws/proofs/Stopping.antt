@@ -1,25 +1,5 @@
 -- A run stops where it ends; after the end nothing happens, and nobody holds the bus.
-use Rattle.std.proofs.Common.{◌≡◌, ◌<◌, ℕ, ◌+◌, zero, suc, List, [], ◌∷◌, ◌++◌, Bool, true, false, length, take, arith, ap, sym, ◌∙◌, refl, inl, inr, subst, if◌then◌else◌, append_assoc}
-use Rattle.std.proofs.lemmas.List.{append-nil}
-use Rattle.tso_model.specs.Litmus.{Litmus}
-use Rattle.tso_model.specs.FlatMachine.{State, program_of, core_of, chosen, effect_of, start}
-use Rattle.tso_model.specs.Runs.{is_done, has_ended, stall_count}
-use Rattle.tso_model.specs.MemoryAccess.{NoAccess, step_access, drain_access, access_of}
-use Rattle.tso_model.specs.SplitMachine.{Holder, Free, HeldBy, HeldBetween, Attempt}
-use Rattle.tso_model.specs.EitherBus.{BusState, BusRun, unheld, effect_on, after_on, resting_on, then_on, run_on_from, run_on, HitFits, HitsFit}
-use Rattle.tso_model.specs.declared.choice.Bus.{Bus}
-use Rattle.tso_model.specs.declared.choice.Bus.TheVariants.{Atomic, Split}
-use Rattle.tso_model.specs.declared.execution.Entry.{Entry}
-use Rattle.tso_model.specs.declared.choice.Choice.{Choice}
-use Rattle.tso_model.specs.declared.choice.Choice.TheVariants.{Step, Drain}
-use Rattle.tso_model.specs.declared.choice.Stall.{Stall}
-use Rattle.tso_model.specs.declared.choice.Outcome.TheVariants.{Stalled}
-use Rattle.split_laws.specs.BusChoices.{state_on, commits_on, IsPossibleOn}
-use Rattle.split_laws.specs.BusRuns.{EndOn, left_by}
-use Rattle.split_laws.specs.inner.BusRuns.{ChangesNothingOn, StopsAtTheEndOn}
-use Rattle.split_laws.specs.BusSoFar.{SoFarOn}
-use Rattle.split_laws.specs.inner.Pending.{PendingIsOwn}
-use Rattle.basic_laws.proofs.Lists.{Each, each-at}
+use Rattle.split_laws.proofs.Vocabulary.{◌≡◌, ◌<◌, ℕ, ◌+◌, zero, suc, List, [], ◌∷◌, ◌++◌, Bool, true, false, length, take, arith, ap, sym, ◌∙◌, refl, inl, inr, subst, if◌then◌else◌, append_assoc, append-nil, Litmus, State, program_of, core_of, chosen, effect_of, start, is_done, has_ended, stall_count, NoAccess, step_access, drain_access, access_of, Holder, Free, HeldBy, HeldBetween, Attempt, BusState, BusRun, unheld, effect_on, after_on, resting_on, then_on, run_on_from, run_on, HitFits, HitsFit, Bus, Atomic, Split, Entry, Choice, Step, Drain, Stall, Stalled, state_on, commits_on, IsPossibleOn, EndOn, left_by, ChangesNothingOn, StopsAtTheEndOn, SoFarOn, PendingIsOwn, Each, each-at}
 use Rattle.split_laws.proofs.Steps.{IsStore}
 use Rattle.split_laws.proofs.Cores.{done-pending, done-next, done-anywhere}
 use Rattle.split_laws.proofs.Waiting.{start-stores}

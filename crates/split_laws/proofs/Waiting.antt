@@ -1,23 +1,5 @@
 -- What every choice keeps: all that is pending are plain stores, and what holds the bus still has its access to make.
-use Rattle.std.proofs.Common.{◌≡◌, ◌≢◌, ℕ, List, [], ◌∷◌, ◌++◌, Option, Some, None, Bool, true, false, slice_get, slice_index, ap, sym, ◌∙◌, refl, inl, inr, subst, if◌then◌else◌}
-use Rattle.std.specs.Prelude.{filter}
-use Rattle.tso_model.specs.Litmus.{Litmus}
-use Rattle.tso_model.specs.ProgramOrder.{is_write, writes_to}
-use Rattle.tso_model.specs.FlatMachine.{CoreState, State, Effect, program_of, step_of, drain_of, effect_of, chosen, core_of, applied, start}
-use Rattle.tso_model.specs.Actions.{action_of}
-use Rattle.tso_model.specs.MemoryAccess.{MemoryAccess, NoAccess, Writes, Locks, load_access, access_by, step_access, drain_access, next_of, access_of}
-use Rattle.tso_model.specs.SplitMachine.{same_choice, load_part}
-use Rattle.tso_model.specs.declared.instruction.Loc.{Loc}
-use Rattle.tso_model.specs.declared.instruction.Instr.{Instr}
-use Rattle.tso_model.specs.declared.action.Action.{Action}
-use Rattle.tso_model.specs.declared.action.Action.TheVariants.{Store, Load, Move, Fence, Lock}
-use Rattle.tso_model.specs.declared.execution.Entry.{Entry}
-use Rattle.tso_model.specs.declared.choice.Choice.{Choice}
-use Rattle.tso_model.specs.declared.choice.Choice.TheVariants.{Step, Drain}
-use Rattle.basic_laws.proofs.WithPending.{drain_with}
-use Rattle.split_laws.specs.Holders.{HasRead}
-use Rattle.basic_laws.proofs.Basics.{test-true}
-use Rattle.basic_laws.proofs.Lists.{Each, each-append, each-map}
+use Rattle.split_laws.proofs.Vocabulary.{◌≡◌, ◌≢◌, ℕ, List, [], ◌∷◌, ◌++◌, Option, Some, None, Bool, true, false, slice_get, slice_index, ap, sym, ◌∙◌, refl, inl, inr, subst, if◌then◌else◌, filter, Litmus, is_write, writes_to, CoreState, State, Effect, program_of, step_of, drain_of, effect_of, chosen, core_of, applied, start, action_of, MemoryAccess, NoAccess, Writes, Locks, load_access, access_by, step_access, drain_access, next_of, access_of, same_choice, load_part, Loc, Instr, Action, Store, Load, Move, Fence, Lock, Entry, Choice, Step, Drain, drain_with, HasRead, test-true, Each, each-append, each-map}
 use Rattle.split_laws.proofs.Cores.{core-cases, memory-kept, starts-idle}
 use Rattle.split_laws.proofs.Steps.{IsStore, IsPlain, StepForm, stalls, buffers, makes, pairs, step-form, choice-plain, choice-pair}
 

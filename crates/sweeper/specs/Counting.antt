@@ -8,7 +8,7 @@ use Rattle.scheduler.specs.Seeds.{seeded_choices}
 use Rattle.protocol_tables.specs.declared.kind.ProtocolKind.{ProtocolKind}
 use Rattle.machine_core.specs.Configuration.{Configuration}
 use Rattle.tso_report.specs.Tally.{RunCounts, nothing_counted, with_state, with_verdict, with_unfinished, values_in}
-use Rattle.command_line.specs.Plan.{Plan}
+use Rattle.scheduler.specs.Plan.{Plan}
 use Rattle.simulator.specs.Runs.{run_under, AnswersFit}
 use Rattle.simulator.specs.Simulation.{verdict}
 

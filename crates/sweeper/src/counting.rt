@@ -14,11 +14,9 @@ ghost use Rattle.sweeper.specs.Counting.{with_one_run, sweep_counts, SweepAnswer
 ghost use Rattle.sweeper.specs.inner.Counting.{EachKindWith};
 
 use crate::flat_sweep::sweep_flat;
-use command_line::SweepPlan;
-use hints::Stalls;
 use machine_core::{Bus, Config, Machine};
 use protocol_tables::{Mesi, Moesi, Mosi, Msi, Protocol, ProtocolKind};
-use scheduler::{Choices, Seeded};
+use scheduler::{Choices, Seeded, Stalls, SweepPlan};
 use simulator::{drive_machine, verdict_of};
 use split_laws::{
     atomic_runs_are_flat_runs, attempts_lead_from_state_to_state,

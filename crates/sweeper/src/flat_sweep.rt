@@ -11,10 +11,9 @@ ghost use Rattle.tso_report.specs.Tally.{nothing_counted, runs_in};
 ghost use Rattle.sweeper.specs.Counting.{choices_of, with_one_run, sweep_counts, SweepAnswersFit};
 
 use crate::counting::count_state;
-use command_line::SweepPlan;
 use flat_machine::{Snapshot, drive, overwrite, start, write_registers};
 use machine_core::{Bus, Config};
-use scheduler::Seeded;
+use scheduler::{Seeded, SweepPlan};
 use std::alloc::Global;
 use tso_model::{NoMemory, Test};
 use tso_report::Tally;

@@ -6,3 +6,4 @@ pub mod Owning
 pub mod BusMemory
 pub mod Listed
 pub mod Tracing
+pub mod Supplying

@@ -24,14 +24,15 @@ use Rattle.machine_core.specs.Looking.{bus_holder_of}
 use Rattle.machine_core.specs.declared.looking.BusHolder.{BusHolder}
 use Rattle.tso_report.specs.Json.{count, memory_members, memory_value, order_value}
 use Rattle.trace_report.specs.Shown.{Shown}
-use Rattle.trace_report.specs.Steps.{step_of}
 use Rattle.trace_json.specs.Values.{counts, text_or_null, texts}
 use Rattle.trace_json.specs.OwnWords.{own_words}
 use Rattle.trace_report.specs.Lines.{access_name, stall_name, line_name, names_in_line, store_text}
 use Rattle.trace_report.specs.Lines.{printed_core, printed_move, printed_change, printed_request, transient_name}
 use Rattle.trace_json.specs.MachineJson.{words_in, words_in_line, kept_words, copy_json, copies_in, set_json, sets_json, core_json, cores_json, holder_json, bus_json, machine_json}
 use Rattle.trace_json.specs.StepJson.{stall_in, step_json}
-use Rattle.trace_json.specs.TraceJson.{last_or, last_step_json, step_to, steps_json, start_json, trace_json}
+use Rattle.trace_json.specs.Supplied.{source_text}
+use Rattle.trace_json.specs.TraceJson.{Sourced, sourced_by, last_or, last_step_json, step_to, steps_json, start_json, trace_json}
+use Rattle.trace_json.specs.declared.supplied.Source.{Source}
 
 neither : (p q : Bool) → p ≡ false → q ≡ false → p || q ≡ false
 neither true q h k = h
@@ -108,13 +109,14 @@ machine m own =
     (neither (has_float (memory_value m.test own)) _ (memory m.test.locations own)
     (neither (has_float (memory_value m.test m.state.flat.memory)) false (memory m.test.locations m.state.flat.memory) refl)))
 
-one_step : (t : Litmus) (words : ℕ) (s : Shown) (after : Data) → has_float after ≡ false → has_float (step_json t words s after) ≡ false
-one_step t words s after h =
+one_step : (t : Litmus) (words : ℕ) (s : Shown) (supplied : Option Source) (after : Data) → has_float after ≡ false → has_float (step_json t words s supplied after) ≡ false
+one_step t words s supplied after h =
     let access : Option (List ℕ) = option_map access_name s.access in
     let flush : Option (List ℕ) = option_map printed_core s.flushed in
     let moved : Option (List ℕ) = option_map printed_move s.moved in
     let stall : Option (List ℕ) = option_map stall_name (stall_in s.outcome) in
     let states : List (List ℕ) = map (printed_change t words) s.changes in
+    let source : Option (List ℕ) = option_map source_text supplied in
     let transaction : Option (List ℕ) = option_map (printed_request t words) s.request in
     let write_back : Option (List ℕ) = option_map (line_name t words) s.wrote_back in
     neither (has_float (text_or_null access)) _ (optional access)
@@ -124,18 +126,19 @@ one_step t words s after h =
     (neither (has_float (text_or_null moved)) _ (optional moved)
     (neither (has_float (text_or_null stall)) _ (optional stall)
     (neither (has_float (texts states)) _ (strings states)
+    (neither (has_float (text_or_null source)) _ (optional source)
     (neither (has_float (text_or_null transaction)) _ (optional transaction)
-    (neither (has_float (text_or_null write_back)) false (optional write_back) refl))))))))
+    (neither (has_float (text_or_null write_back)) false (optional write_back) refl)))))))))
 
-to : (s : Shown) (m : Running) (own : List ℕ) → has_float (step_to s m own) ≡ false
-to s m own = one_step m.test (words_in m) s (machine_json m own) (machine m own)
+to : (s : Sourced) (m : Running) (own : List ℕ) → has_float (step_to s m own) ≡ false
+to s m own = one_step m.test (words_in m) s.step s.supplied (machine_json m own) (machine m own)
 
 steps : (m : Running) (own : List ℕ) (choices : List Choice) → items_have_float (items_of (steps_json m own choices)) ≡ false
 steps m own [] = refl
 steps m own (c ∷ cs) =
-    by_end (has_ended m.test m.state.flat) (step_to (step_of m c) (machine_after m c) (own_words (machine_after m c) own))
+    by_end (has_ended m.test m.state.flat) (step_to (sourced_by m c) (machine_after m c) (own_words (machine_after m c) own))
     (steps_json (machine_after m c) (own_words (machine_after m c) own) cs)
-    (to (step_of m c) (machine_after m c) (own_words (machine_after m c) own)) (steps (machine_after m c) (own_words (machine_after m c) own) cs)
+    (to (sourced_by m c) (machine_after m c) (own_words (machine_after m c) own)) (steps (machine_after m c) (own_words (machine_after m c) own) cs)
   where
     by_end : (ended : Bool) (step : Data) (further : List Data) → has_float step ≡ false → items_have_float (items_of further) ≡ false
         → items_have_float (items_of (if ended then [] else step ∷ further)) ≡ false

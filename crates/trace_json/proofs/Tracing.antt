@@ -16,16 +16,18 @@ use Rattle.snoop_bus.specs.Geometry.{IsLineSize}
 use Rattle.machine_core.specs.Configuration.{Configuration}
 use Rattle.machine_core.specs.Running.{Running, new_machine, effect_by, machine_after}
 use Rattle.machine_core.specs.inner.Running.{is_ended}
-use Rattle.trace_report.specs.Shown.{Shown}
 use Rattle.trace_report.specs.Told.{IsTraced}
 use Rattle.trace_report.specs.inner.Told.{IsLookedAt}
 use Rattle.trace_report.proofs.Whole.{some-word}
 use Rattle.trace_report.proofs.Traced.{traced-first}
+use Rattle.trace_report.specs.Shown.{Shown}
 use Rattle.trace_report.specs.Steps.{step_of}
 use Rattle.trace_json.specs.OwnWords.{own_words}
 use Rattle.trace_json.specs.MachineJson.{words_in, machine_json}
 use Rattle.trace_json.specs.StepJson.{step_json}
-use Rattle.trace_json.specs.TraceJson.{last_or, step_to, steps_json}
+use Rattle.trace_json.specs.Supplied.{found_by, supplied_to}
+use Rattle.trace_json.specs.TraceJson.{Sourced, sourced_by, last_or, step_to, steps_json}
+use Rattle.trace_json.specs.declared.supplied.Source.{Source}
 use Rattle.trace_json.specs.inner.Looked.{IsShown, told_last}
 
 -- whether the test has ended on a machine that was never refused memory
@@ -36,14 +38,14 @@ steps-end : (m : Running) (memory : List ℕ) (cs : List Choice) → has_ended m
 steps-end m memory [] h = refl
 steps-end m memory (c ∷ cs) h = ap (λ b. if b
     then []
-    else step_to (step_of m c) (machine_after m c) (own_words (machine_after m c) memory) ∷ steps_json (machine_after m c) (own_words (machine_after m c) memory) cs) h
+    else step_to (sourced_by m c) (machine_after m c) (own_words (machine_after m c) memory) ∷ steps_json (machine_after m c) (own_words (machine_after m c) memory) cs) h
 
 steps-next : (m : Running) (memory : List ℕ) (c : Choice) (cs : List Choice) → has_ended m.test m.state.flat ≡ false
     → steps_json m memory (c ∷ cs)
-    ≡ step_to (step_of m c) (machine_after m c) (own_words (machine_after m c) memory) ∷ steps_json (machine_after m c) (own_words (machine_after m c) memory) cs
+    ≡ step_to (sourced_by m c) (machine_after m c) (own_words (machine_after m c) memory) ∷ steps_json (machine_after m c) (own_words (machine_after m c) memory) cs
 steps-next m memory c cs h = ap (λ b. if b
     then []
-    else step_to (step_of m c) (machine_after m c) (own_words (machine_after m c) memory) ∷ steps_json (machine_after m c) (own_words (machine_after m c) memory) cs) h
+    else step_to (sourced_by m c) (machine_after m c) (own_words (machine_after m c) memory) ∷ steps_json (machine_after m c) (own_words (machine_after m c) memory) cs) h
 
 -- the steps so far, before those to come, are the whole
 abbrev pub Made : Running → List ℕ → List Data → List Choice → List Data → Type 0
@@ -56,47 +58,48 @@ all-made m memory done cs whole sound ended so_far =
 
 -- one more step
 pub one-made : (m next : Running) (memory own : List ℕ) (done : List Data) (c : Choice) (cs : List Choice) (whole : List Data) (d : Data)
-    → m.failed ≡ false → false ≡ is_ended m → next ≡ machine_after m c → own ≡ own_words next memory → d ≡ step_to (step_of m c) next own
+    → m.failed ≡ false → false ≡ is_ended m → next ≡ machine_after m c → own ≡ own_words next memory → d ≡ step_to (sourced_by m c) next own
     → Made m memory done (c ∷ cs) whole → Made next own (done ++ d ∷ []) cs whole
 one-made m next memory own done c cs whole d sound going next_is own_is d_is so_far =
     let after = machine_after m c in
     let own_same : own ≡ own_words after memory = own_is ∙ ap (λ n. own_words n memory) next_is in
-    let step_same : d ≡ step_to (step_of m c) after (own_words after memory) =
-    d_is ∙ (ap (λ n. step_to (step_of m c) n own) next_is ∙ ap (λ w. step_to (step_of m c) after w) own_same) in
+    let step_same : d ≡ step_to (sourced_by m c) after (own_words after memory) =
+    d_is ∙ (ap (λ n. step_to (sourced_by m c) n own) next_is ∙ ap (λ w. step_to (sourced_by m c) after w) own_same) in
     let rest_same : steps_json next own cs ≡ steps_json after (own_words after memory) cs =
     ap (λ n. steps_json n own cs) next_is ∙ ap (λ w. steps_json after w cs) own_same in
     append_assoc done (d ∷ []) (steps_json next own cs)
     ∙ (ap (λ x. done ++ x ∷ steps_json next own cs) step_same
-    ∙ (ap (λ rest. done ++ step_to (step_of m c) after (own_words after memory) ∷ rest) rest_same
+    ∙ (ap (λ rest. done ++ step_to (sourced_by m c) after (own_words after memory) ∷ rest) rest_same
     ∙ (sym (ap (λ list. done ++ list) (steps-next m memory c cs (end-of m false sound going))) ∙ so_far)))
 
 -- a step's value with the machine after it
-pub one-step : (t : Litmus) (words : ℕ) (s told : Shown) (next : Running) (own : List ℕ) (after d : Data)
-    → d ≡ step_json t words s after → after ≡ machine_json next own → s ≡ told → next.test ≡ t → words_in next ≡ words → d ≡ step_to told next own
+pub one-step : (t : Litmus) (words : ℕ) (s told : Sourced) (next : Running) (own : List ℕ) (after d : Data)
+    → d ≡ step_json t words s.step s.supplied after → after ≡ machine_json next own → s ≡ told → next.test ≡ t → words_in next ≡ words → d ≡ step_to told next own
 one-step t words s told next own after d is after_is s_is test_is words_are =
-    is ∙ (ap (λ a. step_json t words s a) after_is ∙ (ap (λ x. step_json t words x (machine_json next own)) s_is
-    ∙ (ap (λ u. step_json u words told (machine_json next own)) (sym test_is) ∙ ap (λ n. step_json next.test n told (machine_json next own)) (sym words_are))))
+    is ∙ (ap (λ a. step_json t words s.step s.supplied a) after_is ∙ (ap (λ (x : Sourced). step_json t words x.step x.supplied (machine_json next own)) s_is
+    ∙ (ap (λ u. step_json u words told.step told.supplied (machine_json next own)) (sym test_is)
+    ∙ ap (λ n. step_json next.test n told.step told.supplied (machine_json next own)) (sym words_are))))
 
 -- what is told last, before the choices to come, is the last of all
-abbrev pub ToldLast : Option Shown → Running → List ℕ → List Choice → Data → Type 0
+abbrev pub ToldLast : Option Sourced → Running → List ℕ → List Choice → Data → Type 0
 ToldLast last m memory cs whole = last_or (told_last last m memory) (steps_json m memory cs) ≡ whole
 
-pub last-told : (last : Option Shown) (m : Running) (memory : List ℕ) (cs : List Choice) (whole : Data) → m.failed ≡ false → true ≡ is_ended m
+pub last-told : (last : Option Sourced) (m : Running) (memory : List ℕ) (cs : List Choice) (whole : Data) → m.failed ≡ false → true ≡ is_ended m
     → ToldLast last m memory cs whole → told_last last m memory ≡ whole
 last-told last m memory cs whole sound ended so_far =
     sym (ap (last_or (told_last last m memory)) (steps-end m memory cs (end-of m true sound ended))) ∙ so_far
 
-pub next-told : (m next : Running) (memory own : List ℕ) (last : Option Shown) (s : Shown) (c : Choice) (cs : List Choice) (whole : Data)
-    → m.failed ≡ false → false ≡ is_ended m → next ≡ machine_after m c → own ≡ own_words next memory → s ≡ step_of m c
+pub next-told : (m next : Running) (memory own : List ℕ) (last : Option Sourced) (s : Sourced) (c : Choice) (cs : List Choice) (whole : Data)
+    → m.failed ≡ false → false ≡ is_ended m → next ≡ machine_after m c → own ≡ own_words next memory → s ≡ sourced_by m c
     → ToldLast last m memory (c ∷ cs) whole → ToldLast (Some s) next own cs whole
 next-told m next memory own last s c cs whole sound going next_is own_is s_is so_far =
     let after = machine_after m c in
     let own_same : own ≡ own_words after memory = own_is ∙ ap (λ n. own_words n memory) next_is in
-    let step_same : step_to s next own ≡ step_to (step_of m c) after (own_words after memory) =
-    ap (λ x. step_to x next own) s_is ∙ (ap (λ n. step_to (step_of m c) n own) next_is ∙ ap (λ w. step_to (step_of m c) after w) own_same) in
+    let step_same : step_to s next own ≡ step_to (sourced_by m c) after (own_words after memory) =
+    ap (λ x. step_to x next own) s_is ∙ (ap (λ n. step_to (sourced_by m c) n own) next_is ∙ ap (λ w. step_to (sourced_by m c) after w) own_same) in
     let rest_same : steps_json next own cs ≡ steps_json after (own_words after memory) cs =
     ap (λ n. steps_json n own cs) next_is ∙ ap (λ w. steps_json after w cs) own_same in
-    ap (λ d. last_or d (steps_json next own cs)) step_same ∙ (ap (λ l. last_or (step_to (step_of m c) after (own_words after memory)) l) rest_same
+    ap (λ d. last_or d (steps_json next own cs)) step_same ∙ (ap (λ l. last_or (step_to (sourced_by m c) after (own_words after memory)) l) rest_same
     ∙ (sym (ap (last_or (told_last last m memory)) (steps-next m memory c cs (end-of m false sound going))) ∙ so_far))
 
 -- ---- the machine after a choice has its words, and is one that is shown
@@ -124,9 +127,9 @@ is-looked-at t config m words s is size = record {
 }
 
 -- one more step among the values
-pub one-pushed : (m next : Running) (memory own : List ℕ) (steps after : List Value) (v : Value) (list : List Choice) (c : Choice) (cs : List Choice) (whole : List Data) (s : Shown)
+pub one-pushed : (m next : Running) (memory own : List ℕ) (steps after : List Value) (v : Value) (list : List Choice) (c : Choice) (cs : List Choice) (whole : List Data) (s : Sourced)
     → list ≡ c ∷ cs → m.failed ≡ false → false ≡ is_ended m → next ≡ machine_after m c → own ≡ own_words next memory
-    → s ≡ step_of m c → view v ≡ step_to s next own → after ≡ steps ++ v ∷ [] → Made m memory (map view steps) list whole → Made next own (map view after) cs whole
+    → s ≡ sourced_by m c → view v ≡ step_to s next own → after ≡ steps ++ v ∷ [] → Made m memory (map view steps) list whole → Made next own (map view after) cs whole
 one-pushed m next memory own steps after v list c cs whole s list_is sound going next_is own_is s_is v_is pushed so_far =
     let more : map view after ≡ map view steps ++ view v ∷ [] = ap (map view) pushed ∙ map-append view steps (v ∷ []) in
     let made : Made m memory (map view steps) (c ∷ cs) whole = subst (λ l. Made m memory (map view steps) l whole) list_is so_far in
@@ -142,10 +145,20 @@ pub none-left : (m : Running) (memory : List ℕ) (done : List Data) (choices : 
 none-left m memory done choices i whole past so_far =
     sym (append-nil done) ∙ (sym (ap (λ l. done ++ steps_json m memory l) (drop_of_length-le choices past)) ∙ so_far)
 
-pub none-told : (last : Option Shown) (m : Running) (memory : List ℕ) (choices : List Choice) (i : ℕ) (whole : Data) → length choices ≤ i
+pub none-told : (last : Option Sourced) (m : Running) (memory : List ℕ) (choices : List Choice) (i : ℕ) (whole : Data) → length choices ≤ i
     → ToldLast last m memory (drop i choices) whole → told_last last m memory ≡ whole
 none-told last m memory choices i whole past so_far =
     sym (ap (λ l. last_or (told_last last m memory) (steps_json m memory l)) (drop_of_length-le choices past)) ∙ so_far
 
 pub new-traced : (table : Table) (config : Configuration) (t : Litmus) (m : Running) → m ≡ new_machine table config t → IsTraced t config m
 new-traced table config t m is = subst (λ x. IsTraced t config x) (sym is) (traced-first table config t)
+
+-- a step, and where its word was found
+abbrev with_source : Shown → Option Source → Sourced
+with_source s supplied = record { step = s; supplied = supplied }
+
+pub source-told : (m : Running) (c : Choice) (s : Shown) (found : Option Source) (supplied : Option Source) → s ≡ step_of m c → found ≡ found_by m c → supplied ≡ supplied_to s found
+    → with_source s supplied ≡ sourced_by m c
+source-told m c s found supplied s_is found_is is =
+    let same : supplied ≡ supplied_to (step_of m c) (found_by m c) = is ∙ (ap (λ x. supplied_to x found) s_is ∙ ap (supplied_to (step_of m c)) found_is) in
+    (λ i. record { step = s_is i; supplied = same i })

@@ -4,6 +4,8 @@ pub mod MachineJson
 pub mod OwnWords
 pub mod Programs
 pub mod Proposition
+pub mod Supplied
 pub mod StepJson
+pub mod SupplyLaws
 pub mod TraceJson
 pub mod TracedRun

@@ -12,6 +12,8 @@ use Rattle.trace_report.specs.Shown.{Shown}
 use Rattle.trace_report.specs.Lines.{access_name, stall_name, outcome_name, line_name, printed_core, printed_move}
 use Rattle.trace_report.specs.Lines.{printed_change, printed_request}
 use Rattle.trace_json.specs.Values.{text_or_null, texts}
+use Rattle.trace_json.specs.Supplied.{source_text}
+use Rattle.trace_json.specs.declared.supplied.Source.{Source}
 
 -- the outcome's word, and of a stall why
 abbrev pub outcome_word : Outcome → List ℕ
@@ -28,9 +30,9 @@ stall_in Moved = None
 stall_in Asked = None
 stall_in (Stalled why) = Some why
 
--- a step of the test on caches whose lines have so many words, with the machine after it
-abbrev pub step_json : Litmus → ℕ → Shown → Data → Data
-step_json t words s after =
+-- a step of the test on caches whose lines have so many words, with where the word is found that it reads, and the machine after it
+abbrev pub step_json : Litmus → ℕ → Shown → Option Source → Data → Data
+step_json t words s supplied after =
     object (member (codes "access") (text_or_null (option_map access_name s.access))
     (member (codes "after") after
     (member (codes "choice") (string (printed_choice s.choice))
@@ -41,5 +43,6 @@ step_json t words s after =
     (member (codes "outcome") (string (outcome_word s.outcome))
     (member (codes "stall") (text_or_null (option_map stall_name (stall_in s.outcome)))
     (member (codes "states") (texts (map (printed_change t words) s.changes))
+    (member (codes "supplied") (text_or_null (option_map source_text supplied))
     (member (codes "transaction") (text_or_null (option_map (printed_request t words) s.request))
-    (member (codes "write_back") (text_or_null (option_map (line_name t words) s.wrote_back)) no_members))))))))))))
+    (member (codes "write_back") (text_or_null (option_map (line_name t words) s.wrote_back)) no_members)))))))))))))

@@ -1,6 +1,6 @@
 -- The trace of a run as a JSON value: the machine before the first choice, and a step for each choice that was used, with
 -- the machine after it. (This project's profile.)
-use Rattle.std.specs.Prelude.{ℕ, if◌then◌else◌, List, [], ◌∷◌, codes}
+use Rattle.std.specs.Prelude.{ℕ, if◌then◌else◌, List, [], ◌∷◌, Option, codes}
 use Rattle.serde_json.specs.Data.{Data, array, object, no_members, member}
 use Rattle.serde_json.specs.View.{items_of}
 use Rattle.tso_model.specs.Litmus.{Litmus}
@@ -15,10 +15,20 @@ use Rattle.trace_report.specs.Steps.{step_of}
 use Rattle.trace_json.specs.OwnWords.{own_words}
 use Rattle.trace_json.specs.MachineJson.{words_in, machine_json}
 use Rattle.trace_json.specs.StepJson.{step_json}
+use Rattle.trace_json.specs.Supplied.{supplied_by}
+use Rattle.trace_json.specs.declared.supplied.Source.{Source}
+
+-- what a choice did, and where the word is found that it read
+pub record Sourced : Type 0 where
+  pub step : Shown
+  pub supplied : Option Source
+
+abbrev pub sourced_by : Running → Choice → Sourced
+sourced_by m choice = record { step = step_of m choice; supplied = supplied_by m choice }
 
 -- a step to this machine, whose memory has these words
-abbrev pub step_to : Shown → Running → List ℕ → Data
-step_to s m memory = step_json m.test (words_in m) s (machine_json m memory)
+abbrev pub step_to : Sourced → Running → List ℕ → Data
+step_to s m memory = step_json m.test (words_in m) s.step s.supplied (machine_json m memory)
 
 -- what each choice did that was used, up to the first moment at which the test had ended, from a machine whose memory has these words
 abbrev pub steps_json : Running → List ℕ → List Choice → List Data
@@ -26,7 +36,7 @@ steps_json m memory [] = []
 steps_json m memory (c ∷ cs) =
     if has_ended m.test m.state.flat
     then []
-    else step_to (step_of m c) (machine_after m c) (own_words (machine_after m c) memory)
+    else step_to (sourced_by m c) (machine_after m c) (own_words (machine_after m c) memory)
     ∷ steps_json (machine_after m c) (own_words (machine_after m c) memory) cs
 
 -- the machine before the first choice, whose memory has the test's first words

@@ -10,6 +10,7 @@ mod own_words;
 mod programs;
 mod proposition;
 mod step;
+mod supplied;
 mod texts;
 mod trace;
 mod traced_run;

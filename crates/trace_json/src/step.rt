@@ -12,6 +12,7 @@ ghost use Rattle.trace_json.specs.Values.{text_or_null, texts};
 ghost use Rattle.trace_json.specs.StepJson.{outcome_word, stall_in, step_json};
 ghost use Rattle.trace_json.specs.inner.Stepped.{done_members, with_left};
 
+use crate::supplied::{Source, source_value};
 use crate::texts::{choice_text, line_text, name_or_null};
 use serde_json::{Map, Value, put};
 use snoop_bus::AccessKind;
@@ -22,7 +23,8 @@ use trace_report::{LineRequest, Moved, StateChange, Step};
 use tso_model::{Core, NoMemory, Outcome, Test};
 use tso_report::json::order_value;
 
-/// What a choice did, on caches whose lines have so many words, and this machine after it.
+/// What a choice did, on caches whose lines have so many words, where the word is found that it read, and this machine
+/// after it.
 ///
 /// Errors: out of memory only.
 pub fn step_value(
@@ -30,15 +32,16 @@ pub fn step_value(
     test: &Test,
     words: u8,
     step: &Step,
+    supplied: Option<Source>,
     after: Value,
 ) -> Result<Value, NoMemory>
     requires words { 0 < words }
     requires known { IsKnown test.now words (shown step.now) }
-    ensures { IfOk result (λ value. view value ≡ step_json test.now words (shown step.now) (view after)) }
+    ensures { IfOk result (λ value. view value ≡ step_json test.now words (shown step.now) supplied (view after)) }
 {
     let mut members = Map::new(alloc);
     put_done(&mut members, alloc, test, step, after)?;
-    put_left(&mut members, alloc, test, words, step)?;
+    put_left(&mut members, alloc, test, words, step, supplied)?;
     Ok(Value::Object(members))
 }
 
@@ -77,10 +80,11 @@ fn put_left(
     test: &Test,
     words: u8,
     step: &Step,
+    supplied: Option<Source>,
 ) -> Result<(), NoMemory>
     requires words { 0 < words }
     requires known { IsKnown test.now words (shown step.now) }
-    ensures { OnOk result (members_view members.new.entries ≡ with_left test.now words (shown step.now) (members_view members.old.entries)) }
+    ensures { OnOk result (members_view members.new.entries ≡ with_left test.now words (shown step.now) supplied (members_view members.old.entries)) }
 {
     let outcome = Value::try_from_str(alloc, outcome_word(step.outcome))?;
     put(members, alloc, "outcome", outcome)?;
@@ -88,6 +92,8 @@ fn put_left(
     put(members, alloc, "stall", stall)?;
     let states = changes_value(alloc, test, words, &step.changes)?;
     put(members, alloc, "states", states)?;
+    let source = source_value(alloc, supplied)?;
+    put(members, alloc, "supplied", source)?;
     let request = request_value(alloc, test, words, step.request)?;
     put(members, alloc, "transaction", request)?;
     let wrote_back = write_back_value(alloc, test, words, step.wrote_back)?;

@@ -6,19 +6,19 @@ ghost use Rattle.serde_json.specs.View.{view, items_of};
 ghost use Rattle.tso_model.specs.FlatMachine.{chosen};
 ghost use Rattle.tso_model.specs.Runs.{CoresExist};
 ghost use Rattle.machine_core.specs.Running.{new_machine, machine_after};
-ghost use Rattle.trace_report.specs.Steps.{step_of};
 ghost use Rattle.trace_report.specs.Shown.{shown};
 ghost use Rattle.trace_report.specs.Known.{IsKnown};
 ghost use Rattle.trace_report.specs.Told.{IsTraced, IsTold};
 ghost use Rattle.trace_json.specs.TraceJson.{alone, last_or, last_from, last_step_json};
-ghost use Rattle.trace_json.specs.TraceJson.{step_to, steps_json, trace_from, trace_json};
+ghost use Rattle.trace_json.specs.TraceJson.{sourced_by, step_to, steps_json, trace_from, trace_json};
 ghost use Rattle.trace_json.specs.MachineJson.{machine_json};
-ghost use Rattle.trace_json.specs.inner.Looked.{HasMemory, told_last, trace_with};
+ghost use Rattle.trace_json.specs.inner.Looked.{HasMemory, sourced, told_last, trace_with};
 ghost use Rattle.trace_json.specs.OwnWords.{own_words};
 
 use crate::machine::machine_value;
 use crate::own_words::own_words;
 use crate::step::step_value;
+use crate::supplied::{Source, found_by, supplied_to};
 use machine_core::{Choice, Config, Machine};
 use protocol_tables::{Mesi, Moesi, Mosi, Msi, Protocol, ProtocolKind};
 use serde_json::{Map, Value, put};
@@ -170,6 +170,13 @@ fn steps_on<P: Protocol>(
     Ok(steps)
 }
 
+/// What a choice did, and where the word is found that it read.
+#[derive(Drop)]
+struct SourcedStep {
+    step: Step,
+    supplied: Option<Source>,
+}
+
 /// Makes a choice on a machine, and answers what it did. The states of the machine's lines and memory's own words are
 /// those before it, and then those after it.
 fn tell_on<P: Protocol>(
@@ -180,21 +187,24 @@ fn tell_on<P: Protocol>(
     test: &Test,
     config: Config,
     choice: Choice,
-) -> Result<Step, NoMemory>
+) -> Result<SourcedStep, NoMemory>
     requires core { chosen choice < length test.now.programs }
     requires told { IsTold test.now config machine.old states.old.items }
     requires memory { HasMemory test.now machine.old memory.old.items }
-    ensures step { IfOk result (λ step. shown step ≡ step_of machine.old choice) }
-    ensures known { IfOk result (λ step. IsKnown test.now config.shape.words (shown step)) }
+    ensures step { IfOk result (λ told. sourced told ≡ sourced_by machine.old choice) }
+    ensures known { IfOk result (λ told. IsKnown test.now config.shape.words (shown told.step)) }
     ensures after { OnOk result (machine.new ≡ machine_after machine.old choice) }
     ensures told { OnOk result (IsTold test.now config machine.new states.new.items) }
     ensures own { OnOk result (memory.new.items ≡ own_words machine.new memory.old.items) }
     ensures memory { OnOk result (HasMemory test.now machine.new memory.new.items) }
 {
+    let words = config.words();
+    let found = found_by(machine, test, words, choice);
     let step = tell(alloc, machine, states, test, config, choice)?;
-    let own = own_words(alloc, machine, test, config.words(), memory)?;
+    let supplied = supplied_to(&step, found);
+    let own = own_words(alloc, machine, test, words, memory)?;
     *memory = own;
-    Ok(step)
+    Ok(SourcedStep { step, supplied })
 }
 
 /// What a choice did, and this machine after it, whose memory has these words.
@@ -204,15 +214,16 @@ fn step_to<P: Protocol>(
     memory: &[u32],
     test: &Test,
     config: Config,
-    step: &Step,
+    told: &SourcedStep,
 ) -> Result<Value, NoMemory>
     requires traced { IsTraced test.now config machine.now }
     requires memory { HasMemory test.now machine.now memory.now }
-    requires known { IsKnown test.now config.shape.words (shown step.now) }
-    ensures { IfOk result (λ value. view value ≡ step_to (shown step.now) machine.now memory.now) }
+    requires known { IsKnown test.now config.shape.words (shown told.now.step) }
+    ensures { IfOk result (λ value. view value ≡ step_to (sourced told.now) machine.now memory.now) }
 {
     let after = machine_value(alloc, machine, test, config, memory)?;
-    let value = step_value(alloc, test, config.words(), step, after)?;
+    let words = config.words();
+    let value = step_value(alloc, test, words, &told.step, told.supplied, after)?;
     Ok(value)
 }
 
@@ -272,14 +283,14 @@ fn tell_last<P: Protocol>(
     test: &Test,
     config: Config,
     choices: &[Choice],
-) -> Result<Option<Step>, NoMemory>
+) -> Result<Option<SourcedStep>, NoMemory>
     requires cores { CoresExist (length test.now.programs) choices.now }
     requires traced { IsTraced test.now config machine.old }
     requires memory { HasMemory test.now machine.old memory.old.items }
     ensures traced { OnOk result (IsTraced test.now config machine.new) }
     ensures memory { OnOk result (HasMemory test.now machine.new memory.new.items) }
-    ensures known { IfOk result (λ last. IfSome last (λ step. IsKnown test.now config.shape.words (shown step))) }
-    ensures last { IfOk result (λ last. told_last (option_map shown last) machine.new memory.new.items
+    ensures known { IfOk result (λ last. IfSome last (λ told. IsKnown test.now config.shape.words (shown told.step))) }
+    ensures last { IfOk result (λ last. told_last (option_map sourced last) machine.new memory.new.items
         ≡ last_or (alone machine.old memory.old.items) (steps_json machine.old memory.old.items choices.now)) }
 {
     let mut states = states_of(alloc, machine, test, config.words())?;

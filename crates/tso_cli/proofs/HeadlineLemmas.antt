@@ -23,7 +23,7 @@ use Rattle.tso_cli.specs.Answers.{IsAnswerTo, IsInputAnswer, IsAnswer, too_large
 use Rattle.commands.specs.Answers.{run_text, IsRunAnswer, refused, ran}
 use Rattle.command_line.specs.Limits.{IsWithinLimits}
 use Rattle.commands.specs.Dividing.{parts_of}
-use Rattle.command_line.specs.Plan.{Plan}
+use Rattle.scheduler.specs.Plan.{Plan}
 use Rattle.tso_cli.specs.RunHeadline.{PrintsExecution, PrintsEachRun, HeadlineOfRuns}
 use Rattle.commands.specs.Trace.{ending_text, traced_in, IsTooLong, IsTraceAnswer, refused, too_long, traced}
 use Rattle.tso_cli.specs.TraceHeadline.{PrintsTraceIn, PrintsEachTrace, HeadlineOfTraces}

@@ -17,7 +17,7 @@ use Rattle.tso_report.specs.Report.{line, head, body, test_line, machine_line, r
 use Rattle.tso_report.specs.Json.{json_report}
 use Rattle.tso_report.specs.inner.JsonFrame.{other_members}
 use Rattle.tso_report.specs.Tally.{RunCounts, tally_text}
-use Rattle.command_line.specs.Plan.{Plan}
+use Rattle.scheduler.specs.Plan.{Plan}
 use Rattle.command_line.specs.declared.settings.Settings.TheVariants as settings
 use Rattle.commands.specs.Dividing.{parts_of, EndsInFeed}
 use Rattle.commands.specs.Lines.{input_refusal, test_refusal, choices_refusal, unfinished_line}

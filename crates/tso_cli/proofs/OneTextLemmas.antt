@@ -25,7 +25,7 @@ use Rattle.protocol_tables.specs.declared.kind.ProtocolKind.{ProtocolKind}
 use Rattle.machine_core.specs.Configuration.{Configuration}
 use Rattle.tso_report.specs.Report.{head}
 use Rattle.tso_report.specs.Tally.{observation, state_lines, sweep_line, ended_in, run_counts}
-use Rattle.command_line.specs.Plan.{Plan}
+use Rattle.scheduler.specs.Plan.{Plan}
 use Rattle.tso_io.specs.Limits.{longest_input}
 use Rattle.commands.specs.Dividing.{Parts, parts_of}
 use Rattle.commands.specs.Lines.{test_refusal, choices_refusal}

@@ -18,7 +18,7 @@ use Rattle.tso_laws.specs.EndedRuns.{IsExecution}
 use Rattle.protocol_tables.specs.declared.kind.ProtocolKind.{ProtocolKind}
 use Rattle.machine_core.specs.Configuration.{Configuration}
 use Rattle.tso_report.specs.Tally.{RunCounts, with_state, with_verdict, values_in, count_of, runs_in, state_line}
-use Rattle.command_line.specs.Plan.{Plan}
+use Rattle.scheduler.specs.Plan.{Plan}
 use Rattle.simulator.specs.Runs.{run_under, AnswersFit}
 use Rattle.simulator.specs.Simulation.{verdict}
 use Rattle.commands.specs.Sweep.{IsSweepAnswer}

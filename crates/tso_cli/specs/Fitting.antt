@@ -10,7 +10,7 @@ use Rattle.tso_report.specs.declared.named.Named.{Named}
 use Rattle.tso_report.specs.Shown.{Shown, IsOf}
 use Rattle.tso_report.specs.Limits.{IsSmall}
 use Rattle.tso_report.specs.Tally.{RunCounts, looked_at, ended_in, runs_in}
-use Rattle.command_line.specs.Plan.{Plan, most_seeds}
+use Rattle.scheduler.specs.Plan.{Plan, most_seeds}
 use Rattle.simulator.specs.Runs.{run_under, counts_under, AnswersFit}
 use Rattle.simulator.specs.Simulation.{shown_of}
 use Rattle.sweeper.specs.Counting.{sweep_counts, SweepAnswersFit}

@@ -14,7 +14,7 @@ use Rattle.tso_model.specs.declared.execution.Entry.{Entry}
 use Rattle.protocol_tables.specs.declared.kind.ProtocolKind.{ProtocolKind}
 use Rattle.machine_core.specs.Configuration.{Configuration}
 use Rattle.tso_report.specs.Tally.{RunCounts, runs_in, values_in, Ascend, state_line}
-use Rattle.command_line.specs.Plan.{Plan}
+use Rattle.scheduler.specs.Plan.{Plan}
 use Rattle.tso_cli.specs.SplitRun.{split_run}
 use Rattle.commands.specs.Sweep.{sweep_lines}
 use Rattle.sweeper.specs.Counting.{choices_of}

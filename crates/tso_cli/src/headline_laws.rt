@@ -4,7 +4,7 @@ ghost use Rattle.std.specs.Prelude.{◌≡◌, ℕ, Bool, List};
 ghost use Rattle.protocol_tables.specs.declared.kind.ProtocolKind.{ProtocolKind};
 ghost use Rattle.machine_core.specs.Configuration.{Configuration};
 ghost use Rattle.command_line.specs.Explanation.{Explanation};
-ghost use Rattle.command_line.specs.Plan.{Plan};
+ghost use Rattle.scheduler.specs.Plan.{Plan};
 ghost use Rattle.command_line.specs.Search.{Search};
 ghost use Rattle.commands.specs.Dividing.{parts_of};
 ghost use Rattle.tso_cli.specs.Headline.{InputHeadline};

@@ -13,11 +13,12 @@ mod stepping;
 
 pub use answering::{answer_to, answer_watched};
 pub use command::{Answered, answer_command, run_command};
-pub use command_line::{LineFault, ReasonPlan, SearchPlan, Settings, SweepPlan, settings_of};
+pub use command_line::{LineFault, ReasonPlan, SearchPlan, Settings, settings_of};
 pub use commands::{Answer, Status};
 pub use explorer::{STRIDE, Unwatched, Watcher};
 pub use hinting::hint;
 pub use hints::line_hint;
+pub use scheduler::SweepPlan;
 pub use simulator::{Ending, SimFault, simulate};
 pub use stepping::step_answer;
 pub use tso_io::{Counted, MAX_INPUT, READ_LIMIT, RunFault};

@@ -1,21 +1,5 @@
 -- Along the whole order, and the moves at the end.
-use Rattle.std.proofs.Common.{max, ◌≡◌, ◌≢◌, ◌<◌, ◌≤◌, ℕ, ◌+◌, ◌-◌, zero, suc, List, [], ◌∷◌, ◌++◌, Bool, true, false, length, slice_index, slice_index_or, drop, arith, ap, sym, ◌∙◌, append_assoc, refl, ◌⊎◌, inl, inr, add-one, subst, get_or-set_same, get_or-set_other}
-use Rattle.std.proofs.Math.ListN.{length-set}
-use Rattle.tso_model.specs.Litmus.{Litmus}
-use Rattle.tso_model.specs.ProgramOrder.{is_store, is_load}
-use Rattle.basic_laws.specs.Ranks.{rank}
-use Rattle.basic_laws.proofs.Ranks.{is_store_kind}
-use Rattle.tso_model.specs.ProgramEntries.{made_by}
-use Rattle.tso_model.specs.ProgramEntries.{read_values}
-use Rattle.tso_model.specs.declared.execution.Entry.{Entry}
-use Rattle.tso_model.specs.declared.instruction.Instr.{Instr}
-use Rattle.tso_model.specs.declared.choice.Choice.{Choice}
-use Rattle.basic_laws.proofs.Basics.{decide, lt-or, max-first, max-second, and-left, and-right}
-use Rattle.tso_laws.specs.Choices.{state_after, commits_of}
-use Rattle.tso_model.specs.FlatMachine.{core_of, CoreState, State, idle, program_of, effect_of, chosen, after_choice, start, step}
-use Rattle.tso_model.specs.Runs.{CoresExist, is_done, all_done, has_ended, run_from, stall_count}
-use Rattle.tso_laws.specs.Along.{steps, drained, choices_for, places_after, last_steps, choices_from, beginnings, choices_along, LeadTo}
-use Rattle.basic_laws.proofs.Lists.{Member, drop-end}
+use Rattle.tso_laws.proofs.Vocabulary.{max, ◌≡◌, ◌≢◌, ◌<◌, ◌≤◌, ℕ, ◌+◌, ◌-◌, zero, suc, List, [], ◌∷◌, ◌++◌, Bool, true, false, length, slice_index, slice_index_or, drop, arith, ap, sym, ◌∙◌, append_assoc, refl, ◌⊎◌, inl, inr, add-one, subst, get_or-set_same, get_or-set_other, length-set, Litmus, is_store, is_load, rank, is_store_kind, made_by, read_values, Entry, Instr, Choice, decide, lt-or, max-first, max-second, and-left, and-right, state_after, commits_of, core_of, CoreState, State, idle, program_of, effect_of, chosen, after_choice, start, step, CoresExist, is_done, all_done, has_ended, run_from, stall_count, steps, drained, choices_for, places_after, last_steps, choices_from, beginnings, choices_along, LeadTo, Member, drop-end}
 use Rattle.tso_laws.proofs.OneList.{Queued}
 use Rattle.tso_laws.proofs.CoreInvariant.{left, trace}
 use Rattle.tso_laws.proofs.MachineInvariant.{world-start}

@@ -1,17 +1,6 @@
 -- A run is a run of all choices of a beginning of the list.
-use Rattle.std.proofs.Common.{◌≡◌, ◌≤◌, ◌<◌, ℕ, ◌+◌, suc, List, [], ◌∷◌, ◌++◌, Bool, true, false, length, take, arith, ap, sym, ◌∙◌, refl, subst, if◌then◌else◌, ◌==◌}
-use Rattle.std.proofs.lemmas.Option.{slice_get_within, get_or_from_slice_get}
-use Rattle.tso_model.specs.Litmus.{Litmus}
-use Rattle.tso_model.specs.SequentialConsistency.{KeepsAllOrder}
-use Rattle.basic_laws.proofs.Basics.{and-right}
+use Rattle.tso_laws.proofs.Vocabulary.{◌≡◌, ◌≤◌, ◌<◌, ℕ, ◌+◌, suc, List, [], ◌∷◌, ◌++◌, Bool, true, false, length, take, arith, ap, sym, ◌∙◌, refl, subst, if◌then◌else◌, ◌==◌, slice_get_within, get_or_from_slice_get, Litmus, KeepsAllOrder, and-right, Instr, Choice, is_none_pending, core_of, CoreState, State, idle, program_of, effect_of, after_choice, start, needed, IsExecution, state_after, commits_of, is_done, has_ended, Run, then_run, resting, run, run_from}
 use Rattle.tso_laws.proofs.Folds.{needed-is, HasEnded, HasLocations}
-use Rattle.tso_model.specs.declared.instruction.Instr.{Instr}
-use Rattle.tso_model.specs.declared.choice.Choice.{Choice}
-use Rattle.tso_model.specs.FlatMachine.{is_none_pending, core_of, CoreState, State, idle, program_of, effect_of, after_choice, start}
-use Rattle.tso_laws.specs.Depth.{needed}
-use Rattle.tso_laws.specs.EndedRuns.{IsExecution}
-use Rattle.tso_laws.specs.Choices.{state_after, commits_of}
-use Rattle.tso_model.specs.Runs.{is_done, has_ended, Run, then_run, resting, run, run_from}
 use Rattle.tso_laws.proofs.MachineInvariant.{MachineInvariant, world-run, world-start}
 use Rattle.tso_laws.proofs.Final.{ended_is_tso, ended_has_registers, memory-list, keeps_all, world-needs}
 use Rattle.tso_laws.proofs.Work.{run-ended, is_none-is, done-length}

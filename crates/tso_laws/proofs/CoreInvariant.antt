@@ -1,27 +1,7 @@
 -- What each core's state keeps, and that a choice keeps it.
-use Rattle.std.proofs.Common.{◌≡◌, ◌≢◌, ◌<◌, ◌≤◌, ℕ, ◌+◌, zero, suc, List, [], ◌∷◌, ◌++◌, Option, Some, None, IfSome, Bool, true, false, length, slice_get, slice_index, take, drop, arith, ap, sym, ◌∙◌, append_assoc, refl, length-append, subst, nat_lt, if◌then◌else◌}
-use Rattle.std.proofs.lemmas.Option.{slice_get_within}
-use Rattle.std.proofs.lemmas.Bool.Decides.{nat_tests}
-use Rattle.tso_model.specs.Litmus.{KnownLocation}
-use Rattle.tso_model.specs.Actions.{action_of, location_of}
-use Rattle.tso_model.specs.Thread.{entry, fence, value_in, with_value, value_of, updated}
-use Rattle.tso_model.specs.ProgramOrder.{is_write}
+use Rattle.tso_laws.proofs.Vocabulary.{◌≡◌, ◌≢◌, ◌<◌, ◌≤◌, ℕ, ◌+◌, zero, suc, List, [], ◌∷◌, ◌++◌, Option, Some, None, IfSome, Bool, true, false, length, slice_get, slice_index, take, drop, arith, ap, sym, ◌∙◌, append_assoc, refl, length-append, subst, nat_lt, if◌then◌else◌, slice_get_within, nat_tests, KnownLocation, action_of, location_of, entry, fence, value_in, with_value, value_of, updated, is_write, is_write_kind, rank, IsStorePart, is_at, read_value, made_by, registers_of, CoreState, effect_by, step_of, drain_of, stalled, stored, advanced, advanced_with, load_value, fenced, locked, Reg, Instr, Loc, Action, Store, Load, Move, Fence, Lock, Entry, R, W, LR, LW, Each, each-map, each-append, each-left, append-nil}
 use Rattle.tso_laws.proofs.Draining.{waits-or-acts, drains}
-use Rattle.basic_laws.proofs.Ranks.{is_write_kind}
-use Rattle.basic_laws.specs.Ranks.{rank}
-use Rattle.tso_model.specs.ProgramOrder.{IsStorePart}
-use Rattle.tso_model.specs.ProgramEntries.{is_at, read_value, made_by}
-use Rattle.tso_model.specs.FinalState.{registers_of}
-use Rattle.tso_model.specs.FlatMachine.{CoreState, effect_by, step_of, drain_of, stalled, stored, advanced, advanced_with, load_value, fenced, locked}
-use Rattle.tso_model.specs.declared.register.Reg.{Reg}
-use Rattle.tso_model.specs.declared.instruction.Instr.{Instr}
-use Rattle.tso_model.specs.declared.instruction.Loc.{Loc}
-use Rattle.tso_model.specs.declared.action.Action.{Action}
-use Rattle.tso_model.specs.declared.action.Action.TheVariants.{Store, Load, Move, Fence, Lock}
-use Rattle.tso_model.specs.declared.execution.Entry.{Entry}
-use Rattle.tso_model.specs.declared.execution.Kind.TheVariants.{R, W, LR, LW}
 use Rattle.tso_model.specs.declared.choice.Stall.TheVariants as stall
-use Rattle.basic_laws.proofs.Lists.{Each, each-map, each-append, each-left, append-nil}
 use Rattle.tso_laws.proofs.Folds.{last_word, word-is, put}
 use Rattle.tso_laws.proofs.Threads.{makes, leaves, makes-split, makes-next, leaves-next}
 use Rattle.tso_laws.proofs.Entries.{read_value-after}

@@ -1,15 +1,6 @@
 -- Orders of entries with one more in the middle, as one core sees them.
-use Rattle.std.proofs.Common.{◌≡◌, ◌<◌, ◌≤◌, ℕ, suc, List, [], ◌∷◌, ◌++◌, Bool, true, false, length, slice_index, arith, sym, ◌∙◌, append_assoc, refl, subst, ◌==◌, ◌&&◌, if◌then◌else◌}
-use Rattle.std.proofs.lemmas.Bool.Decides.{nat_tests}
-use Rattle.tso_model.specs.ProgramOrder.{same_kind, is_write, is_read, is_before, may_be_passed, writes_to, is_store, is_load}
-use Rattle.basic_laws.proofs.Ranks.{is_write_kind, is_read_kind}
-use Rattle.tso_model.specs.ProgramEntries.{read_value, is_at}
-use Rattle.basic_laws.proofs.Basics.{and-true}
+use Rattle.tso_laws.proofs.Vocabulary.{◌≡◌, ◌<◌, ◌≤◌, ℕ, suc, List, [], ◌∷◌, ◌++◌, Bool, true, false, length, slice_index, arith, sym, ◌∙◌, append_assoc, refl, subst, ◌==◌, ◌&&◌, if◌then◌else◌, nat_tests, same_kind, is_write, is_read, is_before, may_be_passed, writes_to, is_store, is_load, is_write_kind, is_read_kind, read_value, is_at, and-true, Entry, Kind, R, W, F, LR, LW, Each, each-insert, each-left, append-nil}
 use Rattle.tso_laws.proofs.Folds.{last_word, last_own, passed}
-use Rattle.tso_model.specs.declared.execution.Entry.{Entry}
-use Rattle.tso_model.specs.declared.execution.Kind.{Kind}
-use Rattle.tso_model.specs.declared.execution.Kind.TheVariants.{R, W, F, LR, LW}
-use Rattle.basic_laws.proofs.Lists.{Each, each-insert, each-left, append-nil}
 
 -- where y stands after x in the order, and before it in the program of core c, y is a store and x a load
 abbrev pub Fine : ℕ → ℕ → Entry → Entry → Type 0

@@ -1,21 +1,6 @@
 -- A state that has ended, and what its commits are.
-use Rattle.std.proofs.Common.{◌≡◌, ◌≢◌, ◌<◌, ◌≤◌, ℕ, ◌+◌, zero, suc, List, [], ◌∷◌, ◌++◌, Some, Bool, true, false, length, slice_get, slice_index, slice_index_or, take, map, arith, ap, sym, ◌∙◌, append_assoc, refl, inl, inr, add-one, subst, ◌==◌, if◌then◌else◌, length-append}
-use Rattle.std.proofs.lemmas.Option.{slice_get-get_or}
-use Rattle.std.proofs.lemmas.Bool.Decides.{nat_tests}
-use Rattle.tso_model.specs.Litmus.{Litmus}
-use Rattle.tso_model.specs.ProgramOrder.{is_read, is_before, may_be_passed, is_load, is_store}
-use Rattle.tso_model.specs.ProgramEntries.{made_by, made_from, made}
-use Rattle.tso_model.specs.Axioms.{IsTsoExecution, IsAdjacent, KeepsProgramOrder}
-use Rattle.tso_model.specs.ProgramOrder.{IsStorePart}
-use Rattle.tso_model.specs.SequentialConsistency.{KeepsAllOrder}
-use Rattle.basic_laws.proofs.Basics.{test-false, le-cases, lt-by, max-within, not-itself}
+use Rattle.tso_laws.proofs.Vocabulary.{◌≡◌, ◌≢◌, ◌<◌, ◌≤◌, ℕ, ◌+◌, zero, suc, List, [], ◌∷◌, ◌++◌, Some, Bool, true, false, length, slice_get, slice_index, slice_index_or, take, map, arith, ap, sym, ◌∙◌, append_assoc, refl, inl, inr, add-one, subst, ◌==◌, if◌then◌else◌, length-append, slice_get-get_or, nat_tests, Litmus, is_read, is_before, may_be_passed, is_load, is_store, made_by, made_from, made, IsTsoExecution, IsAdjacent, KeepsProgramOrder, IsStorePart, KeepsAllOrder, test-false, le-cases, lt-by, max-within, not-itself, registers_of, registers_from, final_registers, words_from, word_after, Entry, Instr, core_of, CoreState, State, idle, program_of, LR, Each, each-append, each-at, each-right, Member, member-at, drop-end, append-nil}
 use Rattle.tso_laws.proofs.Folds.{last_word, last_own, passed, asks, needs, HasEnded, word-is, due-is}
-use Rattle.tso_model.specs.FinalState.{registers_of, registers_from, final_registers, words_from, word_after}
-use Rattle.tso_model.specs.declared.execution.Entry.{Entry}
-use Rattle.tso_model.specs.declared.instruction.Instr.{Instr}
-use Rattle.tso_model.specs.FlatMachine.{core_of, CoreState, State, idle, program_of}
-use Rattle.tso_model.specs.declared.execution.Kind.TheVariants.{LR}
-use Rattle.basic_laws.proofs.Lists.{Each, each-append, each-at, each-right, Member, member-at, drop-end, append-nil}
 use Rattle.tso_laws.proofs.Entries.{ordered-left, few-left, Fine, Ordered, Few, DueIn, count}
 use Rattle.tso_laws.proofs.OneList.{OneList}
 use Rattle.tso_laws.proofs.CoreInvariant.{CoreInvariant, left, trace, IsMemory, Paired}

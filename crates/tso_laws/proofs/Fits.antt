@@ -1,20 +1,5 @@
 -- The entries of a program have its places and its locations.
-use Rattle.std.proofs.Common.{◌≡◌, ◌≢◌, ◌<◌, ◌≤◌, ℕ, ◌+◌, zero, suc, List, [], ◌∷◌, Some, IfSome, length, take, slice_get, slice_index, arith, sym, refl, subst}
-use Rattle.tso_model.specs.Litmus.{Litmus, IsTest, KnownLocation}
-use Rattle.tso_model.specs.Actions.{action_of, location_of}
-use Rattle.tso_model.specs.Thread.{entries_by, entries_of}
-use Rattle.tso_model.specs.Axioms.{IsWhole}
-use Rattle.tso_model.specs.Standing.{StandsIn}
-use Rattle.tso_model.specs.ProgramEntries.{read_values}
-use Rattle.tso_model.specs.ProgramEntries.{made, made_by}
-use Rattle.tso_model.specs.FlatMachine.{program_of}
-use Rattle.tso_model.specs.declared.instruction.Instr.{Instr}
-use Rattle.tso_model.specs.declared.action.Action.{Action}
-use Rattle.tso_model.specs.declared.action.Action.TheVariants.{Store, Load, Move, Fence, Lock}
-use Rattle.tso_model.specs.declared.execution.Entry.{Entry}
-use Rattle.tso_model.specs.declared.execution.Kind.TheVariants.{F}
-use Rattle.tso_laws.specs.Entries.{FitsTest}
-use Rattle.basic_laws.proofs.Lists.{Each, each-append, Member}
+use Rattle.tso_laws.proofs.Vocabulary.{◌≡◌, ◌≢◌, ◌<◌, ◌≤◌, ℕ, ◌+◌, zero, suc, List, [], ◌∷◌, Some, IfSome, length, take, slice_get, slice_index, arith, sym, refl, subst, Litmus, IsTest, KnownLocation, action_of, location_of, entries_by, entries_of, IsWhole, StandsIn, read_values, made, made_by, program_of, Instr, Action, Store, Load, Move, Fence, Lock, Entry, F, FitsTest, Each, each-append, Member}
 use Rattle.tso_laws.proofs.Folds.{HasLocations}
 use Rattle.tso_laws.proofs.Held.{each-of}
 use Rattle.tso_laws.proofs.OrderSteps.{first_of}

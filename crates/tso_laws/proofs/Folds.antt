@@ -1,20 +1,5 @@
 -- The definitions in the form that proofs by recursion take: each fold goes over a list once.
-use Rattle.std.proofs.Common.{sym, max, ◌≡◌, ◌≤◌, ℕ, ◌+◌, suc, List, [], ◌∷◌, ◌++◌, Some, Bool, true, false, refl, ◌∙◌, ap, length, slice_get, slice_index, if◌then◌else◌, ◌&&◌, arith}
-use Rattle.std.proofs.lemmas.Bool.Decides.{nat_tests}
-use Rattle.std.specs.Prelude.{filter}
-use Rattle.tso_model.specs.Litmus.{Litmus, KnownLocation}
-use Rattle.tso_model.specs.ProgramOrder.{is_store, is_load, is_read, is_before, writes_to}
-use Rattle.basic_laws.proofs.Ranks.{is_store_kind, is_load_kind}
-use Rattle.tso_model.specs.Axioms.{last_value, counting}
-use Rattle.tso_model.specs.FlatMachine.{CoreState, State, Effect, program_of}
-use Rattle.tso_model.specs.declared.instruction.Instr.{Instr}
-use Rattle.tso_model.specs.declared.execution.Entry.{Entry}
-use Rattle.tso_model.specs.declared.execution.Kind.{Kind}
-use Rattle.tso_model.specs.declared.execution.Kind.TheVariants.{R, W, F, LR, LW}
-use Rattle.tso_model.specs.declared.choice.Outcome.TheVariants.{Buffered}
-use Rattle.basic_laws.proofs.Basics.{and-true, and-false}
-use Rattle.tso_laws.specs.Depth.{stores_before, most_passed, one_for_stores, needed}
-use Rattle.tso_laws.specs.inner.Depth.{asked}
+use Rattle.tso_laws.proofs.Vocabulary.{sym, max, ◌≡◌, ◌≤◌, ℕ, ◌+◌, suc, List, [], ◌∷◌, ◌++◌, Some, Bool, true, false, refl, ◌∙◌, ap, length, slice_get, slice_index, if◌then◌else◌, ◌&&◌, arith, nat_tests, filter, Litmus, KnownLocation, is_store, is_load, is_read, is_before, writes_to, is_store_kind, is_load_kind, last_value, counting, CoreState, State, Effect, program_of, Instr, Entry, Kind, R, W, F, LR, LW, Buffered, and-true, and-false, stores_before, most_passed, one_for_stores, needed, asked}
 
 -- the word of a location after these entries
 abbrev pub last_word : ℕ → List Entry → ℕ → ℕ

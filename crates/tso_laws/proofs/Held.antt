@@ -1,15 +1,6 @@
 -- The stores of a core that stand before a place in its program, in the order of a list.
-use Rattle.std.proofs.Common.{◌≡◌, ◌≢◌, ◌<◌, ◌≤◌, ℕ, ◌+◌, suc, List, [], ◌∷◌, ◌++◌, Bool, true, false, length, arith, ap, sym, ◌∙◌, refl, ◌⊎◌, inl, inr, subst, ◌==◌, ◌&&◌, nat_lt, if◌then◌else◌, ◌||◌}
-use Rattle.std.proofs.lemmas.Bool.Decides.{nat_tests}
-use Rattle.tso_model.specs.ProgramOrder.{is_before, writes_to, is_store}
-use Rattle.basic_laws.specs.Ranks.{rank, part_of}
-use Rattle.basic_laws.proofs.Ranks.{is_store_kind, by-rank}
-use Rattle.basic_laws.proofs.Basics.{and-true, and-false}
+use Rattle.tso_laws.proofs.Vocabulary.{◌≡◌, ◌≢◌, ◌<◌, ◌≤◌, ℕ, ◌+◌, suc, List, [], ◌∷◌, ◌++◌, Bool, true, false, length, arith, ap, sym, ◌∙◌, refl, ◌⊎◌, inl, inr, subst, ◌==◌, ◌&&◌, nat_lt, if◌then◌else◌, ◌||◌, nat_tests, is_before, writes_to, is_store, rank, part_of, is_store_kind, by-rank, and-true, and-false, Entry, Kind, R, W, F, LR, LW, Each, Member}
 use Rattle.tso_laws.proofs.Folds.{passes, last_word, last_own, passed}
-use Rattle.tso_model.specs.declared.execution.Entry.{Entry}
-use Rattle.tso_model.specs.declared.execution.Kind.{Kind}
-use Rattle.tso_model.specs.declared.execution.Kind.TheVariants.{R, W, F, LR, LW}
-use Rattle.basic_laws.proofs.Lists.{Each, Member}
 use Rattle.tso_laws.proofs.Entries.{Fine, Ordered}
 
 pub member-left : {A : Type 0} (e : A) (xs ys : List A) → Member e xs → Member e (xs ++ ys)

@@ -1,3 +1,4 @@
+pub mod Vocabulary
 pub mod Draining
 pub mod Folds
 pub mod Entries

@@ -1,24 +1,6 @@
 -- No order needs more depth than a program has plain stores.
-use Rattle.std.proofs.Common.{◌≡◌, ◌<◌, ◌≤◌, ℕ, ◌+◌, zero, suc, List, [], ◌∷◌, ◌++◌, Bool, true, false, length, slice_index, slice_index_or, arith, ap, sym, ◌∙◌, refl, inl, inr, subst, if◌then◌else◌, nat_lt, ◌==◌, ◌&&◌}
-use Rattle.std.proofs.lemmas.Bool.Decides.{nat_tests}
-use Rattle.tso_model.specs.Actions.{action_of}
-use Rattle.tso_model.specs.Thread.{entries_by, entries_of}
-use Rattle.tso_model.specs.Litmus.{Litmus}
-use Rattle.basic_laws.proofs.Basics.{max-left, max-right, max-within, load-kind}
-use Rattle.tso_laws.specs.Depth.{needed}
-use Rattle.tso_laws.specs.Counting.{store_count, stores_in, most_stores}
-use Rattle.tso_model.specs.ProgramOrder.{is_store, is_load}
-use Rattle.basic_laws.specs.Ranks.{rank}
+use Rattle.tso_laws.proofs.Vocabulary.{◌≡◌, ◌<◌, ◌≤◌, ℕ, ◌+◌, zero, suc, List, [], ◌∷◌, ◌++◌, Bool, true, false, length, slice_index, slice_index_or, arith, ap, sym, ◌∙◌, refl, inl, inr, subst, if◌then◌else◌, nat_lt, ◌==◌, ◌&&◌, nat_tests, action_of, entries_by, entries_of, Litmus, max-left, max-right, max-within, load-kind, needed, store_count, stores_in, most_stores, is_store, is_load, rank, IsTsoExecution, read_values, made_by, Entry, Instr, Action, Store, Load, Move, Fence, Lock, program_of, Member}
 use Rattle.tso_laws.proofs.Folds.{needed-is, passed, asks, needs}
-use Rattle.tso_model.specs.Axioms.{IsTsoExecution}
-use Rattle.tso_model.specs.ProgramEntries.{read_values}
-use Rattle.tso_model.specs.ProgramEntries.{made_by}
-use Rattle.tso_model.specs.declared.execution.Entry.{Entry}
-use Rattle.tso_model.specs.declared.instruction.Instr.{Instr}
-use Rattle.tso_model.specs.declared.action.Action.{Action}
-use Rattle.tso_model.specs.declared.action.Action.TheVariants.{Store, Load, Move, Fence, Lock}
-use Rattle.tso_model.specs.FlatMachine.{program_of}
-use Rattle.basic_laws.proofs.Lists.{Member}
 use Rattle.tso_laws.proofs.Held.{member-left, member-right, member-split, each-of, Distinct, Apart, is_held, held, held-passed}
 use Rattle.tso_laws.proofs.OrderSteps.{first_of}
 use Rattle.tso_laws.proofs.Whole.{cut-at, length-middle, each-from, Own, whole-own}

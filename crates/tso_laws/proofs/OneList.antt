@@ -1,15 +1,6 @@
 -- What a core's commits and pending writes keep, as one list, when an entry is added.
-use Rattle.std.proofs.Common.{◌≡◌, ◌≢◌, ◌<◌, ◌≤◌, ℕ, ◌+◌, suc, List, [], ◌∷◌, ◌++◌, true, false, length, slice_index, arith, ap, sym, ◌∙◌, refl, subst, ◌&&◌, length-append, nat_lt, ◌==◌}
-use Rattle.std.proofs.lemmas.Bool.Decides.{nat_tests}
-use Rattle.tso_model.specs.ProgramOrder.{is_write, is_read, is_before, writes_to, is_store, is_load}
-use Rattle.basic_laws.proofs.Ranks.{is_write_kind, is_read_kind, by-rank}
-use Rattle.basic_laws.specs.Ranks.{rank}
-use Rattle.basic_laws.proofs.Basics.{test-false, test-true, and-false, before}
+use Rattle.tso_laws.proofs.Vocabulary.{◌≡◌, ◌≢◌, ◌<◌, ◌≤◌, ℕ, ◌+◌, suc, List, [], ◌∷◌, ◌++◌, true, false, length, slice_index, arith, ap, sym, ◌∙◌, refl, subst, ◌&&◌, length-append, nat_lt, ◌==◌, nat_tests, is_write, is_read, is_before, writes_to, is_store, is_load, is_write_kind, is_read_kind, by-rank, rank, test-false, test-true, and-false, before, Entry, Kind, R, W, F, LR, LW, Each, each-insert, each-map, each-all, each-append, each-left, each-right, Member, member-insert, member-inserted, append-nil}
 use Rattle.tso_laws.proofs.Folds.{last_word, passed}
-use Rattle.tso_model.specs.declared.execution.Entry.{Entry}
-use Rattle.tso_model.specs.declared.execution.Kind.{Kind}
-use Rattle.tso_model.specs.declared.execution.Kind.TheVariants.{R, W, F, LR, LW}
-use Rattle.basic_laws.proofs.Lists.{Each, each-insert, each-map, each-all, each-append, each-left, each-right, Member, member-insert, member-inserted, append-nil}
 use Rattle.tso_laws.proofs.Entries.{Fine, Ordered, ordered-insert, Few, few-insert, passed-length, DueIn, Uncounted, OwnDue, due-insert, not_both, count, count-insert-own, count-insert-other, last_own-all}
 
 abbrev pub Precedes : ℕ → ℕ → Entry → Type 0

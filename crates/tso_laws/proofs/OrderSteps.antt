@@ -1,23 +1,6 @@
 -- Choices that go on along an order.
-use Rattle.std.proofs.Common.{◌≡◌, ◌≢◌, ◌<◌, ◌≤◌, ℕ, ◌+◌, List, [], ◌∷◌, ◌++◌, Bool, false, length, slice_index, slice_index_or, arith, ap, sym, ◌∙◌, append_assoc, refl, inl, inr, subst, ◌==◌, ◌&&◌, nat_lt}
-use Rattle.std.proofs.lemmas.Option.{slice_get-get_or}
-use Rattle.std.proofs.lemmas.Bool.Decides.{nat_tests}
-use Rattle.tso_model.specs.Actions.{action_of}
-use Rattle.tso_model.specs.Thread.{entries_by, entries_of}
-use Rattle.tso_model.specs.Litmus.{Litmus}
-use Rattle.basic_laws.proofs.Basics.{decide}
+use Rattle.tso_laws.proofs.Vocabulary.{◌≡◌, ◌≢◌, ◌<◌, ◌≤◌, ℕ, ◌+◌, List, [], ◌∷◌, ◌++◌, Bool, false, length, slice_index, slice_index_or, arith, ap, sym, ◌∙◌, append_assoc, refl, inl, inr, subst, ◌==◌, ◌&&◌, nat_lt, slice_get-get_or, nat_tests, action_of, entries_by, entries_of, Litmus, decide, is_store, made_by, Entry, Instr, Action, Store, Load, Move, Fence, Lock, Choice, core_of, State, idle, program_of, effect_of, chosen, after_choice, state_after, commits_of, stall_count, Each, each-map, each-append, Member, append-nil}
 use Rattle.tso_laws.proofs.Folds.{needs, HasDueValues, HasLocations}
-use Rattle.tso_model.specs.ProgramOrder.{is_store}
-use Rattle.tso_model.specs.ProgramEntries.{made_by}
-use Rattle.tso_model.specs.declared.execution.Entry.{Entry}
-use Rattle.tso_model.specs.declared.instruction.Instr.{Instr}
-use Rattle.tso_model.specs.declared.action.Action.{Action}
-use Rattle.tso_model.specs.declared.action.Action.TheVariants.{Store, Load, Move, Fence, Lock}
-use Rattle.tso_model.specs.declared.choice.Choice.{Choice}
-use Rattle.tso_model.specs.FlatMachine.{core_of, State, idle, program_of, effect_of, chosen, after_choice}
-use Rattle.tso_laws.specs.Choices.{state_after, commits_of}
-use Rattle.tso_model.specs.Runs.{stall_count}
-use Rattle.basic_laws.proofs.Lists.{Each, each-map, each-append, Member, append-nil}
 use Rattle.tso_laws.proofs.Entries.{Ordered}
 use Rattle.tso_laws.proofs.CoreInvariant.{CoreInvariant, Paired}
 use Rattle.tso_laws.proofs.MachineInvariant.{MachineInvariant, world-choose}

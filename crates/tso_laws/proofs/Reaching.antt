@@ -1,19 +1,5 @@
 -- The greatest depth is enough, and what runs end with are exactly the executions.
-use Rattle.std.proofs.Common.{◌<◌, ◌≤◌, ◌↔◌, ◌≢◌, ap, ℕ, suc, List, [], ◌∷◌, length, slice_index_or, arith, subst}
-use Rattle.tso_model.specs.Litmus.{Litmus, IsTest}
-use Rattle.tso_model.specs.Actions.{action_of}
-use Rattle.tso_model.specs.Axioms.{IsTsoExecution}
-use Rattle.tso_model.specs.declared.instruction.Instr.{Instr}
-use Rattle.tso_model.specs.declared.action.Action.{Action}
-use Rattle.tso_model.specs.declared.action.Action.TheVariants.{Store, Load, Move, Fence, Lock}
-use Rattle.tso_model.specs.declared.execution.Entry.{Entry}
-use Rattle.tso_model.specs.Runs.{run}
-use Rattle.tso_model.specs.declared.choice.Choice.{Choice}
-use Rattle.basic_laws.proofs.Basics.{max-within}
-use Rattle.tso_laws.specs.Counting.{store_count, stores_in, most_stores}
-use Rattle.tso_laws.specs.Depth.{needed}
-use Rattle.tso_laws.specs.Along.{choices_along, LeadTo}
-use Rattle.tso_laws.specs.Reached.{IsReached}
+use Rattle.tso_laws.proofs.Vocabulary.{◌<◌, ◌≤◌, ◌↔◌, ◌≢◌, ap, ℕ, suc, List, [], ◌∷◌, length, slice_index_or, arith, subst, Litmus, IsTest, action_of, IsTsoExecution, Instr, Action, Store, Load, Move, Fence, Lock, Entry, run, Choice, max-within, store_count, stores_in, most_stores, needed, choices_along, LeadTo, IsReached}
 use Rattle.tso_laws.proofs.Folds.{needed-is}
 use Rattle.tso_laws.proofs.Along.{witness-leads}
 use Rattle.tso_laws.proofs.Whole.{tso-good}

@@ -1,20 +1,5 @@
 -- A core that has not ended gets on in each round.
-use Rattle.std.proofs.Common.{◌≡◌, ◌≢◌, ◌<◌, ◌≤◌, ℕ, ◌+◌, ◌*◌, zero, suc, List, [], ◌∷◌, ◌++◌, Option, Some, None, Bool, true, false, length, slice_get, slice_index_or, drop, arith, ap, sym, ◌∙◌, refl, ◌⊎◌, inl, inr, subst, ◌==◌, nat_lt, if◌then◌else◌, get_or-set_same, get_or-set_other}
-use Rattle.std.proofs.Math.ListN.{length-set}
-use Rattle.std.proofs.lemmas.Bool.Decides.{nat_tests}
-use Rattle.tso_model.specs.Litmus.{Litmus}
-use Rattle.basic_laws.proofs.Basics.{decide, max-left, max-right}
-use Rattle.tso_laws.specs.Counting.{longest}
-use Rattle.tso_model.specs.declared.execution.Entry.{Entry}
-use Rattle.tso_model.specs.declared.instruction.Instr.{Instr}
-use Rattle.tso_model.specs.declared.action.Action.{Action}
-use Rattle.tso_model.specs.declared.action.Action.TheVariants.{Store, Load, Move, Fence, Lock}
-use Rattle.tso_model.specs.declared.choice.Choice.{Choice}
-use Rattle.tso_laws.specs.Choices.{state_after}
-use Rattle.tso_model.specs.Actions.{action_of}
-use Rattle.tso_model.specs.FlatMachine.{is_none_pending, core_of, CoreState, State, idle, program_of, stored, effect_by, effect_of, chosen, after_choice, started, start, step, drain}
-use Rattle.tso_model.specs.Runs.{is_done, all_done, has_ended, then_run, resting, run, run_from, stall_count}
-use Rattle.tso_laws.specs.Rounds.{Among, CanBeCutIntoRounds}
+use Rattle.tso_laws.proofs.Vocabulary.{◌≡◌, ◌≢◌, ◌<◌, ◌≤◌, ℕ, ◌+◌, ◌*◌, zero, suc, List, [], ◌∷◌, ◌++◌, Option, Some, None, Bool, true, false, length, slice_get, slice_index_or, drop, arith, ap, sym, ◌∙◌, refl, ◌⊎◌, inl, inr, subst, ◌==◌, nat_lt, if◌then◌else◌, get_or-set_same, get_or-set_other, length-set, nat_tests, Litmus, decide, max-left, max-right, longest, Entry, Instr, Action, Store, Load, Move, Fence, Lock, Choice, state_after, action_of, is_none_pending, core_of, CoreState, State, idle, program_of, stored, effect_by, effect_of, chosen, after_choice, started, start, step, drain, is_done, all_done, has_ended, then_run, resting, run, run_from, stall_count, Among, CanBeCutIntoRounds}
 use Rattle.tso_laws.proofs.Work.{undone, work, weight, store_weight, choice-changes, length-starts}
 
 -- a core keeps its state, or gets on

@@ -1,21 +1,5 @@
 -- What holds after any list of choices, in the words of the definitions.
-use Rattle.std.proofs.Common.{◌≡◌, ◌≢◌, ◌<◌, ◌≤◌, ℕ, zero, suc, List, [], ◌∷◌, ◌++◌, Some, length, take, slice_get, slice_index, slice_index_or, All, arith, ap, sym, ◌∙◌, append_assoc, refl, ◌⊎◌, inl, inr, subst}
-use Rattle.std.specs.Prelude.{filter}
-use Rattle.std.proofs.lemmas.Option.{slice_get-get_or}
-use Rattle.tso_model.specs.Litmus.{Litmus, IsTest, KnownLocation}
-use Rattle.tso_model.specs.ProgramEntries.{made_by}
-use Rattle.tso_model.specs.Axioms.{KeepsProgramOrder}
-use Rattle.tso_model.specs.Standing.{StandsIn}
-use Rattle.tso_model.specs.FinalState.{registers_of}
-use Rattle.tso_model.specs.FlatMachine.{CoreState, State, idle, program_of, core_of, effect_of, after_choice, start}
-use Rattle.tso_model.specs.Runs.{run}
-use Rattle.tso_model.specs.declared.instruction.Instr.{Instr}
-use Rattle.tso_model.specs.declared.execution.Entry.{Entry}
-use Rattle.tso_model.specs.declared.choice.Choice.{Choice}
-use Rattle.basic_laws.proofs.Basics.{decide, lt-or}
-use Rattle.tso_laws.specs.Choices.{state_after, commits_of, IsPossible}
-use Rattle.tso_laws.specs.SoFar.{issued, is_waiting, CoreSoFar, IsIssued, SoFar}
-use Rattle.basic_laws.proofs.Lists.{Each, each-at, each-map, each-append, each-right, Member, member-at, append-nil}
+use Rattle.tso_laws.proofs.Vocabulary.{◌≡◌, ◌≢◌, ◌<◌, ◌≤◌, ℕ, zero, suc, List, [], ◌∷◌, ◌++◌, Some, length, take, slice_get, slice_index, slice_index_or, All, arith, ap, sym, ◌∙◌, append_assoc, refl, ◌⊎◌, inl, inr, subst, filter, slice_get-get_or, Litmus, IsTest, KnownLocation, made_by, KeepsProgramOrder, StandsIn, registers_of, CoreState, State, idle, program_of, core_of, effect_of, after_choice, start, run, Instr, Entry, Choice, decide, lt-or, state_after, commits_of, IsPossible, issued, is_waiting, CoreSoFar, IsIssued, SoFar, Each, each-at, each-map, each-append, each-right, Member, member-at, append-nil}
 use Rattle.tso_laws.proofs.Folds.{HasLocations, due-is}
 use Rattle.tso_laws.proofs.Entries.{Fine, Ordered, DueIn}
 use Rattle.tso_laws.proofs.OneList.{Queued}

@@ -1,14 +1,5 @@
 -- A run stops where it ends, and nothing happens after the end.
-use Rattle.std.proofs.Common.{◌≡◌, ◌<◌, ℕ, zero, suc, List, [], ◌∷◌, ◌++◌, Bool, true, false, length, take, arith, ap, sym, ◌∙◌, refl, inl, inr, if◌then◌else◌}
-use Rattle.tso_model.specs.Litmus.{Litmus}
-use Rattle.tso_model.specs.FlatMachine.{State, program_of, core_of, chosen, effect_of, after_choice, start}
-use Rattle.tso_model.specs.Runs.{is_done, has_ended, Run, stall_count, resting, then_run, run_from, run}
-use Rattle.tso_model.specs.declared.choice.Choice.{Choice}
-use Rattle.tso_model.specs.declared.choice.Stall.{Stall}
-use Rattle.tso_model.specs.declared.choice.Outcome.TheVariants.{Stalled}
-use Rattle.tso_laws.specs.Choices.{state_after, commits_of}
-use Rattle.tso_laws.specs.inner.Stopping.{ChangesNothing, StopsAtTheEnd}
-use Rattle.basic_laws.proofs.Basics.{lt-or}
+use Rattle.tso_laws.proofs.Vocabulary.{◌≡◌, ◌<◌, ℕ, zero, suc, List, [], ◌∷◌, ◌++◌, Bool, true, false, length, take, arith, ap, sym, ◌∙◌, refl, inl, inr, if◌then◌else◌, Litmus, State, program_of, core_of, chosen, effect_of, after_choice, start, is_done, has_ended, Run, stall_count, resting, then_run, run_from, run, Choice, Stall, Stalled, state_after, commits_of, ChangesNothing, StopsAtTheEnd, lt-or}
 use Rattle.tso_laws.proofs.Work.{no-program, no-core, stays-same, Stays, choice-changes, run-ended, done-undone, length-starts}
 use Rattle.tso_laws.proofs.Rounds.{size-kept, size-after}
 use Rattle.tso_laws.proofs.Along.{done-at}

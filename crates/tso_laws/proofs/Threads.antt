@@ -1,14 +1,5 @@
 -- A program cut at a place: what it makes, and its registers, are those of the first part and then of the rest.
-use Rattle.std.proofs.Common.{◌≡◌, ℕ, ◌+◌, zero, suc, List, [], ◌∷◌, ◌++◌, Some, take, drop, slice_get, slice_index, arith, ap, sym, ◌∙◌, append_assoc, refl, add-one, subst}
-use Rattle.tso_model.specs.Actions.{action_of}
-use Rattle.tso_model.specs.Thread.{entries_by, registers_by, values_after, entries_of, registers_after}
-use Rattle.tso_model.specs.ProgramEntries.{values_by, made_by}
-use Rattle.tso_model.specs.ProgramEntries.{read_values}
-use Rattle.tso_model.specs.FinalState.{registers_of}
-use Rattle.tso_model.specs.declared.instruction.Instr.{Instr}
-use Rattle.tso_model.specs.declared.action.Action.{Action}
-use Rattle.tso_model.specs.declared.action.Action.TheVariants.{Store, Load, Move, Fence, Lock}
-use Rattle.tso_model.specs.declared.execution.Entry.{Entry}
+use Rattle.tso_laws.proofs.Vocabulary.{◌≡◌, ℕ, ◌+◌, zero, suc, List, [], ◌∷◌, ◌++◌, Some, take, drop, slice_get, slice_index, arith, ap, sym, ◌∙◌, append_assoc, refl, add-one, subst, action_of, entries_by, registers_by, values_after, entries_of, registers_after, values_by, made_by, read_values, registers_of, Instr, Action, Store, Load, Move, Fence, Lock, Entry}
 
 -- what a program makes from a place on, with the order's own read values
 abbrev pub makes : ℕ → ℕ → List Instr → List ℕ → List Entry → List Entry

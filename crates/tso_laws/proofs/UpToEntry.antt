@@ -1,24 +1,6 @@
 -- The steps of a core up to an entry of the order.
-use Rattle.std.proofs.Common.{◌≡◌, ◌<◌, ◌≤◌, ℕ, ◌+◌, zero, suc, List, [], ◌∷◌, ◌++◌, Some, Bool, true, false, length, slice_get, slice_index_or, drop, arith, ap, sym, ◌∙◌, refl, inl, inr, subst, ◌==◌, ◌&&◌, nat_lt, length-append}
-use Rattle.std.proofs.lemmas.Option.{slice_get-get_or}
-use Rattle.std.proofs.lemmas.Bool.Decides.{nat_tests}
-use Rattle.tso_model.specs.Actions.{action_of}
-use Rattle.tso_model.specs.Thread.{entry, fence, with_value, value_of, entries_of}
-use Rattle.tso_model.specs.Litmus.{Litmus}
-use Rattle.tso_model.specs.ProgramOrder.{is_store}
-use Rattle.tso_model.specs.ProgramEntries.{read_value, made_by}
-use Rattle.tso_model.specs.ProgramEntries.{read_values}
-use Rattle.tso_model.specs.declared.execution.Entry.{Entry}
-use Rattle.tso_model.specs.declared.register.Reg.{Reg}
-use Rattle.tso_model.specs.declared.execution.Kind.TheVariants.{R, W, LR}
-use Rattle.tso_model.specs.declared.instruction.Instr.{Instr}
+use Rattle.tso_laws.proofs.Vocabulary.{◌≡◌, ◌<◌, ◌≤◌, ℕ, ◌+◌, zero, suc, List, [], ◌∷◌, ◌++◌, Some, Bool, true, false, length, slice_get, slice_index_or, drop, arith, ap, sym, ◌∙◌, refl, inl, inr, subst, ◌==◌, ◌&&◌, nat_lt, length-append, slice_get-get_or, nat_tests, action_of, entry, fence, with_value, value_of, entries_of, Litmus, is_store, read_value, made_by, read_values, Entry, Reg, R, W, LR, Instr, Action, Store, Load, Move, Fence, Lock, core_of, CoreState, State, Effect, program_of, stored, moved, effect_by, step_of, effect_of, after_choice, step, drain, steps, stall_count, Member, drop-at, append-nil}
 use Rattle.tso_model.specs.declared.instruction.Instr.TheVariants as instr
-use Rattle.tso_model.specs.declared.action.Action.{Action}
-use Rattle.tso_model.specs.declared.action.Action.TheVariants.{Store, Load, Move, Fence, Lock}
-use Rattle.tso_model.specs.FlatMachine.{core_of, CoreState, State, Effect, program_of, stored, moved, effect_by, step_of, effect_of, after_choice, step, drain}
-use Rattle.tso_laws.specs.Along.{steps}
-use Rattle.tso_model.specs.Runs.{stall_count}
-use Rattle.basic_laws.proofs.Lists.{Member, drop-at, append-nil}
 use Rattle.tso_laws.proofs.Entries.{Ordered}
 use Rattle.tso_laws.proofs.OneList.{Precedes}
 use Rattle.tso_laws.proofs.CoreInvariant.{left, trace}

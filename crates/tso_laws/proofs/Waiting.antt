@@ -1,24 +1,5 @@
 -- What is pending are the issued and uncommitted plain stores of a core, in program order.
-use Rattle.std.proofs.Common.{◌≡◌, ◌<◌, ◌≤◌, ℕ, ◌+◌, suc, List, [], ◌∷◌, ◌++◌, Bool, true, false, not, length, take, slice_index, arith, ap, sym, ◌∙◌, refl, inl, inr, subst, ◌==◌, ◌&&◌, ◌||◌, if◌then◌else◌, nat_lt}
-use Rattle.std.specs.Prelude.{filter}
-use Rattle.std.proofs.lemmas.Bool.Decides.{nat_tests}
-use Rattle.tso_model.specs.Actions.{action_of}
-use Rattle.tso_model.specs.Thread.{entry, fence, value_in, value_of, updated, entries_by, entries_of}
-use Rattle.tso_model.specs.ProgramOrder.{same_kind, is_before, is_store}
-use Rattle.basic_laws.specs.Ranks.{rank, part_of}
-use Rattle.basic_laws.proofs.Ranks.{is_store_kind, is_load_kind, by-rank}
-use Rattle.tso_model.specs.ProgramEntries.{is_at, made_by}
-use Rattle.tso_model.specs.ProgramEntries.{read_values}
-use Rattle.tso_model.specs.FlatMachine.{CoreState}
-use Rattle.tso_model.specs.declared.instruction.Instr.{Instr}
-use Rattle.tso_model.specs.declared.action.Action.{Action}
-use Rattle.tso_model.specs.declared.action.Action.TheVariants.{Store, Load, Move, Fence, Lock}
-use Rattle.tso_model.specs.declared.execution.Entry.{Entry}
-use Rattle.tso_model.specs.declared.execution.Kind.{Kind}
-use Rattle.tso_model.specs.declared.execution.Kind.TheVariants.{R, W, F, LR, LW}
-use Rattle.basic_laws.proofs.Basics.{part-small}
-use Rattle.tso_laws.specs.SoFar.{is_committed, is_waiting}
-use Rattle.basic_laws.proofs.Lists.{Each, each-map, Member}
+use Rattle.tso_laws.proofs.Vocabulary.{◌≡◌, ◌<◌, ◌≤◌, ℕ, ◌+◌, suc, List, [], ◌∷◌, ◌++◌, Bool, true, false, not, length, take, slice_index, arith, ap, sym, ◌∙◌, refl, inl, inr, subst, ◌==◌, ◌&&◌, ◌||◌, if◌then◌else◌, nat_lt, filter, nat_tests, action_of, entry, fence, value_in, value_of, updated, entries_by, entries_of, same_kind, is_before, is_store, rank, part_of, is_store_kind, is_load_kind, by-rank, is_at, made_by, read_values, CoreState, Instr, Action, Store, Load, Move, Fence, Lock, Entry, Kind, R, W, F, LR, LW, part-small, is_committed, is_waiting, Each, each-map, Member}
 use Rattle.tso_laws.proofs.Entries.{Fine, Ordered, count}
 use Rattle.tso_laws.proofs.OneList.{Queued}
 use Rattle.tso_laws.proofs.CoreInvariant.{CoreInvariant}

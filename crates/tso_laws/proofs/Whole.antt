@@ -1,24 +1,6 @@
 -- A TSO execution has just the entries of the programs, each once.
-use Rattle.std.proofs.Common.{◌≡◌, ◌≢◌, ◌<◌, ◌≤◌, ℕ, ◌+◌, zero, suc, List, [], ◌∷◌, ◌++◌, Some, Bool, true, false, length, slice_get, slice_index, slice_index_or, arith, ap, sym, ◌∙◌, refl, inl, inr, subst}
-use Rattle.tso_model.specs.Actions.{action_of}
-use Rattle.tso_model.specs.Thread.{entry, fence, value_in, value_of, updated, entries_by, entries_of}
-use Rattle.tso_model.specs.Litmus.{Litmus}
-use Rattle.tso_model.specs.ProgramOrder.{may_be_passed}
-use Rattle.basic_laws.specs.Ranks.{rank}
-use Rattle.basic_laws.proofs.Basics.{part-small}
+use Rattle.tso_laws.proofs.Vocabulary.{◌≡◌, ◌≢◌, ◌<◌, ◌≤◌, ℕ, ◌+◌, zero, suc, List, [], ◌∷◌, ◌++◌, Some, Bool, true, false, length, slice_get, slice_index, slice_index_or, arith, ap, sym, ◌∙◌, refl, inl, inr, subst, action_of, entry, fence, value_in, value_of, updated, entries_by, entries_of, Litmus, may_be_passed, rank, part-small, KeepsProgramOrder, IsAdjacent, IsWhole, IsTsoExecution, StandsIn, read_values, IsStorePart, made_by, made_from, made, Entry, Instr, Action, Store, Load, Move, Fence, Lock, R, W, LR, LW, program_of, Each, each-map, Member, member-at}
 use Rattle.tso_laws.proofs.Folds.{due-is, needs, HasLocations}
-use Rattle.tso_model.specs.Axioms.{KeepsProgramOrder, IsAdjacent, IsWhole, IsTsoExecution}
-use Rattle.tso_model.specs.Standing.{StandsIn}
-use Rattle.tso_model.specs.ProgramEntries.{read_values}
-use Rattle.tso_model.specs.ProgramOrder.{IsStorePart}
-use Rattle.tso_model.specs.ProgramEntries.{made_by, made_from, made}
-use Rattle.tso_model.specs.declared.execution.Entry.{Entry}
-use Rattle.tso_model.specs.declared.instruction.Instr.{Instr}
-use Rattle.tso_model.specs.declared.action.Action.{Action}
-use Rattle.tso_model.specs.declared.action.Action.TheVariants.{Store, Load, Move, Fence, Lock}
-use Rattle.tso_model.specs.declared.execution.Kind.TheVariants.{R, W, LR, LW}
-use Rattle.tso_model.specs.FlatMachine.{program_of}
-use Rattle.basic_laws.proofs.Lists.{Each, each-map, Member, member-at}
 use Rattle.tso_laws.proofs.Entries.{Fine, Ordered}
 use Rattle.tso_laws.proofs.CoreInvariant.{Paired, Next}
 use Rattle.tso_laws.proofs.Held.{member-left, member-right, member-split, each-of, Distinct, Apart}

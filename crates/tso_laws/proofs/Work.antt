@@ -1,26 +1,8 @@
 -- What is left to do, and that each choice that takes effect does one part of it.
-use Rattle.std.proofs.Common.{◌≡◌, ◌<◌, ◌≤◌, ℕ, ◌+◌, zero, suc, List, [], ◌∷◌, Option, Some, None, Bool, true, false, length, slice_get, slice_set, slice_index_or, drop, arith, ap, sym, ◌∙◌, refl, ◌⊎◌, inl, inr, ◌==◌, nat_lt, if◌then◌else◌, length-append}
-use Rattle.std.proofs.Math.ListN.{length-set}
-use Rattle.std.proofs.lemmas.Option.{slice_get_within}
-use Rattle.std.proofs.lemmas.Bool.Decides.{nat_tests}
-use Rattle.tso_model.specs.Litmus.{Litmus}
-use Rattle.tso_model.specs.declared.execution.Entry.{Entry}
-use Rattle.tso_model.specs.declared.instruction.Instr.{Instr}
-use Rattle.tso_model.specs.declared.action.Action.{Action}
-use Rattle.tso_model.specs.declared.action.Action.TheVariants.{Store, Load, Move, Fence, Lock}
-use Rattle.tso_model.specs.declared.choice.Choice.{Choice}
-use Rattle.tso_model.specs.declared.choice.Choice.TheVariants.{Step, Drain}
-use Rattle.tso_model.specs.declared.choice.Stall.{Stall}
+use Rattle.tso_laws.proofs.Vocabulary.{◌≡◌, ◌<◌, ◌≤◌, ℕ, ◌+◌, zero, suc, List, [], ◌∷◌, Option, Some, None, Bool, true, false, length, slice_get, slice_set, slice_index_or, drop, arith, ap, sym, ◌∙◌, refl, ◌⊎◌, inl, inr, ◌==◌, nat_lt, if◌then◌else◌, length-append, length-set, slice_get_within, nat_tests, Litmus, Entry, Instr, Action, Store, Load, Move, Fence, Lock, Choice, Step, Drain, Stall, Committed, action_of, is_none_pending, core_of, stalled, advanced, CoreState, State, Effect, idle, program_of, stored, when_drained, effect_by, step_of, drain_of, effect_of, chosen, after_choice, started, start, lt-or, and-left, and-right, is_done, all_done, has_ended, stall_count, then_run, resting, run, run_from, store_count, stores_in, instructions, stores, drop-at, drop-end}
 use Rattle.tso_model.specs.declared.choice.Stall.TheVariants as stall
-use Rattle.tso_model.specs.declared.choice.Outcome.TheVariants.{Committed}
-use Rattle.tso_model.specs.Actions.{action_of}
-use Rattle.tso_model.specs.FlatMachine.{is_none_pending, core_of, stalled, advanced, CoreState, State, Effect, idle, program_of, stored, when_drained, effect_by, step_of, drain_of, effect_of, chosen, after_choice, started, start}
 use Rattle.tso_laws.proofs.Draining.{waits-or-acts, drains}
-use Rattle.basic_laws.proofs.Basics.{lt-or, and-left, and-right}
 use Rattle.tso_laws.proofs.Folds.{put}
-use Rattle.tso_model.specs.Runs.{is_done, all_done, has_ended, stall_count, then_run, resting, run, run_from}
-use Rattle.tso_laws.specs.Counting.{store_count, stores_in, instructions, stores}
-use Rattle.basic_laws.proofs.Lists.{drop-at, drop-end}
 
 abbrev pub store_weight : ℕ → ℕ
 store_weight zero = 1

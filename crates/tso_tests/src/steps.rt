@@ -20,7 +20,7 @@ const FENCED: &str =
     "{\"access\":null,\"after\":{\"bus\":null,\"cores\":[{\"buffer\":[],\"lines\":[[]],\"place\":1,\"registers\":\
 {\"EAX\":0,\"EBX\":0,\"ECX\":0,\"EDI\":0,\"EDX\":0,\"ESI\":0}}],\"memory\":{},\"seen\":{}},\"choice\":\"0s\",\
 \"entries\":[\"P0:0 F\"],\"flush\":null,\"forwarded\":false,\"moved\":null,\"outcome\":\"committed\",\"stall\":null,\
-\"states\":[],\"transaction\":null,\"write_back\":null}\n";
+\"states\":[],\"supplied\":null,\"transaction\":null,\"write_back\":null}\n";
 
 fn answer(rt: &impl Abort, alloc: Global, input: &[u8]) -> Answer {
     let config = Config::new(4, Shape::default(), Bus::Atomic).expect(rt, "a configuration");

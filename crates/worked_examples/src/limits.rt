@@ -12,7 +12,7 @@ ghost use Rattle.scheduler.specs.Limits.{most_choices};
 ghost use Rattle.litmus_reader.specs.Limits.{longest_text};
 ghost use Rattle.hints.specs.Hint.{longest_hint};
 ghost use Rattle.tso_report.specs.Limits.{longest_report, most_entries};
-ghost use Rattle.command_line.specs.Plan.{most_seeds};
+ghost use Rattle.scheduler.specs.Plan.{most_seeds};
 ghost use Rattle.command_line.specs.Search.{most_states};
 ghost use Rattle.tso_io.specs.Limits.{longest_input};
 

@@ -1,5 +1,4 @@
-use Rattle.std.proofs.Common.{refl}
-use Rattle.abstract_machine.specs.Steps.{lock}
+use Rattle.abstract_machine.proofs.Vocabulary.{refl, lock}
 use Rattle.abstract_machine.proofs.locked_instructions_begin_whatever_the_buffer_has.Goals as goal
 
 pub returns : goal.returns

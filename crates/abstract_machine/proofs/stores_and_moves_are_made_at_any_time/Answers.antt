@@ -1,5 +1,4 @@
-use Rattle.std.proofs.Common.{refl}
-use Rattle.abstract_machine.specs.Steps.{write, move, locked_write}
+use Rattle.abstract_machine.proofs.Vocabulary.{refl, write, move, locked_write}
 use Rattle.abstract_machine.proofs.stores_and_moves_are_made_at_any_time.Goals as goal
 
 pub returns : goal.returns

@@ -1,10 +1,4 @@
-use Rattle.std.proofs.Common.{List, rules}
-use Rattle.tso_model.specs.Litmus.{Litmus, IsTest}
-use Rattle.tso_model.specs.Axioms.{IsTsoExecution}
-use Rattle.tso_model.specs.Examples.{sb, sb_order, n6, n6_order, added, separated_order}
-use Rattle.tso_model.specs.declared.execution.Entry.{Entry}
-use Rattle.tso_laws.specs.WorkedRuns.{short_order, turned_order, wrong_order}
-use Rattle.abstract_machine.specs.Ended.{IsReachedFreely}
+use Rattle.abstract_machine.proofs.Vocabulary.{List, rules, Litmus, IsTest, IsTsoExecution, sb, sb_order, n6, n6_order, added, separated_order, Entry, short_order, turned_order, wrong_order, IsReachedFreely}
 use Rattle.abstract_machine.proofs.Bounded.{Returns}
 use Rattle.abstract_machine.proofs.worked_runs_of_the_abstract_machine.Goals as goal
 

@@ -1,14 +1,14 @@
 -- What the second pass over an order goes by: each action stands there once, so how far each core has come is enough to
 -- judge an entry.
-use Rattle.std.specs.Prelude.{ℕ, ◌<◌, ◌≡◌, ◌≢◌, nat_le, true, if◌then◌else◌, List, Option, Some, None, IfSome, IsNone}
+use Rattle.std.specs.Prelude.{ℕ, ◌<◌, ◌≡◌, ◌≢◌, nat_le, true, if◌then◌else◌, List, length, Option, Some, None, IfSome, IsNone}
 use Rattle.std.specs.Prelude.{slice_get, slice_index}
-use Rattle.tso_model.specs.Litmus.{Litmus, IsTest}
+use Rattle.tso_model.specs.Litmus.{Litmus}
 use Rattle.tso_model.specs.ProgramOrder.{is_read, is_write}
 use Rattle.basic_laws.specs.Ranks.{rank}
 use Rattle.tso_model.specs.declared.execution.Entry.{Entry}
 use Rattle.tso_model.specs.ProgramEntries.{made}
 use Rattle.tso_model.specs.Axioms.{IsWhole, KeepsProgramOrder}
-use Rattle.axiom_checker.specs.First.{IsFirst, IsEarliest, IsNowhere}
+use Rattle.axiom_checker.specs.First.{NoneBefore, IsFirst, IsEarliest, IsNowhere}
 use Rattle.axiom_checker.specs.Entries.{IsExtra, IsStray, IsMissing, IsWrongWrite, written_value}
 use Rattle.axiom_checker.specs.AxiomBreaches.{IsLate, IsSeparated, IsWrongRead, due_at}
 use Rattle.axiom_checker.specs.inner.Sources.{IsSource}
@@ -59,18 +59,18 @@ abbrev pub IsFirstWrongRead : Litmus → List Entry → Entry × ℕ → Type 0
 IsFirstWrongRead t order named =
     (at : ℕ) × IsFirst order (IsWrongRead t order) at named.0 × (named.1 ≡ due_at t order at named.0)
 
--- the pass met the first of each kind of breach; a read's only where the order is whole and keeps program order
-pub record HasMet (t : Litmus) (order : List Entry) (met : Met) : Type 0 where
-  pub wrong_write : IfSome met.wrong_write (IsFirstWrongWrite t order)
-  pub no_wrong_write : IsNone met.wrong_write → IsNowhere order (IsWrongWrite (made t order))
-  pub late : IfSome met.late (λ a. IsFirst order (IsLate order) a.0 a.1)
-  pub none_late : IsNone met.late → IsNowhere order (IsLate order)
-  pub separated : IfSome met.separated (λ x. IsEarliest order (IsSeparated order) x)
-  pub none_separated : IsNone met.separated → IsNowhere order (IsSeparated order)
-  pub wrong_read : IsWhole t order → KeepsProgramOrder order → IfSome met.wrong_read (IsFirstWrongRead t order)
-  pub no_wrong_read : IsWhole t order → KeepsProgramOrder order → IsNone met.wrong_read → IsNowhere order (IsWrongRead t order)
+-- what was found is named so; where nothing was, the fact holds of no entry before this place
+pub record IsFound {X : Type 0} (list : List Entry) (Fact : ℕ → Entry → Type 0) (at : ℕ) (Names : X → Type 0) (found : Option X) : Type 0 where
+  pub named : IfSome found Names
+  pub none : IsNone found → NoneBefore list Fact at
 
--- it met these, whatever test with these first words the entries were made for
+-- of each kind of breach the first was met, if one is before this place; a read's only where the order is whole and keeps program order
+pub record HasMet (t : Litmus) (order : List Entry) (at : ℕ) (met : Met) : Type 0 where
+  pub wrong_write : IsFound order (IsWrongWrite (made t order)) at (IsFirstWrongWrite t order) met.wrong_write
+  pub late : IsFound order (IsLate order) at (λ a. IsFirst order (IsLate order) a.0 a.1) met.late
+  pub separated : IsFound order (IsSeparated order) at (IsEarliest order (IsSeparated order)) met.separated
+  pub wrong_read : IsWhole t order → KeepsProgramOrder order → IsFound order (IsWrongRead t order) at (IsFirstWrongRead t order) met.wrong_read
+
+-- it met these in the whole order, whatever test with these first words the entries were made for
 abbrev pub HasMetFor : List ℕ → List Entry → List Entry → Met → Type 0
-HasMetFor words entries order met =
-    (t : Litmus) → IsTest t → t.words ≡ words → entries ≡ made t order → HasMet t order met
+HasMetFor words entries order met = (t : Litmus) → t.words ≡ words → entries ≡ made t order → HasMet t order (length order) met

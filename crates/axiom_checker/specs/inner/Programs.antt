@@ -1,18 +1,12 @@
--- What the programs make for given read values: first with zeros, which shows which entries there must be, then with the
+-- What the programs make for given read values: first for zeros, which shows which entries there must be, then for the
 -- order's own.
-use Rattle.std.specs.Prelude.{ℕ, ◌+◌, List, [], ◌∷◌, ◌++◌, Option, None, if◌then◌else◌, replicate, slice_index_or, take}
+use Rattle.std.specs.Prelude.{ℕ, ◌+◌, List, [], ◌∷◌, ◌++◌, Option, None, if◌then◌else◌, slice_index_or, take}
 use Rattle.std.specs.Prelude.{drop}
 use Rattle.std.specs.Option.{unwrap_or}
 use Rattle.tso_model.specs.Thread.{entries_of, reads_in}
 use Rattle.tso_model.specs.ProgramOrder.{is_read}
 use Rattle.tso_model.specs.declared.instruction.Instr.{Instr}
 use Rattle.tso_model.specs.declared.execution.Entry.{Entry}
-
--- the entries of all programs, core by core, where each read returns 0
-abbrev pub shape_from : ℕ → List (List Instr) → List (List ℕ) → List Entry
-shape_from core [] registers = []
-shape_from core (p ∷ ps) registers =
-    entries_of core 0 p (slice_index_or registers core []) (replicate (reads_in p) 0) ++ shape_from (core + 1) ps registers
 
 -- how many values all programs read
 abbrev pub reads_of_all : List (List Instr) → ℕ

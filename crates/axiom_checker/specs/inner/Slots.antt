@@ -1,7 +1,8 @@
 -- How the checker finds the program's entry of an entry of the order: no two have one slot, so one look in a table is
 -- enough.
-use Rattle.std.specs.Prelude.{ℕ, ◌+◌, ◌*◌, ◌≤◌, ◌<◌, ◌≡◌, true, List, [], ◌∷◌, Option, Some, None, slice_get}
+use Rattle.std.specs.Prelude.{ℕ, ◌+◌, ◌*◌, ◌<◌, ◌≡◌, ◌⊎◌, true, List, Option, Some, None, slice_get}
 use Rattle.tso_model.specs.Limits.{most_instructions}
+use Rattle.tso_model.specs.ProgramOrder.{is_write}
 use Rattle.basic_laws.specs.Ranks.{rank}
 use Rattle.tso_model.specs.declared.execution.Entry.{Entry}
 use Rattle.axiom_checker.specs.First.{IsEarliest}
@@ -17,10 +18,22 @@ slots_of_a_core = 2 * most_instructions
 abbrev pub slot_of : Entry → ℕ
 slot_of e = e.core.0 * slots_of_a_core + rank e
 
--- each entry has a later slot than the one before it, all from `low` on and below `high`
-abbrev pub Ascends : ℕ → ℕ → List Entry → Type 0
-Ascends low high [] = low ≤ high
-Ascends low high (e ∷ es) = (low ≤ slot_of e) × Ascends (slot_of e + 1) high es
+-- d stands before e among the entries of the programs: its core is an earlier one, or the same and its rank is smaller
+abbrev pub Precedes : Entry → Entry → Type 0
+Precedes d e = (d.core.0 < e.core.0) ⊎ ((d.core.0 ≡ e.core.0) × (rank d < rank e))
+
+-- each entry of the list precedes those after it
+abbrev pub Ascends : List Entry → Type 0
+Ascends list = (j k : ℕ) (d e : Entry) → j < k → slice_get list j ≡ Some d → slice_get list k ≡ Some e → Precedes d e
+
+-- an entry of a test with so many cores and locations
+pub record IsWithin (cores locations : ℕ) (e : Entry) : Type 0 where
+  pub core : e.core.0 < cores
+  pub fits : rank e < slots_of_a_core
+  pub known : is_write e ≡ true → e.loc.0 < locations
+
+abbrev pub AreWithin : ℕ → ℕ → List Entry → Type 0
+AreWithin cores locations list = (k : ℕ) (e : Entry) → slice_get list k ≡ Some e → IsWithin cores locations e
 
 -- the table tells of each slot where in the list its entry stands
 pub record IsIndex (list : List Entry) (slots : List (Option ℕ)) : Type 0 where

@@ -49,13 +49,10 @@ abbrev pub first_full : List (ℕ × Way) → Option ℕ
 first_full [] = None
 first_full (e ∷ es) = if is_empty e.1 then first_full es else Some e.0
 
--- the number of the way that a new line takes over, where there is room for so many: of the first that is empty, else of the
--- last; none where there is room for one that was never used
-abbrev pub IsForNew : List (ℕ × Way) → ℕ → Option ℕ → Type 0
-IsForNew es room None = (first_empty es ≡ None) × (length es < room)
-IsForNew es room (Some number) =
-    (first_empty es ≡ Some number)
-    ⊎ ((first_empty es ≡ None) × ((room ≤ length es) × (option_map (λ e. e.0) (slice_get es (length es - 1)) ≡ Some number)))
+-- the number of the way that a new line takes over: of the first that is empty, else of the one used longest ago
+abbrev pub IsForNew : List (ℕ × Way) → ℕ → Type 0
+IsForNew es number =
+    (first_empty es ≡ Some number) ⊎ ((first_empty es ≡ None) × (option_map (λ e. e.0) (slice_get es (length es - 1)) ≡ Some number))
 
 -- the copy in a way that another line takes over, as it is handed back: none of an empty way
 abbrev pub copy_left : Way → Option Victim
@@ -66,7 +63,8 @@ abbrev pub NumbersBelow : ℕ → List (ℕ × Way) → Type 0
 NumbersBelow n [] = ⊤
 NumbersBelow n (e ∷ es) = (e.0 < n) × NumbersBelow n es
 
--- what holds of the ways of every set with room for so many: their numbers are those below their count, and few
+-- what holds of the ways of every set with room for so many: they are all there, few, with the numbers below their count
 pub record AreWays (es : List (ℕ × Way)) (room : ℕ) : Type 0 where
   pub few : room ≤ most_ways
+  pub all : length es ≡ room
   pub numbered : NumbersBelow (length es) es

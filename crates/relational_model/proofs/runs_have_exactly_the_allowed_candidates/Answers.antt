@@ -1,9 +1,4 @@
-use Rattle.std.proofs.Common.{◌∙◌, sym, ap, subst}
-use Rattle.tso_model.specs.Limits.{most_depth}
-use Rattle.tso_model.specs.Runs.{run}
-use Rattle.tso_model.specs.FinalState.{final_words, final_registers}
-use Rattle.relational_model.specs.CandidatesOfOrders.{IsCandidateOf}
-use Rattle.relational_model.specs.CandidatesOfRuns.{IsCandidateOfRun}
+use Rattle.relational_model.proofs.Vocabulary.{◌∙◌, sym, ap, subst, most_depth, run, final_words, final_registers, IsCandidateOf, IsCandidateOfRun}
 use Rattle.relational_model.proofs.Allowed.{Whole, is-allowed}
 use Rattle.relational_model.proofs.Found.{has-candidate}
 use Rattle.relational_model.proofs.Left.{leave-the-same}

@@ -1,9 +1,4 @@
-use Rattle.std.proofs.Common.{◌≡◌, ℕ, zero, suc, true, false, [], refl, sym, ◌∙◌}
-use Rattle.std.specs.Prelude.{filter}
-use Rattle.tso_model.specs.ProgramOrder.{writes_to}
-use Rattle.tso_model.specs.Examples.{sb, sb_order, n6, n6_order}
-use Rattle.relational_model.specs.CandidatesOfOrders.{IsCandidateOf}
-use Rattle.relational_model.specs.WorkedCandidates.{sb_candidate, n6_candidate, independent}
+use Rattle.relational_model.proofs.Vocabulary.{◌≡◌, ℕ, zero, suc, true, false, [], refl, sym, ◌∙◌, filter, writes_to, sb, sb_order, n6, n6_order, IsCandidateOf, sb_candidate, n6_candidate, independent}
 use Rattle.relational_model.proofs.Allowed.{Whole, is-allowed}
 use Rattle.relational_model.proofs.Found.{has-candidate}
 use Rattle.relational_model.proofs.Left.{leave-the-same}

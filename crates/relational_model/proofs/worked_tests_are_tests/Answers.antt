@@ -1,4 +1,4 @@
-use Rattle.std.proofs.Common.{rules}
+use Rattle.relational_model.proofs.Vocabulary.{rules}
 use Rattle.relational_model.proofs.worked_tests_are_tests.Goals as goal
 
 pub returns-clause-sb : goal.returns-clause-sb

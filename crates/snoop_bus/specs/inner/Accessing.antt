@@ -53,11 +53,6 @@ pub record SetsWord (line offset value : ℕ) (old_caches new_caches : List Sets
 abbrev pub counted_words : Option HeldBus → List Sets → List Words → ℕ → Words
 counted_words held caches memory line = current_words (counted held caches) memory line
 
--- nothing has changed, neither the caches nor memory: as where an access is out of memory
-pub record IsUnchanged (old new : Hierarchy) : Type 0 where
-  pub caches : new.caches.items ≡ old.caches.items
-  pub memory : new.memory.items ≡ old.memory.items
-
 module _ (t : Table) (held : Option HeldBus) (core line : ℕ) where
   -- a load answered the word at this offset in a line and was this access: what it leaves goes by the protocol's table
   pub record Loads (offset : ℕ) (old new : List Sets) (before after : List Words) (word : ℕ) (access : Access) : Type 0 where

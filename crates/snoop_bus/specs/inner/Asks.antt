@@ -15,7 +15,6 @@ use Rattle.snoop_bus.specs.Copies.{Sets, tags_of}
 use Rattle.snoop_bus.specs.Held.{stage_for}
 use Rattle.snoop_bus.specs.inner.Held.{held_by}
 use Rattle.snoop_bus.specs.Bus.{current_words}
-use Rattle.snoop_bus.specs.MemoryAfter.{flushed}
 use Rattle.snoop_bus.specs.Asks.{asked_for, flusher_of, request_for, to_fill}
 
 -- the transaction of a request, where the line has these words, and what it awaits

@@ -11,11 +11,12 @@ use Rattle.serde_json.specs.View.{items_of}
 use Rattle.machine_core.specs.Looking.{bus_holder_of}
 use Rattle.machine_core.specs.declared.looking.BusHolder.{BusHolder}
 use Rattle.tso_report.specs.Json.{count, memory_value}
-use Rattle.trace_report.specs.Shown.{Shown}
+use Rattle.trace_report.specs.Shown.{shown}
 use Rattle.trace_report.specs.Lines.{line_name, transient_name}
 use Rattle.trace_json.specs.Values.{counts, text_or_null}
 use Rattle.trace_json.specs.MachineJson.{bus_json, cores_json, kept_words, words_in_line}
-use Rattle.trace_json.specs.TraceJson.{alone, step_to}
+use Rattle.trace_json.specs.TraceJson.{Sourced, alone, step_to}
+use Rattle.trace_json.specs.declared.trace.SourcedStep.{SourcedStep}
 
 -- the machine runs this test, is configured so, and has a word for each location
 pub record IsShown (t : Litmus) (c : Configuration) (m : Running) : Type 0 where
@@ -55,6 +56,10 @@ abbrev pub trace_with : Data → Data → Data
 trace_with start steps = object (member (codes "start") start (member (codes "steps") steps no_members))
 
 -- what is told last of a machine whose memory has these words: the step to it, or where there is none the machine
-abbrev pub told_last : Option Shown → Running → List ℕ → Data
+abbrev pub told_last : Option Sourced → Running → List ℕ → Data
 told_last None m memory = alone m memory
 told_last (Some s) m memory = step_to s m memory
+
+-- what is told of a choice
+abbrev pub sourced : SourcedStep → Sourced
+sourced s = record { step = shown s.step; supplied = s.supplied }

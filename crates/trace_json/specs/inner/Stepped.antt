@@ -1,5 +1,5 @@
 -- The members of a step's value, in two parts, as the code puts them together.
-use Rattle.std.specs.Prelude.{ℕ, map, option_map, codes}
+use Rattle.std.specs.Prelude.{ℕ, map, Option, option_map, codes}
 use Rattle.serde_json.specs.Data.{Data, boolean, string, Members, no_members, member, put}
 use Rattle.tso_model.specs.Litmus.{Litmus}
 use Rattle.scheduler.specs.Printed.{printed_choice}
@@ -9,6 +9,8 @@ use Rattle.trace_report.specs.Lines.{access_name, stall_name, line_name}
 use Rattle.trace_report.specs.Lines.{printed_core, printed_move, printed_change, printed_request}
 use Rattle.trace_json.specs.Values.{text_or_null, texts}
 use Rattle.trace_json.specs.StepJson.{outcome_word, stall_in}
+use Rattle.trace_json.specs.Supplied.{source_text}
+use Rattle.trace_json.specs.declared.supplied.Source.{Source}
 
 -- those to `moved`
 abbrev pub done_members : Litmus → Shown → Data → Members
@@ -22,10 +24,11 @@ done_members t s after =
     (member (codes "moved") (text_or_null (option_map printed_move s.moved)) no_members))))))
 
 -- and with the others put to them
-abbrev pub with_left : Litmus → ℕ → Shown → Members → Members
-with_left t words s members =
+abbrev pub with_left : Litmus → ℕ → Shown → Option Source → Members → Members
+with_left t words s supplied members =
     put (codes "write_back") (text_or_null (option_map (line_name t words) s.wrote_back))
     (put (codes "transaction") (text_or_null (option_map (printed_request t words) s.request))
+    (put (codes "supplied") (text_or_null (option_map source_text supplied))
     (put (codes "states") (texts (map (printed_change t words) s.changes))
     (put (codes "stall") (text_or_null (option_map stall_name (stall_in s.outcome)))
-    (put (codes "outcome") (string (outcome_word s.outcome)) members))))
+    (put (codes "outcome") (string (outcome_word s.outcome)) members)))))

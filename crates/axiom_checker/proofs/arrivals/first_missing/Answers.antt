@@ -1,5 +1,4 @@
 use Rattle.std.proofs.Common.{not, ap, sym, ◌∙◌}
-use Rattle.std.proofs.lemmas.Bool.{true≢false}
 use Rattle.std.proofs.lemmas.Option.{slice_get-get_or}
 use Rattle.axiom_checker.specs.inner.Slots.{HasNotCome}
 use Rattle.axiom_checker.proofs.Firsts.{none_at_all, none_in_nothing}
@@ -8,9 +7,6 @@ use Rattle.axiom_checker.proofs.arrivals.first_missing.Goals as goal
 
 pub loop-i-init : goal.loop-i-init
 loop-i-init c = none_in_nothing c.args.shape.now (HasNotCome c.args.came.now)
-
-pub bounds-shape-i : goal.bounds-shape-i
-bounds-shape-i c = c.loop-i-test.true
 
 pub returns-then-is_none-clause-found : goal.returns-then-is_none-clause-found
 returns-then-is_none-clause-found c = (
@@ -22,15 +18,9 @@ returns-then-is_none-clause-found c = (
   },
 )
 
-pub returns-then-is_none-clause-none : goal.returns-then-is_none-clause-none
-returns-then-is_none-clause-none c e = absurd (true≢false e)
-
 pub loop-i-preserved : goal.loop-i-preserved
 loop-i-preserved c =
     came-too c.args.shape.now c.args.came.now c.loop-i.i c.loop-i.invariant (λ e. not-none-there c.kept.result (c.is_none.ensures ∙ ap not c.if-is_none.false) (c.kept.ensures ∙ e))
-
-pub returns-clause-found : goal.returns-clause-found
-returns-clause-found c = tt
 
 pub returns-clause-none : goal.returns-clause-none
 returns-clause-none c _ = none_at_all c.args.shape.now (HasNotCome c.args.came.now) c.loop-i.i c.loop-i-test.false c.loop-i.invariant

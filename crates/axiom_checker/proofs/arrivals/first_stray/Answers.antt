@@ -1,10 +1,8 @@
-use Rattle.std.proofs.Common.{◌<◌, ◌≤◌, length, slice_get, ap, sym, ◌∙◌, arith, refl, subst}
-use Rattle.std.proofs.lemmas.Bool.{true≢false}
+use Rattle.std.proofs.Common.{◌<◌, length, slice_get, ap, sym, ◌∙◌, arith, refl, subst}
 use Rattle.axiom_checker.specs.Entries.{IsStray}
-use Rattle.axiom_checker.specs.inner.Slots.{HasCome}
 use Rattle.axiom_checker.proofs.Firsts.{one_more, none_at_all, none_in_nothing}
 use Rattle.axiom_checker.proofs.Coming.{nothing-came}
-use Rattle.axiom_checker.proofs.Looks.{no-looks, looks-here, looks-so-far, end-is}
+use Rattle.axiom_checker.proofs.Looks.{no-looks, looks-here}
 use Rattle.axiom_checker.proofs.arrivals.first_stray.Goals as goal
 
 pub loop-at-preserved : goal.loop-at-preserved
@@ -33,44 +31,12 @@ loop-at-init g c = record {
   came = nothing-came c.args.shape.now c.args.order.now.order c.args.came.now c.requires.fresh;
 }
 
-pub look-x-requires : goal.look-x-requires
-look-x-requires g c = subst (λ n. c.loop-at.at < n) (c.len-at-end.ensures ∙ ap length (sym c.loop-at.invariant.order)) c.loop-at-test.true
-
-pub arrive-requires-clause-index : goal.arrive-requires-clause-index
-arrive-requires-clause-index g c = c.requires.index
-
-pub arrive-requires-clause-size : goal.arrive-requires-clause-size
-arrive-requires-clause-size g c = c.loop-at.auto.came ∙ c.requires.size
-
 pub returns-in-Some-clause-found : goal.returns-in-Some-clause-found
 returns-in-Some-clause-found g c =
     let here = ap (λ o. slice_get o c.loop-at.at) (sym c.loop-at.invariant.order) ∙ c.look-x.ensures.entry in
     c.in-Some.ensures.found c.args.order.now.order c.loop-at.at here c.loop-at.invariant.none c.loop-at.invariant.came
 
-pub returns-in-Some-clause-none : goal.returns-in-Some-clause-none
-returns-in-Some-clause-none g c e = absurd (true≢false e)
-
-pub returns-in-Some-clause-came : goal.returns-in-Some-clause-came
-returns-in-Some-clause-came g c e = absurd (true≢false e)
-
-pub returns-in-Some-clause-same : goal.returns-in-Some-clause-same
-returns-in-Some-clause-same g c = ap (λ s. s.order) c.look-x.ensures.counted ∙ c.loop-at.invariant.order
-
 pub returns-in-Some-clause-looks : goal.returns-in-Some-clause-looks
 returns-in-Some-clause-looks g c =
     looks-here c.args.order.now.looks c.loop-at.at (length c.args.order.now.order) c.loop-at.order.looks c.look-x.new.self.looks c.loop-at.invariant.looks (ap (λ s. s.looks) c.look-x.ensures.counted)
     (subst (λ n. c.loop-at.at < n) c.len-at-end.ensures c.loop-at-test.true)
-
-pub returns-clause-found : goal.returns-clause-found
-returns-clause-found g c = tt
-
-pub returns-clause-came : goal.returns-clause-came
-returns-clause-came g c _ =
-    subst (λ n. HasCome c.args.shape.now c.args.order.now.order n c.loop-at.came) (end-is c.loop-at.at (length c.args.order.now.order) c.len-at-end.result c.len-at-end.ensures c.loop-at.auto.at-end c.loop-at-test.false) c.loop-at.invariant.came
-
-pub returns-clause-same : goal.returns-clause-same
-returns-clause-same g c = c.loop-at.invariant.order
-
-pub returns-clause-looks : goal.returns-clause-looks
-returns-clause-looks g c =
-    looks-so-far c.args.order.now.looks c.loop-at.at (length c.args.order.now.order) c.loop-at.order.looks c.loop-at.invariant.looks (subst (λ n. c.loop-at.at ≤ n) c.len-at-end.ensures c.loop-at.auto.at-end)

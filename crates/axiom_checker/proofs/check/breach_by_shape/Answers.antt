@@ -1,13 +1,11 @@
 use Rattle.std.proofs.Common.{◌≤◌, IfOk, length, ap, sym, ◌∙◌, refl, subst}
 use Rattle.std.proofs.lemmas.Bool.{true≢false}
-use Rattle.std.proofs.lemmas.Result.{IfOk-from_err}
 use Rattle.tso_model.specs.ProgramEntries.{made}
 use Rattle.axiom_checker.specs.inner.Programs.{made_reading, reads_of_all}
 use Rattle.axiom_checker.specs.inner.Slots.{IsIndex}
 use Rattle.axiom_checker.specs.inner.Passing.{IsMatched}
 use Rattle.axiom_checker.specs.inner.FirstBreach.{TellsFirstBreach}
 use Rattle.axiom_checker.proofs.Judging.{alike-of, names-first-stray, names-first-missing, all-matched, all-read, made-index}
-use Rattle.axiom_checker.proofs.Looks.{one-of-three, all-of-three}
 use Rattle.axiom_checker.proofs.check.breach_by_shape.Goals as goal
 
 pub returns-in-Some-clause-breach : goal.returns-in-Some-clause-breach
@@ -53,51 +51,5 @@ breach_of_all-requires g c =
       test = c.requires.test;
     }
 
-pub first_stray-requires-clause-index : goal.first_stray-requires-clause-index
-first_stray-requires-clause-index g c = c.requires.index
-
-pub first_stray-requires-clause-size : goal.first_stray-requires-clause-size
-first_stray-requires-clause-size g c = c.requires.size
-
-pub first_stray-requires-clause-fresh : goal.first_stray-requires-clause-fresh
-first_stray-requires-clause-fresh g c = c.requires.fresh
-
-pub returns-in-Some-clause-same : goal.returns-in-Some-clause-same
-returns-in-Some-clause-same g c = c.in-Some.ensures.same
-
-pub returns-in-Some-clause-looks : goal.returns-in-Some-clause-looks
-returns-in-Some-clause-looks g c = one-of-three c.args.order.now.looks (length c.args.order.now.order) c.first_stray.new.order.looks c.in-Some.ensures.looks
-
-pub returns-in-Some-first_missing-clause-same : goal.returns-in-Some-first_missing-clause-same
-returns-in-Some-first_missing-clause-same g c = c.in_default.ensures.same
-
-pub returns-in-Some-first_missing-clause-looks : goal.returns-in-Some-first_missing-clause-looks
-returns-in-Some-first_missing-clause-looks g c = one-of-three c.args.order.now.looks (length c.args.order.now.order) c.first_stray.new.order.looks c.in_default.ensures.looks
-
-pub returns-in_err-reads-clause-breach : goal.returns-in_err-reads-clause-breach
-returns-in_err-reads-clause-breach g c = IfOk-from_err c.from_residual.result _ c.from_residual.ensures.0
-
-pub returns-in_err-reads-clause-same : goal.returns-in_err-reads-clause-same
-returns-in_err-reads-clause-same g c = c.in_default.ensures.same
-
-pub returns-in_err-reads-clause-looks : goal.returns-in_err-reads-clause-looks
-returns-in_err-reads-clause-looks g c = one-of-three c.args.order.now.looks (length c.args.order.now.order) c.first_stray.new.order.looks c.in_default.ensures.looks
-
-pub returns-in_err-made-clause-breach : goal.returns-in_err-made-clause-breach
-returns-in_err-made-clause-breach g c = IfOk-from_err c.from_residual-in_err-made.result _ c.from_residual-in_err-made.ensures.0
-
-pub returns-in_err-made-clause-same : goal.returns-in_err-made-clause-same
-returns-in_err-made-clause-same g c = c.in_default.ensures.same
-
-pub returns-in_err-made-clause-looks : goal.returns-in_err-made-clause-looks
-returns-in_err-made-clause-looks g c = one-of-three c.args.order.now.looks (length c.args.order.now.order) c.first_stray.new.order.looks c.in_default.ensures.looks
-
 pub returns-clause-breach : goal.returns-clause-breach
 returns-clause-breach g c = subst (λ o. IfOk c.breach_of_all.result (TellsFirstBreach c.args.test.now o)) c.in_default.ensures.same c.breach_of_all.ensures.breach
-
-pub returns-clause-same : goal.returns-clause-same
-returns-clause-same g c = c.breach_of_all.ensures.same ∙ c.in_default.ensures.same
-
-pub returns-clause-looks : goal.returns-clause-looks
-returns-clause-looks g c =
-    all-of-three c.args.order.now.looks (length c.args.order.now.order) (length c.first_stray.new.order.order) c.first_stray.new.order.looks c.breach_of_all.new.order.looks (ap length c.in_default.ensures.same) c.in_default.ensures.looks c.breach_of_all.ensures.looks

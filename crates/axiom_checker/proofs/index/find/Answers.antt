@@ -1,5 +1,4 @@
 use Rattle.std.proofs.Common.{ap, sym, ◌∙◌}
-use Rattle.std.proofs.lemmas.Bool.{true≢false}
 use Rattle.std.proofs.lemmas.Option.{slice_get-get_or}
 use Rattle.axiom_checker.specs.inner.Programs.{kept_in}
 use Rattle.axiom_checker.specs.inner.Slots.{slot_of}
@@ -17,21 +16,12 @@ returns-in-Some-clause-found c =
     let within = index-within c.args.list.now c.args.slots.now c.requires (slot_of c.args.x.now) c.in-Some.i there in
     (_, slice_get-get_or c.args.list.now c.in-Some.i _ within, sym c.is_same_but_value.ensures ∙ c.if-is_same_but_value.true)
 
-pub returns-in-Some-clause-none : goal.returns-in-Some-clause-none
-returns-in-Some-clause-none c e = absurd (true≢false e)
-
-pub returns-in_default-clause-found : goal.returns-in_default-clause-found
-returns-in_default-clause-found c = tt
-
 pub returns-in_default-clause-none : goal.returns-in_default-clause-none
 returns-in_default-clause-none c _ =
     let there = ap (λ n. kept_in c.args.slots.now n) (sym c.slot.ensures) ∙ sym c.kept.ensures ∙ c.in-Some.is in
     let within = index-within c.args.list.now c.args.slots.now c.requires (slot_of c.args.x.now) c.in-Some.i there in
     let other = sym c.is_same_but_value.ensures ∙ c.if-is_same_but_value.false in
     found-other c.args.list.now c.args.slots.now c.requires c.args.x.now _ c.in-Some.i there (slice_get-get_or c.args.list.now c.in-Some.i _ within) other
-
-pub returns-in_default-2-clause-found : goal.returns-in_default-2-clause-found
-returns-in_default-2-clause-found c = tt
 
 pub returns-in_default-2-clause-none : goal.returns-in_default-2-clause-none
 returns-in_default-2-clause-none c _ =

@@ -1,26 +1,15 @@
-use Rattle.std.proofs.Common.{◌<◌, length, slice_get, ap, sym, ◌∙◌, arith, subst, refl, ◌+◌}
+use Rattle.std.proofs.Common.{None, ◌<◌, length, slice_get, ap, sym, ◌∙◌, arith, subst, refl, ◌+◌}
 use Rattle.std.proofs.lemmas.List.{length-set}
 use Rattle.std.specs.Option.{unwrap_or}
 use Rattle.axiom_checker.proofs.Marking.{AreMarks, AreWords, of_core, past_loads, marks-none, all-reached, all-settled, words-written}
-use Rattle.axiom_checker.proofs.Meeting.{met-more, met-all, nothing-met, late-within, ahead, no-more-looks, none-there, some-there, core-within, word-within}
-use Rattle.axiom_checker.proofs.Looks.{no-looks}
+use Rattle.axiom_checker.proofs.Meeting.{met-more, nothing-met, late-within, ahead, no-more-looks, core-within, word-within}
+use Rattle.axiom_checker.specs.inner.Passing.{HasMet}
+use Rattle.axiom_checker.proofs.Looks.{end-is}
 use Rattle.axiom_checker.proofs.passing.pass.Goals as goal
 
 pub returns-then-len-eq0-clause-met : goal.returns-then-len-eq0-clause-met
-returns-then-len-eq0-clause-met g c t v w m =
-    met-all t c.args.order.now.order 0 _ (none-there (length c.args.order.now.order) c.len.result c.len.ensures c.if-len-eq0.true) (nothing-met t c.args.order.now.order _ refl refl refl refl)
-
-pub returns-then-len-eq0-clause-within : goal.returns-then-len-eq0-clause-within
-returns-then-len-eq0-clause-within g c = tt
-
-pub returns-then-len-eq0-clause-same : goal.returns-then-len-eq0-clause-same
-returns-then-len-eq0-clause-same g c = refl
-
-pub returns-then-len-eq0-clause-looks : goal.returns-then-len-eq0-clause-looks
-returns-then-len-eq0-clause-looks g c = no-looks c.args.order.now.looks (length c.args.order.now.order)
-
-pub look-x-requires : goal.look-x-requires
-look-x-requires g c = some-there (length c.args.order.now.order) c.len.result c.len.ensures c.if-len-eq0.false
+returns-then-len-eq0-clause-met g c t w m =
+    subst (λ n. HasMet t c.args.order.now.order n (record { wrong_write = None; late = None; separated = None; wrong_read = None })) (sym c.if-len-eq0.true ∙ c.len.ensures) (nothing-met t c.args.order.now.order)
 
 pub loop-at-init : goal.loop-at-init
 loop-at-init g c =
@@ -36,15 +25,8 @@ loop-at-init g c =
       settled = marks-none order past_loads c.args.settled.now (λ k. (c.requires.none_yet k).1);
       words = λ loc. refl;
       within = tt;
-      met = λ t v w m. nothing-met t order _ refl refl refl refl;
+      met = λ t w m. nothing-met t order;
     }
-
-pub entry_after-next-requires : goal.entry_after-next-requires
-entry_after-next-requires g c =
-    subst (λ n. c.loop-at.at < n) (c.len-at-end.ensures ∙ ap (λ s. length s.order) c.look-x.ensures.counted ∙ ap length (sym c.loop-at.invariant.order)) c.loop-at-test.true
-
-pub wrong_write-requires : goal.wrong_write-requires
-wrong_write-requires g c = c.requires.index
 
 pub late-requires-clause-reached : goal.late-requires-clause-reached
 late-requires-clause-reached g c =
@@ -57,12 +39,6 @@ late-requires-clause-settled g c =
     let order = c.args.order.now.order in
     let inside : c.loop-at.at < length order = subst (λ n. c.loop-at.at < n) (c.len-at-end.ensures ∙ ap (λ s. length s.order) c.look-x.ensures.counted) c.loop-at-test.true in
     core-within c.args.programs.made.now _ _ order c.requires.of_programs c.loop-at.at c.loop-at.x (c.loop-at.invariant.here inside) (length c.loop-at.settled) (c.loop-at.auto.settled ∙ c.requires.settled)
-
-pub wrong_read-requires-clause-index : goal.wrong_read-requires-clause-index
-wrong_read-requires-clause-index g c = c.requires.index
-
-pub wrong_read-requires-clause-sources : goal.wrong_read-requires-clause-sources
-wrong_read-requires-clause-sources g c = c.requires.sources
 
 pub reach-requires : goal.reach-requires
 reach-requires g c =
@@ -110,29 +86,20 @@ loop-at-preserved g c =
       words = subst (λ w. AreWords order (at + 1) c.args.words.now w) (sym c.write.ensures)
           (words-written order at c.args.words.now c.loop-at.words x here (λ w. let l = ours.to_a_word at x here w in let n = c.loop-at.auto.words in omega (arith, l, n)) c.loop-at.invariant.words);
       within = late-within (length order) at x inside c.loop-at.met.late c.late.result c.first-in-loop-at.result _ c.late.ensures c.first-in-loop-at.ensures c.loop-at.invariant.within;
-      met = λ t v w m.
+      met = λ t w m.
           let ours_too = ours.made_by_one at x here in
-          met-more t order at x v here c.args.programs.made.now m c.loop-at.reached c.loop-at.settled c.loop-at.words c.args.words.now w c.loop-at.invariant.reached c.loop-at.invariant.settled c.loop-at.invariant.words all others
+          met-more t order at x here c.args.programs.made.now m c.loop-at.reached c.loop-at.settled c.loop-at.words c.args.words.now w c.loop-at.invariant.reached c.loop-at.invariant.settled c.loop-at.invariant.words all others
           c.entry_after-next.result next
           c.wrong_write.result (c.wrong_write.ensures.found ours_too) (c.wrong_write.ensures.none ours_too)
           c.late.result c.late.ensures
           c.separated.result c.separated.ensures.found c.separated.ensures.none
           c.wrong_read.result (c.wrong_read.ensures.found ours_too) (c.wrong_read.ensures.none ours_too)
           c.loop-at.met _ c.first.ensures c.first-in-loop-at.ensures c.first-in-loop-at-2.ensures c.first-in-loop-at-3.ensures
-          (c.loop-at.invariant.met t v w m);
+          (c.loop-at.invariant.met t w m);
     }
 
 pub returns-clause-met : goal.returns-clause-met
-returns-clause-met g c t v w m =
-    met-all t c.args.order.now.order c.loop-at.at c.loop-at.met
-    (let l = c.loop-at-test.false in let n = c.len-at-end.ensures in let o = ap (λ s. length s.order) c.look-x.ensures.counted in omega (arith, l, n, o))
-    (c.loop-at.invariant.met t v w m)
-
-pub returns-clause-within : goal.returns-clause-within
-returns-clause-within g c = c.loop-at.invariant.within
-
-pub returns-clause-same : goal.returns-clause-same
-returns-clause-same g c = c.loop-at.invariant.order
-
-pub returns-clause-looks : goal.returns-clause-looks
-returns-clause-looks g c = c.loop-at.invariant.no_more
+returns-clause-met g c t w m =
+    let order = c.args.order.now.order in
+    let at_end = end-is c.loop-at.at (length order) c.len-at-end.result (c.len-at-end.ensures ∙ ap (λ s. length s.order) c.look-x.ensures.counted) c.loop-at.auto.at-end c.loop-at-test.false in
+    subst (λ n. HasMet t order n c.loop-at.met) at_end (c.loop-at.invariant.met t w m)

@@ -1,8 +1,8 @@
 use Rattle.std.proofs.Common.{◌≡◌, ◌≤◌, ◌<◌, ◌+◌, Some, IfSome, length, slice_get}
-use Rattle.tso_model.specs.Litmus.{Litmus, IsTest}
+use Rattle.tso_model.specs.Litmus.{Litmus}
 use Rattle.tso_model.specs.ProgramEntries.{made}
 use Rattle.axiom_checker.proofs.Marking.{AreMarks, AreWords, of_core, past_loads}
-use Rattle.axiom_checker.proofs.Meeting.{HasMetSoFar}
+use Rattle.axiom_checker.specs.inner.Passing.{HasMet}
 use Rattle.axiom_checker.proofs.passing.pass.Given as goal
 
 -- one look each, and one ahead; how far the cores have come, the words, and what was met among the entries so far
@@ -16,5 +16,5 @@ invariant-loop-at g l = record {
   settled : AreMarks l.fn.order.order l.at past_loads l.settled;
   words : AreWords l.fn.order.order l.at l.fn.words l.words;
   within : IfSome l.met.late (λ a. a.0 < length l.fn.order.order);
-  met : (t : Litmus) → IsTest t → t.words ≡ l.fn.words → l.programs.made.now ≡ made t l.fn.order.order → HasMetSoFar t l.fn.order.order l.at l.met;
+  met : (t : Litmus) → t.words ≡ l.fn.words → l.programs.made.now ≡ made t l.fn.order.order → HasMet t l.fn.order.order l.at l.met;
 }

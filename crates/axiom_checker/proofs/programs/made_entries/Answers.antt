@@ -1,5 +1,4 @@
 use Rattle.std.proofs.Common.{◌<◌, ◌≤◌, ◌++◌, length, take, drop, ap, sym, ◌∙◌, subst, refl}
-use Rattle.std.proofs.lemmas.Result.{IfOk-from_err}
 use Rattle.axiom_checker.specs.inner.Programs.{made_reading}
 use Rattle.axiom_checker.proofs.Making.{made-all, made-more, reads-here, reads-behind}
 use Rattle.axiom_checker.proofs.programs.made_entries.Goals as goal
@@ -10,25 +9,10 @@ loop-number-init c = record {
   enough = c.requires;
 }
 
-pub read_count-count-requires : goal.read_count-count-requires
-read_count-count-requires c = subst (λ n. c.loop-number.number < n) c.cores-number-end.ensures.value c.loop-number-test.true
-
 pub split_at-requires : goal.split_at-requires
 split_at-requires c =
     reads-here c.loop-number.number c.args.test.now.programs c.args.test.now.registers (subst (λ n. c.loop-number.number < n) c.cores-number-end.ensures.value c.loop-number-test.true)
     c.read_count-count.result (length c.loop-number.left.now) c.read_count-count.ensures c.loop-number.invariant.enough
-
-pub thread_entries-requires-clause-known : goal.thread_entries-requires-clause-known
-thread_entries-requires-clause-known c = subst (λ n. c.loop-number.number < n) c.cores-number-end.ensures.value c.loop-number-test.true
-
-pub thread_entries-requires-clause-reads : goal.thread_entries-requires-clause-reads
-thread_entries-requires-clause-reads c = c.split_at.ensures.front_len ∙ c.read_count-count.ensures
-
-pub returns-in_err-thread : goal.returns-in_err-thread
-returns-in_err-thread c = IfOk-from_err c.from_residual.result _ c.from_residual.ensures.0
-
-pub returns-in_err-extend_from_slice : goal.returns-in_err-extend_from_slice
-returns-in_err-extend_from_slice c = IfOk-from_err c.from_residual-in_err-extend_from_slice.result _ c.from_residual-in_err-extend_from_slice.ensures.0
 
 pub loop-number-preserved : goal.loop-number-preserved
 loop-number-preserved c =

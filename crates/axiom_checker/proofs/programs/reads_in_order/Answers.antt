@@ -1,19 +1,9 @@
-use Rattle.std.proofs.Common.{◌++◌, ap, sym, ◌∙◌, refl}
+use Rattle.std.proofs.Common.{ap, sym, ◌∙◌, refl}
 use Rattle.std.specs.Option.{unwrap_or}
-use Rattle.std.proofs.lemmas.Result.{IfOk-from_err}
 use Rattle.axiom_checker.specs.inner.Programs.{reads_that_came}
 use Rattle.axiom_checker.proofs.Making.{made-all, read-more, other-more}
 use Rattle.axiom_checker.proofs.programs.reads_in_order.Goals.{then-is_read+in_ok-push, else-is_read}
 use Rattle.axiom_checker.proofs.programs.reads_in_order.Goals as goal
-
-pub loop-i-init : goal.loop-i-init
-loop-i-init c = ap (λ vs. vs ++ reads_that_came 0 c.args.came.now c.args.shape.now) (sym c.new-values.ensures.items)
-
-pub bounds-shape-i : goal.bounds-shape-i
-bounds-shape-i c = c.loop-i-test.true
-
-pub returns-in_err-push : goal.returns-in_err-push
-returns-in_err-push c = IfOk-from_err c.from_residual.result _ c.from_residual.ensures.0
 
 pub loop-i-preserved : goal.loop-i-preserved
 loop-i-preserved c = elim c.if-is_read.branch [

@@ -1,6 +1,4 @@
 use Rattle.std.proofs.Common.{◌+◌, length, length-append, ap, ◌∙◌, arith}
-use Rattle.std.proofs.lemmas.Option.{slice_get_within}
-use Rattle.std.proofs.lemmas.Result.{IfOk-from_err}
 use Rattle.axiom_checker.specs.inner.Programs.{kept_in}
 use Rattle.axiom_checker.proofs.OwnWrites.{sources-step, latest-step, latest-none, none-sooner, known-here}
 use Rattle.axiom_checker.proofs.sources.find_sources.Goals as goal
@@ -12,24 +10,18 @@ loop-e-init c = record {
   count = ap length c.new-sources.ensures.items;
 }
 
-pub returns-in_err-push : goal.returns-in_err-push
-returns-in_err-push c = IfOk-from_err c.from_residual.result _ c.from_residual.ensures.0
-
 pub note_write-requires : goal.note_write-requires
 note_write-requires c write =
-    known-here c.args.made.now c.loop-e.e-index _ c.loop-e-test.true (length c.loop-e.latest) (length c.args.latest.now) c.loop-e.auto.latest c.requires.known write
+    known-here c.args.made.now c.loop-e.e-index _ c.loop-e-test.true (length c.loop-e.latest) (length c.args.latest.now) c.loop-e.auto.latest (λ k e f. (c.requires.within.1 k e f).known) write
 
 pub loop-e-preserved : goal.loop-e-preserved
 loop-e-preserved c =
     let inv = c.loop-e.invariant in
     let items = c.in_ok-push.ensures.items in
     record {
-      latest = latest-step c.args.made.now c.loop-e.e-index c.loop-e.latest _ c.note_write.new.latest c.loop-e-test.true c.note_write.ensures
-          (λ k e f w. let l = c.requires.known k e f w in let n = c.loop-e.auto.latest in omega (arith, l, n)) inv.latest;
-      sources = sources-step c.requires.ascends.0 c.args.made.now c.requires.ascends.1 c.requires.fit c.loop-e.e-index _ c.loop-e-test.true c.loop-e.latest inv.latest c.loop-e.sources.items c.push.new.self.items
+      latest = latest-step c.args.made.now c.requires.ascends c.loop-e.e-index _ c.loop-e-test.true c.loop-e.latest c.note_write.new.latest c.note_write.ensures
+          (λ k e f w. let l = (c.requires.within.1 k e f).known w in let n = c.loop-e.auto.latest in omega (arith, l, n)) inv.latest;
+      sources = sources-step c.args.made.now c.requires.ascends c.loop-e.e-index _ c.loop-e-test.true c.loop-e.latest inv.latest c.loop-e.sources.items c.push.new.self.items
           inv.count c.own_write.result c.own_write.ensures items inv.sources;
       count = ap length items ∙ length-append c.loop-e.sources.items _ ∙ ap (λ n. n + 1) inv.count;
     }
-
-pub returns : goal.returns
-returns c k e f = let l = slice_get_within c.args.made.now k e f in let m = c.loop-e-test.false in c.loop-e.invariant.sources k e (omega (arith, l, m)) f

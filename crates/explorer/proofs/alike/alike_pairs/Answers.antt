@@ -1,5 +1,4 @@
-use Rattle.std.proofs.Common.{ap, sym, ◌∙◌, subst}
-use Rattle.eager_laws.specs.Exchanged.{AreAllAlike}
+use Rattle.explorer.proofs.Vocabulary.{ap, sym, ◌∙◌, subst, AreAllAlike}
 use Rattle.explorer.proofs.Mapping.{pairs-more}
 use Rattle.explorer.proofs.alike.alike_pairs.Goals as goal
 use Rattle.explorer.proofs.alike.alike_pairs.Goals.{in-Some+in_ok-push, in_default}

@@ -1,4 +1,4 @@
-use Rattle.eager_laws.specs.Exchanged.{AreAllAlike}
+use Rattle.explorer.proofs.Vocabulary.{AreAllAlike}
 use Rattle.explorer.proofs.alike.alike_pairs.Given as goal
 
 abbrev pub invariant-loop-core : goal.invariant-loop-core

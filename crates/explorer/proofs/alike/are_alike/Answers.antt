@@ -1,4 +1,4 @@
-use Rattle.std.proofs.Common.{sym, ◌∙◌}
+use Rattle.explorer.proofs.Vocabulary.{sym, ◌∙◌}
 use Rattle.explorer.proofs.Same.{words-same, tests-same}
 use Rattle.explorer.proofs.alike.are_alike.Goals as goal
 

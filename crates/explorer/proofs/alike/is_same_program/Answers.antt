@@ -1,4 +1,4 @@
-use Rattle.std.proofs.Common.{arith}
+use Rattle.explorer.proofs.Vocabulary.{arith}
 use Rattle.explorer.proofs.Mapping.{same-by-place}
 use Rattle.explorer.proofs.alike.is_same_program.Goals as goal
 

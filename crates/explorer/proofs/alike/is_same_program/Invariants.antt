@@ -1,4 +1,4 @@
-use Rattle.std.proofs.Common.{◌≡◌, ◌<◌, ℕ, slice_get}
+use Rattle.explorer.proofs.Vocabulary.{◌≡◌, ◌<◌, ℕ, slice_get}
 use Rattle.explorer.proofs.alike.is_same_program.Given as goal
 
 abbrev pub invariant-loop-place : goal.invariant-loop-place

@@ -1,10 +1,4 @@
-use Rattle.std.proofs.Common.{◌≡◌, ◌<◌, length, map, slice_get, Some, slice_index_or, arith, subst, ap, sym, ◌∙◌}
-use Rattle.std.proofs.lemmas.Option.{slice_get-get_or}
-use Rattle.std.proofs.lemmas.Bool.{both_ways}
-use Rattle.tso_model.specs.Runs.{has_ended}
-use Rattle.eager_laws.specs.Closed.{IsIn}
-use Rattle.eager_laws.specs.Exchanged.{exchanged}
-use Rattle.flat_machine.specs.State.{state_of}
+use Rattle.explorer.proofs.Vocabulary.{◌≡◌, ◌<◌, length, map, slice_get, Some, slice_index_or, arith, subst, ap, sym, ◌∙◌, slice_get-get_or, both_ways, has_ended, IsIn, exchanged, state_of}
 use Rattle.explorer.proofs.Completing.{exchanged-none, exchanged-more}
 use Rattle.explorer.proofs.Finals.{cores-at}
 use Rattle.explorer.proofs.Linking.{get-within, get-one}

@@ -1,9 +1,4 @@
-use Rattle.std.proofs.Common.{◌≡◌, ◌<◌, ℕ, Some, slice_get, map, length}
-use Rattle.eager_laws.specs.Closed.{IsIn}
-use Rattle.eager_laws.specs.Exchanged.{exchanged}
-use Rattle.flat_machine.specs.State.{state_of}
-use Rattle.explorer.specs.inner.Settled.{Grows, HaveCores, AreLinked}
-use Rattle.flat_machine.specs.declared.snapshot.Snapshot.{Snapshot}
+use Rattle.explorer.proofs.Vocabulary.{◌≡◌, ◌<◌, ℕ, Some, slice_get, map, length, IsIn, exchanged, state_of, Grows, HaveCores, AreLinked, Snapshot}
 use Rattle.explorer.proofs.closing.add_all_exchanged.Given as goal
 
 abbrev pub invariant-loop-at : goal.invariant-loop-at

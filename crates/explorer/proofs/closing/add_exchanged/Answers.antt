@@ -1,8 +1,4 @@
-use Rattle.std.proofs.Common.{◌∷◌, ◌++◌, [], map, ap, sym, ◌∙◌, subst, arith}
-use Rattle.eager_laws.specs.Closed.{IsIn}
-use Rattle.eager_laws.specs.Exchanged.{exchanged}
-use Rattle.flat_machine.specs.State.{state_of}
-use Rattle.flat_machine.proofs.Choosing.{on-ok}
+use Rattle.explorer.proofs.Vocabulary.{◌∷◌, ◌++◌, [], map, ap, sym, ◌∙◌, subst, arith, IsIn, exchanged, state_of, on-ok}
 use Rattle.explorer.proofs.Completing.{one-exchange}
 use Rattle.explorer.proofs.Finals.{cores-at}
 use Rattle.explorer.proofs.Linking.{linked-forgotten, get-one}

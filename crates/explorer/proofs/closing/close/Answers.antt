@@ -1,4 +1,4 @@
-use Rattle.std.proofs.Common.{◌<◌, ◌≤◌, length, arith}
+use Rattle.explorer.proofs.Vocabulary.{◌<◌, ◌≤◌, length, arith}
 use Rattle.explorer.proofs.Completing.{all-exchanged, all-exchanged-none, all-exchanged-more}
 use Rattle.explorer.proofs.Searching.{grows-none, grows-on}
 use Rattle.explorer.proofs.closing.close.Goals as goal

@@ -1,6 +1,4 @@
-use Rattle.std.proofs.Common.{◌≡◌, ◌≤◌, length}
-use Rattle.explorer.specs.inner.Arranged.{AreExchanged}
-use Rattle.explorer.specs.inner.Settled.{Grows, HaveCores, AreLinked}
+use Rattle.explorer.proofs.Vocabulary.{◌≡◌, ◌≤◌, length, AreExchanged, Grows, HaveCores, AreLinked}
 use Rattle.explorer.proofs.closing.close.Given as goal
 
 abbrev pub invariant-loop-at : goal.invariant-loop-at

@@ -1,6 +1,4 @@
-use Rattle.std.proofs.Common.{◌≡◌, ◌<◌, ℕ, length, slice_index_or, arith, ap, sym, ◌∙◌}
-use Rattle.flat_machine.specs.declared.snapshot.Processor.{Processor}
-use Rattle.flat_machine.proofs.Choosing.{core-at}
+use Rattle.explorer.proofs.Vocabulary.{◌≡◌, ◌<◌, ℕ, length, slice_index_or, arith, ap, sym, ◌∙◌, Processor, core-at}
 use Rattle.explorer.proofs.eager.is_eager_step.Goals as goal
 
 pub is_eager_action-requires-clause-pending : goal.is_eager_action-requires-clause-pending

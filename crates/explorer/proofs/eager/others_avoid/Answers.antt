@@ -1,8 +1,4 @@
-use Rattle.std.proofs.Common.{◌≡◌, sym, subst, ◌∙◌, inl, inr, arith}
-use Rattle.basic_laws.proofs.Basics.{lt-or}
-use Rattle.tso_model.specs.FlatMachine.{program_of, core_of}
-use Rattle.eager_laws.specs.Eager.{Avoids}
-use Rattle.flat_machine.specs.State.{state_of}
+use Rattle.explorer.proofs.Vocabulary.{◌≡◌, sym, subst, ◌∙◌, inl, inr, arith, lt-or, program_of, core_of, Avoids, state_of}
 use Rattle.explorer.proofs.Absent.{avoids-absent}
 use Rattle.explorer.proofs.eager.others_avoid.Goals as goal
 

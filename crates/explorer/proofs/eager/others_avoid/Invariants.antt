@@ -1,7 +1,4 @@
-use Rattle.std.proofs.Common.{◌≢◌, ◌<◌, ℕ}
-use Rattle.tso_model.specs.FlatMachine.{program_of, core_of}
-use Rattle.eager_laws.specs.Eager.{Avoids}
-use Rattle.flat_machine.specs.State.{state_of}
+use Rattle.explorer.proofs.Vocabulary.{◌≢◌, ◌<◌, ℕ, program_of, core_of, Avoids, state_of}
 use Rattle.explorer.proofs.eager.others_avoid.Given as goal
 
 abbrev pub invariant-loop-other : goal.invariant-loop-other

@@ -1,6 +1,4 @@
-use Rattle.std.proofs.Common.{◌≡◌, length}
-use Rattle.flat_machine.specs.State.{state_of}
-use Rattle.explorer.specs.Settled.{IsSettled}
+use Rattle.explorer.proofs.Vocabulary.{◌≡◌, length, state_of, IsSettled}
 use Rattle.explorer.proofs.eager.settle.Given as goal
 
 abbrev pub invariant-loop-made : goal.invariant-loop-made

@@ -1,11 +1,4 @@
-use Rattle.std.proofs.Common.{◌≡◌, ◌<◌, ℕ, List, length, map, swap, slice_set, slice_index_or, ap, sym, ◌∙◌, arith}
-use Rattle.std.proofs.Math.ListN.{length-set}
-use Rattle.tso_model.specs.FlatMachine.{CoreState, State, idle}
-use Rattle.tso_model.specs.declared.execution.Entry.{Entry}
-use Rattle.eager_laws.specs.Exchanged.{renamed}
-use Rattle.flat_machine.specs.State.{core_of_processor}
-use Rattle.flat_machine.specs.declared.snapshot.Processor.{Processor}
-use Rattle.flat_machine.proofs.Choosing.{map-at, map-set}
+use Rattle.explorer.proofs.Vocabulary.{◌≡◌, ◌<◌, ℕ, List, length, map, swap, slice_set, slice_index_or, ap, sym, ◌∙◌, arith, length-set, CoreState, State, idle, Entry, renamed, core_of_processor, Processor, map-at, map-set}
 use Rattle.explorer.proofs.Ending.{length-map}
 use Rattle.explorer.proofs.Mapping.{maps-more, maps-all, map-swap}
 use Rattle.explorer.proofs.exchange.exchange.Goals as goal

@@ -1,6 +1,4 @@
-use Rattle.std.proofs.Common.{◌≡◌, map, length}
-use Rattle.eager_laws.specs.Exchanged.{renamed}
-use Rattle.flat_machine.specs.State.{core_of_processor}
+use Rattle.explorer.proofs.Vocabulary.{◌≡◌, map, length, renamed, core_of_processor}
 use Rattle.explorer.proofs.Mapping.{IsMapping}
 use Rattle.explorer.proofs.exchange.exchange.Given as goal
 

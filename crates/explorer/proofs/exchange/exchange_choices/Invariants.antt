@@ -1,4 +1,4 @@
-use Rattle.eager_laws.specs.Exchanged.{exchanged_choice}
+use Rattle.explorer.proofs.Vocabulary.{exchanged_choice}
 use Rattle.explorer.proofs.Mapping.{IsMapping}
 use Rattle.explorer.proofs.exchange.exchange_choices.Given as goal
 

@@ -1,4 +1,4 @@
-use Rattle.eager_laws.specs.Exchanged.{exchanged_entry}
+use Rattle.explorer.proofs.Vocabulary.{exchanged_entry}
 use Rattle.explorer.proofs.Mapping.{IsMapping}
 use Rattle.explorer.proofs.exchange.exchange_entries.Given as goal
 

@@ -1,6 +1,4 @@
-use Rattle.std.proofs.Common.{ℕ, Bool, List, arith}
-use Rattle.tso_model.specs.Litmus.{Litmus}
-use Rattle.explorer.specs.FinalStates.{HasMoreStates}
+use Rattle.explorer.proofs.Vocabulary.{ℕ, Bool, List, arith, Litmus, HasMoreStates}
 use Rattle.explorer.proofs.Counting.{more-states}
 use Rattle.explorer.proofs.Finals.{met, all-met, went-by}
 use Rattle.explorer.proofs.final_states.explore_watched.Goals as goal

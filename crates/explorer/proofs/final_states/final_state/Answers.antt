@@ -1,10 +1,4 @@
-use Rattle.std.proofs.Common.{◌≡◌, length, map, ap, sym, ◌∙◌, subst, arith}
-use Rattle.tso_model.specs.FlatMachine.{start, registers_in}
-use Rattle.tso_model.specs.Runs.{CoresExist}
-use Rattle.tso_laws.specs.Choices.{state_after}
-use Rattle.flat_machine.specs.State.{state_of}
-use Rattle.explorer.specs.Settled.{LeadsTo}
-use Rattle.explorer.specs.inner.Settled.{IsPath, GoBack}
+use Rattle.explorer.proofs.Vocabulary.{◌≡◌, length, map, ap, sym, ◌∙◌, subst, arith, start, registers_in, CoresExist, state_after, state_of, LeadsTo, IsPath, GoBack}
 use Rattle.explorer.proofs.Ending.{registers-map}
 use Rattle.explorer.proofs.Linking.{goes-back, get-some, leads-cores, leads-after}
 use Rattle.explorer.proofs.final_states.final_state.Goals as goal

@@ -1,5 +1,4 @@
-use Rattle.std.proofs.Common.{◌+◌, subst, sym, ap, ◌∙◌, arith, refl}
-use Rattle.explorer.specs.inner.Collected.{AreFinalsOf}
+use Rattle.explorer.proofs.Vocabulary.{◌+◌, subst, sym, ap, ◌∙◌, arith, refl, AreFinalsOf}
 use Rattle.explorer.proofs.Finals.{finals-none, finals-skip, finals-more}
 use Rattle.explorer.proofs.final_states.final_states.Goals as goal
 use Rattle.explorer.proofs.final_states.final_states.Goals.{then-has_ended+in_ok-final_state+in_ok-push, else-has_ended}

@@ -1,4 +1,4 @@
-use Rattle.explorer.specs.inner.Collected.{AreFinalsOf}
+use Rattle.explorer.proofs.Vocabulary.{AreFinalsOf}
 use Rattle.explorer.proofs.final_states.final_states.Given as goal
 
 abbrev pub invariant-loop-at : goal.invariant-loop-at

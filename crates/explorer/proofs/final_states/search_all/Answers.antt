@@ -1,4 +1,4 @@
-use Rattle.std.proofs.Common.{arith}
+use Rattle.explorer.proofs.Vocabulary.{arith}
 use Rattle.explorer.proofs.final_states.search_all.Goals as goal
 
 pub expand_all-requires-clause-within : goal.expand_all-requires-clause-within

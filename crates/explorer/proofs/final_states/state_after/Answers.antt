@@ -1,8 +1,4 @@
-use Rattle.std.proofs.Common.{◌+◌, drop, length, ap, sym, ◌∙◌, subst, arith}
-use Rattle.basic_laws.proofs.Lists.{drop-end}
-use Rattle.tso_model.specs.Runs.{CoresExist}
-use Rattle.tso_laws.specs.Choices.{state_after}
-use Rattle.flat_machine.specs.State.{state_of}
+use Rattle.explorer.proofs.Vocabulary.{◌+◌, drop, length, ap, sym, ◌∙◌, subst, arith, drop-end, CoresExist, state_after, state_of}
 use Rattle.explorer.proofs.Ending.{next-choice}
 use Rattle.explorer.proofs.final_states.state_after.Goals as goal
 

@@ -1,8 +1,4 @@
-use Rattle.std.proofs.Common.{◌≡◌, drop, length}
-use Rattle.tso_model.specs.FlatMachine.{start}
-use Rattle.tso_model.specs.Runs.{CoresExist}
-use Rattle.tso_laws.specs.Choices.{state_after}
-use Rattle.flat_machine.specs.State.{state_of}
+use Rattle.explorer.proofs.Vocabulary.{◌≡◌, drop, length, start, CoresExist, state_after, state_of}
 use Rattle.explorer.proofs.final_states.state_after.Given as goal
 
 abbrev pub invariant-loop-choice : goal.invariant-loop-choice

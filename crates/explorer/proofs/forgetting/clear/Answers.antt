@@ -1,4 +1,4 @@
-use Rattle.std.proofs.Common.{◌+◌, sym, subst}
+use Rattle.explorer.proofs.Vocabulary.{◌+◌, sym, subst}
 use Rattle.explorer.proofs.Forgets.{IsClearing, clears-none, clears-more, clears-skip, clears-all}
 use Rattle.explorer.proofs.forgetting.clear.Goals as goal
 use Rattle.explorer.proofs.forgetting.clear.Goals.{then-dead-at, else-dead-at}

@@ -1,5 +1,4 @@
-use Rattle.std.proofs.Common.{◌≡◌, length, map}
-use Rattle.flat_machine.specs.State.{core_of_processor}
+use Rattle.explorer.proofs.Vocabulary.{◌≡◌, length, map, core_of_processor}
 use Rattle.explorer.proofs.Forgets.{IsForgetting}
 use Rattle.explorer.proofs.forgetting.forget.Given as goal
 

@@ -1,6 +1,4 @@
-use Rattle.std.proofs.Common.{◌∙◌, ◌-◌, ap, length}
-use Rattle.eager_laws.specs.Dead.{cleared}
-use Rattle.tso_model.specs.FlatMachine.{CoreState}
+use Rattle.explorer.proofs.Vocabulary.{◌∙◌, ◌-◌, ap, length, cleared, CoreState}
 use Rattle.explorer.proofs.Forgets.{row-is}
 use Rattle.explorer.proofs.forgetting.forget_core.Goals as goal
 

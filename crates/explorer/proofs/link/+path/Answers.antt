@@ -1,7 +1,4 @@
-use Rattle.std.proofs.Common.{◌≡◌, List, slice_index_or, arith, ap, ◌∙◌}
-use Rattle.tso_model.specs.declared.choice.Choice.{Choice}
-use Rattle.explorer.specs.declared.link.Link.{Link}
-use Rattle.explorer.specs.inner.Arranged.{played}
+use Rattle.explorer.proofs.Vocabulary.{◌≡◌, List, slice_index_or, arith, ap, ◌∙◌, Choice, Link, played}
 use Rattle.explorer.proofs.Linking.{earlier, path-first, path-on}
 use Rattle.explorer.proofs.link.+path.Goals as goal
 use Rattle.explorer.proofs.link.+path.Goals.{then-at-gt0+in_ok-choices, else-at-gt0}

@@ -1,4 +1,4 @@
-use Rattle.explorer.specs.declared.link.Turn.TheVariants.{Exchanged}
+use Rattle.explorer.proofs.Vocabulary.{Exchanged}
 use Rattle.explorer.proofs.Linking.{one-told}
 use Rattle.explorer.proofs.link.append.Goals as goal
 

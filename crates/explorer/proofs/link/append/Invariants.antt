@@ -1,5 +1,4 @@
-use Rattle.std.proofs.Common.{◌≡◌, ◌++◌, take, map}
-use Rattle.explorer.specs.declared.link.Turn.TheVariants.{Exchanged}
+use Rattle.explorer.proofs.Vocabulary.{◌≡◌, ◌++◌, take, map, Exchanged}
 use Rattle.explorer.proofs.link.append.Given as goal
 
 abbrev pub invariant-loop-pair : goal.invariant-loop-pair

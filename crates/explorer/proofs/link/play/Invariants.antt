@@ -1,5 +1,4 @@
-use Rattle.std.proofs.Common.{◌≡◌, drop}
-use Rattle.explorer.specs.inner.Arranged.{played}
+use Rattle.explorer.proofs.Vocabulary.{◌≡◌, drop, played}
 use Rattle.explorer.proofs.link.play.Given as goal
 
 abbrev pub invariant-loop-turn : goal.invariant-loop-turn

@@ -1,5 +1,4 @@
-use Rattle.std.proofs.Common.{[]}
-use Rattle.explorer.specs.declared.link.Turn.TheVariants.{Made}
+use Rattle.explorer.proofs.Vocabulary.{[], Made}
 use Rattle.explorer.proofs.Linking.{one-told}
 use Rattle.explorer.proofs.link.turns_of.Goals as goal
 

@@ -1,5 +1,4 @@
-use Rattle.std.proofs.Common.{◌≡◌, take, map}
-use Rattle.explorer.specs.declared.link.Turn.TheVariants.{Made}
+use Rattle.explorer.proofs.Vocabulary.{◌≡◌, take, map, Made}
 use Rattle.explorer.proofs.link.turns_of.Given as goal
 
 abbrev pub invariant-loop-choice : goal.invariant-loop-choice

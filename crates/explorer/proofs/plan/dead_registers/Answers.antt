@@ -1,4 +1,4 @@
-use Rattle.std.proofs.Common.{ap, ◌∙◌, ◌++◌, ◌∷◌, [], arith}
+use Rattle.explorer.proofs.Vocabulary.{ap, ◌∙◌, ◌++◌, ◌∷◌, [], arith}
 use Rattle.explorer.proofs.Planning.{rows-none, rows-more, rows-all}
 use Rattle.explorer.proofs.plan.dead_registers.Goals as goal
 

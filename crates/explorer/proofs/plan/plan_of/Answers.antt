@@ -1,7 +1,4 @@
-use Rattle.std.proofs.Common.{length, length-append, ◌∷◌, [], ap, subst, refl, arith}
-use Rattle.tso_model.specs.FlatMachine.{program_of}
-use Rattle.eager_laws.specs.Dead.{hidden_of}
-use Rattle.explorer.specs.inner.Planned.{AreDead}
+use Rattle.explorer.proofs.Vocabulary.{length, length-append, ◌∷◌, [], ap, subst, refl, arith, program_of, hidden_of, AreDead}
 use Rattle.explorer.proofs.Planning.{plan-none, plan-more}
 use Rattle.explorer.proofs.plan.plan_of.Goals as goal
 

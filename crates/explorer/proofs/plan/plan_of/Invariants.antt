@@ -1,9 +1,4 @@
-use Rattle.std.proofs.Common.{◌≡◌, ℕ, Bool, List, Some, slice_get, length}
-use Rattle.std.specs.declared.vec.Vec.{Vec}
-use Rattle.std.specs.declared.alloc.Global.{Global}
-use Rattle.tso_model.specs.FlatMachine.{program_of}
-use Rattle.eager_laws.specs.Dead.{hidden_of}
-use Rattle.explorer.specs.inner.Planned.{AreDead}
+use Rattle.explorer.proofs.Vocabulary.{◌≡◌, ℕ, Bool, List, Some, slice_get, length, Vec, Global, program_of, hidden_of, AreDead}
 use Rattle.explorer.proofs.plan.plan_of.Given as goal
 
 abbrev pub invariant-loop-core : goal.invariant-loop-core

@@ -1,11 +1,4 @@
-use Rattle.std.proofs.Common.{◌≡◌, ℕ, [], ◌∷◌, ◌++◌, sym, ap, ◌∙◌, subst}
-use Rattle.tso_model.specs.Litmus.{Litmus}
-use Rattle.tso_model.specs.FlatMachine.{after_choice, effect_of}
-use Rattle.tso_model.specs.Runs.{stall_count}
-use Rattle.eager_laws.specs.Exchanged.{AreAllAlike}
-use Rattle.flat_machine.specs.State.{state_of}
-use Rattle.explorer.specs.inner.Arranged.{IsArranged}
-use Rattle.flat_machine.proofs.Choosing.{stall-why, takes-effect}
+use Rattle.explorer.proofs.Vocabulary.{◌≡◌, ℕ, [], ◌∷◌, ◌++◌, sym, ap, ◌∙◌, subst, Litmus, after_choice, effect_of, stall_count, AreAllAlike, state_of, IsArranged, stall-why, takes-effect}
 use Rattle.explorer.proofs.Linking.{reached-is}
 use Rattle.explorer.proofs.Mapping.{pairs-within}
 use Rattle.explorer.proofs.reached.reach.Goals as goal

@@ -1,5 +1,4 @@
-use Rattle.std.proofs.Common.{map, ap, ◌∙◌, ◌++◌, length}
-use Rattle.explorer.specs.declared.link.Turn.TheVariants.{Made, Exchanged}
+use Rattle.explorer.proofs.Vocabulary.{map, ap, ◌∙◌, ◌++◌, length, Made, Exchanged}
 use Rattle.explorer.proofs.Searching.{first-covered, first-linked, first-cores}
 use Rattle.explorer.proofs.search.beginning.Goals as goal
 

@@ -1,7 +1,4 @@
-use Rattle.std.proofs.Common.{◌≡◌, ◌<◌, ℕ, Some, slice_get, length}
-use Rattle.flat_machine.specs.State.{state_of}
-use Rattle.explorer.specs.inner.Settled.{Grows, HaveCores, AreVisited, AreLinked}
-use Rattle.flat_machine.specs.declared.snapshot.Snapshot.{Snapshot}
+use Rattle.explorer.proofs.Vocabulary.{◌≡◌, ◌<◌, ℕ, Some, slice_get, length, state_of, Grows, HaveCores, AreVisited, AreLinked, Snapshot}
 use Rattle.explorer.proofs.search.expand.Given as goal
 
 abbrev pub invariant-loop-core : goal.invariant-loop-core

@@ -1,4 +1,4 @@
-use Rattle.std.proofs.Common.{◌≤◌, length, arith}
+use Rattle.explorer.proofs.Vocabulary.{◌≤◌, length, arith}
 use Rattle.explorer.proofs.Searching.{expanded-more, covered-grown, closes}
 use Rattle.explorer.proofs.search.expand_all.Goals as goal
 use Rattle.explorer.proofs.search.expand_all.Goals.{else-loop-at-test, then-loop-at-test+then-at-len}

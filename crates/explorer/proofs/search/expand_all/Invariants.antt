@@ -1,9 +1,4 @@
-use Rattle.std.proofs.Common.{◌≡◌, ◌<◌, ◌≤◌, ℕ, Some, slice_get, map, length}
-use Rattle.tso_model.specs.FlatMachine.{start}
-use Rattle.eager_laws.specs.Closed.{IsCovered, IsExpanded}
-use Rattle.flat_machine.specs.State.{state_of}
-use Rattle.explorer.specs.inner.Settled.{HaveCores, AreLinked}
-use Rattle.flat_machine.specs.declared.snapshot.Snapshot.{Snapshot}
+use Rattle.explorer.proofs.Vocabulary.{◌≡◌, ◌<◌, ◌≤◌, ℕ, Some, slice_get, map, length, start, IsCovered, IsExpanded, state_of, HaveCores, AreLinked, Snapshot}
 use Rattle.explorer.proofs.search.expand_all.Given as goal
 
 abbrev pub invariant-loop-at : goal.invariant-loop-at

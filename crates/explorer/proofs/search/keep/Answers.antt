@@ -1,8 +1,4 @@
-use Rattle.std.proofs.Common.{◌++◌, map, ap, sym, ◌∙◌, subst}
-use Rattle.eager_laws.specs.Closed.{IsIn}
-use Rattle.explorer.specs.inner.Settled.{LeadTo}
-use Rattle.explorer.specs.declared.link.Turn.TheVariants.{Made, Exchanged}
-use Rattle.flat_machine.specs.State.{state_of}
+use Rattle.explorer.proofs.Vocabulary.{◌++◌, map, ap, sym, ◌∙◌, subst, IsIn, LeadTo, Made, Exchanged, state_of}
 use Rattle.flat_machine.specs.contracts.snapshot.SnapshotPartialEq.TheImpl as snapshot_eq
 use Rattle.explorer.proofs.Linking.{linked-new}
 use Rattle.explorer.proofs.Same.{snapshots-same}

@@ -1,5 +1,4 @@
-use Rattle.tso_model.specs.FlatMachine.{step}
-use Rattle.flat_machine.proofs.Choosing.{on-ok-2}
+use Rattle.explorer.proofs.Vocabulary.{step, on-ok-2}
 use Rattle.explorer.proofs.Searching.{grown-within, get-grown, visited-grown}
 use Rattle.explorer.proofs.search.visit_core.Goals as goal
 

@@ -1,7 +1,4 @@
-use Rattle.std.proofs.Common.{◌≡◌, ◌<◌, ℕ, slice_get, slice_index_or, length, arith, ap, sym, refl, ◌∙◌}
-use Rattle.tso_model.specs.FlatMachine.{effect_by, drain_of, program_of, core_of, step, drain}
-use Rattle.flat_machine.specs.State.{core_of_processor, state_of}
-use Rattle.flat_machine.specs.declared.snapshot.Processor.{Processor}
+use Rattle.flat_machine.proofs.Vocabulary.{◌≡◌, ◌<◌, ℕ, slice_get, slice_index_or, length, arith, ap, sym, refl, ◌∙◌, effect_by, drain_of, program_of, core_of, step, drain, core_of_processor, state_of, Processor}
 use Rattle.flat_machine.proofs.Choosing.{on-ok-2, core-at, draining, acted, beyond, ends, step-is}
 use Rattle.flat_machine.proofs.acting.act.Goals as goal
 

@@ -1,8 +1,4 @@
-use Rattle.std.proofs.Common.{◌≡◌, ◌<◌, ◌≤◌, ℕ, slice_get, slice_index_or, length, arith, ap, sym, ◌∙◌}
-use Rattle.std.proofs.lemmas.Bool.Decides.{nat_tests}
-use Rattle.tso_model.specs.FlatMachine.{program_of, core_of}
-use Rattle.flat_machine.specs.State.{state_of}
-use Rattle.flat_machine.specs.declared.snapshot.Processor.{Processor}
+use Rattle.flat_machine.proofs.Vocabulary.{◌≡◌, ◌<◌, ◌≤◌, ℕ, slice_get, slice_index_or, length, arith, ap, sym, ◌∙◌, nat_tests, program_of, core_of, state_of, Processor}
 use Rattle.flat_machine.proofs.Choosing.{core-at, beyond, ends}
 use Rattle.flat_machine.proofs.acting.is_idle.Goals as goal
 

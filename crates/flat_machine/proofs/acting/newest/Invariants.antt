@@ -1,7 +1,4 @@
-use Rattle.std.proofs.Common.{◌≡◌, drop}
-use Rattle.std.specs.Prelude.{filter}
-use Rattle.tso_model.specs.ProgramOrder.{writes_to}
-use Rattle.tso_model.specs.Axioms.{last_value}
+use Rattle.flat_machine.proofs.Vocabulary.{◌≡◌, drop, filter, writes_to, last_value}
 use Rattle.flat_machine.proofs.acting.newest.Given as goal
 
 abbrev pub invariant-loop-entry : goal.invariant-loop-entry

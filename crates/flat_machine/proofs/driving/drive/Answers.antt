@@ -1,7 +1,4 @@
-use Rattle.std.proofs.Common.{◌≡◌, false, true, length, ap, sym, subst, ◌∙◌}
-use Rattle.tso_model.specs.FlatMachine.{State}
-use Rattle.tso_model.specs.Runs.{has_ended, CoresExist}
-use Rattle.flat_machine.specs.State.{state_of}
+use Rattle.flat_machine.proofs.Vocabulary.{◌≡◌, false, true, length, ap, sym, subst, ◌∙◌, State, has_ended, CoresExist, state_of}
 use Rattle.flat_machine.proofs.Choosing.{stall-why}
 use Rattle.flat_machine.proofs.Onward.{one-more, over, as-many-words}
 use Rattle.flat_machine.proofs.driving.drive.Goals as goal

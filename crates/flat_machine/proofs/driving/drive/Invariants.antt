@@ -1,6 +1,4 @@
-use Rattle.std.proofs.Common.{◌≡◌, length}
-use Rattle.tso_model.specs.Runs.{has_ended, CoresExist}
-use Rattle.flat_machine.specs.State.{state_of}
+use Rattle.flat_machine.proofs.Vocabulary.{◌≡◌, length, has_ended, CoresExist, state_of}
 use Rattle.flat_machine.proofs.Onward.{IsOnItsWay}
 use Rattle.flat_machine.proofs.driving.drive.Given as goal
 

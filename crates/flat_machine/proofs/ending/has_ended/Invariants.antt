@@ -1,6 +1,4 @@
-use Rattle.std.proofs.Common.{◌≡◌, drop, map}
-use Rattle.tso_model.specs.Runs.{all_done}
-use Rattle.flat_machine.specs.State.{core_of_processor}
+use Rattle.flat_machine.proofs.Vocabulary.{◌≡◌, drop, map, all_done, core_of_processor}
 use Rattle.flat_machine.proofs.ending.has_ended.Given as goal
 
 abbrev pub invariant-loop-core : goal.invariant-loop-core

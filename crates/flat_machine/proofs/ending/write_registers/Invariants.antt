@@ -1,4 +1,4 @@
-use Rattle.std.proofs.Common.{◌≡◌, take, map}
+use Rattle.flat_machine.proofs.Vocabulary.{◌≡◌, take, map}
 use Rattle.flat_machine.proofs.ending.write_registers.Given as goal
 
 abbrev pub invariant-loop-core : goal.invariant-loop-core

@@ -1,5 +1,4 @@
-use Rattle.std.proofs.Common.{◌≡◌, ◌≤◌, ◌∙◌, length, map, ap, arith}
-use Rattle.flat_machine.specs.State.{core_of_processor}
+use Rattle.flat_machine.proofs.Vocabulary.{◌≡◌, ◌≤◌, ◌∙◌, length, map, ap, arith, core_of_processor}
 use Rattle.flat_machine.proofs.Starting.{all-copied}
 use Rattle.flat_machine.proofs.snapshot.copy.Goals as goal
 

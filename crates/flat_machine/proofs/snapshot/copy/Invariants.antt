@@ -1,5 +1,4 @@
-use Rattle.std.proofs.Common.{◌≡◌, take, map}
-use Rattle.flat_machine.specs.State.{core_of_processor}
+use Rattle.flat_machine.proofs.Vocabulary.{◌≡◌, take, map, core_of_processor}
 use Rattle.flat_machine.proofs.snapshot.copy.Given as goal
 
 abbrev pub invariant-loop-core : goal.invariant-loop-core

@@ -1,6 +1,4 @@
-use Rattle.std.proofs.Common.{◌≡◌, ◌≤◌, ◌∙◌, length, length-append, map, ◌∷◌, [], refl, ap, arith}
-use Rattle.std.proofs.lemmas.List.{take_all}
-use Rattle.flat_machine.specs.State.{core_of_processor}
+use Rattle.flat_machine.proofs.Vocabulary.{◌≡◌, ◌≤◌, ◌∙◌, length, length-append, map, ◌∷◌, [], refl, ap, arith, take_all, core_of_processor}
 use Rattle.flat_machine.proofs.Starting.{one-core-more, all-begun}
 use Rattle.flat_machine.proofs.snapshot.start.Goals as goal
 

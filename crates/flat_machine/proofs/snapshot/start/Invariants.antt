@@ -1,6 +1,4 @@
-use Rattle.std.proofs.Common.{◌≡◌, take, map, length}
-use Rattle.tso_model.specs.FlatMachine.{started}
-use Rattle.flat_machine.specs.State.{core_of_processor}
+use Rattle.flat_machine.proofs.Vocabulary.{◌≡◌, take, map, length, started, core_of_processor}
 use Rattle.flat_machine.proofs.snapshot.start.Given as goal
 
 abbrev pub invariant-loop-word : goal.invariant-loop-word

@@ -1,8 +1,4 @@
-use Rattle.std.proofs.Common.{◌<◌, ◌+◌, ◌∙◌, sym, ap, subst, arith, drop, length}
-use Rattle.tso_model.specs.Axioms.{IsAdjacent}
-use Rattle.tso_model.specs.Together.{put_together}
-use Rattle.order_builder.specs.Pairs.{IsPaired}
-use Rattle.order_builder.specs.inner.Waiting.{IsBuiltSoFar}
+use Rattle.order_builder.proofs.Vocabulary.{◌<◌, ◌+◌, ◌∙◌, sym, ap, subst, arith, drop, length, IsAdjacent, put_together, IsPaired, IsBuiltSoFar}
 use Rattle.order_builder.proofs.Together.{built-first, built-last, drop-end, drop-next, load-step, plain-step, store-step}
 use Rattle.order_builder.proofs.Pairing.{IsAdjacent-paired}
 use Rattle.order_builder.proofs.building.build.Goals.{then-is_load_part+in_ok-push, else-is_load_part+in_ok-push-3, in-Some+in_ok-push-2, in_default}

@@ -1,5 +1,4 @@
-use Rattle.std.proofs.Common.{drop}
-use Rattle.order_builder.specs.inner.Waiting.{IsBuiltSoFar}
+use Rattle.order_builder.proofs.Vocabulary.{drop, IsBuiltSoFar}
 use Rattle.order_builder.proofs.building.build.Given as goal
 
 abbrev pub invariant-loop-entry : goal.invariant-loop-entry

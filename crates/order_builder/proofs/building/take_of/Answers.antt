@@ -1,4 +1,4 @@
-use Rattle.std.proofs.Common.{◌<◌, ◌∙◌, ◌++◌, length, take, Some, sym, ap, arith}
+use Rattle.order_builder.proofs.Vocabulary.{◌<◌, ◌∙◌, ◌++◌, length, take, Some, sym, ap, arith}
 use Rattle.order_builder.proofs.Together.{first-found, others-found, first-of-rest, others-of-rest, same-got}
 use Rattle.order_builder.proofs.building.take_of.Goals as goal
 

@@ -1,5 +1,4 @@
-use Rattle.std.proofs.Common.{◌≡◌, ◌++◌, take, drop}
-use Rattle.order_builder.specs.inner.Waiting.{first_of, others_of}
+use Rattle.order_builder.proofs.Vocabulary.{◌≡◌, ◌++◌, take, drop, first_of, others_of}
 use Rattle.order_builder.proofs.building.take_of.Given as goal
 
 -- none of those passed is of the core

@@ -1,6 +1,4 @@
-use Rattle.std.proofs.Common.{sym, ◌∙◌, ap, arith, List, ℕ}
-use Rattle.std.specs.Str.{bytes_eq}
-use Rattle.order_builder.specs.inner.Reading.{location_named}
+use Rattle.order_builder.proofs.Vocabulary.{sym, ◌∙◌, ap, arith, List, ℕ, bytes_eq, location_named}
 use Rattle.order_builder.proofs.LineLemmas.{named_at, named_none}
 use Rattle.order_builder.proofs.entries.location_named.Goals as goal
 

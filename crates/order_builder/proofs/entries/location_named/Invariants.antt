@@ -1,5 +1,4 @@
-use Rattle.std.proofs.Common.{◌≡◌, ◌<◌, ℕ, get_or, false, []}
-use Rattle.std.specs.Str.{bytes_eq}
+use Rattle.order_builder.proofs.Vocabulary.{◌≡◌, ◌<◌, ℕ, get_or, false, [], bytes_eq}
 use Rattle.order_builder.proofs.entries.location_named.Given as goal
 
 abbrev pub invariant-loop-loc : goal.invariant-loop-loc

@@ -1,6 +1,4 @@
-use Rattle.std.proofs.Common.{[], ◌∷◌, length, ap, sym, ◌∙◌, arith, List, ℕ}
-use Rattle.std.proofs.lemmas.Bool.{eqb-true, eqb-false}
-use Rattle.order_builder.specs.Lines.{lines_of}
+use Rattle.order_builder.proofs.Vocabulary.{[], ◌∷◌, length, ap, sym, ◌∙◌, arith, List, ℕ, eqb-true, eqb-false, lines_of}
 use Rattle.order_builder.proofs.LineLemmas.{lines_of-nil, lines_of-split_once, lines_of-alone}
 use Rattle.order_builder.proofs.lines.next_line.Goals as goal
 

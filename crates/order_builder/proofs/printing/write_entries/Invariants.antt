@@ -1,6 +1,4 @@
-use Rattle.std.proofs.Common.{◌≡◌, ◌++◌, ◌<◌, ℕ, map, drop, length, string_bytes, slice_index_or}
-use Rattle.tso_model.specs.declared.execution.Entry.{Entry}
-use Rattle.order_builder.specs.PrintedOrder.{printed_entry, printed_lines, HasWord}
+use Rattle.order_builder.proofs.Vocabulary.{◌≡◌, ◌++◌, ◌<◌, ℕ, map, drop, length, string_bytes, slice_index_or, Entry, printed_entry, printed_lines, HasWord}
 use Rattle.order_builder.proofs.printing.write_entries.Given as goal
 
 abbrev pub invariant-loop-entry : goal.invariant-loop-entry

@@ -1,5 +1,4 @@
-use Rattle.std.proofs.Common.{ap, ◌∙◌, ◌++◌, string_bytes}
-use Rattle.order_builder.specs.PrintedOrder.{printed_order}
+use Rattle.order_builder.proofs.Vocabulary.{ap, ◌∙◌, ◌++◌, string_bytes, printed_order}
 use Rattle.order_builder.proofs.PrintLemmas.{written_order}
 use Rattle.order_builder.proofs.printing.write_order.Goals as goal
 

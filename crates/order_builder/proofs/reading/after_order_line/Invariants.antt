@@ -1,6 +1,4 @@
-use Rattle.std.proofs.Common.{◌≡◌, ◌+◌, ◌≤◌, length}
-use Rattle.order_builder.specs.Lines.{lines_of}
-use Rattle.order_builder.specs.inner.Reading.{order_start}
+use Rattle.order_builder.proofs.Vocabulary.{◌≡◌, ◌+◌, ◌≤◌, length, lines_of, order_start}
 use Rattle.order_builder.proofs.reading.after_order_line.Given as goal
 
 abbrev pub invariant-loop-line : goal.invariant-loop-line

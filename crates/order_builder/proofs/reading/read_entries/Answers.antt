@@ -1,4 +1,4 @@
-use Rattle.std.proofs.Common.{arith}
+use Rattle.order_builder.proofs.Vocabulary.{arith}
 use Rattle.order_builder.proofs.LoopLemmas.{goes_on, ends_bad, ends_good, ends_miscounted, ends_early}
 use Rattle.order_builder.proofs.reading.read_entries.Goals as goal
 

@@ -1,6 +1,4 @@
-use Rattle.std.proofs.Common.{◌≡◌, ◌+◌, ◌≤◌, length}
-use Rattle.order_builder.specs.Lines.{lines_of}
-use Rattle.order_builder.specs.inner.Reading.{entries_in}
+use Rattle.order_builder.proofs.Vocabulary.{◌≡◌, ◌+◌, ◌≤◌, length, lines_of, entries_in}
 use Rattle.order_builder.proofs.LoopLemmas.{with_front}
 use Rattle.order_builder.proofs.reading.read_entries.Given as goal
 

@@ -1,7 +1,4 @@
-use Rattle.std.proofs.Common.{◌≡◌, ◌^◌, ◌<◌, length, Err, arith}
-use Rattle.order_builder.specs.Reading.{Gives, entries_of}
-use Rattle.order_builder.specs.inner.Reading.{order_of}
-use Rattle.order_builder.specs.declared.fault.OrderFault.TheVariants.{NoOrder}
+use Rattle.order_builder.proofs.Vocabulary.{◌≡◌, ◌^◌, ◌<◌, length, Err, arith, Gives, entries_of, order_of, NoOrder}
 use Rattle.order_builder.proofs.ContractLemmas.{is_found, is_only, is_fault, is_only_fault, read_after, read_nowhere}
 use Rattle.order_builder.proofs.reading.read_order.Goals as goal
 

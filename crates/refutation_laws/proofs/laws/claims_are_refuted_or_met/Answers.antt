@@ -1,13 +1,4 @@
-use Rattle.std.proofs.Common.{◌≡◌, true, sym, subst, ◌⊎◌, inl, inr}
-use Rattle.tso_model.specs.Limits.{most_depth}
-use Rattle.tso_model.specs.Litmus.{Litmus, IsTest}
-use Rattle.tso_model.specs.Condition.{Claim, truth_of}
-use Rattle.tso_model.specs.FinalState.{final_words}
-use Rattle.tso_model.specs.Runs.{run}
-use Rattle.relational_model.specs.Candidates.{registers_left}
-use Rattle.refutation_laws.specs.Models.{HasCandidate, HasExecution, HasRun}
-use Rattle.refutation_laws.specs.declared.model.Model.{Model}
-use Rattle.refutation_laws.specs.declared.model.Model.TheVariants.{Tso, Sequential}
+use Rattle.refutation_laws.proofs.Vocabulary.{◌≡◌, true, sym, subst, ◌⊎◌, inl, inr, most_depth, Litmus, IsTest, Claim, truth_of, final_words, run, registers_left, HasCandidate, HasExecution, HasRun, Model, Tso, Sequential}
 use Rattle.refutation_laws.proofs.Completeness.{refuted-or-candidate, six-of}
 use Rattle.refutation_laws.proofs.laws.claims_are_refuted_or_met.Goals as goal
 

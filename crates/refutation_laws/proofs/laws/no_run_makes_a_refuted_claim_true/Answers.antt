@@ -1,12 +1,4 @@
-use Rattle.std.proofs.Common.{◌≡◌, List, ℕ, false, subst, sym}
-use Rattle.tso_model.specs.Litmus.{Litmus}
-use Rattle.tso_model.specs.Condition.{Claim, truth_of}
-use Rattle.tso_model.specs.FlatMachine.{registers_in}
-use Rattle.tso_model.specs.Runs.{Run, run}
-use Rattle.relational_model.specs.Candidates.{Candidate, registers_left, words_left}
-use Rattle.relational_model.specs.CandidatesOfRuns.{IsCandidateOfRun}
-use Rattle.outcome_laws.specs.Outcomes.{IsEnd}
-use Rattle.refutation_laws.specs.declared.model.Model.TheVariants.{Tso, Sequential}
+use Rattle.refutation_laws.proofs.Vocabulary.{◌≡◌, List, ℕ, false, subst, sym, Litmus, Claim, truth_of, registers_in, Run, run, Candidate, registers_left, words_left, IsCandidateOfRun, IsEnd, Tso, Sequential}
 use Rattle.refutation_laws.proofs.laws.no_run_makes_a_refuted_claim_true.Goals as goal
 
 of-the-run : (t : Litmus) (r : Run) (d : Candidate) (claim : Claim) → IsCandidateOfRun t r d

@@ -1,15 +1,4 @@
-use Rattle.std.proofs.Common.{◌≡◌, ℕ, List, true, false, length, subst}
-use Rattle.tso_model.specs.Litmus.{Litmus}
-use Rattle.tso_model.specs.Condition.{Claim, truth_of, NamesExist}
-use Rattle.tso_model.specs.Axioms.{IsTsoExecution}
-use Rattle.tso_model.specs.FinalState.{final_words, final_registers}
-use Rattle.tso_model.specs.declared.execution.Entry.{Entry}
-use Rattle.relational_model.specs.Candidates.{Candidate, registers_left, words_left}
-use Rattle.relational_model.specs.CandidatesOfOrders.{IsCandidateOf, LeaveTheSame}
-use Rattle.refutation_laws.specs.Models.{IsAllowedBy, IsExecutionOf, IsFinalStateOf}
-use Rattle.refutation_laws.specs.Refutations.{Node, refutes}
-use Rattle.refutation_laws.specs.declared.model.Model.{Model}
-use Rattle.refutation_laws.specs.declared.model.Model.TheVariants.{Tso, Sequential}
+use Rattle.refutation_laws.proofs.Vocabulary.{◌≡◌, ℕ, List, true, false, length, subst, Litmus, Claim, truth_of, NamesExist, IsTsoExecution, final_words, final_registers, Entry, Candidate, registers_left, words_left, IsCandidateOf, LeaveTheSame, IsAllowedBy, IsExecutionOf, IsFinalStateOf, Node, refutes, Model, Tso, Sequential}
 use Rattle.refutation_laws.proofs.Soundness.{refuted-is-false}
 use Rattle.refutation_laws.proofs.laws.refuted_claims_are_false.Goals as goal
 

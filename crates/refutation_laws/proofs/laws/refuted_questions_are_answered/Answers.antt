@@ -1,11 +1,4 @@
-use Rattle.std.proofs.Common.{◌≡◌, ℕ, Bool, List, true, false, not, length, Option, Some, None, refl, sym, subst}
-use Rattle.tso_model.specs.Litmus.{Litmus, IsTest, IsCondition}
-use Rattle.tso_model.specs.Condition.{Claim, Condition, truth_of, NamesExist}
-use Rattle.tso_model.specs.FinalState.{final_words, final_registers}
-use Rattle.tso_model.specs.declared.condition.Quantifier.{Quantifier}
-use Rattle.tso_model.specs.declared.condition.Quantifier.TheVariants.{Exists, NotExists, Forall}
-use Rattle.tso_model.specs.declared.execution.Entry.{Entry}
-use Rattle.refutation_laws.specs.Refutations.{asked, asked_by}
+use Rattle.refutation_laws.proofs.Vocabulary.{◌≡◌, ℕ, Bool, List, true, false, not, length, Option, Some, None, refl, sym, subst, Litmus, IsTest, IsCondition, Claim, Condition, truth_of, NamesExist, final_words, final_registers, Quantifier, Exists, NotExists, Forall, Entry, asked, asked_by}
 use Rattle.refutation_laws.proofs.laws.refuted_questions_are_answered.Goals as goal
 
 asked-names : (cores locations : ℕ) (q : Quantifier) (claim : Claim) → NamesExist cores locations claim → NamesExist cores locations (asked_by q claim)

@@ -1,9 +1,4 @@
-use Rattle.std.proofs.Common.{◌≡◌, Bool, true, false, arith, refl}
-use Rattle.tso_model.specs.Examples.{sb, n6}
-use Rattle.relational_model.specs.WorkedCandidates.{sb_candidate, n6_candidate}
-use Rattle.refutation_laws.specs.Refutations.{refutes}
-use Rattle.refutation_laws.specs.Worked.{both_zero, own_last}
-use Rattle.refutation_laws.specs.declared.model.Model.TheVariants.{Tso}
+use Rattle.refutation_laws.proofs.Vocabulary.{◌≡◌, Bool, true, false, arith, refl, sb, n6, sb_candidate, n6_candidate, refutes, both_zero, own_last, Tso}
 use Rattle.refutation_laws.proofs.worked.worked_refutations.Goals as goal
 
 none : (b : Bool) → (b ≡ true → true ≡ false) → b ≡ false

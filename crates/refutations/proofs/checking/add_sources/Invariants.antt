@@ -1,9 +1,6 @@
-use Rattle.std.proofs.Common.{◌≡◌, ◌≤◌, ◌++◌, map, drop, length, Some}
-use Rattle.std.specs.Prelude.{filter}
+use Rattle.refutations.proofs.Vocabulary.{◌≡◌, ◌≤◌, ◌++◌, map, drop, length, Some, filter, known_of, cases_of}
 use Rattle.tso_model.specs.ProgramOrder as program_order
 use Rattle.refutation_laws.specs.Known as known
-use Rattle.refutations.specs.inner.Trees.{known_of}
-use Rattle.refutations.specs.inner.Stack.{cases_of}
 use Rattle.refutations.proofs.checking.add_sources.Given as goal
 
 -- the writes that were gone over have their cases

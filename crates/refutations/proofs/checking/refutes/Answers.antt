@@ -1,4 +1,4 @@
-use Rattle.refutation_laws.specs.Refutations.{asked}
+use Rattle.refutations.proofs.Vocabulary.{asked}
 use Rattle.refutations.proofs.Stack.{wrong-node, right-node, ended}
 use Rattle.refutations.proofs.checking.refutes.Goals as goal
 

@@ -1,8 +1,6 @@
-use Rattle.std.proofs.Common.{◌≡◌, [], ◌∷◌, map, drop}
+use Rattle.refutations.proofs.Vocabulary.{◌≡◌, [], ◌∷◌, map, drop, node_of, cases_of}
 use Rattle.refutation_laws.specs.Known as known
 use Rattle.refutation_laws.specs.Refutations as spec
-use Rattle.refutations.specs.Trees.{node_of}
-use Rattle.refutations.specs.inner.Stack.{cases_of}
 use Rattle.refutations.proofs.checking.refutes.Given as goal
 
 -- what is left of the nodes is a tree for each open case just where all are one for the first

@@ -1,6 +1,5 @@
-use Rattle.std.proofs.Common.{◌≡◌, drop}
+use Rattle.refutations.proofs.Vocabulary.{◌≡◌, drop, known_of}
 use Rattle.refutation_laws.specs.Shown as spec
-use Rattle.refutations.specs.inner.Trees.{known_of}
 use Rattle.refutations.proofs.edges.first_of.Given as goal
 
 abbrev pub invariant-loop-relation : goal.invariant-loop-relation

@@ -1,6 +1,5 @@
-use Rattle.std.proofs.Common.{◌≡◌, drop}
+use Rattle.refutations.proofs.Vocabulary.{◌≡◌, drop, known_of, relations_of}
 use Rattle.refutation_laws.specs.Edges as spec
-use Rattle.refutations.specs.inner.Trees.{known_of, relations_of}
 use Rattle.refutations.proofs.edges.is_cycle.Given as goal
 
 abbrev pub invariant-loop-next : goal.invariant-loop-next

@@ -1,4 +1,4 @@
-use Rattle.std.proofs.Common.{◌≡◌, ◌++◌, map, drop}
+use Rattle.refutations.proofs.Vocabulary.{◌≡◌, ◌++◌, map, drop}
 use Rattle.refutation_laws.specs.Known as known
 use Rattle.refutations.proofs.events.add_bare.Given as goal
 

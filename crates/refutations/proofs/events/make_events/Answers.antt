@@ -1,4 +1,4 @@
-use Rattle.std.proofs.Common.{◌<◌, ◌++◌, ap, ◌∙◌, subst}
+use Rattle.refutations.proofs.Vocabulary.{◌<◌, ◌++◌, ap, ◌∙◌, subst}
 use Rattle.std.specs.Prelude.{map}
 use Rattle.refutation_laws.specs.Known as known
 use Rattle.refutations.proofs.Growing.{events-more}

@@ -1,5 +1,4 @@
-use Rattle.std.proofs.Common.{◌≡◌, ◌++◌, map, drop, []}
-use Rattle.relational_model.specs.Candidates.{events_from}
+use Rattle.refutations.proofs.Vocabulary.{◌≡◌, ◌++◌, map, drop, [], events_from}
 use Rattle.refutation_laws.specs.Known as known
 use Rattle.refutations.proofs.events.make_events.Given as goal
 

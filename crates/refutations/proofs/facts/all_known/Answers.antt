@@ -1,5 +1,4 @@
-use Rattle.std.proofs.Common.{sym, ◌∙◌}
-use Rattle.refutations.specs.inner.Trees.{known_of}
+use Rattle.refutations.proofs.Vocabulary.{sym, ◌∙◌, known_of}
 use Rattle.refutations.proofs.Rounds.{one-round, settled-at}
 use Rattle.refutations.proofs.facts.all_known.Goals as goal
 

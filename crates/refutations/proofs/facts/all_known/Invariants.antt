@@ -1,6 +1,5 @@
-use Rattle.std.proofs.Common.{◌≡◌}
+use Rattle.refutations.proofs.Vocabulary.{◌≡◌, known_of}
 use Rattle.refutation_laws.specs.Values as spec
-use Rattle.refutations.specs.inner.Trees.{known_of}
 use Rattle.refutations.proofs.facts.all_known.Given as goal
 
 abbrev pub invariant-loop-round : goal.invariant-loop-round

@@ -1,6 +1,5 @@
-use Rattle.std.proofs.Common.{ℕ, ◌≡◌, ◌<◌, [], length, slice_index_or}
+use Rattle.refutations.proofs.Vocabulary.{ℕ, ◌≡◌, ◌<◌, [], length, slice_index_or, known_of}
 use Rattle.refutation_laws.specs.Values as spec
-use Rattle.refutations.specs.inner.Trees.{known_of}
 use Rattle.refutations.proofs.facts.all_left.Given as goal
 
 abbrev pub invariant-loop-number : goal.invariant-loop-number

@@ -1,4 +1,4 @@
-use Rattle.std.proofs.Common.{rules, sym, ◌∙◌}
+use Rattle.refutations.proofs.Vocabulary.{rules, sym, ◌∙◌}
 use Rattle.refutations.proofs.Rounds.{as-same}
 use Rattle.refutations.proofs.facts.are_same.Goals as goal
 

@@ -1,8 +1,4 @@
-use Rattle.std.proofs.Common.{◌&&◌, ap, ◌∙◌}
-use Rattle.std.specs.List.{list_any}
-use Rattle.refutation_laws.specs.Known.{events_of, same_event, is_event}
-use Rattle.refutation_laws.specs.declared.known.Pair.{Pair}
-use Rattle.refutations.specs.inner.Trees.{known_of}
+use Rattle.refutations.proofs.Vocabulary.{◌&&◌, ap, ◌∙◌, list_any, events_of, same_event, is_event, Pair, known_of}
 use Rattle.refutations.proofs.Last.{passed}
 use Rattle.refutations.proofs.propositions.is_passed.Goals as goal
 

@@ -1,8 +1,4 @@
-use Rattle.std.proofs.Common.{sym, ap, ◌∙◌}
-use Rattle.std.specs.List.{list_any}
-use Rattle.tso_model.specs.ProgramOrder.{writes_to}
-use Rattle.refutation_laws.specs.Values.{can_be}
-use Rattle.refutations.specs.inner.Trees.{known_of}
+use Rattle.refutations.proofs.Vocabulary.{sym, ap, ◌∙◌, list_any, writes_to, can_be, known_of}
 use Rattle.refutations.proofs.Last.{words-kept, among}
 use Rattle.refutations.proofs.propositions.word_can_be.Goals as goal
 

@@ -1,7 +1,5 @@
-use Rattle.std.proofs.Common.{◌≡◌, ◌++◌, map, drop}
-use Rattle.std.specs.Prelude.{filter}
+use Rattle.refutations.proofs.Vocabulary.{◌≡◌, ◌++◌, map, drop, filter, known_of}
 use Rattle.refutation_laws.specs.Values as spec
-use Rattle.refutations.specs.inner.Trees.{known_of}
 use Rattle.refutations.proofs.propositions.words_at_end.Given as goal
 
 -- the words that are kept, and those that are still to come

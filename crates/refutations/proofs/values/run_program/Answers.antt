@@ -1,4 +1,4 @@
-use Rattle.std.proofs.Common.{◌+◌, ◌++◌, arith, ap, sym, ◌∙◌, refl, append-nil}
+use Rattle.refutations.proofs.Vocabulary.{◌+◌, ◌++◌, arith, ap, sym, ◌∙◌, refl, append-nil}
 use Rattle.refutation_laws.specs.Values as spec
 use Rattle.refutations.proofs.Walking.{one-more, all-done}
 use Rattle.refutations.proofs.values.run_program.Goals as goal

@@ -1,4 +1,4 @@
-use Rattle.std.proofs.Common.{◌≡◌, drop}
+use Rattle.refutations.proofs.Vocabulary.{◌≡◌, drop}
 use Rattle.refutation_laws.specs.Values as spec
 use Rattle.refutations.proofs.values.value_among.Given as goal
 

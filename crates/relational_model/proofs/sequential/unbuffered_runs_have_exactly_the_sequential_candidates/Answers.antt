@@ -1,8 +1,4 @@
-use Rattle.std.proofs.Common.{◌∙◌, sym, ap, subst}
-use Rattle.tso_model.specs.Runs.{run}
-use Rattle.tso_model.specs.FinalState.{final_words, final_registers}
-use Rattle.relational_model.specs.CandidatesOfOrders.{IsCandidateOf}
-use Rattle.relational_model.specs.CandidatesOfRuns.{IsCandidateOfRun}
+use Rattle.relational_model.proofs.Vocabulary.{◌∙◌, sym, ap, subst, run, final_words, final_registers, IsCandidateOf, IsCandidateOfRun}
 use Rattle.relational_model.proofs.Allowed.{Whole}
 use Rattle.relational_model.proofs.Found.{has-candidate}
 use Rattle.relational_model.proofs.Left.{leave-the-same}

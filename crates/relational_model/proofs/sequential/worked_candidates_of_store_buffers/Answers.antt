@@ -1,9 +1,5 @@
-use Rattle.std.proofs.Common.{arith, refl}
-use Rattle.tso_model.specs.Thread.{entry}
-use Rattle.tso_model.specs.Examples.{loc_x, loc_y}
-use Rattle.tso_model.specs.declared.execution.Kind.TheVariants.{R, W}
-use Rattle.relational_model.specs.Events.{at_once, onward}
-use Rattle.relational_model.specs.SequentialModel.{po, co, fr}
+use Rattle.relational_model.proofs.Vocabulary.{arith, refl, entry, loc_x, loc_y, R, W, at_once, onward, po}
+use Rattle.relational_model.specs.SequentialModel.{co, fr}
 use Rattle.relational_model.proofs.sequential.worked_candidates_of_store_buffers.Goals as goal
 
 pub returns-clause-sb_is_not_sequential : goal.returns-clause-sb_is_not_sequential

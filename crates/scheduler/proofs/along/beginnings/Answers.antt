@@ -1,4 +1,4 @@
-use Rattle.std.proofs.Common.{◌∙◌}
+use Rattle.scheduler.proofs.Vocabulary.{◌∙◌}
 use Rattle.scheduler.proofs.AlongLemmas.{all-begun}
 use Rattle.scheduler.proofs.along.beginnings.Goals as goal
 

@@ -1,8 +1,5 @@
-use Rattle.std.proofs.Common.{◌∙◌, ap, length, get_or}
-use Rattle.std.proofs.lemmas.List.{drop_more}
+use Rattle.scheduler.proofs.Vocabulary.{◌∙◌, ap, length, get_or, drop_more, Entry, R}
 use Rattle.scheduler.proofs.AlongLemmas.{begun, as-many, core-in, entry-made, as-many-after, all-made}
-use Rattle.tso_model.specs.declared.execution.Entry.{Entry}
-use Rattle.tso_model.specs.declared.execution.Kind.TheVariants.{R}
 use Rattle.scheduler.proofs.along.choices_along.Goals as goal
 
 -- what a place out of range would read

@@ -1,5 +1,4 @@
-use Rattle.std.proofs.Common.{◌≡◌, ◌++◌, drop, length}
-use Rattle.tso_laws.specs.Along.{choices_along, choices_from}
+use Rattle.scheduler.proofs.Vocabulary.{◌≡◌, ◌++◌, drop, length, choices_along, choices_from}
 use Rattle.scheduler.proofs.along.choices_along.Given as goal
 
 abbrev pub invariant-loop-entry : goal.invariant-loop-entry

@@ -1,4 +1,4 @@
-use Rattle.std.proofs.Common.{refl, arith}
+use Rattle.scheduler.proofs.Vocabulary.{refl, arith}
 use Rattle.scheduler.proofs.AlongLemmas.{last-more, all-done}
 use Rattle.scheduler.proofs.along.push_last_steps.Goals as goal
 

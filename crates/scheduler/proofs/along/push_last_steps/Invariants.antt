@@ -1,5 +1,4 @@
-use Rattle.std.proofs.Common.{◌≡◌, ◌++◌, drop}
-use Rattle.tso_laws.specs.Along.{last_steps}
+use Rattle.scheduler.proofs.Vocabulary.{◌≡◌, ◌++◌, drop, last_steps}
 use Rattle.scheduler.proofs.along.push_last_steps.Given as goal
 
 abbrev pub invariant-loop-core : goal.invariant-loop-core

@@ -1,5 +1,4 @@
-use Rattle.std.proofs.Common.{◌≡◌, ◌++◌}
-use Rattle.tso_laws.specs.Along.{steps}
+use Rattle.scheduler.proofs.Vocabulary.{◌≡◌, ◌++◌, steps}
 use Rattle.scheduler.proofs.along.push_steps.Given as goal
 
 abbrev pub invariant-loop-step : goal.invariant-loop-step

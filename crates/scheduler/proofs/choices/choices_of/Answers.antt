@@ -1,11 +1,5 @@
-use Rattle.std.proofs.Common.{length, arith, sym, ap, subst, refl, ◌∙◌}
-use Rattle.std.proofs.lemmas.Result.{err_from_is_err_and}
-use Rattle.std.specs.Str.{bytes_eq}
-use Rattle.std.specs.Prelude.{codes, ◌≡◌, ◌-◌, true, false}
-use Rattle.scheduler.specs.Limits.{most_choices}
-use Rattle.scheduler.specs.declared.item.ChoiceItem.TheVariants.{One}
-use Rattle.scheduler.specs.Words.{words_of}
-use Rattle.scheduler.specs.Grammar.{AreItems, none}
+use Rattle.scheduler.proofs.Vocabulary.{length, arith, sym, ap, subst, refl, ◌∙◌, err_from_is_err_and, bytes_eq, codes, most_choices, One, words_of, AreItems, none}
+use Rattle.std.specs.Prelude.{◌≡◌, ◌-◌, true, false}
 use Rattle.scheduler.proofs.Items.{item_one, item_seeded}
 use Rattle.scheduler.proofs.Loop.{went_on, refused_at, all_read}
 use Rattle.scheduler.proofs.choices.choices_of.Goals as goal

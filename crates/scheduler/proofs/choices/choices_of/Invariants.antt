@@ -1,7 +1,4 @@
-use Rattle.std.proofs.Common.{◌≡◌, ◌≤◌, ◌+◌, length, take, drop}
-use Rattle.scheduler.specs.Limits.{most_choices}
-use Rattle.scheduler.specs.Words.{words_of}
-use Rattle.scheduler.specs.Grammar.{AreItems}
+use Rattle.scheduler.proofs.Vocabulary.{◌≡◌, ◌≤◌, ◌+◌, length, take, drop, most_choices, words_of, AreItems}
 use Rattle.scheduler.proofs.choices.choices_of.Given as goal
 
 -- the choices are those of the words that were read, and the rest of the text has the others

@@ -1,5 +1,5 @@
 use Rattle.scheduler.proofs.Whole.{only_these, only_this}
-use Rattle.scheduler.specs.Words.{words_of}
+use Rattle.scheduler.proofs.Vocabulary.{words_of}
 use Rattle.scheduler.proofs.choices.read_choices.Goals as goal
 
 pub returns-clause-only : goal.returns-clause-only

@@ -1,7 +1,5 @@
-use Rattle.std.proofs.Common.{◌+◌, ◌<◌, get_or, arith, refl, ◌∙◌}
+use Rattle.scheduler.proofs.Vocabulary.{◌+◌, ◌<◌, get_or, arith, refl, ◌∙◌, Entry, R}
 use Rattle.scheduler.proofs.Counted.{sum-fits, count-fits, onward-load, onward-store, onward-other, entry-fits, greatest, none-passed, all-passed}
-use Rattle.tso_model.specs.declared.execution.Entry.{Entry}
-use Rattle.tso_model.specs.declared.execution.Kind.TheVariants.{R}
 use Rattle.scheduler.proofs.depth.needed.Goals.{in-R, in-W, in-F}
 use Rattle.scheduler.proofs.depth.needed.Goals as goal
 

@@ -1,5 +1,4 @@
-use Rattle.std.proofs.Common.{[]}
-use Rattle.scheduler.specs.inner.Passed.{HaveCounted}
+use Rattle.scheduler.proofs.Vocabulary.{[], HaveCounted}
 use Rattle.scheduler.proofs.depth.no_stores.Given as goal
 
 abbrev pub invariant-loop-core : goal.invariant-loop-core

@@ -1,4 +1,4 @@
-use Rattle.std.proofs.Common.{◌≡◌, take, sum}
+use Rattle.scheduler.proofs.Vocabulary.{◌≡◌, take, sum}
 use Rattle.scheduler.proofs.depth.sum_of.Given as goal
 
 abbrev pub invariant-loop-count : goal.invariant-loop-count

@@ -1,5 +1,4 @@
-use Rattle.std.proofs.Common.{Ok, sym, ap, ◌∙◌}
-use Rattle.scheduler.specs.declared.item.ChoiceItem.TheVariants.{One}
+use Rattle.scheduler.proofs.Vocabulary.{Ok, sym, ap, ◌∙◌, One}
 use Rattle.scheduler.proofs.Items.{one_none, one_bad_letter, one_bad_digits, one_no_core, one_full, one_there}
 use Rattle.scheduler.proofs.item.read_one.Goals as goal
 

@@ -1,4 +1,4 @@
-use Rattle.std.proofs.Common.{sym, ◌∙◌, arith}
+use Rattle.scheduler.proofs.Vocabulary.{sym, ◌∙◌, arith}
 use Rattle.scheduler.proofs.Items.{seeded_none, seeded_short, after_two, seeded_bad_seed, seeded_bad_count, seeded_too_many, seeded_there}
 use Rattle.scheduler.proofs.item.read_seeded.Goals as goal
 

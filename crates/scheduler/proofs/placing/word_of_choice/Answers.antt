@@ -1,7 +1,4 @@
-use Rattle.std.proofs.Common.{subst, sym, arith, ◌∙◌}
-use Rattle.std.specs.Prelude.{IfSome}
-use Rattle.scheduler.specs.Words.{words_of}
-use Rattle.scheduler.specs.WordOfChoice.{SayAt}
+use Rattle.scheduler.proofs.Vocabulary.{subst, sym, arith, ◌∙◌, IfSome, words_of, SayAt}
 use Rattle.scheduler.proofs.Stopping.{Passed, at_first, passed_on, fits_room, found, only, no_word, is_there}
 use Rattle.scheduler.proofs.placing.word_of_choice.Goals as goal
 

@@ -1,5 +1,4 @@
-use Rattle.std.proofs.Common.{◌+◌, ◌≤◌, length}
-use Rattle.scheduler.specs.Words.{words_of}
+use Rattle.scheduler.proofs.Vocabulary.{◌+◌, ◌≤◌, length, words_of}
 use Rattle.scheduler.proofs.Stopping.{Passed}
 use Rattle.scheduler.proofs.placing.word_of_choice.Given as goal
 

@@ -1,5 +1,4 @@
-use Rattle.std.proofs.Common.{◌≡◌, ◌++◌, drop, string_bytes}
-use Rattle.scheduler.specs.Printed.{printed_after}
+use Rattle.scheduler.proofs.Vocabulary.{◌≡◌, ◌++◌, drop, string_bytes, printed_after}
 use Rattle.scheduler.proofs.printing.write_after.Given as goal
 
 abbrev pub invariant-loop-choice : goal.invariant-loop-choice

@@ -1,5 +1,4 @@
-use Rattle.std.proofs.Common.{◌≡◌, ◌≤◌, arith}
-use Rattle.tso_laws.specs.Depth.{needed}
+use Rattle.scheduler.proofs.Vocabulary.{◌≡◌, ◌≤◌, arith, needed}
 use Rattle.scheduler.proofs.Fitting.{core-at, place-at}
 use Rattle.scheduler.proofs.reaching.witness.Goals as goal
 

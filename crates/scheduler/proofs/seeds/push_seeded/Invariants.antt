@@ -1,6 +1,4 @@
-use Rattle.std.proofs.Common.{◌≡◌, List, ◌++◌, length, map}
-use Rattle.tso_model.specs.declared.choice.Choice.{Choice}
-use Rattle.scheduler.specs.Seeds.{choice_of_word, drawn_words, seeded_choices}
+use Rattle.scheduler.proofs.Vocabulary.{◌≡◌, List, ◌++◌, length, map, Choice, choice_of_word, drawn_words, seeded_choices}
 use Rattle.scheduler.specs.declared.coming.Seeded.{Seeded}
 use Rattle.scheduler.proofs.seeds.push_seeded.Given as goal
 

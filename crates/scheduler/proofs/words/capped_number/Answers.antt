@@ -1,8 +1,4 @@
-use Rattle.std.proofs.Common.{◌≡◌, ◌+◌, ◌*◌, ◌<◌, length, take, min, refl, sym, ap, ◌∙◌, take_all, arith}
-use Rattle.std.specs.Char.{is_ascii_digit}
-use Rattle.std.specs.List.{list_all}
-use Rattle.std.proofs.lemmas.List.Folds.{list_all_more}
-use Rattle.decimals.specs.Decimals.{decimal_value}
+use Rattle.scheduler.proofs.Vocabulary.{◌≡◌, ◌+◌, ◌*◌, ◌<◌, length, take, min, refl, sym, ap, ◌∙◌, take_all, arith, is_ascii_digit, list_all, list_all_more, decimal_value}
 use Rattle.scheduler.proofs.Capped.{nothing_capped, one_capped, no_numeral, bad_digit, good_digits}
 use Rattle.scheduler.proofs.words.capped_number.Goals as goal
 

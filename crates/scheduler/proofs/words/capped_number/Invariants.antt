@@ -1,7 +1,4 @@
-use Rattle.std.proofs.Common.{◌≡◌, take, true, min}
-use Rattle.std.specs.Char.{is_ascii_digit}
-use Rattle.std.specs.List.{list_all}
-use Rattle.decimals.specs.Decimals.{decimal_value}
+use Rattle.scheduler.proofs.Vocabulary.{◌≡◌, take, true, min, is_ascii_digit, list_all, decimal_value}
 use Rattle.scheduler.proofs.words.capped_number.Given as goal
 
 abbrev pub invariant-loop-byte : goal.invariant-loop-byte

@@ -1,4 +1,4 @@
-use Rattle.tso_model.specs.FlatMachine.{start}
+use Rattle.split_laws.proofs.Vocabulary.{start}
 use Rattle.split_laws.proofs.Atomic.{atomic-is, atomic-free, atomic-fits, flat-together}
 use Rattle.split_laws.proofs.laws.atomic_runs_are_flat_runs.Goals as goal
 

@@ -1,10 +1,4 @@
-use Rattle.std.proofs.Common.{◌≡◌, ◌<◌, ℕ, zero, suc, [], ◌∷◌, arith, refl, inl, inr}
-use Rattle.tso_model.specs.Thread.{entry}
-use Rattle.tso_model.specs.EitherBus.{choices_in}
-use Rattle.tso_model.specs.Examples.{loc_x, loc_y}
-use Rattle.tso_model.specs.declared.execution.Kind.TheVariants.{R, W, LR, LW}
-use Rattle.tso_laws.specs.Rounds.{IsRound}
-use Rattle.split_laws.specs.inner.WorkedSplitRuns.{one_round}
+use Rattle.split_laws.proofs.Vocabulary.{◌≡◌, ◌<◌, ℕ, zero, suc, [], ◌∷◌, arith, refl, inl, inr, entry, choices_in, loc_x, loc_y, R, W, LR, LW, IsRound, one_round}
 use Rattle.split_laws.proofs.worked.split_laws_need_their_premises.Goals as goal
 
 pub returns-clause-store_between_is_refuted : goal.returns-clause-store_between_is_refuted

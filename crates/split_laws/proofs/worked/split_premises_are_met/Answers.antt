@@ -1,11 +1,4 @@
-use Rattle.std.proofs.Common.{zero, suc, [], arith, refl, inl, inr, rules}
-use Rattle.tso_model.specs.Litmus.{IsTest}
-use Rattle.tso_model.specs.FlatMachine.{start}
-use Rattle.tso_model.specs.EitherBus.{unheld, HitsFit, choices_in}
-use Rattle.tso_model.specs.declared.choice.Bus.TheVariants.{Split}
-use Rattle.tso_laws.specs.Rounds.{IsRound}
-use Rattle.split_laws.specs.WorkedSplitRuns.{added_and_loaded_elsewhere, load_between}
-use Rattle.split_laws.specs.inner.WorkedSplitRuns.{one_round}
+use Rattle.split_laws.proofs.Vocabulary.{zero, suc, [], arith, refl, inl, inr, rules, IsTest, start, unheld, HitsFit, choices_in, Split, IsRound, added_and_loaded_elsewhere, load_between, one_round}
 use Rattle.split_laws.proofs.worked.split_premises_are_met.Goals as goal
 
 is-test : IsTest added_and_loaded_elsewhere

@@ -4,6 +4,7 @@ use Rattle.serde_json.specs.View.{view}
 use Rattle.trace_report.specs.Known.{IsKnown}
 use Rattle.trace_report.specs.Shown.{shown}
 use Rattle.trace_report.proofs.Whole.{some-word}
+use Rattle.trace_json.specs.inner.Looked.{sourced}
 use Rattle.trace_json.proofs.Tracing.{is-shown, one-step}
 use Rattle.trace_json.proofs.trace.step_to.Goals as goal
 
@@ -11,13 +12,13 @@ pub machine_value-requires-clause-shown : goal.machine_value-requires-clause-sho
 machine_value-requires-clause-shown g c = is-shown c.args.test.now c.args.config c.args.machine.now c.requires.traced c.requires.memory.each
 
 pub step_value-requires-clause-words : goal.step_value-requires-clause-words
-step_value-requires-clause-words g c = some-word c.words.result c.words.ensures.within
+step_value-requires-clause-words g c = some-word c.words-words.result c.words-words.ensures.within
 
 pub step_value-requires-clause-known : goal.step_value-requires-clause-known
-step_value-requires-clause-known g c = subst (λ n. IsKnown c.args.test.now n (shown c.args.step.now)) (sym c.words.ensures.value) c.requires.known
+step_value-requires-clause-known g c = subst (λ n. IsKnown c.args.test.now n (shown c.args.told.now.step)) (sym c.words-words.ensures.value) c.requires.known
 
 pub returns : goal.returns
 returns g c =
-    one-step c.args.test.now c.words.result (shown c.args.step.now) (shown c.args.step.now) c.args.machine.now c.args.memory.now (view c.in_ok-after.after) (view c.in_ok-value.value)
+    one-step c.args.test.now c.words-words.result (sourced c.args.told.now) (sourced c.args.told.now) c.args.machine.now c.args.memory.now (view c.in_ok-after.after) (view c.in_ok-value.value)
     c.in_ok-value.ensures c.in_ok-after.ensures refl c.requires.traced.test
-    (ap (λ (x : Configuration). x.shape.words) c.requires.traced.config ∙ sym c.words.ensures.value)
+    (ap (λ (x : Configuration). x.shape.words) c.requires.traced.config ∙ sym c.words-words.ensures.value)

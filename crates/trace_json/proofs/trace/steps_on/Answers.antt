@@ -1,8 +1,8 @@
 use Rattle.std.proofs.Common.{◌∙◌, ap, sym, map}
 use Rattle.std.proofs.lemmas.List.{drop_more}
 use Rattle.serde_json.specs.View.{view}
-use Rattle.trace_report.specs.Shown.{shown}
 use Rattle.trace_json.specs.TraceJson.{step_to, steps_json}
+use Rattle.trace_json.specs.inner.Looked.{sourced}
 use Rattle.trace_json.proofs.Tracing.{one-pushed, core-there, all-made, none-left}
 use Rattle.trace_json.proofs.trace.steps_on.Goals as goal
 
@@ -15,9 +15,9 @@ loop-choice-preserved g c =
       told = c.in_ok-step.ensures.told;
       memory = c.in_ok-step.ensures.memory;
       made = one-pushed c.loop-choice.machine c.tell_on.new.machine c.loop-choice.memory.items c.tell_on.new.memory.items c.loop-choice.steps.items c.push.new.self.items
-          c.in_ok-step_to.field-0 _ _ _ (steps_json c.args.machine.now c.args.memory.now.items c.args.choices.now) (shown c.in_ok-step.step)
+          c.in_ok-step_to.field-0 _ _ _ (steps_json c.args.machine.now c.args.memory.now.items c.args.choices.now) (sourced c.in_ok-step.step)
           next i.told.machine.whole (sym c.if-is_ended.false ∙ c.is_ended.ensures) c.in_ok-step.ensures.after c.in_ok-step.ensures.own c.in_ok-step.ensures.step
-          (c.in_ok-step_to.ensures ∙ ap (λ w. step_to (shown c.in_ok-step.step) c.tell_on.new.machine w) c.deref.ensures.value) c.in_ok-push.ensures.items i.made;
+          (c.in_ok-step_to.ensures ∙ ap (λ w. step_to (sourced c.in_ok-step.step) c.tell_on.new.machine w) c.deref.ensures.value) c.in_ok-push.ensures.items i.made;
     }
 
 pub tell_on-requires-clause-core : goal.tell_on-requires-clause-core

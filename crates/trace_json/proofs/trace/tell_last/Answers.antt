@@ -1,10 +1,10 @@
 use Rattle.std.proofs.Common.{◌∙◌, sym, subst, option_map}
 use Rattle.std.proofs.lemmas.List.{drop_more}
 use Rattle.snoop_bus.specs.Geometry.{IsLineSize}
-use Rattle.trace_report.specs.Shown.{shown}
 use Rattle.trace_report.specs.inner.Told.{IsLookedAt}
 use Rattle.trace_report.proofs.Whole.{looked-at}
 use Rattle.trace_json.specs.TraceJson.{alone, last_or, steps_json}
+use Rattle.trace_json.specs.inner.Looked.{sourced}
 use Rattle.trace_json.proofs.Tracing.{ToldLast, next-told, core-there, last-told, none-told}
 use Rattle.trace_json.proofs.trace.tell_last.Goals as goal
 
@@ -23,10 +23,10 @@ loop-choice-preserved g c =
       told = c.in_ok-step.ensures.told;
       memory = c.in_ok-step.ensures.memory;
       known = c.in_ok-step.ensures.known;
-      last = next-told c.loop-choice.machine c.tell_on.new.machine c.loop-choice.memory.items c.tell_on.new.memory.items (option_map shown c.loop-choice.last)
-          (shown c.in_ok-step.step) _ _ whole i.told.machine.whole (sym c.if-is_ended.false ∙ c.is_ended.ensures) c.in_ok-step.ensures.after
+      last = next-told c.loop-choice.machine c.tell_on.new.machine c.loop-choice.memory.items c.tell_on.new.memory.items (option_map sourced c.loop-choice.last)
+          (sourced c.in_ok-step.step) _ _ whole i.told.machine.whole (sym c.if-is_ended.false ∙ c.is_ended.ensures) c.in_ok-step.ensures.after
           c.in_ok-step.ensures.own c.in_ok-step.ensures.step
-          (subst (λ l. ToldLast (option_map shown c.loop-choice.last) c.loop-choice.machine c.loop-choice.memory.items l whole) next i.last);
+          (subst (λ l. ToldLast (option_map sourced c.loop-choice.last) c.loop-choice.machine c.loop-choice.memory.items l whole) next i.last);
     }
 
 pub tell_on-requires-clause-core : goal.tell_on-requires-clause-core
@@ -37,10 +37,10 @@ pub returns-then-is_ended-clause-last : goal.returns-then-is_ended-clause-last
 returns-then-is_ended-clause-last g c =
     let i = c.loop-choice.invariant in
     let whole = last_or (alone c.args.machine.now c.args.memory.now.items) (steps_json c.args.machine.now c.args.memory.now.items c.args.choices.now) in
-    last-told (option_map shown c.loop-choice.last) c.loop-choice.machine c.loop-choice.memory.items _ whole i.told.machine.whole (sym c.if-is_ended.true ∙ c.is_ended.ensures) i.last
+    last-told (option_map sourced c.loop-choice.last) c.loop-choice.machine c.loop-choice.memory.items _ whole i.told.machine.whole (sym c.if-is_ended.true ∙ c.is_ended.ensures) i.last
 
 pub returns-clause-last : goal.returns-clause-last
 returns-clause-last g c =
     let i = c.loop-choice.invariant in
     let whole = last_or (alone c.args.machine.now c.args.memory.now.items) (steps_json c.args.machine.now c.args.memory.now.items c.args.choices.now) in
-    none-told (option_map shown c.loop-choice.last) c.loop-choice.machine c.loop-choice.memory.items c.args.choices.now c.loop-choice.choice-index whole c.loop-choice-test.false i.last
+    none-told (option_map sourced c.loop-choice.last) c.loop-choice.machine c.loop-choice.memory.items c.args.choices.now c.loop-choice.choice-index whole c.loop-choice-test.false i.last

@@ -1,4 +1,4 @@
-use Rattle.std.proofs.Common.{refl}
+use Rattle.tso_laws.proofs.Vocabulary.{refl}
 use Rattle.tso_laws.proofs.Folds.{needed-first}
 use Rattle.tso_laws.proofs.laws.needed_is_the_most_that_is_asked.Goals as goal
 

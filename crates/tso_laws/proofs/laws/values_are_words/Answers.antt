@@ -1,7 +1,4 @@
-use Rattle.std.proofs.Common.{All, subst, arith}
-use Rattle.tso_laws.specs.Depth.{needed}
-use Rattle.tso_laws.specs.Along.{choices_along}
-use Rattle.tso_laws.specs.Words.{HasWord}
+use Rattle.tso_laws.proofs.Vocabulary.{All, subst, arith, needed, choices_along, HasWord}
 use Rattle.tso_laws.proofs.Words.{runs-hold-words}
 use Rattle.tso_laws.proofs.laws.values_are_words.Goals as goal
 

@@ -1,9 +1,4 @@
-use Rattle.std.proofs.Common.{◌≡◌, ◌<◌, ℕ, zero, suc, [], ◌∷◌, arith, refl, inl, inr}
-use Rattle.tso_model.specs.Thread.{entry}
-use Rattle.tso_model.specs.Examples.{loc_x, loc_y}
-use Rattle.tso_model.specs.declared.execution.Kind.TheVariants.{R, W}
-use Rattle.tso_laws.specs.Rounds.{IsRound}
-use Rattle.tso_laws.specs.inner.WorkedRuns.{one_round}
+use Rattle.tso_laws.proofs.Vocabulary.{◌≡◌, ◌<◌, ℕ, zero, suc, [], ◌∷◌, arith, refl, inl, inr, entry, loc_x, loc_y, R, W, IsRound, one_round}
 use Rattle.tso_laws.proofs.worked.laws_need_their_premises.Goals as goal
 
 pub returns-clause-wordless_is_refuted : goal.returns-clause-wordless_is_refuted

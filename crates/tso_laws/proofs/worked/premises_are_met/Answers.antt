@@ -1,8 +1,4 @@
-use Rattle.std.proofs.Common.{zero, suc, [], arith, refl, inl, inr, rules}
-use Rattle.tso_model.specs.Litmus.{IsTest}
-use Rattle.tso_model.specs.Examples.{sb, sb_choices}
-use Rattle.tso_laws.specs.Rounds.{IsRound}
-use Rattle.tso_laws.specs.inner.WorkedRuns.{sb_round}
+use Rattle.tso_laws.proofs.Vocabulary.{zero, suc, [], arith, refl, inl, inr, rules, IsTest, sb, sb_choices, IsRound, sb_round}
 use Rattle.tso_laws.proofs.SoFar.{test-locations}
 use Rattle.tso_laws.proofs.Beginnings.{run-is-execution}
 use Rattle.tso_laws.proofs.worked.premises_are_met.Goals as goal

@@ -1,11 +1,4 @@
-use Rattle.std.proofs.Common.{◌≡◌, ◌<◌, ℕ, [], Some, slice_get, arith, refl, ap, ◌∙◌, rules}
-use Rattle.tso_model.specs.Litmus.{IsTest}
-use Rattle.tso_model.specs.Examples.{sb, sb_choices, n6, separated_order, loc_x, loc_y}
-use Rattle.tso_model.specs.Thread.{entry}
-use Rattle.tso_model.specs.ProgramOrder.{IsStorePart}
-use Rattle.tso_model.specs.declared.execution.Entry.{Entry}
-use Rattle.tso_model.specs.declared.execution.Kind.TheVariants.{R, W, LR, LW}
-use Rattle.tso_laws.specs.inner.WorkedRuns.{n6_along}
+use Rattle.tso_laws.proofs.Vocabulary.{◌≡◌, ◌<◌, ℕ, [], Some, slice_get, arith, refl, ap, ◌∙◌, rules, IsTest, sb, sb_choices, n6, separated_order, loc_x, loc_y, entry, IsStorePart, Entry, R, W, LR, LW, n6_along}
 use Rattle.tso_laws.proofs.SoFar.{test-locations}
 use Rattle.tso_laws.proofs.Beginnings.{run-is-execution}
 use Rattle.tso_laws.proofs.worked.worked_orders.Goals as goal

@@ -1,4 +1,4 @@
-use Rattle.scheduler.specs.Seeds.{generator, drawn_words}
+use Rattle.scheduler.proofs.Vocabulary.{generator, drawn_words}
 use Rattle.scheduler.proofs.Cores.{words-exist}
 use Rattle.scheduler.proofs.coming.Seeded.new.Goals as goal
 

@@ -1,5 +1,4 @@
-use Rattle.std.proofs.Common.{sym}
-use Rattle.scheduler.specs.Seeds.{choice_of_word}
+use Rattle.scheduler.proofs.Vocabulary.{sym, choice_of_word}
 use Rattle.scheduler.proofs.Generated.{length-words}
 use Rattle.scheduler.proofs.coming.SeededChoices.left.Goals as goal
 

@@ -1,4 +1,4 @@
-use Rattle.scheduler.specs.Seeds.{choice_of_word}
+use Rattle.scheduler.proofs.Vocabulary.{choice_of_word}
 use Rattle.scheduler.proofs.Generated.{none-drawn, one-drawn}
 use Rattle.scheduler.proofs.coming.SeededChoices.next.Goals as goal
 

@@ -1,5 +1,4 @@
-use Rattle.std.proofs.Common.{◌∙◌, ap, length}
-use Rattle.scheduler.specs.inner.Reading.{made_of}
+use Rattle.scheduler.proofs.Vocabulary.{◌∙◌, ap, length, made_of}
 use Rattle.scheduler.proofs.Found.{length_seeded}
 use Rattle.scheduler.proofs.item.ChoiceItem.choices.Goals as goal
 

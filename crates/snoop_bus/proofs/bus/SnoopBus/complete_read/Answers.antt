@@ -1,37 +1,32 @@
-use Rattle.std.proofs.Common.{Some, refl}
+use Rattle.std.proofs.Common.{Some}
 use Rattle.snoop_bus.specs.declared.holding.Stage.TheVariants.{Write}
 use Rattle.snoop_bus.proofs.Completed.{word_due, words_beside, locked, same_machine, completes}
 use Rattle.snoop_bus.proofs.bus.SnoopBus.complete_read.Goals as goal
 
-pub returns-in_err-done-clause-words : goal.returns-in_err-done-clause-words
-returns-in_err-done-clause-words g c =
-    let unchanged = c.in_err-done.ensures.refused in
-    rw (← c.self.view_is) (rw (unchanged.caches, unchanged.memory) refl)
-
 pub returns-clause-word : goal.returns-clause-word
-returns-clause-word g c = word_due (g.P.Protocol.table c.self.inside.protocol) c.self.inside.shape c.self.inside.locations c.self.inside.held c.args.self.now c.self.inside.hierarchy c.complete_read.new.self c.unwrap-held.result c.args.core c.args.loc Write c.target_of-target.result
-    (record { now_is = c.self.view_is; bus = c.self.invariant; holds = c.requires.holds; found = c.unwrap-held.ensures; target_is = c.target_of-target.ensures.value; ways = c.complete_read.ensures.ways })
-    c.in_ok-done.done.0 c.in_ok-done.ensures.word
+returns-clause-word g c = word_due (g.P.Protocol.table c.self.inside.protocol) c.self.inside.shape c.self.inside.locations c.self.inside.held c.args.self.now c.self.inside.hierarchy c.complete_read-done.new.self c.unwrap-held.result c.args.core c.args.loc Write c.target_of-target.result
+    (record { now_is = c.self.view_is; bus = c.self.invariant; holds = c.requires.holds; found = c.unwrap-held.ensures; target_is = c.target_of-target.ensures.value; ways = c.complete_read-done.ensures.ways })
+    c.complete_read-done.result.0 c.complete_read-done.ensures.word
 
 pub returns-clause-words : goal.returns-clause-words
-returns-clause-words g c = words_beside (g.P.Protocol.table c.self.inside.protocol) c.self.inside.shape c.self.inside.locations c.self.inside.held c.args.self.now c.self.inside.hierarchy c.complete_read.new.self c.unwrap-held.result c.args.core c.args.loc Write c.target_of-target.result
-    (record { now_is = c.self.view_is; bus = c.self.invariant; holds = c.requires.holds; found = c.unwrap-held.ensures; target_is = c.target_of-target.ensures.value; ways = c.complete_read.ensures.ways })
-    c.in_ok-done.ensures.words c.held_at.result c.held_at.ensures
+returns-clause-words g c = words_beside (g.P.Protocol.table c.self.inside.protocol) c.self.inside.shape c.self.inside.locations c.self.inside.held c.args.self.now c.self.inside.hierarchy c.complete_read-done.new.self c.unwrap-held.result c.args.core c.args.loc Write c.target_of-target.result
+    (record { now_is = c.self.view_is; bus = c.self.invariant; holds = c.requires.holds; found = c.unwrap-held.ensures; target_is = c.target_of-target.ensures.value; ways = c.complete_read-done.ensures.ways })
+    c.complete_read-done.ensures.words c.held_at.result c.held_at.ensures
 
-pub invariant_of-self-2 : goal.invariant_of-self-2
-invariant_of-self-2 g c = locked (g.P.Protocol.table c.self.inside.protocol) c.self.inside.shape c.self.inside.locations c.self.inside.held c.args.self.now c.self.inside.hierarchy c.complete_read.new.self c.unwrap-held.result c.args.core c.args.loc Write c.target_of-target.result
-    (record { now_is = c.self.view_is; bus = c.self.invariant; holds = c.requires.holds; found = c.unwrap-held.ensures; target_is = c.target_of-target.ensures.value; ways = c.complete_read.ensures.ways })
-    c.in_ok-done.ensures.words c.in_ok-done.done.1 c.held_at.result c.held_at.ensures c.in_ok-done.ensures.own c.in_ok-done.ensures.ok
+pub invariant_of-self : goal.invariant_of-self
+invariant_of-self g c = locked (g.P.Protocol.table c.self.inside.protocol) c.self.inside.shape c.self.inside.locations c.self.inside.held c.args.self.now c.self.inside.hierarchy c.complete_read-done.new.self c.unwrap-held.result c.args.core c.args.loc Write c.target_of-target.result
+    (record { now_is = c.self.view_is; bus = c.self.invariant; holds = c.requires.holds; found = c.unwrap-held.ensures; target_is = c.target_of-target.ensures.value; ways = c.complete_read-done.ensures.ways })
+    c.complete_read-done.ensures.words c.complete_read-done.result.1 c.held_at.result c.held_at.ensures c.complete_read-done.ensures.own c.complete_read-done.ensures.ok
 
 pub returns-clause-coherent : goal.returns-clause-coherent
-returns-clause-coherent g c = (invariant_of-self-2 g c).coherent
+returns-clause-coherent g c = (invariant_of-self g c).coherent
 
 pub returns-clause-machine : goal.returns-clause-machine
-returns-clause-machine g c = same_machine (g.P.Protocol.table c.self.inside.protocol) c.self.inside.shape c.self.inside.locations c.self.inside.held c.args.self.now c.self.inside.hierarchy c.complete_read.new.self c.unwrap-held.result c.args.core c.args.loc Write c.target_of-target.result
-    (record { now_is = c.self.view_is; bus = c.self.invariant; holds = c.requires.holds; found = c.unwrap-held.ensures; target_is = c.target_of-target.ensures.value; ways = c.complete_read.ensures.ways })
+returns-clause-machine g c = same_machine (g.P.Protocol.table c.self.inside.protocol) c.self.inside.shape c.self.inside.locations c.self.inside.held c.args.self.now c.self.inside.hierarchy c.complete_read-done.new.self c.unwrap-held.result c.args.core c.args.loc Write c.target_of-target.result
+    (record { now_is = c.self.view_is; bus = c.self.invariant; holds = c.requires.holds; found = c.unwrap-held.ensures; target_is = c.target_of-target.ensures.value; ways = c.complete_read-done.ensures.ways })
     (Some c.held_at.result)
 
 pub returns-clause-done : goal.returns-clause-done
-returns-clause-done g c = completes (g.P.Protocol.table c.self.inside.protocol) c.self.inside.shape c.self.inside.locations c.self.inside.held c.args.self.now c.self.inside.hierarchy c.complete_read.new.self c.unwrap-held.result c.args.core c.args.loc Write c.target_of-target.result
-    (record { now_is = c.self.view_is; bus = c.self.invariant; holds = c.requires.holds; found = c.unwrap-held.ensures; target_is = c.target_of-target.ensures.value; ways = c.complete_read.ensures.ways })
-    c.in_ok-done.done.1 (Some c.held_at.result) c.in_ok-done.ensures.ok
+returns-clause-done g c = completes (g.P.Protocol.table c.self.inside.protocol) c.self.inside.shape c.self.inside.locations c.self.inside.held c.args.self.now c.self.inside.hierarchy c.complete_read-done.new.self c.unwrap-held.result c.args.core c.args.loc Write c.target_of-target.result
+    (record { now_is = c.self.view_is; bus = c.self.invariant; holds = c.requires.holds; found = c.unwrap-held.ensures; target_is = c.target_of-target.ensures.value; ways = c.complete_read-done.ensures.ways })
+    c.complete_read-done.result.1 (Some c.held_at.result) c.complete_read-done.ensures.ok

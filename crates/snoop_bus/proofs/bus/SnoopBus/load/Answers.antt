@@ -1,6 +1,6 @@
 use Rattle.std.proofs.Common.{rules, refl, false, ◌<◌, ◌/◌}
 use Rattle.snoop_bus.specs.Held.{counted}
-use Rattle.snoop_bus.proofs.CallLemmas.{bus_ready, free_or_hit, loc_in, load_done, load_refused}
+use Rattle.snoop_bus.proofs.CallLemmas.{bus_ready, free_or_hit, loc_in, load_done}
 use Rattle.snoop_bus.proofs.UpgradeAsk.{free_load}
 use Rattle.snoop_bus.proofs.NewLemmas.{bus-kept, same_cores}
 use Rattle.snoop_bus.proofs.bus.SnoopBus.load.Goals as goal
@@ -15,16 +15,9 @@ pub returns-clause-done : goal.returns-clause-done
 returns-clause-done g c =
     let within : c.args.loc.0 < c.self.inside.locations = loc_in c.self.inside.shape.words c.self.inside.locations (counted c.self.inside.held c.self.inside.hierarchy.caches.items) c.self.inside.hierarchy.memory.items c.args.loc.0 (rw (← c.self.view_is) at c.requires.loc) in
     rw (← c.self.view_is)
-    (load_done (g.P.Protocol.table c.self.inside.protocol) c.self.inside.shape c.self.inside.locations c.self.inside.hierarchy c.load.new.self c.self.inside.held c.args.core.0 c.args.loc.0 c.load.result c.self.invariant.some_word c.self.invariant.enough_lines within
+    (load_done (g.P.Protocol.table c.self.inside.protocol) c.self.inside.shape c.self.inside.locations c.self.inside.hierarchy c.load.new.self c.self.inside.held c.args.core.0 c.args.loc.0 c.load.result.0 c.load.result.1 c.self.invariant.some_word c.self.invariant.enough_lines within
     (rw (c.target_of-target.ensures.value) at c.load.ensures.ok)
     c.load.ensures.words)
-
-pub returns-clause-refused : goal.returns-clause-refused
-returns-clause-refused g c =
-    rw (← c.self.view_is)
-    (load_refused (g.P.Protocol.table c.self.inside.protocol) c.self.inside.shape c.self.inside.locations c.self.inside.hierarchy c.load.new.self c.self.inside.held c.args.core.0 c.args.loc.0 c.load.result
-    (rw (c.target_of-target.ensures.value) at c.load.ensures.succeeds)
-    c.load.ensures.refused)
 
 pub invariant_of-self : goal.invariant_of-self
 invariant_of-self g c =

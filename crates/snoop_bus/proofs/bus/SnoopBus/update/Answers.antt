@@ -1,6 +1,6 @@
 use Rattle.std.proofs.Common.{rules, refl, true, ◌<◌}
 use Rattle.snoop_bus.specs.Held.{counted}
-use Rattle.snoop_bus.proofs.CallLemmas.{bus_ready, free_or_hit, loc_in, write_word, write_done, write_refused}
+use Rattle.snoop_bus.proofs.CallLemmas.{bus_ready, free_or_hit, loc_in, write_word, write_done}
 use Rattle.snoop_bus.proofs.NewLemmas.{bus-written, same_cores}
 use Rattle.snoop_bus.proofs.bus.SnoopBus.update.Goals as goal
 
@@ -22,22 +22,14 @@ returns-clause-done g c =
     let within : c.args.loc.0 < c.self.inside.locations = loc_in c.self.inside.shape.words c.self.inside.locations (counted c.self.inside.held c.self.inside.hierarchy.caches.items) c.self.inside.hierarchy.memory.items c.args.loc.0 (rw (← c.self.view_is) at c.requires.loc) in
     rw (← c.self.view_is)
     (write_done (g.P.Protocol.table c.self.inside.protocol) c.self.inside.shape c.self.inside.locations c.self.inside.hierarchy c.update.new.self c.self.inside.held c.args.core.0 c.args.loc.0
-    c.update.result c.self.invariant.some_word c.self.invariant.enough_lines within (rw (c.target_of-target.ensures.value) at c.update.ensures.ok))
-
-pub returns-clause-refused : goal.returns-clause-refused
-returns-clause-refused g c =
-    rw (← c.self.view_is)
-    (write_refused (g.P.Protocol.table c.self.inside.protocol) c.self.inside.shape c.self.inside.locations c.self.inside.hierarchy c.update.new.self c.self.inside.held c.args.core.0 c.args.loc.0 c.update.result
-    (rw (c.target_of-target.ensures.value) at c.update.ensures.succeeds)
-    c.update.ensures.refused)
+    c.update.result within (rw (c.target_of-target.ensures.value) at c.update.ensures.ok) c.self.invariant.some_word c.self.invariant.enough_lines)
 
 pub invariant_of-self : goal.invariant_of-self
 invariant_of-self g c =
     let within : c.args.loc.0 < c.self.inside.locations = loc_in c.self.inside.shape.words c.self.inside.locations (counted c.self.inside.held c.self.inside.hierarchy.caches.items) c.self.inside.hierarchy.memory.items c.args.loc.0 (rw (← c.self.view_is) at c.requires.loc) in
     (bus-written (g.P.Protocol.table c.self.inside.protocol) c.self.inside.held c.update.result c.self.inside.shape c.self.inside.locations c.self.inside.hierarchy c.update.new.self c.args.core.0 c.args.loc.0 c.self.invariant (search rules) within
     c.update.ensures.coherent c.update.ensures.awaited c.update.ensures.ways
-    (rw (c.target_of-target.ensures.value) at c.update.ensures.ok)
-    c.update.ensures.refused)
+    (rw (c.target_of-target.ensures.value) at c.update.ensures.ok))
 
 pub update-requires-clause-free : goal.update-requires-clause-free
 update-requires-clause-free g c =

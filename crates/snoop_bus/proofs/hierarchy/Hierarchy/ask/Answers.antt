@@ -5,7 +5,7 @@ use Rattle.snoop_bus.specs.Bus.{current_words}
 use Rattle.snoop_bus.specs.declared.holding.Stage.TheVariants.{Load, Write}
 use Rattle.std.proofs.Common.{Some}
 use Rattle.protocol_tables.specs.declared.requests.Request.TheVariants.{GetS}
-use Rattle.snoop_bus.proofs.MissLemmas.{length-asked}
+use Rattle.snoop_bus.proofs.MemoryLemmas.{length-asked}
 use Rattle.snoop_bus.proofs.UpgradeAsk.{load_ask-exact, load_ask-tags, load_ask-awaits, now_held}
 use Rattle.snoop_bus.proofs.hierarchy.Hierarchy.ask.Goals as goal
 

@@ -9,7 +9,7 @@ returns-clause-transaction g c =
     let t = g.P.Protocol.table c.args.protocol.now in
     let p = c.args.protocol.now in
     let line = (rw c.from.ensures at c.index.ensures) ∙ get_or_default c.args.self.now.memory.items c.args.line c.index.result.now [] c.requires.ready.line_in in
-    load_ask-transaction t (g.met.P.Protocol.fills_exclusive_only_alone p) (g.met.P.Protocol.shares p) (g.met.P.Protocol.cleans_by_memory p) (g.met.P.Protocol.supplies_to_readers p) (g.met.P.Protocol.writes_back_dirty p)
+    load_ask-transaction t (g.met.P.Protocol.fills_exclusive_only_alone p) (g.met.P.Protocol.shares p) (g.met.P.Protocol.cleans_by_memory p) (g.met.P.Protocol.supplies_to_readers p)
     c.args.self.now.caches.items c.snoop_others.new.self.caches.items c.args.self.now.memory.items c.flush.new.self.memory.items c.args.core c.args.line c.unwrap_or-words.result c.filled-state.result c.find-found.result.flushed
     (record {
       coherent = c.requires.ready.coherent;
@@ -30,7 +30,7 @@ returns-clause-memory g c =
     let t = g.P.Protocol.table c.args.protocol.now in
     let p = c.args.protocol.now in
     let line = (rw c.from.ensures at c.index.ensures) ∙ get_or_default c.args.self.now.memory.items c.args.line c.index.result.now [] c.requires.ready.line_in in
-    load_ask-memory t (g.met.P.Protocol.fills_exclusive_only_alone p) (g.met.P.Protocol.shares p) (g.met.P.Protocol.cleans_by_memory p) (g.met.P.Protocol.supplies_to_readers p) (g.met.P.Protocol.writes_back_dirty p)
+    load_ask-memory t (g.met.P.Protocol.fills_exclusive_only_alone p) (g.met.P.Protocol.shares p) (g.met.P.Protocol.cleans_by_memory p) (g.met.P.Protocol.supplies_to_readers p)
     c.args.self.now.caches.items c.snoop_others.new.self.caches.items c.args.self.now.memory.items c.flush.new.self.memory.items c.args.core c.args.line c.unwrap_or-words.result c.filled-state.result c.find-found.result.flushed
     (record {
       coherent = c.requires.ready.coherent;
@@ -52,7 +52,7 @@ returns-clause-words g c =
     let p = c.args.protocol.now in
     let line = (rw c.from.ensures at c.index.ensures) ∙ get_or_default c.args.self.now.memory.items c.args.line c.index.result.now [] c.requires.ready.line_in in
     rw c.flush.ensures.caches
-    (load_ask-words t (g.met.P.Protocol.fills_exclusive_only_alone p) (g.met.P.Protocol.shares p) (g.met.P.Protocol.cleans_by_memory p) (g.met.P.Protocol.supplies_to_readers p) (g.met.P.Protocol.writes_back_dirty p)
+    (load_ask-words t (g.met.P.Protocol.fills_exclusive_only_alone p) (g.met.P.Protocol.shares p) (g.met.P.Protocol.cleans_by_memory p) (g.met.P.Protocol.supplies_to_readers p)
     c.args.self.now.caches.items c.snoop_others.new.self.caches.items c.args.self.now.memory.items c.flush.new.self.memory.items c.args.core c.args.line c.unwrap_or-words.result c.filled-state.result c.find-found.result.flushed
     (record {
       coherent = c.requires.ready.coherent;

@@ -10,4 +10,4 @@ returns-clause-words g c =
     let d0 = counted_in c.args.target.core c.args.target.line c.args.transaction c.args.self.now.caches.items in
     rw c.write.ensures.memory
     (completed_written d0 c.acquire_asked.new.self.caches.items c.write.new.self.caches.items c.args.self.now.memory.items c.acquire_asked.new.self.memory.items c.args.target.core c.args.target.line c.args.target.offset c.args.value (current_words d0 c.args.self.now.memory.items c.args.target.line)
-    c.requires.awaited.line_in (search rules) (ap length c.in_ok-access.ensures.ok.memory ∙ length-completed (g.P.Protocol.table c.args.protocol.now) c.args.target.core c.args.target.line c.args.transaction c.args.self.now.caches.items c.args.self.now.memory.items) c.in_ok-access.ensures.own refl c.in_ok-access.ensures.words c.write.ensures.copies)
+    c.requires.awaited.line_in (search rules) (ap length c.acquire_asked.ensures.ok.memory ∙ length-completed (g.P.Protocol.table c.args.protocol.now) c.args.target.core c.args.target.line c.args.transaction c.args.self.now.caches.items c.args.self.now.memory.items) c.acquire_asked.ensures.own refl c.acquire_asked.ensures.words c.write.ensures.copies)

@@ -2,9 +2,9 @@
 
 ghost use Rattle.std.specs.Prelude.{◌≡◌, ◌+◌, ◌↔◌, IsSome, IfSome};
 ghost use Rattle.scheduler.specs.Limits.{most_choices};
-ghost use Rattle.command_line.specs.Plan.{most_seeds, IsPlanWithinLimits};
+ghost use Rattle.scheduler.specs.Plan.{most_seeds, IsPlanWithinLimits};
 
-use scheduler::MAX_CHOICES;
+use crate::choices::MAX_CHOICES;
 use std::marker::Model;
 
 /// Maximum number of seeds of a sweep.
@@ -28,7 +28,7 @@ pub struct SweepPlan {
 }
 
 impl Model for SweepPlan {
-    ghost use Rattle.command_line.specs.Plan.{Plan, IsPlanWithinLimits};
+    ghost use Rattle.scheduler.specs.Plan.{Plan, IsPlanWithinLimits};
 
     ghost Value = { Plan };
 

@@ -1,0 +1,47 @@
+-- The names that the proofs of this crate bring in from definitions and from crates below; each file takes its own from here.
+pub use Rattle.std.proofs.Common.{◌≡◌, ◌≢◌, ℕ, ◌^◌, ◌<◌, List, length, Some, None, Result, Ok, Err, All, ◌⊎◌, inl, inr, refl, subst, suc, ◌+◌, false, eqb, [], ◌∷◌, ◌++◌, map, ap, ◌∙◌, arith, zero, Bool, true, not, ◌||◌, get_or, sym, ◌≤◌, leb, rules, Option, ◌-◌, ◌/◌, ◌%◌, ltb, take, cond, drop, ◌==◌, ◌&&◌, if◌then◌else◌, drop-cons, add-one, slice_index_or, slice_get, string_bytes}
+pub use Rattle.std.specs.Prelude.{IfOk, IfErr, codes}
+pub use Rattle.tso_model.specs.Litmus.{Litmus, IsTest, are_distinct}
+pub use Rattle.tso_model.specs.declared.execution.Entry.{Entry}
+pub use Rattle.tso_model.specs.declared.execution.Execution.{Execution}
+pub use Rattle.order_builder.specs.Spelling.{HasAccess, IsEntryFor, IsOrderFor, SpellsOrder, HasFault, BeginsOrder, IsNoEntry, IsNoEnd, HasNoCount, IsOther, IsBefore}
+pub use Rattle.order_builder.specs.PrintedOrder.{IsLocationFor, HasLocation, printed_entry, printed_end, order_lines, letters_of, printed_access, printed_lines, printed_order, HasWord}
+pub use Rattle.std.proofs.lemmas.List.Elements.{All-weaker, All-cons, All-nil, All-head, All-tail, All-get_or, All-append, All-from_get_or}
+pub use Rattle.tso_model.specs.declared.execution.Kind.{Kind}
+pub use Rattle.tso_model.specs.declared.execution.Kind.TheVariants.{R, W, F, LR, LW}
+pub use Rattle.order_builder.specs.Reading.{entries_of, Gives}
+pub use Rattle.order_builder.specs.inner.Reading.{onto, ◌>>=◌, entry_at, numeral, halves_at}
+unfoldable pub use Rattle.order_builder.specs.inner.Reading.{order_of, order_start, entries_in, entry_in, end_in, location_named, split_once, without_prefix, kind_of, place_in, access_in, action_in}
+pub use Rattle.order_builder.specs.Lines.{lines_in, is_line_feed}
+unfoldable pub use Rattle.order_builder.specs.Lines.{lines_of}
+pub use Rattle.order_builder.specs.declared.fault.OrderFault.{OrderFault}
+pub use Rattle.order_builder.specs.declared.fault.OrderFault.TheVariants.{NoOrder, BadLine, BadCount, NoMemory}
+pub use Rattle.std.proofs.lemmas.Bool.{eqb-false, and_parts, and_from, eqb-true, le-leb, leb-true, lt-ltb, le-ltb, ltb-false}
+pub use Rattle.std.proofs.lemmas.Bool.Decides.{nat_tests}
+pub use Rattle.decimals.specs.Decimals.{decimal_value}
+unfoldable pub use Rattle.decimals.specs.Decimals.{decimal_from}
+pub use Rattle.std.specs.Char.{is_ascii_digit}
+pub use Rattle.std.specs.Fmt.{decimal, digits_onto, digit_glyph}
+unfoldable pub use Rattle.std.specs.Fmt.{digits}
+pub use Rattle.std.specs.List.{list_all, list_any, position, position_or_len, slice_split}
+pub use Rattle.std.specs.Str.{bytes_eq}
+pub use Rattle.std.proofs.lemmas.List.Quantifiers.{position-Some}
+pub use Rattle.tso_model.specs.Names.{is_name, is_location_name, begins_name, continues_name, is_among}
+pub use Rattle.std.proofs.lemmas.Fmt.{digits_decimal, digits_value-decimal, decimal_nonempty, first_decimal, decimal_digit, decimal-digits_value}
+pub use Rattle.std.proofs.lemmas.Str.Parse.{IsNumeralModel, numerals_by_fold}
+unfoldable pub use Rattle.decimals.specs.inner.Decimals.{number_up_to}
+pub use Rattle.order_builder.specs.Numbers.{is_number}
+unfoldable pub use Rattle.order_builder.specs.inner.Numbers.{number_in}
+pub use Rattle.std.proofs.lemmas.List.{append_assoc, append-nil, length-append, length-map, take_all, take_more, take-append-drop, take_at, drop_at, length-take, get_or-take, get_or_at, get_or_append_left, length_push, drop_more, nil_from_length}
+pub use Rattle.std.specs.Str.Lines.{strip_carriage_return}
+pub use Rattle.std.proofs.lemmas.List.Folds.{list_all-append}
+pub use Rattle.tso_model.specs.ProgramOrder.{same_kind, IsStorePart}
+pub use Rattle.tso_model.specs.ProgramEntries.{is_at}
+pub use Rattle.tso_model.specs.Together.{put_before, put_together}
+pub use Rattle.order_builder.specs.Pairs.{is_answered, are_answered, IsPaired}
+pub use Rattle.order_builder.specs.inner.Waiting.{all_put, first_of, others_of, IsNoneOf, AreWaiting, IsBuiltSoFar}
+pub use Rattle.std.specs.Option.{option_map}
+pub use Rattle.std.proofs.lemmas.List.Sums.{position_or_len_is, fails_before_first, count_by-le-length}
+pub use Rattle.std.proofs.lemmas.List.Splits.{slice_split_none, slice_split_at, length-slice_split}
+pub use Rattle.std.proofs.lemmas.Slice.Eq.{bytes_eq-Decides}
+pub use Rattle.tso_model.specs.Axioms.{IsAdjacent}

@@ -1,0 +1,29 @@
+-- Lists that a loop makes of another one, item by item.
+use Rattle.std.proofs.Common.{ℕ, ◌+◌, ◌≡◌, ◌<◌, List, [], ◌∷◌, ◌++◌, length, drop, get_or, map, sym, ap, ◌∙◌, append_assoc}
+use Rattle.std.proofs.lemmas.List.{drop_more}
+use Rattle.reason_report.proofs.Grouping.{map-push, map-twice}
+
+-- what is made of the next item stands behind what is made
+pub one-more : {X Y : Type 0} (f : X → Y) (xs : List X) (i : ℕ) (d : X) (made new : List Y) (y : Y) (whole : List Y)
+    → i < length xs → y ≡ f (get_or xs i d) → new ≡ made ++ (y ∷ []) → made ++ map f (drop i xs) ≡ whole
+    → new ++ map f (drop (i + 1) xs) ≡ whole
+one-more f xs i d made new y whole w e n h =
+    let rest = map f (drop (i + 1) xs) in
+    ap (λ zs. zs ++ rest) n
+    ∙ (append_assoc made (y ∷ []) rest
+    ∙ (ap (λ z. made ++ (z ∷ rest)) e ∙ (sym (ap (λ zs. made ++ map f zs) (drop_more xs i d w)) ∙ h)))
+
+-- the same where the made list is seen by a view
+pub one-more-seen : {X Y V : Type 0} (f : X → Y) (view : V → Y) (xs : List X) (i : ℕ) (d : X) (made new : List V) (v : V) (whole : List Y)
+    → i < length xs → view v ≡ f (get_or xs i d) → new ≡ made ++ (v ∷ []) → map view made ++ map f (drop i xs) ≡ whole
+    → map view new ++ map f (drop (i + 1) xs) ≡ whole
+one-more-seen f view xs i d made new v whole w e n h =
+    one-more f xs i d (map view made) (map view new) (view v) whole w e (ap (map view) n ∙ map-push view made v) h
+
+-- the same where the items are seen by a view too
+pub one-more-of-seen : {X Z Y V : Type 0} (f : Z → Y) (item : X → Z) (view : V → Y) (xs : List X) (i : ℕ) (d : X) (made new : List V) (v : V)
+    (whole : List Y) → i < length xs → view v ≡ f (item (get_or xs i d)) → new ≡ made ++ (v ∷ [])
+    → map view made ++ map f (map item (drop i xs)) ≡ whole → map view new ++ map f (map item (drop (i + 1) xs)) ≡ whole
+one-more-of-seen f item view xs i d made new v whole w e n h =
+    ap (λ ys. map view new ++ ys) (map-twice item f (drop (i + 1) xs))
+    ∙ one-more-seen (λ z. f (item z)) view xs i d made new v whole w e n (ap (λ ys. map view made ++ ys) (sym (map-twice item f (drop i xs))) ∙ h)

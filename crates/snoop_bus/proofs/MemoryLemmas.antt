@@ -1,0 +1,53 @@
+-- What is written to memory, line by line, and that its size stays.
+use Rattle.std.proofs.lemmas.List.{get_or-set_same, get_or-set_other, length-set}
+use Rattle.std.proofs.Common.{◌≡◌, ◌≢◌, ◌⊎◌, inl, inr, ℕ, ◌<◌, cond, Bool, true, false, nat_eq, Option, Some, None, List, [], length, refl, sym, ◌∙◌, slice_set}
+use Rattle.protocol_tables.specs.Laws.{is_dirty}
+use Rattle.protocol_tables.specs.inner.Laws.{WritesBackDirty}
+use Rattle.protocol_tables.specs.Tables.{Table}
+use Rattle.cache_set.specs.declared.Line.{Line}
+use Rattle.cache_set.specs.declared.Victim.{Victim}
+use Rattle.snoop_bus.specs.Lines.{Words, line_in}
+use Rattle.snoop_bus.specs.Copies.{Sets, copy_at}
+use Rattle.protocol_tables.specs.declared.requests.Request.{Request}
+use Rattle.protocol_tables.specs.declared.requests.Request.TheVariants.{GetS, GetM}
+use Rattle.snoop_bus.specs.Asks.{asked_memory}
+use Rattle.snoop_bus.specs.MemoryAfter.{written_back, victim_at, flushed, sent_words, written_memory, written_memory_in}
+
+pub length-written_back : (t : Table) (v : Option Victim) (m : List Words) → length (written_back t v m) ≡ length m
+length-written_back t None m = refl
+length-written_back t (Some y) m =
+    elim (t.evicts_dirty y.content.state) as (λ b. length (cond b (slice_set m y.line y.content.words) m) ≡ length m) [ true ↦ length-set m y.line y.content.words | false ↦ refl ]
+
+-- as many lines of memory after a write access, and after an ask
+pub length-written : (t : Table) (core line : ℕ) (caches : List Sets) (m : List Words) → length (written_memory t core line caches m) ≡ length m
+length-written t core line caches m = by_copy (copy_at caches core line)
+  where
+    by_copy : (o : Option Line) → length (written_memory_in t core line caches o m) ≡ length m
+    by_copy None = length-written_back t (victim_at caches core line) m
+    by_copy (Some copy) = refl
+
+pub length-flushed : (line : ℕ) (sent : Option Words) (m : List Words) → length (flushed line sent m) ≡ length m
+length-flushed line None m = refl
+length-flushed line (Some words) m = length-set m line words
+
+pub length-asked : (t : Table) (request : Request) (line : ℕ) (caches : List Sets) (m : List Words) → length (asked_memory t request line caches m) ≡ length m
+length-asked t GetS line caches m = length-flushed line (sent_words t.on_get_s line caches) m
+length-asked t GetM line caches m = refl
+
+pub written_back-other : (t : Table) (y : Victim) (m : List Words) (k : ℕ) → k ≢ y.line → line_in (written_back t (Some y) m) k ≡ line_in m k
+written_back-other t y m k d =
+    elim (t.evicts_dirty y.content.state) as (λ b. line_in (cond b (slice_set m y.line y.content.words) m) k ≡ line_in m k) [ true ↦ get_or-set_other m y.line k y.content.words [] d | false ↦ refl ]
+
+pub written_back-here : (t : Table) → WritesBackDirty t.evicts_dirty → (y : Victim) (m : List Words) → y.line < length m →
+    (line_in (written_back t (Some y) m) y.line ≡ y.content.words) ⊎ ((line_in (written_back t (Some y) m) y.line ≡ line_in m y.line) × (is_dirty y.content.state ≡ false))
+written_back-here t law y m l = by_flag (t.evicts_dirty y.content.state) refl
+  where
+    by_flag : (b : Bool) → t.evicts_dirty y.content.state ≡ b →
+        (line_in (written_back t (Some y) m) y.line ≡ y.content.words) ⊎ ((line_in (written_back t (Some y) m) y.line ≡ line_in m y.line) × (is_dirty y.content.state ≡ false))
+    by_flag true e = inl (rw e (get_or-set_same m y.line y.content.words [] l))
+    by_flag false e = inr (rw e refl, sym (law y.content.state) ∙ e)
+
+-- what a victim leaves of a copy
+abbrev pub left_after : Option Victim → ℕ → Option Line → Option Line
+left_after None k o = o
+left_after (Some y) k o = cond (nat_eq k y.line) None o

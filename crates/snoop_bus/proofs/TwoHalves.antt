@@ -1,0 +1,69 @@
+-- A whole access, from what its ask and its completion leave, one after the other.
+use Rattle.std.proofs.Common.{◌≡◌, ◌≢◌, ℕ, ◌<◌, false, length, slice_index, Option, Some, None, sym, ap, refl, ◌∙◌}
+use Rattle.protocol_tables.specs.Laws.{WritesInPlace}
+use Rattle.protocol_tables.specs.Tables.{Table}
+use Rattle.protocol_tables.specs.declared.state.State.TheVariants.{I, M}
+use Rattle.protocol_tables.specs.declared.requests.Request.{Request}
+use Rattle.protocol_tables.specs.declared.requests.Request.TheVariants.{GetS, GetM}
+use Rattle.cache_set.specs.inner.Copy.{copy_with}
+use Rattle.snoop_bus.specs.declared.access.Access.{Access}
+use Rattle.snoop_bus.specs.declared.hierarchy.Hierarchy.{Hierarchy}
+use Rattle.snoop_bus.specs.declared.holding.Transaction.{Transaction}
+use Rattle.snoop_bus.specs.Lines.{Words}
+use Rattle.snoop_bus.specs.CacheContents.{Accessed}
+use Rattle.snoop_bus.specs.Copies.{cache_of, copy_at, tags_of}
+use Rattle.snoop_bus.specs.Bus.{current_words}
+use Rattle.snoop_bus.specs.Held.{counted_in}
+use Rattle.snoop_bus.specs.Asks.{tag_at, asking, asked_caches, asked_memory, awaited_in, completed_memory, in_halves}
+use Rattle.snoop_bus.specs.inner.Asks.{transaction_at}
+use Rattle.snoop_bus.specs.inner.Accessing.{KeepsWords, Loads, Acquires}
+use Rattle.snoop_bus.specs.inner.Completing.{Completes, words_due, completion_at}
+use Rattle.snoop_bus.proofs.AskCalls.{awaited-for}
+use Rattle.snoop_bus.proofs.BothWays.{load-memory, write-memory}
+use Rattle.snoop_bus.proofs.UpgradeAsk.{hits-absent}
+use Rattle.snoop_bus.proofs.WholeAccess.{load_halves, write_halves}
+
+module _ (t : Table) (request : Request) (core line : ℕ) (x : Option Transaction) (old mid new : Hierarchy) (access : Access) where
+  -- a core asked for a line, and completed its access at once
+  pub record Halves : Type 0 where
+    pub asks : x ≡ transaction_at t request core line old.caches.items old.memory.items
+    pub tags : tags_of mid.caches.items ≡ asked_caches t request core line (tags_of old.caches.items)
+    pub memory : mid.memory.items ≡ asked_memory t request line old.caches.items old.memory.items
+    pub own : cache_of mid.caches.items core ≡ cache_of old.caches.items core
+    pub asked : KeepsWords old.caches.items (counted_in core line x mid.caches.items) old.memory.items mid.memory.items
+    pub completed : KeepsWords (counted_in core line x mid.caches.items) new.caches.items mid.memory.items new.memory.items
+    pub completes : Completes t x core line mid new access
+
+  module _ (h : Halves) where
+    awaited_is : awaited_in x ≡ (asking t request core line (tags_of old.caches.items)).awaited
+    awaited_is = ap awaited_in h.asks ∙ awaited-for t request core line (current_words old.caches.items old.memory.items line) (tags_of old.caches.items)
+
+    pub completion_is : completion_at t x core line mid.caches.items ≡ in_halves t request core line (tags_of old.caches.items)
+    completion_is = rw (awaited_is, h.tags) refl
+
+    pub memory_is : new.memory.items ≡ completed_memory t core line (asking t request core line (tags_of old.caches.items)).awaited mid.caches.items (asked_memory t request line old.caches.items old.memory.items)
+    memory_is = h.completes.memory ∙ rw (awaited_is, h.memory) refl
+
+module _ (t : Table) (core line : ℕ) (x : Option Transaction) (old mid new : Hierarchy) (access : Access) (within : line < length old.memory.items) where
+  pub load-in_halves : (offset word : ℕ) → Halves t GetS core line x old mid new access → copy_at old.caches.items core line ≡ None → word ≡ slice_index (words_due x core line mid) offset
+      → Loads t None core line offset old.caches.items new.caches.items old.memory.items new.memory.items word access
+  load-in_halves offset word h absent is =
+      let halves = load_halves t core line (tags_of old.caches.items) (sym (hits-absent t old.caches.items core line false absent)) in
+      record {
+        word_is = is ∙ ap (λ (w : Words). slice_index w offset) (h.asked.words line within);
+        access_is = h.completes.access_is ∙ ap (λ (a : Accessed). a.access) (completion_is t GetS core line x old mid new access h) ∙ sym (ap (λ (a : Accessed). a.access) halves);
+        tags = h.completes.tags ∙ ap (λ (a : Accessed). a.caches) (completion_is t GetS core line x old mid new access h) ∙ sym (ap (λ (a : Accessed). a.caches) halves);
+        memory = memory_is t GetS core line x old mid new access h ∙ sym (load-memory t core line old.caches.items mid.caches.items old.memory.items absent h.own);
+      }
+
+  pub write-in_halves : WritesInPlace t.written → (words : Words) → Halves t GetM core line x old mid new access → tag_at core line (tags_of old.caches.items) ≢ Some I → words ≡ words_due x core line mid
+      → copy_at new.caches.items core line ≡ Some (copy_with M (words_due x core line mid)) → Acquires t None core line old.caches.items new.caches.items old.memory.items new.memory.items words access
+  write-in_halves law words h valid is own =
+      let halves = write_halves t law core line (tags_of old.caches.items) valid in
+      record {
+        words_are = is ∙ h.asked.words line within;
+        own = own ∙ ap (λ (w : Words). Some (copy_with M w)) (sym is);
+        access_is = h.completes.access_is ∙ ap (λ (a : Accessed). a.access) (completion_is t GetM core line x old mid new access h) ∙ sym (ap (λ (a : Accessed). a.access) halves);
+        tags = h.completes.tags ∙ ap (λ (a : Accessed). a.caches) (completion_is t GetM core line x old mid new access h) ∙ sym (ap (λ (a : Accessed). a.caches) halves);
+        memory = memory_is t GetM core line x old mid new access h ∙ sym (write-memory t core line old.caches.items mid.caches.items old.memory.items valid h.own);
+      }

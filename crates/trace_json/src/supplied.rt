@@ -1,0 +1,160 @@
+//! Where the word that a choice reads is found. It is looked for on the machine before the choice: afterwards the copies have
+//! changed, and no longer tell which of them supplied the line. (Primer, chapters 6 and 7.)
+
+ghost use Rattle.std.specs.Prelude.{◌≡◌, ◌<◌, IfOk, length, option_map, string_bytes};
+ghost use Rattle.serde_json.specs.View.{view};
+ghost use Rattle.machine_core.specs.inner.Keeping.{access_in};
+ghost use Rattle.tso_model.specs.FlatMachine.{chosen};
+ghost use Rattle.trace_report.specs.Shown.{shown};
+ghost use Rattle.trace_report.specs.inner.Told.{IsLookedAt};
+ghost use Rattle.trace_json.specs.Supplied.{found_at, found_by, is_asked, line_read, source_text, supplied_to, supplier_from};
+ghost use Rattle.trace_json.specs.Supplied.{supplier_or_memory, supplies};
+ghost use Rattle.trace_json.specs.Values.{text_or_null};
+
+use machine_core::{Machine, MemoryAccess};
+use protocol_tables::{Protocol, State};
+use serde_json::Value;
+use std::alloc::Global;
+use trace_report::Step;
+use trace_report::step::core_of;
+use tso_model::{Choice, Core, NoMemory, Outcome, Test};
+
+/// Where a core finds a word that it reads.
+#[derive(Clone, Copy)]
+pub enum Source {
+    /// The newest of its own pending stores to the location.
+    Buffer,
+    /// Its own cache.
+    Cache,
+    /// Another core's cache, whose copy supplies the line.
+    Other(Core),
+    /// The bus, which keeps the words of the line that the core has asked for.
+    Bus,
+    Memory,
+}
+
+/// Where the line is found that a choice would read on this machine. `None` where it reads none, or its core's own pending
+/// stores answer it.
+pub fn found_by<P: Protocol>(
+    machine: &Machine<P>,
+    test: &Test,
+    words: u8,
+    choice: Choice,
+) -> Option<Source>
+    requires looked { IsLookedAt test.now words machine.now }
+    requires core { chosen choice < length test.now.programs }
+    ensures { result ≡ found_by machine.now choice }
+{
+    let line = line_read(machine.access(choice), words)?;
+    Some(found_at(machine, test, core_of(choice), line))
+}
+
+/// The line that an access reads, where lines have so many words; a store reads none.
+fn line_read(access: MemoryAccess, words: u8) -> Option<u8>
+    requires { 0 < words }
+    ensures { result ≡ line_read words (access_in access) }
+{
+    match access {
+        MemoryAccess::Read(loc) | MemoryAccess::Lock(loc) => Some(loc.0 / words),
+        MemoryAccess::Nothing | MemoryAccess::Write(_) => None,
+    }
+}
+
+/// Where a core finds a line.
+fn found_at<P: Protocol>(machine: &Machine<P>, test: &Test, core: Core, line: u8) -> Source
+    requires test { machine.now.test ≡ test.now }
+    requires core { core.0 < length machine.now.test.programs }
+    ensures { result ≡ found_at machine.now core.0 line }
+{
+    if machine.copy_state(core, line).is_some() {
+        Source::Cache
+    } else if machine.awaited().is_some() {
+        Source::Bus
+    } else {
+        supplier_or_memory(supplier(machine, test, line))
+    }
+}
+
+fn supplier_or_memory(supplier: Option<Core>) -> Source
+    ensures { result ≡ supplier_or_memory supplier }
+{
+    match supplier {
+        Some(core) => Source::Other(core),
+        None => Source::Memory,
+    }
+}
+
+/// The first core whose copy of a line supplies it.
+fn supplier<P: Protocol>(machine: &Machine<P>, test: &Test, line: u8) -> Option<Core>
+    requires { machine.now.test ≡ test.now }
+    ensures { result ≡ supplier_from machine.now line 0 (length test.now.programs) }
+{
+    for core in 0..test.cores() {
+        if supplies(machine.copy_state(Core(core), line)) {
+            return Some(Core(core));
+        }
+    }
+    None
+}
+
+/// Whether a copy supplies its line to a core that asks for it: it is dirty, or the only one.
+fn supplies(copy: Option<State>) -> bool
+    ensures { result ≡ supplies copy }
+{
+    match copy {
+        Some(State::M) => true,
+        Some(State::O) => true,
+        Some(State::E) => true,
+        Some(State::S) => false,
+        Some(State::I) => false,
+        None => false,
+    }
+}
+
+/// Where the word is found that a step reads, or asks for to read it, if the choice would find its line there.
+pub fn supplied_to(step: &Step, found: Option<Source>) -> Option<Source>
+    ensures { result ≡ supplied_to (shown step.now) found }
+{
+    if step.forwarded {
+        Some(Source::Buffer)
+    } else if step.access.is_some() || is_asked(step.outcome) {
+        found
+    } else {
+        None
+    }
+}
+
+fn is_asked(outcome: Outcome) -> bool
+    ensures { result ≡ is_asked outcome }
+{
+    match outcome {
+        Outcome::Asked => true,
+        Outcome::Committed | Outcome::Buffered | Outcome::Moved | Outcome::Stalled(_) => false,
+    }
+}
+
+/// The name of where a word is found, `memory` or `P1`, or `null`.
+///
+/// Errors: out of memory only.
+pub fn source_value(alloc: Global, supplied: Option<Source>) -> Result<Value, NoMemory>
+    ensures { IfOk result (λ value. view value ≡ text_or_null (option_map source_text supplied)) }
+{
+    let Some(source) = supplied else {
+        return Ok(Value::Null);
+    };
+    Ok(Value::String(source_text(alloc, source)?))
+}
+
+fn source_text(alloc: Global, source: Source) -> Result<String, NoMemory>
+    ensures { IfOk result (λ text. string_bytes text ≡ source_text source) }
+{
+    let mut text = String::new(alloc);
+    match source {
+        Source::Buffer => write!(text, "buffer")?,
+        Source::Cache => write!(text, "cache")?,
+        Source::Other(Core(core)) => write!(text, "P{core}")?,
+        Source::Bus => write!(text, "bus")?,
+        Source::Memory => write!(text, "memory")?,
+    }
+    Ok(text)
+}
