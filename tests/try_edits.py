@@ -2,6 +2,7 @@
 """Tries the edits of tests/data/edits/, which the prover must refuse and which the gate leaves out.
 
     tests/try_edits.py [CRATE..]
+    tests/try_edits.py --applies     proves nothing: whether each edit, those of must-fail/ too, still finds its text
 
 Run it for a crate whose code or contracts change. An edit has the form of those in crates/NAME/must-fail/: a line
 'file: src/lib.rt' and pairs of lines 'old: TEXT' and 'new: TEXT'. Where the file is one of a crate below, a line
@@ -187,8 +188,39 @@ def try_group(room, crate, group):
     return refused
 
 
+def all_edits():
+    """Each edit of tests/data/edits/ and of crates/NAME/must-fail/, with the crate that it is for."""
+    for path in sorted(glob.glob(os.path.join(EDITS, "*", "*.edit"))):
+        yield read_edit(path, os.path.basename(os.path.dirname(path)))
+    for path in sorted(glob.glob(os.path.join(CRATES, "*", "must-fail", "*.edit"))):
+        yield read_edit(path, os.path.relpath(path, CRATES).split(os.sep)[0])
+
+
+def faults_of(edit):
+    """What keeps an edit from being made: each old text that doesn't stand in its file exactly once."""
+    for file, old, _ in edit.changes:
+        path, text = os.path.join(CRATES, edit.crate, file), ""
+        if os.path.exists(path):
+            with open(path) as opened:
+                text = opened.read()
+        if text.count(old) != 1:
+            yield "%s: %d times in %s/%s: %s" % (edit.name, text.count(old), edit.crate, file, old.strip()[:80])
+
+
+def try_to_apply():
+    """Whether each edit finds its text. An edit that doesn't is refused by nobody, and tries nothing."""
+    edits = list(all_edits())
+    unfit = [faults for faults in ([*faults_of(edit)] for edit in edits) if faults]
+    for faults in unfit:
+        print("\n".join(faults))
+    print("%d passed, %d failed" % (len(edits) - len(unfit), len(unfit)))
+    return 1 if unfit else 0
+
+
 def main(named):
     judging.tell(__doc__)
+    if named == ["--applies"]:
+        return try_to_apply()
     passed = failed = 0
     with tempfile.TemporaryDirectory(prefix="tso-edits-") as room:
         scratch_copy(room)
