@@ -1,24 +1,8 @@
 -- Cells of a row.
-use Rattle.std.proofs.Common.{◌≡◌, ℕ, Option, IfSome, Bor, ◌+◌, ◌-◌, ◌≤◌, ◌<◌, Bool, true, false, not, cond, suc, ltb, inl, inr, count_by, List, [], ◌∷◌, length, map, take, drop, Some, None, Result, Ok, Err, refl, sym, ap, ◌∙◌, arith}
-use Rattle.std.specs.Prelude.{position}
-use Rattle.std.specs.List.{slice_split, position_or_len, onto_first}
-use Rattle.std.proofs.lemmas.List.{length-drop, length-map, take_all}
-use Rattle.std.proofs.lemmas.Bool.{ltb-true}
-use Rattle.std.proofs.lemmas.List.Splits.{slice_split_first, length-slice_split}
-use Rattle.litmus_tokens.specs.declared.token.Symbol.TheVariants.{Bar}
-use Rattle.litmus_tokens.specs.declared.token.Token.{Token}
-use Rattle.litmus_tokens.specs.Pieces.{Piece}
-use Rattle.litmus_tokens.specs.inner.Pieces.{piece_of, pieces}
-use Rattle.litmus_tokens.specs.Front.{is_symbol}
-use Rattle.litmus_cells.specs.declared.fault.Fault.{Fault}
-use Rattle.litmus_cells.specs.declared.fault.ReadError.{ReadError}
+use Rattle.litmus_reader.proofs.Vocabulary.{◌≡◌, ℕ, Option, IfSome, Bor, ◌+◌, ◌-◌, ◌≤◌, ◌<◌, Bool, true, false, not, cond, suc, ltb, inl, inr, List, [], ◌∷◌, length, map, take, drop, Some, None, Result, Ok, Err, refl, sym, ap, ◌∙◌, arith, position, slice_split, position_or_len, onto_first, length-drop, length-map, take_all, ltb-true, slice_split_first, length-slice_split, Bar, Token, Piece, piece_of, pieces, is_symbol, Fault, ReadError, CoreInstr, Fails, cell_in, cells_in, cells_of}
+use Rattle.std.proofs.Common.{count_by}
 use Rattle.litmus_cells.specs.declared.fault.ReadError.TheVariants as errors
-use Rattle.litmus_cells.specs.declared.cell.CoreInstr.{CoreInstr}
-use Rattle.litmus_cells.specs.inner.Faults.{Fails}
-use Rattle.litmus_cells.specs.inner.Cells.{cell_in}
-use Rattle.litmus_reader.specs.inner.Cells.{cells_in}
 use Rattle.litmus_reader.proofs.Maps.{chosen, slice_split-map, position_none}
-use Rattle.litmus_reader.specs.RefusedTable.{cells_of}
 
 abbrev pub Read : Type 0
 Read = Result (List CoreInstr × List (List ℕ)) Fault

@@ -1,14 +1,6 @@
 -- Propositions with a symbol between them, one after the other.
-use Rattle.std.proofs.Common.{◌≡◌, ℕ, zero, suc, ◌≤◌, ◌<◌, List, [], ◌∷◌, length, Some, None, Result, Ok, Err, refl, sym, ap, subst, ◌∙◌, arith}
-use Rattle.tso_model.specs.Condition.{Claim}
-use Rattle.litmus_tokens.specs.declared.token.Symbol.{Symbol}
-use Rattle.litmus_tokens.specs.Pieces.{Piece}
-use Rattle.litmus_tokens.specs.inner.Front.{symbol_at}
-use Rattle.litmus_cells.specs.declared.fault.Fault.{Fault}
-use Rattle.litmus_cells.specs.declared.fault.ReadError.{ReadError}
+use Rattle.litmus_reader.proofs.Vocabulary.{◌≡◌, ℕ, zero, suc, ◌≤◌, ◌<◌, List, [], ◌∷◌, length, Some, None, Result, Ok, Err, refl, sym, ap, subst, ◌∙◌, arith, Claim, Symbol, Piece, symbol_at, Fault, ReadError, ◌>>=◌, Fails, Claimed, claimed, Proposition, joined_to, chain, chain_of}
 use Rattle.litmus_cells.specs.declared.fault.ReadError.TheVariants as errors
-use Rattle.litmus_cells.specs.inner.Faults.{◌>>=◌, Fails}
-use Rattle.litmus_reader.specs.inner.Conditions.{Claimed, claimed, Proposition, joined_to, chain, chain_of}
 
 -- the total is what has been read and then what the rest gives, in some number of steps that is enough
 pub record ChainAfter (symbol : Symbol) (join : Claim → Claim → Claim) (unit : Proposition) (c : Claimed) (total : Result Claimed Fault) : Type 0 where

@@ -1,30 +1,11 @@
 -- What a condition gives stays within the limits of a test.
-use Rattle.std.proofs.Common.{◌≡◌, ℕ, zero, suc, ◌+◌, ◌≤◌, ◌<◌, ltb, List, length, Some, Result, Ok, IfOk, refl, subst, arith}
-use Rattle.std.specs.Prelude.{codes}
+use Rattle.litmus_reader.proofs.Vocabulary.{◌≡◌, ℕ, zero, suc, ◌+◌, ◌≤◌, ◌<◌, ltb, List, length, Some, Result, Ok, IfOk, refl, subst, arith, codes, ltb-true, Claim, TruthClaim, RegClaim, LocClaim, NotClaim, AndClaim, OrClaim, Condition, NamesExist, atoms_in, negations_in, Quantifier, Exists, NotExists, Forall, Stop, Symbol, OpenRound, CloseRound, And, Or, Tilde, Piece, symbol_at, Fault, ◌>>=◌, or_unfit, located, word_at, setting_at, core_of, claim_in, Claimed, claimed, one_more, truth_at, truth_atom, setting_atom, atom_at, Proposition, joined_to, chain, chain_of, both, conjunction, disjunction, negation_at, opens_unit, negated, bracketed, unit_by, unit_at, proposition_at, Conditioned, with_claim, quantified, not_exists, condition_at, in_condition, word_after, remaining_of, Setting, of_register, of_location}
 use Rattle.std.specs.Option.{ForSome}
-use Rattle.std.proofs.lemmas.Bool.{ltb-true}
-use Rattle.tso_model.specs.Condition.{Claim, TruthClaim, RegClaim, LocClaim, NotClaim, AndClaim, OrClaim, Condition, NamesExist, atoms_in, negations_in}
 use Rattle.tso_model.specs.Litmus.{IsCondition}
-use Rattle.tso_model.specs.declared.condition.Quantifier.{Quantifier}
-use Rattle.tso_model.specs.declared.condition.Quantifier.TheVariants.{Exists, NotExists, Forall}
-use Rattle.litmus_tokens.specs.declared.token.Stop.{Stop}
-use Rattle.litmus_tokens.specs.declared.token.Symbol.{Symbol}
-use Rattle.litmus_tokens.specs.declared.token.Symbol.TheVariants.{OpenRound, CloseRound, And, Or, Tilde}
-use Rattle.litmus_tokens.specs.Pieces.{Piece}
-use Rattle.litmus_tokens.specs.inner.Front.{symbol_at}
-use Rattle.litmus_cells.specs.declared.fault.Fault.{Fault}
-use Rattle.litmus_cells.specs.inner.Faults.{◌>>=◌}
-use Rattle.litmus_reader.specs.inner.Faults.{or_unfit}
-use Rattle.litmus_cells.specs.inner.Locations.{located}
-use Rattle.litmus_cells.specs.inner.Numbers.{word_at}
-use Rattle.litmus_reader.specs.inner.Settings.{setting_at, core_of}
-use Rattle.litmus_reader.specs.inner.Conditions.{claim_in, Claimed, claimed, one_more, truth_at, truth_atom, setting_atom, atom_at, Proposition, joined_to, chain, chain_of, both, either, conjunction, disjunction, negation_at, opens_unit, negated, bracketed, unit_by, unit_at, proposition_at, Conditioned, with_claim, quantified, not_exists, condition_at, in_condition}
-use Rattle.litmus_reader.specs.inner.Keywords.{word_after}
+use Rattle.litmus_reader.specs.inner.Conditions.{either}
 use Rattle.litmus_reader.proofs.Keeps.{Any, ok_any, some_any, bind_keeps, there_keeps, cond_keeps, core_keeps}
 use Rattle.litmus_reader.proofs.Named.{NamedSetting, setting_named}
 use Rattle.litmus_reader.proofs.Known.{AreNames, Grown, same_names, grown_further, LocatesIn, located_keeps}
-use Rattle.litmus_reader.specs.Places.{remaining_of}
-use Rattle.litmus_reader.specs.Written.{Setting, of_register, of_location}
 
 exist_further : (cores m n : ℕ) (c : Claim) → m ≤ n → NamesExist cores m c → NamesExist cores n c
 exist_further cores m n (TruthClaim truth) le h = tt

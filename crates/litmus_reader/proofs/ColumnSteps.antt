@@ -1,14 +1,5 @@
 -- The columns of the header row, by the number of their core.
-use Rattle.std.proofs.Common.{◌≡◌, ℕ, suc, zero, ◌+◌, ◌-◌, ◌≤◌, ◌<◌, List, Ok, Err, cond, arith}
-use Rattle.tso_model.specs.Limits.{most_cores}
-use Rattle.litmus_tokens.specs.declared.token.Stop.{Stop}
-use Rattle.litmus_tokens.specs.Pieces.{Piece}
-use Rattle.litmus_cells.specs.declared.fault.Why.TheVariants.{TooLarge}
-use Rattle.litmus_cells.specs.inner.Faults.{◌>>=◌}
-use Rattle.litmus_reader.specs.inner.Faults.{or_unfit}
-use Rattle.litmus_reader.specs.inner.Columns.{columns, core_at, separator_at, in_columns}
-use Rattle.litmus_cells.specs.Places.{fault}
-use Rattle.litmus_reader.specs.Places.{remaining_of}
+use Rattle.litmus_reader.proofs.Vocabulary.{◌≡◌, ℕ, suc, zero, ◌+◌, ◌-◌, ◌≤◌, ◌<◌, List, Ok, Err, cond, arith, most_cores, Stop, Piece, TooLarge, ◌>>=◌, or_unfit, columns, core_at, separator_at, in_columns, fault, remaining_of}
 
 pub columns_next : (stop : Stop) (core : ℕ) (ps : List Piece) → core < most_cores → columns stop (most_cores - core) core ps ≡
     (or_unfit (in_columns stop) ps (core_at core ps) >>= λ rest.

@@ -1,23 +1,7 @@
 -- Rows by their columns, and as one list of instructions with their cores.
-use Rattle.std.proofs.Common.{◌≡◌, ℕ, zero, suc, ◌+◌, ◌<◌, ◌≤◌, Bool, true, false, cond, eqb, eqb-true, eq-eqb, List, [], ◌∷◌, ◌++◌, length, map, filter, All, Option, Some, None, refl, sym, ap, subst, ◌∙◌, append_assoc, append-nil, arith}
-use Rattle.std.specs.Prelude.{count_by, slice_index_or}
-use Rattle.std.specs.List.{range_with_len, flat_map}
-use Rattle.std.proofs.lemmas.List.{map-append}
-use Rattle.std.proofs.lemmas.List.Sums.{sum_by-append}
-use Rattle.std.proofs.lemmas.List.Elements.{All-nil, All-cons, All-head, All-tail}
-use Rattle.tso_model.specs.declared.instruction.Instr.{Instr}
-use Rattle.litmus_tokens.specs.declared.token.Stop.{Stop}
-use Rattle.litmus_tokens.specs.Pieces.{Piece}
-use Rattle.litmus_cells.specs.declared.cell.CoreInstr.{CoreInstr}
-use Rattle.litmus_cells.specs.declared.fault.Why.{Why}
-use Rattle.litmus_cells.specs.declared.fault.Fault.{Fault}
-use Rattle.litmus_cells.specs.inner.Cells.{of_core}
-use Rattle.litmus_reader.specs.inner.Reading.{program_of, programs_from}
-use Rattle.litmus_cells.specs.GrammarNames.{numbered}
-use Rattle.litmus_reader.specs.GrammarTable.{in_rows, column, location_in, instr_with, ValueFits, AreWithin, in_field}
-use Rattle.litmus_reader.specs.RefusedTable.{AreSpelled, none, more, add_cells, IsCellFault, IsRowFault}
+use Rattle.litmus_reader.proofs.Vocabulary.{◌≡◌, ℕ, zero, suc, ◌+◌, ◌<◌, ◌≤◌, Bool, true, false, cond, eqb, eqb-true, eq-eqb, List, [], ◌∷◌, ◌++◌, length, map, filter, All, Option, Some, None, refl, sym, ap, subst, ◌∙◌, append_assoc, arith, count_by, slice_index_or, range_with_len, flat_map, map-append, sum_by-append, All-nil, All-cons, All-head, All-tail, Instr, Stop, Piece, CoreInstr, Why, Fault, of_core, program_of, programs_from, numbered, in_rows, column, location_in, instr_with, ValueFits, AreWithin, in_field, AreSpelled, none, more, add_cells, IsCellFault, IsRowFault, Shape}
+use Rattle.std.proofs.Common.{append-nil}
 use Rattle.litmus_reader.specs.RefusedTable as refused
-use Rattle.litmus_cells.specs.Shapes.{Shape}
 use Rattle.litmus_reader.proofs.Placed.{Placed, placed, placed_from, placed_in, locations_of, instrs_with, ValuesFit, EntriesWithin}
 use Rattle.litmus_reader.proofs.PlacedFaults.{IsEntryFault, IsEntriesFault}
 use Rattle.litmus_reader.proofs.PlacedFaults as read

@@ -1,16 +1,5 @@
 -- What is read of a section's tokens is read of all tokens: no reading comes past the symbol with which the section ends.
-use Rattle.std.proofs.Common.{◌≡◌, ℕ, Bool, true, false, cond, List, [], ◌∷◌, ◌++◌, Option, Some, None, Result, Ok, Err, refl, ap}
-use Rattle.litmus_tokens.specs.declared.token.Symbol.{Symbol}
-use Rattle.litmus_tokens.specs.Terms.{Term, number, name, symbol}
-use Rattle.litmus_tokens.specs.Pieces.{Piece}
-use Rattle.litmus_tokens.specs.Front.{is_symbol}
-use Rattle.litmus_tokens.specs.inner.Front.{symbol_at, name_then, name_at, number_then, number_at}
-use Rattle.litmus_cells.specs.declared.fault.Fault.{Fault}
-use Rattle.litmus_reader.specs.declared.fault.Part.{Part}
-use Rattle.litmus_cells.specs.inner.Faults.{◌>>=◌, there}
-use Rattle.litmus_reader.specs.inner.Faults.{or_unfit}
-use Rattle.litmus_reader.specs.inner.Sections.{is_one_of, LastOr, Through}
-use Rattle.litmus_reader.specs.Places.{unfit, remaining_of}
+use Rattle.litmus_reader.proofs.Vocabulary.{◌≡◌, ℕ, Bool, true, false, cond, List, [], ◌∷◌, ◌++◌, Option, Some, None, Result, Ok, Err, refl, ap, Symbol, Term, number, name, symbol, Piece, is_symbol, symbol_at, name_then, name_at, number_then, number_at, Fault, Part, ◌>>=◌, there, or_unfit, is_one_of, LastOr, Through, unfit, remaining_of}
 
 -- a section that ends by these symbols, the tokens after it, and how a part refuses a token of the section and of all tokens
 pub record Section : Type 0 where

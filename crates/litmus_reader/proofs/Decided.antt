@@ -1,18 +1,9 @@
 -- A text spells a test or is refused.
-use Rattle.std.proofs.Common.{◌≡◌, ◌≢◌, ℕ, List, Some, Result, Ok, Err, IfOk, IfErr, MatchResult, refl, sym, ap, ◌∙◌, ◌⊎◌, inl, inr}
-use Rattle.tso_model.specs.Litmus.{Litmus}
+use Rattle.litmus_reader.proofs.Vocabulary.{◌≡◌, ◌≢◌, ℕ, List, Some, Result, Ok, Err, IfOk, IfErr, MatchResult, refl, sym, ap, ◌∙◌, ◌⊎◌, inl, inr, Litmus, Why, NoMemory, Fault, ReadError, Gives, reading_of, refusal_in, refusal_of, IsFault, SpellsTest, IsRefused, IsDecided}
 use Rattle.litmus_tokens.specs.Line.{line_of}
-use Rattle.litmus_cells.specs.declared.fault.Why.{Why}
-use Rattle.litmus_cells.specs.declared.fault.Why.TheVariants.{NoMemory}
-use Rattle.litmus_cells.specs.declared.fault.Fault.{Fault}
 use Rattle.litmus_reader.specs.declared.fault.TextFault.{TextFault}
-use Rattle.litmus_cells.specs.declared.fault.ReadError.{ReadError}
 use Rattle.litmus_cells.specs.declared.fault.ReadError.TheVariants as errors
 use Rattle.litmus_reader.specs.Reading.{refusal}
-use Rattle.litmus_cells.specs.inner.Faults.{Gives}
-use Rattle.litmus_reader.specs.inner.Reading.{reading_of, refusal_in, refusal_of}
-use Rattle.litmus_reader.specs.Refusals.{IsFault}
-use Rattle.litmus_reader.specs.Spelling.{SpellsTest, IsRefused, IsDecided}
 
 abbrev pub Refuses : List ℕ → Type 0
 Refuses text = (f : Fault) → IsFault text f → reading_of text ≡ Err f

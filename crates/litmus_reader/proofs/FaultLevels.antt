@@ -1,30 +1,13 @@
 -- What is at fault in a unit or a condition, and the same by the levels at which it is read.
-use Rattle.std.proofs.Common.{◌≡◌, ℕ, zero, suc, ◌+◌, ◌≤◌, Bool, true, false, ◌||◌, List, [], ◌∷◌, ◌++◌, length, refl, sym, ap, subst, ◌∙◌, append_assoc, arith}
-use Rattle.std.proofs.lemmas.Bool.{or_left}
-use Rattle.tso_model.specs.Limits.{most_open}
-use Rattle.tso_model.specs.declared.condition.Quantifier.{Quantifier}
-use Rattle.litmus_tokens.specs.declared.token.Stop.{Stop}
-use Rattle.litmus_tokens.specs.declared.token.Symbol.TheVariants.{OpenRound, CloseRound, And, Or}
-use Rattle.litmus_tokens.specs.Terms.{Term, symbol}
-use Rattle.litmus_tokens.specs.Pieces.{Piece}
-use Rattle.litmus_tokens.specs.Front.{is_symbol_term}
-use Rattle.litmus_cells.specs.declared.fault.Why.{Why}
-use Rattle.litmus_cells.specs.declared.fault.Fault.{Fault}
-use Rattle.litmus_reader.specs.Grammar.{terms}
-use Rattle.litmus_cells.specs.GrammarNames.{numbered}
-use Rattle.litmus_reader.specs.GrammarConditions.{IsAtom, says_setting, one, more, IsConjunction, IsProposition, IsUnit, locations_in, atoms_of, IsWithin, IsQuantifier, IsCondition, condition, is_negation}
-use Rattle.litmus_reader.specs.Misfits.{begins_with}
+use Rattle.litmus_reader.proofs.Vocabulary.{◌≡◌, ℕ, zero, suc, ◌+◌, ◌≤◌, Bool, true, false, ◌||◌, List, [], ◌∷◌, ◌++◌, length, refl, sym, ap, subst, ◌∙◌, append_assoc, arith, or_left, most_open, Quantifier, Stop, OpenRound, CloseRound, And, Or, Term, symbol, Piece, is_symbol_term, Why, Fault, terms, numbered, IsAtom, says_setting, one, IsConjunction, IsProposition, IsUnit, locations_in, atoms_of, IsWithin, IsQuantifier, IsCondition, condition, is_negation, begins_with, begins_unit, joins, IsConditionFault, fault, remaining_of, Phrase, atom, either}
+use Rattle.litmus_reader.specs.GrammarConditions.{more}
 use Rattle.litmus_reader.specs.RefusedConditions as refused
-use Rattle.litmus_reader.specs.RefusedConditions.{begins_unit, joins, IsConditionFault}
 use Rattle.litmus_reader.proofs.Levels as level
 use Rattle.litmus_reader.proofs.Levels.{IsJoinedFault, IsPropositionFault}
 use Rattle.litmus_reader.proofs.GrammarPhrases.{joining_either, numbered_both, first_allowed, second_allowed}
 use Rattle.litmus_reader.proofs.GrammarTest.{terms_append}
 use Rattle.litmus_reader.proofs.RefusedKinds.{symbol_slot}
 use Rattle.litmus_reader.proofs.RefusedOpens.{no_unit_there}
-use Rattle.litmus_cells.specs.Places.{fault}
-use Rattle.litmus_reader.specs.Places.{remaining_of}
-use Rattle.litmus_reader.specs.Written.{Phrase, atom, either}
 
 -- ---- tests
 

@@ -1,33 +1,7 @@
 -- What readings leave are the last tokens.
-use Rattle.std.proofs.Common.{◌≡◌, ℕ, zero, suc, ◌+◌, Bool, true, false, ltb, List, [], ◌∷◌, ◌++◌, length, take, Option, Some, None, Result, Ok, Err, IfOk, IfSome, refl, sym, ap, ◌∙◌, append_assoc}
-use Rattle.std.specs.List.{position_or_len}
-use Rattle.std.proofs.lemmas.List.{take-append-drop}
-use Rattle.tso_model.specs.Limits.{most_cores}
-use Rattle.tso_model.specs.Registers.{register_named}
-use Rattle.tso_model.specs.declared.register.Reg.{Reg}
-use Rattle.tso_model.specs.Names.{is_location_name}
-use Rattle.litmus_tokens.specs.declared.token.Stop.{Stop}
-use Rattle.litmus_tokens.specs.declared.token.Symbol.{Symbol}
-use Rattle.litmus_tokens.specs.declared.token.Symbol.TheVariants.{Equals, Semicolon, Colon, OpenSquare, CloseSquare, OpenCurly, CloseCurly, Bar}
-use Rattle.litmus_tokens.specs.Terms.{Term, number, name, symbol}
-use Rattle.litmus_tokens.specs.Pieces.{Piece}
-use Rattle.litmus_tokens.specs.Front.{is_symbol}
-use Rattle.litmus_tokens.specs.inner.Front.{symbol_at, name_then, name_at, number_then, number_at}
-use Rattle.litmus_cells.specs.declared.fault.Fault.{Fault}
-use Rattle.litmus_reader.specs.declared.fault.Part.{Part}
-use Rattle.litmus_cells.specs.declared.cell.CoreInstr.{CoreInstr}
-use Rattle.litmus_cells.specs.inner.Faults.{◌>>=◌}
-use Rattle.litmus_reader.specs.inner.Faults.{or_unfit}
-use Rattle.litmus_cells.specs.inner.Names.{if_location, location_at, if_register, register_at}
-use Rattle.litmus_reader.specs.inner.Settings.{value_at, register_setting, square_setting, plain_setting, setting_at}
-use Rattle.litmus_reader.specs.inner.Initial.{before_initial, Initial, initial, judged, item_in, step_in, items_within, items_at, initial_at, ends_item}
-use Rattle.litmus_reader.specs.inner.Columns.{if_core, core_at, separator_at, columns, columns_at, in_columns}
-use Rattle.litmus_reader.specs.inner.Rows.{Rows, row_at, row_in, rows_within, rows_at}
+use Rattle.litmus_reader.proofs.Vocabulary.{◌≡◌, ℕ, zero, suc, ◌+◌, Bool, true, false, ltb, List, [], ◌∷◌, ◌++◌, length, take, Option, Some, None, Result, Ok, Err, IfOk, IfSome, refl, sym, ap, ◌∙◌, append_assoc, position_or_len, take-append-drop, most_cores, register_named, Reg, is_location_name, Stop, Symbol, Equals, Semicolon, Colon, OpenSquare, CloseSquare, OpenCurly, CloseCurly, Bar, Term, number, name, symbol, Piece, is_symbol, symbol_at, name_then, name_at, number_then, number_at, Fault, Part, CoreInstr, ◌>>=◌, or_unfit, if_location, location_at, if_register, register_at, value_at, register_setting, square_setting, plain_setting, setting_at, before_initial, Initial, initial, judged, item_in, step_in, items_within, items_at, initial_at, ends_item, if_core, core_at, separator_at, columns, columns_at, in_columns, Rows, row_at, row_in, rows_within, rows_at, remaining_of, in_initial, Setting, of_location, ends_rows}
 use Rattle.litmus_reader.proofs.Keeps.{Any, ok_any, some_any, ok_is, bind_keeps, there_keeps, cond_keeps, or_unfit_keeps}
 use Rattle.litmus_reader.proofs.Readings.{AreLast}
-use Rattle.litmus_reader.specs.Places.{remaining_of, in_initial}
-use Rattle.litmus_reader.specs.Written.{Setting, of_location}
-use Rattle.litmus_reader.specs.GrammarTable.{ends_rows}
 
 pub all_last : (ps : List Piece) → AreLast ps ps
 all_last ps = record { taken = []; parts = refl }

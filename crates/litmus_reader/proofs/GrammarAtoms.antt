@@ -1,40 +1,10 @@
 -- Atoms are read as they are spelled.
-use Rattle.std.proofs.Common.{◌≡◌, ℕ, ◌+◌, ◌≤◌, ◌<◌, ◌^◌, Bool, true, false, cond, ltb, not, ◌&&◌, List, [], ◌∷◌, ◌++◌, length, Some, None, Ok, Err, refl, sym, ap, subst, ◌∙◌, inl, inr, arith}
-use Rattle.std.specs.Prelude.{codes}
-use Rattle.std.specs.Str.{bytes_eq}
-use Rattle.std.proofs.lemmas.Bool.{ltb-true, lt-ltb, and_parts, not-true}
-use Rattle.std.proofs.lemmas.List.{length-append}
-use Rattle.std.proofs.lemmas.Slice.Eq.{bytes_eq-Decides}
-use Rattle.tso_model.specs.Condition.{Claim, TruthClaim, RegClaim, LocClaim}
-use Rattle.tso_model.specs.Names.{is_name, is_register_word, is_keyword, is_location_name}
-use Rattle.tso_model.specs.declared.instruction.Loc.{Loc}
-use Rattle.litmus_tokens.specs.declared.token.Stop.{Stop}
-use Rattle.litmus_tokens.specs.declared.token.Symbol.TheVariants.{Equals, Colon, OpenSquare, CloseSquare, OpenRound}
-use Rattle.decimals.specs.Decimals.{decimal_value}
-use Rattle.litmus_tokens.specs.Terms.{Term, number, name, symbol}
-use Rattle.litmus_tokens.specs.Pieces.{Piece}
-use Rattle.litmus_tokens.specs.Front.{is_symbol}
-use Rattle.litmus_tokens.specs.inner.Front.{symbol_at, name_at}
-use Rattle.litmus_cells.specs.declared.fault.Why.TheVariants.{TooLarge, NoSuchCore}
-use Rattle.litmus_cells.specs.inner.Faults.{there}
-use Rattle.litmus_reader.specs.inner.Keywords.{if_word, word_after}
-use Rattle.litmus_cells.specs.inner.Locations.{located}
-use Rattle.litmus_cells.specs.inner.Numbers.{or_bad_number, word_at}
-use Rattle.litmus_reader.specs.inner.Settings.{setting_at, core_of}
-use Rattle.litmus_reader.specs.inner.Conditions.{claim_in, Claimed, claimed, one_more, truth_at, truth_atom, setting_atom, atom_at, negation_at, in_condition}
-use Rattle.litmus_reader.specs.Grammar.{terms}
-use Rattle.litmus_reader.specs.GrammarItems.{IsSetting, sets_register, sets_location, sets_in_squares}
-use Rattle.litmus_reader.specs.GrammarInitial.{names_in, is_allowed}
-use Rattle.litmus_cells.specs.GrammarNames.{numbered, number_of, with_name, location}
-use Rattle.litmus_reader.specs.GrammarConditions.{IsAtom, says_true, says_false, says_setting, PhraseFits, claim_by, IsWithin}
+use Rattle.litmus_reader.proofs.Vocabulary.{◌≡◌, ℕ, ◌+◌, ◌≤◌, ◌<◌, ◌^◌, Bool, true, false, cond, ltb, not, ◌&&◌, List, [], ◌∷◌, ◌++◌, length, Some, None, Ok, Err, refl, sym, ap, subst, ◌∙◌, inl, inr, arith, codes, bytes_eq, ltb-true, lt-ltb, and_parts, not-true, length-append, bytes_eq-Decides, Claim, TruthClaim, RegClaim, LocClaim, is_name, is_register_word, is_keyword, is_location_name, Loc, Stop, Equals, Colon, OpenSquare, CloseSquare, OpenRound, decimal_value, Term, number, name, symbol, Piece, is_symbol, symbol_at, name_at, TooLarge, NoSuchCore, there, if_word, word_after, located, or_bad_number, word_at, setting_at, core_of, claim_in, Claimed, claimed, one_more, truth_at, truth_atom, setting_atom, atom_at, negation_at, in_condition, terms, IsSetting, sets_register, sets_location, sets_in_squares, names_in, is_allowed, numbered, number_of, with_name, location, IsAtom, says_true, says_false, says_setting, PhraseFits, claim_by, IsWithin, fault, remaining_of, Setting, of_register, of_location, truth, atom}
 use Rattle.litmus_reader.proofs.GrammarTokens.{chosen, there_is, there_some, some_is, ok_is, ok_pair, bind_ok, opened, name_takes}
 use Rattle.litmus_reader.proofs.GrammarItems.{setting_found, setting_taken}
 use Rattle.litmus_reader.proofs.GrammarPhrases.{Finds, Taken, Takes, Anything}
 use Rattle.litmus_reader.proofs.GrammarNames.{with_name_by, place_below, place_none, known_with, number_with}
 use Rattle.litmus_reader.proofs.Readings.{Begins, given_by, ReadsPhrase}
-use Rattle.litmus_cells.specs.Places.{fault}
-use Rattle.litmus_reader.specs.Places.{remaining_of}
-use Rattle.litmus_reader.specs.Written.{Setting, of_register, of_location, truth, atom}
 
 -- ---- atoms
 

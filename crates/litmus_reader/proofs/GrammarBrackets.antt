@@ -1,9 +1,5 @@
 -- The end of brackets is found where it is spelled.
-use Rattle.std.proofs.Common.{◌≡◌, ℕ, zero, suc, ◌<◌, eqb, eqb-true, List, [], ◌∷◌, length, None, Ok, refl, inl, inr, arith}
-use Rattle.litmus_tokens.specs.Gap.{gap_end}
-use Rattle.litmus_reader.specs.inner.Header.{from_gap}
-use Rattle.litmus_reader.specs.inner.Observed.{square_by, square_within, square_end}
-use Rattle.litmus_reader.specs.GrammarText.{ClosesBrackets, here, further}
+use Rattle.litmus_reader.proofs.Vocabulary.{◌≡◌, ℕ, zero, suc, ◌<◌, eqb, eqb-true, List, [], ◌∷◌, length, None, Ok, refl, inl, inr, arith, gap_end, from_gap, square_by, square_within, square_end, ClosesBrackets, here, further}
 use Rattle.litmus_reader.proofs.GrammarTokens.{chosen, ok_is, bind_ok}
 use Rattle.litmus_reader.proofs.GrammarGaps.{gap_within, from_gap_ok}
 

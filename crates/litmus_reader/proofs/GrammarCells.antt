@@ -1,26 +1,7 @@
 -- Cells are read as they are spelled.
-use Rattle.std.proofs.Common.{◌≡◌, ℕ, true, false, cond, List, [], ◌∷◌, ◌++◌, map, Some, None, refl, sym, ap, subst, ◌∙◌, inl, inr}
-use Rattle.std.specs.Prelude.{codes}
-use Rattle.std.specs.Char.{to_ascii_lowercase}
-use Rattle.std.proofs.lemmas.List.{append-nil}
-use Rattle.std.proofs.lemmas.Slice.Eq.{bytes_eq-Decides}
-use Rattle.tso_model.specs.Names.{is_location_name}
-use Rattle.tso_model.specs.Registers.{register_named, same_letters}
-use Rattle.tso_model.specs.declared.register.Reg.{Reg}
-use Rattle.litmus_tokens.specs.declared.token.Symbol.TheVariants.{OpenSquare, CloseSquare, Comma, Dollar}
-use Rattle.decimals.specs.Decimals.{decimal_value}
-use Rattle.litmus_tokens.specs.Terms.{Term, number, name, symbol}
-use Rattle.litmus_tokens.specs.Pieces.{Piece}
-use Rattle.litmus_tokens.specs.Front.{is_symbol}
-use Rattle.litmus_tokens.specs.inner.Front.{symbol_at, name_at, number_at}
-use Rattle.litmus_cells.specs.inner.Faults.{there}
-use Rattle.litmus_cells.specs.inner.Names.{if_location, location_at, if_register, register_at}
-use Rattle.litmus_cells.specs.inner.Arguments.{ArgumentTerm, in_memory, in_register, constant, as_constant, dollar_at, closed_memory, memory_at, as_register, argument_at, if_last, second_of, after_operand, two_arguments}
-use Rattle.litmus_cells.specs.inner.Forms.{mov_of, xchg_of, xadd_of, no_more, locked_by, locked_at, by_mnemonic, spelled_in}
-use Rattle.litmus_reader.specs.Grammar.{terms}
-use Rattle.litmus_reader.specs.GrammarCells.{IsConstant, plain, with_dollar, IsMemory, in_squares, IsRegister, named, IsMnemonic, spelled, separated, IsExchange, memory_first, register_first, IsCell, stores_constant, stores_register, loads, sets_constant, sets_register, fences, exchanges, locks_exchange, locks_add, moves}
+use Rattle.litmus_reader.proofs.Vocabulary.{◌≡◌, ℕ, true, false, cond, List, [], ◌∷◌, ◌++◌, map, Some, None, refl, sym, ap, subst, ◌∙◌, inl, inr, codes, to_ascii_lowercase, append-nil, bytes_eq-Decides, is_location_name, register_named, same_letters, Reg, OpenSquare, CloseSquare, Comma, Dollar, decimal_value, Term, number, name, symbol, Piece, is_symbol, symbol_at, name_at, number_at, there, if_location, location_at, if_register, register_at, ArgumentTerm, in_memory, in_register, constant, as_constant, dollar_at, closed_memory, memory_at, as_register, argument_at, if_last, second_of, after_operand, two_arguments, mov_of, xchg_of, xadd_of, no_more, locked_by, locked_at, by_mnemonic, spelled_in, terms, IsConstant, plain, with_dollar, IsMemory, in_squares, IsRegister, named, IsMnemonic, spelled, separated, IsExchange, memory_first, register_first, IsCell, stores_constant, stores_register, loads, sets_constant, fences, exchanges, locks_exchange, locks_add, moves, Shape, store_imm, store_reg, load, set_imm, set_reg, fence, xchg, xadd}
+use Rattle.litmus_reader.specs.GrammarCells.{sets_register}
 use Rattle.litmus_reader.proofs.GrammarTokens.{chosen, there_is, there_some, some_is, pair_is, front, opened, no_terms, number_takes, name_takes, symbol_takes}
-use Rattle.litmus_cells.specs.Shapes.{Shape, store_imm, store_reg, load, set_imm, set_reg, fence, xchg, xadd}
 
 -- ---- locations and registers
 

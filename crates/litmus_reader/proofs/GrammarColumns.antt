@@ -1,25 +1,8 @@
 -- Header rows are read later they are spelled.
-use Rattle.std.proofs.Common.{◌≡◌, ℕ, zero, suc, ◌+◌, ◌≤◌, ◌<◌, Bool, true, false, cond, List, [], ◌∷◌, ◌++◌, Some, None, Result, Ok, Err, refl, ap, subst, ◌∙◌, inl, inr, arith}
-use Rattle.std.specs.Str.{bytes_eq}
-use Rattle.std.proofs.lemmas.Slice.Eq.{bytes_eq-Decides}
-use Rattle.tso_model.specs.Limits.{most_cores}
-use Rattle.litmus_tokens.specs.declared.token.Stop.{Stop}
-use Rattle.litmus_tokens.specs.declared.token.Symbol.TheVariants.{Semicolon, Bar}
-use Rattle.litmus_tokens.specs.Terms.{Term, name, symbol}
-use Rattle.litmus_tokens.specs.Pieces.{Piece}
-use Rattle.litmus_tokens.specs.Front.{is_symbol}
-use Rattle.litmus_tokens.specs.inner.Front.{symbol_at, name_at}
-use Rattle.litmus_cells.specs.declared.fault.Fault.{Fault}
-use Rattle.litmus_cells.specs.declared.fault.Why.TheVariants.{TooLarge}
-use Rattle.litmus_cells.specs.inner.Faults.{there}
-use Rattle.litmus_reader.specs.inner.Faults.{or_unfit}
-use Rattle.litmus_reader.specs.inner.Columns.{if_core, core_at, separator_at, columns, columns_at, in_columns}
-use Rattle.litmus_reader.specs.Grammar.{terms}
-use Rattle.litmus_reader.specs.GrammarColumns.{AreColumns, last, more, IsHeaderRow, core_name}
+use Rattle.litmus_reader.proofs.Vocabulary.{◌≡◌, ℕ, zero, suc, ◌+◌, ◌≤◌, ◌<◌, Bool, true, false, cond, List, [], ◌∷◌, ◌++◌, Some, None, Result, Ok, Err, refl, ap, subst, ◌∙◌, inl, inr, arith, bytes_eq, bytes_eq-Decides, most_cores, Stop, Semicolon, Bar, Term, name, symbol, Piece, is_symbol, symbol_at, name_at, Fault, TooLarge, there, or_unfit, if_core, core_at, separator_at, columns, columns_at, in_columns, terms, IsHeaderRow, core_name, fault, remaining_of}
+use Rattle.litmus_reader.specs.GrammarColumns.{AreColumns, last, more}
 use Rattle.litmus_reader.proofs.GrammarTokens.{chosen, there_is, there_some, some_is, ok_pair, bind_ok, or_unfit_ok, opened, name_takes, symbol_takes}
 use Rattle.litmus_reader.proofs.Readings.{Reads, Begins}
-use Rattle.litmus_cells.specs.Places.{fault}
-use Rattle.litmus_reader.specs.Places.{remaining_of}
 
 abbrev Found : Stop → ℕ → ℕ → ℕ → List Term → List Piece → Type 0
 Found stop n core cores back ps = Reads (columns stop n core ps) cores back

@@ -1,33 +1,9 @@
 -- What stands after the rows is read as it is spelled.
-use Rattle.std.proofs.Common.{◌≡◌, ℕ, ◌≤◌, List, [], ◌∷◌, length, Option, Some, None, Ok, refl, sym, ap, subst, ◌∙◌, inl, inr, append-nil}
-use Rattle.std.specs.Prelude.{codes}
-use Rattle.std.specs.Str.{bytes_eq}
-use Rattle.std.proofs.lemmas.Slice.Eq.{bytes_eq-Decides}
-use Rattle.tso_model.specs.Condition.{Condition}
-use Rattle.litmus_tokens.specs.declared.token.Stop.{Stop}
-use Rattle.litmus_tokens.specs.declared.token.Stop.TheVariants.{End, BadToken, Unclosed}
-use Rattle.litmus_tokens.specs.declared.token.Symbol.{Symbol}
-use Rattle.litmus_tokens.specs.declared.token.Symbol.TheVariants.{OpenSquare, Tilde}
-use Rattle.litmus_tokens.specs.Terms.{Term, number, name, symbol}
-use Rattle.litmus_tokens.specs.Pieces.{Piece, pieces_of}
-use Rattle.litmus_tokens.specs.Front.{is_symbol}
-use Rattle.litmus_tokens.specs.inner.Front.{symbol_at, name_then, name_at}
-use Rattle.litmus_cells.specs.inner.Faults.{◌>>=◌, there}
-use Rattle.litmus_reader.specs.inner.Faults.{or_unfit}
-use Rattle.litmus_reader.specs.inner.Keywords.{word_after, if_word}
-use Rattle.litmus_reader.specs.inner.Observed.{square_end, brackets_end, brackets_tokens, ending_tokens, in_observed}
-use Rattle.litmus_reader.specs.inner.Conditions.{Conditioned, condition_at}
-use Rattle.litmus_reader.specs.inner.Reading.{end_at, ending_at, tail_at}
-use Rattle.litmus_reader.specs.Grammar.{terms}
-use Rattle.litmus_cells.specs.GrammarNames.{numbered}
-use Rattle.litmus_reader.specs.GrammarText.{ClosesBrackets}
-use Rattle.litmus_reader.specs.GrammarConditions.{condition, says_exists, says_forall, says_not_exists}
-use Rattle.litmus_reader.specs.GrammarEnding.{MayAsk, nothing, a_condition, IsEnding, at_once, after_locations, names_asked, condition_of, IsAskedWithin}
+use Rattle.litmus_reader.proofs.Vocabulary.{◌≡◌, ℕ, ◌≤◌, List, [], ◌∷◌, length, Option, Some, None, Ok, refl, sym, ap, subst, ◌∙◌, inl, inr, codes, bytes_eq, bytes_eq-Decides, Condition, Stop, End, Symbol, OpenSquare, Tilde, Term, number, name, symbol, Piece, pieces_of, is_symbol, symbol_at, name_then, name_at, ◌>>=◌, there, or_unfit, word_after, if_word, square_end, brackets_end, brackets_tokens, ending_tokens, in_observed, Conditioned, condition_at, end_at, ending_at, tail_at, terms, numbered, ClosesBrackets, condition, says_exists, says_forall, says_not_exists, MayAsk, nothing, a_condition, IsEnding, at_once, after_locations, names_asked, condition_of, IsAskedWithin, remaining_of, from_place, WrittenCondition, Phrase, Quantifier}
+use Rattle.std.proofs.Common.{append-nil}
+use Rattle.litmus_tokens.specs.declared.token.Stop.TheVariants.{BadToken, Unclosed}
 use Rattle.litmus_reader.proofs.GrammarTokens.{there_is, ok_is, some_is, chosen, bind_ok, or_unfit_ok, opened, no_terms, symbol_is}
 use Rattle.litmus_reader.proofs.GrammarQuantified.{condition_again, condition_takes}
-use Rattle.litmus_reader.specs.Places.{remaining_of, from_place}
-use Rattle.litmus_reader.specs.Written.{WrittenCondition, Phrase}
-use Rattle.tso_model.specs.declared.condition.Quantifier.{Quantifier}
 
 abbrev pub asked : Quantifier → Phrase → Option WrittenCondition
 asked quantifier phrase = Some (record { quantifier = quantifier; phrase = phrase })

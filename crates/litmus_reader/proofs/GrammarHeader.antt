@@ -1,10 +1,6 @@
 -- A header line is read where it is spelled.
-use Rattle.std.proofs.Common.{◌≡◌, ℕ, true, ◌&&◌, List, length, nat_lt, Option, Some, None, Ok, refl, sym, ap, subst, ◌∙◌, inl, inr}
-use Rattle.std.specs.List.{list_all}
-use Rattle.tso_model.specs.Names.{is_test_name, is_printable}
-use Rattle.litmus_tokens.specs.Gap.{gap_end}
-use Rattle.litmus_reader.specs.inner.Header.{from_gap, judged, header_at}
-use Rattle.litmus_reader.specs.GrammarText.{first_line, IsHeaderLine, name_in}
+use Rattle.litmus_reader.proofs.Vocabulary.{◌≡◌, ℕ, true, ◌&&◌, List, length, nat_lt, Option, Some, None, Ok, refl, sym, ap, subst, ◌∙◌, inl, inr, list_all, is_test_name, is_printable, gap_end, from_gap, header_at, first_line, IsHeaderLine, name_in}
+use Rattle.litmus_reader.specs.inner.Header.{judged}
 use Rattle.litmus_reader.proofs.GrammarTokens.{chosen, ok_is, ok_pair, bind_ok}
 use Rattle.litmus_reader.proofs.GrammarGaps.{from_gap_ok}
 

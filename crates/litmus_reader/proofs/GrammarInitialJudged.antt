@@ -1,23 +1,9 @@
 -- An item more of the initial state, and what is given so far.
-use Rattle.std.proofs.Common.{◌≡◌, ℕ, suc, ◌+◌, ◌≤◌, ◌<◌, ◌^◌, Bool, true, false, cond, ltb, not, ◌||◌, List, [], ◌∷◌, ◌++◌, length, map, Some, None, Ok, Err, refl, sym, ap, subst, ◌∙◌, inl, inr, arith}
-use Rattle.std.specs.List.{list_any, list_all}
-use Rattle.std.specs.Str.{bytes_eq}
-use Rattle.std.proofs.lemmas.Bool.{ltb-true, ltb-false, and_parts, or_parts, not-true}
-use Rattle.std.proofs.lemmas.List.{length-append, map-append}
-use Rattle.std.proofs.lemmas.List.Folds.{list_any-append, list_all-append}
-use Rattle.tso_model.specs.declared.register.Reg.{Reg}
-use Rattle.tso_model.specs.declared.instruction.Loc.{Loc}
-use Rattle.litmus_cells.specs.declared.fault.Why.TheVariants.{TwiceInit}
-use Rattle.litmus_cells.specs.inner.Locations.{located}
-use Rattle.litmus_cells.specs.inner.Numbers.{or_bad_number, word_at}
-use Rattle.litmus_reader.specs.inner.Initial.{Given, given, Initial, initial, gives, judged}
-use Rattle.litmus_reader.specs.GrammarInitial.{given_value, same_place, each_once, names_in, Fits}
+use Rattle.litmus_reader.proofs.Vocabulary.{◌≡◌, ℕ, suc, ◌+◌, ◌≤◌, ◌<◌, ◌^◌, Bool, true, false, cond, ltb, not, ◌||◌, List, [], ◌∷◌, ◌++◌, length, map, Some, None, Ok, Err, refl, sym, ap, subst, ◌∙◌, inl, inr, arith, list_any, list_all, bytes_eq, ltb-true, ltb-false, and_parts, or_parts, not-true, length-append, map-append, list_any-append, list_all-append, Reg, Loc, TwiceInit, located, or_bad_number, word_at, Given, Initial, initial, gives, judged, given_value, same_place, each_once, names_in, Fits, fault, number_of, with_name, location, Setting, of_register, of_location}
+use Rattle.litmus_reader.specs.inner.Initial.{given}
 use Rattle.litmus_reader.proofs.Maps.{list_any_map}
 use Rattle.litmus_reader.proofs.GrammarNames.{place_below, place_none}
 use Rattle.litmus_reader.proofs.GrammarTokens.{chosen, ok_is, bind_ok}
-use Rattle.litmus_cells.specs.Places.{fault}
-use Rattle.litmus_cells.specs.GrammarNames.{number_of, with_name, location}
-use Rattle.litmus_reader.specs.Written.{Setting, of_register, of_location}
 
 -- ---- what settings give
 

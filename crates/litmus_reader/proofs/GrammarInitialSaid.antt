@@ -1,30 +1,10 @@
 -- What has been read of the initial state is what its settings say.
-use Rattle.std.proofs.Common.{◌≡◌, ℕ, zero, suc, ◌+◌, ◌-◌, ◌<◌, Bool, true, false, cond, eqb, eqb-true, ltb, not, ◌||◌, ◌&&◌, List, [], ◌∷◌, ◌++◌, length, map, get_or, replicate, Result, Ok, Err, refl, sym, ap, subst, ◌∙◌, append_assoc, arith}
-use Rattle.std.specs.List.{list_any, list_all, range_with_len}
-use Rattle.std.specs.Str.{bytes_eq}
-use Rattle.std.proofs.lemmas.Bool.{ltb-true, eqb-false, and_parts, or_parts, not-true}
-use Rattle.std.proofs.lemmas.Slice.Eq.{bytes_eq-Decides}
-use Rattle.std.proofs.lemmas.List.{length-append, append-nil, map-append, length-set, ext_get_or, get_or-set_same, get_or-set_other}
-use Rattle.std.proofs.lemmas.List.FromFn.{length-map-range_with_len, get_or-map-range_with_len}
-use Rattle.std.proofs.lemmas.List.Folds.{list_any-append, list_all-append}
-use Rattle.tso_model.specs.Registers.{index_of}
+use Rattle.litmus_reader.proofs.Vocabulary.{◌≡◌, ℕ, zero, suc, ◌+◌, ◌-◌, ◌<◌, Bool, true, false, cond, eqb, eqb-true, ltb, not, ◌||◌, ◌&&◌, List, [], ◌∷◌, ◌++◌, length, map, get_or, replicate, Result, Ok, Err, refl, sym, ap, subst, ◌∙◌, append_assoc, arith, list_any, list_all, range_with_len, bytes_eq, ltb-true, eqb-false, and_parts, or_parts, not-true, bytes_eq-Decides, length-append, append-nil, map-append, length-set, ext_get_or, get_or-set_same, get_or-set_other, length-map-range_with_len, get_or-map-range_with_len, list_any-append, list_all-append, index_of, Reg, Eax, Ebx, Ecx, Edx, Esi, Edi, decimal_value, Fault, NoSuchCore, ◌>>=◌, core_of, Given, Initial, no_registers, with_register, registers_with, words_of, same_place, each_once, names_in, Fits, has_core, value_in, names_register, first_words, first_registers_of, first_registers, numbered, with_name, fault, Setting, of_register, of_location}
 use Rattle.tso_model.specs.Thread.{with_value}
-use Rattle.tso_model.specs.declared.register.Reg.{Reg}
-use Rattle.tso_model.specs.declared.register.Reg.TheVariants.{Eax, Ebx, Ecx, Edx, Esi, Edi}
-use Rattle.decimals.specs.Decimals.{decimal_value}
-use Rattle.litmus_cells.specs.declared.fault.Fault.{Fault}
-use Rattle.litmus_cells.specs.declared.fault.Why.TheVariants.{NoSuchCore}
-use Rattle.litmus_cells.specs.inner.Faults.{◌>>=◌}
-use Rattle.litmus_reader.specs.inner.Settings.{core_of}
-use Rattle.litmus_reader.specs.inner.Initial.{Given, Initial, no_registers, with_register, registers_with, words_of}
-use Rattle.litmus_reader.specs.GrammarInitial.{same_place, each_once, names_in, Fits, has_core, value_in, names_register, first_words, first_registers_of, first_registers}
 use Rattle.litmus_reader.proofs.GrammarTokens.{bind_ok}
-use Rattle.litmus_cells.specs.GrammarNames.{numbered, with_name}
 use Rattle.litmus_reader.proofs.GrammarNames.{same_bytes}
 use Rattle.litmus_reader.proofs.GrammarInitialJudged.{words_in, settings_of_registers, unplaced, Holds, names_in-append, a_word_each, location_given, once_apart}
 use Rattle.litmus_reader.proofs.Readings.{Says}
-use Rattle.litmus_cells.specs.Places.{fault}
-use Rattle.litmus_reader.specs.Written.{Setting, of_register, of_location}
 
 -- ---- first words and registers
 

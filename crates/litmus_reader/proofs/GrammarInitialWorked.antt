@@ -1,13 +1,7 @@
 -- `{ x=1; ; 1:eax=2; [y]=3 }`, an initial state with an item of each form.
-use Rattle.std.proofs.Common.{◌≡◌, List, [], ◌∷◌, refl, arith}
-use Rattle.std.specs.Prelude.{codes}
-use Rattle.tso_model.specs.declared.register.Reg.TheVariants.{Eax}
-use Rattle.litmus_tokens.specs.declared.token.Symbol.TheVariants.{Equals, Colon, OpenSquare, CloseSquare, OpenCurly, CloseCurly, Semicolon}
+use Rattle.litmus_reader.proofs.Vocabulary.{◌≡◌, List, [], ◌∷◌, refl, arith, codes, Eax, Equals, Colon, OpenSquare, CloseSquare, OpenCurly, CloseCurly, Semicolon, Term, number, name, symbol, sets_register, sets_location, sets_in_squares, empty, given, last, IsInitialState, in_braces, Fits, first_words, first_registers, Setting, of_register, of_location}
 use Rattle.decimals.specs.Decimals.{decimal_from}
-use Rattle.litmus_tokens.specs.Terms.{Term, number, name, symbol}
-use Rattle.litmus_reader.specs.GrammarItems.{sets_register, sets_location, sets_in_squares}
-use Rattle.litmus_reader.specs.GrammarInitial.{empty, given, last, more, IsInitialState, in_braces, Fits, first_words, first_registers}
-use Rattle.litmus_reader.specs.Written.{Setting, of_register, of_location}
+use Rattle.litmus_reader.specs.GrammarInitial.{more}
 
 abbrev tokens : List Term
 tokens =

@@ -1,22 +1,8 @@
 -- Items are read where they are spelled.
-use Rattle.std.proofs.Common.{◌≡◌, ℕ, List, [], ◌∷◌, ◌++◌, Ok, refl, ap, subst, ◌∙◌, inl, inr}
-use Rattle.litmus_tokens.specs.declared.token.Symbol.TheVariants.{Equals, Colon, OpenSquare, CloseSquare}
-use Rattle.decimals.specs.Decimals.{decimal_value}
-use Rattle.litmus_tokens.specs.Terms.{Term, number, name, symbol}
-use Rattle.litmus_tokens.specs.Pieces.{Piece}
-use Rattle.litmus_tokens.specs.Front.{is_symbol}
-use Rattle.litmus_tokens.specs.inner.Front.{symbol_at, name_at, number_at}
-use Rattle.litmus_reader.specs.declared.fault.Part.{Part}
-use Rattle.litmus_cells.specs.inner.Faults.{there}
-use Rattle.litmus_reader.specs.inner.Faults.{or_unfit}
-use Rattle.litmus_cells.specs.inner.Names.{location_at, register_at}
-use Rattle.litmus_reader.specs.inner.Settings.{value_at, register_setting, square_setting, plain_setting, setting_at}
-use Rattle.litmus_reader.specs.Grammar.{terms}
-use Rattle.litmus_reader.specs.GrammarItems.{IsSetting, sets_register, sets_location, sets_in_squares}
+use Rattle.litmus_reader.proofs.Vocabulary.{◌≡◌, ℕ, List, [], ◌∷◌, ◌++◌, Ok, refl, ap, subst, ◌∙◌, inl, inr, Equals, Colon, OpenSquare, CloseSquare, decimal_value, Term, number, name, symbol, Piece, is_symbol, symbol_at, name_at, number_at, Part, there, or_unfit, location_at, register_at, value_at, register_setting, square_setting, plain_setting, setting_at, terms, IsSetting, sets_register, sets_location, sets_in_squares, Setting, of_register, of_location}
 use Rattle.litmus_reader.proofs.GrammarTokens.{there_is, ok_pair, bind_ok, or_unfit_ok, opened, number_takes, symbol_takes}
 use Rattle.litmus_reader.proofs.GrammarCells.{location_takes, register_takes}
 use Rattle.litmus_reader.proofs.Readings.{Reads, Begins}
-use Rattle.litmus_reader.specs.Written.{Setting, of_register, of_location}
 
 abbrev Found : Part → Setting → List Term → List Piece → Type 0
 Found part s back ps = Reads (setting_at part ps) s back

@@ -1,27 +1,9 @@
 -- What readings of conditions leave are the last tokens.
-use Rattle.std.proofs.Common.{ℕ, zero, suc, Bool, true, false, List, length, Option, Some, None, Result, Ok, Err, IfOk, IfSome}
-use Rattle.std.specs.Prelude.{codes}
-use Rattle.std.specs.Str.{bytes_eq}
-use Rattle.tso_model.specs.Condition.{Claim}
-use Rattle.tso_model.specs.declared.condition.Quantifier.{Quantifier}
-use Rattle.tso_model.specs.declared.condition.Quantifier.TheVariants.{Exists, NotExists, Forall}
-use Rattle.litmus_tokens.specs.declared.token.Stop.{Stop}
-use Rattle.litmus_tokens.specs.declared.token.Symbol.{Symbol}
-use Rattle.litmus_tokens.specs.declared.token.Symbol.TheVariants.{OpenRound, CloseRound, And, Or, Tilde}
-use Rattle.litmus_tokens.specs.Pieces.{Piece}
-use Rattle.litmus_tokens.specs.inner.Front.{symbol_at, name_at}
-use Rattle.litmus_cells.specs.declared.fault.Fault.{Fault}
-use Rattle.tso_model.specs.Limits.{most_open}
-use Rattle.litmus_cells.specs.inner.Faults.{◌>>=◌}
-use Rattle.litmus_reader.specs.inner.Faults.{or_unfit}
-use Rattle.litmus_reader.specs.inner.Keywords.{if_word, word_after}
-use Rattle.litmus_reader.specs.inner.Settings.{setting_at}
+use Rattle.litmus_reader.proofs.Vocabulary.{ℕ, zero, suc, Bool, true, false, List, length, Option, Some, None, Result, Ok, Err, IfOk, IfSome, codes, bytes_eq, Claim, Quantifier, Exists, NotExists, Forall, Stop, Symbol, OpenRound, CloseRound, And, Or, Tilde, Piece, symbol_at, name_at, Fault, most_open, ◌>>=◌, or_unfit, if_word, word_after, setting_at, claim_in, Claimed, one_more, truth_at, truth_atom, setting_atom, atom_at, Proposition, joined_to, chain, chain_of, conjunction, disjunction, negation_at, opens_unit, negated, bracketed, unit_by, unit_at, proposition_at, Conditioned, quantified, not_exists, condition_at, in_condition, remaining_of}
 use Rattle.litmus_reader.specs.inner.Conditions as reading
-use Rattle.litmus_reader.specs.inner.Conditions.{claim_in, Claimed, one_more, truth_at, truth_atom, setting_atom, atom_at, Proposition, joined_to, chain, chain_of, conjunction, disjunction, negation_at, opens_unit, negated, bracketed, unit_by, unit_at, proposition_at, Conditioned, quantified, not_exists, condition_at, in_condition}
 use Rattle.litmus_reader.proofs.Keeps.{Any, ok_any, bind_keeps, there_keeps, cond_keeps, or_unfit_keeps}
 use Rattle.litmus_reader.proofs.GrammarAfter.{all_last, last_further, Leaves, symbol_leaves, name_leaves, setting_leaves}
 use Rattle.litmus_reader.proofs.Readings.{AreLast}
-use Rattle.litmus_reader.specs.Places.{remaining_of}
 
 abbrev pub LeavesLast : Proposition → Type 0
 LeavesLast unit = (atoms : ℕ) (names : List (List ℕ)) (ps : List Piece) → IfOk (unit atoms names ps) (λ c. AreLast ps c.rest)

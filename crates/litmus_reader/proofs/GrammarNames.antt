@@ -1,10 +1,5 @@
 -- Locations keep their numbers as others appear.
-use Rattle.std.proofs.Common.{◌≡◌, ℕ, ◌≤◌, ◌<◌, Bool, true, false, cond, ◌||◌, List, [], ◌∷◌, ◌++◌, length, refl, ◌∙◌, arith}
-use Rattle.std.specs.List.{list_any, position_or_len}
-use Rattle.std.specs.Str.{bytes_eq}
-use Rattle.std.proofs.lemmas.Slice.Eq.{bytes_eq-Decides}
-use Rattle.std.proofs.lemmas.List.{length-append}
-use Rattle.litmus_cells.specs.GrammarNames.{numbered, number_of, with_name}
+use Rattle.litmus_reader.proofs.Vocabulary.{◌≡◌, ℕ, ◌≤◌, ◌<◌, Bool, true, false, cond, ◌||◌, List, [], ◌∷◌, ◌++◌, length, refl, ◌∙◌, arith, list_any, position_or_len, bytes_eq, bytes_eq-Decides, length-append, numbered, number_of, with_name}
 
 abbrev pub Known : List (List ℕ) → List ℕ → Type 0
 Known names x = list_any (bytes_eq x) names ≡ true

@@ -1,31 +1,14 @@
 -- Propositions by their phrases: claims as names appear, and parts with a symbol between them.
-use Rattle.std.proofs.Common.{◌≡◌, ℕ, zero, suc, ◌+◌, ◌≤◌, true, false, List, [], ◌∷◌, ◌++◌, length, Some, None, Ok, refl, sym, ap, subst, ◌∙◌, inl, inr, append_assoc, arith}
-use Rattle.std.specs.List.{list_all}
-use Rattle.std.proofs.lemmas.Bool.{and_from, and_parts}
-use Rattle.std.proofs.lemmas.List.{length-append, length-map}
-use Rattle.std.proofs.lemmas.List.Folds.{list_all-append}
-use Rattle.tso_model.specs.Condition.{Claim, LocClaim, NotClaim}
-use Rattle.litmus_tokens.specs.declared.token.Symbol.{Symbol}
-use Rattle.litmus_tokens.specs.declared.token.Symbol.TheVariants.{And, Or}
-use Rattle.litmus_tokens.specs.Terms.{Term, symbol}
-use Rattle.litmus_tokens.specs.Pieces.{Piece}
-use Rattle.litmus_tokens.specs.Front.{is_symbol, is_symbol_term}
-use Rattle.litmus_tokens.specs.inner.Front.{symbol_at}
-use Rattle.litmus_cells.specs.inner.Faults.{◌>>=◌}
+use Rattle.litmus_reader.proofs.Vocabulary.{◌≡◌, ℕ, zero, suc, ◌+◌, ◌≤◌, true, false, List, [], ◌∷◌, ◌++◌, length, Some, None, Ok, refl, sym, ap, subst, ◌∙◌, inl, inr, append_assoc, arith, list_all, and_from, and_parts, length-append, length-map, list_all-append, Claim, LocClaim, NotClaim, Symbol, And, Or, Term, symbol, Piece, is_symbol, is_symbol_term, symbol_at, ◌>>=◌, claim_in, Claimed, claimed, one_more, truth_at, truth_atom, setting_atom, atom_at, Proposition, joined_to, chain, chain_of, conjunction, disjunction, negation_at, opens_unit, negated, bracketed, unit_by, unit_at, proposition_at, terms, numbered, names_in, is_allowed, AreJoined, one, IsConjunction, IsProposition, locations_in, atoms_of, PhraseFits, claim_by, IsWithin, Setting, of_register, of_location, Phrase, truth, atom, negation, either, begins_with}
 use Rattle.litmus_reader.specs.inner.Conditions as reading
-use Rattle.litmus_reader.specs.inner.Conditions.{claim_in, Claimed, claimed, one_more, truth_at, truth_atom, setting_atom, atom_at, Proposition, joined_to, chain, chain_of, conjunction, disjunction, negation_at, opens_unit, negated, bracketed, unit_by, unit_at, proposition_at}
-use Rattle.litmus_reader.specs.Grammar.{terms}
-use Rattle.litmus_cells.specs.GrammarNames.{numbered}
-use Rattle.litmus_reader.specs.GrammarInitial.{names_in, is_allowed}
-use Rattle.litmus_reader.specs.GrammarConditions.{AreJoined, one, more, IsConjunction, IsProposition, settings_in, locations_in, atoms_of, PhraseFits, claim_by, IsWithin}
+use Rattle.litmus_reader.specs.GrammarConditions.{more, settings_in}
 use Rattle.litmus_reader.proofs.Keeps.{ok_is as keeps_ok, some_is as keeps_some}
 use Rattle.litmus_reader.proofs.GrammarAfter.{last_further, symbol_leaves}
 use Rattle.litmus_reader.proofs.GrammarLast.{LeavesLast, chain_leaves}
 use Rattle.litmus_reader.proofs.GrammarTokens.{there_is, ok_is, bind_ok, front, symbol_takes, spelled_so}
 use Rattle.litmus_reader.proofs.GrammarNames.{Known, known_with, known_more, number_more, numbered_append, grows}
 use Rattle.litmus_reader.proofs.Readings.{given_by, ReadsPhrase, AreLast}
-use Rattle.litmus_reader.specs.Written.{Setting, of_register, of_location, Phrase, truth, atom, negation, both, either}
-use Rattle.litmus_reader.specs.Misfits.{begins_with}
+use Rattle.litmus_reader.specs.Written.{both}
 
 -- ---- claims stay as more names appear
 

@@ -1,27 +1,9 @@
 -- Conditions are read as they are spelled.
-use Rattle.std.proofs.Common.{◌≡◌, ℕ, ◌≤◌, false, List, [], ◌∷◌, ◌++◌, length, None, Ok, refl, sym, ap, subst, ◌∙◌, ◌⊎◌, inl, inr, append_assoc}
-use Rattle.std.specs.Prelude.{codes}
-use Rattle.tso_model.specs.declared.condition.Quantifier.{Quantifier}
-use Rattle.tso_model.specs.declared.condition.Quantifier.TheVariants.{Exists, NotExists, Forall}
-use Rattle.litmus_tokens.specs.declared.token.Stop.{Stop}
-use Rattle.litmus_tokens.specs.declared.token.Symbol.TheVariants.{And, Or, Tilde}
-use Rattle.litmus_tokens.specs.Terms.{Term, name, symbol}
-use Rattle.litmus_tokens.specs.Pieces.{Piece}
-use Rattle.litmus_tokens.specs.Front.{is_symbol, is_symbol_term}
-use Rattle.litmus_tokens.specs.inner.Front.{symbol_at, name_at}
-use Rattle.tso_model.specs.Limits.{most_open}
-use Rattle.litmus_cells.specs.inner.Faults.{there}
-use Rattle.litmus_reader.specs.inner.Faults.{or_unfit}
-use Rattle.litmus_reader.specs.inner.Keywords.{word_after}
-use Rattle.litmus_reader.specs.inner.Conditions.{Conditioned, conditioned, with_claim, quantified, not_exists, condition_at, proposition_at, in_condition}
-use Rattle.litmus_reader.specs.Grammar.{terms}
-use Rattle.litmus_reader.specs.GrammarConditions.{IsUnit, IsProposition, IsWithin, IsQuantifier, says_exists, says_forall, says_not_exists, IsCondition, condition}
+use Rattle.litmus_reader.proofs.Vocabulary.{◌≡◌, ℕ, ◌≤◌, false, List, [], ◌∷◌, ◌++◌, length, None, Ok, refl, sym, ap, subst, ◌∙◌, ◌⊎◌, inl, inr, append_assoc, codes, Quantifier, Exists, NotExists, Forall, Stop, And, Or, Tilde, Term, name, symbol, Piece, is_symbol, is_symbol_term, symbol_at, name_at, most_open, there, or_unfit, word_after, Conditioned, conditioned, with_claim, quantified, not_exists, condition_at, proposition_at, in_condition, terms, IsUnit, IsProposition, IsWithin, IsQuantifier, says_exists, says_forall, says_not_exists, IsCondition, condition, Phrase, begins_with}
 use Rattle.litmus_reader.proofs.GrammarTokens.{there_is, ok_is, bind_ok, or_unfit_ok, opened, symbol_takes}
 use Rattle.litmus_reader.proofs.GrammarAtoms.{word_taken}
 use Rattle.litmus_reader.proofs.GrammarConditions.{proposition_again, proposition_spelled}
 use Rattle.litmus_reader.proofs.Readings.{condition_by, ReadsCondition, SpellsCondition, ReadsNone}
-use Rattle.litmus_reader.specs.Written.{Phrase}
-use Rattle.litmus_reader.specs.Misfits.{begins_with}
 
 -- ---- found
 

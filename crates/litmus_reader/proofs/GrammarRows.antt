@@ -1,30 +1,10 @@
 -- Rows are separated into cells as they are spelled.
-use Rattle.std.proofs.Common.{◌≡◌, ℕ, suc, ◌+◌, ◌<◌, Bool, true, false, ltb, List, [], ◌∷◌, ◌++◌, length, Option, Some, None, Ok, Err, refl, sym, ap, subst, ◌∙◌, inl, inr, append_assoc, arith}
-use Rattle.std.specs.List.{slice_split, onto_first, position_or_len, before_first, after_first}
-use Rattle.std.proofs.lemmas.Bool.{ltb-true, lt-ltb}
-use Rattle.std.proofs.lemmas.List.{append-nil}
-use Rattle.std.proofs.lemmas.List.Splits.{slice_split-cons_yes, slice_split-cons_no}
-use Rattle.litmus_tokens.specs.declared.token.Stop.{Stop}
-use Rattle.litmus_tokens.specs.declared.token.Symbol.{Symbol}
-use Rattle.litmus_tokens.specs.declared.token.Symbol.TheVariants.{OpenSquare, CloseSquare, Comma, Dollar, Semicolon, Bar}
-use Rattle.litmus_tokens.specs.Terms.{Term, symbol}
-use Rattle.litmus_tokens.specs.Pieces.{Piece}
-use Rattle.litmus_tokens.specs.Front.{is_symbol_term, is_symbol}
-use Rattle.litmus_tokens.specs.inner.Front.{name_at}
-use Rattle.tso_model.specs.declared.register.Reg.{Reg}
-use Rattle.litmus_cells.specs.declared.fault.Why.TheVariants.{Unclosed}
-use Rattle.litmus_cells.specs.inner.Forms.{spelled_in}
-use Rattle.litmus_reader.specs.inner.Rows.{row_at}
-use Rattle.litmus_reader.specs.Grammar.{terms}
-use Rattle.litmus_reader.specs.GrammarCells.{IsConstant, plain, with_dollar, IsMemory, in_squares, IsRegister, named, IsMnemonic, spelled, separated, IsExchange, memory_first, register_first, IsCell, stores_constant, stores_register, loads, sets_constant, sets_register, fences, exchanges, locks_exchange, locks_add, moves}
-use Rattle.litmus_reader.specs.GrammarRows.{IsField, empty, full, AreFields, last, more, IsRow, row}
+use Rattle.litmus_reader.proofs.Vocabulary.{◌≡◌, ℕ, suc, ◌+◌, ◌<◌, Bool, true, false, ltb, List, [], ◌∷◌, ◌++◌, length, Option, Some, None, Ok, Err, refl, sym, ap, subst, ◌∙◌, inl, inr, append_assoc, arith, slice_split, onto_first, position_or_len, before_first, after_first, ltb-true, lt-ltb, append-nil, slice_split-cons_yes, slice_split-cons_no, Stop, Symbol, OpenSquare, CloseSquare, Comma, Dollar, Semicolon, Bar, Term, symbol, Piece, is_symbol_term, is_symbol, name_at, Reg, Unclosed, spelled_in, row_at, terms, IsConstant, plain, with_dollar, IsMemory, in_squares, IsRegister, named, IsMnemonic, spelled, separated, IsExchange, memory_first, register_first, IsCell, stores_constant, stores_register, loads, sets_constant, fences, exchanges, locks_exchange, locks_add, moves, IsField, full, AreFields, IsRow, row, fault, at_stop, remaining_of, Shape, cells_of}
+use Rattle.litmus_reader.specs.GrammarCells.{sets_register}
+use Rattle.litmus_reader.specs.GrammarRows.{empty, last, more}
 use Rattle.litmus_reader.proofs.GrammarTokens.{chosen, ok_pair, symbol_is, spelled_so}
 use Rattle.litmus_reader.proofs.GrammarCells.{cell_again, cell_takes}
 use Rattle.litmus_reader.proofs.Readings.{Begins, ReadsRow, IsReadAs, AreReadAs}
-use Rattle.litmus_cells.specs.Places.{fault}
-use Rattle.litmus_reader.specs.Places.{at_stop, remaining_of}
-use Rattle.litmus_cells.specs.Shapes.{Shape}
-use Rattle.litmus_reader.specs.RefusedTable.{cells_of}
 
 -- ---- cells have no `|` and no `;`
 

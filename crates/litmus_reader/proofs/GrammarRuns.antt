@@ -1,10 +1,5 @@
 -- Runs of bytes are found where they are spelled, and lines are within their bytes.
-use Rattle.std.proofs.Common.{◌≡◌, ℕ, ◌≤◌, Bool, true, false, eqb, eqb-true, not, ◌&&◌, List, [], ◌∷◌, ◌++◌, length, drop, refl, sym, ap, ◌∙◌, ◌⊎◌, inl, inr, true≢false, arith}
-use Rattle.std.specs.List.{list_all, prefix_len}
-use Rattle.std.proofs.Math.Seq.{drop-append_seam}
-use Rattle.std.proofs.lemmas.Bool.{not-true}
-use Rattle.std.proofs.lemmas.List.{length-drop}
-use Rattle.litmus_reader.specs.GrammarText.{first_line}
+use Rattle.litmus_reader.proofs.Vocabulary.{◌≡◌, ℕ, ◌≤◌, Bool, true, false, eqb, eqb-true, not, ◌&&◌, List, [], ◌∷◌, ◌++◌, length, drop, refl, sym, ap, ◌∙◌, ◌⊎◌, inl, inr, true≢false, arith, list_all, prefix_len, drop-append_seam, not-true, length-drop, first_line}
 
 pub both : (a b : Bool) → (a && b) ≡ true → (a ≡ true) × (b ≡ true)
 both true b e = (refl, e)

@@ -1,13 +1,7 @@
 -- Instructions keep their locations' numbers as other names appear.
-use Rattle.std.proofs.Common.{◌≡◌, ℕ, List, [], ◌∷◌, refl, sym, ap, subst, ◌∙◌}
-use Rattle.tso_model.specs.declared.instruction.Instr.TheVariants.{StoreImm, StoreReg, Load, Xchg, Xadd}
-use Rattle.litmus_cells.specs.declared.cell.CoreInstr.{CoreInstr}
-use Rattle.litmus_cells.specs.GrammarNames.{numbered, location}
-use Rattle.litmus_reader.specs.GrammarTable.{instr_with, location_in}
+use Rattle.litmus_reader.proofs.Vocabulary.{◌≡◌, ℕ, List, [], ◌∷◌, refl, sym, ap, subst, ◌∙◌, StoreImm, StoreReg, Load, Xchg, Xadd, CoreInstr, numbered, location, instr_with, location_in, of_core, Shape, store_imm, store_reg, load, set_imm, set_reg, fence, xchg, xadd}
 use Rattle.litmus_reader.proofs.Placed.{Placed, instrs_with, locations_of}
-use Rattle.litmus_cells.specs.inner.Cells.{of_core}
 use Rattle.litmus_reader.proofs.GrammarNames.{Known, known_more, number_more, known_with, numbered_append}
-use Rattle.litmus_cells.specs.Shapes.{Shape, store_imm, store_reg, load, set_imm, set_reg, fence, xchg, xadd}
 
 -- the location that an instruction names, if it does, is among the names
 abbrev pub ShapeKnown : List (List ℕ) → Shape → Type 0

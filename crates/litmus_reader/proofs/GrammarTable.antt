@@ -1,35 +1,14 @@
 -- Rows one after the other are read as they are spelled.
-use Rattle.std.proofs.Common.{◌≡◌, ℕ, zero, suc, ◌≤◌, ◌<◌, Bool, true, false, eqb, eqb-true, eq-eqb, IsTrue, List, [], ◌∷◌, ◌++◌, length, Option, Ok, Err, refl, sym, ap, subst, ◌∙◌, inl, inr, append_assoc, arith}
-use Rattle.std.specs.Prelude.{codes}
-use Rattle.std.specs.Str.{bytes_eq}
-use Rattle.std.proofs.lemmas.Slice.Eq.{bytes_eq-Decides}
-use Rattle.std.proofs.lemmas.List.{length-append, length-map, append-nil}
-use Rattle.tso_model.specs.Registers.{same_letters}
-use Rattle.litmus_tokens.specs.declared.token.Stop.{Stop}
-use Rattle.litmus_tokens.specs.declared.token.Symbol.TheVariants.{Semicolon, Bar}
-use Rattle.litmus_tokens.specs.Terms.{Term, symbol}
-use Rattle.litmus_tokens.specs.Pieces.{Piece}
-use Rattle.litmus_tokens.specs.Front.{is_symbol}
-use Rattle.litmus_cells.specs.declared.fault.Why.TheVariants.{WrongCells}
-use Rattle.litmus_cells.specs.declared.cell.CoreInstr.{CoreInstr}
-use Rattle.litmus_cells.specs.inner.Faults.{◌>>=◌}
-use Rattle.litmus_reader.specs.inner.Cells.{cells_in}
-use Rattle.litmus_reader.specs.inner.Rows.{row_at, counted, row_in, Rows, rows, rows_within, rows_at}
-use Rattle.litmus_reader.specs.Grammar.{terms}
-use Rattle.litmus_reader.specs.GrammarCells.{IsMnemonic, spelled, separated, IsExchange, memory_first, register_first, IsCell, stores_constant, stores_register, loads, sets_constant, sets_register, fences, exchanges, locks_exchange, locks_add, moves}
-use Rattle.litmus_cells.specs.GrammarNames.{numbered}
+use Rattle.litmus_reader.proofs.Vocabulary.{◌≡◌, ℕ, zero, suc, ◌≤◌, ◌<◌, Bool, true, false, eqb, eqb-true, eq-eqb, IsTrue, List, [], ◌∷◌, ◌++◌, length, Option, Ok, Err, refl, sym, ap, subst, ◌∙◌, inl, inr, append_assoc, arith, codes, bytes_eq, bytes_eq-Decides, length-append, length-map, append-nil, same_letters, Stop, Semicolon, Bar, Term, symbol, Piece, is_symbol, WrongCells, CoreInstr, ◌>>=◌, cells_in, row_at, counted, row_in, Rows, rows, rows_within, rows_at, terms, IsMnemonic, spelled, separated, IsExchange, memory_first, register_first, IsCell, stores_constant, stores_register, loads, sets_constant, fences, exchanges, locks_exchange, locks_add, moves, numbered, IsField, full, AreFields, IsRow, row, AreRows, ends_rows, fault, remaining_of, Shape, cells_of}
+use Rattle.litmus_reader.specs.GrammarCells.{sets_register}
 use Rattle.litmus_reader.specs.GrammarRows as grammar
-use Rattle.litmus_reader.specs.GrammarRows.{IsField, empty, full, AreFields, IsRow, row}
-use Rattle.litmus_reader.specs.GrammarTable.{AreRows, none, more, ends_rows}
+use Rattle.litmus_reader.specs.GrammarRows.{empty}
+use Rattle.litmus_reader.specs.GrammarTable.{none, more}
 use Rattle.litmus_reader.proofs.Placed.{Placed, placed_from, placed_in, EntriesWithin}
 use Rattle.litmus_reader.proofs.GrammarTokens.{chosen, ok_is, bind_ok}
 use Rattle.litmus_reader.proofs.GrammarRows.{row_again, row_takes}
 use Rattle.litmus_reader.proofs.GrammarTableEntries.{names_of, instrs_of, Read, read_of, within_first, within_none, cells_found, CellsTaken, cells_taken}
 use Rattle.litmus_reader.proofs.Readings.{AreReadAs, rows_by, ReadsPlaced, SpellsRows, ends_table}
-use Rattle.litmus_cells.specs.Places.{fault}
-use Rattle.litmus_reader.specs.Places.{remaining_of}
-use Rattle.litmus_cells.specs.Shapes.{Shape}
-use Rattle.litmus_reader.specs.RefusedTable.{cells_of}
 
 -- ---- a row begins with a cell, a `|` or a `;`
 

@@ -1,33 +1,11 @@
 -- Entries of rows: their instructions and locations, as cells are read one after the other.
-use Rattle.std.proofs.Common.{◌≡◌, ℕ, ◌+◌, ◌≤◌, ◌<◌, Bool, true, false, cond, eqb, eqb-true, eq-eqb, ltb, List, [], ◌∷◌, ◌++◌, length, Option, Some, None, Result, Ok, Err, refl, sym, ap, subst, ◌∙◌, inl, inr, append_assoc, arith}
-use Rattle.std.specs.Prelude.{count_by}
-use Rattle.std.specs.Str.{bytes_eq}
-use Rattle.std.proofs.lemmas.Bool.{ltb-true, lt-ltb}
-use Rattle.std.proofs.lemmas.List.{append-nil, map-append}
-use Rattle.std.proofs.lemmas.List.Sums.{sum_by-append}
-use Rattle.tso_model.specs.declared.instruction.Loc.{Loc}
-use Rattle.tso_model.specs.declared.instruction.Instr.{Instr}
-use Rattle.tso_model.specs.declared.instruction.Instr.TheVariants.{StoreImm, StoreReg, Load, SetImm, SetReg, Fence, Xchg, Xadd}
-use Rattle.litmus_tokens.specs.Pieces.{Piece}
-use Rattle.litmus_cells.specs.declared.fault.Why.TheVariants.{TooLarge}
-use Rattle.litmus_cells.specs.declared.fault.Fault.{Fault}
-use Rattle.litmus_cells.specs.declared.cell.CoreInstr.{CoreInstr}
-use Rattle.litmus_cells.specs.inner.Faults.{◌>>=◌}
-use Rattle.litmus_cells.specs.inner.Locations.{located}
-use Rattle.litmus_cells.specs.inner.Numbers.{word_at}
-use Rattle.litmus_cells.specs.inner.Forms.{spelled_in}
-use Rattle.litmus_cells.specs.inner.Cells.{instr_of, count_of, or_bad_instruction, cell_in, of_core}
-use Rattle.litmus_reader.specs.inner.Cells.{cells_in}
-use Rattle.litmus_cells.specs.GrammarNames.{numbered, number_of, with_name, location}
-use Rattle.litmus_reader.specs.GrammarTable.{location_in, instr_with, ValueFits}
+use Rattle.litmus_reader.proofs.Vocabulary.{◌≡◌, ℕ, ◌+◌, ◌≤◌, ◌<◌, Bool, true, false, cond, eqb, eqb-true, eq-eqb, ltb, List, [], ◌∷◌, ◌++◌, length, Option, Some, None, Result, Ok, Err, refl, sym, ap, subst, ◌∙◌, inl, inr, append_assoc, arith, count_by, bytes_eq, ltb-true, lt-ltb, append-nil, map-append, sum_by-append, Loc, Instr, StoreImm, StoreReg, Load, SetImm, SetReg, Fence, Xchg, Xadd, Piece, TooLarge, Fault, CoreInstr, ◌>>=◌, located, word_at, spelled_in, instr_of, count_of, or_bad_instruction, cell_in, of_core, cells_in, numbered, number_of, with_name, location, location_in, instr_with, ValueFits, fault, Shape, store_imm, store_reg, load, set_imm, set_reg, fence, xchg, xadd}
 use Rattle.litmus_reader.proofs.Placed.{Placed, placed, placed_from, locations_of, instrs_with, ValuesFit, EntriesWithin}
 use Rattle.litmus_reader.proofs.GrammarTokens.{chosen, ok_is, ok_pair, bind_ok}
 use Rattle.litmus_reader.proofs.GrammarNames.{place_below, known_with, number_with, numbered_append, grows}
 use Rattle.litmus_reader.proofs.GrammarAtoms.{word_is, word_ok, located_ok, room_with}
 use Rattle.litmus_reader.proofs.GrammarShapes.{entries_known, instrs_stay}
 use Rattle.litmus_reader.proofs.Readings.{AreReadAs}
-use Rattle.litmus_cells.specs.Places.{fault}
-use Rattle.litmus_cells.specs.Shapes.{Shape, store_imm, store_reg, load, set_imm, set_reg, fence, xchg, xadd}
 
 -- ---- entries so far
 

@@ -1,39 +1,13 @@
 -- A whole text is read as it is spelled.
-use Rattle.std.proofs.Common.{◌≡◌, ℕ, suc, ◌≤◌, ◌+◌, true, false, ltb, List, [], ◌∷◌, ◌++◌, length, map, drop, Option, Result, Ok, Err, IfOk, refl, sym, ap, subst, ◌∙◌, inl, inr, append_assoc, length-append, arith, IsTrue}
-use Rattle.std.proofs.lemmas.Bool.{ltb-false, le-ltb}
-use Rattle.std.proofs.lemmas.List.FromFn.{length-map-range_with_len}
-use Rattle.std.specs.List.{range_with_len}
-use Rattle.tso_model.specs.Litmus.{Litmus}
-use Rattle.tso_model.specs.declared.instruction.Instr.{Instr}
-use Rattle.litmus_tokens.specs.declared.token.Stop.{Stop}
-use Rattle.litmus_tokens.specs.Terms.{Term}
-use Rattle.litmus_tokens.specs.Pieces.{Piece, pieces_of}
-use Rattle.litmus_reader.specs.Limits.{longest_text}
-use Rattle.litmus_reader.specs.inner.Header.{sized, header_at}
-use Rattle.litmus_reader.specs.inner.Information.{braces_at}
-use Rattle.litmus_reader.specs.inner.Initial.{Initial, words_of, registers_of, initial_at}
-use Rattle.litmus_reader.specs.inner.Columns.{columns_at}
-use Rattle.litmus_reader.specs.inner.Rows.{Rows, Table, table, table_at, rows_at}
-use Rattle.litmus_reader.specs.inner.Reading.{programs_from, test_of, tail_at, body_of, reading_of}
-use Rattle.litmus_reader.specs.Grammar.{terms, Passes}
-use Rattle.litmus_cells.specs.GrammarNames.{numbered, with_name}
-use Rattle.litmus_reader.specs.GrammarText.{IsHeaderLine, AreInformationLines}
-use Rattle.litmus_reader.specs.GrammarInitial.{IsInitialState, Fits, has_cores, names_in, first_words, first_registers}
-use Rattle.litmus_reader.specs.GrammarColumns.{IsHeaderRow}
-use Rattle.litmus_reader.specs.GrammarTable.{AreRows}
+use Rattle.litmus_reader.proofs.Vocabulary.{◌≡◌, ℕ, suc, ◌≤◌, ◌+◌, true, false, ltb, List, [], ◌∷◌, ◌++◌, length, map, drop, Option, Result, Ok, Err, IfOk, refl, sym, ap, subst, ◌∙◌, inl, inr, append_assoc, arith, IsTrue, ltb-false, le-ltb, length-map-range_with_len, range_with_len, Litmus, Instr, Stop, Term, Piece, pieces_of, longest_text, sized, header_at, braces_at, Initial, words_of, registers_of, initial_at, columns_at, Rows, Table, table, table_at, rows_at, programs_from, test_of, tail_at, body_of, reading_of, terms, Passes, numbered, with_name, IsHeaderLine, AreInformationLines, IsInitialState, Fits, has_cores, names_in, first_words, first_registers, IsHeaderRow, AreRows, condition, says_exists, says_forall, says_not_exists, MayAsk, nothing, a_condition, IsEnding, at_once, after_locations, names_asked, condition_of, IsAskedWithin, IsBody, first_names, test_written, KeepsLimits, SpellsTest, Shape, Setting, WrittenCondition, Written}
+use Rattle.std.proofs.Common.{length-append}
 use Rattle.litmus_reader.proofs.Placed.{placed_in, instrs_with, locations_of, EntriesWithin}
-use Rattle.litmus_reader.specs.GrammarConditions.{condition, says_exists, says_forall, says_not_exists}
-use Rattle.litmus_reader.specs.GrammarEnding.{MayAsk, nothing, a_condition, IsEnding, at_once, after_locations, names_asked, condition_of, IsAskedWithin}
-use Rattle.litmus_reader.specs.GrammarTest.{IsBody, first_names, test_written, KeepsLimits}
-use Rattle.litmus_reader.specs.Spelling.{SpellsTest}
 use Rattle.litmus_reader.proofs.Columnwise.{named-same, programs-columns, entries_within, columns_within, program}
 use Rattle.litmus_reader.proofs.GrammarTokens.{chosen, bind_ok, ok_is}
 use Rattle.litmus_reader.proofs.GrammarNames.{numbered_append, with_name_by}
 use Rattle.litmus_reader.proofs.GrammarShapes.{entries_known, instrs_stay}
 use Rattle.litmus_reader.proofs.GrammarEnding.{Closes, Closed, Given, given, tail_again, tail_takes}
 use Rattle.litmus_reader.proofs.Readings.{Reads, Begins, Says, rows_by, ReadsPlaced, SpellsRows, AreLast, ends_table}
-use Rattle.litmus_cells.specs.Shapes.{Shape}
-use Rattle.litmus_reader.specs.Written.{Setting, WrittenCondition, Written}
 
 -- ---- lists
 

@@ -1,9 +1,5 @@
 -- All information lines, one after the other.
-use Rattle.std.proofs.Common.{◌≡◌, ℕ, zero, suc, ◌<◌, true, false, List, length, None, Result, Ok, Err, refl, arith}
-use Rattle.litmus_tokens.specs.Gap.{gap_end}
-use Rattle.litmus_cells.specs.declared.fault.Fault.{Fault}
-use Rattle.litmus_reader.specs.inner.Header.{from_gap}
-use Rattle.litmus_reader.specs.inner.Information.{information_end, begins_initial, braces_within, braces_at}
+use Rattle.litmus_reader.proofs.Vocabulary.{◌≡◌, ℕ, zero, suc, ◌<◌, true, false, List, length, None, Result, Ok, Err, refl, arith, gap_end, Fault, from_gap, information_end, begins_initial, braces_within, braces_at}
 
 -- the total is what the rest gives, in some number of steps that is enough
 pub record BracesAfter (bytes : List ℕ) (total : Result (List ℕ) Fault) : Type 0 where

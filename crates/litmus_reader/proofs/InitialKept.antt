@@ -1,25 +1,8 @@
 -- What the initial state gives stays within the limits of a test.
-use Rattle.std.proofs.Common.{◌≡◌, ℕ, zero, suc, ◌-◌, ◌≤◌, ◌<◌, ltb, List, [], ◌∷◌, length, replicate, Result, Ok, IfOk, refl, ◌∙◌, arith}
-use Rattle.std.specs.List.{list_any}
-use Rattle.std.proofs.lemmas.Bool.{ltb-false}
-use Rattle.std.proofs.lemmas.List.{length-append, length-replicate, length-set}
-use Rattle.std.proofs.lemmas.List.Elements.{All-nil}
-use Rattle.litmus_tokens.specs.declared.token.Stop.{Stop}
-use Rattle.litmus_tokens.specs.declared.token.Symbol.TheVariants.{OpenCurly, CloseCurly, Semicolon}
-use Rattle.litmus_tokens.specs.Pieces.{Piece}
-use Rattle.litmus_tokens.specs.inner.Front.{symbol_at}
-use Rattle.litmus_cells.specs.declared.fault.Fault.{Fault}
-use Rattle.litmus_reader.specs.declared.fault.Part.{Part}
-use Rattle.litmus_reader.specs.inner.Faults.{or_unfit}
-use Rattle.litmus_cells.specs.inner.Locations.{located}
-use Rattle.litmus_cells.specs.inner.Numbers.{word_at}
-use Rattle.litmus_reader.specs.inner.Settings.{setting_at, core_of}
-use Rattle.litmus_reader.specs.inner.Initial.{before_initial, Given, Initial, initial, gives, judged, item_in, step_in, items_within, items_at, initial_at, with_register, registers_with, registers_of, words_of, ends_item}
+use Rattle.litmus_reader.proofs.Vocabulary.{◌≡◌, ℕ, zero, suc, ◌-◌, ◌≤◌, ◌<◌, ltb, List, [], ◌∷◌, length, replicate, Result, Ok, IfOk, refl, ◌∙◌, arith, list_any, ltb-false, length-append, length-replicate, length-set, All-nil, Stop, OpenCurly, CloseCurly, Semicolon, Piece, symbol_at, Fault, Part, or_unfit, located, word_at, setting_at, core_of, before_initial, Given, Initial, initial, gives, judged, item_in, step_in, items_within, items_at, initial_at, with_register, registers_with, registers_of, words_of, ends_item, remaining_of, in_initial, Setting, of_register, of_location}
 use Rattle.litmus_reader.proofs.Keeps.{Any, ok_any, some_any, bind_keeps, there_keeps, cond_keeps, core_keeps}
 use Rattle.litmus_reader.proofs.Named.{NamedSetting, setting_named}
 use Rattle.litmus_reader.proofs.Known.{AreNames, LocatesIn, located_keeps}
-use Rattle.litmus_reader.specs.Places.{remaining_of, in_initial}
-use Rattle.litmus_reader.specs.Written.{Setting, of_register, of_location}
 
 -- the names of locations, of which each word so far has one
 pub record KeptInitial (i : Initial) : Type 0 where

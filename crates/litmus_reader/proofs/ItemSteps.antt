@@ -1,19 +1,6 @@
 -- All items of the initial state, one after the other.
-use Rattle.std.proofs.Common.{◌≡◌, ℕ, zero, suc, ◌≤◌, ◌<◌, List, [], ◌∷◌, length, Some, None, Result, Ok, Err, refl, sym, ap, ◌∙◌, arith}
-use Rattle.litmus_tokens.specs.declared.token.Stop.{Stop}
-use Rattle.litmus_tokens.specs.declared.token.Symbol.{Symbol}
-use Rattle.litmus_tokens.specs.declared.token.Symbol.TheVariants.{CloseCurly}
-use Rattle.litmus_tokens.specs.Pieces.{Piece}
-use Rattle.litmus_tokens.specs.inner.Front.{symbol_at, name_at, number_at}
-use Rattle.litmus_cells.specs.declared.fault.Fault.{Fault}
-use Rattle.litmus_reader.specs.declared.fault.Part.{Part}
-use Rattle.litmus_cells.specs.declared.fault.ReadError.{ReadError}
+use Rattle.litmus_reader.proofs.Vocabulary.{◌≡◌, ℕ, zero, suc, ◌≤◌, ◌<◌, List, [], ◌∷◌, length, Some, None, Result, Ok, Err, refl, sym, ap, ◌∙◌, arith, Stop, Symbol, CloseCurly, Piece, symbol_at, name_at, number_at, Fault, Part, ReadError, ◌>>=◌, Fails, location_at, plain_setting, setting_at, Initial, initial, item_in, step_in, items_within, items_at, opened_at, initial_at, unfit, remaining_of, in_initial}
 use Rattle.litmus_cells.specs.declared.fault.ReadError.TheVariants as errors
-use Rattle.litmus_cells.specs.inner.Faults.{◌>>=◌, Fails}
-use Rattle.litmus_cells.specs.inner.Names.{location_at}
-use Rattle.litmus_reader.specs.inner.Settings.{plain_setting, setting_at}
-use Rattle.litmus_reader.specs.inner.Initial.{Initial, initial, item_in, step_in, items_within, items_at, opened_at, initial_at}
-use Rattle.litmus_reader.specs.Places.{unfit, remaining_of, in_initial}
 
 abbrev pub ReadItems : Type 0
 ReadItems = Result (Initial × List Piece) Fault

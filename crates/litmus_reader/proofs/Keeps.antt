@@ -1,13 +1,5 @@
 -- What holds of whatever a reading answers.
-use Rattle.std.proofs.Common.{◌≡◌, ◌<◌, ℕ, ltb, Bool, true, false, cond, List, Option, Some, None, Result, Ok, Err, IfOk, IfSome, refl}
-use Rattle.std.proofs.lemmas.Bool.{ltb-true}
-use Rattle.decimals.specs.Decimals.{decimal_value}
-use Rattle.litmus_tokens.specs.Pieces.{Piece}
-use Rattle.litmus_cells.specs.declared.fault.Fault.{Fault}
-use Rattle.litmus_reader.specs.declared.fault.Part.{Part}
-use Rattle.litmus_cells.specs.inner.Faults.{◌>>=◌, there}
-use Rattle.litmus_reader.specs.inner.Faults.{or_unfit}
-use Rattle.litmus_reader.specs.inner.Settings.{core_of}
+use Rattle.litmus_reader.proofs.Vocabulary.{◌≡◌, ◌<◌, ℕ, ltb, Bool, true, false, cond, List, Option, Some, None, Result, Ok, Err, IfOk, IfSome, refl, ltb-true, decimal_value, Piece, Fault, Part, ◌>>=◌, there, or_unfit, core_of}
 
 pub bind_keeps : {A B : Type 0} (R : A → Type 0) (Q : B → Type 0) (r : Result A Fault) (f : A → Result B Fault)
     → IfOk r R → ((x : A) → R x → IfOk (f x) Q) → IfOk (r >>= f) Q

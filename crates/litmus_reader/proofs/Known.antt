@@ -1,18 +1,7 @@
 -- The names of locations stay distinct, spelled and few.
-use Rattle.std.proofs.Common.{◌≡◌, ℕ, zero, suc, ◌+◌, ◌≤◌, ◌<◌, Bool, true, false, cond, ltb, not, ◌||◌, IsTrue, List, [], ◌∷◌, ◌++◌, length, All, Result, IfOk, refl, arith}
-use Rattle.std.specs.List.{list_any, position_or_len}
-use Rattle.std.specs.Str.{bytes_eq}
-use Rattle.std.proofs.lemmas.Bool.{ltb-true, and_parts, or_parts, not-true}
-use Rattle.std.proofs.lemmas.List.{length-append}
-use Rattle.std.proofs.lemmas.List.Elements.{All-append}
-use Rattle.tso_model.specs.Litmus.{are_distinct}
-use Rattle.tso_model.specs.Names.{is_among}
-use Rattle.tso_model.specs.declared.instruction.Loc.{Loc}
-use Rattle.litmus_cells.specs.declared.fault.Fault.{Fault}
-use Rattle.litmus_cells.specs.inner.Locations.{located}
+use Rattle.litmus_reader.proofs.Vocabulary.{◌≡◌, ℕ, zero, suc, ◌+◌, ◌≤◌, ◌<◌, Bool, true, false, cond, ltb, not, ◌||◌, IsTrue, List, [], ◌∷◌, ◌++◌, length, All, Result, IfOk, refl, arith, list_any, position_or_len, bytes_eq, ltb-true, and_parts, or_parts, not-true, length-append, All-append, are_distinct, is_among, Loc, Fault, located, number_of, location}
 use Rattle.litmus_reader.proofs.Keeps.{cond_keeps}
 use Rattle.litmus_reader.proofs.Named.{IsLocation}
-use Rattle.litmus_cells.specs.GrammarNames.{number_of, location}
 
 -- names that the locations of a test may have
 pub record AreNames (names : List (List ℕ)) : Type 0 where

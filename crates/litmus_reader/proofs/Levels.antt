@@ -1,24 +1,8 @@
 -- What is at fault in a proposition by the levels at which it is read: atoms, units, units with `/\` between them, and these with `\/`
 -- between them.
-use Rattle.std.specs.Prelude.{◌≡◌, ◌≤◌, ◌^◌, ℕ, zero, suc, ◌+◌, List, ◌∷◌, ◌++◌, IsTrue, IsFalse}
-use Rattle.litmus_tokens.specs.declared.token.Stop.{Stop}
-use Rattle.litmus_tokens.specs.declared.token.Symbol.{Symbol}
-use Rattle.litmus_tokens.specs.declared.token.Symbol.TheVariants.{OpenRound, CloseRound, And, Or}
-use Rattle.litmus_tokens.specs.Terms.{Term, symbol}
-use Rattle.litmus_tokens.specs.Front.{is_symbol_term}
-use Rattle.litmus_tokens.specs.Pieces.{Piece}
-use Rattle.litmus_cells.specs.declared.fault.Why.TheVariants.{BadNumber, NoSuchCore, TooLarge, BadCondition}
-use Rattle.litmus_cells.specs.declared.fault.Fault.{Fault}
-use Rattle.litmus_reader.specs.Grammar.{terms}
-use Rattle.litmus_cells.specs.GrammarNames.{numbered}
-use Rattle.litmus_reader.specs.GrammarItems.{IsSetting}
-use Rattle.litmus_reader.specs.GrammarInitial.{given_value, has_core}
-use Rattle.litmus_reader.specs.GrammarConditions.{IsAtom, AreJoined, IsConjunction, IsProposition, IsUnit, locations_in, atoms_of, PhraseFits, IsWithin, is_negation}
-use Rattle.litmus_reader.specs.Misfits.{Misfits, begins_with}
-use Rattle.litmus_cells.specs.Places.{fault}
-use Rattle.litmus_reader.specs.Places.{remaining_of, unfit, part_of}
-use Rattle.litmus_reader.specs.Written.{Setting, Phrase, both, either}
-use Rattle.litmus_reader.specs.RefusedConditions.{begins_unit}
+use Rattle.litmus_reader.proofs.Vocabulary.{IsFalse, Stop, Symbol, OpenRound, CloseRound, And, Or, Term, symbol, is_symbol_term, Piece, BadNumber, NoSuchCore, TooLarge, BadCondition, Fault, terms, numbered, IsSetting, given_value, has_core, IsAtom, AreJoined, IsConjunction, IsProposition, IsUnit, locations_in, atoms_of, PhraseFits, IsWithin, is_negation, Misfits, begins_with, fault, remaining_of, unfit, part_of, Setting, Phrase, either, begins_unit}
+use Rattle.std.specs.Prelude.{◌≡◌, ◌≤◌, ◌^◌, ℕ, zero, suc, ◌+◌, List, ◌∷◌, ◌++◌, IsTrue}
+use Rattle.litmus_reader.specs.Written.{both}
 
 -- where an atom has to stand, in a test with so many cores, after so many atoms and what named these locations
 pub data IsAtomFault (stop : Stop) (cores atoms : ℕ) (names : List (List ℕ)) (ps : List Piece) : Fault → Type 0 where

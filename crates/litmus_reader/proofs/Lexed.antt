@@ -1,11 +1,5 @@
 -- All tokens of a text: those from a place on are those of the bytes that stand there.
-use Rattle.std.proofs.Common.{◌≡◌, ℕ, zero, suc, ◌≤◌, ◌<◌, List, [], ◌∷◌, ◌++◌, length, None, Result, Ok, Err, refl, sym, ap, subst, ◌∙◌, arith}
-use Rattle.std.proofs.lemmas.List.{length-append}
-use Rattle.litmus_tokens.specs.declared.token.Stop.{Stop}
-use Rattle.litmus_tokens.specs.declared.token.Stop.TheVariants.{End}
-use Rattle.litmus_tokens.specs.Gap.{gap_end}
-use Rattle.litmus_tokens.specs.Terms.{Term, term_at}
-use Rattle.litmus_tokens.specs.Pieces.{Piece, piece_at, onto, pieces_within, pieces_of}
+use Rattle.litmus_reader.proofs.Vocabulary.{◌≡◌, ℕ, zero, suc, ◌≤◌, ◌<◌, List, [], ◌∷◌, ◌++◌, length, None, Result, Ok, Err, refl, sym, ap, subst, ◌∙◌, arith, length-append, Stop, End, gap_end, Term, term_at, Piece, piece_at, onto, pieces_within, pieces_of}
 use Rattle.litmus_reader.proofs.TokensRead.{AreEnd, end_within, GapRead, gap_read, ok_both, TokenRead, closing, other, term_read}
 
 -- ---- one token

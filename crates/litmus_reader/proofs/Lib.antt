@@ -1,3 +1,4 @@
+pub mod Vocabulary
 pub mod Maps
 pub mod Lines
 pub mod Informed

@@ -1,10 +1,5 @@
 -- The line at the front.
-use Rattle.std.proofs.Common.{◌≡◌, ℕ, ◌+◌, ◌-◌, ◌≤◌, ltb, eqb, List, [], length, take, drop, Some, None, refl, sym, ◌∙◌, inl, inr, arith}
-use Rattle.std.specs.Prelude.{position}
-use Rattle.std.specs.List.{position_or_len, before_first, after_first}
-use Rattle.std.proofs.lemmas.Bool.{ltb-false}
-use Rattle.std.proofs.lemmas.List.{take_all, length-drop, nil_from_length}
-use Rattle.litmus_reader.specs.GrammarText.{first_line}
+use Rattle.litmus_reader.proofs.Vocabulary.{◌≡◌, ℕ, ◌+◌, ◌-◌, ◌≤◌, ltb, eqb, List, [], length, take, drop, Some, None, refl, sym, ◌∙◌, inl, inr, arith, position, position_or_len, before_first, after_first, ltb-false, take_all, length-drop, nil_from_length, first_line}
 use Rattle.litmus_reader.proofs.Maps.{chosen}
 
 pub line_cut : (bytes : List ℕ) (n : ℕ) → Some n ≡ position (λ b. eqb b 10) bytes → first_line bytes ≡ (take n bytes, take (length bytes - (n + 1)) (drop (n + 1) bytes))

@@ -1,21 +1,9 @@
 -- The first registers of a test, one more at a time.
-use Rattle.std.proofs.Common.{◌≡◌, ◌==◌, ◌&&◌, cond, true, false, ℕ, Bor, ◌+◌, ◌≤◌, ◌<◌, List, [], ◌∷◌, ◌++◌, length, map, drop, get_or, Result, Ok, Err, refl, sym, ap, ◌∙◌, add-one, drop-cons, arith}
-use Rattle.std.specs.List.{list_any}
-use Rattle.std.specs.Str.{bytes_eq}
+use Rattle.litmus_reader.proofs.Vocabulary.{◌≡◌, ◌==◌, ◌&&◌, cond, true, false, ℕ, Bor, ◌+◌, ◌≤◌, ◌<◌, List, [], ◌∷◌, ◌++◌, length, map, drop, get_or, Result, Ok, Err, refl, sym, ap, ◌∙◌, add-one, drop-cons, arith, list_any, bytes_eq, index_of, nil_from_length, length-drop, map_push, Reg, TwiceInit, Fault, word_at, core_of, Given, given_of, named_by_key, named_by_word, initial, gives, judged, with_register, registers_with, fault, of_register}
 use Rattle.std.specs.Cmp.{nat_eq_equiv}
 use Rattle.std.specs.Cmp.Lexicographic.{nat_list_eq_equiv}
-use Rattle.tso_model.specs.Registers.{index_of}
-use Rattle.std.proofs.lemmas.List.{nil_from_length, length-drop, map_push}
-use Rattle.tso_model.specs.declared.register.Reg.{Reg}
-use Rattle.litmus_cells.specs.declared.fault.Why.TheVariants.{TwiceInit}
-use Rattle.litmus_cells.specs.declared.fault.Fault.{Fault}
 use Rattle.litmus_reader.specs.declared.initial.RegisterWord.{RegisterWord}
-use Rattle.litmus_cells.specs.inner.Numbers.{word_at}
-use Rattle.litmus_reader.specs.inner.Settings.{core_of}
-use Rattle.litmus_reader.specs.inner.Initial.{Given, given_of, named_by_key, named_by_word, initial, gives, judged, with_register, registers_with}
 use Rattle.litmus_reader.proofs.Maps.{list_any_map}
-use Rattle.litmus_cells.specs.Places.{fault}
-use Rattle.litmus_reader.specs.Written.{of_register}
 
 abbrev pub Registers : Type 0
 Registers = Result (List (List ℕ)) Fault

@@ -1,22 +1,6 @@
 -- Each name that is read as a location's is one that a location may have.
-use Rattle.std.proofs.Common.{ℕ, IsTrue, List, [], ◌∷◌, Option, Some, None, Result, IfOk, IfSome}
-use Rattle.std.specs.Prelude.{codes}
-use Rattle.tso_model.specs.Names.{is_location_name}
-use Rattle.tso_model.specs.Registers.{same_letters}
-use Rattle.litmus_tokens.specs.declared.token.Symbol.TheVariants.{Colon, OpenSquare, CloseSquare, Comma, Dollar}
-use Rattle.litmus_tokens.specs.Pieces.{Piece}
-use Rattle.litmus_tokens.specs.inner.Front.{symbol_at, name_at, number_at}
-use Rattle.litmus_cells.specs.declared.fault.Fault.{Fault}
-use Rattle.litmus_reader.specs.declared.fault.Part.{Part}
-use Rattle.litmus_cells.specs.inner.Faults.{there}
-use Rattle.litmus_reader.specs.inner.Faults.{or_unfit}
-use Rattle.litmus_cells.specs.inner.Names.{if_location, location_at, register_at}
-use Rattle.litmus_reader.specs.inner.Settings.{value_at, register_setting, square_setting, plain_setting, setting_at}
-use Rattle.litmus_cells.specs.inner.Arguments.{ArgumentTerm, in_memory, in_register, constant, as_constant, dollar_at, closed_memory, memory_at, as_register, argument_at, if_last, second_of, after_operand, two_arguments}
-use Rattle.litmus_cells.specs.inner.Forms.{mov_of, xchg_of, xadd_of, no_more, locked_by, locked_at, by_mnemonic, spelled_in}
+use Rattle.litmus_reader.proofs.Vocabulary.{ℕ, IsTrue, List, [], ◌∷◌, Option, Some, None, Result, IfOk, IfSome, codes, is_location_name, same_letters, Colon, OpenSquare, CloseSquare, Comma, Dollar, Piece, symbol_at, name_at, number_at, Fault, Part, there, or_unfit, if_location, location_at, register_at, value_at, register_setting, square_setting, plain_setting, setting_at, ArgumentTerm, in_memory, in_register, constant, as_constant, dollar_at, closed_memory, memory_at, as_register, argument_at, if_last, second_of, after_operand, two_arguments, mov_of, xchg_of, xadd_of, no_more, locked_by, locked_at, by_mnemonic, spelled_in, Shape, store_imm, store_reg, load, set_imm, set_reg, fence, xchg, xadd, Setting, of_register, of_location}
 use Rattle.litmus_reader.proofs.Keeps.{Any, ok_any, some_any, bind_keeps, there_keeps, cond_keeps, or_unfit_keeps}
-use Rattle.litmus_cells.specs.Shapes.{Shape, store_imm, store_reg, load, set_imm, set_reg, fence, xchg, xadd}
-use Rattle.litmus_reader.specs.Written.{Setting, of_register, of_location}
 
 abbrev pub IsLocation : List ℕ → Type 0
 IsLocation x = IsTrue (is_location_name x)

@@ -1,12 +1,6 @@
 -- The lists of a test's parts, one item more at a time.
-use Rattle.std.proofs.Common.{◌≡◌, ◌==◌, ℕ, zero, suc, ◌+◌, ◌<◌, ◌≤◌, Bool, true, false, cond, List, [], ◌∷◌, ◌++◌, length, take, drop, get_or, All, refl, sym, ap, subst, ◌∙◌, add-one, drop-cons, append_assoc, arith}
-use Rattle.std.proofs.lemmas.List.{get_or-map, map-append, append-nil, nil_from_length, length-drop}
-use Rattle.std.proofs.Math.Seq.{take-suc}
+use Rattle.litmus_reader.proofs.Vocabulary.{◌≡◌, ◌==◌, ℕ, zero, suc, ◌+◌, ◌<◌, ◌≤◌, Bool, true, false, cond, List, [], ◌∷◌, ◌++◌, length, take, drop, get_or, All, refl, sym, ap, subst, ◌∙◌, add-one, drop-cons, append_assoc, arith, get_or-map, map-append, append-nil, nil_from_length, length-drop, take-suc, Instr, CoreInstr, texts, program_of, programs_from}
 use denote.Ref.{Bor}
-use Rattle.tso_model.specs.declared.instruction.Instr.{Instr}
-use Rattle.litmus_cells.specs.declared.cell.CoreInstr.{CoreInstr}
-use Rattle.litmus_cells.specs.Locations.{texts}
-use Rattle.litmus_reader.specs.inner.Reading.{program_of, programs_from}
 
 programs_from-suc : (core n : ℕ) (instrs : List CoreInstr) → programs_from core (suc n) instrs ≡ programs_from core n instrs ++ program_of instrs (core + n) ∷ []
 programs_from-suc core zero instrs = let e : core + 0 ≡ core = omega arith in rw e refl

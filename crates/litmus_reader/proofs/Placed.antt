@@ -1,11 +1,6 @@
 -- The instructions of rows as one list, each with its core: so they are read.
-use Rattle.std.specs.Prelude.{◌≤◌, ℕ, ◌+◌, List, [], ◌∷◌, ◌++◌, length, map, count_by, Option, Some, None, ◌==◌}
-use Rattle.tso_model.specs.Limits.{most_instructions, most_locations}
-use Rattle.litmus_cells.specs.declared.cell.CoreInstr.{CoreInstr}
-use Rattle.litmus_cells.specs.inner.Cells.{of_core}
-use Rattle.litmus_cells.specs.GrammarNames.{numbered}
-use Rattle.litmus_reader.specs.GrammarTable.{location_in, instr_with, ValueFits}
-use Rattle.litmus_cells.specs.Shapes.{Shape}
+use Rattle.litmus_reader.proofs.Vocabulary.{count_by, most_instructions, most_locations, CoreInstr, of_core, numbered, location_in, instr_with, ValueFits, Shape}
+use Rattle.std.specs.Prelude.{◌≤◌, ℕ, ◌+◌, List, [], ◌∷◌, ◌++◌, length, map, Option, Some, None, ◌==◌}
 
 -- an instruction in a core's column, with the name of its location
 pub record Placed : Type 0 where

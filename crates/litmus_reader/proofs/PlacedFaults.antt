@@ -1,20 +1,6 @@
 -- What is at fault with a row, after instructions as one list: so it is read.
-use Rattle.std.specs.Prelude.{◌≡◌, ◌≢◌, ℕ, List, [], ◌∷◌, ◌++◌, length, Option, IsTrue, IsFalse}
-use Rattle.std.specs.List.{list_any}
-use Rattle.litmus_tokens.specs.declared.token.Stop.{Stop}
-use Rattle.litmus_tokens.specs.declared.token.Symbol.TheVariants.{Semicolon}
-use Rattle.litmus_tokens.specs.Pieces.{Piece}
-use Rattle.litmus_tokens.specs.Front.{is_symbol}
-use Rattle.litmus_cells.specs.declared.fault.Why.{Why}
-use Rattle.litmus_cells.specs.declared.fault.Why.TheVariants.{Unclosed, WrongCells, BadInstruction, BadNumber, TooLarge}
-use Rattle.litmus_cells.specs.declared.fault.Fault.{Fault}
-use Rattle.litmus_reader.specs.Grammar.{terms}
-use Rattle.litmus_reader.specs.GrammarCells.{IsCell}
-use Rattle.litmus_reader.specs.GrammarTable.{ValueFits}
-use Rattle.litmus_reader.specs.RefusedTable.{AreSpelled, cells_of, row_of}
-use Rattle.litmus_cells.specs.Places.{fault}
-use Rattle.litmus_reader.specs.Places.{at_stop, remaining_of}
-use Rattle.litmus_cells.specs.Shapes.{Shape}
+use Rattle.litmus_reader.proofs.Vocabulary.{IsFalse, list_any, Stop, Semicolon, Piece, is_symbol, Why, Unclosed, WrongCells, BadInstruction, BadNumber, TooLarge, Fault, terms, IsCell, ValueFits, AreSpelled, cells_of, row_of, fault, at_stop, remaining_of, Shape}
+use Rattle.std.specs.Prelude.{◌≡◌, ◌≢◌, ℕ, List, [], ◌∷◌, ◌++◌, length, Option, IsTrue}
 use Rattle.litmus_reader.proofs.Placed.{Placed, placed, placed_from, EntriesWithin}
 
 -- after these entries, with a cell of this core that isn't empty

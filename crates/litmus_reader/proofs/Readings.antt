@@ -1,25 +1,7 @@
 -- What readings give, as proofs speak of it.
 use Rattle.std.specs.Prelude.{◌≡◌, List, ◌++◌, Result, Ok, ℕ, true, [], ◌∷◌, length, IsTrue, Option, Some, None, ◌+◌, Bool, ◌||◌}
-use Rattle.litmus_tokens.specs.Terms.{Term}
-use Rattle.litmus_tokens.specs.Pieces.{Piece}
-use Rattle.litmus_cells.specs.declared.fault.Fault.{Fault}
-use Rattle.litmus_reader.specs.inner.Initial.{Initial, words_of, registers_of}
-use Rattle.litmus_cells.specs.GrammarNames.{numbered}
-use Rattle.litmus_tokens.specs.declared.token.Stop.{Stop}
-use Rattle.litmus_reader.specs.inner.Rows.{row_at, Rows, rows}
-use Rattle.litmus_reader.specs.Grammar.{terms}
-use Rattle.litmus_cells.specs.inner.Forms.{spelled_in}
-use Rattle.litmus_reader.specs.inner.Conditions.{Claimed, claimed, Proposition, Conditioned, conditioned, with_claim}
-use Rattle.tso_model.specs.declared.condition.Quantifier.{Quantifier}
-use Rattle.litmus_reader.specs.GrammarTable.{AreRows, ends_rows, ends_rows_term}
+use Rattle.litmus_reader.proofs.Vocabulary.{Term, Piece, Fault, Initial, words_of, registers_of, numbered, Stop, row_at, Rows, rows, terms, spelled_in, Claimed, claimed, Proposition, Conditioned, conditioned, with_claim, Quantifier, AreRows, ends_rows, ends_rows_term, IsCondition, IsWithin, locations_in, atoms_of, claim_by, has_cores, names_in, first_words, first_registers, Shape, Setting, Phrase, cells_of, is_symbol_term, Tilde}
 use Rattle.litmus_reader.proofs.Placed.{Placed, placed_in, instrs_with, locations_of, EntriesWithin}
-use Rattle.litmus_reader.specs.GrammarConditions.{IsCondition, IsWithin, locations_in, atoms_of, claim_by}
-use Rattle.litmus_reader.specs.GrammarInitial.{has_cores, names_in, first_words, first_registers}
-use Rattle.litmus_cells.specs.Shapes.{Shape}
-use Rattle.litmus_reader.specs.Written.{Setting, Phrase}
-use Rattle.litmus_reader.specs.RefusedTable.{cells_of}
-use Rattle.litmus_tokens.specs.Front.{is_symbol_term}
-use Rattle.litmus_tokens.specs.declared.token.Symbol.TheVariants.{Tilde}
 
 -- nothing stands there, or a token with which no row begins
 abbrev pub ends_table : List Term → Bool

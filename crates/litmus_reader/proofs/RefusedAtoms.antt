@@ -1,34 +1,11 @@
 -- Atoms are refused as what is at fault in them says.
-use Rattle.std.proofs.Common.{◌≡◌, ℕ, ◌≤◌, ◌<◌, ◌^◌, Bool, true, false, ltb, List, [], ◌∷◌, ◌++◌, length, Option, Some, None, Result, Ok, Err, refl, sym, ap, subst, ◌∙◌, ◌⊎◌, inl, inr, arith}
-use Rattle.std.specs.Prelude.{codes}
-use Rattle.std.proofs.lemmas.Bool.{ltb-true, ltb-false, lt-ltb, le-ltb}
-use Rattle.tso_model.specs.Condition.{Claim}
-use Rattle.litmus_tokens.specs.declared.token.Stop.{Stop}
-use Rattle.decimals.specs.Decimals.{decimal_value}
-use Rattle.litmus_tokens.specs.Terms.{Term, name}
-use Rattle.litmus_tokens.specs.Pieces.{Piece}
-use Rattle.litmus_tokens.specs.inner.Front.{name_at}
-use Rattle.litmus_cells.specs.declared.fault.Why.TheVariants.{BadNumber, NoSuchCore, TooLarge}
-use Rattle.litmus_cells.specs.declared.fault.Fault.{Fault}
-use Rattle.litmus_cells.specs.inner.Faults.{there}
-use Rattle.litmus_reader.specs.inner.Keywords.{word_after}
-use Rattle.litmus_cells.specs.inner.Locations.{located}
-use Rattle.litmus_reader.specs.inner.Settings.{setting_at}
-use Rattle.litmus_reader.specs.inner.Conditions.{claim_in, one_more, truth_at, truth_atom, setting_atom, atom_at, in_condition}
-use Rattle.litmus_reader.specs.Grammar.{terms}
-use Rattle.litmus_cells.specs.GrammarNames.{numbered, number_of, with_name, location}
-use Rattle.litmus_reader.specs.GrammarInitial.{given_value, has_core}
-use Rattle.litmus_reader.specs.GrammarConditions.{IsAtom, says_true, says_false, says_setting, PhraseFits, IsWithin}
-use Rattle.litmus_reader.specs.Misfits.{begins_with, is_word}
+use Rattle.litmus_reader.proofs.Vocabulary.{◌≡◌, ℕ, ◌≤◌, ◌<◌, ◌^◌, Bool, true, false, ltb, List, [], ◌∷◌, ◌++◌, length, Option, Some, None, Result, Ok, Err, refl, sym, ap, subst, ◌∙◌, ◌⊎◌, inl, inr, arith, codes, ltb-true, ltb-false, lt-ltb, le-ltb, Claim, Stop, decimal_value, Term, name, Piece, name_at, BadNumber, NoSuchCore, TooLarge, Fault, there, word_after, located, setting_at, claim_in, one_more, truth_at, truth_atom, setting_atom, atom_at, in_condition, terms, numbered, number_of, with_name, location, given_value, has_core, IsAtom, says_true, says_false, says_setting, PhraseFits, IsWithin, begins_with, is_word, fault, remaining_of, unfit, Setting, of_register, of_location, Phrase, truth, atom}
 use Rattle.litmus_reader.proofs.Levels.{IsAtomFault, unfit_token, no_such_core, bad_number, one_too_many}
 use Rattle.litmus_reader.proofs.GrammarTokens.{chosen, there_is, some_is, opened}
 use Rattle.litmus_reader.proofs.GrammarItems.{setting_found, setting_taken}
 use Rattle.litmus_reader.proofs.GrammarAtoms.{SettingFits, atom_fits, fits_atom, word_is, setting_plain, claim_taken, truth_taken, atom_found}
 use Rattle.litmus_reader.proofs.RefusedMisfits.{err_is, bind_err, fails, Follows, setting_follows}
 use Rattle.litmus_reader.proofs.RefusedEnding.{word_missing, word_differs}
-use Rattle.litmus_cells.specs.Places.{fault}
-use Rattle.litmus_reader.specs.Places.{remaining_of, unfit}
-use Rattle.litmus_reader.specs.Written.{Setting, of_register, of_location, Phrase, truth, atom}
 use Rattle.litmus_reader.proofs.Slots.{misfit, setting_slots}
 use Rattle.litmus_reader.proofs.RefusedKinds.{AtomMisses, atom_misses, atom_misfits}
 

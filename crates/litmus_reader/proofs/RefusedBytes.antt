@@ -1,26 +1,14 @@
 -- Header lines, information lines and brackets are refused as what is at fault in them says.
-use Rattle.std.proofs.Common.{◌≡◌, ℕ, zero, suc, ◌<◌, Bool, true, false, ◌&&◌, ◌||◌, eqb, eqb-true, List, [], ◌∷◌, length, drop, nat_le, nat_lt, not, Option, Some, None, Result, Ok, Err, refl, sym, ap, subst, ◌∙◌, inl, inr, arith}
-use Rattle.std.specs.List.{list_all, prefix_len}
-use Rattle.std.specs.Char.{is_ascii_alphabetic}
-use Rattle.std.proofs.lemmas.Bool.{not-true, leb-true, ltb-true}
-use Rattle.tso_model.specs.Names.{is_test_name, is_printable, last_byte}
-use Rattle.litmus_tokens.specs.declared.token.Stop.{Stop}
+use Rattle.litmus_reader.proofs.Vocabulary.{◌≡◌, ℕ, zero, suc, ◌<◌, Bool, true, false, ◌&&◌, ◌||◌, eqb, eqb-true, List, [], ◌∷◌, length, drop, nat_le, nat_lt, not, Option, Some, None, Result, Ok, Err, refl, sym, ap, subst, ◌∙◌, inl, inr, arith, list_all, prefix_len, is_ascii_alphabetic, not-true, leb-true, ltb-true, is_test_name, is_printable, last_byte, Stop, is_space, opens_comment, closes_comment, gap_end, NoHeader, Unclosed, BadToken, TooLarge, Fault, header_at, quotation_end, closed_quotation, key_value, key_line_end, information_end, begins_initial, braces_within, braces_at, square_by, square_within, square_end, first_line, IsAfterGap, is_quoted, IsInformation, name_in, continues_key, IsBracketsFault, fault}
 use Rattle.litmus_tokens.specs.declared.token.Stop.TheVariants as stops
-use Rattle.litmus_tokens.specs.Gap.{is_space, opens_comment, closes_comment, gap_end}
-use Rattle.litmus_cells.specs.declared.fault.Why.TheVariants.{NoHeader, Unclosed, BadToken, TooLarge}
-use Rattle.litmus_cells.specs.declared.fault.Fault.{Fault}
-use Rattle.litmus_reader.specs.inner.Header.{judged, header_at}
-use Rattle.litmus_reader.specs.inner.Information.{quotation_end, closed_quotation, key_value, key_line_end, information_end, begins_initial, braces_within, braces_at}
-use Rattle.litmus_reader.specs.inner.Observed.{square_by, square_within, square_end}
-use Rattle.litmus_reader.specs.GrammarText.{first_line, IsAfterGap, is_quoted, IsInformation, name_in, continues_key}
+use Rattle.litmus_reader.specs.inner.Header.{judged}
 use Rattle.litmus_reader.specs.RefusedBytes as refused
-use Rattle.litmus_reader.specs.RefusedBytes.{IsUnclosed, is_long, IsHeaderFault, PassesInformation, none, more, IsLineFault, IsBracketsFault}
+use Rattle.litmus_reader.specs.RefusedBytes.{IsUnclosed, is_long, IsHeaderFault, PassesInformation, none, more, IsLineFault}
 use Rattle.litmus_reader.proofs.GrammarTokens.{chosen, some_is}
 use Rattle.litmus_reader.proofs.GrammarGaps.{gap_within}
 use Rattle.litmus_reader.proofs.GrammarRuns.{both}
 use Rattle.litmus_reader.proofs.GrammarInformation.{no_braces, information_takes, information_again, information_shorter}
 use Rattle.litmus_reader.proofs.RefusedMisfits.{err_is}
-use Rattle.litmus_cells.specs.Places.{fault}
 
 -- ---- gaps
 

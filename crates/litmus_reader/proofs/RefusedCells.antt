@@ -1,23 +1,8 @@
 -- Cells are refused as what is at fault in them says.
-use Rattle.std.proofs.Common.{◌≡◌, ℕ, ◌+◌, ◌<◌, ◌^◌, Bool, true, false, cond, ltb, List, [], ◌∷◌, ◌++◌, length, Option, Some, None, Result, Ok, Err, refl, sym, ap, subst, ◌∙◌, ◌⊎◌, inl, inr, append_assoc, append-nil, arith}
-use Rattle.std.proofs.lemmas.Bool.{ltb-true, ltb-false}
-use Rattle.tso_model.specs.declared.instruction.Loc.{Loc}
-use Rattle.tso_model.specs.declared.instruction.Instr.{Instr}
-use Rattle.tso_model.specs.declared.instruction.Instr.TheVariants.{StoreImm, StoreReg, Load, Xchg, Xadd}
-use Rattle.litmus_tokens.specs.Pieces.{Piece}
-use Rattle.litmus_cells.specs.declared.fault.Why.{Why}
-use Rattle.litmus_cells.specs.declared.fault.Why.TheVariants.{BadInstruction, BadNumber, TooLarge}
-use Rattle.litmus_cells.specs.declared.fault.Fault.{Fault}
-use Rattle.litmus_cells.specs.inner.Faults.{◌>>=◌}
-use Rattle.litmus_cells.specs.inner.Locations.{located}
-use Rattle.litmus_cells.specs.inner.Forms.{spelled_in}
-use Rattle.litmus_cells.specs.inner.Cells.{instr_of, count_of, cell_in, of_core}
-use Rattle.litmus_reader.specs.inner.Cells.{cells_in}
-use Rattle.litmus_reader.specs.Grammar.{terms}
-use Rattle.litmus_reader.specs.GrammarRows.{empty, full}
-use Rattle.litmus_reader.specs.GrammarTable.{ValueFits}
+use Rattle.litmus_reader.proofs.Vocabulary.{◌≡◌, ℕ, ◌+◌, ◌<◌, ◌^◌, Bool, true, false, cond, ltb, List, [], ◌∷◌, ◌++◌, length, Option, Some, None, Result, Ok, Err, refl, sym, ap, subst, ◌∙◌, ◌⊎◌, inl, inr, append_assoc, arith, ltb-true, ltb-false, Loc, Instr, StoreImm, StoreReg, Load, Xchg, Xadd, Piece, Why, BadInstruction, BadNumber, TooLarge, Fault, ◌>>=◌, located, spelled_in, instr_of, count_of, cell_in, of_core, cells_in, terms, full, ValueFits, AreSpelled, none, more, fault, number_of, with_name, location, Shape, store_imm, store_reg, load, set_imm, set_reg, fence, xchg, xadd}
+use Rattle.std.proofs.Common.{append-nil}
+use Rattle.litmus_reader.specs.GrammarRows.{empty}
 use Rattle.litmus_reader.proofs.Placed.{Placed, placed, placed_from, EntriesWithin}
-use Rattle.litmus_reader.specs.RefusedTable.{AreSpelled, none, more}
 use Rattle.litmus_reader.proofs.PlacedFaults.{IsEntryFault, bad_instruction, bad_number, one_too_many}
 use Rattle.litmus_reader.proofs.GrammarTokens.{chosen, some_is}
 use Rattle.litmus_reader.proofs.GrammarAtoms.{word_is}
@@ -26,9 +11,6 @@ use Rattle.litmus_reader.proofs.GrammarRows.{field_read}
 use Rattle.litmus_reader.proofs.GrammarTableEntries.{names_of, instrs_of, Read, within_first, cell_found, cell_taken}
 use Rattle.litmus_reader.proofs.RefusedMisfits.{err_is, bind_err}
 use Rattle.litmus_reader.proofs.Readings.{AreReadAs}
-use Rattle.litmus_cells.specs.Places.{fault}
-use Rattle.litmus_cells.specs.GrammarNames.{number_of, with_name, location}
-use Rattle.litmus_cells.specs.Shapes.{Shape, store_imm, store_reg, load, set_imm, set_reg, fence, xchg, xadd}
 
 -- ---- an instruction
 

@@ -1,27 +1,8 @@
 -- Header rows are refused as what is at fault in them says.
-use Rattle.std.proofs.Common.{◌≡◌, ℕ, zero, suc, ◌+◌, ◌<◌, Bool, true, false, cond, List, [], ◌∷◌, Ok, Err, refl, sym, ap, subst, ◌∙◌, ◌⊎◌, inl, inr, arith}
-use Rattle.std.specs.Str.{bytes_eq}
-use Rattle.std.proofs.lemmas.Slice.Eq.{bytes_eq-Decides}
-use Rattle.tso_model.specs.Limits.{most_cores}
-use Rattle.litmus_tokens.specs.declared.token.Stop.{Stop}
-use Rattle.litmus_tokens.specs.declared.token.Symbol.TheVariants.{Semicolon, Bar}
-use Rattle.litmus_tokens.specs.Terms.{Term, number, name, symbol}
-use Rattle.litmus_tokens.specs.Pieces.{Piece}
-use Rattle.litmus_tokens.specs.Front.{is_symbol_term, is_symbol}
-use Rattle.litmus_tokens.specs.inner.Front.{symbol_at, name_at}
-use Rattle.litmus_cells.specs.declared.fault.Why.TheVariants.{TooLarge}
-use Rattle.litmus_cells.specs.declared.fault.Fault.{Fault}
-use Rattle.litmus_reader.specs.declared.fault.Part.{Part}
-use Rattle.litmus_reader.specs.inner.Faults.{or_unfit}
-use Rattle.litmus_reader.specs.inner.Columns.{core_at, separator_at, columns, in_columns}
-use Rattle.litmus_reader.specs.Misfits.{ends_column, is_word, begins_with}
-use Rattle.litmus_reader.specs.RefusedTable.{IsColumnsFault, no_name, one_too_many, no_end, further}
+use Rattle.litmus_reader.proofs.Vocabulary.{◌≡◌, ℕ, zero, suc, ◌+◌, ◌<◌, Bool, true, false, cond, List, [], ◌∷◌, Ok, Err, refl, sym, ap, subst, ◌∙◌, ◌⊎◌, inl, inr, arith, bytes_eq, bytes_eq-Decides, most_cores, Stop, Semicolon, Bar, Term, number, name, symbol, Piece, is_symbol_term, is_symbol, symbol_at, name_at, TooLarge, Fault, Part, or_unfit, core_at, separator_at, columns, in_columns, ends_column, is_word, begins_with, IsColumnsFault, no_name, no_end, fault, remaining_of, unfit, core_name, terms}
+use Rattle.litmus_reader.specs.RefusedTable.{one_too_many, further}
 use Rattle.litmus_reader.proofs.GrammarTokens.{symbol_is}
 use Rattle.litmus_reader.proofs.RefusedMisfits.{err_is}
-use Rattle.litmus_cells.specs.Places.{fault}
-use Rattle.litmus_reader.specs.Places.{remaining_of, unfit}
-use Rattle.litmus_reader.specs.GrammarColumns.{core_name}
-use Rattle.litmus_reader.specs.Grammar.{terms}
 
 -- ---- one token
 

@@ -1,30 +1,8 @@
 -- The first item of an initial state whose core isn't there is what the header row's end refuses.
-use Rattle.std.proofs.Common.{◌≡◌, ℕ, zero, suc, ◌≤◌, ◌<◌, Bool, true, false, ltb, List, [], ◌∷◌, ◌++◌, length, map, replicate, Option, Some, None, Result, Ok, Err, refl, sym, ap, subst, ◌∙◌, inl, inr, append_assoc, append-nil, arith}
-use Rattle.std.specs.List.{list_any, list_all}
-use Rattle.std.proofs.lemmas.Bool.{and_parts}
-use Rattle.std.proofs.lemmas.List.{length-append}
-use Rattle.std.proofs.lemmas.List.Folds.{list_all-append}
-use Rattle.tso_model.specs.declared.register.Reg.{Reg}
-use Rattle.litmus_tokens.specs.declared.token.Stop.{Stop}
-use Rattle.litmus_tokens.specs.declared.token.Symbol.TheVariants.{OpenCurly, CloseCurly, Semicolon}
-use Rattle.decimals.specs.Decimals.{decimal_value}
-use Rattle.litmus_tokens.specs.Terms.{Term, symbol}
-use Rattle.litmus_tokens.specs.Pieces.{Piece}
-use Rattle.litmus_tokens.specs.Front.{is_symbol}
-use Rattle.litmus_tokens.specs.inner.Front.{symbol_at}
-use Rattle.litmus_cells.specs.declared.fault.Why.TheVariants.{NoSuchCore, TwiceInit}
-use Rattle.litmus_cells.specs.declared.fault.Fault.{Fault}
-use Rattle.litmus_reader.specs.declared.fault.Part.{Part}
+use Rattle.litmus_reader.proofs.Vocabulary.{◌≡◌, ℕ, zero, suc, ◌≤◌, ◌<◌, Bool, true, false, ltb, List, [], ◌∷◌, ◌++◌, length, map, replicate, Option, Some, None, Result, Ok, Err, refl, sym, ap, subst, ◌∙◌, inl, inr, append_assoc, arith, list_any, list_all, and_parts, length-append, list_all-append, Reg, Stop, OpenCurly, CloseCurly, Semicolon, decimal_value, Term, symbol, Piece, is_symbol, symbol_at, NoSuchCore, TwiceInit, Fault, Part, ◌>>=◌, word_at, setting_at, core_of, located, Given, Initial, initial, gives, judged, item_in, step_in, items_within, items_at, initial_at, no_registers, with_register, registers_with, registers_of, ends_item, terms, IsSetting, Fits, has_core, has_cores, IsCoreFault, no_such_core, fault, remaining_of, unfit, in_initial, Setting, of_register, of_location}
+use Rattle.std.proofs.Common.{append-nil}
 use Rattle.litmus_cells.specs.declared.fault.ReadError.TheVariants as errors
-use Rattle.litmus_cells.specs.inner.Faults.{◌>>=◌}
-use Rattle.litmus_cells.specs.inner.Numbers.{word_at}
-use Rattle.litmus_reader.specs.inner.Settings.{setting_at, core_of}
-use Rattle.litmus_cells.specs.inner.Locations.{located}
-use Rattle.litmus_reader.specs.inner.Initial.{Given, given, Initial, initial, gives, judged, item_in, step_in, items_within, items_at, initial_at, no_registers, with_register, registers_with, registers_of, ends_item}
-use Rattle.litmus_reader.specs.Grammar.{terms}
-use Rattle.litmus_reader.specs.GrammarItems.{IsSetting}
-use Rattle.litmus_reader.specs.GrammarInitial.{Fits, has_core, has_cores}
-use Rattle.litmus_reader.specs.RefusedInitial.{IsCoreFault, no_such_core}
+use Rattle.litmus_reader.specs.inner.Initial.{given}
 use Rattle.litmus_reader.proofs.Keeps.{ok_is as keeps_ok}
 use Rattle.litmus_reader.proofs.ItemSteps.{ReadItems, ItemsAfter, items_start, items_end, items_go_on, item_fails}
 use Rattle.litmus_reader.proofs.GrammarTokens.{chosen, there_is, ok_is, ok_pair, bind_ok}
@@ -40,9 +18,6 @@ use Rattle.litmus_reader.proofs.RefusedMisfits.{err_is}
 use Rattle.litmus_reader.proofs.RefusedPasses.{same_place}
 use Rattle.litmus_reader.proofs.RefusedInitial.{ItemsThen, at_once, after_empty, after_item, ended_found, curly_step, item_step, shorter_by}
 use Rattle.litmus_reader.proofs.Readings.{AreLast}
-use Rattle.litmus_cells.specs.Places.{fault}
-use Rattle.litmus_reader.specs.Places.{remaining_of, unfit, in_initial}
-use Rattle.litmus_reader.specs.Written.{Setting, of_register, of_location}
 
 -- ---- an item that is taken in
 

@@ -1,31 +1,11 @@
 -- What stands after the rows is refused as what is at fault in it says.
-use Rattle.std.proofs.Common.{◌≡◌, ℕ, Bool, true, false, cond, List, [], ◌∷◌, Option, Some, None, Result, Ok, Err, refl, sym, ap, subst, ◌∙◌}
-use Rattle.std.specs.Prelude.{codes}
-use Rattle.std.specs.Str.{bytes_eq}
-use Rattle.litmus_tokens.specs.declared.token.Stop.{Stop}
-use Rattle.litmus_tokens.specs.declared.token.Symbol.{Symbol}
-use Rattle.litmus_tokens.specs.declared.token.Symbol.TheVariants.{OpenSquare}
-use Rattle.litmus_tokens.specs.Terms.{Term, number, name, symbol}
-use Rattle.litmus_tokens.specs.Pieces.{Piece, pieces_of}
-use Rattle.litmus_tokens.specs.Front.{is_symbol_term, is_symbol}
-use Rattle.litmus_tokens.specs.inner.Front.{symbol_at, name_then, name_at}
-use Rattle.litmus_cells.specs.declared.fault.Fault.{Fault}
-use Rattle.litmus_reader.specs.declared.fault.Part.{Part}
-use Rattle.litmus_cells.specs.inner.Faults.{◌>>=◌, there}
-use Rattle.litmus_reader.specs.inner.Faults.{or_unfit}
-use Rattle.litmus_reader.specs.inner.Keywords.{if_word, word_after}
-use Rattle.litmus_reader.specs.inner.Observed.{square_end, brackets_end, ending_tokens, in_observed}
-use Rattle.litmus_reader.specs.inner.Reading.{ending_at, tail_at}
-use Rattle.litmus_reader.specs.Misfits.{begins_with, is_word}
-use Rattle.litmus_reader.specs.RefusedBytes.{IsBracketsFault}
-use Rattle.litmus_reader.specs.RefusedEnding.{IsLastFault, no_bracket, in_brackets, IsEndingFault, last as last_part, after_brackets}
+use Rattle.litmus_reader.proofs.Vocabulary.{◌≡◌, ℕ, Bool, true, false, cond, List, [], ◌∷◌, Option, Some, None, Result, Ok, Err, refl, sym, ap, subst, ◌∙◌, codes, bytes_eq, Stop, Symbol, OpenSquare, Term, number, name, symbol, Piece, pieces_of, is_symbol_term, is_symbol, symbol_at, name_then, name_at, Fault, Part, ◌>>=◌, there, or_unfit, if_word, word_after, square_end, brackets_end, ending_tokens, in_observed, ending_at, tail_at, begins_with, is_word, IsBracketsFault, IsLastFault, no_bracket, IsEndingFault, after_brackets, remaining_of, unfit, from_place, terms}
+use Rattle.litmus_reader.specs.RefusedEnding.{in_brackets, last as last_part}
 use Rattle.litmus_reader.proofs.GrammarTokens.{symbol_is}
 use Rattle.litmus_reader.proofs.GrammarBrackets.{brackets_take, brackets_again}
 use Rattle.litmus_reader.proofs.GrammarEnding.{word_found, observed_found}
 use Rattle.litmus_reader.proofs.RefusedMisfits.{err_is}
 use Rattle.litmus_reader.proofs.RefusedBytes.{brackets_refuse, brackets_refused}
-use Rattle.litmus_reader.specs.Places.{remaining_of, unfit, from_place}
-use Rattle.litmus_reader.specs.Grammar.{terms}
 
 -- ---- one symbol
 

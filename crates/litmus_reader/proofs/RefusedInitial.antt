@@ -1,29 +1,8 @@
 -- Initial states are refused as what is at fault in them says.
-use Rattle.std.proofs.Common.{◌≡◌, ℕ, zero, suc, ◌≤◌, ◌<◌, ◌^◌, Bool, true, false, ltb, ◌||◌, List, [], ◌∷◌, ◌++◌, length, Option, Some, None, Result, Ok, Err, refl, sym, ap, subst, ◌∙◌, ◌⊎◌, inl, inr, append_assoc, append-nil, arith}
-use Rattle.std.specs.List.{list_any}
-use Rattle.std.specs.Str.{bytes_eq}
-use Rattle.std.proofs.lemmas.Bool.{ltb-true, ltb-false, lt-ltb, le-ltb}
-use Rattle.std.proofs.lemmas.List.{length-append}
-use Rattle.litmus_tokens.specs.declared.token.Stop.{Stop}
-use Rattle.litmus_tokens.specs.declared.token.Symbol.TheVariants.{OpenCurly, CloseCurly, Semicolon}
-use Rattle.litmus_tokens.specs.Terms.{Term, symbol}
-use Rattle.litmus_tokens.specs.Pieces.{Piece}
-use Rattle.litmus_tokens.specs.Front.{is_symbol}
-use Rattle.litmus_tokens.specs.inner.Front.{symbol_at}
-use Rattle.litmus_cells.specs.declared.fault.Why.{Why}
-use Rattle.litmus_cells.specs.declared.fault.Why.TheVariants.{BadNumber, TwiceInit, TooLarge}
-use Rattle.litmus_cells.specs.declared.fault.Fault.{Fault}
-use Rattle.litmus_reader.specs.declared.fault.Part.{Part}
+use Rattle.litmus_reader.proofs.Vocabulary.{◌≡◌, ℕ, zero, suc, ◌≤◌, ◌<◌, ◌^◌, Bool, true, false, ltb, ◌||◌, List, [], ◌∷◌, ◌++◌, length, Option, Some, None, Result, Ok, Err, refl, sym, ap, subst, ◌∙◌, ◌⊎◌, inl, inr, append_assoc, arith, list_any, bytes_eq, ltb-true, ltb-false, lt-ltb, le-ltb, length-append, Stop, OpenCurly, CloseCurly, Semicolon, Term, symbol, Piece, is_symbol, symbol_at, Why, BadNumber, TwiceInit, TooLarge, Fault, Part, ◌>>=◌, located, setting_at, Initial, initial, gives, judged, item_in, step_in, items_at, initial_at, ends_item, terms, IsSetting, empty, given, Fits, given_value, same_place, names_in, ends_setting, AreEnded, IsSettingFault, bad_number, one_too_many, twice, IsItemFault, unfit_token, IsInitialFault, in_item, fault, remaining_of, unfit, in_initial, number_of, Setting, of_register, of_location}
+use Rattle.std.proofs.Common.{append-nil}
 use Rattle.litmus_cells.specs.declared.fault.ReadError.TheVariants as errors
-use Rattle.litmus_cells.specs.inner.Faults.{◌>>=◌}
-use Rattle.litmus_cells.specs.inner.Locations.{located}
-use Rattle.litmus_reader.specs.inner.Settings.{setting_at}
-use Rattle.litmus_reader.specs.inner.Initial.{Initial, initial, gives, judged, item_in, step_in, items_at, initial_at, ends_item}
-use Rattle.litmus_reader.specs.Grammar.{terms}
-use Rattle.litmus_reader.specs.GrammarItems.{IsSetting}
-use Rattle.litmus_reader.specs.GrammarInitial.{empty, given, Fits, given_value, same_place, names_in}
-use Rattle.litmus_reader.specs.Misfits.{ends_setting}
-use Rattle.litmus_reader.specs.RefusedInitial.{AreEnded, none as no_items, more, IsSettingFault, bad_number, one_too_many, twice, IsItemFault, unfit_token, judged as at_fault, IsInitialFault, in_item}
+use Rattle.litmus_reader.specs.RefusedInitial.{none as no_items, more, judged as at_fault}
 use Rattle.litmus_reader.proofs.Keeps.{ok_is as keeps_ok}
 use Rattle.litmus_reader.proofs.ItemSteps.{ReadItems, ItemsAfter, items_start, items_end, items_go_on, item_fails}
 use Rattle.litmus_reader.proofs.GrammarTokens.{some_is}
@@ -38,10 +17,6 @@ use Rattle.litmus_reader.proofs.GrammarTest.{terms_append, taken_terms}
 use Rattle.litmus_reader.proofs.RefusedMisfits.{err_is, bind_err, fails, Follows, setting_follows}
 use Rattle.litmus_reader.proofs.RefusedPasses.{same_place as same_tokens}
 use Rattle.litmus_reader.proofs.Readings.{AreLast}
-use Rattle.litmus_cells.specs.Places.{fault}
-use Rattle.litmus_reader.specs.Places.{remaining_of, unfit, in_initial}
-use Rattle.litmus_cells.specs.GrammarNames.{number_of}
-use Rattle.litmus_reader.specs.Written.{Setting, of_register, of_location}
 use Rattle.litmus_reader.proofs.Slots.{misfit, setting_slots}
 use Rattle.litmus_reader.proofs.RefusedKinds.{item_misses, item_misfits}
 

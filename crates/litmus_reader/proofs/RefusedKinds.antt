@@ -1,29 +1,9 @@
 -- Items and atoms fill the slots that their first tokens tell.
-use Rattle.std.proofs.Common.{◌≡◌, ℕ, Bool, true, false, cond, ◌||◌, List, [], ◌∷◌, ◌++◌, Option, Some, None, refl, sym, ap, subst, ◌∙◌, ◌⊎◌, inl, inr}
-use Rattle.std.specs.Prelude.{codes, is_some}
-use Rattle.std.specs.Str.{bytes_eq}
-use Rattle.std.proofs.lemmas.Slice.Eq.{bytes_eq-Decides}
-use Rattle.tso_model.specs.Names.{is_location_name}
-use Rattle.tso_model.specs.Registers.{register_named}
-use Rattle.tso_model.specs.declared.register.Reg.{Reg}
-use Rattle.litmus_tokens.specs.declared.token.Symbol.{Symbol}
-use Rattle.litmus_tokens.specs.declared.token.Symbol.TheVariants.{Equals, Semicolon, Colon, OpenSquare, CloseSquare}
-use Rattle.decimals.specs.Decimals.{decimal_value}
-use Rattle.litmus_tokens.specs.Terms.{Term, number, name, symbol}
-use Rattle.litmus_tokens.specs.Pieces.{Piece}
-use Rattle.litmus_tokens.specs.Front.{is_symbol_term, is_symbol}
-use Rattle.litmus_reader.specs.Grammar.{terms}
-use Rattle.litmus_reader.specs.GrammarItems.{IsSetting, sets_register, sets_location, sets_in_squares}
-use Rattle.litmus_reader.specs.GrammarInitial.{empty, given}
-use Rattle.litmus_reader.specs.GrammarConditions.{IsAtom, says_true, says_false, says_setting}
-use Rattle.litmus_reader.specs.Misfits.{Misfits, is_word, begins_with, ends_setting}
-use Rattle.litmus_reader.specs.inner.Initial.{ends_item}
-use Rattle.litmus_reader.specs.RefusedInitial.{IsEndedItem, ended}
+use Rattle.litmus_reader.proofs.Vocabulary.{◌≡◌, ℕ, Bool, true, false, cond, ◌||◌, List, [], ◌∷◌, ◌++◌, Option, Some, None, refl, sym, ap, subst, ◌∙◌, ◌⊎◌, inl, inr, codes, is_some, bytes_eq, bytes_eq-Decides, is_location_name, register_named, Reg, Symbol, Equals, Semicolon, Colon, OpenSquare, CloseSquare, decimal_value, Term, number, name, symbol, Piece, is_symbol_term, is_symbol, terms, IsSetting, sets_register, sets_location, sets_in_squares, empty, given, IsAtom, says_true, says_false, says_setting, Misfits, is_word, begins_with, ends_setting, ends_item, IsEndedItem, ended, Setting, of_register, of_location, Phrase, truth, atom}
 use Rattle.litmus_reader.proofs.GrammarTokens.{symbol_is}
 use Rattle.litmus_reader.proofs.GrammarAtoms.{no_keyword}
 use Rattle.litmus_reader.proofs.Slots.{Slot, is_number, is_location, is_register, misfit, value_slots, setting_slots_of, setting_slots}
 use Rattle.litmus_reader.proofs.RefusedSlots.{Fill, HasExamples, Kind, Begun, no_nil, misfits, slots_miss, not_single}
-use Rattle.litmus_reader.specs.Written.{Setting, of_register, of_location, Phrase, truth, atom}
 
 -- ---- one slot
 

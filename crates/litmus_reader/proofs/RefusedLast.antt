@@ -1,31 +1,10 @@
 -- The condition and the end of a text are refused as what is at fault in them says.
-use Rattle.std.proofs.Common.{◌≡◌, ℕ, ◌≤◌, Bool, true, false, ◌||◌, List, [], ◌∷◌, ◌++◌, length, Option, Some, None, Result, Ok, Err, refl, sym, ap, subst, ◌∙◌, inl, inr, append_assoc}
-use Rattle.std.specs.Prelude.{codes}
-use Rattle.tso_model.specs.declared.condition.Quantifier.{Quantifier}
-use Rattle.tso_model.specs.declared.condition.Quantifier.TheVariants.{Exists, NotExists, Forall}
-use Rattle.litmus_tokens.specs.declared.token.Stop.{Stop}
+use Rattle.litmus_reader.proofs.Vocabulary.{◌≡◌, ℕ, ◌≤◌, Bool, true, false, ◌||◌, List, [], ◌∷◌, ◌++◌, length, Option, Some, None, Result, Ok, Err, refl, sym, ap, subst, ◌∙◌, inl, inr, append_assoc, codes, Quantifier, Exists, NotExists, Forall, Stop, And, Or, Tilde, Term, name, symbol, Piece, is_symbol_term, is_symbol, symbol_at, name_at, most_open, BadToken, Unclosed, Trailing, Fault, ◌>>=◌, word_after, Claimed, Conditioned, conditioned, with_claim, quantified, not_exists, condition_at, unit_at, proposition_at, in_condition, end_at, ending_at, terms, IsUnit, IsProposition, IsQuantifier, says_exists, says_forall, says_not_exists, condition, IsCondition, MayAsk, nothing, a_condition, IsAskedWithin, IsConditionFault, no_exists, begins_asking, goes_on, IsLastFault, fault, unfit, part_of, Phrase, WrittenCondition, begins_with, is_word}
 use Rattle.litmus_tokens.specs.declared.token.Stop.TheVariants as stops
-use Rattle.litmus_tokens.specs.declared.token.Symbol.TheVariants.{And, Or, Tilde}
-use Rattle.litmus_tokens.specs.Terms.{Term, name, symbol}
-use Rattle.litmus_tokens.specs.Pieces.{Piece}
-use Rattle.litmus_tokens.specs.Front.{is_symbol_term, is_symbol}
-use Rattle.litmus_tokens.specs.inner.Front.{symbol_at, name_at}
-use Rattle.tso_model.specs.Limits.{most_open}
-use Rattle.litmus_cells.specs.declared.fault.Why.TheVariants.{BadToken, Unclosed, Trailing}
-use Rattle.litmus_cells.specs.declared.fault.Fault.{Fault}
-use Rattle.litmus_cells.specs.inner.Faults.{◌>>=◌}
-use Rattle.litmus_reader.specs.inner.Keywords.{word_after}
-use Rattle.litmus_reader.specs.inner.Conditions.{Claimed, Conditioned, conditioned, with_claim, quantified, not_exists, condition_at, unit_at, proposition_at, in_condition}
-use Rattle.litmus_reader.specs.inner.Reading.{end_at, ending_at}
-use Rattle.litmus_reader.specs.Grammar.{terms}
-use Rattle.litmus_reader.specs.GrammarConditions.{IsUnit, IsProposition, IsQuantifier, says_exists, says_forall, says_not_exists, condition, IsCondition}
-use Rattle.litmus_reader.specs.GrammarEnding.{MayAsk, nothing, a_condition, IsAskedWithin}
 use Rattle.litmus_reader.specs.RefusedConditions as asked_first
-use Rattle.litmus_reader.specs.RefusedConditions.{IsConditionFault, no_exists}
 use Rattle.litmus_reader.proofs.Levels.{IsUnitFault}
 use Rattle.litmus_reader.proofs.FaultLevels.{QuantifiedFault, first_as_read, later_as_read, condition_fault}
 use Rattle.litmus_reader.specs.RefusedEnding as refused
-use Rattle.litmus_reader.specs.RefusedEnding.{begins_asking, goes_on, IsLastFault}
 use Rattle.litmus_reader.proofs.Keeps.{ok_is as keeps_ok}
 use Rattle.litmus_reader.proofs.GrammarLast.{unit_leaves, disjunction_leaves, condition_leaves}
 use Rattle.litmus_reader.proofs.GrammarPhrases.{last_of, proposition_takes}
@@ -39,10 +18,6 @@ use Rattle.litmus_reader.proofs.RefusedEnding.{word_missing, word_differs}
 use Rattle.litmus_reader.proofs.RefusedUnits.{within_taken, proposition_refuses, proposition_refused, proposition_ends, symbol_missing}
 use Rattle.litmus_reader.proofs.RefusedOpens.{unit_refuses, unit_refused}
 use Rattle.litmus_reader.proofs.Readings.{AreLast, condition_by}
-use Rattle.litmus_cells.specs.Places.{fault}
-use Rattle.litmus_reader.specs.Places.{unfit, part_of}
-use Rattle.litmus_reader.specs.Written.{Phrase, WrittenCondition}
-use Rattle.litmus_reader.specs.Misfits.{begins_with, is_word}
 
 -- ---- which way a condition is read
 

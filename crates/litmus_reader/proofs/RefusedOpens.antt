@@ -1,22 +1,6 @@
 -- Units in which negations and brackets are open are refused as what is at fault in them says.
-use Rattle.std.proofs.Common.{◌≡◌, ℕ, zero, suc, Bool, true, false, List, [], ◌∷◌, ◌++◌, Option, Some, None, Result, Ok, Err, refl, sym, ap, subst, ◌∙◌}
-use Rattle.std.specs.Prelude.{codes}
-use Rattle.std.specs.Str.{bytes_eq}
-use Rattle.litmus_tokens.specs.declared.token.Stop.{Stop}
-use Rattle.litmus_tokens.specs.declared.token.Symbol.{Symbol}
-use Rattle.litmus_tokens.specs.declared.token.Symbol.TheVariants.{OpenRound, CloseRound, Tilde}
-use Rattle.litmus_tokens.specs.Terms.{Term, number, name, symbol}
-use Rattle.litmus_tokens.specs.Pieces.{Piece}
-use Rattle.litmus_tokens.specs.Front.{is_symbol_term, is_symbol}
-use Rattle.litmus_tokens.specs.inner.Front.{symbol_at, name_at}
-use Rattle.litmus_cells.specs.declared.fault.Why.TheVariants.{TooLarge}
-use Rattle.litmus_cells.specs.declared.fault.Fault.{Fault}
-use Rattle.litmus_reader.specs.inner.Keywords.{word_after}
-use Rattle.litmus_reader.specs.inner.Conditions.{Claimed, claimed, atom_at, Proposition, disjunction, negation_at, opens_unit, negated, bracketed, unit_by, unit_at, in_condition}
-use Rattle.litmus_reader.specs.Grammar.{terms}
-use Rattle.litmus_reader.specs.GrammarConditions.{IsProposition, IsUnit, IsAtom, is_negation}
+use Rattle.litmus_reader.proofs.Vocabulary.{◌≡◌, ℕ, zero, suc, Bool, true, false, List, [], ◌∷◌, ◌++◌, Option, Some, None, Result, Ok, Err, refl, sym, ap, subst, ◌∙◌, codes, bytes_eq, Stop, Symbol, OpenRound, CloseRound, Tilde, Term, number, name, symbol, Piece, is_symbol_term, is_symbol, symbol_at, name_at, TooLarge, Fault, word_after, Claimed, claimed, atom_at, Proposition, disjunction, negation_at, opens_unit, negated, bracketed, unit_by, unit_at, in_condition, terms, IsProposition, IsUnit, IsAtom, is_negation, begins_unit, fault, remaining_of, unfit, begins_with, Phrase}
 use Rattle.litmus_reader.proofs.Levels as refused
-use Rattle.litmus_reader.specs.RefusedConditions.{begins_unit}
 use Rattle.litmus_reader.proofs.Levels.{IsUnitFaultOf, IsLastUnitFault, IsUnitFault, IsPropositionFault}
 use Rattle.litmus_reader.proofs.GrammarTokens.{symbol_is}
 use Rattle.litmus_reader.proofs.GrammarLast.{disjunction_leaves, unit_leaves}
@@ -28,10 +12,6 @@ use Rattle.litmus_reader.proofs.RefusedPasses.{same_place}
 use Rattle.litmus_reader.proofs.RefusedAtoms.{atom_refuses, atom_refused}
 use Rattle.litmus_reader.proofs.RefusedUnits.{Refuses, Refused, within_taken, proposition_refuses, proposition_refused, proposition_ends, symbol_missing}
 use Rattle.litmus_reader.proofs.Readings.{given_by}
-use Rattle.litmus_cells.specs.Places.{fault}
-use Rattle.litmus_reader.specs.Places.{remaining_of, unfit}
-use Rattle.litmus_reader.specs.Misfits.{begins_with}
-use Rattle.litmus_reader.specs.Written.{Phrase}
 
 -- ---- the first token of a unit
 

@@ -1,14 +1,5 @@
 -- Parts with nothing at fault, with the places of their tokens.
-use Rattle.std.proofs.Common.{◌≡◌, ℕ, ◌≤◌, List, [], ◌++◌, length, Option, Ok, IsTrue, sym, ap, subst, ◌∙◌}
-use Rattle.litmus_tokens.specs.declared.token.Stop.{Stop}
-use Rattle.litmus_tokens.specs.Pieces.{Piece}
-use Rattle.litmus_reader.specs.inner.Initial.{Initial, initial_at}
-use Rattle.litmus_reader.specs.inner.Columns.{columns_at}
-use Rattle.litmus_reader.specs.inner.Rows.{Rows, rows_at}
-use Rattle.litmus_reader.specs.Grammar.{terms, Passes}
-use Rattle.litmus_reader.specs.GrammarInitial.{IsInitialState, Fits}
-use Rattle.litmus_reader.specs.GrammarColumns.{IsHeaderRow}
-use Rattle.litmus_reader.specs.GrammarTable.{AreRows, AreWithin, ends_rows}
+use Rattle.litmus_reader.proofs.Vocabulary.{◌≡◌, ℕ, ◌≤◌, List, [], ◌++◌, length, Option, Ok, IsTrue, sym, ap, subst, ◌∙◌, Stop, Piece, Initial, initial_at, columns_at, Rows, rows_at, terms, Passes, IsInitialState, Fits, IsHeaderRow, AreRows, AreWithin, ends_rows, Shape, Setting}
 use Rattle.litmus_reader.proofs.Columnwise.{entries_within, columns_within}
 use Rattle.litmus_reader.proofs.Placed.{placed_in}
 use Rattle.litmus_reader.proofs.GrammarAfter.{initial_leaves, header_row_leaves, all_rows_leave}
@@ -19,8 +10,6 @@ use Rattle.litmus_reader.proofs.GrammarColumns.{header_row_again, header_row_tak
 use Rattle.litmus_reader.proofs.GrammarTable.{rows_again, rows_take, ends_is}
 use Rattle.litmus_reader.proofs.GrammarTest.{terms_append, same_length, same_end, passed}
 use Rattle.litmus_reader.proofs.Readings.{AreLast, Says, rows_by}
-use Rattle.litmus_cells.specs.Shapes.{Shape}
-use Rattle.litmus_reader.specs.Written.{Setting}
 
 -- ---- places
 

@@ -1,22 +1,9 @@
 -- Rows are refused as what is at fault in them says.
-use Rattle.std.proofs.Common.{◌≡◌, ◌≢◌, ℕ, zero, suc, ◌+◌, ◌≤◌, ◌<◌, Bool, true, false, eqb, eqb-true, eq-eqb, List, [], ◌∷◌, ◌++◌, length, Option, Result, Ok, Err, refl, sym, ap, subst, ◌∙◌, ◌⊎◌, inl, inr, append_assoc, append-nil, arith}
-use Rattle.std.specs.List.{list_any, position_or_len, after_first}
-use Rattle.std.proofs.lemmas.Bool.{eqb-false, lt-ltb, le-ltb}
-use Rattle.litmus_tokens.specs.declared.token.Stop.{Stop}
-use Rattle.litmus_tokens.specs.declared.token.Symbol.TheVariants.{Semicolon}
-use Rattle.litmus_tokens.specs.Terms.{Term}
-use Rattle.litmus_tokens.specs.Pieces.{Piece}
-use Rattle.litmus_tokens.specs.Front.{is_symbol}
-use Rattle.litmus_cells.specs.declared.fault.Why.TheVariants.{Unclosed, WrongCells}
-use Rattle.litmus_cells.specs.declared.fault.Fault.{Fault}
+use Rattle.litmus_reader.proofs.Vocabulary.{◌≡◌, ◌≢◌, ℕ, zero, suc, ◌+◌, ◌≤◌, ◌<◌, Bool, true, false, eqb, eqb-true, eq-eqb, List, [], ◌∷◌, ◌++◌, length, Option, Result, Ok, Err, refl, sym, ap, subst, ◌∙◌, ◌⊎◌, inl, inr, append_assoc, arith, list_any, position_or_len, after_first, eqb-false, lt-ltb, le-ltb, Stop, Semicolon, Term, Piece, is_symbol, Unclosed, WrongCells, Fault, cells_in, row_at, row_in, Rows, rows_at, terms, numbered, AreRows, ends_rows, IsRowsFault, in_row, row_of, cells_of, fault, at_stop, remaining_of, Shape}
+use Rattle.std.proofs.Common.{append-nil}
 use Rattle.litmus_cells.specs.declared.fault.ReadError.TheVariants as errors
-use Rattle.litmus_reader.specs.inner.Cells.{cells_in}
-use Rattle.litmus_reader.specs.inner.Rows.{row_at, row_in, Rows, rows_at}
-use Rattle.litmus_reader.specs.Grammar.{terms}
-use Rattle.litmus_cells.specs.GrammarNames.{numbered}
-use Rattle.litmus_reader.specs.GrammarTable.{AreRows, none as no_rows, more as more_rows, ends_rows}
+use Rattle.litmus_reader.specs.GrammarTable.{none as no_rows, more as more_rows}
 use Rattle.litmus_reader.proofs.Placed.{Placed, placed_from, placed_in, EntriesWithin}
-use Rattle.litmus_reader.specs.RefusedTable.{IsRowsFault, in_row, row_of, cells_of}
 use Rattle.litmus_reader.proofs.PlacedFaults.{IsEntryFault, IsEntriesFault, unclosed, wrong_cells, in_cell}
 use Rattle.litmus_reader.proofs.Columnwise.{entries_within, columns_within, entries_fault, row_fault}
 use Rattle.litmus_reader.proofs.Keeps.{ok_is as keeps_ok}
@@ -32,9 +19,6 @@ use Rattle.litmus_reader.proofs.RefusedMisfits.{err_is}
 use Rattle.litmus_reader.proofs.RefusedPasses.{same_place}
 use Rattle.litmus_reader.proofs.RefusedCells.{cells_refuse, cells_refused}
 use Rattle.litmus_reader.proofs.Readings.{AreLast, ends_table}
-use Rattle.litmus_cells.specs.Places.{fault}
-use Rattle.litmus_reader.specs.Places.{at_stop, remaining_of}
-use Rattle.litmus_cells.specs.Shapes.{Shape}
 
 -- ---- one row
 

@@ -1,9 +1,5 @@
 -- What doesn't fit is the first token that its slot refuses.
-use Rattle.std.proofs.Common.{◌≡◌, Bool, true, false, List, [], ◌∷◌, ◌++◌, Option, Some, None, refl, sym, ap, subst, ◌∙◌, ◌⊎◌, inl, inr, append_assoc}
-use Rattle.litmus_tokens.specs.Terms.{Term}
-use Rattle.litmus_tokens.specs.Pieces.{Piece}
-use Rattle.litmus_reader.specs.Grammar.{terms}
-use Rattle.litmus_reader.specs.Misfits.{MayBegin, Misfits}
+use Rattle.litmus_reader.proofs.Vocabulary.{◌≡◌, Bool, true, false, List, [], ◌∷◌, ◌++◌, Option, Some, None, refl, sym, ap, subst, ◌∙◌, ◌⊎◌, inl, inr, append_assoc, Term, Piece, terms, MayBegin, Misfits}
 use Rattle.litmus_reader.proofs.GrammarTokens.{chosen, some_is}
 use Rattle.litmus_reader.proofs.GrammarTest.{terms_append}
 use Rattle.litmus_reader.proofs.Slots.{Slot, misfit}

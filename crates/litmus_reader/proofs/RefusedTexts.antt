@@ -1,30 +1,9 @@
 -- Texts are refused as what is at fault in them says.
-use Rattle.std.proofs.Common.{◌≡◌, ℕ, ◌≤◌, ◌<◌, true, ltb, List, [], ◌∷◌, length, None, Result, Ok, Err, refl, sym, ap, subst, ◌∙◌, inl, inr, arith}
-use Rattle.std.proofs.lemmas.Bool.{ltb-true, lt-ltb}
-use Rattle.tso_model.specs.Limits.{most_cores}
-use Rattle.tso_model.specs.Litmus.{Litmus}
-use Rattle.litmus_tokens.specs.declared.token.Symbol.TheVariants.{OpenCurly}
-use Rattle.litmus_tokens.specs.Terms.{symbols, symbol_of, term_at, symbol}
-use Rattle.litmus_tokens.specs.Gap.{is_space, gap_end}
-use Rattle.litmus_tokens.specs.Pieces.{Piece, piece_at, pieces_within, pieces_of}
-use Rattle.litmus_cells.specs.declared.fault.Why.TheVariants.{TooLarge}
-use Rattle.litmus_cells.specs.declared.fault.Fault.{Fault}
-use Rattle.litmus_reader.specs.Limits.{longest_text}
-use Rattle.litmus_cells.specs.inner.Faults.{◌>>=◌}
-use Rattle.litmus_reader.specs.inner.Header.{sized, header_at}
-use Rattle.litmus_reader.specs.inner.Information.{braces_at}
-use Rattle.litmus_reader.specs.inner.Initial.{initial_at, registers_of}
-use Rattle.litmus_reader.specs.inner.Columns.{columns_at}
-use Rattle.litmus_reader.specs.inner.Rows.{Rows, Table, table, table_at, rows_at}
-use Rattle.litmus_reader.specs.inner.Reading.{test_of, tail_at, body_of, reading_of}
-use Rattle.litmus_reader.specs.GrammarText.{AreInformationLines, none, more, IsHeaderLine}
-use Rattle.litmus_reader.specs.GrammarInitial.{Fits, names_in, first_registers}
-use Rattle.litmus_cells.specs.GrammarNames.{numbered}
+use Rattle.litmus_reader.proofs.Vocabulary.{◌≡◌, ℕ, ◌≤◌, ◌<◌, true, ltb, List, [], ◌∷◌, length, None, Result, Ok, Err, refl, sym, ap, subst, ◌∙◌, inl, inr, arith, ltb-true, lt-ltb, most_cores, Litmus, OpenCurly, symbols, symbol_of, term_at, symbol, is_space, gap_end, Piece, piece_at, pieces_within, pieces_of, TooLarge, Fault, longest_text, ◌>>=◌, sized, header_at, braces_at, initial_at, registers_of, columns_at, Rows, Table, table, table_at, rows_at, test_of, tail_at, body_of, reading_of, AreInformationLines, IsHeaderLine, Fits, names_in, first_registers, numbered, IsInitialFault, IsCoreFault, HasColumns, first_names, located_in_rows, IsFault, fault, Written}
+use Rattle.litmus_reader.specs.GrammarText.{none, more}
 use Rattle.litmus_reader.proofs.Placed.{placed_in, locations_of}
 use Rattle.litmus_reader.proofs.Columnwise.{named-same}
-use Rattle.litmus_reader.specs.RefusedInitial.{IsInitialFault, IsCoreFault}
-use Rattle.litmus_reader.specs.GrammarTest.{HasColumns, first_names, located_in_rows}
-use Rattle.litmus_reader.specs.Refusals.{IsBodyFault, in_initial, in_header_row, of_core, in_rows, in_ending, IsFault, too_large, in_header, in_information, in_body}
+use Rattle.litmus_reader.specs.Refusals.{IsBodyFault, in_initial, in_header_row, of_core, in_rows, in_ending, too_large, in_header, in_information, in_body}
 use Rattle.litmus_reader.proofs.GrammarTokens.{chosen, ok_is, bind_ok}
 use Rattle.litmus_reader.proofs.GrammarHeader.{header_again, header_takes}
 use Rattle.litmus_reader.proofs.GrammarInformation.{lines_again, lines_take}
@@ -39,8 +18,6 @@ use Rattle.litmus_reader.proofs.RefusedRows.{rows_refuse, rows_refused}
 use Rattle.litmus_reader.proofs.RefusedEnding.{ending_refuses, ending_refused}
 use Rattle.litmus_reader.proofs.RefusedLast.{last_refuses, last_refused}
 use Rattle.litmus_reader.proofs.Readings.{rows_by}
-use Rattle.litmus_cells.specs.Places.{fault}
-use Rattle.litmus_reader.specs.Written.{Written}
 
 -- ---- from the `{` on
 

@@ -1,21 +1,7 @@
 -- Units and propositions are refused as what is at fault in them says.
-use Rattle.std.proofs.Common.{◌≡◌, ℕ, zero, suc, ◌+◌, ◌≤◌, ◌<◌, Bool, true, false, cond, List, [], ◌∷◌, ◌++◌, length, Option, Some, None, Result, Ok, Err, refl, sym, ap, subst, ◌∙◌, inl, inr, arith}
-use Rattle.std.proofs.lemmas.List.{length-append}
-use Rattle.tso_model.specs.Condition.{Claim}
-use Rattle.litmus_tokens.specs.declared.token.Symbol.{Symbol}
-use Rattle.litmus_tokens.specs.declared.token.Symbol.TheVariants.{And, Or}
-use Rattle.litmus_tokens.specs.Terms.{Term, symbol}
-use Rattle.litmus_tokens.specs.Pieces.{Piece}
-use Rattle.litmus_tokens.specs.Front.{is_symbol_term, is_symbol}
-use Rattle.litmus_tokens.specs.inner.Front.{symbol_at}
-use Rattle.litmus_cells.specs.declared.fault.Fault.{Fault}
+use Rattle.litmus_reader.proofs.Vocabulary.{◌≡◌, ℕ, zero, suc, ◌+◌, ◌≤◌, ◌<◌, Bool, true, false, cond, List, [], ◌∷◌, ◌++◌, length, Option, Some, None, Result, Ok, Err, refl, sym, ap, subst, ◌∙◌, inl, inr, arith, length-append, Claim, Symbol, And, Or, Term, symbol, Piece, is_symbol_term, is_symbol, symbol_at, Fault, ◌>>=◌, Claimed, claimed, atom_at, Proposition, joined_to, chain, chain_of, conjunction, disjunction, negation_at, opens_unit, negated, bracketed, unit_by, unit_at, proposition_at, terms, numbered, AreJoined, IsConjunction, IsUnit, locations_in, atoms_of, IsWithin, Phrase, either, begins_with}
 use Rattle.litmus_cells.specs.declared.fault.ReadError.TheVariants as errors
-use Rattle.litmus_cells.specs.inner.Faults.{◌>>=◌}
 use Rattle.litmus_reader.specs.inner.Conditions as reading
-use Rattle.litmus_reader.specs.inner.Conditions.{Claimed, claimed, atom_at, Proposition, joined_to, chain, chain_of, conjunction, disjunction, negation_at, opens_unit, negated, bracketed, unit_by, unit_at, proposition_at}
-use Rattle.litmus_reader.specs.Grammar.{terms}
-use Rattle.litmus_cells.specs.GrammarNames.{numbered}
-use Rattle.litmus_reader.specs.GrammarConditions.{AreJoined, IsConjunction, IsUnit, locations_in, atoms_of, IsWithin}
 use Rattle.litmus_reader.proofs.Levels.{IsJoinedFault, first, later, IsPropositionFault}
 use Rattle.litmus_reader.proofs.Chains.{ChainAfter, chain_start, chain_end, chain_go_on, chain_fails, chain_never_starts}
 use Rattle.litmus_reader.proofs.GrammarTokens.{there_is, ok_is, bind_ok}
@@ -27,8 +13,7 @@ use Rattle.litmus_reader.proofs.GrammarTest.{terms_append, taken_terms}
 use Rattle.litmus_reader.proofs.RefusedMisfits.{err_is}
 use Rattle.litmus_reader.proofs.RefusedPasses.{same_place}
 use Rattle.litmus_reader.proofs.Readings.{AreLast, given_by}
-use Rattle.litmus_reader.specs.Written.{Phrase, both, either}
-use Rattle.litmus_reader.specs.Misfits.{begins_with}
+use Rattle.litmus_reader.specs.Written.{both}
 
 -- ---- chains
 

@@ -1,19 +1,6 @@
 -- Where a row ends.
-use Rattle.std.proofs.Common.{◌≡◌, ℕ, ◌+◌, ◌-◌, true, false, ltb, not, List, length, take, drop, Some, None, Ok, Err, refl, sym, ap, ◌∙◌, inl, inr, arith}
-use Rattle.std.specs.Prelude.{position}
-use Rattle.std.specs.List.{position_or_len, before_first, after_first}
-use Rattle.std.proofs.lemmas.List.{length-drop, length-map, take-map, drop-map, take_all}
-use Rattle.litmus_tokens.specs.declared.token.Symbol.TheVariants.{Semicolon}
-use Rattle.litmus_tokens.specs.declared.token.Stop.{Stop}
-use Rattle.litmus_tokens.specs.declared.token.Token.{Token}
-use Rattle.litmus_tokens.specs.Pieces.{Piece}
-use Rattle.litmus_tokens.specs.inner.Pieces.{piece_of, pieces}
-use Rattle.litmus_tokens.specs.Front.{is_symbol}
-use Rattle.litmus_cells.specs.declared.fault.Why.TheVariants.{Unclosed}
-use Rattle.litmus_reader.specs.inner.Rows.{row_at}
+use Rattle.litmus_reader.proofs.Vocabulary.{◌≡◌, ℕ, ◌+◌, ◌-◌, true, false, ltb, not, List, length, take, drop, Some, None, Ok, Err, refl, sym, ap, ◌∙◌, inl, inr, arith, position, position_or_len, before_first, after_first, length-drop, length-map, take-map, drop-map, take_all, Semicolon, Stop, Token, Piece, piece_of, pieces, is_symbol, Unclosed, row_at, fault, at_stop, remaining_of}
 use Rattle.litmus_reader.proofs.Maps.{chosen, prefix_len-map}
-use Rattle.litmus_cells.specs.Places.{fault}
-use Rattle.litmus_reader.specs.Places.{at_stop, remaining_of}
 
 at-pieces : (tokens : List Token) → position_or_len (is_symbol Semicolon) (pieces tokens) ≡ position_or_len (λ t. is_symbol Semicolon (piece_of t)) tokens
 at-pieces tokens = prefix_len-map (λ p. not (is_symbol Semicolon p)) piece_of tokens

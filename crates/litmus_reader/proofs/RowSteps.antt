@@ -1,17 +1,6 @@
 -- All rows, one after the other.
-use Rattle.std.proofs.Common.{◌≡◌, ℕ, zero, suc, ◌≤◌, ◌<◌, true, false, List, [], ◌∷◌, length, Result, Ok, Err, refl, sym, ap, ◌∙◌, arith}
-use Rattle.litmus_tokens.specs.declared.token.Stop.{Stop}
-use Rattle.litmus_tokens.specs.Pieces.{Piece}
-use Rattle.litmus_cells.specs.declared.fault.Fault.{Fault}
-use Rattle.litmus_cells.specs.declared.fault.ReadError.{ReadError}
+use Rattle.litmus_reader.proofs.Vocabulary.{◌≡◌, ℕ, zero, suc, ◌≤◌, ◌<◌, true, false, List, [], ◌∷◌, length, Result, Ok, Err, refl, sym, ap, ◌∙◌, arith, Stop, Piece, Fault, ReadError, CoreInstr, ◌>>=◌, Fails, Given, registers_of, columns_at, Rows, rows, row_at, row_in, rows_within, rows_at, table, table_at, remaining_of, ends_rows}
 use Rattle.litmus_cells.specs.declared.fault.ReadError.TheVariants as errors
-use Rattle.litmus_cells.specs.declared.cell.CoreInstr.{CoreInstr}
-use Rattle.litmus_cells.specs.inner.Faults.{◌>>=◌, Fails}
-use Rattle.litmus_reader.specs.inner.Initial.{Given, registers_of}
-use Rattle.litmus_reader.specs.inner.Columns.{columns_at}
-use Rattle.litmus_reader.specs.inner.Rows.{Rows, rows, row_at, row_in, rows_within, rows_at, table, table_at}
-use Rattle.litmus_reader.specs.Places.{remaining_of}
-use Rattle.litmus_reader.specs.GrammarTable.{ends_rows}
 
 -- the total is what the rest gives, in some number of rows that is enough
 pub record RowsAfter (stop : Stop) (cores : ℕ) (instrs : List CoreInstr) (names : List (List ℕ)) (ps : List Piece) (total : Result Rows Fault) : Type 0 where

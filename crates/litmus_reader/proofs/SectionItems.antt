@@ -1,22 +1,6 @@
 -- The initial state, section by section.
-use Rattle.std.proofs.Common.{◌≡◌, ◌<◌, Bool, true, false, ◌||◌, List, [], ◌∷◌, ◌++◌, length, Some, None, Result, Ok, Err, refl, sym, ap, ◌∙◌, inl, inr, arith}
-use Rattle.std.proofs.lemmas.List.{length-append}
-use Rattle.litmus_tokens.specs.declared.token.Symbol.TheVariants.{Equals, Semicolon, Colon, OpenSquare, CloseSquare, CloseCurly}
-use Rattle.litmus_tokens.specs.Terms.{Term}
-use Rattle.litmus_tokens.specs.Pieces.{Piece}
-use Rattle.litmus_tokens.specs.Front.{is_symbol}
-use Rattle.litmus_tokens.specs.inner.Front.{symbol_at, name_at, number_at}
-use Rattle.litmus_cells.specs.declared.fault.Fault.{Fault}
-use Rattle.litmus_reader.specs.declared.fault.Part.{Part}
-use Rattle.litmus_cells.specs.declared.fault.ReadError.{ReadError}
+use Rattle.litmus_reader.proofs.Vocabulary.{◌≡◌, ◌<◌, Bool, true, false, ◌||◌, List, [], ◌∷◌, ◌++◌, length, Some, None, Result, Ok, Err, refl, sym, ap, ◌∙◌, inl, inr, arith, length-append, Equals, Semicolon, Colon, OpenSquare, CloseSquare, CloseCurly, Term, Piece, is_symbol, symbol_at, name_at, number_at, Fault, Part, ReadError, terms, unfit, remaining_of, ◌>>=◌, Fails, Initial, judged, ends_item, item_in, step_in, item_or_none, closes, section_in, is_one_of, item_ends, location_at, setting_at, plain_setting}
 use Rattle.litmus_cells.specs.declared.fault.ReadError.TheVariants as errors
-use Rattle.litmus_reader.specs.Grammar.{terms}
-use Rattle.litmus_reader.specs.Places.{unfit, remaining_of}
-use Rattle.litmus_cells.specs.inner.Faults.{◌>>=◌, Fails}
-use Rattle.litmus_reader.specs.inner.Initial.{Initial, judged, ends_item, item_in, step_in, item_or_none, closes, section_in}
-use Rattle.litmus_reader.specs.inner.Sections.{is_one_of, item_ends}
-use Rattle.litmus_cells.specs.inner.Names.{location_at}
-use Rattle.litmus_reader.specs.inner.Settings.{setting_at, plain_setting}
 use Rattle.litmus_reader.proofs.Cuts.{Section, Cut, CutAfter, Alike}
 use Rattle.litmus_reader.proofs.GrammarInitialItems.{length-terms, setting_some}
 use Rattle.litmus_reader.proofs.GrammarItems.{setting_taken}

@@ -1,16 +1,5 @@
 -- The initial state and the rows of a text, as their sections are read one after the other.
-use Rattle.std.proofs.Common.{◌≡◌, ℕ, ◌<◌, Bool, true, false, List, length, Ok, refl, sym, arith}
-use Rattle.std.proofs.lemmas.List.{length-map}
-use Rattle.litmus_tokens.specs.declared.token.Stop.{Stop}
-use Rattle.litmus_tokens.specs.declared.token.Token.{Token}
-use Rattle.litmus_tokens.specs.Pieces.{Piece}
-use Rattle.litmus_tokens.specs.inner.Pieces.{piece_of, pieces}
-use Rattle.litmus_reader.specs.declared.fault.Part.{Part}
-use Rattle.litmus_cells.specs.declared.fault.ReadError.{ReadError}
-use Rattle.litmus_reader.specs.Places.{in_initial}
-use Rattle.litmus_cells.specs.inner.Faults.{Fails}
-use Rattle.litmus_reader.specs.inner.Initial.{Initial, section_in}
-use Rattle.litmus_reader.specs.inner.Sections.{tokens_in, stop_of, item_ends, IsSection}
+use Rattle.litmus_reader.proofs.Vocabulary.{◌≡◌, ℕ, ◌<◌, Bool, true, false, List, length, Ok, refl, sym, arith, length-map, Stop, Token, Piece, piece_of, pieces, Part, ReadError, in_initial, Fails, Initial, section_in, tokens_in, stop_of, item_ends, IsSection}
 use Rattle.litmus_reader.proofs.ItemSteps.{ReadItems, ItemsAfter}
 use Rattle.litmus_reader.proofs.SectionItems.{section_done, section_goes_on, section_fails, section_some}
 use Rattle.litmus_reader.proofs.SectionRows.{item_section, item_section_cut}

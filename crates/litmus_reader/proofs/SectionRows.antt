@@ -1,25 +1,5 @@
 -- The header row and the rows, section by section.
-use Rattle.std.proofs.Common.{◌≡◌, ℕ, zero, suc, ◌+◌, ◌<◌, Bool, true, false, ltb, List, [], ◌∷◌, ◌++◌, ◌||◌, length, take, drop, Some, None, Result, Ok, Err, refl, sym, ap, ◌∙◌, arith}
-use Rattle.std.specs.Str.{bytes_eq}
-use Rattle.std.specs.List.{position_or_len}
-use Rattle.std.proofs.lemmas.Bool.Decides.{nat_tests}
-use Rattle.std.proofs.lemmas.List.{append-nil, length-append}
-use Rattle.litmus_tokens.specs.declared.token.Stop.{Stop}
-use Rattle.litmus_tokens.specs.declared.token.Symbol.{Symbol}
-use Rattle.litmus_tokens.specs.declared.token.Symbol.TheVariants.{Semicolon, Bar}
-use Rattle.litmus_tokens.specs.Pieces.{Piece}
-use Rattle.litmus_tokens.specs.Front.{is_symbol}
-use Rattle.litmus_tokens.specs.inner.Front.{symbol_at, name_at}
-use Rattle.tso_model.specs.Limits.{most_cores}
-use Rattle.litmus_reader.specs.GrammarColumns.{core_name}
-use Rattle.litmus_cells.specs.declared.fault.Fault.{Fault}
-use Rattle.litmus_cells.specs.declared.fault.Why.TheVariants.{TooLarge, Unclosed}
-use Rattle.litmus_reader.specs.inner.Columns.{in_columns, if_core, core_at, separator_at, columns, columns_at}
-use Rattle.litmus_reader.specs.inner.Faults.{or_unfit}
-use Rattle.litmus_reader.specs.inner.Rows.{row_at}
-use Rattle.litmus_reader.specs.inner.Sections.{is_one_of, LastOr, Through, IsSection, tokens_in, stop_of, row_ends, item_ends}
-use Rattle.litmus_cells.specs.Places.{fault}
-use Rattle.litmus_reader.specs.Places.{at_stop, remaining_of, in_initial}
+use Rattle.litmus_reader.proofs.Vocabulary.{◌≡◌, ℕ, zero, suc, ◌+◌, ◌<◌, Bool, true, false, ltb, List, [], ◌∷◌, ◌++◌, ◌||◌, length, take, drop, Some, None, Result, Ok, Err, refl, sym, ap, ◌∙◌, arith, bytes_eq, position_or_len, nat_tests, append-nil, length-append, Stop, Symbol, Semicolon, Bar, Piece, is_symbol, symbol_at, name_at, most_cores, core_name, Fault, TooLarge, Unclosed, in_columns, if_core, core_at, separator_at, columns, columns_at, or_unfit, row_at, is_one_of, LastOr, Through, IsSection, tokens_in, stop_of, row_ends, item_ends, fault, at_stop, remaining_of, in_initial}
 use Rattle.litmus_reader.proofs.GrammarTokens.{symbol_is}
 use Rattle.litmus_reader.proofs.Cuts.{Section, Cut, CutAfter, AtEnd, AlikeOption, Alike, Apart, Ends, bind_alike, there_alike, cond_alike, or_unfit_alike, remaining_cut, symbol_cut, symbol_end, name_cut}
 

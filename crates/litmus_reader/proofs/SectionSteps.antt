@@ -1,22 +1,6 @@
 -- Sections of a text, one token after the other.
-use Rattle.std.proofs.Common.{◌||◌, ◌≡◌, ℕ, ◌+◌, ◌≤◌, ◌<◌, true, false, cond, List, [], ◌∷◌, ◌++◌, length, Some, None, Ok, Err, refl, sym, ap, ◌∙◌, append_assoc, arith}
-use Rattle.std.proofs.lemmas.List.{length-append}
-use Rattle.litmus_tokens.specs.declared.token.Stop.{Stop}
-use Rattle.litmus_tokens.specs.declared.token.Stop.TheVariants.{End}
-use Rattle.litmus_tokens.specs.declared.token.Symbol.{Symbol}
-use Rattle.litmus_tokens.specs.declared.token.Symbol.TheVariants.{Tilde}
-use Rattle.litmus_tokens.specs.Terms.{Term, number, name, symbol}
-use Rattle.litmus_tokens.specs.Pieces.{Piece, piece_at}
-use Rattle.litmus_tokens.specs.Front.{is_symbol}
-use Rattle.litmus_tokens.specs.inner.Front.{symbol_at, name_then, name_at}
-use Rattle.litmus_cells.specs.inner.Faults.{there}
-use Rattle.litmus_reader.specs.inner.Keywords.{if_word, word_after, is_word}
-use Rattle.litmus_cells.specs.declared.fault.Why.{Why}
-use Rattle.litmus_cells.specs.declared.fault.Why.TheVariants.{BadToken}
-use Rattle.litmus_reader.specs.GrammarTable.{ends_rows_term, ends_rows}
-use Rattle.litmus_cells.specs.Places.{fault}
-use Rattle.litmus_reader.specs.Places.{at_stop, remaining_of}
-use Rattle.litmus_reader.specs.inner.Sections.{tokens_in, stop_of, is_one_of, Through, IsSection, opened}
+use Rattle.litmus_reader.proofs.Vocabulary.{◌||◌, ◌≡◌, ℕ, ◌+◌, ◌≤◌, ◌<◌, true, false, cond, List, [], ◌∷◌, ◌++◌, length, Some, None, Ok, Err, refl, sym, ap, ◌∙◌, append_assoc, arith, length-append, Stop, End, Symbol, Tilde, Term, number, name, symbol, Piece, piece_at, is_symbol, symbol_at, name_then, name_at, there, if_word, word_after, Why, BadToken, ends_rows_term, ends_rows, fault, at_stop, remaining_of, tokens_in, stop_of, is_one_of, Through, IsSection, opened}
+use Rattle.litmus_reader.specs.inner.Keywords.{is_word}
 use Rattle.litmus_reader.proofs.Lexed.{first_again, none_again}
 
 -- none of the tokens is one of these symbols

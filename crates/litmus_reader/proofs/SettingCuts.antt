@@ -1,21 +1,5 @@
 -- Settings that are read of a section's tokens are read of all tokens.
-use Rattle.std.proofs.Common.{◌≡◌, ℕ, List, [], ◌∷◌, Option, Some, None, Result, Ok, Err, refl, sym, ap, ◌∙◌}
-use Rattle.tso_model.specs.Names.{is_location_name}
-use Rattle.tso_model.specs.Registers.{register_named}
-use Rattle.tso_model.specs.declared.register.Reg.{Reg}
-use Rattle.decimals.specs.Decimals.{decimal_value}
-use Rattle.litmus_tokens.specs.declared.token.Symbol.{Symbol}
-use Rattle.litmus_tokens.specs.declared.token.Symbol.TheVariants.{Equals, Colon, OpenSquare, CloseSquare}
-use Rattle.litmus_tokens.specs.Pieces.{Piece}
-use Rattle.litmus_tokens.specs.inner.Front.{symbol_at, name_at, number_at}
-use Rattle.litmus_cells.specs.declared.fault.Fault.{Fault}
-use Rattle.litmus_cells.specs.inner.Faults.{◌>>=◌}
-use Rattle.litmus_reader.specs.inner.Faults.{or_unfit}
-use Rattle.litmus_reader.specs.inner.Initial.{Initial, judged, ends_item, item_in}
-use Rattle.litmus_cells.specs.inner.Names.{if_location, location_at, if_register, register_at}
-use Rattle.litmus_reader.specs.inner.Settings.{value_at, register_setting, square_setting, plain_setting, setting_at}
-use Rattle.litmus_reader.specs.Places.{remaining_of}
-use Rattle.litmus_reader.specs.Written.{Setting, of_register, of_location}
+use Rattle.litmus_reader.proofs.Vocabulary.{◌≡◌, ℕ, List, [], ◌∷◌, Option, Some, None, Result, Ok, Err, refl, sym, ap, ◌∙◌, is_location_name, register_named, Reg, decimal_value, Symbol, Equals, Colon, OpenSquare, CloseSquare, Piece, symbol_at, name_at, number_at, Fault, ◌>>=◌, or_unfit, Initial, judged, ends_item, item_in, if_location, location_at, if_register, register_at, value_at, register_setting, square_setting, plain_setting, setting_at, remaining_of, Setting, of_register, of_location}
 use Rattle.litmus_reader.proofs.Cuts.{Section, Cut, CutAfter, AlikeOption, Alike, Apart, bind_alike, there_alike, cond_alike, or_unfit_alike, unfit_cut, remaining_cut, symbol_cut, name_cut, number_cut}
 
 -- the symbols of settings end no section

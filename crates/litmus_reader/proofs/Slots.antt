@@ -1,12 +1,5 @@
 -- Which tokens may stand at each place of a setting, told by those before them.
-use Rattle.std.proofs.Common.{Bool, true, false, List, [], ◌∷◌, Option, Some, None}
-use Rattle.std.specs.Prelude.{is_some, if◌then◌else◌}
-use Rattle.tso_model.specs.Names.{is_location_name}
-use Rattle.tso_model.specs.Registers.{register_named}
-use Rattle.litmus_tokens.specs.declared.token.Symbol.TheVariants.{Equals, Colon, OpenSquare, CloseSquare}
-use Rattle.litmus_tokens.specs.Terms.{Term, number, name}
-use Rattle.litmus_tokens.specs.Front.{is_symbol_term}
-use Rattle.litmus_tokens.specs.Pieces.{Piece}
+use Rattle.litmus_reader.proofs.Vocabulary.{Bool, true, false, List, [], ◌∷◌, Option, Some, None, is_some, if◌then◌else◌, is_location_name, register_named, Equals, Colon, OpenSquare, CloseSquare, Term, number, name, is_symbol_term, Piece}
 
 -- what may stand at one place
 abbrev pub Slot : Type 0

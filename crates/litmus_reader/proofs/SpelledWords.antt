@@ -1,22 +1,7 @@
 -- The values of what a text spells are words: a word has room for each number that is written, and all else begins as 0.
-use Rattle.std.proofs.Common.{ℕ, ◌^◌, zero, suc, Bool, true, false, cond, ltb, ◌==◌, ◌&&◌, IsTrue, List, [], ◌∷◌, ◌++◌, Option, Some, None, All, refl, subst, sym, arith}
-use Rattle.std.specs.List.{list_all, range_with_len}
-use Rattle.std.specs.Str.{bytes_eq}
-use Rattle.std.proofs.lemmas.Bool.{and_parts, ltb-true}
-use Rattle.std.proofs.lemmas.List.Elements.{All-nil, All-cons, All-head, All-tail, All-append, All-map, All-weaker}
-use Rattle.tso_model.specs.Litmus.{Litmus, HasWords, ConstantIsWord}
-use Rattle.tso_model.specs.Registers.{IsWord, AreRegisters, index_of}
-use Rattle.tso_model.specs.declared.register.Reg.{Reg}
-use Rattle.tso_model.specs.declared.register.Reg.TheVariants.{Eax, Ebx, Ecx, Edx, Esi, Edi}
-use Rattle.tso_model.specs.declared.instruction.Instr.{Instr}
-use Rattle.decimals.specs.Decimals.{decimal_value}
-use Rattle.litmus_cells.specs.Shapes.{Shape, store_imm, store_reg, load, set_imm, set_reg, fence, xchg, xadd}
-use Rattle.litmus_reader.specs.Written.{Written, Setting, of_register, of_location}
-use Rattle.litmus_reader.specs.GrammarInitial.{given_value, first_registers_of}
+use Rattle.litmus_reader.proofs.Vocabulary.{ℕ, ◌^◌, zero, suc, Bool, true, false, cond, ltb, ◌==◌, ◌&&◌, IsTrue, List, [], ◌∷◌, ◌++◌, Option, Some, None, All, refl, subst, sym, arith, list_all, range_with_len, bytes_eq, and_parts, ltb-true, All-nil, All-cons, All-head, All-tail, All-append, All-map, All-weaker, Litmus, HasWords, ConstantIsWord, IsWord, AreRegisters, index_of, Reg, Eax, Ebx, Ecx, Edx, Esi, Edi, Instr, decimal_value, Shape, store_imm, store_reg, load, set_imm, set_reg, fence, xchg, xadd, Written, Setting, of_register, of_location, given_value, first_registers_of, in_field, in_rows, column, instr_with, ValueFits, test_written, KeepsLimits, SpellsTest}
 use Rattle.litmus_reader.proofs.GrammarInitialSaid.{first_word, first_register}
-use Rattle.litmus_reader.specs.GrammarTable.{in_field, in_rows, column, instr_with, ValueFits}
-use Rattle.litmus_reader.specs.GrammarTest.{test_written, KeepsLimits, located}
-use Rattle.litmus_reader.specs.Spelling.{SpellsTest}
+use Rattle.litmus_reader.specs.GrammarTest.{located}
 use Rattle.litmus_reader.proofs.Columnwise.{in_row, program, field_of, field-there}
 
 abbrev ValuesAreWords : List Setting → Type 0

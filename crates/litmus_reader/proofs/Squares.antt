@@ -1,11 +1,5 @@
 -- The next closing bracket, one byte after the other.
-use Rattle.std.proofs.Common.{◌≡◌, ℕ, zero, suc, ◌<◌, false, eqb, List, [], ◌∷◌, length, None, Result, Ok, Err, refl, arith}
-use Rattle.litmus_tokens.specs.Gap.{gap_end}
-use Rattle.litmus_cells.specs.declared.fault.Why.TheVariants.{Unclosed}
-use Rattle.litmus_cells.specs.declared.fault.Fault.{Fault}
-use Rattle.litmus_reader.specs.inner.Header.{from_gap}
-use Rattle.litmus_reader.specs.inner.Observed.{square_within, square_end}
-use Rattle.litmus_cells.specs.Places.{fault}
+use Rattle.litmus_reader.proofs.Vocabulary.{◌≡◌, ℕ, zero, suc, ◌<◌, false, eqb, List, [], ◌∷◌, length, None, Result, Ok, Err, refl, arith, gap_end, Unclosed, Fault, from_gap, square_within, square_end, fault}
 
 -- the total is what the rest gives, in some number of steps that is enough
 pub record SquareAfter (remaining : ℕ) (bytes : List ℕ) (total : Result (List ℕ) Fault) : Type 0 where

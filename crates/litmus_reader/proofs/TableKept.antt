@@ -1,38 +1,10 @@
 -- What the rows give stays within the limits of a test.
-use Rattle.std.proofs.Common.{◌≡◌, ℕ, zero, suc, ◌+◌, ◌≤◌, ◌<◌, ◌==◌, Bool, true, false, cond, ltb, eqb, List, [], ◌∷◌, ◌++◌, length, filter, All, Option, Some, None, Result, Ok, Err, IfOk, refl, sym, ap, subst, ◌∙◌, arith}
-use Rattle.std.specs.Prelude.{count_by}
-use Rattle.std.proofs.lemmas.Bool.{ltb-true, eqb-true}
-use Rattle.std.proofs.lemmas.List.{length-map}
-use Rattle.std.proofs.lemmas.List.Sums.{length-filter, sum_by-append}
-use Rattle.std.proofs.lemmas.List.Elements.{All-append, All-nil, All-weaker, All-filter, All-map}
-use Rattle.tso_model.specs.Limits.{most_cores}
-use Rattle.tso_model.specs.Litmus.{KnownLocation, IsProgram}
-use Rattle.tso_model.specs.declared.instruction.Loc.{Loc}
-use Rattle.tso_model.specs.declared.instruction.Instr.{Instr}
-use Rattle.tso_model.specs.declared.instruction.Instr.TheVariants.{StoreImm, StoreReg, Load, SetImm, SetReg, Fence, Xchg, Xadd}
-use Rattle.litmus_tokens.specs.declared.token.Stop.{Stop}
-use Rattle.litmus_tokens.specs.Pieces.{Piece}
-use Rattle.litmus_cells.specs.declared.fault.Fault.{Fault}
-use Rattle.litmus_cells.specs.declared.cell.CoreInstr.{CoreInstr}
-use Rattle.litmus_cells.specs.inner.Faults.{◌>>=◌}
-use Rattle.litmus_reader.specs.inner.Faults.{or_unfit}
-use Rattle.litmus_cells.specs.inner.Locations.{located}
-use Rattle.litmus_cells.specs.inner.Numbers.{word_at}
-use Rattle.litmus_cells.specs.inner.Forms.{spelled_in}
-use Rattle.litmus_reader.specs.inner.Columns.{core_at, separator_at, columns, in_columns}
-use Rattle.litmus_cells.specs.inner.Cells.{instr_of, count_of, or_bad_instruction, cell_in, of_core}
-use Rattle.litmus_reader.specs.inner.Cells.{cells_in}
-use Rattle.litmus_reader.specs.inner.Rows.{row_at, counted, row_in, Rows, rows_within, rows_at, Table, table_at}
+use Rattle.litmus_reader.proofs.Vocabulary.{◌≡◌, ℕ, zero, suc, ◌+◌, ◌≤◌, ◌<◌, ◌==◌, Bool, true, false, cond, ltb, eqb, List, [], ◌∷◌, ◌++◌, length, filter, All, Option, Some, None, Result, Ok, Err, IfOk, refl, sym, ap, subst, ◌∙◌, arith, count_by, ltb-true, length-map, length-filter, sum_by-append, All-append, All-nil, All-weaker, All-filter, All-map, most_cores, KnownLocation, IsProgram, Loc, Instr, StoreImm, StoreReg, Load, SetImm, SetReg, Fence, Xchg, Xadd, Stop, Piece, Fault, CoreInstr, ◌>>=◌, or_unfit, located, word_at, spelled_in, core_at, separator_at, columns, in_columns, instr_of, count_of, or_bad_instruction, cell_in, of_core, cells_in, row_at, counted, row_in, Rows, rows_within, rows_at, Table, table_at, Given, registers_of, remaining_of, Shape, store_imm, store_reg, load, set_imm, set_reg, fence, xchg, xadd, ends_rows, cells_of, program_of, programs_from}
+use Rattle.std.proofs.lemmas.Bool.{eqb-true}
 use Rattle.litmus_reader.proofs.Keeps.{Any, ok_any, bind_keeps, cond_keeps}
 use Rattle.litmus_reader.proofs.Named.{NamedShape, IfNamed, spelled_named}
-use Rattle.litmus_reader.specs.inner.Initial.{Given, registers_of}
 use Rattle.litmus_reader.proofs.InitialKept.{HasLength, all_registers_keep}
 use Rattle.litmus_reader.proofs.Known.{AreNames, Grown, same_names, LocatesIn, located_keeps, All-one}
-use Rattle.litmus_reader.specs.Places.{remaining_of}
-use Rattle.litmus_cells.specs.Shapes.{Shape, store_imm, store_reg, load, set_imm, set_reg, fence, xchg, xadd}
-use Rattle.litmus_reader.specs.GrammarTable.{ends_rows}
-use Rattle.litmus_reader.specs.RefusedTable.{cells_of}
-use Rattle.litmus_reader.specs.inner.Reading.{program_of, programs_from}
 
 -- ---- the header row
 

@@ -1,17 +1,5 @@
 -- Tokens, one after the other, and the ends of a text that they leave.
-use Rattle.std.proofs.Common.{◌≡◌, ℕ, ◌≤◌, Bool, true, false, eqb, eqb-true, nat_eq, ltb, ◌&&◌, List, [], ◌∷◌, ◌++◌, length, drop, Option, Some, None, Result, Ok, refl, sym, ap, subst, ◌∙◌, inl, inr, append_assoc, true≢false, arith}
-use Rattle.std.specs.List.{list_all, prefix_len, starts_with}
-use Rattle.std.specs.Char.{is_ascii_digit}
-use Rattle.std.proofs.lemmas.Bool.Decides.{nat_tests}
-use Rattle.std.proofs.lemmas.List.{length-append}
-use Rattle.tso_model.specs.Limits.{longest_name}
-use Rattle.tso_model.specs.Names.{begins_name, continues_name}
-use Rattle.litmus_tokens.specs.declared.token.Stop.{Stop}
-use Rattle.litmus_tokens.specs.declared.token.Symbol.{Symbol}
-use Rattle.litmus_tokens.specs.declared.token.Symbol.TheVariants.{Equals, Semicolon, Colon, OpenSquare, CloseSquare, OpenCurly, CloseCurly, Bar, Comma, Dollar, Tilde, OpenRound, CloseRound, And, Or}
-use Rattle.litmus_tokens.specs.Gap.{is_space, opens_comment, closes_comment, gap_end}
-use Rattle.litmus_tokens.specs.Terms.{Term, symbol, spelling_of, symbols, symbol_among, symbol_of, run_of, symbol_or_bad, term_at}
-use Rattle.litmus_tokens.specs.Front.{is_symbol_term}
+use Rattle.litmus_reader.proofs.Vocabulary.{◌≡◌, ℕ, ◌≤◌, Bool, true, false, eqb, eqb-true, nat_eq, ltb, ◌&&◌, List, [], ◌∷◌, ◌++◌, length, drop, Option, Some, None, Result, Ok, refl, sym, ap, subst, ◌∙◌, inl, inr, append_assoc, true≢false, arith, list_all, prefix_len, starts_with, is_ascii_digit, nat_tests, length-append, longest_name, begins_name, continues_name, Stop, Symbol, Equals, Semicolon, Colon, OpenSquare, CloseSquare, OpenCurly, CloseCurly, Bar, Comma, Dollar, Tilde, OpenRound, CloseRound, And, Or, is_space, opens_comment, closes_comment, gap_end, Term, symbol, spelling_of, symbols, symbol_among, symbol_of, run_of, symbol_or_bad, term_at, is_symbol_term}
 use Rattle.litmus_reader.proofs.GrammarTokens.{chosen, pair_is}
 use Rattle.litmus_reader.proofs.GrammarRuns.{both, Stops, run, run_after}
 

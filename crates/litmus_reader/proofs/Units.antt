@@ -1,11 +1,5 @@
 -- Units by how many negations and brackets may be open in them.
-use Rattle.std.proofs.Common.{◌≡◌, ℕ, zero, suc, ◌-◌, ◌<◌, List, cond, Err, refl, arith}
-use Rattle.litmus_tokens.specs.declared.token.Stop.{Stop}
-use Rattle.litmus_tokens.specs.Pieces.{Piece}
-use Rattle.litmus_cells.specs.declared.fault.Why.TheVariants.{TooLarge}
-use Rattle.litmus_reader.specs.inner.Conditions.{opens_unit, atom_at, unit_by, unit_at}
-use Rattle.litmus_cells.specs.Places.{fault}
-use Rattle.litmus_reader.specs.Places.{remaining_of}
+use Rattle.litmus_reader.proofs.Vocabulary.{◌≡◌, ℕ, zero, suc, ◌-◌, ◌<◌, List, cond, Err, refl, arith, Stop, Piece, TooLarge, opens_unit, atom_at, unit_by, unit_at, fault, remaining_of}
 
 pub unit_last : (stop : Stop) (cores opens atoms : ℕ) (names : List (List ℕ)) (ps : List Piece) → opens ≡ 0
     → unit_at stop cores opens atoms names ps ≡ cond (opens_unit ps) (Err (fault TooLarge (remaining_of ps))) (atom_at stop cores atoms names ps)

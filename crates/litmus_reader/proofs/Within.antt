@@ -1,36 +1,14 @@
 -- What a text spells is within the limits of a test.
-use Rattle.std.proofs.Common.{◌≡◌, ℕ, ◌≤◌, ◌<◌, Bool, true, not, eqb, ltb, ◌&&◌, List, [], ◌∷◌, length, All, Option, Some, None, Result, Ok, IfOk, sym, arith}
-use Rattle.std.specs.List.{list_all}
-use Rattle.std.specs.Str.{IsUtf8}
-use Rattle.std.proofs.lemmas.Bool.{and_parts, and_from}
-use Rattle.std.proofs.lemmas.Bool.Decides.{nat_tests}
-use Rattle.std.proofs.lemmas.List.Sums.{AllPass-from_list_all, list_all-from_AllPass}
-use Rattle.std.proofs.lemmas.List.Elements.{All-weaker}
+use Rattle.litmus_reader.proofs.Vocabulary.{◌≡◌, ℕ, ◌≤◌, ◌<◌, Bool, true, not, eqb, ltb, ◌&&◌, List, [], ◌∷◌, length, All, Option, Some, None, Result, Ok, IfOk, sym, arith, list_all, IsUtf8, and_parts, and_from, nat_tests, AllPass-from_list_all, list_all-from_AllPass, All-weaker, most_cores, Litmus, IsTest, HasWords, KnownLocation, Condition, is_name, is_location_name, is_register_word, is_test_name, is_printable, begins_name, continues_name, last_byte, Stop, Piece, pieces_of, gap_end, Fault, CoreInstr, sized, from_gap, header_at, braces_at, Initial, Given, initial_at, Table, table_at, ending_tokens, conditioned, condition_at, end_at, ending_at, tail_at, test_of, body_of, reading_of, programs_from, first_line, name_in}
 use Rattle.std.proofs.lemmas.Str.{IsUtf8-from_ascii}
 use Rattle.std.proofs.lemmas.Str.Ascii.{IsAscii-from_all}
-use Rattle.tso_model.specs.Limits.{most_cores}
-use Rattle.tso_model.specs.Litmus.{Litmus, IsTest, HasWords, KnownLocation}
-use Rattle.tso_model.specs.Condition.{Condition}
-use Rattle.tso_model.specs.Names.{is_name, is_location_name, is_register_word, is_test_name, is_printable, begins_name, continues_name, last_byte}
-use Rattle.litmus_tokens.specs.declared.token.Stop.{Stop}
-use Rattle.litmus_tokens.specs.Pieces.{Piece, pieces_of}
-use Rattle.litmus_tokens.specs.Gap.{gap_end}
-use Rattle.litmus_cells.specs.declared.fault.Fault.{Fault}
-use Rattle.litmus_cells.specs.declared.cell.CoreInstr.{CoreInstr}
-use Rattle.litmus_reader.specs.inner.Header.{sized, from_gap, judged, header_at}
-use Rattle.litmus_reader.specs.inner.Information.{braces_at}
-use Rattle.litmus_reader.specs.inner.Initial.{Initial, Given, initial_at}
-use Rattle.litmus_reader.specs.inner.Rows.{Table, table_at}
-use Rattle.litmus_reader.specs.inner.Observed.{ending_tokens}
-use Rattle.litmus_reader.specs.inner.Conditions.{conditioned, condition_at}
-use Rattle.litmus_reader.specs.inner.Reading.{end_at, ending_at, tail_at, test_of, body_of, reading_of, programs_from}
+use Rattle.litmus_reader.specs.inner.Header.{judged}
 use Rattle.litmus_reader.proofs.Keeps.{Any, ok_any, bind_keeps, cond_keeps, ok_is}
 use Rattle.litmus_reader.proofs.Named.{IsLocation}
 use Rattle.litmus_reader.proofs.Known.{AreNames}
 use Rattle.litmus_reader.proofs.InitialKept.{KeptInitial, initial_keeps, length-words}
 use Rattle.litmus_reader.proofs.TableKept.{Kept, KeptTable, table_keeps, known_further, programs_fit, length-programs}
 use Rattle.litmus_reader.proofs.ClaimsKept.{KeptCondition, condition_keeps}
-use Rattle.litmus_reader.specs.GrammarText.{first_line, name_in}
 
 -- ---- names are text
 

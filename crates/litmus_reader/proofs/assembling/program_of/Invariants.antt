@@ -1,5 +1,4 @@
-use Rattle.std.proofs.Common.{◌≡◌, ◌++◌, drop}
-use Rattle.litmus_reader.specs.inner.Reading.{program_of}
+use Rattle.litmus_reader.proofs.Vocabulary.{◌≡◌, ◌++◌, drop, program_of}
 use Rattle.litmus_reader.proofs.assembling.program_of.Given as goal
 
 abbrev pub invariant-loop-i : goal.invariant-loop-i

@@ -1,4 +1,4 @@
-use Rattle.std.specs.Str.{IsUtf8}
+use Rattle.litmus_reader.proofs.Vocabulary.{IsUtf8}
 use Rattle.litmus_reader.proofs.PartsAssembled.{text_at}
 use Rattle.litmus_reader.proofs.assembling.strings_of.Goals as goal
 

@@ -1,5 +1,4 @@
-use Rattle.std.proofs.Common.{◌≡◌, map, take, string_bytes}
-use Rattle.litmus_cells.specs.Locations.{texts}
+use Rattle.litmus_reader.proofs.Vocabulary.{◌≡◌, map, take, string_bytes, texts}
 use Rattle.litmus_reader.proofs.assembling.strings_of.Given as goal
 
 abbrev pub invariant-loop-name : goal.invariant-loop-name

@@ -1,8 +1,4 @@
-use Rattle.std.proofs.Common.{◌≡◌, ◌≤◌, ◌+◌, length, ap, sym, ◌∙◌, arith}
-use Rattle.std.proofs.lemmas.Result.{err_from_is_err_and}
-use Rattle.litmus_tokens.specs.inner.Pieces.{pieces}
-use Rattle.litmus_cells.specs.Locations.{texts}
-use Rattle.litmus_reader.specs.inner.Cells.{cells_after, cells_in}
+use Rattle.litmus_reader.proofs.Vocabulary.{◌≡◌, ◌≤◌, ◌+◌, length, ap, sym, ◌∙◌, arith, err_from_is_err_and, pieces, texts, cells_after, cells_in}
 use Rattle.litmus_reader.proofs.Cells.{cells_go_on, cells_end, cells_done, room_of, less_room}
 use Rattle.litmus_reader.proofs.cell.read_cells.Goals as goal
 

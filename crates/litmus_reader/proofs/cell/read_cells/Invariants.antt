@@ -1,8 +1,4 @@
-use Rattle.std.proofs.Common.{◌≡◌, ◌≤◌, ◌+◌, length}
-use Rattle.litmus_tokens.specs.inner.Pieces.{pieces}
-use Rattle.litmus_cells.specs.Locations.{texts}
-use Rattle.litmus_reader.specs.inner.Cells.{cells_after, cells_in}
-use Rattle.litmus_reader.specs.RefusedTable.{cells_of}
+use Rattle.litmus_reader.proofs.Vocabulary.{◌≡◌, ◌≤◌, ◌+◌, length, pieces, texts, cells_after, cells_in, cells_of}
 use Rattle.litmus_reader.proofs.Cells.{room_of}
 use Rattle.litmus_reader.proofs.cell.read_cells.Given as goal
 

@@ -1,11 +1,5 @@
-use Rattle.std.proofs.Common.{◌<◌, length, sym, arith}
-use Rattle.std.proofs.lemmas.Result.{err_from_is_err_and}
-use Rattle.std.proofs.lemmas.List.{length-map}
-use Rattle.tso_model.specs.Condition.{claim_of}
-use Rattle.litmus_tokens.specs.declared.token.Symbol.TheVariants.{And, Or}
-use Rattle.litmus_tokens.specs.inner.Pieces.{pieces}
-use Rattle.litmus_cells.specs.Locations.{texts}
-use Rattle.litmus_reader.specs.inner.Conditions.{claimed, both, either, unit_at, conjunction}
+use Rattle.litmus_reader.proofs.Vocabulary.{◌<◌, length, sym, arith, err_from_is_err_and, length-map, claim_of, And, Or, pieces, texts, claimed, both, unit_at, conjunction}
+use Rattle.litmus_reader.specs.inner.Conditions.{either}
 use Rattle.litmus_reader.proofs.Chains.{chain_start, chain_end, chain_joined, chain_fails, chain_never_starts}
 use Rattle.litmus_reader.proofs.condition.+condition.Goals as goal
 

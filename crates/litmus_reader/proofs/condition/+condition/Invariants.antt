@@ -1,9 +1,5 @@
-use Rattle.std.proofs.Common.{◌+◌, ◌*◌, ◌<◌, length}
-use Rattle.tso_model.specs.Condition.{claim_of}
-use Rattle.litmus_tokens.specs.declared.token.Symbol.TheVariants.{And, Or}
-use Rattle.litmus_tokens.specs.inner.Pieces.{pieces}
-use Rattle.litmus_cells.specs.Locations.{texts}
-use Rattle.litmus_reader.specs.inner.Conditions.{claimed, both, either, unit_at, conjunction, proposition_at}
+use Rattle.litmus_reader.proofs.Vocabulary.{◌+◌, ◌*◌, ◌<◌, length, claim_of, And, Or, pieces, texts, claimed, both, unit_at, conjunction, proposition_at}
+use Rattle.litmus_reader.specs.inner.Conditions.{either}
 use Rattle.litmus_reader.proofs.Chains.{ChainAfter}
 use Rattle.litmus_reader.proofs.condition.+condition.Given as goal
 

@@ -1,5 +1,4 @@
-use Rattle.std.proofs.Common.{◌≡◌, ◌≤◌, length}
-use Rattle.litmus_reader.specs.inner.Information.{quotation_end}
+use Rattle.litmus_reader.proofs.Vocabulary.{◌≡◌, ◌≤◌, length, quotation_end}
 use Rattle.litmus_reader.proofs.information.after_quotation.Given as goal
 
 abbrev pub invariant-loop-first : goal.invariant-loop-first

@@ -1,5 +1,4 @@
-use Rattle.std.proofs.Common.{sym, ◌∙◌}
-use Rattle.std.proofs.lemmas.Result.{err_from_is_err_and}
+use Rattle.litmus_reader.proofs.Vocabulary.{sym, ◌∙◌, err_from_is_err_and}
 use Rattle.litmus_reader.proofs.Informed.{braces_here, braces_gap_fails, braces_line_fails}
 use Rattle.litmus_reader.proofs.information.braces_at.Goals as goal
 

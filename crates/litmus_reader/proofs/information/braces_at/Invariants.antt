@@ -1,5 +1,4 @@
-use Rattle.std.proofs.Common.{length}
-use Rattle.litmus_reader.specs.inner.Information.{braces_at}
+use Rattle.litmus_reader.proofs.Vocabulary.{length, braces_at}
 use Rattle.litmus_reader.proofs.Informed.{BracesAfter}
 use Rattle.litmus_reader.proofs.information.braces_at.Given as goal
 

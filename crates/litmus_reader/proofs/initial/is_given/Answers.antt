@@ -1,4 +1,4 @@
-use Rattle.std.proofs.Common.{◌∙◌}
+use Rattle.litmus_reader.proofs.Vocabulary.{◌∙◌}
 use Rattle.litmus_reader.proofs.Listed.{given_before}
 use Rattle.litmus_reader.proofs.initial.is_given.Goals as goal
 

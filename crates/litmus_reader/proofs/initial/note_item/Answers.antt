@@ -1,8 +1,4 @@
-use Rattle.std.proofs.Common.{◌≡◌, true, false, refl, sym, ◌∙◌}
-use Rattle.std.specs.List.{list_any}
-use Rattle.decimals.specs.Decimals.{decimal_value}
-use Rattle.litmus_cells.specs.Locations.{texts}
-use Rattle.litmus_reader.specs.inner.Initial.{given_of, gives}
+use Rattle.litmus_reader.proofs.Vocabulary.{◌≡◌, true, false, refl, sym, ◌∙◌, list_any, decimal_value, texts, given_of, gives}
 use Rattle.litmus_reader.proofs.Listed.{judged_twice, judged_new}
 use Rattle.litmus_reader.proofs.initial.note_item.Goals as goal
 

@@ -1,10 +1,5 @@
-use Rattle.std.proofs.Common.{ap, sym, ◌∙◌, ℕ, refl}
-use Rattle.std.proofs.lemmas.Result.{err_from_is_err_and}
-use Rattle.litmus_tokens.specs.inner.Pieces.{pieces}
-use Rattle.litmus_cells.specs.Locations.{texts}
-use Rattle.litmus_reader.specs.Places.{in_initial}
+use Rattle.litmus_reader.proofs.Vocabulary.{ap, sym, ◌∙◌, ℕ, refl, err_from_is_err_and, pieces, texts, in_initial, tokens_in, stop_of}
 use Rattle.litmus_reader.specs.inner.Returned.{so_far}
-use Rattle.litmus_reader.specs.inner.Sections.{tokens_in, stop_of}
 use Rattle.litmus_reader.proofs.ItemSteps.{items_start, initial_done, initial_fails, never_opened}
 use Rattle.litmus_reader.proofs.SectionReadings.{items_done, items_further, items_fail, items_some}
 use Rattle.litmus_reader.proofs.initial.read_initial.Goals as goal

@@ -1,8 +1,4 @@
-use Rattle.std.proofs.Common.{◌≡◌, length, map}
-use Rattle.litmus_cells.specs.Locations.{texts}
-use Rattle.litmus_reader.specs.Places.{in_initial}
-use Rattle.litmus_reader.specs.inner.Initial.{initial, given_of, items_at, KnowsGiven}
-use Rattle.litmus_reader.specs.inner.Sections.{tokens_in, stop_of}
+use Rattle.litmus_reader.proofs.Vocabulary.{◌≡◌, length, map, texts, in_initial, initial, given_of, items_at, KnowsGiven, tokens_in, stop_of}
 use Rattle.litmus_reader.proofs.ItemSteps.{ItemsAfter}
 use Rattle.litmus_reader.proofs.initial.read_initial.Given as goal
 

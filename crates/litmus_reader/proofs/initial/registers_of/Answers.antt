@@ -1,6 +1,4 @@
-use Rattle.std.proofs.Common.{◌≡◌, ◌<◌, [], sym, ◌∙◌, get_or, arith}
-use Rattle.std.proofs.lemmas.Result.{err_from_is_err_and}
-use Rattle.std.proofs.lemmas.List.{length-set, get_or_read}
+use Rattle.litmus_reader.proofs.Vocabulary.{◌≡◌, ◌<◌, [], sym, ◌∙◌, get_or, arith, err_from_is_err_and, length-set, get_or_read}
 use Rattle.litmus_reader.proofs.Keeps.{ok_is, core_keeps}
 use Rattle.litmus_reader.proofs.Listed.{registers_go_on, registers_fail, registers_done}
 use Rattle.litmus_reader.proofs.initial.registers_of.Goals as goal

@@ -1,5 +1,4 @@
-use Rattle.std.proofs.Common.{◌≡◌, length, drop, map}
-use Rattle.litmus_reader.specs.inner.Initial.{given_of, registers_with, registers_of}
+use Rattle.litmus_reader.proofs.Vocabulary.{◌≡◌, length, drop, map, given_of, registers_with, registers_of}
 use Rattle.litmus_reader.proofs.initial.registers_of.Given as goal
 
 abbrev pub invariant-loop-word : goal.invariant-loop-word

@@ -1,5 +1,5 @@
-use Rattle.std.proofs.Common.{sym, ◌∙◌, codes}
-use Rattle.litmus_tokens.specs.inner.Pieces.{piece_of}
+use Rattle.litmus_reader.proofs.Vocabulary.{sym, ◌∙◌, piece_of}
+use Rattle.std.proofs.Common.{codes}
 use Rattle.litmus_reader.proofs.SectionSteps.{word_begins, word_differs}
 use Rattle.litmus_reader.proofs.observed.after_locations.Goals as goal
 

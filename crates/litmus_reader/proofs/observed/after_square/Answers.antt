@@ -1,7 +1,4 @@
-use Rattle.std.proofs.Common.{arith}
-use Rattle.std.proofs.lemmas.Bool.{ne_eqb}
-use Rattle.std.proofs.lemmas.List.{nil_from_length}
-use Rattle.std.proofs.lemmas.Result.{err_from_is_err_and}
+use Rattle.litmus_reader.proofs.Vocabulary.{arith, ne_eqb, nil_from_length, err_from_is_err_and}
 use Rattle.litmus_reader.proofs.Squares.{square_here, square_further, square_missing, square_gap_fails}
 use Rattle.litmus_reader.proofs.observed.after_square.Goals as goal
 

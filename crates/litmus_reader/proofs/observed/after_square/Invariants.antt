@@ -1,5 +1,4 @@
-use Rattle.std.proofs.Common.{length}
-use Rattle.litmus_reader.specs.inner.Observed.{square_end}
+use Rattle.litmus_reader.proofs.Vocabulary.{length, square_end}
 use Rattle.litmus_reader.proofs.Squares.{SquareAfter}
 use Rattle.litmus_reader.proofs.observed.after_square.Given as goal
 

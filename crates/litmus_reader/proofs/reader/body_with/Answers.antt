@@ -1,6 +1,4 @@
-use Rattle.std.proofs.Common.{ap, sym, ◌∙◌, List, ℕ}
-use Rattle.litmus_reader.specs.inner.Initial.{initial_at}
-use Rattle.litmus_reader.specs.inner.Sections.{tokens_in, stop_of}
+use Rattle.litmus_reader.proofs.Vocabulary.{ap, sym, ◌∙◌, List, ℕ, initial_at, tokens_in, stop_of}
 use Rattle.litmus_reader.proofs.Within.{names_are_text}
 use Rattle.litmus_reader.proofs.reader.body_with.Goals as goal
 

@@ -1,10 +1,5 @@
-use Rattle.std.proofs.Common.{sym, ◌∙◌, map}
-use Rattle.std.proofs.lemmas.Result.{err_from_is_err_and}
-use Rattle.litmus_tokens.specs.inner.Pieces.{pieces}
+use Rattle.litmus_reader.proofs.Vocabulary.{sym, ◌∙◌, map, err_from_is_err_and, pieces, texts, given_of, tokens_in, stop_of}
 use Rattle.litmus_cells.specs.declared.fault.ReadError.TheVariants as errors
-use Rattle.litmus_cells.specs.Locations.{texts}
-use Rattle.litmus_reader.specs.inner.Initial.{given_of}
-use Rattle.litmus_reader.specs.inner.Sections.{tokens_in, stop_of}
 use Rattle.litmus_reader.proofs.RowSteps.{rows_start, rows_end, rows_go_on, row_fails, row_open, table_done, table_fails, registers_missing, columns_missing}
 use Rattle.litmus_reader.proofs.SectionRows.{header_found, header_fails, row_found, row_not_found, remaining_kept}
 use Rattle.litmus_reader.proofs.row.read_table.Goals as goal

@@ -1,7 +1,4 @@
-use Rattle.std.proofs.Common.{◌≡◌, length}
-use Rattle.litmus_cells.specs.Locations.{texts}
-use Rattle.litmus_reader.specs.inner.Rows.{rows_at}
-use Rattle.litmus_reader.specs.inner.Sections.{tokens_in, stop_of}
+use Rattle.litmus_reader.proofs.Vocabulary.{◌≡◌, length, texts, rows_at, tokens_in, stop_of}
 use Rattle.litmus_reader.proofs.RowSteps.{RowsAfter}
 use Rattle.litmus_reader.proofs.row.read_table.Given as goal
 

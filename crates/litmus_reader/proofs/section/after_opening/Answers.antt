@@ -1,5 +1,4 @@
-use Rattle.std.proofs.Common.{sym, ◌∙◌}
-use Rattle.litmus_tokens.specs.inner.Pieces.{piece_of}
+use Rattle.litmus_reader.proofs.Vocabulary.{sym, ◌∙◌, piece_of}
 use Rattle.litmus_reader.proofs.SectionSteps.{token_there, opened_there, opened_other, opened_missing, place_there}
 use Rattle.litmus_reader.proofs.section.after_opening.Goals as goal
 

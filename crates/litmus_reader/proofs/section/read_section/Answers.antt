@@ -1,6 +1,4 @@
-use Rattle.std.proofs.Common.{◌≡◌, ◌++◌, ◌∷◌, [], sym, ◌∙◌, arith}
-use Rattle.std.proofs.lemmas.List.{map_push, length-map}
-use Rattle.litmus_tokens.specs.inner.Pieces.{piece_of, pieces}
+use Rattle.litmus_reader.proofs.Vocabulary.{◌≡◌, ◌++◌, ◌∷◌, [], sym, ◌∙◌, arith, map_push, length-map, piece_of, pieces}
 use Rattle.litmus_reader.proofs.SectionSteps.{so_far_start, so_far_more, section_ends, section_stops}
 use Rattle.litmus_reader.proofs.section.read_section.Goals as goal
 

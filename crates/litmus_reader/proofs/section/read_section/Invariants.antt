@@ -1,5 +1,4 @@
-use Rattle.std.proofs.Common.{length}
-use Rattle.litmus_tokens.specs.inner.Pieces.{pieces}
+use Rattle.litmus_reader.proofs.Vocabulary.{length, pieces}
 use Rattle.litmus_reader.proofs.SectionSteps.{SoFar}
 use Rattle.litmus_reader.proofs.section.read_section.Given as goal
 
