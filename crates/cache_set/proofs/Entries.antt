@@ -1,11 +1,5 @@
 -- Lists of pairs (line, copy): what is found in them, and what stays true of them, after each edit.
-use Rattle.std.proofs.Common.{arith, ◌≡◌, ◌≢◌, ◌≤◌, ℕ, zero, suc, Bool, true, false, List, [], ◌∷◌, length, take, map, slice_get, Option, Some, None, option_map, nat_eq, if◌then◌else◌, inl, inr, refl, sym, ap, ◌∙◌}
-use Rattle.std.proofs.lemmas.Bool.Decides.{eqb_tells}
-use Rattle.std.proofs.lemmas.Bool.{eq-eqb}
-use Rattle.std.specs.Map.{lookup, remove_entry, set_value}
-use Rattle.protocol_tables.specs.declared.state.State.TheVariants.{I}
-use Rattle.cache_set.specs.declared.Line.{Line}
-use Rattle.cache_set.specs.inner.Contents.{NoLineTwice, NoneInvalid, changed_at}
+use Rattle.cache_set.proofs.Vocabulary.{arith, ◌≡◌, ◌≢◌, ◌≤◌, ℕ, zero, suc, Bool, true, false, List, [], ◌∷◌, length, take, map, slice_get, Option, Some, None, option_map, nat_eq, if◌then◌else◌, inl, inr, refl, sym, ap, ◌∙◌, eqb_tells, eq-eqb, lookup, remove_entry, set_value, I, Line, NoLineTwice, NoneInvalid, changed_at}
 
 abbrev none : Option Line
 none = None

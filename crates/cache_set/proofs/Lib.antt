@@ -1,3 +1,4 @@
+pub mod Vocabulary
 pub mod Entries
 pub mod SetLemmas
 pub mod WayContents

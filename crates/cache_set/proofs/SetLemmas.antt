@@ -1,14 +1,5 @@
 -- The contents of a set after each call: what holds of them, and what is found in them.
-use Rattle.std.proofs.Common.{arith, ◌≡◌, ◌≢◌, ◌-◌, ℕ, zero, suc, List, ◌∷◌, take, slice_get, Option, Some, None, IfSome, option_map, nat_eq, if◌then◌else◌, inl, inr, refl, sym}
-use Rattle.std.proofs.lemmas.Bool.Decides.{eqb_tells}
-use Rattle.std.proofs.lemmas.List.{length-map}
-use Rattle.std.specs.Option.{option_map_or}
-use Rattle.std.specs.Map.{lookup, remove_entry}
-use Rattle.protocol_tables.specs.declared.state.State.TheVariants.{I}
-use Rattle.cache_set.specs.declared.Line.{Line}
-use Rattle.cache_set.specs.declared.Victim.{Victim}
-use Rattle.cache_set.specs.Contents.{Contents, contents, copy_of, as_victim, victim_of}
-use Rattle.cache_set.specs.inner.Contents.{IsCacheSet, to_front, with_new, changed_at, with_changed, without, after_fill}
+use Rattle.cache_set.proofs.Vocabulary.{arith, ◌≡◌, ◌≢◌, ◌-◌, ℕ, zero, suc, List, ◌∷◌, take, slice_get, Option, Some, None, IfSome, option_map, nat_eq, if◌then◌else◌, inl, inr, refl, sym, eqb_tells, length-map, option_map_or, lookup, remove_entry, I, Line, Victim, Contents, contents, copy_of, as_victim, victim_of, IsCacheSet, to_front, with_new, changed_at, with_changed, without, after_fill}
 use Rattle.cache_set.proofs.Entries.{valid-found, lookup-remove, absent-remove, once-remove, valid-remove, length-remove, length-remove-found, once-take, valid-take, length-cut, lookup-at, lookup-cut, take-short, lookup-changed, once-changed, valid-changed}
 
 -- A line goes to the front.

@@ -1,16 +1,6 @@
 -- What each call of `lru` makes of a set's ways, and that it makes of the copies in them what the set's contents are to be.
-use Rattle.std.proofs.Common.{arith, ◌≡◌, ◌<◌, ◌-◌, ℕ, zero, suc, true, false, List, [], ◌∷◌, ap, length, take, slice_get, Option, Some, None, IsSome, option_map, nat_eq, inl, inr, refl, sym, ◌∙◌}
-use Rattle.std.proofs.lemmas.Bool.{eq-eqb}
-use Rattle.std.proofs.lemmas.List.{take_all}
-use Rattle.std.specs.Map.{lookup, remove_entry, set_value}
+use Rattle.cache_set.proofs.Vocabulary.{arith, ◌≡◌, ◌<◌, ◌-◌, ℕ, zero, suc, true, false, List, [], ◌∷◌, ap, length, take, slice_get, Option, Some, None, IsSome, option_map, nat_eq, inl, inr, refl, sym, ◌∙◌, eq-eqb, take_all, lookup, remove_entry, set_value, I, Line, Victim, Way, Contents, contents, victim_of, IsCacheSet, to_front, with_new, with_changed, without, is_invalid, is_empty, copies_in, way_of, first_empty, IsForNew, copy_left, NumbersBelow, AreWays}
 use Rattle.lru.specs.LruCache.{lru_cache, promoted, put_entries}
-use Rattle.protocol_tables.specs.declared.state.State.TheVariants.{I}
-use Rattle.cache_set.specs.declared.Line.{Line}
-use Rattle.cache_set.specs.declared.Victim.{Victim}
-use Rattle.cache_set.specs.declared.ways.Way.{Way}
-use Rattle.cache_set.specs.Contents.{Contents, contents, victim_of}
-use Rattle.cache_set.specs.inner.Contents.{IsCacheSet, to_front, with_new, with_changed, without}
-use Rattle.cache_set.specs.inner.Ways.{is_invalid, is_empty, copies_in, way_of, first_empty, IsForNew, copy_left, NumbersBelow, AreWays}
 use Rattle.cache_set.proofs.Entries.{set_value-changed}
 use Rattle.cache_set.proofs.WayLists.{NoNumberTwice, way_of-found, lookup-way, copies-remove, copies-set, copies-emptied, lookup_entry-way, length-set, below-set, numbered-front, below-found, below-remove, below-more, length-remove-way, absent-below, length-some-empty, empty-way, copies-take, copies-at, full-at, lookup-way-at, remove-last, past-end}
 

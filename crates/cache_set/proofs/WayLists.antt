@@ -1,18 +1,10 @@
 -- The ways of a set: what is found in them by a line is found in the copies that they hold, and what a call makes of one way
 -- is what the set's contents are to become.
-use Rattle.std.proofs.Common.{arith, ◌≡◌, ◌≢◌, ◌<◌, ◌≤◌, ◌⊎◌, ℕ, zero, suc, Bool, true, false, List, [], ◌∷◌, length, take, slice_get, Option, Some, None, IsSome, option_map, nat_eq, inl, inr, refl, sym, ap, subst, ◌∙◌}
-use Rattle.std.proofs.lemmas.Bool.Decides.{eqb_tells}
-use Rattle.std.proofs.lemmas.Bool.{eq-eqb}
+use Rattle.cache_set.proofs.Vocabulary.{arith, ◌≡◌, ◌≢◌, ◌<◌, ◌≤◌, ◌⊎◌, ℕ, zero, suc, Bool, true, false, List, [], ◌∷◌, length, take, slice_get, Option, Some, None, IsSome, option_map, nat_eq, inl, inr, refl, sym, ap, subst, ◌∙◌, eqb_tells, eq-eqb, option_copied_mut, keys_of, lookup, lookup_entry, remove_entry, set_value, I, S, E, O, M, Line, Way, is_invalid, is_empty, has_line, copies_in, way_of, first_empty, first_full, NumbersBelow}
 use Rattle.std.specs.Prelude.{⊤}
 use Rattle.std.specs.Borrow.{MutBor}
-use Rattle.std.specs.Option.{option_copied_mut}
 use Rattle.std.specs.List.{IsDistinct, AllByRecursion}
-use Rattle.std.specs.Map.{keys_of, lookup, lookup_entry, remove_entry, set_value}
 use Rattle.protocol_tables.specs.declared.state.State.{State}
-use Rattle.protocol_tables.specs.declared.state.State.TheVariants.{I, S, E, O, M}
-use Rattle.cache_set.specs.declared.Line.{Line}
-use Rattle.cache_set.specs.declared.ways.Way.{Way}
-use Rattle.cache_set.specs.inner.Ways.{is_invalid, is_empty, has_line, copies_in, way_of, first_empty, first_full, NumbersBelow}
 
 -- no number stands twice
 abbrev pub NoNumberTwice : List (ℕ × Way) → Type 0

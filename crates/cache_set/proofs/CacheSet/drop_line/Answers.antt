@@ -1,8 +1,4 @@
-use Rattle.std.proofs.Common.{◌≡◌, Some, nat_eq, sym, ap, ◌∙◌}
-use Rattle.std.specs.Map.{lookup}
-use Rattle.cache_set.specs.Contents.{Contents, copy_of}
-use Rattle.cache_set.specs.inner.Contents.{IsCacheSet}
-use Rattle.cache_set.specs.inner.Ways.{way_of}
+use Rattle.cache_set.proofs.Vocabulary.{◌≡◌, Some, nat_eq, sym, ap, ◌∙◌, lookup, Contents, copy_of, IsCacheSet, way_of}
 use Rattle.cache_set.proofs.SetLemmas.{IsCacheSet-without, copy_of-without}
 use Rattle.cache_set.proofs.WayLists.{once-distinct, way_of-some, way_of-found, some-copied, lookup-way}
 use Rattle.cache_set.proofs.WayContents.{contents-emptied, AreWays-set}

@@ -1,9 +1,4 @@
-use Rattle.std.proofs.Common.{◌≡◌, None, nat_eq, sym, ap, ◌∙◌}
-use Rattle.std.specs.Map.{lookup}
-use Rattle.cache_set.specs.Contents.{victim_of}
-use Rattle.cache_set.specs.inner.Contents.{IsCacheSet}
-use Rattle.cache_set.specs.inner.Copy.{copy_with}
-use Rattle.cache_set.specs.inner.Ways.{copies_in}
+use Rattle.cache_set.proofs.Vocabulary.{◌≡◌, None, nat_eq, sym, ap, ◌∙◌, lookup, victim_of, IsCacheSet, copy_with, copies_in}
 use Rattle.cache_set.proofs.SetLemmas.{IsCacheSet-with_new, copy_of-with_new, victim_of-was_here}
 use Rattle.cache_set.proofs.WayLists.{once-distinct, is_invalid-valid}
 use Rattle.cache_set.proofs.WayContents.{taken-over-fills, taken-over-found}

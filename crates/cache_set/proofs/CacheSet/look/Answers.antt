@@ -1,6 +1,4 @@
-use Rattle.std.proofs.Common.{ap, ◌∙◌}
-use Rattle.cache_set.specs.Contents.{Contents, copy_of}
-use Rattle.cache_set.specs.inner.Contents.{IsCacheSet}
+use Rattle.cache_set.proofs.Vocabulary.{ap, ◌∙◌, Contents, copy_of, IsCacheSet}
 use Rattle.cache_set.proofs.SetLemmas.{copy_of-valid}
 use Rattle.cache_set.proofs.CacheSet.look.Goals as goal
 

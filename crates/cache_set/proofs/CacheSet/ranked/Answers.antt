@@ -1,4 +1,4 @@
-use Rattle.cache_set.specs.inner.Contents.{IsCacheSet}
+use Rattle.cache_set.proofs.Vocabulary.{IsCacheSet}
 use Rattle.cache_set.proofs.SetLemmas.{ranked_found}
 use Rattle.cache_set.proofs.CacheSet.ranked.Goals as goal
 

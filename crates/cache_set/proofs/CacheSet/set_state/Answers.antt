@@ -1,7 +1,4 @@
-use Rattle.std.proofs.Common.{◌≡◌, Some, nat_eq, sym, ◌∙◌}
-use Rattle.std.specs.Map.{lookup}
-use Rattle.cache_set.specs.inner.Copy.{with_state}
-use Rattle.cache_set.specs.inner.Ways.{way_of}
+use Rattle.cache_set.proofs.Vocabulary.{◌≡◌, Some, nat_eq, sym, ◌∙◌, lookup, with_state, way_of}
 use Rattle.cache_set.proofs.SetLemmas.{IsCacheSet-with_changed, copy_of-with_changed}
 use Rattle.cache_set.proofs.WayLists.{once-distinct, way_of-some, way_of-found, some-copied, is_invalid-valid}
 use Rattle.cache_set.proofs.WayContents.{contents-changed, AreWays-set}

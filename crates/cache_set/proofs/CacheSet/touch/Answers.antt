@@ -1,6 +1,4 @@
-use Rattle.std.proofs.Common.{◌≡◌, Some, sym}
-use Rattle.cache_set.specs.inner.Contents.{IsCacheSet}
-use Rattle.cache_set.specs.inner.Ways.{way_of}
+use Rattle.cache_set.proofs.Vocabulary.{◌≡◌, Some, sym, IsCacheSet, way_of}
 use Rattle.cache_set.proofs.SetLemmas.{IsCacheSet-to_front, copy_of-to_front}
 use Rattle.cache_set.proofs.WayLists.{once-distinct, way_of-some}
 use Rattle.cache_set.proofs.WayContents.{contents-promoted, AreWays-promoted}

@@ -1,5 +1,4 @@
-use Rattle.std.proofs.Common.{◌≡◌, slice_get}
-use Rattle.cache_set.specs.inner.Ways.{copies_in}
+use Rattle.cache_set.proofs.Vocabulary.{◌≡◌, slice_get, copies_in}
 use Rattle.cache_set.proofs.ways.copy_at.Given as goal
 
 -- so many copies are passed over yet, of those that are left

@@ -1,6 +1,4 @@
-use Rattle.std.proofs.Common.{◌≡◌, nat_eq}
-use Rattle.std.specs.Map.{lookup}
-use Rattle.cache_set.specs.inner.Ways.{copies_in}
+use Rattle.cache_set.proofs.Vocabulary.{◌≡◌, nat_eq, lookup, copies_in}
 use Rattle.cache_set.proofs.ways.copy_of.Given as goal
 
 -- the line is among those that are left, if it is here at all

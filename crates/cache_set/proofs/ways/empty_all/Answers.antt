@@ -1,5 +1,4 @@
-use Rattle.std.proofs.Common.{arith, ◌≡◌, Some, refl, sym, ◌∙◌}
-use Rattle.cache_set.specs.inner.Ways.{first_full}
+use Rattle.cache_set.proofs.Vocabulary.{arith, ◌≡◌, Some, refl, sym, ◌∙◌, first_full}
 use Rattle.cache_set.proofs.WayLists.{once-distinct, some-copied, length-copies, first_full-found, copies-none, length-emptied}
 use Rattle.cache_set.proofs.WayContents.{emptied, AreWays-set}
 use Rattle.cache_set.proofs.ways.empty_all.Goals as goal

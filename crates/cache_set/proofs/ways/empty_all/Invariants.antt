@@ -1,5 +1,4 @@
-use Rattle.std.proofs.Common.{◌≡◌, ◌≤◌, ◌+◌, length}
-use Rattle.cache_set.specs.inner.Ways.{copies_in, AreWays}
+use Rattle.cache_set.proofs.Vocabulary.{◌≡◌, ◌≤◌, ◌+◌, length, copies_in, AreWays}
 use Rattle.cache_set.proofs.ways.empty_all.Given as goal
 
 -- no more copies are left than steps

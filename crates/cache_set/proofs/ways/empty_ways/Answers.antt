@@ -1,4 +1,4 @@
-use Rattle.std.proofs.Common.{arith, add-one}
+use Rattle.cache_set.proofs.Vocabulary.{arith, add-one}
 use Rattle.cache_set.proofs.WayContents.{put-unused}
 use Rattle.cache_set.proofs.ways.empty_ways.Goals as goal
 

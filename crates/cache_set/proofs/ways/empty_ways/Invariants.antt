@@ -1,5 +1,4 @@
-use Rattle.std.proofs.Common.{◌≡◌, [], length}
-use Rattle.cache_set.specs.inner.Ways.{copies_in, NumbersBelow}
+use Rattle.cache_set.proofs.Vocabulary.{◌≡◌, [], length, copies_in, NumbersBelow}
 use Rattle.cache_set.proofs.ways.empty_ways.Given as goal
 
 -- as many ways as steps, all empty

@@ -1,5 +1,4 @@
-use Rattle.std.proofs.Common.{◌≡◌}
-use Rattle.cache_set.specs.inner.Ways.{first_empty}
+use Rattle.cache_set.proofs.Vocabulary.{◌≡◌, first_empty}
 use Rattle.cache_set.proofs.ways.first_empty.Given as goal
 
 -- the first empty way is among those that are left, if there is one

@@ -1,5 +1,4 @@
-use Rattle.std.proofs.Common.{◌≡◌}
-use Rattle.cache_set.specs.inner.Ways.{first_full}
+use Rattle.cache_set.proofs.Vocabulary.{◌≡◌, first_full}
 use Rattle.cache_set.proofs.ways.first_full.Given as goal
 
 -- the first way that has a line is among those that are left, if there is one

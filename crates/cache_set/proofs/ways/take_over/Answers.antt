@@ -1,5 +1,4 @@
-use Rattle.std.proofs.Common.{◌≡◌, Some, nat_eq, refl, sym}
-use Rattle.std.specs.Map.{lookup}
+use Rattle.cache_set.proofs.Vocabulary.{◌≡◌, Some, nat_eq, refl, sym, lookup}
 use Rattle.cache_set.proofs.WayContents.{set-promoted}
 use Rattle.cache_set.proofs.ways.take_over.Goals as goal
 

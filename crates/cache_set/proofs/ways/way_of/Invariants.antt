@@ -1,5 +1,4 @@
-use Rattle.std.proofs.Common.{◌≡◌}
-use Rattle.cache_set.specs.inner.Ways.{way_of}
+use Rattle.cache_set.proofs.Vocabulary.{◌≡◌, way_of}
 use Rattle.cache_set.proofs.ways.way_of.Given as goal
 
 -- the line lies among the ways that are left, if it is here at all

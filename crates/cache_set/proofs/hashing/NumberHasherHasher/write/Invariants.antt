@@ -1,4 +1,4 @@
-use Rattle.std.proofs.Common.{◌≡◌, take, fold}
+use Rattle.cache_set.proofs.Vocabulary.{◌≡◌, take, fold}
 use Rattle.cache_set.proofs.hashing.NumberHasherHasher.write.Given as goal
 
 abbrev pub invariant-loop-byte : goal.invariant-loop-byte
