@@ -1,13 +1,5 @@
 -- Which access it is, by the core's own copy.
-use Rattle.std.proofs.Common.{◌≡◌, ℕ, Bool, false, sym, Option, Some, None, option_map, List, refl, ap, ◌∙◌}
-use Rattle.protocol_tables.specs.Tables.{Table}
-use Rattle.cache_set.specs.declared.Line.{Line}
-use Rattle.cache_set.specs.declared.Victim.{Victim}
-use Rattle.snoop_bus.specs.declared.access.AccessKind.TheVariants.{Hit}
-use Rattle.snoop_bus.specs.Tags.{tag_of, leaving}
-use Rattle.snoop_bus.specs.CacheContents.{TagSets, accessed, tags_at, sets_of, loaded, loaded_in, written, written_in, write_in, used_by, writes_back, dirty_in}
-use Rattle.snoop_bus.specs.Copies.{Sets, set_at, copy_at, cache_of, tags_of}
-use Rattle.snoop_bus.specs.MemoryAfter.{victim_at}
+use Rattle.snoop_bus.proofs.Vocabulary.{◌≡◌, ℕ, Bool, false, sym, Option, Some, None, option_map, List, refl, ap, ◌∙◌, Table, Line, Victim, Hit, tag_of, leaving, TagSets, accessed, tags_at, sets_of, loaded, loaded_in, written, written_in, write_in, used_by, writes_back, dirty_in, Sets, set_at, copy_at, cache_of, tags_of, victim_at}
 use Rattle.snoop_bus.proofs.TagLemmas.{victim_tag, leaving-tags}
 use Rattle.snoop_bus.proofs.CacheTags.{sets_of-tags, tag_at-tags, tags_at-tags}
 

@@ -1,23 +1,5 @@
 -- What the completion of a write access leaves: the core has the line in M, with the word that was seen.
-use Rattle.std.proofs.lemmas.Bool.{cases_eq}
-use Rattle.std.proofs.Common.{◌≡◌, ◌≢◌, ◌⊎◌, inl, inr, ℕ, ◌<◌, ◌&&◌, true, false, nat_eq, Option, Some, None, option_map, List, length, refl, sym, ap, ◌∙◌, slice_set, if◌then◌else◌}
-use Rattle.protocol_tables.specs.Laws.{in_place}
-use Rattle.protocol_tables.specs.declared.state.State.TheVariants.{M}
-use Rattle.protocol_tables.specs.declared.requests.Transient.{Transient}
-use Rattle.protocol_tables.specs.declared.requests.Transient.TheVariants.{IsD, ImD, SmD}
-use Rattle.cache_set.specs.declared.Line.{Line}
-use Rattle.cache_set.specs.inner.Copy.{copy_with, with_state, with_word}
-use Rattle.snoop_bus.specs.Lines.{Words}
-use Rattle.snoop_bus.specs.Coherent.{state_of}
-use Rattle.snoop_bus.specs.Copies.{Sets, copy_at, cache_of}
-use Rattle.snoop_bus.specs.inner.Copies.{ways_of}
-use Rattle.snoop_bus.specs.Bus.{current_words, AllCoherent}
-use Rattle.snoop_bus.specs.inner.Requests.{ChangesCopy}
-use Rattle.snoop_bus.specs.inner.Accessing.{KeepsWords, SetsWord}
-use Rattle.snoop_bus.specs.declared.holding.Transaction.{Transaction}
-use Rattle.snoop_bus.specs.declared.holding.Stage.TheVariants.{Write}
-use Rattle.snoop_bus.specs.Held.{counting}
-use Rattle.snoop_bus.specs.inner.Held.{AskedOf, Awaits}
+use Rattle.snoop_bus.proofs.Vocabulary.{cases_eq, ◌≡◌, ◌≢◌, ◌⊎◌, inl, inr, ℕ, ◌<◌, ◌&&◌, true, false, nat_eq, Option, Some, None, option_map, List, length, refl, sym, ap, ◌∙◌, slice_set, if◌then◌else◌, in_place, M, Transient, IsD, ImD, SmD, Line, copy_with, with_state, with_word, Words, state_of, Sets, copy_at, cache_of, ways_of, current_words, AllCoherent, ChangesCopy, KeepsWords, SetsWord, Transaction, Write, counting, AskedOf, Awaits}
 use Rattle.snoop_bus.proofs.Numbers.{differ, itself}
 use Rattle.snoop_bus.proofs.CurrentWords.{same-coherent, same-seen}
 use Rattle.snoop_bus.proofs.HeldLemmas.{counting-at, ways-counting}

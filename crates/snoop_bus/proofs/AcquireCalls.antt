@@ -1,19 +1,5 @@
 -- What the calls of a write access rest on, and what it leaves where nobody else holds the bus.
-use Rattle.std.proofs.lemmas.List.{get_or_default}
-use Rattle.std.proofs.Common.{◌≡◌, ℕ, ◌<◌, true, false, is_some, Option, Some, None, IsSome, IfSome, List, [], length, slice_index_or, refl, sym, ap, ◌∙◌}
-use Rattle.protocol_tables.specs.Laws.{WritesInPlace}
-use Rattle.protocol_tables.specs.Tables.{Table}
-use Rattle.protocol_tables.specs.declared.state.State.{State}
-use Rattle.protocol_tables.specs.declared.state.State.TheVariants.{M}
-use Rattle.cache_set.specs.declared.Line.{Line}
-use Rattle.snoop_bus.specs.declared.access.Access.{Access}
-use Rattle.snoop_bus.specs.declared.hierarchy.Hierarchy.{Hierarchy}
-use Rattle.snoop_bus.specs.declared.holding.HeldBus.{HeldBus}
-use Rattle.snoop_bus.specs.Lines.{Words}
-use Rattle.snoop_bus.specs.Copies.{Sets, copy_in, copy_at}
-use Rattle.snoop_bus.specs.inner.Held.{IsHeld}
-use Rattle.snoop_bus.specs.inner.Accessing.{IsReady, Acquires, KeepsWords}
-use Rattle.snoop_bus.specs.Held.{counted}
+use Rattle.snoop_bus.proofs.Vocabulary.{get_or_default, ◌≡◌, ℕ, ◌<◌, true, false, is_some, Option, Some, None, IsSome, IfSome, List, [], length, slice_index_or, refl, sym, ap, ◌∙◌, WritesInPlace, Table, State, M, Line, Access, Hierarchy, HeldBus, Words, Sets, copy_in, copy_at, IsHeld, IsReady, Acquires, KeepsWords, counted}
 use Rattle.snoop_bus.proofs.WriteLemmas.{written_m}
 
 -- what a look at a core's own sets found

@@ -1,23 +1,5 @@
 -- What an ask does, in the bus's own words.
-use Rattle.std.proofs.Common.{◌≡◌, ℕ, ◌*◌, ◌/◌, ◌<◌, ◌≤◌, Bool, Option, Some, None, option_map, List, length, refl, sym, ap, ◌∙◌}
-use Rattle.tso_model.specs.declared.instruction.Core.{Core}
-use Rattle.tso_model.specs.declared.instruction.Loc.{Loc}
-use Rattle.protocol_tables.specs.Tables.{Table}
-use Rattle.protocol_tables.specs.declared.requests.Request.{Request}
-use Rattle.protocol_tables.specs.declared.requests.Transient.{Transient}
-use Rattle.snoop_bus.specs.declared.holding.HeldBus.{HeldBus}
-use Rattle.snoop_bus.specs.Geometry.{Geometry}
-use Rattle.snoop_bus.specs.Lines.{Words}
-use Rattle.snoop_bus.specs.Rows.{rows_of, table_of_rows}
-use Rattle.snoop_bus.specs.CacheContents.{TagSets}
-use Rattle.snoop_bus.specs.Copies.{Sets, cache_of, tags_of}
-use Rattle.snoop_bus.specs.Held.{counted, stage_for}
-use Rattle.snoop_bus.specs.inner.Held.{held_by}
-use Rattle.snoop_bus.specs.Bus.{current_words, bus_with}
-use Rattle.snoop_bus.specs.inner.Accessing.{KeepsWords}
-use Rattle.snoop_bus.specs.Asks.{awaiting, asked_for, request_for, asking, asked_caches, asked_memory, awaited_in}
-use Rattle.snoop_bus.specs.inner.Asks.{transacting, transaction_of}
-use Rattle.snoop_bus.specs.Accesses.{AsksFor}
+use Rattle.snoop_bus.proofs.Vocabulary.{◌≡◌, ℕ, ◌*◌, ◌/◌, ◌<◌, ◌≤◌, Bool, Option, Some, None, option_map, List, length, refl, sym, ap, ◌∙◌, Core, Loc, Table, Request, Transient, HeldBus, Geometry, Words, rows_of, table_of_rows, TagSets, Sets, cache_of, tags_of, counted, stage_for, held_by, current_words, bus_with, KeepsWords, awaiting, asked_for, request_for, asking, asked_caches, asked_memory, awaited_in, transacting, transaction_of, AsksFor}
 use Rattle.snoop_bus.proofs.RowLemmas.{table_of-rows}
 use Rattle.snoop_bus.proofs.WordLemmas.{words-same}
 

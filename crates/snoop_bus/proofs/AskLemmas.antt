@@ -1,30 +1,5 @@
 -- What an ask answers and leaves.
-use Rattle.std.proofs.lemmas.List.{get_or-set_same, get_or-set_other, length-set}
-use Rattle.std.specs.List.{list_any}
-use Rattle.std.proofs.Common.{◌≡◌, ◌≢◌, ◌⊎◌, inl, inr, ℕ, ◌<◌, Bool, true, false, Option, Some, None, is_some, List, [], length, refl, sym, ap, subst, ◌∙◌, slice_set, if◌then◌else◌}
-use Rattle.protocol_tables.specs.Laws.{is_dirty}
-use Rattle.protocol_tables.specs.inner.Laws.{GivesUp, Shares, CleansByMemory, Supplies, FillsExclusiveOnlyAlone}
-use Rattle.protocol_tables.specs.Tables.{Table}
-use Rattle.protocol_tables.specs.declared.state.State.{State}
-use Rattle.protocol_tables.specs.declared.state.State.TheVariants.{I, M}
-use Rattle.protocol_tables.specs.declared.state.Snoop.{Snoop}
-use Rattle.protocol_tables.specs.declared.requests.Request.TheVariants.{GetS, GetM}
-use Rattle.protocol_tables.specs.declared.requests.Transient.TheVariants.{IsD, ImD}
-use Rattle.tso_model.specs.declared.instruction.Core.{Core}
-use Rattle.cache_set.specs.declared.Line.{Line}
-use Rattle.cache_set.specs.inner.Copy.{copy_with}
-use Rattle.snoop_bus.specs.Lines.{Words, line_in}
-use Rattle.snoop_bus.specs.Coherent.{Coherent, state_of}
-use Rattle.snoop_bus.specs.CacheContents.{is_held, flusher_from}
-use Rattle.snoop_bus.specs.Copies.{Sets, copy_in, copy_at, cache_of, tags_of}
-use Rattle.snoop_bus.specs.inner.Copies.{ways_of}
-use Rattle.snoop_bus.specs.Bus.{current_words, AllCoherent}
-use Rattle.snoop_bus.specs.MemoryAfter.{flushed, sent_words}
-use Rattle.snoop_bus.specs.inner.Requests.{left_by, LeftByOthers, Supplied}
-use Rattle.snoop_bus.specs.inner.Accessing.{KeepsWords}
-use Rattle.snoop_bus.specs.Held.{counting}
-use Rattle.snoop_bus.specs.Asks.{asked_memory}
-use Rattle.snoop_bus.specs.inner.Asks.{transacting}
+use Rattle.snoop_bus.proofs.Vocabulary.{get_or-set_same, get_or-set_other, length-set, list_any, ◌≡◌, ◌≢◌, ◌⊎◌, inl, inr, ℕ, ◌<◌, Bool, true, false, Option, Some, None, is_some, List, [], length, refl, sym, ap, subst, ◌∙◌, slice_set, if◌then◌else◌, is_dirty, GivesUp, Shares, CleansByMemory, Supplies, FillsExclusiveOnlyAlone, Table, State, I, M, Snoop, GetS, GetM, IsD, ImD, Core, Line, copy_with, Words, line_in, Coherent, state_of, is_held, flusher_from, Sets, copy_in, copy_at, cache_of, tags_of, ways_of, current_words, AllCoherent, flushed, sent_words, left_by, LeftByOthers, Supplied, KeepsWords, counting, asked_memory, transacting}
 use Rattle.snoop_bus.proofs.CacheTags.{is_held-copies}
 use Rattle.snoop_bus.proofs.Coherence.{shared-coherent, fill-coherent, write-coherent}
 use Rattle.snoop_bus.proofs.Asked.{Asked, own_line, others_line, asked-keeps}

@@ -1,18 +1,6 @@
 -- An ask keeps every line coherent, if it keeps its own: the others have seen the request, and the copy that the bus keeps
 -- counts as its core's.
-use Rattle.std.proofs.lemmas.Bool.{cases_eq}
-use Rattle.std.proofs.Common.{arith, ◌≡◌, ◌≢◌, ℕ, ◌<◌, ◌≤◌, ◌&&◌, not, Bool, true, false, nat_eq, if◌then◌else◌, Option, Some, None, List, length, refl, sym, ap, subst, ◌∙◌, inl, inr}
-use Rattle.protocol_tables.specs.declared.state.State.{State}
-use Rattle.protocol_tables.specs.declared.state.Snoop.{Snoop}
-use Rattle.cache_set.specs.declared.Line.{Line}
-use Rattle.snoop_bus.specs.Lines.{Words, line_in}
-use Rattle.snoop_bus.specs.Coherent.{Coherent}
-use Rattle.snoop_bus.specs.Copies.{Sets, copy_at, cache_of}
-use Rattle.snoop_bus.specs.inner.Copies.{ways_of}
-use Rattle.snoop_bus.specs.Bus.{current_words, AllCoherent}
-use Rattle.snoop_bus.specs.Held.{counting}
-use Rattle.snoop_bus.specs.inner.Requests.{left_by, left_if, LeftByOthers}
-use Rattle.snoop_bus.specs.inner.Accessing.{KeepsWords}
+use Rattle.snoop_bus.proofs.Vocabulary.{cases_eq, arith, ◌≡◌, ◌≢◌, ℕ, ◌<◌, ◌≤◌, ◌&&◌, not, Bool, true, false, nat_eq, if◌then◌else◌, Option, Some, None, List, length, refl, sym, ap, subst, ◌∙◌, inl, inr, State, Snoop, Line, Words, line_in, Coherent, Sets, copy_at, cache_of, ways_of, current_words, AllCoherent, counting, left_by, left_if, LeftByOthers, KeepsWords}
 use Rattle.snoop_bus.proofs.Numbers.{differ, itself}
 use Rattle.snoop_bus.proofs.CurrentWords.{seen_is, coherent_along, all_coherent}
 use Rattle.snoop_bus.proofs.NewLemmas.{same_cores}

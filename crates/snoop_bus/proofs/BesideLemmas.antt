@@ -1,22 +1,5 @@
 -- Hits beside an action that holds the bus: what counts then, and that the action still finds what it left.
-use Rattle.std.proofs.lemmas.Bool.{cases_eq}
-use Rattle.std.proofs.Common.{◌≡◌, ◌≢◌, ◌⊎◌, inl, inr, ℕ, ◌&&◌, nat_eq, Option, Some, None, IfSome, List, length, refl, sym, ap, ◌∙◌, if◌then◌else◌}
-use Rattle.protocol_tables.specs.Laws.{in_place}
-use Rattle.protocol_tables.specs.declared.state.State.TheVariants.{S, M}
-use Rattle.protocol_tables.specs.declared.requests.Transient.{Transient}
-use Rattle.protocol_tables.specs.declared.requests.Transient.TheVariants.{IsD, ImD, SmD}
-use Rattle.cache_set.specs.declared.Line.{Line}
-use Rattle.snoop_bus.specs.Lines.{Words}
-use Rattle.snoop_bus.specs.Coherent.{state_of}
-use Rattle.snoop_bus.specs.Copies.{Sets, copy_at}
-use Rattle.snoop_bus.specs.inner.Copies.{ways_of}
-use Rattle.snoop_bus.specs.inner.Requests.{ChangesCopy}
-use Rattle.snoop_bus.specs.declared.holding.HeldBus.{HeldBus}
-use Rattle.snoop_bus.specs.declared.holding.Stage.{Stage}
-use Rattle.snoop_bus.specs.declared.holding.Stage.TheVariants.{Load, Write, Locked}
-use Rattle.snoop_bus.specs.declared.holding.Transaction.{Transaction}
-use Rattle.snoop_bus.specs.Held.{counted_in, counted}
-use Rattle.snoop_bus.specs.inner.Held.{IsHeld, Awaits, AskedOf}
+use Rattle.snoop_bus.proofs.Vocabulary.{cases_eq, ◌≡◌, ◌≢◌, ◌⊎◌, inl, inr, ℕ, ◌&&◌, nat_eq, Option, Some, None, IfSome, List, length, refl, sym, ap, ◌∙◌, if◌then◌else◌, in_place, S, M, Transient, IsD, ImD, SmD, Line, Words, state_of, Sets, copy_at, ways_of, ChangesCopy, HeldBus, Stage, Load, Write, Locked, Transaction, counted_in, counted, IsHeld, Awaits, AskedOf}
 use Rattle.snoop_bus.proofs.Numbers.{differ, itself}
 use Rattle.snoop_bus.proofs.NewLemmas.{same_cores}
 use Rattle.snoop_bus.proofs.HeldLemmas.{counting-at, ways-counting, same_sets}

@@ -1,26 +1,5 @@
 -- Memory, the lines and states, and the words after a whole access, and after its two halves.
-use Rattle.std.proofs.Common.{◌≡◌, ◌≢◌, inl, inr, ℕ, ◌-◌, zero, suc, nat_eq, Bool, true, false, if◌then◌else◌, cond, List, [], ◌∷◌, length, slice_get, slice_set, Option, Some, None, option_map, refl, sym, ap, ◌∙◌, subst}
-use Rattle.std.specs.Map.{lookup}
-use Rattle.protocol_tables.specs.Laws.{WritesInPlace}
-use Rattle.protocol_tables.specs.Tables.{Table}
-use Rattle.protocol_tables.specs.declared.state.State.{State}
-use Rattle.protocol_tables.specs.declared.state.State.TheVariants.{I, S, E, O, M}
-use Rattle.protocol_tables.specs.declared.requests.Request.TheVariants.{GetS, GetM}
-use Rattle.cache_set.specs.declared.Line.{Line}
-use Rattle.cache_set.specs.declared.Victim.{Victim}
-use Rattle.cache_set.specs.Contents.{Contents, as_victim, victim_of}
-use Rattle.tso_model.specs.declared.instruction.Core.{Core}
-use Rattle.tso_model.specs.declared.instruction.Loc.{Loc}
-use Rattle.snoop_bus.specs.declared.access.Access.{Access}
-use Rattle.snoop_bus.specs.Lines.{Words}
-use Rattle.snoop_bus.specs.Rows.{table_of_rows}
-use Rattle.snoop_bus.specs.CacheContents.{Accessed}
-use Rattle.snoop_bus.specs.Copies.{Sets, set_at, cache_of, copy_at, tags_of}
-use Rattle.snoop_bus.specs.Held.{counted}
-use Rattle.snoop_bus.specs.Bus.{BusModel, IsFree, IsCoherent, AllCoherent, words_of}
-use Rattle.snoop_bus.specs.MemoryAfter.{written_back, flushed, sent_words, victim_at, loaded_memory, loaded_memory_in, written_memory, written_memory_in}
-use Rattle.snoop_bus.specs.Asks.{tag_at, awaiting, asking, asked_memory, completed, completed_memory}
-use Rattle.snoop_bus.specs.Accesses.{contents_of, line_of, load_of, write_of, would_hit, ask_of, completion_of, LoadsAt, WritesAt}
+use Rattle.snoop_bus.proofs.Vocabulary.{◌≡◌, ◌≢◌, inl, inr, ℕ, ◌-◌, zero, suc, nat_eq, Bool, true, false, if◌then◌else◌, cond, List, [], ◌∷◌, length, slice_get, slice_set, Option, Some, None, option_map, refl, sym, ap, ◌∙◌, subst, lookup, WritesInPlace, Table, State, I, S, E, O, M, GetS, GetM, Line, Victim, Contents, as_victim, victim_of, Core, Loc, Access, Words, table_of_rows, Accessed, Sets, set_at, cache_of, copy_at, tags_of, counted, BusModel, IsFree, IsCoherent, AllCoherent, words_of, written_back, flushed, sent_words, victim_at, loaded_memory, loaded_memory_in, written_memory, written_memory_in, tag_at, awaiting, asking, asked_memory, completed, completed_memory, contents_of, line_of, load_of, write_of, would_hit, ask_of, completion_of, LoadsAt, WritesAt}
 use Rattle.snoop_bus.specs.WholeAccesses.{InHalves, LoadsInHalves, WritesInHalves, LeaveTheSame, LoadsAgree}
 use Rattle.snoop_bus.proofs.Numbers.{itself, inside}
 use Rattle.snoop_bus.proofs.AccessLemmas.{tag_here}

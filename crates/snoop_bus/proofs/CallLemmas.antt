@@ -1,24 +1,6 @@
 -- What the calls of a bus do, in the bus's own words, from what they do to its caches and memory.
-use Rattle.std.proofs.Common.{◌≡◌, ◌⊎◌, inl, inr, ℕ, ◌<◌, ◌≤◌, ◌*◌, ◌/◌, ◌%◌, Bool, IsTrue, Option, Some, None, List, length, refl, sym, ap, ◌∙◌}
-use Rattle.protocol_tables.specs.Tables.{Table}
-use Rattle.snoop_bus.specs.declared.access.Access.{Access}
-use Rattle.snoop_bus.specs.declared.access.Updated.{Updated}
-use Rattle.snoop_bus.specs.declared.hierarchy.Hierarchy.{Hierarchy}
-use Rattle.snoop_bus.specs.Geometry.{Geometry}
-use Rattle.snoop_bus.specs.Lines.{Words, line_in, words_in}
-use Rattle.snoop_bus.specs.Rows.{rows_of, table_of_rows}
-use Rattle.snoop_bus.specs.CacheContents.{loaded, written}
-use Rattle.snoop_bus.specs.Copies.{Sets, tags_of}
-use Rattle.snoop_bus.specs.declared.holding.HeldBus.{HeldBus}
-use Rattle.snoop_bus.specs.Held.{counted}
-use Rattle.snoop_bus.specs.Bus.{BusModel, bus_with, current_words, program_words}
-use Rattle.snoop_bus.specs.inner.Bus.{IsBus}
-use Rattle.snoop_bus.specs.Accesses.{IsCurrentWord, LoadsAt, WritesAt, KeepsHolder}
-use Rattle.snoop_bus.specs.inner.Accesses.{MayGoOn}
-use Rattle.snoop_bus.specs.MemoryAfter.{loaded_memory, written_memory}
-use Rattle.snoop_bus.specs.inner.Accessing.{IsReady, KeepsWords, Loads, Updates}
+use Rattle.snoop_bus.proofs.Vocabulary.{◌≡◌, ◌⊎◌, inl, inr, ℕ, ◌<◌, ◌≤◌, ◌*◌, ◌/◌, ◌%◌, Bool, IsTrue, Option, Some, None, List, length, refl, sym, ap, ◌∙◌, Table, Access, Updated, Hierarchy, Geometry, Words, line_in, words_in, rows_of, table_of_rows, loaded, written, Sets, tags_of, HeldBus, counted, BusModel, bus_with, current_words, program_words, IsBus, IsCurrentWord, LoadsAt, WritesAt, KeepsHolder, MayGoOn, loaded_memory, written_memory, IsReady, KeepsWords, Loads, Updates, hits}
 use Rattle.snoop_bus.proofs.RowLemmas.{table_of-rows}
-use Rattle.snoop_bus.specs.Asks.{hits}
 use Rattle.snoop_bus.proofs.HolderLemmas.{free-held}
 use Rattle.snoop_bus.proofs.WordLemmas.{length-words, line_below, words-get, words-same, words-set}
 

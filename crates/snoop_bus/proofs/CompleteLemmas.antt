@@ -1,19 +1,5 @@
 -- What a completion answers and leaves: the copy that the bus kept is the core's own, and another may have left.
-use Rattle.std.proofs.lemmas.Bool.{cases_eq}
-use Rattle.std.proofs.Common.{arith, ◌≡◌, ◌≢◌, ◌⊎◌, inl, inr, ℕ, ◌<◌, ◌≤◌, cond, true, false, nat_eq, Option, Some, None, IfSome, List, length, map, refl, sym, ap, subst, ◌∙◌, slice_set, if◌then◌else◌}
-use Rattle.protocol_tables.specs.inner.Laws.{WritesBackDirty}
-use Rattle.protocol_tables.specs.Tables.{Table}
-use Rattle.protocol_tables.specs.declared.state.State.TheVariants.{I}
-use Rattle.cache_set.specs.declared.Line.{Line}
-use Rattle.cache_set.specs.declared.Victim.{Victim}
-use Rattle.cache_set.specs.inner.Contents.{after_fill}
-use Rattle.snoop_bus.specs.Lines.{Words, line_in}
-use Rattle.snoop_bus.specs.Coherent.{Coherent}
-use Rattle.snoop_bus.specs.Copies.{Sets, copy_in, copy_at, cache_of}
-use Rattle.snoop_bus.specs.Bus.{current_words, AllCoherent}
-use Rattle.snoop_bus.specs.inner.Accessing.{KeepsWords}
-use Rattle.snoop_bus.specs.MemoryAfter.{written_back}
-use Rattle.snoop_bus.specs.Held.{counting}
+use Rattle.snoop_bus.proofs.Vocabulary.{cases_eq, arith, ◌≡◌, ◌≢◌, ◌⊎◌, inl, inr, ℕ, ◌<◌, ◌≤◌, cond, true, false, nat_eq, Option, Some, None, IfSome, List, length, map, refl, sym, ap, subst, ◌∙◌, slice_set, if◌then◌else◌, WritesBackDirty, Table, I, Line, Victim, after_fill, Words, line_in, Coherent, Sets, copy_in, copy_at, cache_of, current_words, AllCoherent, KeepsWords, written_back, counting}
 use Rattle.snoop_bus.proofs.Numbers.{differ, itself, inside}
 use Rattle.snoop_bus.proofs.Coherence.{drop-coherent}
 use Rattle.snoop_bus.proofs.CurrentWords.{copy_at-set, seen_is, coherent_along, all_coherent}

@@ -1,32 +1,6 @@
 -- What a bus has once the access of its holder was completed.
-use Rattle.std.proofs.Common.{◌≡◌, ◌/◌, ◌%◌, ℕ, Option, Some, None, List, length, slice_index, slice_set, refl, sym, ap, ◌∙◌}
-use Rattle.tso_model.specs.declared.instruction.Core.{Core}
-use Rattle.tso_model.specs.declared.instruction.Loc.{Loc}
-use Rattle.protocol_tables.specs.Tables.{Table}
-use Rattle.protocol_tables.specs.declared.requests.Transient.{Transient}
-use Rattle.protocol_tables.specs.declared.requests.Transient.TheVariants.{IsD, ImD, SmD}
-use Rattle.snoop_bus.specs.declared.access.Access.{Access}
-use Rattle.snoop_bus.specs.declared.hierarchy.Hierarchy.{Hierarchy}
-use Rattle.snoop_bus.specs.declared.holding.HeldBus.{HeldBus}
-use Rattle.snoop_bus.specs.declared.holding.Stage.{Stage}
-use Rattle.snoop_bus.specs.declared.holding.Stage.TheVariants.{Locked}
-use Rattle.protocol_tables.specs.declared.state.State.TheVariants.{M}
-use Rattle.snoop_bus.specs.declared.holding.Transaction.{Transaction}
+use Rattle.snoop_bus.proofs.Vocabulary.{◌≡◌, ◌/◌, ◌%◌, ℕ, Option, Some, None, List, length, slice_index, slice_set, refl, sym, ap, ◌∙◌, Core, Loc, Table, Transient, IsD, ImD, SmD, Access, Hierarchy, HeldBus, Stage, Locked, M, Transaction, Geometry, Words, state_of, Sets, copy_at, ways_of, victim_at, counted, counted_in, holder, held_by, BusModel, bus_with, words_of, holder_of, program_words, current_words, IsSameMachine, IsBus, awaited_in, completed_memory, completed_memory_in, IsCurrentWord, CompletesAt, words_due, Completes, KeepsWords, SetsWord}
 use Rattle.snoop_bus.specs.declared.target.Target.{Target}
-use Rattle.snoop_bus.specs.Geometry.{Geometry}
-use Rattle.snoop_bus.specs.Lines.{Words}
-use Rattle.snoop_bus.specs.Coherent.{state_of}
-use Rattle.snoop_bus.specs.Copies.{Sets, copy_at}
-use Rattle.snoop_bus.specs.inner.Copies.{ways_of}
-use Rattle.snoop_bus.specs.MemoryAfter.{victim_at}
-use Rattle.snoop_bus.specs.Held.{counted, counted_in, holder}
-use Rattle.snoop_bus.specs.inner.Held.{held_by}
-use Rattle.snoop_bus.specs.Bus.{BusModel, bus_with, words_of, holder_of, program_words, current_words, IsSameMachine}
-use Rattle.snoop_bus.specs.inner.Bus.{IsBus}
-use Rattle.snoop_bus.specs.Asks.{awaited_in, completed_memory, completed_memory_in}
-use Rattle.snoop_bus.specs.Accesses.{IsCurrentWord, CompletesAt}
-use Rattle.snoop_bus.specs.inner.Completing.{words_due, Completes}
-use Rattle.snoop_bus.specs.inner.Accessing.{KeepsWords, SetsWord}
 use Rattle.snoop_bus.proofs.MemoryLemmas.{length-written_back}
 use Rattle.snoop_bus.proofs.WordLemmas.{words-get, words-same, words-set}
 use Rattle.snoop_bus.proofs.NewLemmas.{same_cores, bus-kept, bus-set}

@@ -1,22 +1,5 @@
 -- A bus that begins anew: its caches are emptied, and memory gets its first words again.
-use Rattle.std.proofs.Common.{◌≡◌, ◌<◌, ◌≤◌, ℕ, Option, None, List, [], ◌∷◌, length, map, replicate, refl, sym, ap, ◌∙◌, arith}
-use Rattle.std.specs.Int.{div_ceil}
-use Rattle.std.proofs.lemmas.Grind.{div_ceil_times}
-use Rattle.std.proofs.lemmas.List.{length-map}
-use Rattle.std.proofs.lemmas.List.FromFn.{length-map-range_with_len}
-use Rattle.std.proofs.Math.ListN.{get_or-map}
-use Rattle.protocol_tables.specs.Tables.{Table}
-use Rattle.cache_set.specs.Limits.{most_words}
-use Rattle.cache_set.specs.Contents.{contents, copy_of}
-use Rattle.snoop_bus.specs.Geometry.{Geometry}
-use Rattle.snoop_bus.specs.Rows.{rows_of}
-use Rattle.snoop_bus.specs.Lines.{Words, words_in, lines_of_words}
-use Rattle.snoop_bus.specs.Copies.{Sets}
-use Rattle.snoop_bus.specs.inner.Copies.{emptied, ways_of, AtHome}
-use Rattle.snoop_bus.specs.Bus.{BusModel, words_of, current_words, empty_caches}
-use Rattle.snoop_bus.specs.inner.Bus.{IsBus}
-use Rattle.snoop_bus.specs.Accesses.{new_bus}
-use Rattle.snoop_bus.specs.declared.holding.HeldBus.{HeldBus}
+use Rattle.snoop_bus.proofs.Vocabulary.{◌≡◌, ◌<◌, ◌≤◌, ℕ, Option, None, List, [], ◌∷◌, length, map, replicate, refl, sym, ap, ◌∙◌, arith, div_ceil, div_ceil_times, length-map, length-map-range_with_len, get_or-map, Table, most_words, contents, copy_of, Geometry, rows_of, Words, words_in, lines_of_words, Sets, emptied, ways_of, AtHome, BusModel, words_of, current_words, empty_caches, IsBus, new_bus, HeldBus}
 use Rattle.snoop_bus.proofs.NewLemmas.{map-replicate, new-bus, new-words}
 
 pub home-emptied : (sets : Sets) → 0 < length sets → (0 < length (map emptied sets)) × AtHome (map emptied sets)

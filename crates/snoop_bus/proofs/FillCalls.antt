@@ -1,12 +1,5 @@
 -- What the calls of an access that misses rest on, from what the calls before them did.
-use Rattle.std.proofs.Common.{◌≡◌, ℕ, ◌<◌, Option, Some, None, List, length, refl, ◌∙◌, slice_set}
-use Rattle.protocol_tables.specs.Tables.{Table}
-use Rattle.cache_set.specs.declared.Line.{Line}
-use Rattle.cache_set.specs.declared.Victim.{Victim}
-use Rattle.cache_set.specs.inner.Contents.{after_fill}
-use Rattle.snoop_bus.specs.Lines.{Words}
-use Rattle.snoop_bus.specs.Copies.{Sets, copy_in, copy_at}
-use Rattle.snoop_bus.specs.MemoryAfter.{written_back}
+use Rattle.snoop_bus.proofs.Vocabulary.{◌≡◌, ℕ, ◌<◌, Option, Some, None, List, length, refl, ◌∙◌, slice_set, Table, Line, Victim, after_fill, Words, Sets, copy_in, copy_at, written_back}
 use Rattle.snoop_bus.proofs.Numbers.{itself}
 use Rattle.snoop_bus.proofs.CurrentWords.{copy_at-set}
 

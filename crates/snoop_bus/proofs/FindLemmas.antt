@@ -1,20 +1,6 @@
 -- One more cache is looked at for a line that a core asks for.
-use Rattle.std.proofs.lemmas.Bool.Decides.{eqb_tells, nat_tests}
-use Rattle.std.proofs.lemmas.List.{get_or-set_same, get_or-set_other, get_or_past, length-set, length-map}
-use Rattle.std.proofs.Math.Seq.{drop-cons, drop-length}
-use Rattle.std.proofs.Common.{arith, ◌≡◌, ◌≢◌, ◌⊎◌, inl, inr, ℕ, zero, suc, ◌+◌, ◌<◌, ◌≤◌, nat_eq, nat_lt, Bool, true, false, ◌||◌, Option, Some, None, IsSome, is_some, option_map, unwrap_or, List, [], length, map, drop, slice_set, slice_index_or, replicate, refl, sym, ap, ◌∙◌, if◌then◌else◌, add-one}
-use Rattle.std.specs.Option.{option_or}
-use Rattle.std.specs.List.{list_any}
-use Rattle.tso_model.specs.declared.instruction.Core.{Core}
-use Rattle.protocol_tables.specs.declared.state.State.{State}
-use Rattle.protocol_tables.specs.declared.state.Snoop.{Snoop}
-use Rattle.cache_set.specs.declared.Line.{Line}
+use Rattle.snoop_bus.proofs.Vocabulary.{eqb_tells, nat_tests, get_or-set_same, get_or-set_other, get_or_past, length-set, length-map, drop-cons, drop-length, arith, ◌≡◌, ◌≢◌, ◌⊎◌, inl, inr, ℕ, zero, suc, ◌+◌, ◌<◌, ◌≤◌, nat_eq, nat_lt, Bool, true, false, ◌||◌, Option, Some, None, IsSome, is_some, option_map, unwrap_or, List, [], length, map, drop, slice_set, slice_index_or, replicate, refl, sym, ap, ◌∙◌, if◌then◌else◌, add-one, option_or, list_any, Core, State, Snoop, Line, most_cores, Words, flusher_from, Sets, copy_in, copy_at, tags_in, tags_of, supplied_of, Supplied}
 use Rattle.snoop_bus.specs.declared.finding.Found.{Found}
-use Rattle.tso_model.specs.Limits.{most_cores}
-use Rattle.snoop_bus.specs.Lines.{Words}
-use Rattle.snoop_bus.specs.CacheContents.{flusher_from}
-use Rattle.snoop_bus.specs.Copies.{Sets, copy_in, copy_at, tags_in, tags_of}
-use Rattle.snoop_bus.specs.inner.Requests.{supplied_of, Supplied}
 use Rattle.snoop_bus.specs.inner.Finding.{nothing_found, noting}
 use Rattle.snoop_bus.proofs.SnoopLemmas.{flusher-at}
 

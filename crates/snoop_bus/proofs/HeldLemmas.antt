@@ -1,14 +1,5 @@
 -- The copies that count while the bus is held.
-use Rattle.std.proofs.lemmas.Bool.{cases_eq}
-use Rattle.std.proofs.lemmas.List.{get_or-set_same, get_or-set_other, length-set, length-map}
-use Rattle.std.proofs.Math.ListN.{get_or-map}
-use Rattle.std.proofs.Math.Seq.{map-set_same}
-use Rattle.std.proofs.Common.{arith, ◌≡◌, ◌≢◌, ◌⊎◌, inl, inr, ℕ, ◌<◌, ◌%◌, false, ◌&&◌, nat_eq, Some, List, [], length, map, refl, sym, ap, ◌∙◌, slice_index_or, if◌then◌else◌}
-use Rattle.cache_set.specs.declared.Line.{Line}
-use Rattle.cache_set.specs.Contents.{Contents, contents, copy_of}
-use Rattle.snoop_bus.specs.Copies.{Sets, set_at, in_set, copy_in, copy_at, cache_of}
-use Rattle.snoop_bus.specs.inner.Copies.{ways_of}
-use Rattle.snoop_bus.specs.Held.{with_copy, counting}
+use Rattle.snoop_bus.proofs.Vocabulary.{cases_eq, get_or-set_same, get_or-set_other, length-set, length-map, get_or-map, map-set_same, arith, ◌≡◌, ◌≢◌, ◌⊎◌, inl, inr, ℕ, ◌<◌, ◌%◌, false, ◌&&◌, nat_eq, Some, List, [], length, map, refl, sym, ap, ◌∙◌, slice_index_or, if◌then◌else◌, Line, Contents, contents, copy_of, Sets, set_at, in_set, copy_in, copy_at, cache_of, ways_of, with_copy, counting}
 use Rattle.snoop_bus.proofs.Numbers.{differ, itself}
 use Rattle.snoop_bus.proofs.CurrentWords.{copy_at-set}
 use Rattle.snoop_bus.proofs.UseLemmas.{ways-set_cache}

@@ -1,27 +1,6 @@
 -- What a hit answers and leaves.
-use Rattle.std.proofs.lemmas.Bool.{cases_eq}
-use Rattle.std.proofs.Common.{◌≡◌, ◌≢◌, ◌⊎◌, inl, inr, ℕ, ◌<◌, true, false, nat_eq, Option, Some, None, IfSome, option_map, List, length, map, refl, sym, ap, ◌∙◌, slice_set, slice_index, if◌then◌else◌}
-use Rattle.protocol_tables.specs.Laws.{WritesInPlace, in_place}
-use Rattle.protocol_tables.specs.Tables.{Table}
-use Rattle.protocol_tables.specs.declared.state.State.{State}
-use Rattle.protocol_tables.specs.declared.state.State.TheVariants.{M}
-use Rattle.cache_set.specs.declared.Line.{Line}
-use Rattle.cache_set.specs.inner.Contents.{to_front}
-use Rattle.cache_set.specs.inner.Copy.{with_state}
+use Rattle.snoop_bus.proofs.Vocabulary.{cases_eq, ◌≡◌, ◌≢◌, ◌⊎◌, inl, inr, ℕ, ◌<◌, true, false, nat_eq, Option, Some, None, IfSome, option_map, List, length, map, refl, sym, ap, ◌∙◌, slice_set, slice_index, if◌then◌else◌, WritesInPlace, in_place, Table, State, M, Line, to_front, with_state, Hit, Access, Accessed, used_by, written_in, written, Words, state_of, Sets, in_set, copy_in, copy_at, cache_of, tags_of, ways_of, current_words, AllCoherent, ChangesCopy, KeepsWords, Loads, Acquires, HeldBus, counted, IsHeld}
 use Rattle.snoop_bus.specs.declared.access.AccessKind.{AccessKind}
-use Rattle.snoop_bus.specs.declared.access.AccessKind.TheVariants.{Hit}
-use Rattle.snoop_bus.specs.declared.access.Access.{Access}
-use Rattle.snoop_bus.specs.CacheContents.{Accessed, used_by, written_in, written}
-use Rattle.snoop_bus.specs.Lines.{Words}
-use Rattle.snoop_bus.specs.Coherent.{state_of}
-use Rattle.snoop_bus.specs.Copies.{Sets, in_set, copy_in, copy_at, cache_of, tags_of}
-use Rattle.snoop_bus.specs.inner.Copies.{ways_of}
-use Rattle.snoop_bus.specs.Bus.{current_words, AllCoherent}
-use Rattle.snoop_bus.specs.inner.Requests.{ChangesCopy}
-use Rattle.snoop_bus.specs.inner.Accessing.{KeepsWords, Loads, Acquires}
-use Rattle.snoop_bus.specs.declared.holding.HeldBus.{HeldBus}
-use Rattle.snoop_bus.specs.Held.{counted}
-use Rattle.snoop_bus.specs.inner.Held.{IsHeld}
 use Rattle.snoop_bus.proofs.BesideLemmas.{own_word, held-same, held-placed, counted-same, counted-changes, placed-counts, ways-counted}
 use Rattle.snoop_bus.proofs.Numbers.{differ, itself}
 use Rattle.snoop_bus.proofs.CurrentWords.{same_copies, same-coherent, same-seen}

@@ -1,25 +1,6 @@
 -- What the action that holds the bus tells of all copies of its line.
-use Rattle.std.proofs.Common.{◌≡◌, ◌≢◌, ℕ, ◌<◌, ◌/◌, Bool, true, false, Option, Some, None, IfSome, option_map, List, length, refl, sym, ap, ◌∙◌}
-use Rattle.tso_model.specs.declared.instruction.Core.{Core}
-use Rattle.tso_model.specs.declared.instruction.Loc.{Loc}
-use Rattle.protocol_tables.specs.Laws.{in_place}
-use Rattle.protocol_tables.specs.Tables.{Table}
-use Rattle.protocol_tables.specs.declared.state.State.TheVariants.{M}
-use Rattle.cache_set.specs.declared.Line.{Line}
-use Rattle.snoop_bus.specs.Geometry.{Geometry}
-use Rattle.snoop_bus.specs.Lines.{Words}
-use Rattle.snoop_bus.specs.Coherent.{Coherent, state_of}
-use Rattle.snoop_bus.specs.Copies.{Sets, copy_at, cache_of, tags_of}
-use Rattle.snoop_bus.specs.Bus.{AllCoherent, bus_with}
-use Rattle.snoop_bus.specs.inner.Accesses.{StandsAlone}
-use Rattle.snoop_bus.specs.declared.holding.HeldBus.{HeldBus}
+use Rattle.snoop_bus.proofs.Vocabulary.{◌≡◌, ◌≢◌, ℕ, ◌<◌, ◌/◌, Bool, true, false, Option, Some, None, IfSome, option_map, List, length, refl, sym, ap, ◌∙◌, Core, Loc, in_place, Table, M, Line, Geometry, Words, Coherent, state_of, Sets, copy_at, cache_of, tags_of, AllCoherent, bus_with, StandsAlone, HeldBus, Stage, Load, Write, Locked, Transaction, counting, counted, holder, holder_in, IsHeld, IsPlaced, Awaits, held_by, hits, hit_in}
 use Rattle.snoop_bus.specs.declared.holding.BusAction.{BusAction}
-use Rattle.snoop_bus.specs.declared.holding.Stage.{Stage}
-use Rattle.snoop_bus.specs.declared.holding.Stage.TheVariants.{Load, Write, Locked}
-use Rattle.snoop_bus.specs.declared.holding.Transaction.{Transaction}
-use Rattle.snoop_bus.specs.Held.{counting, counted, holder, holder_in}
-use Rattle.snoop_bus.specs.inner.Held.{IsHeld, IsPlaced, Awaits, held_by}
-use Rattle.snoop_bus.specs.Asks.{hits, hit_in}
 use Rattle.snoop_bus.proofs.Numbers.{differ, itself}
 use Rattle.snoop_bus.proofs.Coherence.{alone}
 use Rattle.snoop_bus.proofs.AccessLemmas.{tag_here}

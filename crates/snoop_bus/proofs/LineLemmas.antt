@@ -1,14 +1,6 @@
 -- Each line has its words of the list of words, and 0 at every other offset: what keeps that.
-use Rattle.std.proofs.lemmas.Bool.{cases_eq, cases_lt}
-use Rattle.std.proofs.lemmas.Bool.Decides.{nat_tests}
-use Rattle.std.proofs.lemmas.List.{ext_get_or, get_or-set_same, get_or-set_other, length-set, set_at, drop_more}
-use Rattle.std.proofs.lemmas.List.FromFn.{length-map-range_with_len, get_or-map-range_with_len, map-range_with_len_more}
-use Rattle.std.specs.List.{range_with_len}
-use Rattle.std.proofs.Common.{[], ◌∷◌, ◌++◌, map, drop, append_assoc}
-use Rattle.std.proofs.lemmas.Nat.{div-add-mod', div-mul-add, mod-mul-add, mod_below}
-use Rattle.std.proofs.Common.{arith, ◌≡◌, ◌≢◌, ◌⊎◌, inl, inr, ℕ, ◌+◌, ◌*◌, ◌/◌, ◌%◌, ◌<◌, ◌≤◌, true, false, nat_eq, nat_lt, List, length, refl, sym, ap, ◌∙◌, slice_index, slice_index_or, slice_set, if◌then◌else◌}
-use Rattle.cache_set.specs.Limits.{most_words}
-use Rattle.snoop_bus.specs.Lines.{Words, words_in, offset_of, line_of_words}
+use Rattle.snoop_bus.proofs.Vocabulary.{cases_eq, cases_lt, nat_tests, ext_get_or, get_or-set_same, get_or-set_other, length-set, drop_more, length-map-range_with_len, get_or-map-range_with_len, map-range_with_len_more, range_with_len, [], ◌∷◌, ◌++◌, map, drop, append_assoc, div-add-mod', div-mul-add, mod-mul-add, mod_below, arith, ◌≡◌, ◌≢◌, ◌⊎◌, inl, inr, ℕ, ◌+◌, ◌*◌, ◌/◌, ◌%◌, ◌<◌, ◌≤◌, true, false, nat_eq, nat_lt, List, length, refl, sym, ap, ◌∙◌, slice_index, slice_index_or, slice_set, if◌then◌else◌, most_words, Words, words_in, offset_of, line_of_words}
+use Rattle.std.proofs.lemmas.List.{set_at}
 use Rattle.snoop_bus.proofs.Numbers.{differ, itself}
 use Rattle.snoop_bus.proofs.WordLemmas.{length-words, words-same, words-set}
 

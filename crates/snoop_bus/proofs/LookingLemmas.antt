@@ -1,37 +1,7 @@
 -- What one who looks at a bus finds there.
-use Rattle.std.proofs.lemmas.Bool.Decides.{eqb_tells, nat_tests}
-use Rattle.std.proofs.lemmas.List.{get_or_default}
-use Rattle.std.proofs.lemmas.Bool.{cases_eq, cases_lt}
-use Rattle.std.proofs.Common.{arith, nat_lt, ◌≡◌, ◌≢◌, inl, inr, ℕ, ◌<◌, ◌%◌, nat_eq, Bool, true, ◌&&◌, if◌then◌else◌, Option, Some, None, IfSome, unwrap_or, option_map, map, slice_get, List, [], length, slice_index_or, false, subst, refl, sym, ap, ◌∙◌}
-use Rattle.std.specs.Option.{option_or}
-use Rattle.std.proofs.lemmas.Option.{slice_get-map}
-use Rattle.std.proofs.Math.ListN.{get_or-map}
+use Rattle.snoop_bus.proofs.Vocabulary.{eqb_tells, nat_tests, get_or_default, cases_eq, cases_lt, arith, nat_lt, ◌≡◌, ◌≢◌, inl, inr, ℕ, ◌<◌, ◌%◌, nat_eq, Bool, true, ◌&&◌, if◌then◌else◌, Option, Some, None, IfSome, unwrap_or, option_map, map, slice_get, List, [], length, slice_index_or, false, subst, refl, sym, ap, ◌∙◌, option_or, slice_get-map, get_or-map, is_dirty, or_invalid, state_of, ranked_in, IsClean, with_words, Line, Contents, contents, copy_of, with_state, State, S, O, Transient, IsD, ImD, SmD, Geometry, Words, line_in, line_of_words, Sets, copy_at, cache_of, tags_in, tags_of, AtHome, counted, counting, IsHeld, Awaits, AskedOf, kept_by, kept_words, AllCoherent, current_words, words_among, program_words, IsBus, HeldBus, Stage, Load, Write, Locked, Transaction}
 use Rattle.snoop_bus.specs.declared.looking.CachedLine.{CachedLine}
-use Rattle.protocol_tables.specs.Laws.{is_dirty}
-use Rattle.snoop_bus.specs.Asks.{or_invalid}
-use Rattle.snoop_bus.specs.Coherent.{state_of}
 use Rattle.snoop_bus.proofs.AccessLemmas.{tag_here}
-use Rattle.snoop_bus.specs.inner.Accesses.{ranked_in, IsClean}
-use Rattle.snoop_bus.specs.Accesses.{with_words}
-use Rattle.cache_set.specs.declared.Line.{Line}
-use Rattle.cache_set.specs.Contents.{Contents, contents, copy_of}
-use Rattle.cache_set.specs.inner.Copy.{with_state}
-use Rattle.protocol_tables.specs.declared.state.State.{State}
-use Rattle.protocol_tables.specs.declared.state.State.TheVariants.{S, O}
-use Rattle.protocol_tables.specs.declared.requests.Transient.{Transient}
-use Rattle.protocol_tables.specs.declared.requests.Transient.TheVariants.{IsD, ImD, SmD}
-use Rattle.snoop_bus.specs.Geometry.{Geometry}
-use Rattle.snoop_bus.specs.Lines.{Words, line_in, line_of_words}
-use Rattle.snoop_bus.specs.Copies.{Sets, copy_at, cache_of, tags_in, tags_of}
-use Rattle.snoop_bus.specs.inner.Copies.{AtHome}
-use Rattle.snoop_bus.specs.Held.{counted, counting}
-use Rattle.snoop_bus.specs.inner.Held.{IsHeld, Awaits, AskedOf, kept_by, kept_words}
-use Rattle.snoop_bus.specs.Bus.{AllCoherent, current_words, words_among, program_words}
-use Rattle.snoop_bus.specs.inner.Bus.{IsBus}
-use Rattle.snoop_bus.specs.declared.holding.HeldBus.{HeldBus}
-use Rattle.snoop_bus.specs.declared.holding.Stage.{Stage}
-use Rattle.snoop_bus.specs.declared.holding.Stage.TheVariants.{Load, Write, Locked}
-use Rattle.snoop_bus.specs.declared.holding.Transaction.{Transaction}
 use Rattle.snoop_bus.proofs.Numbers.{differ, itself}
 use Rattle.snoop_bus.proofs.CurrentWords.{seen_is, coherent_along}
 use Rattle.snoop_bus.proofs.HeldLemmas.{counting-at}

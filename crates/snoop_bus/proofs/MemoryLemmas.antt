@@ -1,17 +1,5 @@
 -- What is written to memory, line by line, and that its size stays.
-use Rattle.std.proofs.lemmas.List.{get_or-set_same, get_or-set_other, length-set}
-use Rattle.std.proofs.Common.{◌≡◌, ◌≢◌, ◌⊎◌, inl, inr, ℕ, ◌<◌, cond, Bool, true, false, nat_eq, Option, Some, None, List, [], length, refl, sym, ◌∙◌, slice_set}
-use Rattle.protocol_tables.specs.Laws.{is_dirty}
-use Rattle.protocol_tables.specs.inner.Laws.{WritesBackDirty}
-use Rattle.protocol_tables.specs.Tables.{Table}
-use Rattle.cache_set.specs.declared.Line.{Line}
-use Rattle.cache_set.specs.declared.Victim.{Victim}
-use Rattle.snoop_bus.specs.Lines.{Words, line_in}
-use Rattle.snoop_bus.specs.Copies.{Sets, copy_at}
-use Rattle.protocol_tables.specs.declared.requests.Request.{Request}
-use Rattle.protocol_tables.specs.declared.requests.Request.TheVariants.{GetS, GetM}
-use Rattle.snoop_bus.specs.Asks.{asked_memory}
-use Rattle.snoop_bus.specs.MemoryAfter.{written_back, victim_at, flushed, sent_words, written_memory, written_memory_in}
+use Rattle.snoop_bus.proofs.Vocabulary.{get_or-set_same, get_or-set_other, length-set, ◌≡◌, ◌≢◌, ◌⊎◌, inl, inr, ℕ, ◌<◌, cond, Bool, true, false, nat_eq, Option, Some, None, List, [], length, refl, sym, ◌∙◌, slice_set, is_dirty, WritesBackDirty, Table, Line, Victim, Words, line_in, Sets, copy_at, Request, GetS, GetM, asked_memory, written_back, victim_at, flushed, sent_words, written_memory, written_memory_in}
 
 pub length-written_back : (t : Table) (v : Option Victim) (m : List Words) → length (written_back t v m) ≡ length m
 length-written_back t None m = refl

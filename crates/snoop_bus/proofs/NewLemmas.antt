@@ -1,30 +1,6 @@
 -- A new bus, and what holds of a bus from one access to the next.
-use Rattle.std.proofs.Common.{arith, ◌≡◌, ◌⊎◌, inl, inr, ℕ, zero, suc, ◌+◌, ◌*◌, ◌/◌, ◌<◌, ◌≤◌, ◌%◌, nat_lt, true, Option, None, IfSome, List, [], ◌∷◌, length, map, replicate, slice_index, slice_index_or, refl, sym, ap, ◌∙◌}
-use Rattle.std.specs.Int.{div_ceil}
-use Rattle.std.proofs.lemmas.List.{length-map}
-use Rattle.std.proofs.lemmas.List.FromFn.{length-map-range_with_len, get_or-map-range_with_len, fill_by_all}
-use Rattle.std.proofs.lemmas.Nat.{div-add-mod', mod_below, mul-le}
-use Rattle.std.proofs.lemmas.Bool.{cases_lt}
-use Rattle.std.proofs.lemmas.Bool.Decides.{nat_tests}
-use Rattle.std.proofs.Math.ListN.{get_or-map}
-use Rattle.cache_set.specs.Contents.{Contents, contents, copy_of}
-use Rattle.protocol_tables.specs.Tables.{Table}
-use Rattle.cache_set.specs.Limits.{most_words}
-use Rattle.tso_model.specs.Limits.{most_cores}
-use Rattle.snoop_bus.specs.Geometry.{Geometry}
-use Rattle.snoop_bus.specs.Lines.{Words, line_in, word_at, words_in, offset_of, line_of_words, lines_of_words}
-use Rattle.snoop_bus.specs.Coherent.{Coherent}
-use Rattle.snoop_bus.specs.Copies.{Sets, copy_in, copy_at, cache_of}
-use Rattle.snoop_bus.specs.inner.Copies.{ways_of, AtHome}
-use Rattle.snoop_bus.specs.Bus.{current_words, AllCoherent, empty_caches}
-use Rattle.snoop_bus.specs.inner.Bus.{HasWholeLines, IsBus}
+use Rattle.snoop_bus.proofs.Vocabulary.{arith, ◌≡◌, ◌⊎◌, inl, inr, ℕ, zero, suc, ◌+◌, ◌*◌, ◌/◌, ◌<◌, ◌≤◌, ◌%◌, nat_lt, true, Option, None, IfSome, List, [], ◌∷◌, length, map, replicate, slice_index, slice_index_or, refl, sym, ap, ◌∙◌, div_ceil, length-map, length-map-range_with_len, get_or-map-range_with_len, fill_by_all, div-add-mod', mod_below, mul-le, cases_lt, nat_tests, get_or-map, Contents, contents, copy_of, Table, most_words, most_cores, Geometry, Words, line_in, word_at, words_in, offset_of, line_of_words, lines_of_words, Coherent, Sets, copy_in, copy_at, cache_of, ways_of, AtHome, current_words, AllCoherent, empty_caches, HasWholeLines, IsBus, Updated, Hierarchy, HeldBus, counted, IsHeld, IsPlaced, KeepsWords, SetsWord, Updates}
 use Rattle.snoop_bus.proofs.CurrentWords.{seen_is, all_coherent}
-use Rattle.snoop_bus.specs.declared.access.Updated.{Updated}
-use Rattle.snoop_bus.specs.declared.hierarchy.Hierarchy.{Hierarchy}
-use Rattle.snoop_bus.specs.declared.holding.HeldBus.{HeldBus}
-use Rattle.snoop_bus.specs.Held.{counted}
-use Rattle.snoop_bus.specs.inner.Held.{IsHeld, IsPlaced}
-use Rattle.snoop_bus.specs.inner.Accessing.{KeepsWords, SetsWord, Updates}
 use Rattle.snoop_bus.proofs.LineLemmas.{lines-same, lines-set}
 use Rattle.snoop_bus.proofs.WordLemmas.{words-same, line_below}
 

@@ -1,10 +1,6 @@
 -- A table is that of its rows.
 use mathlib.Core.Path.{fun_ext}
-use Rattle.std.proofs.Common.{◌≡◌, Bool, true, false, None, refl}
-use Rattle.protocol_tables.specs.declared.state.State.{State}
-use Rattle.protocol_tables.specs.declared.state.State.TheVariants.{I, S, E, O, M}
-use Rattle.protocol_tables.specs.Tables.{Table, snoop}
-use Rattle.snoop_bus.specs.Rows.{column, entry_at, rows_of, filled_in, table_of_rows}
+use Rattle.snoop_bus.proofs.Vocabulary.{◌≡◌, Bool, true, false, None, refl, State, I, S, E, O, M, Table, snoop, column, entry_at, rows_of, filled_in, table_of_rows}
 
 column-entry : {A : Type 0} (none : A) (f : State → A) → entry_at none (column f) ≡ f
 column-entry none f = fun_ext each

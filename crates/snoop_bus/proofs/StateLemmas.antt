@@ -1,8 +1,5 @@
 -- The state of a line in the caches.
-use Rattle.std.proofs.Common.{◌≡◌, ◌∙◌, ℕ, List, option_map, ap}
-use Rattle.snoop_bus.specs.CacheContents.{TagSets, tag_in}
-use Rattle.snoop_bus.specs.Asks.{tag_at}
-use Rattle.snoop_bus.specs.Copies.{Sets, cache_of, copy_at, tags_of}
+use Rattle.snoop_bus.proofs.Vocabulary.{◌≡◌, ◌∙◌, ℕ, List, option_map, ap, TagSets, tag_in, tag_at, Sets, cache_of, copy_at, tags_of}
 use Rattle.snoop_bus.proofs.CacheTags.{tag_at-tags, sets_of-tags}
 
 -- it is that of the copy

@@ -1,23 +1,5 @@
 -- A whole access, from what its ask and its completion leave, one after the other.
-use Rattle.std.proofs.Common.{◌≡◌, ◌≢◌, ℕ, ◌<◌, false, length, slice_index, Option, Some, None, sym, ap, refl, ◌∙◌}
-use Rattle.protocol_tables.specs.Laws.{WritesInPlace}
-use Rattle.protocol_tables.specs.Tables.{Table}
-use Rattle.protocol_tables.specs.declared.state.State.TheVariants.{I, M}
-use Rattle.protocol_tables.specs.declared.requests.Request.{Request}
-use Rattle.protocol_tables.specs.declared.requests.Request.TheVariants.{GetS, GetM}
-use Rattle.cache_set.specs.inner.Copy.{copy_with}
-use Rattle.snoop_bus.specs.declared.access.Access.{Access}
-use Rattle.snoop_bus.specs.declared.hierarchy.Hierarchy.{Hierarchy}
-use Rattle.snoop_bus.specs.declared.holding.Transaction.{Transaction}
-use Rattle.snoop_bus.specs.Lines.{Words}
-use Rattle.snoop_bus.specs.CacheContents.{Accessed}
-use Rattle.snoop_bus.specs.Copies.{cache_of, copy_at, tags_of}
-use Rattle.snoop_bus.specs.Bus.{current_words}
-use Rattle.snoop_bus.specs.Held.{counted_in}
-use Rattle.snoop_bus.specs.Asks.{tag_at, asking, asked_caches, asked_memory, awaited_in, completed_memory, in_halves}
-use Rattle.snoop_bus.specs.inner.Asks.{transaction_at}
-use Rattle.snoop_bus.specs.inner.Accessing.{KeepsWords, Loads, Acquires}
-use Rattle.snoop_bus.specs.inner.Completing.{Completes, words_due, completion_at}
+use Rattle.snoop_bus.proofs.Vocabulary.{◌≡◌, ◌≢◌, ℕ, ◌<◌, false, length, slice_index, Option, Some, None, sym, ap, refl, ◌∙◌, WritesInPlace, Table, I, M, Request, GetS, GetM, copy_with, Access, Hierarchy, Transaction, Words, Accessed, cache_of, copy_at, tags_of, current_words, counted_in, tag_at, asking, asked_caches, asked_memory, awaited_in, completed_memory, in_halves, transaction_at, KeepsWords, Loads, Acquires, Completes, words_due, completion_at}
 use Rattle.snoop_bus.proofs.AskCalls.{awaited-for}
 use Rattle.snoop_bus.proofs.BothWays.{load-memory, write-memory}
 use Rattle.snoop_bus.proofs.UpgradeAsk.{hits-absent}

@@ -1,30 +1,5 @@
 -- An ask for a write access to a line that the core has.
-use Rattle.std.proofs.Common.{◌≡◌, ◌⊎◌, inl, inr, ℕ, ◌<◌, Bool, true, false, not, IsTrue, IsSome, is_some, Option, Some, None, option_map, List, length, refl, sym, ap, ◌∙◌}
-use Rattle.tso_model.specs.declared.instruction.Core.{Core}
-use Rattle.tso_model.specs.declared.instruction.Loc.{Loc}
-use Rattle.protocol_tables.specs.Tables.{Table}
-use Rattle.protocol_tables.specs.Transients.{transient_of}
-use Rattle.protocol_tables.specs.declared.state.State.{State}
-use Rattle.protocol_tables.specs.declared.state.State.TheVariants.{M}
-use Rattle.protocol_tables.specs.declared.requests.Request.TheVariants.{GetS, GetM}
-use Rattle.protocol_tables.specs.declared.requests.Transient.{Transient}
-use Rattle.protocol_tables.specs.declared.requests.Transient.TheVariants.{IsD, ImD}
-use Rattle.cache_set.specs.declared.Line.{Line}
-use Rattle.cache_set.specs.inner.Copy.{copy_with}
-use Rattle.snoop_bus.specs.Lines.{Words}
-use Rattle.snoop_bus.specs.Coherent.{state_of}
-use Rattle.snoop_bus.specs.CacheContents.{TagSets, requested}
-use Rattle.snoop_bus.specs.Copies.{Sets, copy_at, cache_of, tags_of}
-use Rattle.snoop_bus.specs.inner.Copies.{ways_of}
-use Rattle.snoop_bus.specs.Bus.{current_words}
-use Rattle.snoop_bus.specs.declared.holding.HeldBus.{HeldBus}
-use Rattle.snoop_bus.specs.declared.holding.Transaction.{Transaction}
-use Rattle.snoop_bus.specs.declared.holding.Stage.{Stage}
-use Rattle.snoop_bus.specs.declared.holding.Stage.TheVariants.{Load, Write}
-use Rattle.snoop_bus.specs.Held.{stage_for}
-use Rattle.snoop_bus.specs.inner.Held.{Awaits, IsHeld, held_by}
-use Rattle.snoop_bus.specs.Asks.{hits, hit_in, request_for, asked_for, asked_caches, or_invalid}
-use Rattle.snoop_bus.specs.inner.Asks.{transacting, transaction_of}
+use Rattle.snoop_bus.proofs.Vocabulary.{◌≡◌, ◌⊎◌, inl, inr, ℕ, ◌<◌, Bool, true, false, not, IsTrue, IsSome, is_some, Option, Some, None, option_map, List, length, refl, sym, ap, ◌∙◌, Core, Loc, Table, transient_of, State, M, GetS, GetM, Transient, IsD, ImD, Line, copy_with, Words, state_of, TagSets, requested, Sets, copy_at, cache_of, tags_of, ways_of, current_words, HeldBus, Transaction, Stage, Load, Write, stage_for, Awaits, IsHeld, held_by, hits, hit_in, request_for, asked_for, asked_caches, or_invalid, transacting, transaction_of}
 use Rattle.snoop_bus.proofs.NewLemmas.{same_cores}
 use Rattle.snoop_bus.proofs.AccessLemmas.{tag_here}
 use Rattle.snoop_bus.proofs.HeldLemmas.{same_sets}

@@ -1,16 +1,5 @@
 -- A whole access is an ask and its completion, one after the other.
-use Rattle.std.proofs.Common.{◌≡◌, ◌≢◌, ℕ, zero, suc, Bool, false, Option, Some, None, List, [], ◌∷◌, refl, sym, ap, ◌∙◌}
-use Rattle.protocol_tables.specs.Laws.{WritesInPlace}
-use Rattle.protocol_tables.specs.Tables.{Table}
-use Rattle.protocol_tables.specs.declared.state.State.{State}
-use Rattle.protocol_tables.specs.declared.state.State.TheVariants.{I, S, E, O, M}
-use Rattle.protocol_tables.specs.declared.state.Snoop.{Snoop}
-use Rattle.protocol_tables.specs.declared.requests.Request.TheVariants.{GetS, GetM}
-use Rattle.tso_model.specs.declared.instruction.Core.{Core}
-use Rattle.snoop_bus.specs.Tags.{filled, snooped, leaving}
-use Rattle.snoop_bus.specs.declared.access.AccessKind.TheVariants.{Miss}
-use Rattle.snoop_bus.specs.CacheContents.{TagSets, at_line, tags_at, sets_of, at_core, at_others, requested, filled_by, writes_back, dirty_in, accessed, loaded, written, is_held, flusher_from}
-use Rattle.snoop_bus.specs.Asks.{tag_at, asking, awaiting, completed, hits, hit_in}
+use Rattle.snoop_bus.proofs.Vocabulary.{◌≡◌, ◌≢◌, ℕ, zero, suc, Bool, false, Option, Some, None, List, [], ◌∷◌, refl, sym, ap, ◌∙◌, WritesInPlace, Table, State, I, S, E, O, M, Snoop, GetS, GetM, Core, filled, snooped, leaving, Miss, TagSets, at_line, tags_at, sets_of, at_core, at_others, requested, filled_by, writes_back, dirty_in, accessed, loaded, written, is_held, flusher_from, tag_at, asking, awaiting, completed, hits, hit_in}
 
 -- a change of one core's sets, and one of all others'
 commute : (core : ℕ) (f g : TagSets → TagSets) (caches : List TagSets) → at_others core f (at_core core g caches) ≡ at_core core g (at_others core f caches)

@@ -1,21 +1,5 @@
 -- A word is written to a copy that its core alone has.
-use Rattle.std.proofs.lemmas.Bool.{cases_eq}
-use Rattle.std.proofs.Common.{◌≡◌, ◌≢◌, ◌⊎◌, inl, inr, ℕ, ◌<◌, true, false, nat_eq, Option, Some, IsSome, IfSome, option_map, List, length, refl, ap, ◌∙◌, slice_set, slice_index, if◌then◌else◌}
-use Rattle.protocol_tables.specs.Tables.{Table}
-use Rattle.protocol_tables.specs.declared.state.State.TheVariants.{M}
-use Rattle.cache_set.specs.inner.Copy.{copy_with, with_word}
-use Rattle.snoop_bus.specs.declared.access.Access.{Access}
-use Rattle.snoop_bus.specs.Lines.{Words}
-use Rattle.snoop_bus.specs.Copies.{Sets, copy_at, tags_of}
-use Rattle.snoop_bus.specs.inner.Copies.{ways_of}
-use Rattle.snoop_bus.specs.Bus.{current_words, AllCoherent}
-use Rattle.snoop_bus.specs.inner.Requests.{ChangesCopy}
-use Rattle.snoop_bus.specs.inner.Accessing.{KeepsWords, Acquires, Writes}
-use Rattle.protocol_tables.specs.Laws.{in_place}
-use Rattle.snoop_bus.specs.Coherent.{state_of}
-use Rattle.snoop_bus.specs.declared.holding.HeldBus.{HeldBus}
-use Rattle.snoop_bus.specs.Held.{counted}
-use Rattle.snoop_bus.specs.inner.Held.{IsHeld}
+use Rattle.snoop_bus.proofs.Vocabulary.{cases_eq, ◌≡◌, ◌≢◌, ◌⊎◌, inl, inr, ℕ, ◌<◌, true, false, nat_eq, Option, Some, IsSome, IfSome, option_map, List, length, refl, ap, ◌∙◌, slice_set, slice_index, if◌then◌else◌, Table, M, copy_with, with_word, Access, Words, Sets, copy_at, tags_of, ways_of, current_words, AllCoherent, ChangesCopy, KeepsWords, Acquires, Writes, in_place, state_of, HeldBus, counted, IsHeld}
 use Rattle.snoop_bus.proofs.BesideLemmas.{held-placed, counted-changes, placed-counts}
 use Rattle.snoop_bus.proofs.Numbers.{differ, itself}
 use Rattle.snoop_bus.proofs.OwnLemmas.{Owned, owned-coherent, owned-seen}

@@ -1,17 +1,5 @@
 -- A write access, from what each of its steps gives.
-use Rattle.std.proofs.Common.{◌≡◌, ◌≢◌, ℕ, ◌<◌, ◌&&◌, Bool, true, false, nat_eq, Option, Some, None, option_map, List, length, slice_set, refl, ap, ◌∙◌, if◌then◌else◌}
-use Rattle.protocol_tables.specs.Laws.{in_place}
-use Rattle.protocol_tables.specs.inner.Laws.{GivesUp}
-use Rattle.protocol_tables.specs.declared.state.State.{State}
-use Rattle.protocol_tables.specs.declared.state.State.TheVariants.{I, S, E, O, M}
-use Rattle.protocol_tables.specs.declared.state.Snoop.{Snoop}
-use Rattle.cache_set.specs.declared.Line.{Line}
-use Rattle.cache_set.specs.inner.Copy.{copy_with, with_state, with_word}
-use Rattle.snoop_bus.specs.Lines.{Words, line_in}
-use Rattle.snoop_bus.specs.Coherent.{Coherent}
-use Rattle.snoop_bus.specs.Copies.{Sets, copy_at}
-use Rattle.snoop_bus.specs.Bus.{current_words, AllCoherent}
-use Rattle.snoop_bus.specs.inner.Requests.{copy_if, left_by, ChangesCopy}
+use Rattle.snoop_bus.proofs.Vocabulary.{◌≡◌, ◌≢◌, ℕ, ◌<◌, ◌&&◌, Bool, true, false, nat_eq, Option, Some, None, option_map, List, length, slice_set, refl, ap, ◌∙◌, if◌then◌else◌, in_place, GivesUp, State, I, S, E, O, M, Snoop, Line, copy_with, with_state, with_word, Words, line_in, Coherent, Sets, copy_at, current_words, AllCoherent, copy_if, left_by, ChangesCopy}
 use Rattle.snoop_bus.proofs.Numbers.{differ, itself}
 use Rattle.snoop_bus.proofs.Coherence.{alone}
 use Rattle.snoop_bus.proofs.OwnLemmas.{Owned}

@@ -1,5 +1,4 @@
-use Rattle.std.proofs.Common.{◌≡◌, ◌++◌, map, take, drop}
-use Rattle.snoop_bus.specs.inner.Copies.{emptied}
+use Rattle.snoop_bus.proofs.Vocabulary.{◌≡◌, ◌++◌, map, take, drop, emptied}
 use Rattle.snoop_bus.proofs.cache.clear_sets.Given as goal
 
 abbrev pub invariant-loop-at : goal.invariant-loop-at

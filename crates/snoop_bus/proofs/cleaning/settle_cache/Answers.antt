@@ -1,7 +1,4 @@
-use Rattle.std.proofs.Common.{rules, arith, ◌≡◌, ℕ, length, map, sym, ap, ◌∙◌, List}
-use Rattle.snoop_bus.specs.Tags.{TagSet}
-use Rattle.snoop_bus.specs.Copies.{tags_in}
-use Rattle.snoop_bus.specs.inner.Requests.{cleaned_at, cleaned_below}
+use Rattle.snoop_bus.proofs.Vocabulary.{rules, arith, ◌≡◌, ℕ, length, map, sym, ap, ◌∙◌, List, TagSet, tags_in, cleaned_at, cleaned_below}
 use Rattle.snoop_bus.proofs.SettleTags.{below_none, below_more, below_all}
 use Rattle.snoop_bus.proofs.SettleSteps.{copies_none, copies_more, memory_none, memory_more}
 use Rattle.snoop_bus.proofs.cleaning.settle_cache.Goals as goal

@@ -1,7 +1,4 @@
-use Rattle.std.proofs.Common.{◌≡◌, ℕ, map, option_map, nat_lt, if◌then◌else◌}
-use Rattle.snoop_bus.specs.Lines.{line_in}
-use Rattle.snoop_bus.specs.Copies.{copy_in, tags_in}
-use Rattle.snoop_bus.specs.inner.Requests.{clean_copy, cleaned_below, words_if_dirty}
+use Rattle.snoop_bus.proofs.Vocabulary.{◌≡◌, ℕ, map, option_map, nat_lt, if◌then◌else◌, line_in, copy_in, tags_in, clean_copy, cleaned_below, words_if_dirty}
 use Rattle.snoop_bus.proofs.cleaning.settle_cache.Given as goal
 
 abbrev pub invariant-loop-line : goal.invariant-loop-line

@@ -1,7 +1,4 @@
-use Rattle.std.proofs.Common.{rules, ◌≡◌, Some, None, true, false, sym, ◌∙◌}
-use Rattle.protocol_tables.specs.Laws.{is_dirty}
-use Rattle.protocol_tables.specs.declared.state.State.TheVariants.{S}
-use Rattle.snoop_bus.specs.Copies.{copy_in}
+use Rattle.snoop_bus.proofs.Vocabulary.{rules, ◌≡◌, Some, None, true, false, sym, ◌∙◌, is_dirty, S, copy_in}
 use Rattle.snoop_bus.proofs.SettleLemmas.{clean_dirty, clean_same}
 use Rattle.snoop_bus.proofs.SettleTags.{line_absent, line_clean, line_dirty}
 use Rattle.snoop_bus.proofs.cleaning.settle_line.Goals as goal

@@ -1,6 +1,4 @@
-use Rattle.std.proofs.Common.{arith, ◌++◌, ◌∷◌, [], List, sym, ap, ◌∙◌}
-use Rattle.std.proofs.lemmas.List.FromFn.{map-range_with_len_more}
-use Rattle.snoop_bus.specs.Lines.{Words, line_of_words}
+use Rattle.snoop_bus.proofs.Vocabulary.{arith, ◌++◌, ◌∷◌, [], List, sym, ap, ◌∙◌, map-range_with_len_more, Words, line_of_words}
 use Rattle.snoop_bus.proofs.lines.lines_of.Goals as goal
 
 pub loop-line-preserved : goal.loop-line-preserved

@@ -1,5 +1,4 @@
-use Rattle.std.proofs.Common.{◌≡◌}
-use Rattle.snoop_bus.specs.Lines.{lines_of_words}
+use Rattle.snoop_bus.proofs.Vocabulary.{◌≡◌, lines_of_words}
 use Rattle.snoop_bus.proofs.lines.lines_of.Given as goal
 
 abbrev pub invariant-loop-line : goal.invariant-loop-line

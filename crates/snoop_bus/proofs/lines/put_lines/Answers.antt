@@ -1,6 +1,4 @@
-use Rattle.std.proofs.Common.{arith, ◌<◌, ◌≡◌, ℕ, [], length, ap, ◌∙◌}
-use Rattle.std.proofs.lemmas.List.{append-nil, drop_all}
-use Rattle.snoop_bus.specs.Lines.{line_of_words, lines_of_words}
+use Rattle.snoop_bus.proofs.Vocabulary.{arith, ◌<◌, ◌≡◌, ℕ, [], length, ap, ◌∙◌, append-nil, drop_all, line_of_words, lines_of_words}
 use Rattle.snoop_bus.proofs.LineLemmas.{put-next}
 use Rattle.snoop_bus.proofs.lines.put_lines.Goals as goal
 

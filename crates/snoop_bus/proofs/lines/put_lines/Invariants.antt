@@ -1,5 +1,4 @@
-use Rattle.std.proofs.Common.{◌≡◌, ◌++◌, drop}
-use Rattle.snoop_bus.specs.Lines.{lines_of_words}
+use Rattle.snoop_bus.proofs.Vocabulary.{◌≡◌, ◌++◌, drop, lines_of_words}
 use Rattle.snoop_bus.proofs.lines.put_lines.Given as goal
 
 abbrev pub invariant-loop-line : goal.invariant-loop-line

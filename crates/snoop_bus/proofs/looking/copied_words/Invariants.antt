@@ -1,5 +1,4 @@
-use Rattle.std.proofs.Common.{◌≡◌, drop}
-use Rattle.snoop_bus.specs.Bus.{words_among}
+use Rattle.snoop_bus.proofs.Vocabulary.{◌≡◌, drop, words_among}
 use Rattle.snoop_bus.proofs.looking.copied_words.Given as goal
 
 -- the first copy is among those that are left, if there is one at all

@@ -1,8 +1,4 @@
-use Rattle.std.proofs.Common.{◌≡◌, Some, None, [], sym, ap, ◌∙◌, option_map}
-use Rattle.std.proofs.lemmas.List.{get_or_default}
-use Rattle.cache_set.specs.declared.Line.{Line}
-use Rattle.std.proofs.Common.{Option}
-use Rattle.snoop_bus.specs.Copies.{Sets, copy_in, copy_at}
+use Rattle.snoop_bus.proofs.Vocabulary.{◌≡◌, Some, None, [], sym, ap, ◌∙◌, option_map, get_or_default, Line, Option, Sets, copy_in, copy_at}
 use Rattle.snoop_bus.proofs.StateLemmas.{tag_at-copy}
 use Rattle.snoop_bus.proofs.looking.state_of.Goals as goal
 

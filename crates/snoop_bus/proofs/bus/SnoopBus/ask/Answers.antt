@@ -1,6 +1,4 @@
-use Rattle.std.proofs.Common.{◌≡◌, refl, ◌/◌, ◌<◌, Some, None, length, ap, ◌∙◌}
-use Rattle.snoop_bus.specs.Held.{counted}
-use Rattle.snoop_bus.specs.Asks.{request_for}
+use Rattle.snoop_bus.proofs.Vocabulary.{◌≡◌, refl, ◌/◌, ◌<◌, Some, None, length, ap, ◌∙◌, counted, request_for}
 use Rattle.snoop_bus.proofs.MemoryLemmas.{length-asked}
 use Rattle.snoop_bus.proofs.RowLemmas.{table_of-rows}
 use Rattle.snoop_bus.proofs.HolderLemmas.{free-held, not_here}

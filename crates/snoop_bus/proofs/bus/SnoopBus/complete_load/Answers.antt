@@ -1,5 +1,4 @@
-use Rattle.std.proofs.Common.{None}
-use Rattle.snoop_bus.specs.declared.holding.Stage.TheVariants.{Load}
+use Rattle.snoop_bus.proofs.Vocabulary.{None, Load}
 use Rattle.snoop_bus.proofs.Completed.{word_due, words_stay, freed, same_machine, completes}
 use Rattle.snoop_bus.proofs.bus.SnoopBus.complete_load.Goals as goal
 

@@ -1,5 +1,4 @@
-use Rattle.std.proofs.Common.{Some}
-use Rattle.snoop_bus.specs.declared.holding.Stage.TheVariants.{Write}
+use Rattle.snoop_bus.proofs.Vocabulary.{Some, Write}
 use Rattle.snoop_bus.proofs.Completed.{word_due, words_beside, locked, same_machine, completes}
 use Rattle.snoop_bus.proofs.bus.SnoopBus.complete_read.Goals as goal
 

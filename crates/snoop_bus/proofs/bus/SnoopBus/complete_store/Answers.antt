@@ -1,5 +1,4 @@
-use Rattle.std.proofs.Common.{None}
-use Rattle.snoop_bus.specs.declared.holding.Stage.TheVariants.{Write}
+use Rattle.snoop_bus.proofs.Vocabulary.{None, Write}
 use Rattle.snoop_bus.proofs.Completed.{word_set, written, same_machine, completes}
 use Rattle.snoop_bus.proofs.bus.SnoopBus.complete_store.Goals as goal
 

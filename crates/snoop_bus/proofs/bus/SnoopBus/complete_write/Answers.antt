@@ -1,10 +1,4 @@
-use Rattle.std.proofs.Common.{◌≡◌, ◌/◌, ◌%◌, ◌<◌, Option, Some, None, length, refl, ap, ◌∙◌}
-use Rattle.snoop_bus.specs.declared.holding.Stage.TheVariants.{Locked}
-use Rattle.snoop_bus.specs.declared.holding.Transaction.{Transaction}
-use Rattle.snoop_bus.specs.Lines.{words_in}
-use Rattle.snoop_bus.specs.Copies.{copy_at}
-use Rattle.snoop_bus.specs.inner.Held.{held_by}
-use Rattle.snoop_bus.specs.Bus.{current_words}
+use Rattle.snoop_bus.proofs.Vocabulary.{◌≡◌, ◌/◌, ◌%◌, ◌<◌, Option, Some, None, length, refl, ap, ◌∙◌, Locked, Transaction, words_in, copy_at, held_by, current_words}
 use Rattle.snoop_bus.proofs.WordLemmas.{words-set}
 use Rattle.snoop_bus.proofs.LineLemmas.{length-line}
 use Rattle.snoop_bus.proofs.NewLemmas.{same_cores, bus-set}

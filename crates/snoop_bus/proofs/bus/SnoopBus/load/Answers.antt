@@ -1,5 +1,4 @@
-use Rattle.std.proofs.Common.{rules, refl, false, ◌<◌, ◌/◌}
-use Rattle.snoop_bus.specs.Held.{counted}
+use Rattle.snoop_bus.proofs.Vocabulary.{rules, refl, false, ◌<◌, ◌/◌, counted}
 use Rattle.snoop_bus.proofs.CallLemmas.{bus_ready, free_or_hit, loc_in, load_done}
 use Rattle.snoop_bus.proofs.UpgradeAsk.{free_load}
 use Rattle.snoop_bus.proofs.NewLemmas.{bus-kept, same_cores}

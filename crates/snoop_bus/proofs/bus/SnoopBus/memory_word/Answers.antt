@@ -1,9 +1,5 @@
-use Rattle.std.proofs.Common.{rules, ◌≡◌, ◌<◌, ◌/◌, ◌%◌, [], Some, None, length, slice_index, sym, ap, ◌∙◌}
-use Rattle.std.proofs.lemmas.List.{get_or_default}
-use Rattle.snoop_bus.specs.Held.{counted}
-use Rattle.snoop_bus.specs.Lines.{Words, line_in}
+use Rattle.snoop_bus.proofs.Vocabulary.{rules, ◌≡◌, ◌<◌, ◌/◌, ◌%◌, [], Some, None, length, slice_index, sym, ap, ◌∙◌, get_or_default, counted, Words, line_in, current_words}
 use Rattle.snoop_bus.proofs.WordLemmas.{line_below, words-get}
-use Rattle.snoop_bus.specs.Bus.{current_words}
 use Rattle.snoop_bus.proofs.CallLemmas.{loc_in}
 use Rattle.snoop_bus.proofs.HolderLemmas.{free-held}
 use Rattle.snoop_bus.proofs.LookingLemmas.{clean_words}

@@ -1,5 +1,4 @@
-use Rattle.std.proofs.Common.{◌∙◌, option_map, sym, ap}
-use Rattle.snoop_bus.specs.Bus.{words_of}
+use Rattle.snoop_bus.proofs.Vocabulary.{◌∙◌, option_map, sym, ap, words_of}
 use Rattle.snoop_bus.proofs.LookingLemmas.{as_cached, line_ranked}
 use Rattle.snoop_bus.proofs.bus.SnoopBus.ranked.Goals as goal
 

@@ -1,5 +1,4 @@
-use Rattle.std.proofs.Common.{◌≡◌, ◌<◌, length}
-use Rattle.snoop_bus.specs.Copies.{cache_of}
+use Rattle.snoop_bus.proofs.Vocabulary.{◌≡◌, ◌<◌, length, cache_of}
 use Rattle.snoop_bus.proofs.LookingLemmas.{cache_here, found_words}
 use Rattle.snoop_bus.proofs.bus.SnoopBus.ranked_copy.Goals as goal
 

@@ -1,8 +1,4 @@
-use Rattle.std.proofs.Common.{◌≡◌, ◌∙◌, ap, sym, rules, length}
-use Rattle.std.proofs.lemmas.List.{with_items_is}
-use Rattle.snoop_bus.specs.Rows.{table_of_rows}
-use Rattle.snoop_bus.specs.Bus.{BusModel, cores_of}
-use Rattle.snoop_bus.specs.Accesses.{new_bus}
+use Rattle.snoop_bus.proofs.Vocabulary.{◌≡◌, ◌∙◌, ap, sym, rules, length, with_items_is, table_of_rows, BusModel, cores_of, new_bus}
 use Rattle.snoop_bus.proofs.Emptied.{count-words, begins-anew}
 use Rattle.snoop_bus.proofs.bus.SnoopBus.restart.Goals as goal
 

@@ -1,5 +1,4 @@
-use Rattle.std.proofs.Common.{◌≡◌, ◌<◌, [], length, ap, ◌∙◌}
-use Rattle.std.proofs.lemmas.List.{get_or_default}
+use Rattle.snoop_bus.proofs.Vocabulary.{◌≡◌, ◌<◌, [], length, ap, ◌∙◌, get_or_default}
 use Rattle.snoop_bus.proofs.NewLemmas.{cache-sets}
 use Rattle.snoop_bus.proofs.bus.SnoopBus.set_of.Goals as goal
 

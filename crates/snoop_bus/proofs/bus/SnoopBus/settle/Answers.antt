@@ -1,5 +1,4 @@
-use Rattle.std.proofs.Common.{None, length}
-use Rattle.snoop_bus.specs.Bus.{current_words}
+use Rattle.snoop_bus.proofs.Vocabulary.{None, length, current_words}
 use Rattle.snoop_bus.proofs.WordLemmas.{words-same}
 use Rattle.snoop_bus.proofs.CallLemmas.{settled_words}
 use Rattle.snoop_bus.proofs.HolderLemmas.{free-held}

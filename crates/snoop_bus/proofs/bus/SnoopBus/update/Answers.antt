@@ -1,5 +1,4 @@
-use Rattle.std.proofs.Common.{rules, refl, true, ◌<◌}
-use Rattle.snoop_bus.specs.Held.{counted}
+use Rattle.snoop_bus.proofs.Vocabulary.{rules, refl, true, ◌<◌, counted}
 use Rattle.snoop_bus.proofs.CallLemmas.{bus_ready, free_or_hit, loc_in, write_word, write_done}
 use Rattle.snoop_bus.proofs.NewLemmas.{bus-written, same_cores}
 use Rattle.snoop_bus.proofs.bus.SnoopBus.update.Goals as goal

@@ -1,6 +1,4 @@
-use Rattle.std.proofs.Common.{◌<◌, length}
-use Rattle.snoop_bus.specs.Held.{counted}
-use Rattle.snoop_bus.specs.Bus.{current_words}
+use Rattle.snoop_bus.proofs.Vocabulary.{◌<◌, length, counted, current_words}
 use Rattle.snoop_bus.proofs.WordLemmas.{line_below, words-get}
 use Rattle.snoop_bus.proofs.CallLemmas.{loc_in}
 use Rattle.snoop_bus.proofs.bus.SnoopBus.word.Goals as goal

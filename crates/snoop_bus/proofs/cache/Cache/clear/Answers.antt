@@ -1,5 +1,4 @@
-use Rattle.std.proofs.Common.{rules}
-use Rattle.std.proofs.lemmas.List.{with_items_is}
+use Rattle.snoop_bus.proofs.Vocabulary.{rules, with_items_is}
 use Rattle.snoop_bus.proofs.Emptied.{home-emptied}
 use Rattle.snoop_bus.proofs.cache.Cache.clear.Goals as goal
 

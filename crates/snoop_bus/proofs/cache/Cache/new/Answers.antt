@@ -1,6 +1,4 @@
-use Rattle.std.proofs.Common.{◌∙◌, ◌∷◌, ◌++◌, [], replicate, ap, arith, ◌≤◌, ◌≡◌}
-use Rattle.std.proofs.lemmas.List.{replicate_more}
-use Rattle.cache_set.specs.Contents.{contents}
+use Rattle.snoop_bus.proofs.Vocabulary.{◌∙◌, ◌∷◌, ◌++◌, [], replicate, ap, arith, ◌≤◌, ◌≡◌, replicate_more, contents}
 use Rattle.snoop_bus.proofs.NewLemmas.{new-home}
 use Rattle.snoop_bus.proofs.cache.Cache.new.Goals as goal
 

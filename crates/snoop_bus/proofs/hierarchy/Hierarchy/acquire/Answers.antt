@@ -1,6 +1,4 @@
-use Rattle.std.proofs.Common.{◌≡◌, None, refl}
-use Rattle.protocol_tables.specs.declared.state.State.TheVariants.{M}
-use Rattle.snoop_bus.specs.Copies.{copy_at}
+use Rattle.snoop_bus.proofs.Vocabulary.{◌≡◌, None, refl, M, copy_at}
 use Rattle.snoop_bus.proofs.HitLemmas.{write_hit}
 use Rattle.snoop_bus.proofs.UpgradeAsk.{alone}
 use Rattle.snoop_bus.proofs.AcquireCalls.{is_present, is_free, is_not_held, ready_alone, nothing_awaited, words_alone, acquired_alone}

@@ -1,10 +1,4 @@
-use Rattle.std.proofs.Common.{◌<◌, length, [], refl, ap, ◌∙◌}
-use Rattle.std.proofs.lemmas.List.{get_or_default}
-use Rattle.snoop_bus.specs.Copies.{cache_of, copy_at, tags_of}
-use Rattle.snoop_bus.specs.Bus.{current_words}
-use Rattle.snoop_bus.specs.declared.holding.Stage.TheVariants.{Load, Write}
-use Rattle.std.proofs.Common.{Some}
-use Rattle.protocol_tables.specs.declared.requests.Request.TheVariants.{GetS}
+use Rattle.snoop_bus.proofs.Vocabulary.{◌<◌, length, [], refl, ap, ◌∙◌, get_or_default, cache_of, copy_at, tags_of, current_words, Load, Write, Some, GetS}
 use Rattle.snoop_bus.proofs.MemoryLemmas.{length-asked}
 use Rattle.snoop_bus.proofs.UpgradeAsk.{load_ask-exact, load_ask-tags, load_ask-awaits, now_held}
 use Rattle.snoop_bus.proofs.hierarchy.Hierarchy.ask.Goals as goal

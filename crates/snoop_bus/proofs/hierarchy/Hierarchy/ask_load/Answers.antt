@@ -1,6 +1,4 @@
-use Rattle.std.proofs.Common.{[], ◌∙◌}
-use Rattle.std.proofs.lemmas.List.{get_or_default}
-use Rattle.snoop_bus.specs.Lines.{line_in}
+use Rattle.snoop_bus.proofs.Vocabulary.{[], ◌∙◌, get_or_default, line_in}
 use Rattle.snoop_bus.proofs.AskLemmas.{load_ask-transaction, load_ask-memory, load_ask-words}
 use Rattle.snoop_bus.proofs.hierarchy.Hierarchy.ask_load.Goals as goal
 

@@ -1,9 +1,4 @@
-use Rattle.std.proofs.Common.{◌≡◌, Some, None, sym, refl}
-use Rattle.protocol_tables.specs.Transients.{transient_of}
-use Rattle.protocol_tables.specs.declared.requests.Request.TheVariants.{GetM}
-use Rattle.snoop_bus.specs.Copies.{copy_at, tags_of}
-use Rattle.snoop_bus.specs.Bus.{current_words}
-use Rattle.std.specs.Option.{option_copied}
+use Rattle.snoop_bus.proofs.Vocabulary.{◌≡◌, Some, None, sym, refl, transient_of, GetM, copy_at, tags_of, current_words, option_copied}
 use Rattle.snoop_bus.proofs.AcquireCalls.{own_found, own_absent}
 use Rattle.snoop_bus.proofs.AskLemmas.{write_ask-words}
 use Rattle.snoop_bus.proofs.UpgradeAsk.{asked_by-absent, asked_by-found, miss-awaits, upgrade_ask-transaction, upgrade_ask-tags}

@@ -1,7 +1,4 @@
-use Rattle.std.proofs.Common.{[], ◌∙◌}
-use Rattle.std.proofs.lemmas.List.{get_or_default}
-use Rattle.snoop_bus.specs.Lines.{line_in}
-use Rattle.snoop_bus.specs.Bus.{current_words}
+use Rattle.snoop_bus.proofs.Vocabulary.{[], ◌∙◌, get_or_default, line_in, current_words}
 use Rattle.snoop_bus.proofs.AskLemmas.{write_ask-transaction, write_ask-words}
 use Rattle.snoop_bus.proofs.LoadLemmas.{found_words}
 use Rattle.snoop_bus.proofs.hierarchy.Hierarchy.ask_write_miss.Goals as goal

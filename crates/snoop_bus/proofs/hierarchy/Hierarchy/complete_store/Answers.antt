@@ -1,6 +1,4 @@
-use Rattle.std.proofs.Common.{rules, refl, length, ap, ◌∙◌}
-use Rattle.snoop_bus.specs.Held.{counted_in}
-use Rattle.snoop_bus.specs.Bus.{current_words}
+use Rattle.snoop_bus.proofs.Vocabulary.{rules, refl, length, ap, ◌∙◌, counted_in, current_words}
 use Rattle.snoop_bus.proofs.Completed.{length-completed}
 use Rattle.snoop_bus.proofs.AcquireAsked.{completed_written}
 use Rattle.snoop_bus.proofs.hierarchy.Hierarchy.complete_store.Goals as goal

@@ -1,7 +1,4 @@
-use Rattle.std.proofs.Common.{◌≡◌, true, Some, None, Option, is_some, sym, ap, ◌∙◌}
-use Rattle.protocol_tables.specs.declared.state.State.{State}
-use Rattle.std.specs.Option.{option_copied}
-use Rattle.snoop_bus.specs.Copies.{copy_at}
+use Rattle.snoop_bus.proofs.Vocabulary.{◌≡◌, true, Some, None, Option, is_some, sym, ap, ◌∙◌, State, option_copied, copy_at}
 use Rattle.snoop_bus.proofs.AcquireCalls.{own_found, own_absent, in_m}
 use Rattle.snoop_bus.proofs.UpgradeAsk.{hits-absent, hits-found}
 use Rattle.snoop_bus.proofs.hierarchy.Hierarchy.copy_in_place.Goals as goal

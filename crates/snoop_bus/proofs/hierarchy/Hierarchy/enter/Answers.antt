@@ -1,7 +1,4 @@
-use Rattle.std.proofs.Common.{[], map, ap, ◌∙◌}
-use Rattle.std.proofs.lemmas.List.{get_or_default}
-use Rattle.cache_set.specs.inner.Contents.{to_front}
-use Rattle.snoop_bus.specs.Copies.{Sets, in_set}
+use Rattle.snoop_bus.proofs.Vocabulary.{[], map, ap, ◌∙◌, get_or_default, to_front, Sets, in_set}
 use Rattle.snoop_bus.proofs.UseLemmas.{tags-used-some, ways-set_cache}
 use Rattle.snoop_bus.proofs.hierarchy.Hierarchy.enter.Goals as goal
 

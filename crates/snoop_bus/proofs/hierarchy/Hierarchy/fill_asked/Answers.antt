@@ -1,7 +1,4 @@
-use Rattle.std.proofs.Common.{[], refl, ap, ◌∙◌}
-use Rattle.std.proofs.lemmas.List.{get_or_default}
-use Rattle.snoop_bus.specs.Copies.{Sets, copy_in}
-use Rattle.snoop_bus.specs.MemoryAfter.{victim_at}
+use Rattle.snoop_bus.proofs.Vocabulary.{[], refl, ap, ◌∙◌, get_or_default, Sets, copy_in, victim_at}
 use Rattle.snoop_bus.proofs.FillCalls.{filled_own, written_victim}
 use Rattle.snoop_bus.proofs.AccessLemmas.{writes_back_is}
 use Rattle.snoop_bus.proofs.UseLemmas.{tags-filled, ways-set_cache}

@@ -1,7 +1,5 @@
-use Rattle.std.proofs.Common.{arith, option_copied, ◌≡◌, ◌<◌, ℕ, [], length, ap, subst, sym, ◌∙◌}
-use Rattle.std.proofs.lemmas.List.{get_or_default}
-use Rattle.snoop_bus.specs.Requests.{asked}
-use Rattle.snoop_bus.specs.Copies.{Sets, copy_in, copy_at}
+use Rattle.snoop_bus.proofs.Vocabulary.{arith, ◌≡◌, ◌<◌, ℕ, [], length, ap, subst, sym, ◌∙◌, get_or_default, asked, Sets, copy_in, copy_at}
+use Rattle.std.proofs.Common.{option_copied}
 use Rattle.snoop_bus.proofs.FindLemmas.{FoundBelow, nothing-found, passed-by, noted, words-found, shared-found, flushed-found, states-found}
 use Rattle.snoop_bus.proofs.hierarchy.Hierarchy.find.Goals as goal
 use Rattle.snoop_bus.proofs.hierarchy.Hierarchy.find.Goals.{in-Some, in_default}

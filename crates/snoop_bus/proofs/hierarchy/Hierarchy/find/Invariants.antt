@@ -1,4 +1,4 @@
-use Rattle.snoop_bus.specs.Requests.{asked}
+use Rattle.snoop_bus.proofs.Vocabulary.{asked}
 use Rattle.snoop_bus.proofs.FindLemmas.{FoundBelow}
 use Rattle.snoop_bus.proofs.hierarchy.Hierarchy.find.Given as goal
 

@@ -1,8 +1,4 @@
-use Rattle.std.proofs.Common.{◌≡◌, Some, None, [], sym, ap, ◌∙◌}
-use Rattle.std.proofs.lemmas.List.{get_or_default}
-use Rattle.std.proofs.Common.{is_some, Option}
-use Rattle.protocol_tables.specs.declared.state.State.{State}
-use Rattle.snoop_bus.specs.Copies.{Sets, copy_in, copy_at}
+use Rattle.snoop_bus.proofs.Vocabulary.{◌≡◌, Some, None, [], sym, ap, ◌∙◌, get_or_default, is_some, Option, State, Sets, copy_in, copy_at}
 use Rattle.snoop_bus.proofs.UpgradeAsk.{hits-absent, hits-read, hits-write}
 use Rattle.snoop_bus.proofs.hierarchy.Hierarchy.hits.Goals as goal
 

@@ -1,7 +1,4 @@
-use Rattle.std.proofs.Common.{◌≡◌, Some, [], ◌∙◌}
-use Rattle.std.proofs.lemmas.List.{get_or_default}
-use Rattle.snoop_bus.specs.Copies.{copy_at}
-use Rattle.std.specs.Option.{option_copied}
+use Rattle.snoop_bus.proofs.Vocabulary.{◌≡◌, Some, [], ◌∙◌, get_or_default, copy_at, option_copied}
 use Rattle.snoop_bus.proofs.AcquireCalls.{own_found}
 use Rattle.snoop_bus.proofs.HitLemmas.{load_hit}
 use Rattle.snoop_bus.proofs.hierarchy.Hierarchy.load.Goals as goal

@@ -1,8 +1,4 @@
-use Rattle.std.proofs.Common.{◌<◌, false, Some, length, [], ap, refl, ◌∙◌}
-use Rattle.std.proofs.lemmas.List.{get_or_default}
-use Rattle.protocol_tables.specs.declared.requests.Request.TheVariants.{GetS}
-use Rattle.snoop_bus.specs.Copies.{cache_of, copy_at, tags_of}
-use Rattle.snoop_bus.specs.Bus.{current_words}
+use Rattle.snoop_bus.proofs.Vocabulary.{◌<◌, false, Some, length, [], ap, refl, ◌∙◌, get_or_default, GetS, cache_of, copy_at, tags_of, current_words}
 use Rattle.snoop_bus.proofs.HeldLemmas.{same_sets}
 use Rattle.snoop_bus.proofs.MemoryLemmas.{length-asked}
 use Rattle.snoop_bus.proofs.NewLemmas.{same_cores}

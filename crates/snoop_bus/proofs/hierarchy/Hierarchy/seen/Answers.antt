@@ -1,5 +1,4 @@
-use Rattle.std.proofs.Common.{[], ◌∙◌}
-use Rattle.std.proofs.lemmas.List.{get_or_default}
+use Rattle.snoop_bus.proofs.Vocabulary.{[], ◌∙◌, get_or_default}
 use Rattle.snoop_bus.proofs.LookingLemmas.{seen_words}
 use Rattle.snoop_bus.proofs.hierarchy.Hierarchy.seen.Goals as goal
 

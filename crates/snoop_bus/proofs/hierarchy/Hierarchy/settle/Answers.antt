@@ -1,7 +1,4 @@
-use Rattle.std.proofs.Common.{arith, ◌≡◌, ◌<◌, length, map, ℕ, subst, ◌∙◌, nat_lt, if◌then◌else◌}
-use Rattle.snoop_bus.specs.inner.Tags.{cleaned}
-use Rattle.snoop_bus.specs.CacheContents.{sets_of}
-use Rattle.snoop_bus.specs.Copies.{tags_of}
+use Rattle.snoop_bus.proofs.Vocabulary.{arith, ◌≡◌, ◌<◌, length, map, ℕ, subst, ◌∙◌, nat_lt, if◌then◌else◌, cleaned, sets_of, tags_of}
 use Rattle.snoop_bus.proofs.NewLemmas.{same_cores}
 use Rattle.snoop_bus.proofs.SettleAll.{keeps-more, clean-more, tags-more, all_clean, tags-all, length-tags}
 use Rattle.snoop_bus.proofs.hierarchy.Hierarchy.settle.Goals as goal

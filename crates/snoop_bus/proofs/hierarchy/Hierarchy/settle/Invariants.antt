@@ -1,10 +1,4 @@
-use Rattle.std.proofs.Common.{◌≡◌, ◌<◌, ℕ, false, length, map, nat_lt, if◌then◌else◌}
-use Rattle.protocol_tables.specs.Laws.{is_dirty}
-use Rattle.snoop_bus.specs.inner.Tags.{cleaned}
-use Rattle.snoop_bus.specs.CacheContents.{sets_of}
-use Rattle.snoop_bus.specs.Coherent.{state_of}
-use Rattle.snoop_bus.specs.Copies.{copy_at, tags_of}
-use Rattle.snoop_bus.specs.inner.Accessing.{KeepsWords}
+use Rattle.snoop_bus.proofs.Vocabulary.{◌≡◌, ◌<◌, ℕ, false, length, map, nat_lt, if◌then◌else◌, is_dirty, cleaned, sets_of, state_of, copy_at, tags_of, KeepsWords}
 use Rattle.snoop_bus.proofs.hierarchy.Hierarchy.settle.Given as goal
 
 abbrev pub invariant-loop-core : goal.invariant-loop-core

@@ -1,5 +1,4 @@
-use Rattle.std.proofs.Common.{rules, [], ◌∙◌}
-use Rattle.std.proofs.lemmas.List.{get_or_default, with_items_is}
+use Rattle.snoop_bus.proofs.Vocabulary.{rules, [], ◌∙◌, get_or_default, with_items_is}
 use Rattle.snoop_bus.proofs.SettleAll.{settled_at, settled_tags}
 use Rattle.snoop_bus.proofs.hierarchy.Hierarchy.settle_at.Goals as goal
 

@@ -1,9 +1,4 @@
-use Rattle.std.proofs.Common.{[], map, sym, ap, ◌∙◌}
-use Rattle.std.proofs.lemmas.List.{get_or_default}
-use Rattle.snoop_bus.specs.Copies.{Sets}
-use Rattle.snoop_bus.specs.inner.Copies.{state_in}
-use Rattle.snoop_bus.specs.Requests.{asked}
-use Rattle.snoop_bus.specs.inner.Requests.{answered}
+use Rattle.snoop_bus.proofs.Vocabulary.{[], map, sym, ap, ◌∙◌, get_or_default, Sets, state_in, asked, answered}
 use Rattle.snoop_bus.proofs.SnoopLemmas.{seen-here, left-here, seen-own, left-own}
 use Rattle.snoop_bus.proofs.UseLemmas.{ways-set_cache}
 use Rattle.snoop_bus.proofs.hierarchy.Hierarchy.snoop_at.Goals as goal

@@ -1,6 +1,4 @@
-use Rattle.std.proofs.Common.{arith, ◌≡◌, ℕ, length, refl, subst, ◌∙◌}
-use Rattle.snoop_bus.specs.Requests.{asked}
-use Rattle.snoop_bus.specs.inner.Requests.{SeenBelow, LeftBelow}
+use Rattle.snoop_bus.proofs.Vocabulary.{arith, ◌≡◌, ℕ, length, refl, subst, ◌∙◌, asked, SeenBelow, LeftBelow}
 use Rattle.snoop_bus.proofs.CacheTags.{tags-requested}
 use Rattle.snoop_bus.proofs.NewLemmas.{same_cores}
 use Rattle.snoop_bus.proofs.SnoopLemmas.{seen-none, seen-more, own-unseen, left-none, left-more, left-all}

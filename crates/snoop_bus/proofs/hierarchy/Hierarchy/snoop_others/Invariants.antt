@@ -1,7 +1,4 @@
-use Rattle.std.proofs.Common.{◌≡◌}
-use Rattle.snoop_bus.specs.inner.Copies.{ways_of}
-use Rattle.snoop_bus.specs.Requests.{asked}
-use Rattle.snoop_bus.specs.inner.Requests.{SeenBelow, LeftBelow}
+use Rattle.snoop_bus.proofs.Vocabulary.{◌≡◌, ways_of, asked, SeenBelow, LeftBelow}
 use Rattle.snoop_bus.proofs.hierarchy.Hierarchy.snoop_others.Given as goal
 
 abbrev pub invariant-loop-other : goal.invariant-loop-other

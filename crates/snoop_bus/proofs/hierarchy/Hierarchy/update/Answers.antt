@@ -1,4 +1,4 @@
-use Rattle.std.proofs.Common.{rules, length, ap, ◌∙◌}
+use Rattle.snoop_bus.proofs.Vocabulary.{rules, length, ap, ◌∙◌}
 use Rattle.snoop_bus.proofs.MemoryLemmas.{length-written}
 use Rattle.snoop_bus.proofs.WordWritten.{present_own, word_written}
 use Rattle.snoop_bus.proofs.hierarchy.Hierarchy.update.Goals as goal

@@ -1,9 +1,4 @@
-use Rattle.std.proofs.Common.{[], ap, ◌∙◌}
-use Rattle.std.proofs.lemmas.List.{get_or_default}
-use Rattle.cache_set.specs.inner.Copy.{with_word}
-use Rattle.snoop_bus.specs.Copies.{Sets, in_set}
-use Rattle.cache_set.specs.inner.Contents.{with_changed}
-use Rattle.std.proofs.Common.{map}
+use Rattle.snoop_bus.proofs.Vocabulary.{[], ap, ◌∙◌, get_or_default, with_word, Sets, in_set, with_changed, map}
 use Rattle.snoop_bus.proofs.UseLemmas.{tags-written, ways-set_cache}
 use Rattle.snoop_bus.proofs.hierarchy.Hierarchy.write.Goals as goal
 

@@ -1,0 +1,68 @@
+-- The names that the proofs of this crate bring in from definitions and from crates below; each file takes its own from here.
+pub use Rattle.std.proofs.lemmas.Bool.Decides.{eqb_tells, nat_tests}
+pub use Rattle.std.proofs.Common.{arith, ◌≡◌, ◌≢◌, ◌⊎◌, inl, inr, ℕ, ◌<◌, ◌≤◌, nat_eq, true, false, Bool, None, refl, Option, Some, sym, ap, ◌∙◌, zero, suc, cond, List, [], ◌∷◌, length, slice_set, option_map, ◌-◌, map, slice_get, if◌then◌else◌, ◌%◌, not, ◌||◌, slice_index_or, is_some, nat_lt, subst, IsSome, ◌+◌, ◌&&◌, drop, add-one, unwrap_or, replicate, ◌*◌, ◌/◌, slice_index, ◌++◌, append_assoc, IfSome, IsTrue, rules, take}
+pub use Rattle.protocol_tables.specs.declared.state.State.{State}
+pub use Rattle.protocol_tables.specs.declared.state.State.TheVariants.{I, S, E, O, M}
+pub use Rattle.protocol_tables.specs.Tables.{Table, snoop}
+pub use Rattle.snoop_bus.specs.Rows.{column, entry_at, rows_of, filled_in, table_of_rows}
+pub use Rattle.std.proofs.lemmas.Bool.{cases_eq, cases_lt}
+pub use Rattle.protocol_tables.specs.Laws.{is_dirty, in_place, WritesInPlace}
+pub use Rattle.protocol_tables.specs.inner.Laws.{Shares, CleansByMemory, MayBecome, WritesBackDirty, Supplies, FillsExclusiveOnlyAlone, GivesUp}
+pub use Rattle.protocol_tables.specs.declared.state.Snoop.{Snoop}
+pub use Rattle.cache_set.specs.declared.Line.{Line}
+pub use Rattle.snoop_bus.specs.Lines.{Words, line_in, word_at, words_in, offset_of, line_of_words, lines_of_words}
+pub use Rattle.snoop_bus.specs.Coherent.{state_of, may_share, Coherent}
+pub use Rattle.snoop_bus.specs.inner.Requests.{copy_if, left_by, next_in, answered, answered_in, SeenBelow, answered_if, SeenAt, LeftAt, LeftBelow, LeftByOthers, supplied_of, Supplied, ChangesCopy, clean_copy, words_if_dirty, cleaned_at, cleaned_below, clean_tag_at, clean_tag_below, left_if}
+pub use Rattle.std.proofs.lemmas.List.{get_or-set_same, get_or-set_other, take-map, map-set, set-get_or, length-map, ext_get_or, set-set, length-set, get_or_past, drop_more, get_or_default, with_items_is, replicate_more, take_all, drop_all, append-nil}
+pub use Rattle.snoop_bus.specs.Copies.{Sets, copy_in, copy_at, cache_of, tags_of, tags_in, set_at, in_set}
+pub use Rattle.snoop_bus.specs.Bus.{current_words, words_among, AllCoherent, empty_caches, bus_with, BusModel, words_of, holder_of, program_words, IsSameMachine, IsFree, IsCoherent, cores_of}
+pub use Rattle.snoop_bus.specs.CacheContents.{TagSets, tag_in, tags_at, at_line, sets_of, at_others, requested, is_held, used_by, filled_by, flusher_from, sends_in, accessed, loaded, loaded_in, written, written_in, write_in, writes_back, dirty_in, Accessed, at_core}
+pub use Rattle.snoop_bus.specs.Asks.{tag_at, asked_memory, hits, hit_in, request_for, asked_for, asked_caches, or_invalid, awaited_in, completed_memory, completed_memory_in, asking, completed, in_halves}
+unfoldable pub use Rattle.snoop_bus.specs.Asks.{awaiting}
+pub use Rattle.std.specs.Map.{remove_entry, lookup}
+pub use Rattle.std.proofs.lemmas.Option.{slice_get-map, slice_get-get_or}
+pub use Rattle.cache_set.specs.declared.Victim.{Victim}
+pub use Rattle.cache_set.specs.Contents.{Contents, copy_of, victim_of, as_victim, contents}
+pub use Rattle.cache_set.specs.inner.Contents.{to_front, with_new, with_changed, changed_at, without, IsCacheSet, after_fill, NoLineTwice}
+pub use Rattle.cache_set.specs.inner.Copy.{copy_with, with_state, with_word}
+pub use Rattle.snoop_bus.specs.Tags.{tag_set, tag_of, used, filled, leaving, restated, removed, in_next, TagSet, snooped}
+pub use Rattle.std.specs.List.{list_any, range_with_len}
+pub use Rattle.std.proofs.Math.ListN.{get_or-map}
+pub use Rattle.std.proofs.Math.Seq.{map-set_same, drop-cons, drop-length}
+pub use Rattle.snoop_bus.specs.inner.Copies.{ways_of, OnlyAt, AtHome, emptied, state_in}
+pub use Rattle.std.specs.Option.{option_or, option_copied}
+pub use Rattle.tso_model.specs.declared.instruction.Core.{Core}
+pub use Rattle.tso_model.specs.Limits.{most_cores}
+pub use Rattle.snoop_bus.specs.declared.access.AccessKind.TheVariants.{Hit, Miss}
+pub use Rattle.snoop_bus.specs.MemoryAfter.{victim_at, written_back, flushed, sent_words, written_memory, written_memory_in, sent_of, loaded_memory, loaded_memory_in}
+pub use Rattle.protocol_tables.specs.declared.requests.Request.{Request}
+pub use Rattle.protocol_tables.specs.declared.requests.Request.TheVariants.{GetS, GetM}
+pub use Rattle.std.proofs.lemmas.List.FromFn.{length-map-range_with_len, get_or-map-range_with_len, map-range_with_len_more, fill_by_all}
+pub use Rattle.std.proofs.lemmas.Nat.{div-add-mod', div_below, div-mul-add, mod-mul-add, mod_below, mul-le}
+pub use Rattle.cache_set.specs.Limits.{most_words}
+pub use Rattle.std.specs.Int.{div_ceil}
+pub use Rattle.snoop_bus.specs.Geometry.{Geometry}
+pub use Rattle.snoop_bus.specs.inner.Bus.{HasWholeLines, IsBus}
+pub use Rattle.snoop_bus.specs.declared.access.Updated.{Updated}
+pub use Rattle.snoop_bus.specs.declared.hierarchy.Hierarchy.{Hierarchy}
+pub use Rattle.snoop_bus.specs.declared.holding.HeldBus.{HeldBus}
+pub use Rattle.snoop_bus.specs.Held.{counted, with_copy, counting, stage_for, holder, holder_in, counted_in}
+pub use Rattle.snoop_bus.specs.inner.Held.{IsHeld, IsPlaced, Awaits, held_by, AskedOf, kept_by, kept_words}
+pub use Rattle.snoop_bus.specs.inner.Accessing.{KeepsWords, SetsWord, Updates, IsReady, Acquires, Loads, Writes}
+pub use Rattle.snoop_bus.specs.declared.access.Access.{Access}
+pub use Rattle.snoop_bus.specs.inner.Tags.{clean, cleaned}
+pub use Rattle.protocol_tables.specs.declared.requests.Transient.TheVariants.{IsD, ImD, SmD}
+pub use Rattle.snoop_bus.specs.inner.Asks.{transaction_of, transaction_at}
+unfoldable pub use Rattle.snoop_bus.specs.inner.Asks.{transacting}
+pub use Rattle.tso_model.specs.declared.instruction.Loc.{Loc}
+pub use Rattle.protocol_tables.specs.Transients.{transient_of}
+pub use Rattle.protocol_tables.specs.declared.requests.Transient.{Transient}
+pub use Rattle.snoop_bus.specs.declared.holding.Transaction.{Transaction}
+pub use Rattle.snoop_bus.specs.declared.holding.Stage.{Stage}
+pub use Rattle.snoop_bus.specs.declared.holding.Stage.TheVariants.{Load, Write, Locked}
+pub use Rattle.snoop_bus.specs.inner.Accesses.{StandsAlone, MayGoOn, ranked_in, IsClean}
+pub use Rattle.snoop_bus.specs.Accesses.{IsCurrentWord, CompletesAt, new_bus, LoadsAt, WritesAt, KeepsHolder, AsksFor, contents_of, line_of, load_of, write_of, would_hit, ask_of, completion_of, with_words}
+pub use Rattle.snoop_bus.specs.inner.Completing.{words_due, Completes, completion_at}
+pub use Rattle.std.proofs.lemmas.Grind.{div_ceil_times}
+pub use Rattle.std.proofs.lemmas.List.Edits.{map_over_more}
+pub use Rattle.snoop_bus.specs.Requests.{asked}
