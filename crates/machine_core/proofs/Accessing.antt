@@ -1,19 +1,5 @@
 -- A choice that makes an access commits at once where it acts as on the flat machine.
-use Rattle.std.proofs.Common.{◌≡◌, ◌≢◌, ℕ, zero, suc, List, [], ◌∷◌, Option, None, Some, slice_get, refl}
-use Rattle.tso_model.specs.Litmus.{Litmus}
-use Rattle.tso_model.specs.Actions.{action_of}
-use Rattle.tso_model.specs.FlatMachine.{CoreState, State, Effect, stored, effect_by, step_of, effect_of, core_of, program_of}
-use Rattle.tso_model.specs.MemoryAccess.{NoAccess, store_access, locked_access, access_by, step_access, drain_access, access_of}
-use Rattle.tso_model.specs.declared.register.Reg.{Reg}
-use Rattle.tso_model.specs.declared.instruction.Loc.{Loc}
-use Rattle.tso_model.specs.declared.instruction.Instr.{Instr}
-use Rattle.tso_model.specs.declared.action.Action.{Action}
-use Rattle.tso_model.specs.declared.action.Action.TheVariants.{Store, Load, Move, Fence, Lock}
-use Rattle.tso_model.specs.declared.execution.Entry.{Entry}
-use Rattle.tso_model.specs.declared.choice.Choice.{Choice}
-use Rattle.tso_model.specs.declared.choice.Choice.TheVariants.{Step, Drain}
-use Rattle.tso_model.specs.declared.choice.Outcome.TheVariants.{Committed}
-use Rattle.basic_laws.proofs.WithPending.{drain_with, locked_with}
+use Rattle.machine_core.proofs.Vocabulary.{◌≡◌, ◌≢◌, ℕ, zero, suc, List, [], ◌∷◌, Option, None, Some, slice_get, refl, Litmus, action_of, CoreState, State, Effect, stored, effect_by, step_of, effect_of, core_of, program_of, NoAccess, store_access, locked_access, access_by, step_access, drain_access, access_of, Reg, Loc, Instr, Action, Store, Load, Move, Fence, Lock, Entry, Choice, Step, Drain, Committed, drain_with, locked_with}
 
 pub record CommitsAtOnce (f : Effect) : Type 0 where
   pub outcome : f.outcome ≡ Committed

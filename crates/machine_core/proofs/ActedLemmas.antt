@@ -1,29 +1,9 @@
 -- What an action of one core does, from what the calls in it say.
-use Rattle.std.proofs.Common.{◌≡◌, ◌++◌, ℕ, List, [], ◌∷◌, map, drop, Some, slice_get, append-nil, refl, sym, ap, ◌∙◌, subst}
-use Rattle.tso_model.specs.MemoryAccess.{MemoryAccess, NoAccess, Writes, drain_access}
-use Rattle.tso_model.specs.declared.instruction.Core.{Core}
-use Rattle.tso_model.specs.FlatMachine.{CoreState, Effect, stalled, memory_after}
+use Rattle.machine_core.proofs.Vocabulary.{◌≡◌, ◌++◌, ℕ, List, [], ◌∷◌, map, drop, Some, slice_get, append-nil, refl, sym, ap, ◌∙◌, subst, MemoryAccess, NoAccess, Writes, drain_access, Core, CoreState, Effect, stalled, memory_after, Outcome, Committed, Stalled, Pending, Noted, BusModel, words_of, Processor, Unused, Through, Way, Whole, Asked, Turn, store_of, core_state, pending_in, drain_by, write_by, MayMakeBy, MayMake, HasAsked, HasActed, Waits, IsMade, IsStored, drain_with}
 use Rattle.tso_model.specs.declared.choice.Stall.{Stall}
-use Rattle.tso_model.specs.declared.choice.Outcome.{Outcome}
-use Rattle.tso_model.specs.declared.choice.Outcome.TheVariants.{Committed, Stalled}
-use Rattle.store_buffer.specs.declared.Pending.{Pending}
 use Rattle.store_buffer.specs.Stores.{Stores}
-use Rattle.order_builder.specs.inner.Noted.{Noted}
-use Rattle.snoop_bus.specs.Bus.{BusModel, words_of}
-use Rattle.machine_core.specs.declared.processor.Processor.{Processor}
-use Rattle.machine_core.specs.declared.accesses.CacheUse.TheVariants.{Unused, Through}
-use Rattle.machine_core.specs.declared.turn.Way.{Way}
-use Rattle.machine_core.specs.declared.turn.Way.TheVariants.{Whole, Asked}
-use Rattle.machine_core.specs.declared.turn.Turn.{Turn}
-use Rattle.machine_core.specs.Cores.{store_of, core_state}
-use Rattle.machine_core.specs.inner.Cores.{pending_in, drain_by}
-use Rattle.machine_core.specs.Caches.{write_by}
-use Rattle.machine_core.specs.inner.Effects.{MayMakeBy, MayMake}
-use Rattle.machine_core.specs.inner.Turns.{HasAsked}
-use Rattle.machine_core.specs.inner.OneCore.{HasActed, Waits, IsMade, IsStored}
 use Rattle.machine_core.proofs.Acting.{writes-oldest}
 use Rattle.machine_core.proofs.CacheUses.{rests}
-use Rattle.basic_laws.proofs.WithPending.{drain_with}
 use Rattle.snoop_bus.specs.declared.access.Access as bus_access
 
 -- only a load and a store are ever completed

@@ -1,12 +1,5 @@
 -- When an access may be made at once.
-use Rattle.std.proofs.Common.{◌≡◌, ◌||◌, ℕ, Bool, true, false, if◌then◌else◌, List, [], ◌∷◌, map, filter, None, Some, slice_get, refl, sym, ap}
-use Rattle.std.specs.List.{list_any}
-use Rattle.tso_model.specs.ProgramOrder.{writes_to}
-use Rattle.tso_model.specs.MemoryAccess.{NoAccess, Reads, Writes, load_access, locked_access, drain_access}
-use Rattle.tso_model.specs.declared.instruction.Loc.{Loc}
-use Rattle.tso_model.specs.declared.execution.Entry.{Entry}
-use Rattle.store_buffer.specs.declared.Pending.{Pending}
-use Rattle.machine_core.specs.Cores.{store_of}
+use Rattle.machine_core.proofs.Vocabulary.{◌≡◌, ◌||◌, ℕ, Bool, true, false, if◌then◌else◌, List, [], ◌∷◌, map, filter, None, Some, slice_get, refl, sym, ap, list_any, writes_to, NoAccess, Reads, Writes, load_access, locked_access, drain_access, Loc, Entry, Pending, store_of}
 
 pub none-kept : (f : Entry → Bool) (xs : List Entry) → list_any f xs ≡ false → filter f xs ≡ []
 none-kept f [] h = refl

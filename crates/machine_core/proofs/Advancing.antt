@@ -1,31 +1,9 @@
 -- Each choice on either bus counts an access only where one more instruction has made its own.
-use Rattle.std.proofs.Common.{◌≡◌, ◌≢◌, ◌<◌, ℕ, Bool, true, false, if◌then◌else◌, List, [], ◌∷◌, drop, length, Option, None, Some, slice_get, refl, sym, ap, ◌∙◌, subst, arith}
-use Rattle.std.proofs.lemmas.Bool.Decides.{nat_tests}
-use Rattle.tso_model.specs.Litmus.{Litmus, IsTest}
-use Rattle.tso_model.specs.Actions.{action_of}
-use Rattle.tso_model.specs.FlatMachine.{CoreState, State, effect_by, step_of, effect_of, core_of, chosen, program_of}
-use Rattle.tso_model.specs.MemoryAccess.{MemoryAccess, NoAccess, Reads, Writes, Locks, access_by, step_access, access_of}
-use Rattle.tso_model.specs.SplitMachine.{Holder, Free, HeldBy, HeldBetween, Attempt, BusEffect, acts, asks, begins, needs_bus, same_choice, completes, writes_last, as_read}
-use Rattle.tso_model.specs.EitherBus.{effect_on}
-use Rattle.tso_model.specs.declared.choice.Bus.{Bus}
-use Rattle.tso_model.specs.declared.choice.Bus.TheVariants.{Atomic, Split}
-use Rattle.tso_model.specs.declared.register.Reg.{Reg}
-use Rattle.tso_model.specs.declared.instruction.Loc.{Loc}
-use Rattle.tso_model.specs.declared.instruction.Instr.{Instr}
-use Rattle.tso_model.specs.declared.action.Action.{Action}
-use Rattle.tso_model.specs.declared.action.Action.TheVariants.{Store, Load, Move, Fence, Lock}
-use Rattle.tso_model.specs.declared.execution.Entry.{Entry}
-use Rattle.tso_model.specs.declared.choice.Choice.{Choice}
-use Rattle.tso_model.specs.declared.choice.Choice.TheVariants.{Step, Drain}
-use Rattle.split_laws.specs.Holders.{HasRead, HolderFits}
-use Rattle.machine_core.specs.declared.accesses.CacheUse.TheVariants.{Unused}
-use Rattle.machine_core.specs.Caches.{Caches, is_awaited, use_of, use_with, at_access, ask_by, not_through}
-use Rattle.machine_core.specs.inner.Keeping.{IsIssued}
+use Rattle.machine_core.proofs.Vocabulary.{◌≡◌, ◌≢◌, ◌<◌, ℕ, Bool, true, false, if◌then◌else◌, List, [], ◌∷◌, drop, length, Option, None, Some, slice_get, refl, sym, ap, ◌∙◌, subst, arith, nat_tests, Litmus, IsTest, action_of, CoreState, State, effect_by, step_of, effect_of, core_of, chosen, program_of, MemoryAccess, NoAccess, Reads, Writes, Locks, access_by, step_access, access_of, Holder, Free, HeldBy, HeldBetween, Attempt, BusEffect, acts, asks, begins, needs_bus, same_choice, completes, writes_last, as_read, effect_on, Bus, Atomic, Split, Reg, Loc, Instr, Action, Store, Load, Move, Fence, Lock, Entry, Choice, Step, Drain, HasRead, HolderFits, Unused, Caches, is_awaited, use_of, use_with, at_access, ask_by, not_through, IsIssued, locked_with}
 use Rattle.machine_core.proofs.CountBounds.{effect-advances}
 use Rattle.machine_core.proofs.CountsOnBus.{AdvancesOn, advances-acts, advances-frees, advances-reads, advances-writes, advances-rests}
 use Rattle.machine_core.proofs.Accessing.{commits-at-once}
 use Rattle.machine_core.proofs.LastWrites.{no-load, no-store}
-use Rattle.basic_laws.proofs.WithPending.{locked_with}
 
 -- of the two entries of a locked instruction, the store part uses no cache
 last-unused : (c : Caches) (before : List Entry) (core : ℕ) (s : CoreState) (loc : Loc) (reg : Reg) (word value : ℕ) (pending : List Entry)

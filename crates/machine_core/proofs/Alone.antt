@@ -1,15 +1,6 @@
 -- What the caches' bus tells of its holder, of the load part that waits for its store part.
-use Rattle.std.proofs.Common.{◌≡◌, IfSome, Some, refl, subst, ap, ◌∙◌}
-use Rattle.tso_model.specs.Litmus.{Litmus}
-use Rattle.tso_model.specs.SplitMachine.{HeldBetween}
-use Rattle.tso_model.specs.declared.execution.Entry.{Entry}
-use Rattle.snoop_bus.specs.Bus.{holder_of}
-use Rattle.snoop_bus.specs.Held.{holder}
-use Rattle.snoop_bus.specs.inner.Accesses.{StandsAlone}
-use Rattle.snoop_bus.specs.declared.holding.Stage.TheVariants.{Load, Locked}
-use Rattle.machine_core.specs.declared.hardware.Hardware.{Hardware}
-use Rattle.machine_core.specs.Keeping.{IsHeldForAccess, held_as, state_in}
-use Rattle.machine_core.specs.inner.OneChoice.{IsAloneIn}
+use Rattle.machine_core.proofs.Vocabulary.{◌≡◌, IfSome, Some, refl, subst, ap, ◌∙◌, Litmus, HeldBetween, Entry, holder_of, holder, StandsAlone, Locked, Hardware, IsHeldForAccess, held_as, state_in, IsAloneIn}
+use Rattle.snoop_bus.specs.declared.holding.Stage.TheVariants.{Load}
 
 pub alone-in : {P : Type 0} (t : Litmus) (m : Hardware P) → IsHeldForAccess t m → IfSome (holder_of m.bus) (StandsAlone m.bus) → IsAloneIn m
 alone-in t m held alone e between =

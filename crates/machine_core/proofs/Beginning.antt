@@ -1,26 +1,8 @@
 -- The hardware of a machine that goes back to the beginning of its test.
-use Rattle.std.proofs.Common.{◌≡◌, ◌+◌, ℕ, zero, suc, List, [], ◌∷◌, Option, None, length, slice_index_or, map, replicate, All, refl, sym, ap, ◌∙◌, subst, arith}
-use Rattle.tso_model.specs.Litmus.{Litmus}
-use Rattle.tso_model.specs.FlatMachine.{started, start}
-use Rattle.tso_model.specs.EitherBus.{unheld}
+use Rattle.machine_core.proofs.Vocabulary.{◌≡◌, ◌+◌, ℕ, zero, suc, List, [], ◌∷◌, Option, None, length, slice_index_or, map, replicate, All, refl, sym, ap, ◌∙◌, subst, arith, Litmus, started, start, unheld, Instr, IsPossibleOn, stores, table_of_rows, BusModel, cores_of, new_bus, Next, Processor, core_states, core_state, state_of, at_start, Counts, no_counts, no_statistics, caches_of, Hardware, IsCore, state_in}
 use Rattle.tso_model.specs.declared.choice.Bus as kind
-use Rattle.tso_model.specs.declared.instruction.Instr.{Instr}
-use Rattle.split_laws.specs.BusChoices.{IsPossibleOn}
-use Rattle.store_buffer.specs.inner.Stores.{stores}
-use Rattle.snoop_bus.specs.Rows.{table_of_rows}
-use Rattle.snoop_bus.specs.Bus.{BusModel, cores_of}
-use Rattle.snoop_bus.specs.Accesses.{new_bus}
 use Rattle.snoop_bus.specs.declared.holding.BusAction as bus_action
 use Rattle.machine_core.proofs.Overwriting.{written}
-use Rattle.machine_core.specs.declared.accesses.Next.{Next}
-use Rattle.machine_core.specs.declared.processor.Processor.{Processor}
-use Rattle.machine_core.specs.Cores.{core_states, core_state, state_of}
-use Rattle.machine_core.specs.inner.Cores.{at_start}
-use Rattle.machine_core.specs.declared.counts.Counts.{Counts}
-use Rattle.machine_core.specs.Statistics.{no_counts, no_statistics}
-use Rattle.machine_core.specs.Caches.{caches_of}
-use Rattle.machine_core.specs.declared.hardware.Hardware.{Hardware}
-use Rattle.machine_core.specs.Keeping.{IsCore, state_in}
 use Rattle.machine_core.proofs.CoreLemmas.{IsCore-new}
 use Rattle.machine_core.proofs.Splitting.{held-with}
 

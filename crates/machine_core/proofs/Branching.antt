@@ -1,26 +1,5 @@
 -- Which choice on a split bus is the holder's next one, and what any choice does by that.
-use Rattle.std.proofs.Common.{◌≡◌, ℕ, Bool, true, false, None, Some, Result, IfOk, refl, sym, ap, ◌∙◌, subst}
-use Rattle.tso_model.specs.Litmus.{Litmus}
-use Rattle.tso_model.specs.FlatMachine.{State, chosen}
-use Rattle.tso_model.specs.MemoryAccess.{access_of}
-use Rattle.tso_model.specs.SplitMachine.{Holder, Free, HeldBy, HeldBetween, Attempt, BusEffect, same_choice, begins, completes, writes_last, split_effect}
-use Rattle.tso_model.specs.EitherBus.{HitFits}
-use Rattle.tso_model.specs.declared.execution.Entry.{Entry}
-use Rattle.tso_model.specs.declared.choice.Choice.{Choice}
-use Rattle.tso_model.specs.declared.choice.Choice.TheVariants.{Step}
-use Rattle.tso_model.specs.declared.choice.Outcome.TheVariants.{Committed}
-use Rattle.tso_model.specs.declared.out_of_memory.NoMemory.{NoMemory}
-use Rattle.machine_core.specs.declared.accesses.Next.{Next}
-use Rattle.machine_core.specs.declared.accesses.Next.TheVariants.{Complete, Write}
-use Rattle.machine_core.specs.declared.hardware.Hardware.{Hardware}
-use Rattle.machine_core.specs.Effects.{Answer}
-use Rattle.machine_core.specs.Keeping.{next_in, holder_by, state_in}
-use Rattle.machine_core.specs.OneChoice.{HasMade}
-use Rattle.machine_core.specs.Split.{completes_in}
-use Rattle.machine_core.specs.inner.Effects.{attempt_in}
-use Rattle.machine_core.specs.inner.OneCore.{SucceedsUnlessCommitting}
-use Rattle.machine_core.specs.inner.OneChoice.{AnswerFitsIn}
-use Rattle.machine_core.specs.inner.Split.{split_effect_in, begins_in, writes_last_in, IsOther}
+use Rattle.machine_core.proofs.Vocabulary.{◌≡◌, ℕ, Bool, true, false, None, Some, Result, IfOk, refl, sym, ap, ◌∙◌, subst, Litmus, State, chosen, access_of, Holder, Free, HeldBy, HeldBetween, Attempt, BusEffect, same_choice, begins, completes, writes_last, split_effect, HitFits, Entry, Choice, Step, Committed, NoMemory, Next, Complete, Write, Hardware, Answer, next_in, holder_by, state_in, HasMade, completes_in, attempt_in, SucceedsUnlessCommitting, AnswerFitsIn, split_effect_in, begins_in, writes_last_in, IsOther}
 use Rattle.machine_core.proofs.Advancing.{same-is}
 
 module _ (t : Litmus) (depth : ℕ) (state : State) (a : Attempt) where

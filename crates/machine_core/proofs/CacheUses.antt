@@ -1,26 +1,5 @@
 -- What a choice has to do with the caches, from what its core did.
-use Rattle.std.proofs.Common.{◌≡◌, ◌||◌, ◌==◌, ℕ, Bool, true, false, if◌then◌else◌, List, [], ◌∷◌, map, filter, Option, None, Some, is_some, slice_get, refl, sym, ap, ◌∙◌, subst}
-use Rattle.std.specs.Option.{option_map}
-use Rattle.std.specs.List.{last_or, list_any}
-use Rattle.tso_model.specs.ProgramOrder.{writes_to}
-use Rattle.tso_model.specs.FlatMachine.{CoreState}
-use Rattle.tso_model.specs.declared.register.Reg.{Reg}
-use Rattle.tso_model.specs.declared.instruction.Loc.{Loc}
-use Rattle.tso_model.specs.declared.action.Update.{Update}
-use Rattle.tso_model.specs.declared.execution.Entry.{Entry}
-use Rattle.store_buffer.specs.declared.Pending.{Pending}
-use Rattle.store_buffer.specs.inner.Newest.{newest_for}
-use Rattle.snoop_bus.specs.declared.access.Access.{Access}
-use Rattle.snoop_bus.specs.Bus.{BusModel, words_of, IsSameMachine}
-use Rattle.snoop_bus.specs.Accesses.{LoadsAt, WritesAt}
-use Rattle.machine_core.specs.declared.processor.Processor.{Processor}
-use Rattle.machine_core.specs.declared.accesses.CacheUse.{CacheUse}
-use Rattle.machine_core.specs.declared.accesses.CacheUse.TheVariants.{Unused, Forwarded, Through}
-use Rattle.machine_core.specs.Cores.{store_of, core_state}
-use Rattle.machine_core.specs.inner.Cores.{pending_in, lock_by, drain_by}
-use Rattle.machine_core.specs.Caches.{Caches, caches_of, not_through, load_after, write_by, use_of}
-use Rattle.machine_core.specs.Effects.{HasUsed}
-use Rattle.basic_laws.proofs.WithPending.{drain_with, fenced_with, locked_with}
+use Rattle.machine_core.proofs.Vocabulary.{◌≡◌, ◌||◌, ◌==◌, ℕ, Bool, true, false, if◌then◌else◌, List, [], ◌∷◌, map, filter, Option, None, Some, is_some, slice_get, refl, sym, ap, ◌∙◌, subst, option_map, last_or, list_any, writes_to, CoreState, Reg, Loc, Update, Entry, Pending, newest_for, Access, BusModel, words_of, IsSameMachine, LoadsAt, WritesAt, Processor, CacheUse, Unused, Forwarded, Through, store_of, core_state, pending_in, lock_by, drain_by, Caches, caches_of, not_through, load_after, write_by, use_of, HasUsed, drain_with, fenced_with, locked_with}
 
 or_true : (b : Bool) → true ≡ (b || true)
 or_true true = refl

@@ -1,33 +1,6 @@
 -- A choice on the hardware of a machine, from what its core did.
-use Rattle.std.proofs.Common.{◌≡◌, ◌<◌, ℕ, ◌++◌, None, Some, Result, Ok, Err, IfOk, length, slice_get, slice_set, slice_index_or, length-set, refl, sym, ap, ◌∙◌, subst, All}
-use Rattle.std.proofs.lemmas.List.Elements.{All-set}
-use Rattle.tso_model.specs.Litmus.{Litmus}
-use Rattle.tso_model.specs.FlatMachine.{Effect, stalled, step_of, drain_of, chosen, memory_after, program_of, core_of}
-use Rattle.tso_model.specs.MemoryAccess.{MemoryAccess, NoAccess, access_of, step_access, drain_access}
-use Rattle.tso_model.specs.SplitMachine.{Free, BusEffect, acts}
-use Rattle.tso_model.specs.declared.instruction.Core.{Core}
-use Rattle.tso_model.specs.declared.instruction.Instr.{Instr}
-use Rattle.tso_model.specs.declared.out_of_memory.NoMemory.{NoMemory}
-use Rattle.tso_model.specs.declared.choice.Choice.{Choice}
-use Rattle.tso_model.specs.declared.choice.Choice.TheVariants.{Step, Drain}
-use Rattle.tso_model.specs.declared.choice.Outcome.{Outcome}
+use Rattle.machine_core.proofs.Vocabulary.{◌≡◌, ◌<◌, ℕ, ◌++◌, None, Some, Result, Ok, Err, IfOk, length, slice_get, slice_set, slice_index_or, length-set, refl, sym, ap, ◌∙◌, subst, All, All-set, Litmus, Effect, stalled, step_of, drain_of, chosen, memory_after, program_of, core_of, MemoryAccess, NoAccess, access_of, step_access, drain_access, Free, BusEffect, acts, Core, Instr, NoMemory, Choice, Step, Drain, Outcome, words_of, cores_of, holder_of, Processor, Hardware, core_state, core_states, pending_in, step_by, drain_by, caches_of, completing_by, use_of, IsCore, HardwareFitsTest, core_in, state_in, Answer, HasUsed, HasEffect, MayAct, MayMakeBy, MayMakeIn, flat_effect_in, by_way, HasAsked, Way, Whole, Asked, HasActed, use_by, HasMade, effect_made_in}
 use Rattle.tso_model.specs.declared.choice.Stall.TheVariants as stall
-use Rattle.snoop_bus.specs.Bus.{words_of, cores_of, holder_of}
-use Rattle.machine_core.specs.declared.processor.Processor.{Processor}
-use Rattle.machine_core.specs.declared.hardware.Hardware.{Hardware}
-use Rattle.machine_core.specs.Cores.{core_state, core_states}
-use Rattle.machine_core.specs.inner.Cores.{pending_in, step_by, drain_by}
-use Rattle.machine_core.specs.Caches.{caches_of, completing_by, use_of}
-use Rattle.machine_core.specs.Keeping.{IsCore, HardwareFitsTest, core_in, state_in}
-use Rattle.machine_core.specs.Effects.{Answer, HasUsed, HasEffect}
-use Rattle.machine_core.specs.inner.Effects.{MayAct, MayMakeBy, MayMakeIn, flat_effect_in}
-use Rattle.machine_core.specs.inner.Turns.{by_way, HasAsked}
-use Rattle.machine_core.specs.declared.turn.Way.{Way}
-use Rattle.machine_core.specs.declared.turn.Way.TheVariants.{Whole, Asked}
-use Rattle.machine_core.specs.inner.OneCore.{HasActed}
-use Rattle.machine_core.specs.Split.{use_by}
-use Rattle.machine_core.specs.OneChoice.{HasMade}
-use Rattle.machine_core.specs.inner.OneChoice.{effect_made_in}
 use Rattle.machine_core.proofs.CoreLemmas.{core_states-get_or, core_states-set}
 use Rattle.machine_core.proofs.ActedLemmas.{whole-none}
 use Rattle.machine_core.proofs.Splitting.{flat_use_in, use-acts, use-frees, held-with, held-made}

@@ -1,25 +1,5 @@
 -- A locked instruction whose load part the holder's next choice commits.
-use Rattle.std.proofs.Common.{◌≡◌, ◌<◌, ◌++◌, [], ◌∷◌, length, slice_set, slice_index, slice_index_or, refl, sym, ap, ◌∙◌, subst}
-use Rattle.std.proofs.lemmas.List.{set-get_or}
-use Rattle.tso_model.specs.Litmus.{Litmus}
-use Rattle.tso_model.specs.Thread.{entry}
-use Rattle.tso_model.specs.FlatMachine.{chosen, memory_after}
-use Rattle.tso_model.specs.MemoryAccess.{Locks, access_of}
-use Rattle.tso_model.specs.SplitMachine.{HeldBy, HeldBetween, reads_first, completes}
-use Rattle.tso_model.specs.declared.instruction.Loc.{Loc}
-use Rattle.tso_model.specs.declared.execution.Entry.{Entry}
-use Rattle.tso_model.specs.declared.execution.Kind.TheVariants.{LR}
-use Rattle.tso_model.specs.declared.choice.Choice.{Choice}
-use Rattle.tso_model.specs.declared.choice.Outcome.TheVariants.{Committed}
-use Rattle.snoop_bus.specs.Bus.{BusModel, words_of}
-use Rattle.machine_core.specs.declared.processor.Processor.{Processor}
-use Rattle.machine_core.specs.declared.accesses.CacheUse.TheVariants.{Through}
-use Rattle.machine_core.specs.declared.hardware.Hardware.{Hardware}
-use Rattle.machine_core.specs.Cores.{core_state}
-use Rattle.machine_core.specs.Caches.{caches_of, completing_by, completion_by, is_awaited}
-use Rattle.machine_core.specs.Keeping.{state_in}
-use Rattle.machine_core.specs.Effects.{HasUsed, HasEffect}
-use Rattle.machine_core.specs.Split.{completes_in, use_by}
+use Rattle.machine_core.proofs.Vocabulary.{◌≡◌, ◌<◌, ◌++◌, [], ◌∷◌, length, slice_set, slice_index, slice_index_or, refl, sym, ap, ◌∙◌, subst, set-get_or, Litmus, entry, chosen, memory_after, Locks, access_of, HeldBy, HeldBetween, reads_first, completes, Loc, Entry, LR, Choice, Committed, BusModel, words_of, Processor, Through, Hardware, core_state, caches_of, completing_by, completion_by, is_awaited, state_in, HasUsed, HasEffect, completes_in, use_by}
 use Rattle.machine_core.proofs.Splitting.{use-frees}
 use Rattle.machine_core.proofs.ChoiceEffects.{Performs-by, core_of-state_in}
 use Rattle.snoop_bus.specs.declared.access.Access as bus_access

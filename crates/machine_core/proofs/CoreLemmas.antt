@@ -1,25 +1,7 @@
 -- The machine's cores as the flat machine has them.
-use Rattle.std.proofs.Common.{◌≡◌, ◌<◌, ℕ, zero, suc, ◌+◌, ◌==◌, ◌&&◌, Bool, true, false, IsTrue, if◌then◌else◌, List, [], ◌∷◌, ◌++◌, map, filter, Option, None, Some, unwrap_or, length, slice_get, slice_set, slice_index, slice_index_or, take, drop, drop-cons, add-one, append_assoc, refl, sym, ap, ◌∙◌, arith, subst, All}
-use Rattle.std.proofs.lemmas.List.Elements.{All-append}
-use Rattle.std.specs.Option.{option_map}
-use Rattle.std.specs.List.{last_or}
-use Rattle.tso_model.specs.ProgramOrder.{writes_to}
+use Rattle.machine_core.proofs.Vocabulary.{◌≡◌, ◌<◌, ℕ, zero, suc, ◌+◌, ◌==◌, ◌&&◌, Bool, true, false, IsTrue, if◌then◌else◌, List, [], ◌∷◌, ◌++◌, map, filter, Option, None, Some, unwrap_or, length, slice_get, slice_set, slice_index, slice_index_or, take, drop, drop-cons, add-one, append_assoc, refl, sym, ap, ◌∙◌, arith, subst, All, All-append, option_map, last_or, writes_to, is_none_pending, CoreState, stalled, started, idle, is_done, all_done, Reg, Loc, Instr, Update, Pending, newest_for, Processor, stores, store_of, core_state, core_states, lock_by, IsCore, drain_with, fenced_with, locked_with}
 use Rattle.tso_model.specs.Axioms.{last_value}
-use Rattle.tso_model.specs.FlatMachine.{is_none_pending, CoreState, stalled, started, idle}
-use Rattle.tso_model.specs.Runs.{is_done, all_done}
-use Rattle.tso_model.specs.declared.register.Reg.{Reg}
-use Rattle.tso_model.specs.declared.instruction.Loc.{Loc}
-use Rattle.tso_model.specs.declared.instruction.Instr.{Instr}
-use Rattle.tso_model.specs.declared.action.Update.{Update}
 use Rattle.tso_model.specs.declared.choice.Stall.TheVariants as stall
-use Rattle.store_buffer.specs.declared.Pending.{Pending}
-use Rattle.store_buffer.specs.inner.Newest.{newest_for}
-use Rattle.machine_core.specs.declared.processor.Processor.{Processor}
-use Rattle.store_buffer.specs.inner.Stores.{stores}
-use Rattle.machine_core.specs.Cores.{store_of, core_state, core_states}
-use Rattle.machine_core.specs.inner.Cores.{lock_by}
-use Rattle.machine_core.specs.Keeping.{IsCore}
-use Rattle.basic_laws.proofs.WithPending.{drain_with, fenced_with, locked_with}
 
 -- what a load sees, in the buffer and among the pending stores
 last_value-stores : (core loc word : ℕ) (o : Option Pending) (items : List Pending)

@@ -1,43 +1,11 @@
 -- Why counting never overflows: no count is larger than the number of instructions that the cores are done with.
-use Rattle.std.proofs.Common.{◌≡◌, ◌≤◌, ◌<◌, ◌+◌, ◌-◌, ◌⊎◌, inl, inr, ℕ, zero, suc, Bool, true, false, nat_lt, if◌then◌else◌, List, [], ◌∷◌, ◌++◌, length, length-append, length-set, replicate, slice_get, slice_index, slice_index_or, Option, Some, None, All, refl, sym, ap, ◌∙◌, subst, arith}
-use Rattle.std.specs.List.{list_any}
-use Rattle.std.proofs.lemmas.List.Elements.{All-set}
-use Rattle.tso_model.specs.Limits.{most_instructions}
-use Rattle.tso_model.specs.Litmus.{Litmus, IsTest}
-use Rattle.tso_model.specs.Actions.{action_of}
-use Rattle.tso_model.specs.Thread.{entry, value_in, with_value, value_of, updated}
-use Rattle.tso_model.specs.ProgramOrder.{writes_to}
-use Rattle.tso_model.specs.FlatMachine.{CoreState, State, Effect, stalled, stored, effect_by, step_of, effect_of, chosen, core_of, program_of}
-use Rattle.tso_model.specs.declared.register.Reg.{Reg}
-use Rattle.tso_model.specs.declared.instruction.Core.{Core}
-use Rattle.tso_model.specs.declared.instruction.Loc.{Loc}
-use Rattle.tso_model.specs.declared.instruction.Instr.{Instr}
-use Rattle.tso_model.specs.declared.action.Action.{Action}
-use Rattle.tso_model.specs.declared.action.Action.TheVariants.{Store, Load, Move, Fence, Lock}
-use Rattle.tso_model.specs.declared.execution.Entry.{Entry}
-use Rattle.tso_model.specs.declared.execution.Kind.{Kind}
-use Rattle.tso_model.specs.declared.execution.Kind.TheVariants.{R, W, F, LR, LW}
-use Rattle.tso_model.specs.declared.choice.Choice.{Choice}
-use Rattle.tso_model.specs.declared.choice.Choice.TheVariants.{Step, Drain}
+use Rattle.machine_core.proofs.Vocabulary.{◌≡◌, ◌≤◌, ◌<◌, ◌+◌, ◌-◌, ◌⊎◌, inl, inr, ℕ, zero, suc, Bool, true, false, nat_lt, if◌then◌else◌, List, [], ◌∷◌, ◌++◌, length, length-append, length-set, replicate, slice_get, slice_index, slice_index_or, Option, Some, None, All, refl, sym, ap, ◌∙◌, subst, arith, list_any, All-set, most_instructions, Litmus, IsTest, action_of, entry, value_in, with_value, value_of, updated, writes_to, CoreState, State, Effect, stalled, stored, effect_by, step_of, effect_of, chosen, core_of, program_of, Reg, Core, Loc, Instr, Action, Store, Load, Move, Fence, Lock, Entry, Kind, R, W, F, LR, LW, Choice, Step, Drain, Outcome, Buffered, Stalled, Table, table_of_rows, TagSets, loaded_in, written_in, write_in, sends_in, flusher_from, tags_at, Counts, CacheUse, Unused, Forwarded, Through, Caches, not_through, load_by, write_by, load_after, use_by_kind, use_of, no_counts, with_access, with_write_back, with_forward, with_flush, at_core, flush_counted, counted, IsAtMost, IsIssued, IsAmong, IsFlusherAmong, done_by, drain_with, fenced_with, locked_with}
 use Rattle.tso_model.specs.declared.choice.Stall.TheVariants as stall
-use Rattle.tso_model.specs.declared.choice.Outcome.{Outcome}
-use Rattle.tso_model.specs.declared.choice.Outcome.TheVariants.{Buffered, Stalled}
 use Rattle.protocol_tables.specs.declared.state.State as protocol
 use Rattle.protocol_tables.specs.declared.state.Snoop.{Snoop}
-use Rattle.protocol_tables.specs.Tables.{Table}
 use Rattle.snoop_bus.specs.declared.access.AccessKind.{AccessKind}
 use Rattle.snoop_bus.specs.declared.access.AccessKind.TheVariants.{Hit, Upgrade, Miss}
-use Rattle.snoop_bus.specs.Rows.{table_of_rows}
 use Rattle.snoop_bus.specs.Tags.{tag_of}
-use Rattle.snoop_bus.specs.CacheContents.{TagSets, loaded_in, written_in, write_in, sends_in, flusher_from, tags_at}
-use Rattle.machine_core.specs.declared.counts.Counts.{Counts}
-use Rattle.machine_core.specs.declared.accesses.CacheUse.{CacheUse}
-use Rattle.machine_core.specs.declared.accesses.CacheUse.TheVariants.{Unused, Forwarded, Through}
-use Rattle.machine_core.specs.Caches.{Caches, not_through, load_by, write_by, load_after, use_by_kind, use_of}
-use Rattle.machine_core.specs.Statistics.{no_counts, with_access, with_write_back, with_forward, with_flush, at_core, flush_counted, counted}
-use Rattle.machine_core.specs.Keeping.{IsAtMost}
-use Rattle.machine_core.specs.inner.Keeping.{IsIssued, IsAmong, IsFlusherAmong, done_by}
-use Rattle.basic_laws.proofs.WithPending.{drain_with, fenced_with, locked_with}
 
 -- one count more
 stays : {a n : ℕ} → a ≤ n → a ≤ n + 1

@@ -1,35 +1,10 @@
 -- The counts after a choice on either bus.
-use Rattle.std.proofs.Common.{◌≡◌, ◌≢◌, ◌≤◌, ◌<◌, ◌+◌, ◌*◌, ◌⊎◌, inl, inr, ℕ, Bool, true, false, if◌then◌else◌, List, [], ◌∷◌, length, slice_set, Option, Some, None, All, refl, sym, ap, ◌∙◌, subst, arith}
-use Rattle.std.specs.List.{list_any, sum_by}
-use Rattle.std.specs.Option.{option_map}
-use Rattle.std.proofs.lemmas.List.Elements.{All-set}
+use Rattle.machine_core.proofs.Vocabulary.{◌≡◌, ◌≢◌, ◌≤◌, ◌<◌, ◌+◌, ◌*◌, ◌⊎◌, inl, inr, ℕ, Bool, true, false, if◌then◌else◌, List, [], ◌∷◌, length, slice_set, Option, Some, None, All, refl, sym, ap, ◌∙◌, subst, arith, list_any, sum_by, option_map, All-set, most_instructions, Litmus, writes_to, CoreState, Effect, chosen, core_of, idle, MemoryAccess, NoAccess, Reads, Writes, Locks, Holder, Free, HeldBy, HeldBetween, BusEffect, acts, BusState, Entry, Kind, R, W, F, LR, LW, Choice, Table, table_of_rows, TagSets, flusher_from, Awaited, asking, asked_for, awaiting, completed, completed_in, flusher_of, Counts, CacheUse, Unused, Forwarded, Caches, Used, not_through, load_by, use_by_kind, use_of, used_between, Statistics, counted, IsAtMost, IsIssued, IsAmong, IsFlusherAmong, IsSenderAmong, IsTallied, done_by, done_in, half_done, most_counted}
 use Rattle.std.proofs.lemmas.List.Sums.{sum_by-set, sum_by-le}
-use Rattle.tso_model.specs.Limits.{most_instructions}
-use Rattle.tso_model.specs.Litmus.{Litmus}
-use Rattle.tso_model.specs.ProgramOrder.{writes_to}
-use Rattle.tso_model.specs.FlatMachine.{CoreState, Effect, chosen, core_of, idle}
-use Rattle.tso_model.specs.MemoryAccess.{MemoryAccess, NoAccess, Reads, Writes, Locks}
-use Rattle.tso_model.specs.SplitMachine.{Holder, Free, HeldBy, HeldBetween, BusEffect, acts}
-use Rattle.tso_model.specs.EitherBus.{BusState}
-use Rattle.tso_model.specs.declared.execution.Entry.{Entry}
-use Rattle.tso_model.specs.declared.execution.Kind.{Kind}
-use Rattle.tso_model.specs.declared.execution.Kind.TheVariants.{R, W, F, LR, LW}
-use Rattle.tso_model.specs.declared.choice.Choice.{Choice}
 use Rattle.protocol_tables.specs.declared.requests.Request.{Request}
 use Rattle.protocol_tables.specs.declared.requests.Request.TheVariants.{GetS, GetM}
 use Rattle.protocol_tables.specs.declared.requests.Transient.{Transient}
 use Rattle.protocol_tables.specs.declared.requests.Transient.TheVariants.{IsD, ImD, SmD}
-use Rattle.protocol_tables.specs.Tables.{Table}
-use Rattle.snoop_bus.specs.Rows.{table_of_rows}
-use Rattle.snoop_bus.specs.CacheContents.{TagSets, flusher_from}
-use Rattle.snoop_bus.specs.Asks.{Awaited, asking, asked_for, awaiting, completed, completed_in, flusher_of}
-use Rattle.machine_core.specs.declared.counts.Counts.{Counts}
-use Rattle.machine_core.specs.declared.accesses.CacheUse.{CacheUse}
-use Rattle.machine_core.specs.declared.accesses.CacheUse.TheVariants.{Unused, Forwarded}
-use Rattle.machine_core.specs.Caches.{Caches, Used, not_through, load_by, use_by_kind, use_of, used_between}
-use Rattle.machine_core.specs.Statistics.{Statistics, counted}
-use Rattle.machine_core.specs.Keeping.{IsAtMost}
-use Rattle.machine_core.specs.inner.Keeping.{IsIssued, IsAmong, IsFlusherAmong, IsSenderAmong, IsTallied, done_by, done_in, half_done, most_counted}
 use Rattle.machine_core.proofs.CountBounds.{Advances, IsAtMost-more, counted-within, length-counted, flusher-among, use_of-among}
 
 -- who sent what is awaited

@@ -1,23 +1,5 @@
 -- A choice on the hardware of a machine, by the kind of its bus.
-use Rattle.std.proofs.Common.{◌≡◌, inl, ℕ, Result, Ok, Err, IfOk, OnOk, OnErr, refl, sym, ap, ◌∙◌}
-use Rattle.tso_model.specs.Litmus.{Litmus}
-use Rattle.tso_model.specs.FlatMachine.{State}
-use Rattle.tso_model.specs.SplitMachine.{Holder, Free, HeldBy, HeldBetween, Attempt}
-use Rattle.tso_model.specs.EitherBus.{BusState, effect_on, HitFits}
-use Rattle.tso_model.specs.declared.choice.Bus.{Bus}
-use Rattle.tso_model.specs.declared.choice.Bus.TheVariants.{Atomic, Split}
-use Rattle.tso_model.specs.declared.out_of_memory.NoMemory.{NoMemory}
-use Rattle.tso_model.specs.declared.choice.Choice.{Choice}
-use Rattle.split_laws.specs.Holders.{HolderFits}
-use Rattle.snoop_bus.specs.Bus.{holder_of}
-use Rattle.machine_core.specs.declared.hardware.Hardware.{Hardware}
-use Rattle.machine_core.specs.Keeping.{IsHeldForAccess, held_as, state_in}
-use Rattle.machine_core.specs.Effects.{Answer}
-use Rattle.machine_core.specs.inner.Effects.{MayMakeIn, attempt_in, effect_in}
-use Rattle.machine_core.specs.inner.Split.{split_effect_in}
-use Rattle.machine_core.specs.OneChoice.{HasMade, IsUndone}
-use Rattle.machine_core.specs.inner.OneChoice.{effect_made_in}
-use Rattle.machine_core.specs.declared.turn.Way.TheVariants.{Whole}
+use Rattle.machine_core.proofs.Vocabulary.{◌≡◌, inl, ℕ, Result, Ok, Err, IfOk, OnOk, OnErr, refl, sym, ap, ◌∙◌, Litmus, State, Holder, Free, HeldBy, HeldBetween, Attempt, BusState, effect_on, HitFits, Bus, Atomic, Split, NoMemory, Choice, HolderFits, holder_of, Hardware, IsHeldForAccess, held_as, state_in, Answer, MayMakeIn, attempt_in, effect_in, split_effect_in, HasMade, IsUndone, effect_made_in, Whole}
 
 -- on the atomic bus nobody holds it
 free-holder : (bus : Bus) (t : Litmus) (depth : ℕ) (state : State) (holder : Holder) → bus ≡ Atomic → HolderFits bus t depth state holder → holder ≡ Free

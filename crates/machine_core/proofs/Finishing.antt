@@ -1,21 +1,9 @@
 -- The holder's next choice on a split bus.
-use Rattle.std.proofs.Common.{◌≡◌, ◌≢◌, ℕ, zero, suc, List, [], ◌∷◌, map, Option, None, Some, All, slice_get, refl, ap, subst, arith}
-use Rattle.tso_model.specs.MemoryAccess.{NoAccess, drain_access}
-use Rattle.tso_model.specs.declared.instruction.Core.{Core}
-use Rattle.store_buffer.specs.declared.Pending.{Pending}
+use Rattle.machine_core.proofs.Vocabulary.{◌≡◌, ◌≢◌, ℕ, zero, suc, List, [], ◌∷◌, map, Option, None, Some, All, slice_get, refl, ap, subst, arith, NoAccess, drain_access, Core, Pending, BusModel, IsFree, IsSameMachine, holder_in, transaction_in, awaited_in, CompletesAt, awaited_of, Unused, Through, store_of, caches_of, at_access, not_through, completion_by, held_for, HasUsed}
 use Rattle.snoop_bus.specs.declared.access.Access as bus_access
 use Rattle.snoop_bus.specs.declared.holding.HeldBus.{HeldBus}
-use Rattle.snoop_bus.specs.Bus.{BusModel, IsFree, IsSameMachine}
-use Rattle.snoop_bus.specs.Held.{holder_in, transaction_in}
 use Rattle.snoop_bus.specs.Held as bus
-use Rattle.snoop_bus.specs.Asks.{awaited_in}
-use Rattle.snoop_bus.specs.Accesses.{CompletesAt, awaited_of}
 use Rattle.snoop_bus.specs.declared.holding.Stage.TheVariants.{Write}
-use Rattle.machine_core.specs.declared.accesses.CacheUse.TheVariants.{Unused, Through}
-use Rattle.machine_core.specs.Cores.{store_of}
-use Rattle.machine_core.specs.Caches.{caches_of, at_access, not_through, completion_by}
-use Rattle.machine_core.specs.Keeping.{held_for}
-use Rattle.machine_core.specs.Effects.{HasUsed}
 
 pub All-got : {X : Type 0} (P : X → Type 0) (xs : List X) (i : ℕ) (x : X) → All P xs → slice_get xs i ≡ Some x → P x
 All-got P [] i x all h = absurd (let z : ⊥ = cc in z)

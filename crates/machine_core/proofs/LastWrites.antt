@@ -1,36 +1,8 @@
 -- The store part of a locked instruction on a split bus.
-use Rattle.std.proofs.Common.{◌≡◌, ◌≢◌, ℕ, zero, suc, false, List, [], ◌∷◌, None, slice_index, slice_set, refl, sym, ap, ◌∙◌, subst}
-use Rattle.std.proofs.lemmas.List.{set-get_or}
-use Rattle.tso_model.specs.Litmus.{Litmus}
-use Rattle.tso_model.specs.Thread.{entry, value_in, updated}
-use Rattle.tso_model.specs.FlatMachine.{CoreState, State, Effect, advanced_with, effect_by, effect_of, core_of}
-use Rattle.tso_model.specs.MemoryAccess.{MemoryAccess, NoAccess, Locks, store_access, load_access, locked_access, access_by, access_of}
-use Rattle.tso_model.specs.SplitMachine.{Free, HeldBetween, BusEffect, acts, as_read, after_first}
-use Rattle.tso_model.specs.declared.choice.Bus.TheVariants.{Split}
-use Rattle.tso_model.specs.declared.register.Reg.{Reg}
-use Rattle.tso_model.specs.declared.instruction.Loc.{Loc}
-use Rattle.tso_model.specs.declared.action.Action.{Action}
-use Rattle.tso_model.specs.declared.action.Action.TheVariants.{Store, Load, Move, Fence, Lock}
-use Rattle.tso_model.specs.declared.execution.Entry.{Entry}
-use Rattle.tso_model.specs.declared.execution.Kind.TheVariants.{LW}
-use Rattle.tso_model.specs.declared.choice.Choice.TheVariants.{Step}
-use Rattle.tso_model.specs.declared.choice.Outcome.TheVariants.{Committed}
-use Rattle.split_laws.specs.Holders.{HasRead, HolderFits}
-use Rattle.snoop_bus.specs.Bus.{BusModel, IsFree, IsSameMachine, words_of}
-use Rattle.snoop_bus.specs.Accesses.{contents_of, awaited_of}
-use Rattle.machine_core.specs.declared.processor.Processor.{Processor}
-use Rattle.machine_core.specs.declared.accesses.CacheUse.TheVariants.{Unused}
-use Rattle.machine_core.specs.declared.hardware.Hardware.{Hardware}
-use Rattle.machine_core.specs.Cores.{core_state}
-use Rattle.machine_core.specs.Caches.{caches_of, not_through, is_awaited, used_between}
-use Rattle.machine_core.specs.Keeping.{state_in}
-use Rattle.machine_core.specs.Effects.{HasUsed}
-use Rattle.machine_core.specs.Split.{use_by}
-use Rattle.machine_core.specs.inner.Split.{writes_last_in, IsLock, WritesAs}
+use Rattle.machine_core.proofs.Vocabulary.{◌≡◌, ◌≢◌, ℕ, zero, suc, false, List, [], ◌∷◌, None, slice_index, slice_set, refl, sym, ap, ◌∙◌, subst, set-get_or, Litmus, entry, value_in, updated, CoreState, State, Effect, advanced_with, effect_by, effect_of, core_of, MemoryAccess, NoAccess, Locks, store_access, load_access, locked_access, access_by, access_of, Free, HeldBetween, BusEffect, acts, as_read, after_first, Split, Reg, Loc, Action, Store, Load, Move, Fence, Lock, Entry, LW, Step, Committed, HasRead, HolderFits, BusModel, IsFree, IsSameMachine, words_of, contents_of, awaited_of, Processor, Unused, Hardware, core_state, caches_of, not_through, is_awaited, used_between, state_in, HasUsed, use_by, writes_last_in, IsLock, WritesAs, locked_with}
 use Rattle.machine_core.proofs.Finishing.{free-awaits}
 use Rattle.machine_core.proofs.ChoiceEffects.{core_of-state_in}
 use Rattle.machine_core.proofs.StepCompletions.{IsNext, access-next, effect-next}
-use Rattle.basic_laws.proofs.WithPending.{locked_with}
 
 pub has-read : {P : Type 0} (t : Litmus) (m : Hardware P) (e : Entry) → HolderFits Split t m.config.depth (state_in m).flat (state_in m).holder → (state_in m).holder ≡ HeldBetween e
     → HasRead t m.config.depth (state_in m).flat e

@@ -1,3 +1,4 @@
+pub mod Vocabulary
 pub mod LookingLemmas
 pub mod Overwriting
 pub mod CacheUses

@@ -1,36 +1,8 @@
 -- A locked instruction made whole, from what the calls in it say.
-use Rattle.std.proofs.Common.{◌≡◌, ◌++◌, ◌∷◌, inl, inr, ℕ, true, false, None, Result, List, [], map, slice_index, refl, sym, ap, ◌∙◌, subst}
-use Rattle.tso_model.specs.Thread.{entry, value_in, with_value, updated}
-use Rattle.tso_model.specs.MemoryAccess.{locked_access, Locks}
-use Rattle.tso_model.specs.FlatMachine.{CoreState, Effect, advanced_with}
-use Rattle.tso_model.specs.declared.instruction.Core.{Core}
-use Rattle.tso_model.specs.declared.instruction.Loc.{Loc}
-use Rattle.tso_model.specs.declared.out_of_memory.NoMemory.{NoMemory}
-use Rattle.tso_model.specs.declared.register.Reg.{Reg}
-use Rattle.tso_model.specs.declared.action.Update.{Update}
-use Rattle.tso_model.specs.declared.execution.Entry.{Entry}
-use Rattle.tso_model.specs.declared.execution.Kind.TheVariants.{LR}
-use Rattle.tso_model.specs.declared.choice.Outcome.TheVariants.{Committed}
-use Rattle.store_buffer.specs.declared.Pending.{Pending}
-use Rattle.order_builder.specs.inner.Noted.{Noted}
-use Rattle.snoop_bus.specs.declared.access.Access.{Access}
+use Rattle.machine_core.proofs.Vocabulary.{◌≡◌, ◌++◌, ◌∷◌, inl, inr, ℕ, true, false, None, Result, List, [], map, slice_index, refl, sym, ap, ◌∙◌, subst, entry, value_in, with_value, updated, locked_access, Locks, CoreState, Effect, advanced_with, Core, Loc, NoMemory, Reg, Update, Entry, LR, Committed, Pending, Noted, Access, BusModel, words_of, IsSameMachine, IsCurrentWord, WritesAt, CompletesAt, awaited_of, MayGoOn, Processor, Through, Whole, store_of, core_state, pending_in, lock_by, both_parts, at_next, word_at, caches_of, completion_by, HasUsed, whole, MayMake, Acts, HasActed, SucceedsUnlessCommitting, Notes, locked_with}
 use Rattle.snoop_bus.specs.declared.access.Updated.{Updated}
-use Rattle.snoop_bus.specs.Bus.{BusModel, words_of, IsSameMachine}
-use Rattle.snoop_bus.specs.Accesses.{IsCurrentWord, WritesAt, CompletesAt, awaited_of}
-use Rattle.snoop_bus.specs.inner.Accesses.{MayGoOn}
-use Rattle.machine_core.specs.declared.processor.Processor.{Processor}
-use Rattle.machine_core.specs.declared.accesses.CacheUse.TheVariants.{Through}
-use Rattle.machine_core.specs.declared.turn.Way.TheVariants.{Whole}
-use Rattle.machine_core.specs.Cores.{store_of, core_state}
-use Rattle.machine_core.specs.inner.Cores.{pending_in, lock_by, both_parts, at_next, word_at}
-use Rattle.machine_core.specs.Caches.{caches_of, completion_by}
-use Rattle.machine_core.specs.Effects.{HasUsed}
-use Rattle.machine_core.specs.inner.Turns.{whole}
-use Rattle.machine_core.specs.inner.Effects.{MayMake}
-use Rattle.machine_core.specs.inner.OneCore.{Acts, HasActed, SucceedsUnlessCommitting, Notes}
 use Rattle.machine_core.proofs.CoreLemmas.{index-got}
 use Rattle.machine_core.proofs.CacheUses.{writes}
-use Rattle.basic_laws.proofs.WithPending.{locked_with}
 
 abbrev made : ℕ → CoreState → Loc → Reg → ℕ → ℕ → Effect
 made core s loc reg word value = record { outcome = Committed; after = advanced_with s reg word; commits = both_parts core s.place loc word value }

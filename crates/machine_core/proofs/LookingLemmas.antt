@@ -1,9 +1,6 @@
 -- What one who looks at a machine finds there.
-use Rattle.std.proofs.Common.{◌≡◌, ◌<◌, ◌≤◌, ◌+◌, ℕ, zero, suc, nat_lt, Bor, List, [], ◌∷◌, length, Option, None, Some, is_some, IfSome, option_copied, option_map, slice_get, slice_index_or, refl, sym, ap, ◌∙◌, arith}
-use Rattle.std.proofs.lemmas.Bool.Decides.{nat_tests}
-use Rattle.std.proofs.lemmas.Option.{slice_get_past, slice_get_read}
-use Rattle.machine_core.specs.declared.processor.Processor.{Processor}
-use Rattle.machine_core.specs.Cores.{core_state, core_states}
+use Rattle.machine_core.proofs.Vocabulary.{◌≡◌, ◌<◌, ◌≤◌, ◌+◌, ℕ, zero, suc, nat_lt, Bor, List, [], ◌∷◌, length, Option, None, Some, is_some, IfSome, option_copied, slice_get, slice_index_or, refl, sym, ap, ◌∙◌, arith, nat_tests, slice_get_past, slice_get_read, Processor, core_state, core_states}
+use Rattle.std.proofs.Common.{option_map}
 
 core_states-at : (k : ℕ) (ps : List Processor) (i j : ℕ) → j ≡ k + i → slice_get (core_states k ps) i ≡ option_map (core_state j) (slice_get ps i)
 core_states-at k [] i j e = refl

@@ -1,5 +1,5 @@
 -- A list whose first elements are written, one after the other from the front.
-use Rattle.std.proofs.Common.{◌≡◌, ℕ, zero, suc, ◌+◌, ◌<◌, List, [], ◌∷◌, length, map, slice_set, slice_index_or, refl, ap, ◌∙◌, subst, arith}
+use Rattle.machine_core.proofs.Vocabulary.{◌≡◌, ℕ, zero, suc, ◌+◌, ◌<◌, List, [], ◌∷◌, length, map, slice_set, slice_index_or, refl, ap, ◌∙◌, subst, arith}
 
 -- the first `n` elements are changed by their place, which is counted from `k`
 abbrev pub written : {A : Type 0} → (ℕ → A → A) → ℕ → ℕ → List A → List A

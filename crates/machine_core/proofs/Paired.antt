@@ -1,12 +1,5 @@
 -- Where nobody holds the bus, the load parts of locked instructions have their store parts.
-use Rattle.std.proofs.Common.{◌≡◌, ◌≢◌, ℕ, ◌==◌, ◌&&◌, inl, inr, Bool, true, false, if◌then◌else◌, List, [], ◌∷◌, refl, arith}
-use Rattle.std.proofs.lemmas.Bool.Decides.{nat_tests}
-use Rattle.tso_model.specs.ProgramOrder.{same_kind}
-use Rattle.tso_model.specs.SplitMachine.{Free}
-use Rattle.tso_model.specs.declared.execution.Entry.{Entry}
-use Rattle.tso_model.specs.declared.execution.Kind.{Kind}
-use Rattle.tso_model.specs.declared.execution.Kind.TheVariants.{R, W, F, LR, LW}
-use Rattle.split_laws.specs.Between.{IsAnswered, ArePaired}
+use Rattle.machine_core.proofs.Vocabulary.{◌≡◌, ◌≢◌, ℕ, ◌==◌, ◌&&◌, inl, inr, Bool, true, false, if◌then◌else◌, List, [], ◌∷◌, refl, arith, nat_tests, same_kind, Free, Entry, Kind, R, W, F, LR, LW, IsAnswered, ArePaired}
 use Rattle.order_builder.specs.Pairs.{IsPaired, is_answered, are_answered}
 
 same-number : (m n : ℕ) → m ≡ n → (m == n) ≡ true

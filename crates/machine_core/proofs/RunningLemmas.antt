@@ -1,23 +1,5 @@
 -- What a contract sees of a machine, part by part.
-use Rattle.std.proofs.Common.{◌≡◌, ◌&&◌, ℕ, Bool, true, false, not, IsTrue, List, [], ◌++◌, Result, Ok, Err, IfOk, OnOk, OnErr, sym, ap, ◌∙◌, subst}
-use Rattle.tso_model.specs.Litmus.{Litmus}
-use Rattle.tso_model.specs.FlatMachine.{chosen, core_of}
-use Rattle.tso_model.specs.MemoryAccess.{access_of}
-use Rattle.tso_model.specs.SplitMachine.{Free, Attempt}
-use Rattle.tso_model.specs.EitherBus.{BusState, effect_on, after_on, HitFits}
-use Rattle.tso_model.specs.declared.out_of_memory.NoMemory.{NoMemory}
-use Rattle.split_laws.specs.BusChoices.{IsPossibleOn}
-use Rattle.machine_core.specs.declared.hardware.Hardware.{Hardware}
-use Rattle.snoop_bus.specs.Bus.{IsFree}
-use Rattle.machine_core.specs.Keeping.{IsHeldForAccess, held_as, state_in}
-use Rattle.machine_core.specs.Effects.{Answer, HasEffect}
-use Rattle.machine_core.specs.inner.Effects.{attempt_in, effect_in}
-use Rattle.tso_model.specs.declared.choice.Bus.{Bus}
-use Rattle.tso_model.specs.declared.execution.Entry.{Entry}
-use Rattle.tso_model.specs.declared.choice.Choice.{Choice}
-use Rattle.machine_core.specs.Caches.{attempt_of, is_awaited, used_between, use_of}
-use Rattle.machine_core.specs.Running.{Running}
-use Rattle.machine_core.specs.Statistics.{Statistics, statistics_with, statistics_after}
+use Rattle.machine_core.proofs.Vocabulary.{◌≡◌, ◌&&◌, ℕ, Bool, true, false, not, IsTrue, List, [], ◌++◌, Result, Ok, Err, IfOk, OnOk, OnErr, sym, ap, ◌∙◌, subst, Litmus, chosen, core_of, access_of, Free, Attempt, BusState, effect_on, after_on, HitFits, NoMemory, IsPossibleOn, Hardware, IsFree, IsHeldForAccess, held_as, state_in, Answer, HasEffect, attempt_in, effect_in, Bus, Entry, Choice, attempt_of, is_awaited, used_between, use_of, Running, Statistics, statistics_with, statistics_after}
 use Rattle.machine_core.proofs.Splitting.{used-same}
 
 pub Running-same : (now : Running) (t : Litmus) (bus bus' : Bus) (d d' : ℕ) (s s' : BusState) (xs xs' : List Entry) (n n' : Statistics) (f f' : Bool)

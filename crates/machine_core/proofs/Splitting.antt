@@ -1,40 +1,10 @@
 -- A choice on a split bus that isn't the holder's next one.
-use Rattle.std.proofs.Common.{◌≡◌, ◌≢◌, ℕ, ◌++◌, Bool, true, false, List, [], Option, None, Some, option_map, Result, Ok, Err, IfOk, OnOk, OnErr, inr, length, slice_set, append-nil, refl, sym, ap, ◌∙◌, subst}
-use Rattle.std.proofs.lemmas.List.{set-get_or}
-use Rattle.tso_model.specs.Litmus.{Litmus}
-use Rattle.tso_model.specs.FlatMachine.{CoreState, State, Effect, stalled, after_choice, chosen, core_of, idle}
-use Rattle.tso_model.specs.MemoryAccess.{MemoryAccess, NoAccess, Reads, Writes, Locks, access_of}
-use Rattle.tso_model.specs.SplitMachine.{Holder, Free, HeldBy, HeldBetween, Attempt, BusEffect, acts, asks, needs_bus, same_choice}
-use Rattle.tso_model.specs.EitherBus.{BusState, HitFits}
-use Rattle.tso_model.specs.declared.out_of_memory.NoMemory.{NoMemory}
-use Rattle.tso_model.specs.declared.choice.Bus.TheVariants.{Split}
-use Rattle.tso_model.specs.declared.instruction.Core.{Core}
-use Rattle.tso_model.specs.declared.instruction.Loc.{Loc}
-use Rattle.tso_model.specs.declared.execution.Entry.{Entry}
-use Rattle.tso_model.specs.declared.choice.Choice.{Choice}
+use Rattle.machine_core.proofs.Vocabulary.{◌≡◌, ◌≢◌, ℕ, ◌++◌, Bool, true, false, List, [], Option, None, Some, Result, Ok, Err, IfOk, OnOk, OnErr, inr, length, slice_set, append-nil, refl, sym, ap, ◌∙◌, subst, set-get_or, Litmus, CoreState, State, Effect, stalled, after_choice, chosen, core_of, idle, MemoryAccess, NoAccess, Reads, Writes, Locks, access_of, Holder, Free, HeldBy, HeldBetween, Attempt, BusEffect, acts, asks, needs_bus, same_choice, BusState, HitFits, NoMemory, Split, Core, Loc, Entry, Choice, Outcome, HolderFits, BusModel, words_of, cores_of, holder_of, IsSameMachine, AsksFor, Locked, Unused, Next, Complete, Write, Hardware, Way, by_way, Caches, Used, caches_of, at_access, ask_by, not_through, hits_by, is_awaited, used_between, completing_by, use_of, HardwareFitsTest, IsHeldForAccess, held_as, held_for, core_in, holder_by, state_in, Answer, HasUsed, HasEffect, MayAct, attempt_in, flat_effect_in, use_by, IsOther, begins_in, HasMade, IsUndone, effect_made_in}
+use Rattle.std.proofs.Common.{option_map}
 use Rattle.tso_model.specs.declared.choice.Stall.TheVariants as stall
-use Rattle.tso_model.specs.declared.choice.Outcome.{Outcome}
 use Rattle.tso_model.specs.declared.choice.Outcome.TheVariants.{Asked}
-use Rattle.split_laws.specs.Holders.{HolderFits}
-use Rattle.snoop_bus.specs.Bus.{BusModel, words_of, cores_of, holder_of, IsSameMachine}
-use Rattle.snoop_bus.specs.Accesses.{AsksFor}
 use Rattle.snoop_bus.specs.Held as bus
 use Rattle.snoop_bus.specs.declared.holding.BusAction as bus_action
-use Rattle.snoop_bus.specs.declared.holding.Stage.TheVariants.{Locked}
-use Rattle.machine_core.specs.declared.accesses.CacheUse.TheVariants.{Unused}
-use Rattle.machine_core.specs.declared.accesses.Next.{Next}
-use Rattle.machine_core.specs.declared.accesses.Next.TheVariants.{Complete, Write}
-use Rattle.machine_core.specs.declared.hardware.Hardware.{Hardware}
-use Rattle.machine_core.specs.declared.turn.Way.{Way}
-use Rattle.machine_core.specs.inner.Turns.{by_way}
-use Rattle.machine_core.specs.Caches.{Caches, Used, caches_of, at_access, ask_by, not_through, hits_by, is_awaited, used_between, completing_by, use_of}
-use Rattle.machine_core.specs.Keeping.{HardwareFitsTest, IsHeldForAccess, held_as, held_for, core_in, holder_by, state_in}
-use Rattle.machine_core.specs.Effects.{Answer, HasUsed, HasEffect}
-use Rattle.machine_core.specs.inner.Effects.{MayAct, attempt_in, flat_effect_in}
-use Rattle.machine_core.specs.Split.{use_by}
-use Rattle.machine_core.specs.inner.Split.{IsOther, begins_in}
-use Rattle.machine_core.specs.OneChoice.{HasMade, IsUndone}
-use Rattle.machine_core.specs.inner.OneChoice.{effect_made_in}
 use Rattle.machine_core.specs.declared.turn.Way.TheVariants as way
 
 -- whether it needs the bus

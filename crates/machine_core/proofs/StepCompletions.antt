@@ -1,22 +1,5 @@
 -- The instruction that a core stands at, when it holds a split bus.
-use Rattle.std.proofs.Common.{◌≡◌, ◌≢◌, ◌<◌, ◌≤◌, ℕ, List, Option, None, Some, length, slice_get, slice_index_or, refl, sym, ap, ◌∙◌, arith}
-use Rattle.std.specs.Option.{IsSome}
-use Rattle.std.proofs.lemmas.Option.{slice_get_within}
-use Rattle.tso_model.specs.Limits.{most_instructions}
-use Rattle.tso_model.specs.Litmus.{Litmus}
-use Rattle.tso_model.specs.Actions.{action_of}
-use Rattle.tso_model.specs.FlatMachine.{program_of}
-use Rattle.tso_model.specs.MemoryAccess.{NoAccess, access_by, access_of}
-use Rattle.tso_model.specs.declared.instruction.Core.{Core}
-use Rattle.tso_model.specs.declared.instruction.Instr.{Instr}
-use Rattle.tso_model.specs.declared.action.Action.{Action}
-use Rattle.tso_model.specs.declared.choice.Choice.TheVariants.{Step}
-use Rattle.snoop_bus.specs.Bus.{words_of}
-use Rattle.machine_core.specs.declared.processor.Processor.{Processor}
-use Rattle.machine_core.specs.declared.hardware.Hardware.{Hardware}
-use Rattle.machine_core.specs.inner.Cores.{pending_in, action_by}
-use Rattle.machine_core.specs.Keeping.{HardwareFitsTest, state_in}
-use Rattle.machine_core.specs.inner.Effects.{flat_effect_in}
+use Rattle.machine_core.proofs.Vocabulary.{◌≡◌, ◌≢◌, ◌<◌, ◌≤◌, ℕ, List, Option, None, Some, length, slice_get, slice_index_or, refl, sym, ap, ◌∙◌, arith, IsSome, slice_get_within, most_instructions, Litmus, action_of, program_of, NoAccess, access_by, access_of, Core, Instr, Action, Step, words_of, Processor, Hardware, pending_in, action_by, HardwareFitsTest, state_in, flat_effect_in}
 use Rattle.machine_core.proofs.ChoiceEffects.{effect_in-step, access_of-step, access_of-done, IsCore-at, within-cores}
 
 -- a core whose step makes an access stands at an instruction

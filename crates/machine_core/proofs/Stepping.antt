@@ -1,33 +1,6 @@
 -- A step of a core, from what the call for its instruction says.
-use Rattle.std.proofs.Common.{◌≡◌, ◌<◌, ℕ, Result, IfOk, List, [], ◌∷◌, length, refl, sym, ap, subst}
-use Rattle.tso_model.specs.Litmus.{KnownLocation}
-use Rattle.tso_model.specs.Actions.{action_of}
-use Rattle.tso_model.specs.Thread.{value_of, with_value}
-use Rattle.tso_model.specs.MemoryAccess.{NoAccess, store_access, locked_access}
-use Rattle.tso_model.specs.declared.instruction.Core.{Core}
-use Rattle.tso_model.specs.declared.instruction.Loc.{Loc}
-use Rattle.tso_model.specs.declared.instruction.Instr.{Instr}
-use Rattle.tso_model.specs.declared.register.Reg.{Reg}
-use Rattle.tso_model.specs.declared.action.Action.{Action}
-use Rattle.tso_model.specs.declared.action.Action.TheVariants.{Store, Load, Move, Fence, Lock}
+use Rattle.machine_core.proofs.Vocabulary.{◌≡◌, ◌<◌, ℕ, Result, IfOk, List, [], ◌∷◌, length, refl, sym, ap, subst, KnownLocation, action_of, value_of, with_value, NoAccess, store_access, locked_access, Core, Loc, Instr, Reg, Action, Store, Load, Move, Fence, Lock, Update, Entry, Outcome, Moved, NoMemory, Noted, BusModel, words_of, cores_of, Unused, Processor, Way, Whole, Turn, pending_in, own_access, action_by, step_by, store_by, fence_by, lock_by, at_next, Answer, MayMake, MayAccess, whole, Acts, SucceedsUnlessCommitting}
 use Rattle.tso_model.specs.declared.action.Operand.{Operand}
-use Rattle.tso_model.specs.declared.action.Update.{Update}
-use Rattle.tso_model.specs.declared.execution.Entry.{Entry}
-use Rattle.tso_model.specs.declared.choice.Outcome.{Outcome}
-use Rattle.tso_model.specs.declared.choice.Outcome.TheVariants.{Moved}
-use Rattle.tso_model.specs.declared.out_of_memory.NoMemory.{NoMemory}
-use Rattle.order_builder.specs.inner.Noted.{Noted}
-use Rattle.snoop_bus.specs.Bus.{BusModel, words_of, cores_of}
-use Rattle.machine_core.specs.declared.accesses.CacheUse.TheVariants.{Unused}
-use Rattle.machine_core.specs.declared.processor.Processor.{Processor}
-use Rattle.machine_core.specs.declared.turn.Way.{Way}
-use Rattle.machine_core.specs.declared.turn.Way.TheVariants.{Whole}
-use Rattle.machine_core.specs.declared.turn.Turn.{Turn}
-use Rattle.machine_core.specs.inner.Cores.{pending_in, own_access, action_by, step_by, store_by, fence_by, lock_by, at_next}
-use Rattle.machine_core.specs.Effects.{Answer}
-use Rattle.machine_core.specs.inner.Effects.{MayMake, MayAccess}
-use Rattle.machine_core.specs.inner.Turns.{whole}
-use Rattle.machine_core.specs.inner.OneCore.{Acts, SucceedsUnlessCommitting}
 use Rattle.machine_core.proofs.ActedLemmas.{whole-by, whole-none, acts-waits}
 
 abbrev turn_of : Core → Way → Turn

@@ -1,23 +1,5 @@
 -- A plain store: one that waits in the buffer makes no access, and one without a buffer goes to memory at once.
-use Rattle.std.proofs.Common.{◌≡◌, ◌+◌, ◌<◌, ℕ, zero, suc, Bool, true, false, IsTrue, List, Result, refl, sym, ap, subst, arith}
-use Rattle.tso_model.specs.MemoryAccess.{NoAccess, Writes, store_access}
-use Rattle.tso_model.specs.FlatMachine.{stored}
-use Rattle.tso_model.specs.Thread.{entry}
-use Rattle.tso_model.specs.declared.instruction.Loc.{Loc}
-use Rattle.tso_model.specs.declared.choice.Outcome.TheVariants.{Committed}
-use Rattle.tso_model.specs.declared.execution.Kind.TheVariants.{W}
-use Rattle.tso_model.specs.declared.out_of_memory.NoMemory.{NoMemory}
-use Rattle.order_builder.specs.inner.Noted.{Noted}
-use Rattle.snoop_bus.specs.declared.access.Access.{Access}
-use Rattle.snoop_bus.specs.Bus.{BusModel}
-use Rattle.machine_core.specs.declared.accesses.CacheUse.TheVariants.{Through}
-use Rattle.machine_core.specs.declared.processor.Processor.{Processor}
-use Rattle.machine_core.specs.declared.turn.Turn.{Turn}
-use Rattle.machine_core.specs.Caches.{write_by}
-use Rattle.machine_core.specs.Cores.{core_state}
-use Rattle.machine_core.specs.inner.Cores.{store_by}
-use Rattle.machine_core.specs.inner.Effects.{MayAccess}
-use Rattle.machine_core.specs.inner.OneCore.{Acts, HasActed, IsMade, IsStored, SucceedsUnlessCommitting}
+use Rattle.machine_core.proofs.Vocabulary.{◌≡◌, ◌+◌, ◌<◌, ℕ, zero, suc, Bool, true, false, IsTrue, List, Result, refl, sym, ap, subst, arith, NoAccess, Writes, store_access, stored, entry, Loc, Committed, W, NoMemory, Noted, Access, BusModel, Through, Processor, Turn, write_by, core_state, store_by, MayAccess, Acts, HasActed, IsMade, IsStored, SucceedsUnlessCommitting}
 
 pub buffered : (depth : ℕ) (loc : Loc) → 0 < depth → store_access depth loc ≡ NoAccess
 buffered zero loc some = absurd (omega arith)

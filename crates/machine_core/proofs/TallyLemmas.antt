@@ -1,28 +1,6 @@
 -- The counts of a machine's hardware from choice to choice.
-use Rattle.std.proofs.Common.{◌≡◌, ◌<◌, ◌+◌, ℕ, zero, suc, List, [], ◌∷◌, ◌++◌, None, length, replicate, take, All, sym, ap, ◌∙◌, subst, arith}
+use Rattle.machine_core.proofs.Vocabulary.{◌≡◌, ◌<◌, ◌+◌, ℕ, zero, suc, List, [], ◌∷◌, ◌++◌, None, length, replicate, take, All, sym, ap, ◌∙◌, subst, arith, length-map, length-replicate, Litmus, IsTest, chosen, core_of, started, idle, access_of, Free, BusState, Instr, Choice, Outcome, HolderFits, BusModel, contents_of, Counts, CacheUse, Hardware, caches_of, is_awaited, Statistics, counted, no_counts, HardwareFitsTest, IsAtMost, state_in, IsIssued, IsTallied, IsFlusherAmong, done_in, most_counted, statistics_in, HasUsed, HasEffect, attempt_in, effect_in, use_by}
 use Rattle.std.proofs.Math.Seq.{take-append_seam}
-use Rattle.std.proofs.lemmas.List.{length-map, length-replicate}
-use Rattle.tso_model.specs.Litmus.{Litmus, IsTest}
-use Rattle.tso_model.specs.FlatMachine.{chosen, core_of, started, idle}
-use Rattle.tso_model.specs.MemoryAccess.{access_of}
-use Rattle.tso_model.specs.SplitMachine.{Free}
-use Rattle.tso_model.specs.EitherBus.{BusState}
-use Rattle.tso_model.specs.declared.instruction.Instr.{Instr}
-use Rattle.tso_model.specs.declared.choice.Choice.{Choice}
-use Rattle.tso_model.specs.declared.choice.Outcome.{Outcome}
-use Rattle.split_laws.specs.Holders.{HolderFits}
-use Rattle.snoop_bus.specs.Bus.{BusModel}
-use Rattle.snoop_bus.specs.Accesses.{contents_of}
-use Rattle.machine_core.specs.declared.counts.Counts.{Counts}
-use Rattle.machine_core.specs.declared.accesses.CacheUse.{CacheUse}
-use Rattle.machine_core.specs.declared.hardware.Hardware.{Hardware}
-use Rattle.machine_core.specs.Caches.{caches_of, is_awaited}
-use Rattle.machine_core.specs.Statistics.{Statistics, counted, no_counts}
-use Rattle.machine_core.specs.Keeping.{HardwareFitsTest, IsAtMost, state_in}
-use Rattle.machine_core.specs.inner.Keeping.{IsIssued, IsTallied, IsFlusherAmong, done_in, most_counted, statistics_in}
-use Rattle.machine_core.specs.Effects.{HasUsed, HasEffect}
-use Rattle.machine_core.specs.inner.Effects.{attempt_in, effect_in}
-use Rattle.machine_core.specs.Split.{use_by}
 use Rattle.machine_core.proofs.Advancing.{advances-on}
 use Rattle.machine_core.proofs.CoreLemmas.{length-core_states}
 use Rattle.machine_core.proofs.CountBounds.{length-counted, nothing-counted}

@@ -1,24 +1,7 @@
 -- What a choice makes of a machine, from what it makes of its hardware.
-use Rattle.std.proofs.Common.{◌≡◌, ◌≢◌, ◌++◌, ℕ, Bool, false, List, Result, Ok, Err, IsOk, IfOk, OnOk, OnErr, refl, sym, ◌∙◌}
-use Rattle.std.specs.Result.{is_err}
-use Rattle.tso_model.specs.Litmus.{Litmus}
-use Rattle.tso_model.specs.EitherBus.{BusState, after_on}
-use Rattle.tso_model.specs.declared.choice.Bus.{Bus}
-use Rattle.tso_model.specs.declared.choice.Choice.{Choice}
-use Rattle.tso_model.specs.declared.choice.Outcome.TheVariants.{Committed}
-use Rattle.tso_model.specs.declared.execution.Entry.{Entry}
-use Rattle.tso_model.specs.declared.out_of_memory.NoMemory.{NoMemory}
-use Rattle.machine_core.specs.declared.hardware.Hardware.{Hardware}
-use Rattle.machine_core.specs.Effects.{Answer, HasEffect}
-use Rattle.machine_core.specs.Keeping.{state_in}
-use Rattle.machine_core.specs.Running.{Running, effect_by, use_by, machine_after}
-use Rattle.machine_core.specs.Statistics.{Statistics}
-use Rattle.machine_core.specs.inner.Keeping.{statistics_in}
-use Rattle.machine_core.specs.inner.Effects.{attempt_in, effect_in}
+use Rattle.machine_core.proofs.Vocabulary.{◌≡◌, ◌≢◌, ◌++◌, ℕ, Bool, false, List, Result, Ok, Err, IsOk, IfOk, OnOk, OnErr, refl, sym, ◌∙◌, is_err, Litmus, BusState, after_on, Bus, Choice, Committed, Entry, NoMemory, Hardware, Answer, HasEffect, state_in, Running, machine_after, Statistics, statistics_in, attempt_in, effect_in, use_in, statistics_next, SucceedsUnlessCommitting, HasFailed}
+use Rattle.machine_core.specs.Running.{effect_by, use_by}
 use Rattle.machine_core.specs.inner.Machine.{running_of}
-use Rattle.machine_core.specs.inner.OneChoice.{use_in, statistics_next}
-use Rattle.machine_core.specs.inner.OneCore.{SucceedsUnlessCommitting}
-use Rattle.machine_core.specs.inner.Running.{HasFailed}
 use Rattle.machine_core.proofs.RunningLemmas.{same-state}
 
 abbrev running : Litmus → Bus → ℕ → BusState → List Entry → Statistics → Bool → Running

@@ -1,17 +1,5 @@
 -- What a choice leaves of the hardware, from what its core's action says: of one that is refused memory, nothing.
-use Rattle.std.proofs.lemmas.List.{set-get_or}
-use Rattle.std.proofs.Common.{◌≡◌, ℕ, None, Result, Ok, Err, IfOk, OnOk, OnErr, List, slice_index_or, slice_set, refl, ap, ◌∙◌}
-use Rattle.tso_model.specs.FlatMachine.{Effect}
-use Rattle.tso_model.specs.MemoryAccess.{MemoryAccess}
-use Rattle.order_builder.specs.inner.Noted.{Noted}
-use Rattle.snoop_bus.specs.Bus.{BusModel, holder_of}
-use Rattle.machine_core.specs.declared.hardware.Hardware.{Hardware}
-use Rattle.machine_core.specs.declared.processor.Processor.{Processor}
-use Rattle.machine_core.specs.declared.turn.Turn.{Turn}
-use Rattle.machine_core.specs.Effects.{Answer}
-use Rattle.machine_core.specs.OneChoice.{IsUndone}
-use Rattle.machine_core.specs.inner.OneCore.{Acts, AreUnchanged}
-use Rattle.machine_core.specs.inner.Turns.{by_way}
+use Rattle.machine_core.proofs.Vocabulary.{set-get_or, ◌≡◌, ℕ, None, Result, Ok, Err, IfOk, OnOk, OnErr, List, slice_index_or, slice_set, refl, ap, ◌∙◌, Effect, MemoryAccess, Noted, BusModel, holder_of, Hardware, Processor, Turn, Answer, IsUndone, Acts, AreUnchanged, by_way}
 
 pub acts-holder : {E : Type 0} (r : Result Answer E) (turn : Turn) (access : MemoryAccess) (does : ℕ → Processor → List ℕ → Effect) (p q : Processor) (b b' : BusModel) (noted noted' : Noted)
     → IfOk r (Acts turn access does p q b b' noted noted') → OnOk r (holder_of b' ≡ by_way turn.way (holder_of b) None)

@@ -1,7 +1,4 @@
-use Rattle.std.proofs.Common.{◌++◌, [], ◌∷◌, refl, sym, ap, ◌∙◌}
-use Rattle.tso_model.specs.FlatMachine.{chosen}
-use Rattle.machine_core.specs.declared.accesses.Next.TheVariants.{Write}
-use Rattle.machine_core.specs.inner.Keeping.{access_in}
+use Rattle.machine_core.proofs.Vocabulary.{◌++◌, [], ◌∷◌, refl, sym, ap, ◌∙◌, chosen, Write, access_in}
 use Rattle.machine_core.proofs.ChoiceEffects.{within-cores}
 use Rattle.machine_core.proofs.Completions.{performs-first, uses-first}
 use Rattle.machine_core.proofs.Splitting.{held-with}

@@ -1,16 +1,5 @@
-use Rattle.std.proofs.Common.{◌∙◌, refl, sym, ap, subst, slice_get, slice_set, length}
+use Rattle.machine_core.proofs.Vocabulary.{◌∙◌, refl, sym, ap, subst, slice_get, slice_set, length, Free, acts, Step, Committed, Unused, words_of, holder_of, Processor, core_state, AreKnown, state_of, held_as, state_in, pending_in, HasUsed, writes_last_in}
 use Rattle.std.proofs.lemmas.List.{length-set}
-use Rattle.tso_model.specs.SplitMachine.{Free, acts}
-use Rattle.tso_model.specs.declared.choice.Choice.TheVariants.{Step}
-use Rattle.tso_model.specs.declared.choice.Outcome.TheVariants.{Committed}
-use Rattle.machine_core.specs.declared.accesses.CacheUse.TheVariants.{Unused}
-use Rattle.snoop_bus.specs.Bus.{words_of, holder_of}
-use Rattle.machine_core.specs.declared.processor.Processor.{Processor}
-use Rattle.machine_core.specs.Cores.{core_state, AreKnown, state_of}
-use Rattle.machine_core.specs.Keeping.{held_as, state_in}
-use Rattle.machine_core.specs.inner.Cores.{pending_in}
-use Rattle.machine_core.specs.Effects.{HasUsed}
-use Rattle.machine_core.specs.inner.Split.{writes_last_in}
 use Rattle.machine_core.proofs.ChoiceEffects.{Performs-by, within-cores, IsCore-at, PartsFitTest-next}
 use Rattle.machine_core.proofs.StepCompletions.{next-some, place-within, IsNext, is-next, access-next}
 use Rattle.machine_core.proofs.LastWrites.{has-read, locks-some, is-lock, last_part, writes-last, use-last, rests-last}

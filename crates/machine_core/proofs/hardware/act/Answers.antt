@@ -1,9 +1,4 @@
-use Rattle.std.proofs.Common.{sym, refl, subst}
-use Rattle.tso_model.specs.MemoryAccess.{drain_access}
-use Rattle.tso_model.specs.declared.choice.Choice.TheVariants.{Drain}
-use Rattle.snoop_bus.specs.Bus.{words_of}
-use Rattle.machine_core.specs.inner.Cores.{pending_in, drain_by}
-use Rattle.machine_core.specs.inner.OneCore.{SucceedsUnlessCommitting}
+use Rattle.machine_core.proofs.Vocabulary.{sym, refl, subst, drain_access, Drain, words_of, pending_in, drain_by, SucceedsUnlessCommitting}
 use Rattle.machine_core.proofs.ChoiceEffects.{access_of-drain, effect_in-drain, may-make, IfOk-Makes, within-cores}
 use Rattle.machine_core.proofs.Undoing.{acts-holder, undone}
 use Rattle.machine_core.proofs.hardware.act.Goals as goal

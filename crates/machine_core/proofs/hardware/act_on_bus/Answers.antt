@@ -1,8 +1,4 @@
-use Rattle.std.proofs.Common.{◌∙◌, sym, subst, IfOk}
-use Rattle.machine_core.specs.Keeping.{state_in}
-use Rattle.machine_core.specs.inner.Effects.{attempt_in}
-use Rattle.machine_core.specs.inner.OneCore.{SucceedsUnlessCommitting}
-use Rattle.machine_core.specs.OneChoice.{AreConsistent, HasMade}
+use Rattle.machine_core.proofs.Vocabulary.{◌∙◌, sym, subst, IfOk, state_in, attempt_in, SucceedsUnlessCommitting, AreConsistent, HasMade}
 use Rattle.machine_core.proofs.EitherBus.{is-free, may-act-free, effect-atomic, effect-split, fits-free, held-free}
 use Rattle.machine_core.proofs.hardware.act_on_bus.Goals as goal
 

@@ -1,6 +1,4 @@
-use Rattle.std.proofs.Common.{◌≡◌, drop}
-use Rattle.tso_model.specs.Runs.{all_done}
-use Rattle.machine_core.specs.Cores.{core_states}
+use Rattle.machine_core.proofs.Vocabulary.{◌≡◌, drop, all_done, core_states}
 use Rattle.machine_core.proofs.hardware.are_done.Given as goal
 
 abbrev pub invariant-loop-core : goal.invariant-loop-core

@@ -1,6 +1,4 @@
-use Rattle.std.proofs.Common.{rules, refl, ap, ◌∙◌, subst, length, All}
-use Rattle.snoop_bus.specs.Bus.{words_of, holder_of}
-use Rattle.machine_core.specs.Keeping.{IsCore}
+use Rattle.machine_core.proofs.Vocabulary.{rules, refl, ap, ◌∙◌, subst, length, All, words_of, holder_of, IsCore}
 use Rattle.machine_core.proofs.Beginning.{begun-state}
 use Rattle.machine_core.proofs.TallyLemmas.{tallied-first}
 use Rattle.machine_core.proofs.Splitting.{held-freed}

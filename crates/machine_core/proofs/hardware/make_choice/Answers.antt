@@ -1,4 +1,4 @@
-use Rattle.std.proofs.Common.{sym, ◌∙◌, ap, length}
+use Rattle.machine_core.proofs.Vocabulary.{sym, ◌∙◌, ap, length}
 use Rattle.machine_core.proofs.TallyLemmas.{flusher-next, few-next, tallied-next}
 use Rattle.machine_core.proofs.hardware.make_choice.Goals as goal
 

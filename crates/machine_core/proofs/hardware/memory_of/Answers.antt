@@ -1,5 +1,4 @@
-use Rattle.std.proofs.Common.{◌∙◌, ◌++◌, ◌∷◌, [], ap, sym}
-use Rattle.snoop_bus.specs.inner.Accesses.{memory_words_of}
+use Rattle.machine_core.proofs.Vocabulary.{◌∙◌, ◌++◌, ◌∷◌, [], ap, sym, memory_words_of}
 use Rattle.machine_core.proofs.CoreLemmas.{take-got}
 use Rattle.machine_core.proofs.hardware.memory_of.Goals as goal
 

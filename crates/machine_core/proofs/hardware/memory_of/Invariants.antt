@@ -1,5 +1,4 @@
-use Rattle.std.proofs.Common.{◌≡◌, take}
-use Rattle.snoop_bus.specs.inner.Accesses.{memory_words_of}
+use Rattle.machine_core.proofs.Vocabulary.{◌≡◌, take, memory_words_of}
 use Rattle.machine_core.proofs.hardware.memory_of.Given as goal
 
 abbrev pub invariant-loop-location : goal.invariant-loop-location

@@ -1,5 +1,4 @@
-use Rattle.std.proofs.Common.{◌≡◌, replicate}
-use Rattle.machine_core.specs.Statistics.{no_counts}
+use Rattle.machine_core.proofs.Vocabulary.{◌≡◌, replicate, no_counts}
 use Rattle.machine_core.proofs.hardware.nothing_counted.Given as goal
 
 abbrev pub invariant-loop : goal.invariant-loop

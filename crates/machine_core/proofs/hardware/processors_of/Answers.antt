@@ -1,8 +1,4 @@
-use Rattle.std.proofs.Common.{◌+◌, ◌∷◌, [], ap, sym, ◌∙◌, refl, subst, length, length-append, arith, drop, All, ◌++◌}
-use Rattle.tso_model.specs.FlatMachine.{started}
-use Rattle.machine_core.specs.Cores.{core_states}
-use Rattle.machine_core.specs.Keeping.{IsCore}
-use Rattle.machine_core.specs.declared.processor.Processor.{Processor}
+use Rattle.machine_core.proofs.Vocabulary.{◌+◌, ◌∷◌, [], ap, sym, ◌∙◌, refl, subst, length, length-append, arith, drop, All, ◌++◌, started, core_states, IsCore, Processor}
 use Rattle.machine_core.proofs.CoreLemmas.{started-next, IsCore-new, All-one_more}
 use Rattle.machine_core.proofs.hardware.processors_of.Goals as goal
 

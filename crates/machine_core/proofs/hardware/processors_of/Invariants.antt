@@ -1,7 +1,4 @@
-use Rattle.std.proofs.Common.{◌≡◌, ℕ, ◌++◌, All, drop, length}
-use Rattle.tso_model.specs.FlatMachine.{started}
-use Rattle.machine_core.specs.Cores.{core_states}
-use Rattle.machine_core.specs.Keeping.{IsCore}
+use Rattle.machine_core.proofs.Vocabulary.{◌≡◌, ℕ, ◌++◌, All, drop, length, started, core_states, IsCore}
 use Rattle.machine_core.proofs.hardware.processors_of.Given as goal
 
 abbrev pub invariant-loop-core : goal.invariant-loop-core

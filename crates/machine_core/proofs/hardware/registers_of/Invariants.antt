@@ -1,4 +1,4 @@
-use Rattle.std.proofs.Common.{◌≡◌, map, take}
+use Rattle.machine_core.proofs.Vocabulary.{◌≡◌, map, take}
 use Rattle.machine_core.proofs.hardware.registers_of.Given as goal
 
 abbrev pub invariant-loop-processor : goal.invariant-loop-processor

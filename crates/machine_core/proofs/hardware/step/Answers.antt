@@ -1,17 +1,7 @@
-use Rattle.std.proofs.Common.{◌≡◌, ap, sym, ◌∙◌, refl, subst, slice_get, None, Some, Ok}
-use Rattle.tso_model.specs.FlatMachine.{program_of, stalled}
-use Rattle.tso_model.specs.MemoryAccess.{NoAccess, step_access}
-use Rattle.tso_model.specs.declared.choice.Choice.TheVariants.{Step}
+use Rattle.machine_core.proofs.Vocabulary.{◌≡◌, ap, sym, ◌∙◌, refl, subst, slice_get, None, Some, Ok, program_of, stalled, NoAccess, step_access, Step, Stalled, words_of, Unused, core_state, pending_in, own_access, step_by, SucceedsUnlessCommitting, action_of}
 use Rattle.tso_model.specs.declared.choice.Stall.TheVariants as stall
-use Rattle.tso_model.specs.declared.choice.Outcome.TheVariants.{Stalled}
-use Rattle.snoop_bus.specs.Bus.{words_of}
-use Rattle.machine_core.specs.declared.accesses.CacheUse.TheVariants.{Unused}
-use Rattle.machine_core.specs.Cores.{core_state}
-use Rattle.machine_core.specs.inner.Cores.{pending_in, own_access, step_by}
-use Rattle.machine_core.specs.inner.OneCore.{SucceedsUnlessCommitting}
 use Rattle.machine_core.proofs.ActedLemmas.{acts-stalls}
 use Rattle.machine_core.proofs.ChoiceEffects.{access_of-step, access_of-done, effect_in-step, effect_in-done, may-make, whole-done, IfOk-Makes, PartsFitTest-next, IsCore-at, within-cores}
-use Rattle.tso_model.specs.Actions.{action_of}
 use Rattle.machine_core.proofs.Undoing.{acts-holder, undone}
 use Rattle.machine_core.proofs.hardware.step.Goals as goal
 

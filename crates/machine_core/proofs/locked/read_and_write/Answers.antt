@@ -1,9 +1,5 @@
-use Rattle.std.proofs.Common.{refl}
-use Rattle.tso_model.specs.MemoryAccess.{locked_access}
+use Rattle.machine_core.proofs.Vocabulary.{refl, locked_access, words_of, pending_in, lock_by, Whole}
 use Rattle.tso_model.specs.declared.choice.Stall.TheVariants as stall
-use Rattle.snoop_bus.specs.Bus.{words_of}
-use Rattle.machine_core.specs.inner.Cores.{pending_in, lock_by}
-use Rattle.machine_core.specs.declared.turn.Way.TheVariants.{Whole}
 use Rattle.machine_core.proofs.CoreLemmas.{lock-waits}
 use Rattle.machine_core.proofs.Locking.{acts-locks, lock-commits, may-lock}
 use Rattle.machine_core.proofs.ActedLemmas.{acts-stalls}

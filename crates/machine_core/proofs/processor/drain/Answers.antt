@@ -1,11 +1,5 @@
-use Rattle.std.proofs.Common.{◌≡◌, ◌<◌, ap, sym, length, drop, subst, All}
-use Rattle.std.proofs.lemmas.List.Elements.{All-drop}
-use Rattle.snoop_bus.specs.Bus.{words_of}
-use Rattle.tso_model.specs.MemoryAccess.{drain_access}
+use Rattle.machine_core.proofs.Vocabulary.{◌≡◌, ◌<◌, ap, sym, length, drop, subst, All, All-drop, words_of, drain_access, core_state, pending_in, drain_by, MayMake}
 use Rattle.tso_model.specs.declared.choice.Stall.TheVariants as stall
-use Rattle.machine_core.specs.Cores.{core_state}
-use Rattle.machine_core.specs.inner.Cores.{pending_in, drain_by}
-use Rattle.machine_core.specs.inner.Effects.{MayMake}
 use Rattle.machine_core.proofs.CoreLemmas.{drain_of-nothing}
 use Rattle.machine_core.proofs.ActedLemmas.{whole-none, acts-stalls, acts-drains}
 use Rattle.machine_core.proofs.Acting.{writes-nothing, writes-oldest}

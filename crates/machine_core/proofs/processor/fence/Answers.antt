@@ -1,10 +1,5 @@
-use Rattle.std.proofs.Common.{refl, sym}
-use Rattle.tso_model.specs.MemoryAccess.{NoAccess}
+use Rattle.machine_core.proofs.Vocabulary.{refl, sym, NoAccess, words_of, core_state, fence_by, Whole}
 use Rattle.tso_model.specs.declared.choice.Stall.TheVariants as stall
-use Rattle.snoop_bus.specs.Bus.{words_of}
-use Rattle.machine_core.specs.Cores.{core_state}
-use Rattle.machine_core.specs.inner.Cores.{fence_by}
-use Rattle.machine_core.specs.declared.turn.Way.TheVariants.{Whole}
 use Rattle.machine_core.proofs.CoreLemmas.{holds_some, fenced-waits}
 use Rattle.machine_core.proofs.ActedLemmas.{acts-stalls}
 use Rattle.machine_core.proofs.processor.fence.Goals as goal

@@ -1,12 +1,8 @@
-use Rattle.std.proofs.Common.{◌∙◌, refl, sym, subst, slice_index}
-use Rattle.snoop_bus.specs.Bus.{words_of}
-use Rattle.machine_core.specs.inner.Cores.{entries_in}
-use Rattle.machine_core.specs.inner.Effects.{MayMake}
+use Rattle.machine_core.proofs.Vocabulary.{◌∙◌, refl, sym, subst, slice_index, words_of, entries_in, MayMake, writes_to}
 use Rattle.machine_core.proofs.CoreLemmas.{sees_buffered, sees_memory, index-got}
 use Rattle.machine_core.proofs.ActedLemmas.{whole-none}
 use Rattle.machine_core.proofs.Acting.{reads, forwarded}
 use Rattle.machine_core.proofs.CacheUses.{answered, unanswered, forwards}
-use Rattle.tso_model.specs.ProgramOrder.{writes_to}
 use Rattle.machine_core.proofs.processor.see.Goals as goal
 
 pub read-requires : goal.read-requires

@@ -1,6 +1,4 @@
-use Rattle.std.proofs.Common.{sym, ◌∙◌}
-use Rattle.snoop_bus.specs.Bus.{words_of}
-use Rattle.tso_model.specs.declared.action.Action.TheVariants.{Fence, Lock}
+use Rattle.machine_core.proofs.Vocabulary.{sym, ◌∙◌, words_of, Fence, Lock}
 use Rattle.machine_core.proofs.Stepping.{access-store, access-load, access-lock, known-store, acts-store, acts-load, acts-set, acts-fence, acts-lock, succeeds-store, succeeds-load, succeeds-by}
 use Rattle.machine_core.proofs.processor.step.Goals as goal
 

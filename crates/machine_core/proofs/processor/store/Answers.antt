@@ -1,6 +1,4 @@
-use Rattle.snoop_bus.specs.Bus.{words_of}
-use Rattle.tso_model.specs.MemoryAccess.{store_access}
-use Rattle.machine_core.specs.inner.Cores.{store_by}
+use Rattle.machine_core.proofs.Vocabulary.{words_of, store_access, store_by}
 use Rattle.machine_core.proofs.Storing.{buffered, unbuffered, access-at_once, succeeds-at_once, acts-at_once}
 use Rattle.machine_core.proofs.ActedLemmas.{whole-none, acts-waits}
 use Rattle.machine_core.proofs.processor.store.Goals as goal

@@ -1,6 +1,5 @@
-use Rattle.std.proofs.Common.{◌<◌, length, refl, ◌∙◌, arith}
+use Rattle.machine_core.proofs.Vocabulary.{◌<◌, length, refl, ◌∙◌, arith, no_counts}
 use Rattle.machine_core.proofs.Overwriting.{written-next, whole-written}
-use Rattle.machine_core.specs.Statistics.{no_counts}
 use Rattle.machine_core.proofs.Beginning.{all-none}
 use Rattle.machine_core.proofs.restarting.count_nothing.Goals as goal
 

@@ -1,6 +1,5 @@
-use Rattle.std.proofs.Common.{◌≡◌}
+use Rattle.machine_core.proofs.Vocabulary.{◌≡◌, no_counts}
 use Rattle.machine_core.proofs.Overwriting.{written}
-use Rattle.machine_core.specs.Statistics.{no_counts}
 use Rattle.machine_core.proofs.restarting.count_nothing.Given as goal
 
 abbrev pub invariant-loop-core : goal.invariant-loop-core

@@ -1,9 +1,4 @@
-use Rattle.std.proofs.Common.{refl, ap, ◌∙◌, sym, subst, rules, length, All}
-use Rattle.std.proofs.lemmas.List.{with_items_is}
-use Rattle.snoop_bus.specs.Bus.{words_of, holder_of}
-use Rattle.snoop_bus.specs.Accesses.{awaited_of}
-use Rattle.machine_core.specs.Cores.{core_states}
-use Rattle.machine_core.specs.Keeping.{IsCore}
+use Rattle.machine_core.proofs.Vocabulary.{refl, ap, ◌∙◌, sym, subst, rules, length, All, with_items_is, words_of, holder_of, awaited_of, core_states, IsCore}
 use Rattle.machine_core.proofs.Beginning.{begun-state, begun-statistics}
 use Rattle.machine_core.proofs.TallyLemmas.{tallied-first}
 use Rattle.machine_core.proofs.Splitting.{held-freed}

@@ -1,7 +1,4 @@
-use Rattle.std.proofs.Common.{◌≡◌, ◌<◌, length, slice_index_or, ap, ◌∙◌, subst, sym, All, arith}
-use Rattle.machine_core.specs.Cores.{core_states}
-use Rattle.machine_core.specs.inner.Cores.{at_start}
-use Rattle.machine_core.specs.Keeping.{IsCore}
+use Rattle.machine_core.proofs.Vocabulary.{◌≡◌, ◌<◌, length, slice_index_or, ap, ◌∙◌, subst, sym, All, arith, core_states, at_start, IsCore}
 use Rattle.machine_core.proofs.Overwriting.{written, written-next}
 use Rattle.machine_core.proofs.Beginning.{begun, started-begun, depth-begun}
 use Rattle.machine_core.proofs.restarting.restart_cores.Goals as goal

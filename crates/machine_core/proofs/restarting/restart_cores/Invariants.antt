@@ -1,4 +1,4 @@
-use Rattle.std.proofs.Common.{◌≡◌}
+use Rattle.machine_core.proofs.Vocabulary.{◌≡◌}
 use Rattle.machine_core.proofs.Overwriting.{written}
 use Rattle.machine_core.proofs.Beginning.{begun}
 use Rattle.machine_core.proofs.restarting.restart_cores.Given as goal

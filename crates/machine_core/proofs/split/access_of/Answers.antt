@@ -1,7 +1,4 @@
-use Rattle.std.proofs.Common.{◌≡◌, ◌<◌, ◌∙◌, sym, ap, subst, slice_get, length, None, Some}
-use Rattle.tso_model.specs.Litmus.{KnownLocation}
-use Rattle.tso_model.specs.FlatMachine.{chosen, program_of}
-use Rattle.snoop_bus.specs.Bus.{words_of}
+use Rattle.machine_core.proofs.Vocabulary.{◌≡◌, ◌<◌, ◌∙◌, sym, ap, subst, slice_get, length, None, Some, KnownLocation, chosen, program_of, words_of}
 use Rattle.machine_core.proofs.ChoiceEffects.{access_of-step, access_of-done, access_of-drain, IsCore-at, within-cores}
 use Rattle.machine_core.proofs.Finishing.{All-got}
 use Rattle.machine_core.proofs.split.access_of.Goals as goal

@@ -1,6 +1,4 @@
-use Rattle.machine_core.specs.Split.{completes_in}
-use Rattle.machine_core.specs.inner.Split.{split_effect_in, begins_in, writes_last_in}
-use Rattle.tso_model.specs.declared.choice.Choice.TheVariants.{Step}
+use Rattle.machine_core.proofs.Vocabulary.{completes_in, split_effect_in, begins_in, writes_last_in, Step}
 use Rattle.machine_core.proofs.Branching.{other-free, split-free, other-asked, split-asked, asked-this, split-completes, answer-asked, is-between, other-between, split-between, between-this, split-writes, answer-between, made-as, made-at, succeeds-as, commits-as}
 use Rattle.machine_core.proofs.split.act_on_split.Goals as goal
 

@@ -1,4 +1,4 @@
-use Rattle.std.proofs.Common.{inl, inr, true}
+use Rattle.machine_core.proofs.Vocabulary.{inl, inr, true}
 use Rattle.machine_core.proofs.Splitting.{asked-caches}
 use Rattle.machine_core.proofs.split.ask.Goals as goal
 

@@ -1,13 +1,5 @@
-use Rattle.std.proofs.Common.{◌∙◌, refl, sym, ap, subst, IfOk, false, true}
-use Rattle.tso_model.specs.FlatMachine.{chosen, core_of, stalled}
+use Rattle.machine_core.proofs.Vocabulary.{◌∙◌, refl, sym, ap, subst, IfOk, false, true, chosen, core_of, stalled, words_of, state_of, Complete, state_in, held_as, holder_by, access_in, SucceedsUnlessCommitting, HasMade}
 use Rattle.tso_model.specs.declared.choice.Stall.TheVariants as stall
-use Rattle.snoop_bus.specs.Bus.{words_of}
-use Rattle.machine_core.specs.Cores.{state_of}
-use Rattle.machine_core.specs.declared.accesses.Next.TheVariants.{Complete}
-use Rattle.machine_core.specs.Keeping.{state_in, held_as, holder_by}
-use Rattle.machine_core.specs.inner.Keeping.{access_in}
-use Rattle.machine_core.specs.inner.OneCore.{SucceedsUnlessCommitting}
-use Rattle.machine_core.specs.OneChoice.{HasMade}
 use Rattle.machine_core.proofs.Splitting.{needs-is, may-act, begins-acts, begins-asks, asks-taken, asks-hold, held-with, held-next, held-ask, fits-ask, fits-by, performs-stall, use-rests, performs-ask, use-ask}
 use Rattle.machine_core.proofs.split.begin.Goals as goal
 

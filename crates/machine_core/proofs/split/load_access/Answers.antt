@@ -1,5 +1,4 @@
-use Rattle.machine_core.specs.inner.Cores.{pending_in}
-use Rattle.tso_model.specs.ProgramOrder.{writes_to}
+use Rattle.machine_core.proofs.Vocabulary.{pending_in, writes_to}
 use Rattle.machine_core.proofs.CacheUses.{answered, unanswered}
 use Rattle.machine_core.proofs.Acting.{reads, forwarded}
 use Rattle.machine_core.proofs.split.load_access.Goals as goal

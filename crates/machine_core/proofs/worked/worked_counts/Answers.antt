@@ -1,5 +1,4 @@
-use Rattle.std.proofs.Common.{refl}
-use Rattle.snoop_bus.specs.Asks.{awaiting}
+use Rattle.machine_core.proofs.Vocabulary.{refl, awaiting}
 use Rattle.machine_core.proofs.worked.worked_counts.Goals as goal
 
 pub returns-clause-each_misses_twice_on_a_split_bus : goal.returns-clause-each_misses_twice_on_a_split_bus

@@ -1,14 +1,5 @@
-use Rattle.std.proofs.Common.{◌≡◌, OnOk, subst, ap, sym, ◌∙◌, ◌++◌, append-nil}
+use Rattle.machine_core.proofs.Vocabulary.{◌≡◌, OnOk, subst, ap, sym, ◌∙◌, ◌++◌, append-nil, is_err, BusState, Stalled, AnswerFits, state_in, statistics_in, statistics_after, HasEffect, attempt_in, effect_in}
 use Rattle.std.proofs.lemmas.Result.{IfOk-at_ok}
-use Rattle.std.specs.Result.{is_err}
-use Rattle.tso_model.specs.EitherBus.{BusState}
-use Rattle.tso_model.specs.declared.choice.Outcome.TheVariants.{Stalled}
-use Rattle.machine_core.specs.Running.{AnswerFits}
-use Rattle.machine_core.specs.Keeping.{state_in}
-use Rattle.machine_core.specs.inner.Keeping.{statistics_in}
-use Rattle.machine_core.specs.Statistics.{statistics_after}
-use Rattle.machine_core.specs.Effects.{HasEffect}
-use Rattle.machine_core.specs.inner.Effects.{attempt_in, effect_in}
 use Rattle.machine_core.proofs.RunningLemmas.{Running-same, statistics_after-nothing, same-state, on-ok, possible-next}
 use Rattle.machine_core.proofs.Telling.{outcome-told, how-told, after-told, succeeds-told, refused-told}
 use Rattle.machine_core.proofs.machine.Machine.choose_telling.Goals as goal

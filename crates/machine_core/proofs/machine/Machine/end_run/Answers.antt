@@ -1,12 +1,4 @@
-use Rattle.std.proofs.Common.{◌≡◌, [], false, IsTrue, IfOk, map, refl, ap, ◌∙◌, sym, subst, length}
-use Rattle.tso_model.specs.FlatMachine.{start}
-use Rattle.tso_model.specs.EitherBus.{unheld}
-use Rattle.snoop_bus.specs.Rows.{table_of_rows}
-use Rattle.machine_core.specs.Running.{restarted}
-use Rattle.machine_core.specs.inner.Running.{is_ended}
-use Rattle.machine_core.specs.Keeping.{state_in}
-use Rattle.machine_core.specs.inner.Keeping.{statistics_in}
-use Rattle.machine_core.specs.Statistics.{no_statistics}
+use Rattle.machine_core.proofs.Vocabulary.{◌≡◌, [], false, IsTrue, IfOk, map, refl, ap, ◌∙◌, sym, subst, length, start, unheld, table_of_rows, restarted, is_ended, state_in, statistics_in, no_statistics}
 use Rattle.machine_core.proofs.Beginning.{possible-first}
 use Rattle.machine_core.proofs.CoreLemmas.{registers-core_states}
 use Rattle.machine_core.proofs.RunningLemmas.{Running-same, has-ended, free-bus}

@@ -1,7 +1,4 @@
-use Rattle.std.proofs.Common.{ap, ◌∙◌, map, sym, subst, IsTrue}
-use Rattle.split_laws.specs.Between.{ArePaired}
-use Rattle.machine_core.specs.inner.Running.{is_ended}
-use Rattle.machine_core.specs.Keeping.{state_in}
+use Rattle.machine_core.proofs.Vocabulary.{ap, ◌∙◌, map, sym, subst, IsTrue, ArePaired, is_ended, state_in}
 use Rattle.machine_core.proofs.RunningLemmas.{has-ended, free-bus}
 use Rattle.machine_core.proofs.Paired.{paired}
 use Rattle.machine_core.proofs.CoreLemmas.{registers-core_states}

@@ -1,9 +1,4 @@
-use Rattle.std.proofs.Common.{[], false, refl, ap, ◌∙◌}
-use Rattle.tso_model.specs.FlatMachine.{start}
-use Rattle.tso_model.specs.EitherBus.{unheld}
-use Rattle.machine_core.specs.Running.{restarted}
-use Rattle.machine_core.specs.Keeping.{state_in}
-use Rattle.machine_core.specs.inner.Keeping.{statistics_in}
+use Rattle.machine_core.proofs.Vocabulary.{[], false, refl, ap, ◌∙◌, start, unheld, restarted, state_in, statistics_in}
 use Rattle.machine_core.proofs.Beginning.{possible-first}
 use Rattle.machine_core.proofs.RunningLemmas.{Running-same}
 use Rattle.machine_core.proofs.machine.Machine.restart.Goals as goal

@@ -1,5 +1,4 @@
-use Rattle.std.proofs.Common.{◌≡◌, ◌==◌, true, length, arith}
-use Rattle.std.proofs.lemmas.Bool.Decides.{nat_tests}
+use Rattle.machine_core.proofs.Vocabulary.{◌≡◌, ◌==◌, true, length, arith, nat_tests}
 use Rattle.machine_core.proofs.CoreLemmas.{is_none_pending-stores}
 use Rattle.machine_core.proofs.processor.Processor.is_done.Goals as goal
 

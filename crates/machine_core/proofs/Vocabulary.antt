@@ -1,0 +1,81 @@
+-- The names that the proofs of this crate bring in from definitions and from crates below; each file takes its own from here.
+pub use Rattle.std.proofs.Common.{◌≡◌, ◌<◌, ◌≤◌, ◌+◌, ℕ, zero, suc, nat_lt, Bor, List, [], ◌∷◌, length, Option, None, Some, is_some, IfSome, option_copied, slice_get, slice_index_or, refl, sym, ap, ◌∙◌, arith, map, slice_set, subst, ◌||◌, ◌==◌, Bool, true, false, if◌then◌else◌, filter, ◌++◌, drop, append-nil, IsTrue, Result, ◌≢◌, Ok, Err, IfOk, OnOk, OnErr, inr, inl, All, ◌-◌, ◌⊎◌, length-append, length-set, replicate, slice_index, ◌*◌, take, ◌&&◌, unwrap_or, drop-cons, add-one, append_assoc, not, IsOk, rules}
+pub use Rattle.std.proofs.lemmas.Bool.Decides.{nat_tests}
+pub use Rattle.std.proofs.lemmas.Option.{slice_get_past, slice_get_read, slice_get_within}
+pub use Rattle.machine_core.specs.declared.processor.Processor.{Processor}
+pub use Rattle.machine_core.specs.Cores.{core_state, core_states, store_of, state_of, AreKnown}
+pub use Rattle.std.specs.Option.{option_map, IsSome}
+pub use Rattle.std.specs.List.{last_or, list_any, sum_by}
+pub use Rattle.tso_model.specs.ProgramOrder.{writes_to, same_kind}
+pub use Rattle.tso_model.specs.FlatMachine.{CoreState, Effect, stalled, memory_after, stored, State, after_choice, chosen, core_of, idle, effect_by, step_of, effect_of, program_of, advanced_with, started, is_none_pending, start, drain_of}
+pub use Rattle.tso_model.specs.declared.register.Reg.{Reg}
+pub use Rattle.tso_model.specs.declared.instruction.Loc.{Loc}
+pub use Rattle.tso_model.specs.declared.action.Update.{Update}
+pub use Rattle.tso_model.specs.declared.execution.Entry.{Entry}
+pub use Rattle.store_buffer.specs.declared.Pending.{Pending}
+pub use Rattle.store_buffer.specs.inner.Newest.{newest_for}
+pub use Rattle.snoop_bus.specs.declared.access.Access.{Access}
+pub use Rattle.snoop_bus.specs.Bus.{BusModel, words_of, IsSameMachine, cores_of, holder_of, IsFree}
+pub use Rattle.snoop_bus.specs.Accesses.{LoadsAt, WritesAt, AsksFor, CompletesAt, awaited_of, contents_of, IsCurrentWord, new_bus}
+pub use Rattle.machine_core.specs.declared.accesses.CacheUse.{CacheUse}
+pub use Rattle.machine_core.specs.declared.accesses.CacheUse.TheVariants.{Unused, Forwarded, Through}
+pub use Rattle.machine_core.specs.inner.Cores.{pending_in, lock_by, drain_by, store_by, action_by, both_parts, at_next, word_at, own_access, step_by, fence_by, at_start, entries_in}
+pub use Rattle.machine_core.specs.Caches.{Caches, caches_of, not_through, load_after, write_by, use_of, Used, at_access, ask_by, hits_by, is_awaited, used_between, completing_by, completion_by, load_by, use_by_kind, use_with, attempt_of}
+pub use Rattle.machine_core.specs.Effects.{HasUsed, Answer, HasEffect}
+pub use Rattle.basic_laws.proofs.WithPending.{drain_with, fenced_with, locked_with}
+pub use Rattle.tso_model.specs.MemoryAccess.{MemoryAccess, NoAccess, Writes, drain_access, store_access, Reads, load_access, locked_access, Locks, access_of, access_by, step_access}
+pub use Rattle.tso_model.specs.declared.instruction.Core.{Core}
+pub use Rattle.tso_model.specs.declared.choice.Outcome.{Outcome}
+pub use Rattle.tso_model.specs.declared.choice.Outcome.TheVariants.{Committed, Stalled, Buffered, Moved}
+pub use Rattle.order_builder.specs.inner.Noted.{Noted}
+pub use Rattle.machine_core.specs.declared.turn.Way.{Way}
+pub use Rattle.machine_core.specs.declared.turn.Way.TheVariants.{Whole, Asked}
+pub use Rattle.machine_core.specs.declared.turn.Turn.{Turn}
+pub use Rattle.machine_core.specs.inner.Effects.{MayMakeBy, MayMake, MayAccess, MayAct, attempt_in, flat_effect_in, MayMakeIn, effect_in}
+pub use Rattle.machine_core.specs.inner.Turns.{HasAsked, by_way, whole}
+pub use Rattle.machine_core.specs.inner.OneCore.{HasActed, Waits, IsMade, IsStored, Acts, SucceedsUnlessCommitting, Notes, AreUnchanged}
+pub use Rattle.tso_model.specs.Thread.{entry, value_in, with_value, value_of, updated}
+pub use Rattle.tso_model.specs.declared.execution.Kind.TheVariants.{W, R, F, LR, LW}
+pub use Rattle.tso_model.specs.declared.out_of_memory.NoMemory.{NoMemory}
+pub use Rattle.std.proofs.lemmas.List.{set-get_or, length-map, length-replicate, with_items_is}
+pub use Rattle.tso_model.specs.Litmus.{Litmus, IsTest, KnownLocation}
+pub use Rattle.tso_model.specs.SplitMachine.{Holder, Free, HeldBy, HeldBetween, Attempt, BusEffect, acts, asks, needs_bus, same_choice, begins, completes, writes_last, as_read, split_effect, reads_first, after_first}
+pub use Rattle.tso_model.specs.EitherBus.{BusState, HitFits, effect_on, unheld, after_on}
+pub use Rattle.tso_model.specs.declared.choice.Bus.TheVariants.{Split, Atomic}
+pub use Rattle.tso_model.specs.declared.choice.Choice.{Choice}
+pub use Rattle.split_laws.specs.Holders.{HolderFits, HasRead}
+pub use Rattle.snoop_bus.specs.declared.holding.Stage.TheVariants.{Locked}
+pub use Rattle.machine_core.specs.declared.accesses.Next.{Next}
+pub use Rattle.machine_core.specs.declared.accesses.Next.TheVariants.{Complete, Write}
+pub use Rattle.machine_core.specs.declared.hardware.Hardware.{Hardware}
+pub use Rattle.machine_core.specs.Keeping.{HardwareFitsTest, IsHeldForAccess, held_as, held_for, core_in, holder_by, state_in, IsAtMost, next_in, IsCore}
+pub use Rattle.machine_core.specs.Split.{use_by, completes_in}
+pub use Rattle.machine_core.specs.inner.Split.{IsOther, begins_in, split_effect_in, writes_last_in, IsLock, WritesAs}
+pub use Rattle.machine_core.specs.OneChoice.{HasMade, IsUndone, AreConsistent}
+pub use Rattle.machine_core.specs.inner.OneChoice.{effect_made_in, AnswerFitsIn, use_in, statistics_next, IsAloneIn}
+pub use Rattle.tso_model.specs.declared.choice.Bus.{Bus}
+pub use Rattle.snoop_bus.specs.Held.{holder_in, transaction_in, holder}
+pub use Rattle.snoop_bus.specs.Asks.{awaited_in, Awaited, asking, asked_for, completed, completed_in, flusher_of}
+unfoldable pub use Rattle.snoop_bus.specs.Asks.{awaiting}
+pub use Rattle.tso_model.specs.Actions.{action_of}
+pub use Rattle.tso_model.specs.declared.instruction.Instr.{Instr}
+pub use Rattle.tso_model.specs.declared.action.Action.{Action}
+pub use Rattle.tso_model.specs.declared.action.Action.TheVariants.{Store, Load, Move, Fence, Lock}
+pub use Rattle.tso_model.specs.declared.choice.Choice.TheVariants.{Step, Drain}
+pub use Rattle.std.proofs.lemmas.List.Elements.{All-set, All-append, All-drop}
+pub use Rattle.tso_model.specs.Limits.{most_instructions}
+pub use Rattle.tso_model.specs.declared.execution.Kind.{Kind}
+pub use Rattle.protocol_tables.specs.Tables.{Table}
+pub use Rattle.snoop_bus.specs.Rows.{table_of_rows}
+pub use Rattle.snoop_bus.specs.CacheContents.{TagSets, loaded_in, written_in, write_in, sends_in, flusher_from, tags_at}
+pub use Rattle.machine_core.specs.declared.counts.Counts.{Counts}
+pub use Rattle.machine_core.specs.Statistics.{no_counts, with_access, with_write_back, with_forward, with_flush, at_core, flush_counted, counted, Statistics, no_statistics, statistics_with, statistics_after}
+pub use Rattle.machine_core.specs.inner.Keeping.{IsIssued, IsAmong, IsFlusherAmong, done_by, IsSenderAmong, IsTallied, done_in, half_done, most_counted, statistics_in, access_in}
+pub use Rattle.tso_model.specs.Runs.{is_done, all_done}
+pub use Rattle.store_buffer.specs.inner.Stores.{stores}
+pub use Rattle.snoop_bus.specs.inner.Accesses.{MayGoOn, StandsAlone, memory_words_of}
+pub use Rattle.split_laws.specs.BusChoices.{IsPossibleOn}
+pub use Rattle.split_laws.specs.Between.{IsAnswered, ArePaired}
+pub use Rattle.machine_core.specs.Running.{Running, machine_after, AnswerFits, restarted}
+pub use Rattle.std.specs.Result.{is_err}
+pub use Rattle.machine_core.specs.inner.Running.{HasFailed, is_ended}
