@@ -1,16 +1,6 @@
 -- Entries of one core, place and kind, and lists in which no two are.
-use Rattle.std.proofs.Common.{◌≡◌, ◌<◌, ◌+◌, ℕ, suc, zero, List, [], ◌∷◌, Some, slice_get, Bool, true, false, ◌==◌, ◌&&◌, ◌||◌, if◌then◌else◌, arith, ap, sym, ◌∙◌, ◌⊎◌, inl, inr, subst, refl}
-use Rattle.std.proofs.lemmas.Bool.{cases_order, eq-eqb, eqb-true, and_parts}
-use Rattle.tso_model.specs.Thread.{entry}
-use Rattle.tso_model.specs.ProgramOrder.{same_kind, is_read, is_write}
-use Rattle.basic_laws.specs.Ranks.{rank, part_of}
-use Rattle.basic_laws.proofs.Ranks.{is_read_kind, is_write_kind}
-use Rattle.tso_model.specs.ProgramEntries.{is_at, read_value}
-use Rattle.tso_model.specs.declared.execution.Entry.{Entry}
-use Rattle.tso_model.specs.declared.execution.Kind.{Kind}
-use Rattle.tso_model.specs.declared.execution.Kind.TheVariants.{R, W, F, LR, LW}
+use Rattle.axiom_checker.proofs.Vocabulary.{◌≡◌, ◌<◌, ◌+◌, ℕ, suc, zero, List, [], ◌∷◌, Some, slice_get, Bool, true, false, ◌==◌, ◌&&◌, ◌||◌, if◌then◌else◌, arith, ap, sym, ◌∙◌, ◌⊎◌, inl, inr, subst, refl, cases_order, eq-eqb, eqb-true, and_parts, entry, same_kind, is_read, is_write, rank, part_of, is_read_kind, is_write_kind, is_at, read_value, Entry, Kind, R, W, F, LR, LW, same_action, same_but_value}
 use Rattle.axiom_checker.proofs.Firsts.{told-test}
-use Rattle.axiom_checker.specs.Entries.{same_action, same_but_value}
 
 same_kind-is : (a b : Kind) → same_kind a b ≡ true → a ≡ b
 same_kind-is R R h = refl

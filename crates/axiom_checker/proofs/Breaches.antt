@@ -1,17 +1,5 @@
 -- A first breach is real, and an order has at most one.
-use Rattle.std.proofs.Common.{◌≡◌, ◌<◌, ℕ, ◌+◌, suc, zero, List, Some, slice_get, arith, ap, sym, ◌∙◌, inl, inr, subst}
-use Rattle.std.proofs.lemmas.Bool.{cases_order}
-use Rattle.tso_model.specs.Litmus.{Litmus}
-use Rattle.tso_model.specs.Thread.{entry}
-use Rattle.tso_model.specs.ProgramEntries.{made}
-use Rattle.tso_model.specs.Axioms.{IsWhole, KeepsProgramOrder, IsAdjacent, HasReadValues, IsTsoExecution}
-use Rattle.tso_model.specs.declared.execution.Entry.{Entry}
-use Rattle.axiom_checker.specs.First.{IsFirst, IsNowhere}
-use Rattle.axiom_checker.specs.Entries.{IsExtra, IsStray, IsMissing, IsWrongWrite, written_value}
-use Rattle.axiom_checker.specs.AxiomBreaches.{Overtakes, IsLate, IsSeparated, IsWrongRead, due_at}
-use Rattle.axiom_checker.specs.FirstBreach.{IsFirstBreach}
-use Rattle.axiom_checker.specs.declared.breach.Breach.{Breach}
-use Rattle.axiom_checker.specs.declared.breach.Breach.TheVariants.{Extra, Twice, Missing, WrongValue, ProgramOrder, NotAdjacent, ReadValue, NoMemory}
+use Rattle.axiom_checker.proofs.Vocabulary.{◌≡◌, ◌<◌, ℕ, ◌+◌, suc, zero, List, Some, slice_get, arith, ap, sym, ◌∙◌, inl, inr, subst, cases_order, Litmus, entry, made, IsWhole, KeepsProgramOrder, IsAdjacent, HasReadValues, IsTsoExecution, Entry, IsFirst, IsNowhere, IsExtra, IsStray, IsMissing, IsWrongWrite, written_value, Overtakes, IsLate, IsSeparated, IsWrongRead, due_at, IsFirstBreach, Breach, Extra, Twice, Missing, WrongValue, ProgramOrder, NotAdjacent, ReadValue, NoMemory}
 use Rattle.axiom_checker.proofs.Whole.{whole-clean}
 use Rattle.axiom_checker.proofs.Keeps.{none-late, none-separated, none-wrong}
 

@@ -1,17 +1,5 @@
 -- How the programs' entry of an entry of the order is found, and which of the programs' entries came.
-use Rattle.std.proofs.Common.{◌≡◌, ◌<◌, ◌≤◌, ℕ, ◌+◌, ◌*◌, suc, zero, List, length, Option, Some, None, slice_get, slice_index, slice_index_or, slice_set, replicate, true, false, arith, ap, sym, ◌∙◌, ◌⊎◌, inl, inr, subst, refl}
-use Rattle.std.proofs.lemmas.Bool.{cases_eq, false_from_ne_true}
-use Rattle.std.proofs.lemmas.Option.{slice_get_within, slice_get-get_or, slice_get_cases}
-use Rattle.std.proofs.lemmas.List.{get_or-set_same, get_or-set_other}
-use Rattle.std.specs.Option.{is_some}
-use Rattle.tso_model.specs.Thread.{entry}
-use Rattle.basic_laws.specs.Ranks.{rank}
-use Rattle.tso_model.specs.ProgramEntries.{is_at}
-use Rattle.tso_model.specs.declared.execution.Entry.{Entry}
-use Rattle.axiom_checker.specs.First.{IsFirst, IsNowhere, NoneBefore}
-use Rattle.axiom_checker.specs.Entries.{same_action, same_but_value, IsExtra, IsTwice, IsStray, IsMissing}
-use Rattle.axiom_checker.specs.inner.Programs.{kept_in}
-use Rattle.axiom_checker.specs.inner.Slots.{slot_of, Ascends, AreWithin, IsIndex, HasCome, HasNotCome, slots_of_a_core}
+use Rattle.axiom_checker.proofs.Vocabulary.{◌≡◌, ◌<◌, ◌≤◌, ℕ, ◌+◌, ◌*◌, suc, zero, List, length, Option, Some, None, slice_get, slice_index, slice_index_or, slice_set, replicate, true, false, arith, ap, sym, ◌∙◌, ◌⊎◌, inl, inr, subst, refl, cases_eq, false_from_ne_true, slice_get_within, slice_get-get_or, slice_get_cases, get_or-set_same, get_or-set_other, is_some, entry, rank, is_at, Entry, IsFirst, IsNowhere, NoneBefore, same_action, same_but_value, IsExtra, IsTwice, IsStray, IsMissing, kept_in, slot_of, Ascends, AreWithin, IsIndex, HasCome, HasNotCome, slots_of_a_core}
 use Rattle.axiom_checker.proofs.Firsts.{some-is, same_or_below, at-place}
 use Rattle.axiom_checker.proofs.Actions.{SameAction, same-parts, same-from, same-turned, same_but_value-parts, entry-is, NoneTwice, same-rank}
 use Rattle.axiom_checker.proofs.Shapes.{AreAlike, alike-at}

@@ -1,8 +1,5 @@
 -- The last of the writes that count for a read, found by going over what stands before it and then what stands after it.
-use Rattle.std.proofs.Common.{◌≡◌, ℕ, List, [], ◌∷◌, ◌++◌, Bool, true, false, filter, ap, ◌∙◌, refl, cond}
-use Rattle.tso_model.specs.ProgramOrder.{writes_to, is_before}
-use Rattle.tso_model.specs.Axioms.{last_value, counting}
-use Rattle.tso_model.specs.declared.execution.Entry.{Entry}
+use Rattle.axiom_checker.proofs.Vocabulary.{◌≡◌, ℕ, List, [], ◌∷◌, ◌++◌, Bool, true, false, filter, ap, ◌∙◌, refl, cond, writes_to, is_before, last_value, counting, Entry}
 
 pub last_value-append : (xs ys : List Entry) (w : ℕ) → last_value (xs ++ ys) w ≡ last_value ys (last_value xs w)
 last_value-append [] ys w = refl

@@ -1,9 +1,5 @@
 -- The earliest entry of a list of which something holds: one entry further, the end, and the search from the front.
-use Rattle.std.proofs.Common.{◌≡◌, ◌<◌, ◌≤◌, ℕ, ◌+◌, suc, zero, List, length, Some, slice_get, Bool, true, false, arith, ap, sym, ◌∙◌, ◌⊎◌, inl, inr, subst}
-use Rattle.std.proofs.lemmas.Bool.{cases_Bool, cases_lt, false_from_ne_true}
-use Rattle.std.proofs.lemmas.Option.{slice_get_within, slice_get_cases}
-use Rattle.tso_model.specs.declared.execution.Entry.{Entry}
-use Rattle.axiom_checker.specs.First.{NoneBefore, IsEarliest, IsNowhere}
+use Rattle.axiom_checker.proofs.Vocabulary.{◌≡◌, ◌<◌, ◌≤◌, ℕ, ◌+◌, suc, zero, List, length, Some, slice_get, Bool, true, false, arith, ap, sym, ◌∙◌, ◌⊎◌, inl, inr, subst, cases_Bool, cases_lt, false_from_ne_true, slice_get_within, slice_get_cases, Entry, NoneBefore, IsEarliest, IsNowhere}
 
 pub same_or_below : (i n : ℕ) → i < n + 1 → (i ≡ n) ⊎ (i < n)
 same_or_below i n h = grind arith

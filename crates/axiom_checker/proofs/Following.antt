@@ -1,19 +1,5 @@
 -- What is due to a read, by the write that its own program has before it.
-use Rattle.std.proofs.Common.{◌≡◌, ◌<◌, ◌≤◌, ℕ, ◌+◌, suc, zero, List, [], ◌∷◌, Option, Some, None, slice_get, slice_index, take, drop, filter, Bool, true, false, not, ◌==◌, cond, if◌then◌else◌, arith, ap, sym, ◌∙◌, inl, inr, subst, refl}
-use Rattle.std.proofs.lemmas.Bool.{cases_order, eq-eqb, eqb-true, and_from, and_parts, not-true, and_right, not_from_false}
-use Rattle.std.proofs.lemmas.Bool.Decides.{leb_tells}
-use Rattle.tso_model.specs.Litmus.{Litmus}
-use Rattle.tso_model.specs.ProgramOrder.{is_before, may_be_passed, is_read, is_load, is_store, is_write, writes_to}
-use Rattle.basic_laws.specs.Ranks.{rank}
-use Rattle.basic_laws.proofs.Ranks.{is_load_kind, is_read_kind, is_write_kind}
-use Rattle.tso_model.specs.ProgramEntries.{made}
-use Rattle.tso_model.specs.Axioms.{IsWhole, KeepsProgramOrder, last_value}
-use Rattle.tso_model.specs.declared.execution.Entry.{Entry}
-use Rattle.tso_model.specs.declared.execution.Kind.{Kind}
-use Rattle.tso_model.specs.declared.execution.Kind.TheVariants.{R, W, F, LR, LW}
-use Rattle.axiom_checker.specs.AxiomBreaches.{due_at}
-use Rattle.axiom_checker.specs.inner.Sources.{IsLastOwn, IsSource}
-use Rattle.axiom_checker.specs.inner.Passing.{due_from}
+use Rattle.axiom_checker.proofs.Vocabulary.{◌≡◌, ◌<◌, ◌≤◌, ℕ, ◌+◌, suc, zero, List, [], ◌∷◌, Option, Some, None, slice_get, slice_index, take, drop, filter, Bool, true, false, not, ◌==◌, cond, if◌then◌else◌, arith, ap, sym, ◌∙◌, inl, inr, subst, refl, cases_order, eq-eqb, eqb-true, and_from, and_parts, not-true, and_right, not_from_false, leb_tells, Litmus, is_before, may_be_passed, is_read, is_load, is_store, is_write, writes_to, rank, is_load_kind, is_read_kind, is_write_kind, made, IsWhole, KeepsProgramOrder, last_value, Entry, Kind, R, W, F, LR, LW, due_at, IsLastOwn, IsSource, due_from}
 use Rattle.axiom_checker.proofs.Firsts.{some-is, at-place}
 use Rattle.axiom_checker.proofs.OwnReads.{made-read}
 use Rattle.axiom_checker.proofs.Actions.{SameAction, one-place}

@@ -1,17 +1,5 @@
 -- Each order is a TSO execution, or has a first breach.
-use Rattle.std.proofs.Common.{◌≡◌, ◌≢◌, ℕ, suc, List, slice_get, Bool, true, false, ◌⊎◌, inl, inr, refl}
-use Rattle.std.proofs.lemmas.Bool.{cases_eq}
-use Rattle.tso_model.specs.Litmus.{Litmus}
-use Rattle.tso_model.specs.ProgramOrder.{is_read, is_write}
-use Rattle.tso_model.specs.ProgramEntries.{made}
-use Rattle.tso_model.specs.Axioms.{IsTsoExecution}
-use Rattle.tso_model.specs.declared.execution.Entry.{Entry}
-use Rattle.tso_model.specs.declared.execution.Kind.TheVariants.{LR}
-use Rattle.axiom_checker.specs.Entries.{same_action, same_but_value, IsExtra, IsStray, IsMissing, IsWrongWrite, written_value}
-use Rattle.axiom_checker.specs.AxiomBreaches.{must_stand_before, Overtakes, IsLate, IsSeparated, IsWrongRead, due_at}
-use Rattle.axiom_checker.specs.FirstBreach.{IsFirstBreach}
-use Rattle.axiom_checker.specs.declared.breach.Breach.{Breach}
-use Rattle.axiom_checker.specs.declared.breach.Breach.TheVariants.{Extra, Twice, Missing, WrongValue, ProgramOrder, NotAdjacent, ReadValue}
+use Rattle.axiom_checker.proofs.Vocabulary.{◌≡◌, ◌≢◌, ℕ, suc, List, slice_get, Bool, true, false, ◌⊎◌, inl, inr, refl, cases_eq, Litmus, is_read, is_write, made, IsTsoExecution, Entry, LR, same_action, same_but_value, IsExtra, IsStray, IsMissing, IsWrongWrite, written_value, must_stand_before, Overtakes, IsLate, IsSeparated, IsWrongRead, due_at, IsFirstBreach, Breach, Extra, Twice, Missing, WrongValue, ProgramOrder, NotAdjacent, ReadValue}
 use Rattle.axiom_checker.proofs.Firsts.{Told, searched, passing, told-test, told-before}
 use Rattle.axiom_checker.proofs.Actions.{kind-or-not}
 use Rattle.axiom_checker.proofs.Keeps.{next-of, keeps-order, keeps-pairs, has-values}

@@ -1,21 +1,5 @@
 -- The breach that is named of what the passes met is the first.
-use Rattle.std.proofs.Common.{◌≡◌, ◌≤◌, ℕ, true, inl, List, [], ◌++◌, length, Option, Some, None, IfSome, IsNone, refl, sym, ap, ◌∙◌, subst, arith}
-use Rattle.tso_model.specs.Litmus.{Litmus, IsTest}
-use Rattle.basic_laws.proofs.Ranks.{is_write_kind}
-use Rattle.tso_model.specs.ProgramEntries.{made}
-use Rattle.tso_model.specs.Axioms.{IsTsoExecution, IsWhole}
-use Rattle.tso_model.specs.declared.execution.Entry.{Entry}
-use Rattle.axiom_checker.specs.First.{IsFirst, IsEarliest, IsNowhere}
-use Rattle.axiom_checker.specs.Entries.{IsExtra, IsStray, IsWrongWrite}
-use Rattle.axiom_checker.specs.inner.Programs.{made_reading, reads_that_came}
-use Rattle.axiom_checker.specs.inner.Slots.{IsIndex, HasCome, HasNotCome, NamesStray}
-use Rattle.axiom_checker.specs.AxiomBreaches.{Overtakes, IsLate, IsSeparated, IsWrongRead}
-use Rattle.axiom_checker.specs.inner.Passing.{IsMatched, HasMet, AreOfPrograms, IsFirstWrongRead}
-use Rattle.axiom_checker.specs.FirstBreach.{IsFirstBreach}
-use Rattle.axiom_checker.specs.inner.FirstBreach.{TellsFirstBreach}
-use Rattle.axiom_checker.specs.declared.passing.Met.{Met}
-use Rattle.axiom_checker.specs.declared.breach.Breach.{Breach}
-use Rattle.axiom_checker.specs.declared.breach.Breach.TheVariants.{Extra, Twice, Missing, ProgramOrder, NotAdjacent, ReadValue}
+use Rattle.axiom_checker.proofs.Vocabulary.{◌≡◌, ◌≤◌, ℕ, true, inl, List, [], ◌++◌, length, Option, Some, None, IfSome, IsNone, refl, sym, ap, ◌∙◌, subst, arith, Litmus, IsTest, is_write_kind, made, IsTsoExecution, IsWhole, Entry, IsFirst, IsEarliest, IsNowhere, IsExtra, IsStray, IsWrongWrite, made_reading, reads_that_came, IsIndex, HasCome, HasNotCome, NamesStray, Overtakes, IsLate, IsSeparated, IsWrongRead, IsMatched, HasMet, AreOfPrograms, IsFirstWrongRead, IsFirstBreach, TellsFirstBreach, Met, Breach, Extra, Twice, Missing, ProgramOrder, NotAdjacent, ReadValue}
 use Rattle.axiom_checker.proofs.Firsts.{none_at_all}
 use Rattle.axiom_checker.proofs.Whole.{made-of, whole-from}
 use Rattle.axiom_checker.proofs.Made.{made-within}

@@ -1,16 +1,6 @@
 -- An axiom holds of an order exactly where no entry breaks it.
-use Rattle.std.proofs.Common.{◌≡◌, ℕ, suc, zero, List, [], ◌∷◌, ◌++◌, length, Option, Some, None, slice_get, take, drop, true, not, arith, ap, sym, ◌∙◌, ◌⊎◌, inl, inr, subst, refl}
-use Rattle.std.proofs.lemmas.Bool.{cases_order, cases_eq, and_from, and_parts, not_from_false, not-true}
-use Rattle.tso_model.specs.Litmus.{Litmus}
-use Rattle.tso_model.specs.ProgramOrder.{is_before, may_be_passed}
-use Rattle.tso_model.specs.Axioms.{KeepsProgramOrder, IsAdjacent, HasReadValues, due_value}
-use Rattle.tso_model.specs.ProgramOrder.{IsStorePart}
-use Rattle.tso_model.specs.declared.execution.Entry.{Entry}
-use Rattle.tso_model.specs.declared.execution.Kind.TheVariants.{LW}
-use Rattle.basic_laws.proofs.Basics.{not-itself}
+use Rattle.axiom_checker.proofs.Vocabulary.{◌≡◌, ℕ, suc, zero, List, [], ◌∷◌, ◌++◌, length, Option, Some, None, slice_get, take, drop, true, not, arith, ap, sym, ◌∙◌, ◌⊎◌, inl, inr, subst, refl, cases_order, cases_eq, and_from, and_parts, not_from_false, not-true, Litmus, is_before, may_be_passed, KeepsProgramOrder, IsAdjacent, HasReadValues, due_value, IsStorePart, Entry, LW, not-itself, IsNowhere, IsLate, IsSeparated, IsWrongRead, due_at}
 use Rattle.axiom_checker.proofs.Actions.{kind-or-not}
-use Rattle.axiom_checker.specs.First.{IsNowhere}
-use Rattle.axiom_checker.specs.AxiomBreaches.{IsLate, IsSeparated, IsWrongRead, due_at}
 
 -- program order
 pub keeps-order : (order : List Entry) → IsNowhere order (IsLate order) → KeepsProgramOrder order

@@ -1,3 +1,4 @@
+pub mod Vocabulary
 pub mod Firsts
 pub mod Finds
 pub mod Actions

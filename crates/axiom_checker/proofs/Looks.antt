@@ -1,5 +1,5 @@
 -- How many looks the steps of the check take together.
-use Rattle.std.proofs.Common.{◌≡◌, ◌≤◌, ◌<◌, ℕ, ◌+◌, arith}
+use Rattle.axiom_checker.proofs.Vocabulary.{◌≡◌, ◌≤◌, ◌<◌, ℕ, ◌+◌, arith}
 
 -- none yet
 pub no-looks : (before n : ℕ) → before ≤ before + n

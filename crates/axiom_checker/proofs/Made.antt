@@ -1,21 +1,8 @@
 -- What the programs make, whatever their reads return: each entry precedes those after it, and all are within the limits of the
 -- test. With the order's own values it is what they make with the order.
-use Rattle.std.proofs.Common.{◌≡◌, ◌<◌, ◌≤◌, ℕ, ◌+◌, ◌*◌, suc, zero, List, [], ◌∷◌, ◌++◌, length, length-append, Some, IfSome, slice_get, slice_index, slice_index_or, take, drop, if◌then◌else◌, Bool, true, false, All, arith, ap, sym, ◌∙◌, subst, refl, ◌⊎◌, inl, inr}
+use Rattle.axiom_checker.proofs.Vocabulary.{◌≡◌, ◌<◌, ◌≤◌, ℕ, ◌+◌, ◌*◌, suc, zero, List, [], ◌∷◌, ◌++◌, length, length-append, Some, IfSome, slice_get, slice_index, slice_index_or, take, drop, if◌then◌else◌, Bool, true, false, All, arith, ap, sym, ◌∙◌, subst, refl, ◌⊎◌, inl, inr, cases_order, action_of, location_of, entries_by, entries_of, is_reading, reads_in, Litmus, KnownLocation, IsProgram, IsTest, values_by, read_values, made_from, made, Instr, Action, Store, Load, Move, Fence, Lock, Entry, rank, Each, each-append, each-at, reads_of_all, made_reading, Precedes, Ascends, IsWithin, AreWithin}
 use Rattle.std.proofs.Math.Seq.{take-append_seam}
-use Rattle.std.proofs.lemmas.Bool.{cases_order}
 use Rattle.tso_model.specs.Limits.{most_instructions}
-use Rattle.tso_model.specs.Actions.{action_of, location_of}
-use Rattle.tso_model.specs.Thread.{entries_by, entries_of, is_reading, reads_in}
-use Rattle.tso_model.specs.Litmus.{Litmus, KnownLocation, IsProgram, IsTest}
-use Rattle.tso_model.specs.ProgramEntries.{values_by, read_values, made_from, made}
-use Rattle.tso_model.specs.declared.instruction.Instr.{Instr}
-use Rattle.tso_model.specs.declared.action.Action.{Action}
-use Rattle.tso_model.specs.declared.action.Action.TheVariants.{Store, Load, Move, Fence, Lock}
-use Rattle.tso_model.specs.declared.execution.Entry.{Entry}
-use Rattle.basic_laws.specs.Ranks.{rank}
-use Rattle.basic_laws.proofs.Lists.{Each, each-append, each-at}
-use Rattle.axiom_checker.specs.inner.Programs.{reads_of_all, made_reading}
-use Rattle.axiom_checker.specs.inner.Slots.{Precedes, Ascends, IsWithin, AreWithin}
 use Rattle.axiom_checker.proofs.Actions.{same-rank, NoneTwice}
 
 pub all-first : {X : Type 0} (P : X → Type 0) (x : X) (xs : List X) → All P (x ∷ xs) → P x

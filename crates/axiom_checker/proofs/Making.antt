@@ -1,11 +1,6 @@
 -- What the walks over the programs have made after one more core or one more entry, and at the end.
-use Rattle.std.proofs.Common.{◌≡◌, ◌≤◌, ◌<◌, ℕ, ◌+◌, true, false, if◌then◌else◌, Option, List, [], ◌∷◌, ◌++◌, length, take, drop, get_or, slice_index_or, unwrap_or, append_assoc, append-nil, arith, ap, sym, ◌∙◌}
-use Rattle.std.proofs.lemmas.List.{at_drop_more, at_drop_all}
-use Rattle.tso_model.specs.Thread.{entries_of, reads_in}
-use Rattle.tso_model.specs.ProgramOrder.{is_read}
-use Rattle.tso_model.specs.declared.instruction.Instr.{Instr}
-use Rattle.tso_model.specs.declared.execution.Entry.{Entry}
-use Rattle.axiom_checker.specs.inner.Programs.{reads_of_all, made_reading, kept_in, reads_that_came}
+use Rattle.axiom_checker.proofs.Vocabulary.{◌≡◌, ◌≤◌, ◌<◌, ℕ, ◌+◌, true, false, if◌then◌else◌, Option, List, [], ◌∷◌, ◌++◌, length, take, drop, get_or, slice_index_or, append_assoc, append-nil, arith, ap, sym, ◌∙◌, at_drop_more, at_drop_all, entries_of, reads_in, is_read, Instr, Entry, reads_of_all, made_reading, kept_in, reads_that_came}
+use Rattle.std.proofs.Common.{unwrap_or}
 
 -- nothing is left
 pub made-all : {X Y : Type 0} (rest : List X → List Y) (list : List X) (n : ℕ) → rest [] ≡ [] → length list ≤ n → (whole done : List Y) → whole ≡ done ++ rest (drop n list) → done ≡ whole

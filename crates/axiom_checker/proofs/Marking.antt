@@ -1,16 +1,5 @@
 -- How far each core has come in the front of an order, and which entries come late.
-use Rattle.std.proofs.Common.{◌≡◌, ◌<◌, ◌≤◌, ℕ, ◌+◌, max, List, [], ◌∷◌, ◌++◌, length, Some, slice_get, slice_index, slice_set, take, filter, Bool, true, false, not, ◌&&◌, ◌==◌, nat_lt, cond, if◌then◌else◌, arith, ap, sym, ◌∙◌, ◌⊎◌, inl, inr, subst, refl}
-use Rattle.std.proofs.lemmas.Bool.{cases_eq, cases_Bool, eq-eqb, eqb-true, ne_eqb, and_from, and_parts, and_left, and_right, not_from_false, not_from_true, not-true, lt-ltb, ltb-true, ltb-false, cases_lt}
-use Rattle.std.proofs.lemmas.List.{get_or-set_same, get_or-set_other, take_more}
-use Rattle.std.proofs.lemmas.Option.{slice_get_within, get_or_from_slice_get}
-use Rattle.tso_model.specs.ProgramOrder.{is_before, may_be_passed, is_load, is_store, is_write, writes_to}
-use Rattle.basic_laws.proofs.Basics.{max-left, max-right, max-first, max-second}
-use Rattle.basic_laws.proofs.Ranks.{by-rank}
-use Rattle.basic_laws.specs.Ranks.{rank}
-use Rattle.tso_model.specs.Axioms.{last_value}
-use Rattle.tso_model.specs.declared.execution.Entry.{Entry}
-use Rattle.axiom_checker.specs.AxiomBreaches.{must_stand_before, IsLate}
-use Rattle.axiom_checker.specs.inner.Progress.{reached, settled, written, is_late}
+use Rattle.axiom_checker.proofs.Vocabulary.{◌≡◌, ◌<◌, ◌≤◌, ℕ, ◌+◌, max, List, [], ◌∷◌, ◌++◌, length, Some, slice_get, slice_index, slice_set, take, filter, Bool, true, false, not, ◌&&◌, ◌==◌, nat_lt, cond, if◌then◌else◌, arith, ap, sym, ◌∙◌, ◌⊎◌, inl, inr, subst, refl, cases_eq, cases_Bool, eq-eqb, eqb-true, ne_eqb, and_from, and_parts, and_left, and_right, not_from_false, not_from_true, not-true, lt-ltb, ltb-true, ltb-false, cases_lt, get_or-set_same, get_or-set_other, take_more, slice_get_within, get_or_from_slice_get, is_before, may_be_passed, is_load, is_store, is_write, writes_to, max-left, max-right, max-first, max-second, by-rank, rank, last_value, Entry, must_stand_before, IsLate, reached, settled, written, is_late}
 use Rattle.axiom_checker.proofs.Firsts.{same_or_below, at-place}
 use Rattle.axiom_checker.proofs.Finds.{last_value-append, filter-append}
 

@@ -1,24 +1,7 @@
 -- What the second pass has met among the entries so far.
-use Rattle.std.proofs.Common.{◌≡◌, ◌≢◌, ◌<◌, ◌≤◌, ℕ, ◌+◌, suc, List, length, Option, Some, None, IfSome, IsNone, if◌then◌else◌, slice_get, slice_index, take, filter, Bool, true, false, arith, ap, sym, ◌∙◌, inl, inr, subst, refl}
-use Rattle.std.specs.Option.{unwrap_or}
-use Rattle.std.proofs.lemmas.Option.{slice_get-get_or}
-use Rattle.std.proofs.lemmas.Bool.Decides.{leb_tells}
-use Rattle.tso_model.specs.Litmus.{Litmus}
-use Rattle.tso_model.specs.ProgramOrder.{is_read, is_write, writes_to}
-use Rattle.tso_model.specs.ProgramEntries.{made}
-use Rattle.tso_model.specs.Axioms.{last_value}
-use Rattle.tso_model.specs.ProgramOrder.{IsStorePart}
-use Rattle.tso_model.specs.declared.execution.Entry.{Entry}
-use Rattle.tso_model.specs.declared.execution.Kind.TheVariants.{LR, LW}
-use Rattle.axiom_checker.specs.First.{NoneBefore, IsFirst, IsEarliest}
-use Rattle.axiom_checker.specs.Entries.{IsWrongWrite, written_value}
-use Rattle.axiom_checker.specs.AxiomBreaches.{IsLate, IsSeparated, IsWrongRead, due_at}
-use Rattle.axiom_checker.specs.inner.Progress.{is_late}
-use Rattle.axiom_checker.specs.inner.Sources.{IsSource}
-use Rattle.axiom_checker.specs.inner.Passing.{IsFound, HasMet, IsFirstWrongWrite, IsFirstWrongRead, NamesWrongWrite, NamesWrongRead, IsDueFrom, AreOfPrograms, first_of, due_from}
+use Rattle.axiom_checker.proofs.Vocabulary.{◌≡◌, ◌≢◌, ◌<◌, ◌≤◌, ℕ, ◌+◌, suc, List, length, Option, Some, None, IfSome, IsNone, if◌then◌else◌, slice_get, slice_index, take, filter, Bool, true, false, arith, ap, sym, ◌∙◌, inl, inr, subst, refl, unwrap_or, slice_get-get_or, leb_tells, Litmus, is_read, is_write, writes_to, made, last_value, IsStorePart, Entry, LR, LW, NoneBefore, IsFirst, IsEarliest, IsWrongWrite, written_value, IsLate, IsSeparated, IsWrongRead, due_at, is_late, IsSource, IsFound, HasMet, IsFirstWrongWrite, IsFirstWrongRead, NamesWrongWrite, NamesWrongRead, IsDueFrom, AreOfPrograms, first_of, due_from, Met}
 use Rattle.axiom_checker.proofs.Marking.{AreMarks, AreWords, of_core, past_loads, late-tells}
 use Rattle.axiom_checker.proofs.Following.{due-right}
-use Rattle.axiom_checker.specs.declared.passing.Met.{Met}
 use Rattle.axiom_checker.proofs.Firsts.{one_more, none_in_nothing, same_or_below}
 
 pub nothing-so-far : {X : Type 0} (list : List Entry) (Fact : ℕ → Entry → Type 0) (Names : X → Type 0) → IsFound list Fact 0 Names None

@@ -1,17 +1,5 @@
 -- Each read that the programs make has the value that the order itself gives it.
-use Rattle.std.proofs.Common.{◌≡◌, ℕ, ◌+◌, List, [], ◌∷◌, ◌++◌, slice_index, slice_index_or, true, false, refl}
-use Rattle.tso_model.specs.Actions.{action_of}
-use Rattle.tso_model.specs.Thread.{entry, fence, entries_by, registers_by, values_after, entries_of, value_in, value_of, updated}
-use Rattle.tso_model.specs.Litmus.{Litmus}
-use Rattle.tso_model.specs.ProgramOrder.{is_read}
-use Rattle.tso_model.specs.ProgramEntries.{read_value, values_by, made_by, made_from, made}
-use Rattle.tso_model.specs.ProgramEntries.{read_values}
-use Rattle.tso_model.specs.declared.instruction.Instr.{Instr}
-use Rattle.tso_model.specs.declared.action.Action.{Action}
-use Rattle.tso_model.specs.declared.action.Action.TheVariants.{Store, Load, Move, Fence, Lock}
-use Rattle.tso_model.specs.declared.execution.Entry.{Entry}
-use Rattle.tso_model.specs.declared.execution.Kind.TheVariants.{W, LR, LW}
-use Rattle.basic_laws.proofs.Lists.{Each, each-append}
+use Rattle.axiom_checker.proofs.Vocabulary.{◌≡◌, ℕ, ◌+◌, List, [], ◌∷◌, ◌++◌, slice_index, slice_index_or, true, false, refl, action_of, entry, fence, entries_by, registers_by, values_after, entries_of, value_in, value_of, updated, Litmus, is_read, read_value, values_by, made_by, made_from, made, read_values, Instr, Action, Store, Load, Move, Fence, Lock, Entry, W, LR, LW, Each, each-append}
 
 abbrev pub ReadsOwn : List Entry → Entry → Type 0
 ReadsOwn order e = is_read e ≡ true → e.value ≡ read_value e.core.0 e.place e.kind order

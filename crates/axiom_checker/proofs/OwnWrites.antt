@@ -1,15 +1,5 @@
 -- The last write that an entry's own program has before it: where the walk over the programs finds it.
-use Rattle.std.proofs.Common.{◌≡◌, ◌<◌, ◌≤◌, ℕ, ◌+◌, List, [], ◌∷◌, ◌++◌, length, get_or, Option, Some, None, slice_get, slice_index_or, slice_set, true, ◌==◌, if◌then◌else◌, arith, ap, sym, ◌∙◌, inl, inr, subst}
-use Rattle.std.proofs.lemmas.Bool.{cases_order, cases_eq, cases_Bool, eq-eqb, eqb-true, and_from, and_parts, eqb-false}
-use Rattle.std.proofs.lemmas.List.{get_or-set_same, get_or-set_other, get_or_push, get_or_append_left}
-use Rattle.std.proofs.lemmas.Option.{slice_get-get_or}
-use Rattle.tso_model.specs.ProgramOrder.{is_write, writes_to}
-use Rattle.basic_laws.specs.Ranks.{rank}
-use Rattle.tso_model.specs.declared.execution.Entry.{Entry}
-use Rattle.basic_laws.proofs.Basics.{le-cases}
-use Rattle.axiom_checker.specs.inner.Programs.{kept_in}
-use Rattle.axiom_checker.specs.inner.Slots.{Ascends}
-use Rattle.axiom_checker.specs.inner.Sources.{own_write, noted_write, IsSource}
+use Rattle.axiom_checker.proofs.Vocabulary.{◌≡◌, ◌<◌, ◌≤◌, ℕ, ◌+◌, List, [], ◌∷◌, ◌++◌, length, get_or, Option, Some, None, slice_get, slice_index_or, slice_set, true, ◌==◌, if◌then◌else◌, arith, ap, sym, ◌∙◌, inl, inr, subst, cases_order, cases_eq, cases_Bool, eq-eqb, eqb-true, and_from, and_parts, eqb-false, get_or-set_same, get_or-set_other, get_or_push, get_or_append_left, slice_get-get_or, is_write, writes_to, rank, Entry, le-cases, kept_in, Ascends, own_write, noted_write, IsSource}
 use Rattle.axiom_checker.proofs.Firsts.{same_or_below, at-place}
 use Rattle.axiom_checker.proofs.Actions.{SameAction, same-rank}
 use Rattle.axiom_checker.proofs.Sooner.{before-from, before-parts, Before, sooner-of}

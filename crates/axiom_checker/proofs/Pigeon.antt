@@ -1,7 +1,5 @@
 -- Distinct members that all stand in a list which is no longer leave room for no other.
-use Rattle.std.proofs.Common.{◌≡◌, ◌<◌, ◌≤◌, ℕ, ◌+◌, suc, zero, List, [], ◌∷◌, ◌++◌, length, Some, slice_get, arith, ap, sym, ◌∙◌, ◌⊎◌, inl, inr, subst, refl, length-append}
-use Rattle.basic_laws.proofs.Lists.{Member, member-at}
-use Rattle.tso_model.specs.declared.execution.Entry.{Entry}
+use Rattle.axiom_checker.proofs.Vocabulary.{◌≡◌, ◌<◌, ◌≤◌, ℕ, ◌+◌, suc, zero, List, [], ◌∷◌, ◌++◌, length, Some, slice_get, arith, ap, sym, ◌∙◌, ◌⊎◌, inl, inr, subst, refl, length-append, Member, member-at, Entry}
 
 pub at-member : (xs : List Entry) (i : ℕ) (e : Entry) → slice_get xs i ≡ Some e → Member e xs
 at-member [] i e h = absurd (let z : ⊥ = cc in z)

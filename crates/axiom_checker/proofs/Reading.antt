@@ -1,20 +1,5 @@
 -- The values with which the reads came are the order's own read values, and with them the programs make what they make.
-use Rattle.std.proofs.Common.{◌≡◌, ◌≤◌, ℕ, ◌+◌, suc, List, [], ◌∷◌, ◌++◌, length, Option, Some, slice_get, slice_index, slice_index_or, take, drop, Bool, true, false, if◌then◌else◌, arith, ap, sym, ◌∙◌, refl, subst, inl, inr}
-use Rattle.std.specs.Option.{unwrap_or}
-use Rattle.tso_model.specs.Actions.{action_of}
-use Rattle.tso_model.specs.Thread.{entries_by, entries_of, reads_in}
-use Rattle.tso_model.specs.Litmus.{Litmus}
-use Rattle.tso_model.specs.ProgramOrder.{is_read}
-use Rattle.tso_model.specs.ProgramEntries.{read_value, values_by, made}
-use Rattle.tso_model.specs.ProgramEntries.{read_values}
-use Rattle.tso_model.specs.declared.instruction.Instr.{Instr}
-use Rattle.tso_model.specs.declared.action.Action.{Action}
-use Rattle.tso_model.specs.declared.action.Action.TheVariants.{Store, Load, Move, Fence, Lock}
-use Rattle.tso_model.specs.declared.execution.Entry.{Entry}
-use Rattle.axiom_checker.specs.First.{IsNowhere}
-use Rattle.axiom_checker.specs.Entries.{IsStray}
-use Rattle.axiom_checker.specs.inner.Programs.{reads_of_all, made_reading, kept_in, reads_that_came}
-use Rattle.axiom_checker.specs.inner.Slots.{HasCome, HasNotCome}
+use Rattle.axiom_checker.proofs.Vocabulary.{◌≡◌, ◌≤◌, ℕ, ◌+◌, suc, List, [], ◌∷◌, ◌++◌, length, Option, Some, slice_get, slice_index, slice_index_or, take, drop, Bool, true, false, if◌then◌else◌, arith, ap, sym, ◌∙◌, refl, subst, inl, inr, unwrap_or, action_of, entries_by, entries_of, reads_in, Litmus, is_read, read_value, values_by, made, read_values, Instr, Action, Store, Load, Move, Fence, Lock, Entry, IsNowhere, IsStray, reads_of_all, made_reading, kept_in, reads_that_came, HasCome, HasNotCome}
 use Rattle.axiom_checker.proofs.Actions.{SameAction, same-parts, same-turned, NoneTwice, value-at, looked-up}
 use Rattle.axiom_checker.proofs.Made.{all_reads, all-count, made-by-reads}
 use Rattle.axiom_checker.proofs.Whole.{none-twice}

@@ -1,20 +1,5 @@
 -- What the programs make has one shape, whatever their reads return: only values differ.
-use Rattle.std.proofs.Common.{◌≡◌, ℕ, ◌+◌, suc, zero, List, [], ◌∷◌, ◌++◌, Some, slice_get, slice_index, slice_index_or, take, drop, map, Bool, true, false, ◌==◌, ◌&&◌, ◌||◌, if◌then◌else◌, ap, sym, ◌∙◌, refl, subst}
-use Rattle.std.proofs.lemmas.List.{map-append}
-use Rattle.tso_model.specs.Actions.{action_of}
-use Rattle.tso_model.specs.Thread.{entry, entries_by, entries_of, reads_in}
-use Rattle.tso_model.specs.Litmus.{Litmus}
-use Rattle.tso_model.specs.ProgramOrder.{same_kind, is_read, is_write}
-use Rattle.basic_laws.proofs.Ranks.{is_read_kind, is_write_kind}
-use Rattle.tso_model.specs.ProgramEntries.{made}
-use Rattle.tso_model.specs.declared.instruction.Instr.{Instr}
-use Rattle.tso_model.specs.declared.action.Action.{Action}
-use Rattle.tso_model.specs.declared.action.Action.TheVariants.{Store, Load, Move, Fence, Lock}
-use Rattle.tso_model.specs.declared.execution.Entry.{Entry}
-use Rattle.tso_model.specs.declared.execution.Kind.{Kind}
-use Rattle.tso_model.specs.declared.execution.Kind.TheVariants.{R, W, F, LR, LW}
-use Rattle.axiom_checker.specs.Entries.{same_action, same_but_value, IsExtra}
-use Rattle.axiom_checker.specs.inner.Programs.{made_reading}
+use Rattle.axiom_checker.proofs.Vocabulary.{◌≡◌, ℕ, ◌+◌, suc, zero, List, [], ◌∷◌, ◌++◌, Some, slice_get, slice_index, slice_index_or, take, drop, map, Bool, true, false, ◌==◌, ◌&&◌, ◌||◌, if◌then◌else◌, ap, sym, ◌∙◌, refl, subst, map-append, action_of, entry, entries_by, entries_of, reads_in, Litmus, same_kind, is_read, is_write, is_read_kind, is_write_kind, made, Instr, Action, Store, Load, Move, Fence, Lock, Entry, Kind, R, W, F, LR, LW, same_action, same_but_value, IsExtra, made_reading}
 use Rattle.axiom_checker.proofs.Actions.{SameAction, same-parts}
 use Rattle.axiom_checker.proofs.Made.{of-made}
 

@@ -1,11 +1,5 @@
 -- Program order as a fact.
-use Rattle.std.proofs.Common.{◌≡◌, ◌<◌, true, ◌==◌, nat_lt, arith, sym, ◌∙◌, inl, inr}
-use Rattle.std.proofs.lemmas.Bool.{eq-eqb, eqb-true, and_from, and_parts, lt-ltb, ltb-true}
-use Rattle.tso_model.specs.ProgramOrder.{is_before}
-use Rattle.basic_laws.specs.Ranks.{rank}
-use Rattle.basic_laws.proofs.Ranks.{by-rank}
-use Rattle.tso_model.specs.declared.execution.Entry.{Entry}
-use Rattle.axiom_checker.specs.inner.Slots.{Precedes}
+use Rattle.axiom_checker.proofs.Vocabulary.{◌≡◌, ◌<◌, true, ◌==◌, nat_lt, arith, sym, ◌∙◌, inl, inr, eq-eqb, eqb-true, and_from, and_parts, lt-ltb, ltb-true, is_before, rank, by-rank, Entry, Precedes}
 
 -- program order as a fact
 pub record Before (x y : Entry) : Type 0 where

@@ -1,22 +1,10 @@
 -- An order is whole exactly where no entry is extra, there twice, missing or a write of a wrong value.
-use Rattle.std.proofs.Common.{◌≡◌, ℕ, List, length, Some, slice_get, true, false, arith, ap, sym, ◌∙◌, inl, inr, subst, refl}
-use Rattle.std.proofs.lemmas.Bool.{cases_eq}
-use Rattle.tso_model.specs.Litmus.{Litmus}
-use Rattle.basic_laws.proofs.Ranks.{is_read_kind, is_write_kind}
-use Rattle.tso_model.specs.ProgramEntries.{made}
-use Rattle.tso_model.specs.Axioms.{IsWhole}
+use Rattle.axiom_checker.proofs.Vocabulary.{◌≡◌, ℕ, List, length, Some, slice_get, true, false, arith, ap, sym, ◌∙◌, inl, inr, subst, refl, cases_eq, Litmus, is_read_kind, is_write_kind, made, IsWhole, Entry, Kind, R, W, F, LR, LW, IsNowhere, same_action, same_but_value, IsExtra, IsStray, IsMissing, IsWrongWrite, written_value, Each, each-at, member-at}
 use Rattle.tso_model.specs.Standing.{StandsIn}
-use Rattle.tso_model.specs.declared.execution.Entry.{Entry}
-use Rattle.tso_model.specs.declared.execution.Kind.{Kind}
-use Rattle.tso_model.specs.declared.execution.Kind.TheVariants.{R, W, F, LR, LW}
-use Rattle.axiom_checker.specs.First.{IsNowhere}
-use Rattle.axiom_checker.specs.Entries.{same_action, same_but_value, IsExtra, IsStray, IsMissing, IsWrongWrite, written_value}
 use Rattle.axiom_checker.proofs.Firsts.{passing}
-use Rattle.basic_laws.proofs.Lists.{Each, each-at}
 use Rattle.axiom_checker.proofs.Made.{made-once}
 use Rattle.axiom_checker.proofs.OwnReads.{ReadsOwn, made-read}
 use Rattle.axiom_checker.proofs.Actions.{same-parts, same-from, same-turned, same-itself, entry-is, SameButValue, same_but_value-parts, same_but_value-itself, NoneTwice, one-entry, value-at, looked-up}
-use Rattle.basic_laws.proofs.Lists.{member-at}
 use Rattle.axiom_checker.proofs.Pigeon.{at-member, Distinct, distinct-from, distinct-one, no_fewer, pigeon}
 
 -- an order without any of the four

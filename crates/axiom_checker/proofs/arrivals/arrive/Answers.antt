@@ -1,5 +1,4 @@
-use Rattle.std.proofs.Common.{◌<◌, length, sym, ◌∙◌, arith, inl, inr}
-use Rattle.std.proofs.lemmas.Option.{slice_get_within}
+use Rattle.axiom_checker.proofs.Vocabulary.{◌<◌, length, sym, ◌∙◌, arith, inl, inr, slice_get_within}
 use Rattle.axiom_checker.proofs.Coming.{some-there, none-there, came-before, came-not, comes, not-extra}
 use Rattle.axiom_checker.proofs.arrivals.arrive.Goals as goal
 

@@ -1,6 +1,4 @@
-use Rattle.std.proofs.Common.{not, ap, sym, ◌∙◌}
-use Rattle.std.proofs.lemmas.Option.{slice_get-get_or}
-use Rattle.axiom_checker.specs.inner.Slots.{HasNotCome}
+use Rattle.axiom_checker.proofs.Vocabulary.{not, ap, sym, ◌∙◌, slice_get-get_or, HasNotCome}
 use Rattle.axiom_checker.proofs.Firsts.{none_at_all, none_in_nothing}
 use Rattle.axiom_checker.proofs.Coming.{none-there, not-none-there, came-too}
 use Rattle.axiom_checker.proofs.arrivals.first_missing.Goals as goal

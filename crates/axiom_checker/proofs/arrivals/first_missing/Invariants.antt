@@ -1,5 +1,4 @@
-use Rattle.axiom_checker.specs.inner.Slots.{HasNotCome}
-use Rattle.axiom_checker.specs.First.{NoneBefore}
+use Rattle.axiom_checker.proofs.Vocabulary.{HasNotCome, NoneBefore}
 use Rattle.axiom_checker.proofs.arrivals.first_missing.Given as goal
 
 abbrev pub invariant-loop-i : goal.invariant-loop-i

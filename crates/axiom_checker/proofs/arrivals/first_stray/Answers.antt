@@ -1,5 +1,4 @@
-use Rattle.std.proofs.Common.{◌<◌, length, slice_get, ap, sym, ◌∙◌, arith, refl, subst}
-use Rattle.axiom_checker.specs.Entries.{IsStray}
+use Rattle.axiom_checker.proofs.Vocabulary.{◌<◌, length, slice_get, ap, sym, ◌∙◌, arith, refl, subst, IsStray}
 use Rattle.axiom_checker.proofs.Firsts.{one_more, none_at_all, none_in_nothing}
 use Rattle.axiom_checker.proofs.Coming.{nothing-came}
 use Rattle.axiom_checker.proofs.Looks.{no-looks, looks-here}

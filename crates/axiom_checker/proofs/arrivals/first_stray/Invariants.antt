@@ -1,7 +1,4 @@
-use Rattle.std.proofs.Common.{◌≡◌, ◌≤◌, ◌+◌}
-use Rattle.axiom_checker.specs.Entries.{IsStray}
-use Rattle.axiom_checker.specs.inner.Slots.{HasCome}
-use Rattle.axiom_checker.specs.First.{NoneBefore}
+use Rattle.axiom_checker.proofs.Vocabulary.{◌≡◌, ◌≤◌, ◌+◌, IsStray, HasCome, NoneBefore}
 use Rattle.axiom_checker.proofs.arrivals.first_stray.Given as goal
 
 -- the entries so far came, one look each, and none of them strays

@@ -1,10 +1,4 @@
-use Rattle.std.proofs.Common.{◌≤◌, IfOk, length, ap, sym, ◌∙◌, refl, subst}
-use Rattle.std.proofs.lemmas.Bool.{true≢false}
-use Rattle.tso_model.specs.ProgramEntries.{made}
-use Rattle.axiom_checker.specs.inner.Programs.{made_reading, reads_of_all}
-use Rattle.axiom_checker.specs.inner.Slots.{IsIndex}
-use Rattle.axiom_checker.specs.inner.Passing.{IsMatched}
-use Rattle.axiom_checker.specs.inner.FirstBreach.{TellsFirstBreach}
+use Rattle.axiom_checker.proofs.Vocabulary.{◌≤◌, IfOk, length, ap, sym, ◌∙◌, refl, subst, true≢false, made, made_reading, reads_of_all, IsIndex, IsMatched, TellsFirstBreach}
 use Rattle.axiom_checker.proofs.Judging.{alike-of, names-first-stray, names-first-missing, all-matched, all-read, made-index}
 use Rattle.axiom_checker.proofs.check.breach_by_shape.Goals as goal
 

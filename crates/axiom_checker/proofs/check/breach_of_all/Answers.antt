@@ -1,6 +1,4 @@
-use Rattle.std.proofs.Common.{length, ap, sym, ◌∙◌, subst, refl}
-use Rattle.axiom_checker.specs.inner.Slots.{Ascends, AreWithin}
-use Rattle.axiom_checker.specs.inner.Sources.{HasSources}
+use Rattle.axiom_checker.proofs.Vocabulary.{length, ap, sym, ◌∙◌, subst, refl, Ascends, AreWithin, HasSources}
 use Rattle.axiom_checker.proofs.Made.{made-ascends, made-within}
 use Rattle.axiom_checker.proofs.Judging.{of-programs, tells-met, words-are}
 use Rattle.axiom_checker.proofs.Coming.{zeros-are}

@@ -1,5 +1,4 @@
-use Rattle.std.proofs.Common.{subst, IfSome}
-use Rattle.axiom_checker.specs.FirstBreach.{IsFirstBreach}
+use Rattle.axiom_checker.proofs.Vocabulary.{subst, IfSome, IsFirstBreach}
 use Rattle.axiom_checker.proofs.Breaches.{breach-is-real}
 use Rattle.axiom_checker.proofs.check.check_counted.Goals as goal
 

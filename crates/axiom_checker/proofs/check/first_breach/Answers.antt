@@ -1,5 +1,4 @@
-use Rattle.std.proofs.Common.{length, arith, sym, ◌∙◌, subst}
-use Rattle.axiom_checker.specs.inner.Slots.{Ascends, AreWithin}
+use Rattle.axiom_checker.proofs.Vocabulary.{length, arith, sym, ◌∙◌, subst, Ascends, AreWithin}
 use Rattle.axiom_checker.proofs.Made.{reads-few, reading-ascends, reading-within}
 use Rattle.axiom_checker.proofs.check.first_breach.Goals as goal
 

@@ -1,4 +1,4 @@
-use Rattle.std.proofs.Common.{refl}
+use Rattle.axiom_checker.proofs.Vocabulary.{refl}
 use Rattle.axiom_checker.proofs.Judging.{names-met-late, late-has-one, names-met-separated, names-met-read, names-met-none}
 use Rattle.axiom_checker.proofs.check.first_met.Goals as goal
 

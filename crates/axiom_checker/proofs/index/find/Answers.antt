@@ -1,7 +1,4 @@
-use Rattle.std.proofs.Common.{ap, sym, ◌∙◌}
-use Rattle.std.proofs.lemmas.Option.{slice_get-get_or}
-use Rattle.axiom_checker.specs.inner.Programs.{kept_in}
-use Rattle.axiom_checker.specs.inner.Slots.{slot_of}
+use Rattle.axiom_checker.proofs.Vocabulary.{ap, sym, ◌∙◌, slice_get-get_or, kept_in, slot_of}
 use Rattle.axiom_checker.proofs.Coming.{index-within, found-none, found-other}
 use Rattle.axiom_checker.proofs.index.find.Goals as goal
 

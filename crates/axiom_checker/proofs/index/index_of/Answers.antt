@@ -1,5 +1,4 @@
-use Rattle.std.proofs.Common.{Some, ◌∙◌, arith}
-use Rattle.std.proofs.lemmas.List.{length-set}
+use Rattle.axiom_checker.proofs.Vocabulary.{Some, ◌∙◌, arith, length-set}
 use Rattle.std.proofs.lemmas.Grind.{common_steps}
 use Rattle.axiom_checker.proofs.Coming.{slot-bound, index-step, index-only}
 use Rattle.axiom_checker.proofs.index.index_of.Goals as goal

@@ -1,7 +1,4 @@
-use Rattle.std.proofs.Common.{◌≡◌, ◌<◌, ◌*◌, ℕ, Some, slice_get, length}
-use Rattle.tso_model.specs.declared.execution.Entry.{Entry}
-use Rattle.axiom_checker.specs.inner.Programs.{kept_in}
-use Rattle.axiom_checker.specs.inner.Slots.{slot_of, slots_of_a_core}
+use Rattle.axiom_checker.proofs.Vocabulary.{◌≡◌, ◌<◌, ◌*◌, ℕ, Some, slice_get, length, Entry, kept_in, slot_of, slots_of_a_core}
 use Rattle.axiom_checker.proofs.index.index_of.Given as goal
 
 -- the entries so far stand in the table, and nothing else does

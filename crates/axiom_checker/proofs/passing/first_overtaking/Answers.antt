@@ -1,5 +1,4 @@
-use Rattle.std.proofs.Common.{slice_get, ap, sym, ◌∙◌, arith}
-use Rattle.axiom_checker.specs.AxiomBreaches.{must_stand_before}
+use Rattle.axiom_checker.proofs.Vocabulary.{slice_get, ap, sym, ◌∙◌, arith, must_stand_before}
 use Rattle.axiom_checker.proofs.Meeting.{one-more-fails}
 use Rattle.axiom_checker.proofs.passing.first_overtaking.Goals as goal
 

@@ -1,6 +1,4 @@
-use Rattle.std.proofs.Common.{◌≡◌, ◌≤◌, ◌<◌, ◌+◌, ℕ, Some, false, slice_get}
-use Rattle.tso_model.specs.declared.execution.Entry.{Entry}
-use Rattle.axiom_checker.specs.AxiomBreaches.{must_stand_before}
+use Rattle.axiom_checker.proofs.Vocabulary.{◌≡◌, ◌≤◌, ◌<◌, ◌+◌, ℕ, Some, false, slice_get, Entry, must_stand_before}
 use Rattle.axiom_checker.proofs.passing.first_overtaking.Given as goal
 
 -- one look each, and none of the entries so far overtook

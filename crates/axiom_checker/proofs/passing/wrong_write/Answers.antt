@@ -1,4 +1,4 @@
-use Rattle.std.proofs.Common.{sym, ◌∙◌, refl}
+use Rattle.axiom_checker.proofs.Vocabulary.{sym, ◌∙◌, refl}
 use Rattle.axiom_checker.proofs.passing.wrong_write.Goals as goal
 
 pub returns-clause-found : goal.returns-clause-found

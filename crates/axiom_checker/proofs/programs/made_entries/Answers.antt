@@ -1,5 +1,4 @@
-use Rattle.std.proofs.Common.{◌<◌, ◌≤◌, ◌++◌, length, take, drop, ap, sym, ◌∙◌, subst, refl}
-use Rattle.axiom_checker.specs.inner.Programs.{made_reading}
+use Rattle.axiom_checker.proofs.Vocabulary.{◌<◌, ◌≤◌, ◌++◌, length, take, drop, ap, sym, ◌∙◌, subst, refl, made_reading}
 use Rattle.axiom_checker.proofs.Making.{made-all, made-more, reads-here, reads-behind}
 use Rattle.axiom_checker.proofs.programs.made_entries.Goals as goal
 

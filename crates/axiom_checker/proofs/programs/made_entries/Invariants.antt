@@ -1,5 +1,4 @@
-use Rattle.std.proofs.Common.{◌≡◌, ◌≤◌, ◌++◌, drop, length}
-use Rattle.axiom_checker.specs.inner.Programs.{made_reading, reads_of_all}
+use Rattle.axiom_checker.proofs.Vocabulary.{◌≡◌, ◌≤◌, ◌++◌, drop, length, made_reading, reads_of_all}
 use Rattle.axiom_checker.proofs.programs.made_entries.Given as goal
 
 -- the entries so far and those of the cores that are left make all of them

@@ -1,6 +1,4 @@
-use Rattle.std.proofs.Common.{ap, sym, ◌∙◌, refl}
-use Rattle.std.specs.Option.{unwrap_or}
-use Rattle.axiom_checker.specs.inner.Programs.{reads_that_came}
+use Rattle.axiom_checker.proofs.Vocabulary.{ap, sym, ◌∙◌, refl, unwrap_or, reads_that_came}
 use Rattle.axiom_checker.proofs.Making.{made-all, read-more, other-more}
 use Rattle.axiom_checker.proofs.programs.reads_in_order.Goals.{then-is_read+in_ok-push, else-is_read}
 use Rattle.axiom_checker.proofs.programs.reads_in_order.Goals as goal

@@ -1,5 +1,4 @@
-use Rattle.std.proofs.Common.{◌≡◌, ◌++◌, drop}
-use Rattle.axiom_checker.specs.inner.Programs.{reads_that_came}
+use Rattle.axiom_checker.proofs.Vocabulary.{◌≡◌, ◌++◌, drop, reads_that_came}
 use Rattle.axiom_checker.proofs.programs.reads_in_order.Given as goal
 
 abbrev pub invariant-loop-i : goal.invariant-loop-i

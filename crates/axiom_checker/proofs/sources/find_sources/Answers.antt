@@ -1,5 +1,4 @@
-use Rattle.std.proofs.Common.{◌+◌, length, length-append, ap, ◌∙◌, arith}
-use Rattle.axiom_checker.specs.inner.Programs.{kept_in}
+use Rattle.axiom_checker.proofs.Vocabulary.{◌+◌, length, length-append, ap, ◌∙◌, arith, kept_in}
 use Rattle.axiom_checker.proofs.OwnWrites.{sources-step, latest-step, latest-none, none-sooner, known-here}
 use Rattle.axiom_checker.proofs.sources.find_sources.Goals as goal
 

@@ -1,7 +1,4 @@
-use Rattle.std.proofs.Common.{◌≡◌, ◌<◌, ℕ, Some, slice_get, length}
-use Rattle.tso_model.specs.declared.execution.Entry.{Entry}
-use Rattle.axiom_checker.specs.inner.Programs.{kept_in}
-use Rattle.axiom_checker.specs.inner.Sources.{IsSource}
+use Rattle.axiom_checker.proofs.Vocabulary.{◌≡◌, ◌<◌, ℕ, Some, slice_get, length, Entry, kept_in, IsSource}
 use Rattle.axiom_checker.proofs.OwnWrites.{AreLatest}
 use Rattle.axiom_checker.proofs.sources.find_sources.Given as goal
 

@@ -1,5 +1,4 @@
-use Rattle.std.proofs.Common.{sym, ◌∙◌, subst}
-use Rattle.axiom_checker.specs.inner.Slots.{AreWithin}
+use Rattle.axiom_checker.proofs.Vocabulary.{sym, ◌∙◌, subst, AreWithin}
 use Rattle.axiom_checker.proofs.sources.own_writes.Goals as goal
 
 pub find_sources-requires-clause-within : goal.find_sources-requires-clause-within

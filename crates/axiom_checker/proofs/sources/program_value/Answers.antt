@@ -1,5 +1,4 @@
-use Rattle.std.proofs.Common.{ap, sym, ◌∙◌}
-use Rattle.std.proofs.lemmas.Option.{get_or_from_slice_get}
+use Rattle.axiom_checker.proofs.Vocabulary.{ap, sym, ◌∙◌, get_or_from_slice_get}
 use Rattle.axiom_checker.proofs.Actions.{same_but_value-parts, value-at, looked-up}
 use Rattle.axiom_checker.proofs.Coming.{index-none-twice}
 use Rattle.axiom_checker.proofs.sources.program_value.Goals as goal

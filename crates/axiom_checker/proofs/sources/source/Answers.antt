@@ -1,5 +1,4 @@
-use Rattle.std.proofs.Common.{subst, sym}
-use Rattle.axiom_checker.specs.inner.Sources.{IsSource}
+use Rattle.axiom_checker.proofs.Vocabulary.{subst, sym, IsSource}
 use Rattle.axiom_checker.proofs.Actions.{same_but_value-parts}
 use Rattle.axiom_checker.proofs.OwnWrites.{source-same}
 use Rattle.axiom_checker.proofs.sources.source.Goals as goal
