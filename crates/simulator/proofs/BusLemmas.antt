@@ -1,26 +1,9 @@
 -- Runs on either bus: the choices with the caches' answers, and what an ended run leaves.
-use Rattle.std.proofs.Common.{◌≡◌, ℕ, zero, suc, arith, true, List, [], ◌∷◌, ◌++◌, length, append-nil, refl, sym, ap, subst, ◌∙◌}
-use Rattle.tso_model.specs.Litmus.{Litmus, IsTest}
-use Rattle.tso_model.specs.Axioms.{IsTsoExecution}
-use Rattle.tso_model.specs.SequentialConsistency.{KeepsAllOrder}
+use Rattle.simulator.proofs.Vocabulary.{◌≡◌, ℕ, zero, suc, arith, true, List, [], ◌∷◌, ◌++◌, length, append-nil, refl, sym, ap, subst, ◌∙◌, Litmus, IsTest, IsTsoExecution, KeepsAllOrder, State, start, Run, run, Free, Attempt, BusState, BusRun, unheld, run_on, after_on, choices_in, HitsFit, put_together, together, Bus, Atomic, Split, Choice, Entry, IsExecution, EndOn, waiting, IsFlatRun, Table, Caches, attempt_of, use_on, Configuration, run_by, AnswersFitBy}
 use Rattle.tso_model.specs.FinalState.{final_words, final_registers}
-use Rattle.tso_model.specs.FlatMachine.{State, start}
-use Rattle.tso_model.specs.Runs.{Run, run}
-use Rattle.tso_model.specs.SplitMachine.{Free, Attempt}
-use Rattle.tso_model.specs.EitherBus.{BusState, BusRun, unheld, run_on, after_on, choices_in, HitsFit}
-use Rattle.tso_model.specs.Together.{put_together, together}
-use Rattle.tso_model.specs.declared.choice.Bus.{Bus}
-use Rattle.tso_model.specs.declared.choice.Bus.TheVariants.{Atomic, Split}
-use Rattle.tso_model.specs.declared.choice.Choice.{Choice}
-use Rattle.tso_model.specs.declared.execution.Entry.{Entry}
-use Rattle.tso_laws.specs.EndedRuns.{IsExecution, registers_in}
+use Rattle.tso_laws.specs.EndedRuns.{registers_in}
 use Rattle.tso_laws.specs.Words.{HoldsWords}
-use Rattle.split_laws.specs.BusRuns.{EndOn, waiting, IsFlatRun}
-use Rattle.protocol_tables.specs.Tables.{Table}
-use Rattle.machine_core.specs.Caches.{Caches, attempt_of, use_on}
 use Rattle.machine_core.specs.Answered.{answered, answered_from}
-use Rattle.machine_core.specs.Configuration.{Configuration}
-use Rattle.simulator.specs.Runs.{run_by, AnswersFitBy}
 
 -- ---- the answers leave the choices as they are
 

@@ -1,24 +1,14 @@
 -- The counts of a run: as many as the test has cores, and none larger than the number of choices.
-use Rattle.std.proofs.Common.{◌≡◌, ◌≤◌, ◌+◌, ℕ, zero, suc, Bool, true, false, cond, List, [], ◌∷◌, length, length-set, slice_index_or, Option, Some, None, All, refl, ◌∙◌, arith}
+use Rattle.simulator.proofs.Vocabulary.{◌≡◌, ◌≤◌, ◌+◌, ℕ, zero, suc, Bool, true, false, cond, List, [], ◌∷◌, length, length-set, slice_index_or, Option, Some, None, All, refl, ◌∙◌, arith, Litmus, start, BusState, unheld, after_on, Bus, has_ended, Choice, Table, Counts, attempt_of, Statistics, no_counts, with_access, with_write_back, with_forward, with_flush, at_core, flush_counted, counted, statistics_from, statistics_after, no_statistics, counts_of}
 use Rattle.std.proofs.lemmas.List.{length-replicate}
 use Rattle.std.proofs.lemmas.List.Elements.{All-set, All-replicate, All-head, All-tail, All-weaker}
-use Rattle.tso_model.specs.Litmus.{Litmus}
-use Rattle.tso_model.specs.FlatMachine.{start}
-use Rattle.tso_model.specs.EitherBus.{BusState, unheld, after_on}
-use Rattle.tso_model.specs.declared.choice.Bus.{Bus}
-use Rattle.tso_model.specs.Runs.{has_ended}
 use Rattle.tso_model.specs.declared.instruction.Core.{Core}
-use Rattle.tso_model.specs.declared.choice.Choice.{Choice}
-use Rattle.protocol_tables.specs.Tables.{Table}
 use Rattle.snoop_bus.specs.Geometry.{Geometry}
 use Rattle.snoop_bus.specs.declared.access.AccessKind.{AccessKind}
 use Rattle.snoop_bus.specs.declared.access.AccessKind.TheVariants.{Hit, Upgrade, Miss}
-use Rattle.machine_core.specs.declared.counts.Counts.{Counts}
 use Rattle.machine_core.specs.declared.accesses.CacheUse.{CacheUse}
 use Rattle.machine_core.specs.declared.accesses.CacheUse.TheVariants.{Unused, Forwarded, Through}
-use Rattle.machine_core.specs.Caches.{attempt_of}
 use Rattle.machine_core.specs.Keeping.{IsAtMost}
-use Rattle.machine_core.specs.Statistics.{Statistics, no_counts, with_access, with_write_back, with_forward, with_flush, at_core, flush_counted, counted, statistics_from, statistics_after, no_statistics, counts_of}
 
 -- ---- as many as cores
 

@@ -1,20 +1,8 @@
 -- A machine that is driven through choices: how far it has come, and where it stops.
-use Rattle.std.proofs.Common.{◌≡◌, ◌⊎◌, inl, inr, ◌+◌, ℕ, true, false, List, [], ◌∷◌, ◌++◌, length, append-nil, append_assoc, refl, sym, ap, subst, ◌∙◌, arith}
-use Rattle.tso_model.specs.Litmus.{Litmus}
-use Rattle.tso_model.specs.Runs.{has_ended, stall_count}
-use Rattle.tso_model.specs.SplitMachine.{Holder, Free, Attempt}
-use Rattle.tso_model.specs.EitherBus.{BusState, BusRun, effect_on, after_on, run_on, then_on, resting_on, HitFits, HitsFit}
-use Rattle.tso_model.specs.declared.choice.Bus.{Bus}
-use Rattle.tso_model.specs.declared.choice.Choice.{Choice}
+use Rattle.simulator.proofs.Vocabulary.{◌≡◌, ◌⊎◌, inl, inr, ◌+◌, ℕ, true, false, List, [], ◌∷◌, ◌++◌, length, append-nil, append_assoc, refl, sym, ap, subst, ◌∙◌, arith, Litmus, has_ended, stall_count, Holder, Free, Attempt, BusState, BusRun, effect_on, after_on, run_on, then_on, resting_on, HitFits, HitsFit, Bus, Choice, Entry, EndOn, left_by, ChangesNothingOn, StopsAtTheEndOn, Running, attempt_on, effect_by, machine_after, AnswerFits, Statistics, statistics_from, answers_of, run_of, HaveFittingAnswers, Drives}
 use Rattle.tso_model.specs.declared.choice.Outcome.{Outcome}
 use Rattle.tso_model.specs.declared.choice.Outcome.TheVariants.{Committed, Buffered, Moved, Asked}
-use Rattle.tso_model.specs.declared.execution.Entry.{Entry}
 use Rattle.split_laws.specs.BusChoices.{IsPossibleOn}
-use Rattle.split_laws.specs.BusRuns.{EndOn, left_by}
-use Rattle.split_laws.specs.inner.BusRuns.{ChangesNothingOn, StopsAtTheEndOn}
-use Rattle.machine_core.specs.Running.{Running, attempt_on, effect_by, machine_after, AnswerFits}
-use Rattle.machine_core.specs.Statistics.{Statistics, statistics_from}
-use Rattle.simulator.specs.inner.Simulation.{answers_of, run_of, HaveFittingAnswers, Drives}
 
 -- what the laws of either bus say of states and of the end
 pub record Laws : Type 0 where

@@ -1,20 +1,7 @@
 -- What a driven machine is left with, as the answer of a simulation.
-use Rattle.std.proofs.Common.{◌≡◌, ◌-◌, ℕ, List, length, is_some, sym, ap, subst, ◌∙◌}
-use Rattle.tso_model.specs.Litmus.{Litmus, IsTest}
-use Rattle.tso_model.specs.Axioms.{IsWhole}
-use Rattle.tso_model.specs.declared.choice.Choice.{Choice}
-use Rattle.tso_laws.specs.EndedRuns.{IsExecution}
+use Rattle.simulator.proofs.Vocabulary.{◌≡◌, ◌-◌, ℕ, List, length, is_some, sym, ap, subst, ◌∙◌, Litmus, IsTest, IsWhole, Choice, IsExecution, Table, Configuration, Running, shown, run_by, counts_by, AnswersFitBy, IsEndingOf, FitsEnding, HasCounts, IsLeftBy, Ending, Ended, Unfinished}
 use Rattle.tso_laws.specs.inner.Laws.{WholeOrdersHaveEachEntryOnce}
-use Rattle.protocol_tables.specs.Tables.{Table}
-use Rattle.machine_core.specs.Configuration.{Configuration}
-use Rattle.machine_core.specs.Running.{Running}
-use Rattle.tso_report.specs.Shown.{shown}
-use Rattle.simulator.specs.Runs.{run_by, counts_by, AnswersFitBy}
 use Rattle.simulator.specs.inner.Runs.{EndsBy}
-use Rattle.simulator.specs.Simulation.{IsEndingOf, FitsEnding, HasCounts}
-use Rattle.simulator.specs.inner.Simulation.{IsLeftBy}
-use Rattle.simulator.specs.declared.simulation.Ending.{Ending}
-use Rattle.simulator.specs.declared.simulation.Ending.TheVariants.{Ended, Unfinished}
 use Rattle.simulator.proofs.CountLemmas.{counts-each}
 use Rattle.simulator.proofs.SimulationLemmas.{RunLaws, IsDriven, unfinished-is, ended-is, ended-order, counts-are, locations-known, is_some-verdict}
 

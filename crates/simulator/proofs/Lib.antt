@@ -1,3 +1,4 @@
+pub mod Vocabulary
 pub mod SimulationLemmas
 pub mod BusLemmas
 pub mod DriveLemmas

@@ -1,41 +1,15 @@
 -- From a machine that was driven to the answer of a simulation.
-use Rattle.std.proofs.Common.{◌≡◌, ◌<◌, ◌-◌, ◌+◌, ◌*◌, ℕ, zero, suc, Bool, true, false, List, [], ◌∷◌, length, All, slice_get, slice_index_or, Option, Some, None, is_some, Result, Ok, Err, IfOk, OnOk, arith, ap, sym, ◌∙◌, refl, subst}
+use Rattle.simulator.proofs.Vocabulary.{◌≡◌, ◌<◌, ◌-◌, ◌+◌, ◌*◌, ℕ, zero, suc, Bool, true, false, List, [], ◌∷◌, length, All, slice_get, slice_index_or, Option, Some, None, is_some, Result, Ok, Err, IfOk, OnOk, arith, ap, sym, ◌∙◌, refl, subst, Litmus, KeepsAllOrder, Condition, truth_of, State, registers_in, Run, has_ended, Attempt, BusState, run_on, choices_in, put_together, together, Bus, Atomic, Choice, Entry, End, EndOn, StopsAtTheEndOn, Table, Counts, Configuration, Statistics, counts_of, Running, new_machine, Shown, run_by, AnswersFitBy, Ending, Ended, Unfinished, shown_of, verdict, IsEndingOf, IsCounted, HasAllOrder, HasEnded, drains, Drives}
 use Rattle.std.specs.Option.{option_map}
-use Rattle.tso_model.specs.Litmus.{Litmus}
 use Rattle.tso_model.specs.Standing.{StandsIn}
-use Rattle.tso_model.specs.SequentialConsistency.{KeepsAllOrder}
-use Rattle.tso_model.specs.Condition.{Condition, truth_of}
-use Rattle.tso_model.specs.FlatMachine.{State, registers_in}
 use Rattle.tso_model.specs.Runs as flat
-use Rattle.tso_model.specs.Runs.{Run, has_ended}
-use Rattle.tso_model.specs.SplitMachine.{Attempt}
-use Rattle.tso_model.specs.EitherBus.{BusState, run_on, choices_in}
-use Rattle.tso_model.specs.Together.{put_together, together}
-use Rattle.tso_model.specs.declared.choice.Bus.{Bus}
-use Rattle.tso_model.specs.declared.choice.Bus.TheVariants.{Atomic}
-use Rattle.tso_model.specs.declared.choice.Choice.{Choice}
-use Rattle.tso_model.specs.declared.execution.Entry.{Entry}
 use Rattle.tso_model.specs.declared.execution.Kind.{Kind}
 use Rattle.tso_model.specs.declared.execution.Kind.TheVariants.{R, W, F, LR, LW}
 use Rattle.tso_laws.specs.Counting.{instructions, stores}
-use Rattle.tso_laws.specs.EndedRuns.{End}
 use Rattle.tso_laws.specs.Entries.{FitsTest}
 use Rattle.tso_laws.specs.Rounds.{CanBeCutIntoRounds}
-use Rattle.split_laws.specs.BusRuns.{EndOn}
-use Rattle.split_laws.specs.inner.BusRuns.{StopsAtTheEndOn}
 use Rattle.order_builder.specs.PrintedOrder.{HasLocation, IsLocationFor}
-use Rattle.protocol_tables.specs.Tables.{Table}
-use Rattle.machine_core.specs.declared.counts.Counts.{Counts}
-use Rattle.machine_core.specs.Configuration.{Configuration}
-use Rattle.machine_core.specs.Statistics.{Statistics, counts_of}
-use Rattle.machine_core.specs.Running.{Running, new_machine}
 use Rattle.machine_core.specs.inner.Running.{is_ended}
-use Rattle.tso_report.specs.Shown.{Shown}
-use Rattle.simulator.specs.Runs.{run_by, AnswersFitBy}
-use Rattle.simulator.specs.declared.simulation.Ending.{Ending}
-use Rattle.simulator.specs.declared.simulation.Ending.TheVariants.{Ended, Unfinished}
-use Rattle.simulator.specs.Simulation.{shown_of, verdict, IsEndingOf, IsCounted, HasAllOrder, HasEnded, drains}
-use Rattle.simulator.specs.inner.Simulation.{Drives}
 use Rattle.simulator.proofs.BusLemmas.{AtomicRuns, attempts_in, bus_run, choices-in, length-in, run-is, atomic-run}
 
 -- what the laws of either bus say of runs

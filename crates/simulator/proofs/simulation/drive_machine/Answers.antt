@@ -1,5 +1,4 @@
-use Rattle.std.proofs.Common.{arith, ◌≡◌, ◌+◌, length, refl, false, sym, ap, subst, ◌∙◌}
-use Rattle.tso_model.specs.Runs.{has_ended, stall_count, CoresExist}
+use Rattle.simulator.proofs.Vocabulary.{arith, ◌≡◌, ◌+◌, length, refl, false, sym, ap, subst, ◌∙◌, has_ended, stall_count, CoresExist}
 use Rattle.simulator.proofs.DriveLemmas.{Laws, SoFar, one-more, driven-to-end, no-stall}
 use Rattle.simulator.proofs.simulation.drive_machine.Goals as goal
 

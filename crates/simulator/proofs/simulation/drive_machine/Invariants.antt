@@ -1,5 +1,4 @@
-use Rattle.std.proofs.Common.{◌≡◌, ◌≤◌, ◌+◌, length}
-use Rattle.tso_model.specs.Runs.{has_ended, CoresExist}
+use Rattle.simulator.proofs.Vocabulary.{◌≡◌, ◌≤◌, ◌+◌, length, has_ended, CoresExist}
 use Rattle.simulator.proofs.DriveLemmas.{SoFar}
 use Rattle.simulator.proofs.simulation.drive_machine.Given as goal
 

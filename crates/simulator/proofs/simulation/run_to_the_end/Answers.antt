@@ -1,5 +1,4 @@
-use Rattle.std.proofs.Common.{arith, ap, ◌∙◌}
-use Rattle.simulator.specs.Runs.{AnswersFitBy}
+use Rattle.simulator.proofs.Vocabulary.{arith, ap, ◌∙◌, AnswersFitBy}
 use Rattle.simulator.proofs.SimulationLemmas.{answers-fit}
 use Rattle.simulator.proofs.Endings.{Laws, IsLeftOf, ending-is, ending-fits, ending-counts}
 use Rattle.simulator.proofs.simulation.run_to_the_end.Goals as goal

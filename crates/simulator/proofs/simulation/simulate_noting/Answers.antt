@@ -1,7 +1,4 @@
-use Rattle.std.proofs.Common.{IfOk, OnOk, subst}
-use Rattle.protocol_tables.specs.Tables.{table_of}
-use Rattle.simulator.specs.Runs.{run_under, AnswersFit}
-use Rattle.simulator.specs.Simulation.{IsEndingOf}
+use Rattle.simulator.proofs.Vocabulary.{IfOk, OnOk, subst, table_of, run_under, AnswersFit, IsEndingOf}
 use Rattle.simulator.proofs.SimulationLemmas.{choices-counted, counted, all-order, on-ok, ended-on-atomic, ended-on-either}
 use Rattle.simulator.proofs.simulation.simulate_noting.Goals as goal
 

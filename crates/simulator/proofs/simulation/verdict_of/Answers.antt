@@ -1,5 +1,4 @@
-use Rattle.std.proofs.Common.{length, sym, subst}
-use Rattle.tso_model.specs.Condition.{NamesExist, claim_of, condition_of}
+use Rattle.simulator.proofs.Vocabulary.{length, sym, subst, NamesExist, claim_of, condition_of}
 use Rattle.simulator.proofs.simulation.verdict_of.Goals as goal
 
 pub cond_holds-requires : goal.cond_holds-requires
