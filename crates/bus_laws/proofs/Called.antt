@@ -1,27 +1,10 @@
 -- A call of a bus, and memory's words after it: those that are seen, but where a copy is dirty those of before.
-use Rattle.std.proofs.Common.{◌≡◌, ◌≢◌, ◌∙◌, ◌⊎◌, ◌<◌, ◌/◌, ◌&&◌, ℕ, Bool, true, false, if◌then◌else◌, IfSome, List, length, Option, Some, None, option_map, nat_eq, inl, inr, refl, sym, ap, subst}
-use Rattle.std.proofs.lemmas.Bool.Decides.{eqb_tells}
+use Rattle.bus_laws.proofs.Vocabulary.{◌≡◌, ◌≢◌, ◌∙◌, ◌⊎◌, ◌<◌, ◌/◌, ◌&&◌, ℕ, Bool, true, false, if◌then◌else◌, IfSome, List, length, Option, Some, None, option_map, nat_eq, inl, inr, refl, sym, ap, subst, eqb_tells, Loc, is_dirty, Table, table_of, ProtocolKind, GetS, State, Line, table_of_rows, rows_of, line_in, state_of, may_share, TagSets, tag_in, loaded_in, write_in, requested, filled_by, Sets, copy_at, cache_of, tags_of, BusModel, AllCoherent, counted_copies, holder_of, IsFree, written_back, victim_at, loaded_memory_in, written_memory_in, tag_at, or_invalid, hit_in, asked_caches_in, awaiting, awaited_by, awaited_in, Awaited, completed, completed_in, completed_memory, completed_memory_in, contents_of, memory_of, would_hit, line_of, awaited_of, LoadsAt, WritesAt, AsksFor, CompletesAt, tag_at-copy, IsOwner}
 use Rattle.tso_model.specs.declared.instruction.Core.{Core}
-use Rattle.tso_model.specs.declared.instruction.Loc.{Loc}
-use Rattle.protocol_tables.specs.Laws.{is_dirty}
-use Rattle.protocol_tables.specs.Tables.{Table, table_of}
 use Rattle.protocol_tables.specs.Transients.{transient_of}
-use Rattle.protocol_tables.specs.declared.kind.ProtocolKind.{ProtocolKind}
-use Rattle.protocol_tables.specs.declared.requests.Request.TheVariants.{GetS}
 use Rattle.protocol_tables.specs.declared.requests.Transient.{Transient}
 use Rattle.protocol_tables.specs.declared.requests.Transient.TheVariants.{IsD, ImD, SmD}
-use Rattle.protocol_tables.specs.declared.state.State.{State}
-use Rattle.cache_set.specs.declared.Line.{Line}
-use Rattle.snoop_bus.specs.Rows.{table_of_rows, rows_of}
-use Rattle.snoop_bus.specs.Lines.{line_in}
-use Rattle.snoop_bus.specs.Coherent.{state_of, may_share}
-use Rattle.snoop_bus.specs.CacheContents.{TagSets, tag_in, loaded_in, write_in, requested, filled_by}
-use Rattle.snoop_bus.specs.Copies.{Sets, copy_at, cache_of, tags_of}
-use Rattle.snoop_bus.specs.Bus.{BusModel, AllCoherent, counted_copies, holder_of, IsFree}
 use Rattle.snoop_bus.specs.Held.{counted, counted_in, transaction_in, holder_in, holder}
-use Rattle.snoop_bus.specs.MemoryAfter.{written_back, victim_at, loaded_memory_in, written_memory_in}
-use Rattle.snoop_bus.specs.Asks.{tag_at, or_invalid, hit_in, asked_caches_in, awaiting, awaited_by, awaited_in, Awaited, completed, completed_in, completed_memory, completed_memory_in}
-use Rattle.snoop_bus.specs.Accesses.{contents_of, memory_of, would_hit, line_of, awaited_of, LoadsAt, WritesAt, AsksFor, CompletesAt}
 use Rattle.snoop_bus.specs.inner.Bus.{IsBus}
 use Rattle.snoop_bus.specs.inner.Held.{IsHeld, IsPlaced, Awaits, AskedOf}
 use Rattle.snoop_bus.specs.inner.Accesses.{MayGoOn}
@@ -32,9 +15,7 @@ use Rattle.snoop_bus.specs.declared.holding.Transaction.{Transaction}
 use Rattle.snoop_bus.specs.declared.access.Access.{Access}
 use Rattle.snoop_bus.proofs.HeldLemmas.{counting-at}
 use Rattle.snoop_bus.proofs.HolderLemmas.{free-held}
-use Rattle.snoop_bus.proofs.StateLemmas.{tag_at-copy}
 use Rattle.bus_laws.specs.inner.Calls.{IsCalled, loads, writes, asks, completes, keeps}
-use Rattle.bus_laws.specs.Owners.{IsOwner}
 use Rattle.bus_laws.proofs.Victims.{AllNeat, own-kept}
 use Rattle.bus_laws.proofs.Unowned.{SettlesMemory, settles, IsDirtyAt, never, not_absent, state-of}
 use Rattle.bus_laws.proofs.Stale.{AreApart, coherent-apart, load-stale, write-stale, complete-stale, ask-stale}

@@ -1,14 +1,12 @@
 -- What a choice of the flat machine commits, against the access that it makes.
-use Rattle.std.proofs.Common.{◌≡◌, ◌↔◌, ◌||◌, ℕ, zero, suc, Bool, true, false, if◌then◌else◌, List, [], ◌∷◌, filter, length, Option, Some, None, slice_get, nat_lt, ◌/◌, refl, sym, ap, ◌⊎◌, inl, inr, subst}
+use Rattle.bus_laws.proofs.Vocabulary.{◌≡◌, ◌↔◌, ◌||◌, ℕ, zero, suc, Bool, true, false, if◌then◌else◌, List, [], ◌∷◌, filter, length, Option, Some, None, slice_get, nat_lt, ◌/◌, refl, sym, ap, ◌⊎◌, inl, inr, subst, chosen, MemoryAccess, NoAccess, Reads, Writes, Locks, store_access, load_access, locked_access, access_by, step_access, drain_access, next_of, access_of, Loc, table_of_rows, IsUseFor, IsHitUse, use_at}
 use Rattle.std.specs.List.{list_any}
 use Rattle.tso_model.specs.Litmus.{Litmus}
 use Rattle.tso_model.specs.Actions.{action_of}
 use Rattle.tso_model.specs.Thread.{entry}
 use Rattle.tso_model.specs.ProgramOrder.{writes_to}
-use Rattle.tso_model.specs.FlatMachine.{CoreState, State, Effect, stored, effect_by, step_of, core_of, chosen}
-use Rattle.tso_model.specs.MemoryAccess.{MemoryAccess, NoAccess, Reads, Writes, Locks, store_access, load_access, locked_access, access_by, step_access, drain_access, next_of, access_of}
+use Rattle.tso_model.specs.FlatMachine.{CoreState, State, Effect, stored, effect_by, step_of, core_of}
 use Rattle.tso_model.specs.declared.register.Reg.{Reg}
-use Rattle.tso_model.specs.declared.instruction.Loc.{Loc}
 use Rattle.tso_model.specs.declared.instruction.Instr.{Instr}
 use Rattle.tso_model.specs.declared.action.Action.{Action}
 use Rattle.tso_model.specs.declared.action.Action.TheVariants.{Store, Load, Move, Fence, Lock}
@@ -17,11 +15,9 @@ use Rattle.tso_model.specs.declared.execution.Kind.TheVariants.{W}
 use Rattle.tso_model.specs.declared.choice.Choice.{Choice}
 use Rattle.tso_model.specs.declared.choice.Choice.TheVariants.{Step, Drain}
 use Rattle.split_laws.specs.inner.Pending.{IsStoreOf, PendingIsOwn}
-use Rattle.snoop_bus.specs.Rows.{table_of_rows}
 use Rattle.machine_core.specs.declared.accesses.CacheUse.TheVariants.{Unused, Forwarded}
 use Rattle.machine_core.specs.Caches.{Caches, Used, not_through, load_by, load_after, use_of, hits_by}
 use Rattle.basic_laws.proofs.WithPending.{drain_with, fenced_with, locked_with}
-use Rattle.bus_laws.specs.Uses.{IsUseFor, IsHitUse, use_at}
 use Rattle.bus_laws.proofs.Told.{load-told, write-told}
 
 -- a load is answered by one of these pending stores, or by none

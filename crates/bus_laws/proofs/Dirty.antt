@@ -1,14 +1,5 @@
 -- Which two states stand together: no two dirty ones.
-use Rattle.std.proofs.Common.{◌≡◌, ◌≢◌, ℕ, true, false, None, List, length, ap, inl, inr}
-use Rattle.protocol_tables.specs.Laws.{is_dirty}
-use Rattle.protocol_tables.specs.declared.state.State.{State}
-use Rattle.protocol_tables.specs.declared.state.State.TheVariants.{I, S, E, O, M}
-use Rattle.snoop_bus.specs.Lines.{Words}
-use Rattle.snoop_bus.specs.Coherent.{state_of, may_share}
-use Rattle.snoop_bus.specs.Copies.{Sets, copy_at}
-use Rattle.snoop_bus.specs.Bus.{AllCoherent}
-use Rattle.basic_laws.proofs.Basics.{lt-or}
-use Rattle.bus_laws.specs.Owners.{IsOwner}
+use Rattle.bus_laws.proofs.Vocabulary.{◌≡◌, ◌≢◌, ℕ, true, false, None, List, length, ap, inl, inr, is_dirty, State, I, S, E, O, M, Words, state_of, may_share, Sets, copy_at, AllCoherent, lt-or, IsOwner}
 
 pub apart : (s t : State) → may_share s t ≡ true → is_dirty s ≡ true → is_dirty t ≡ true → ⊥
 apart I t h a b = let z : ⊥ = cc in z

@@ -1,3 +1,4 @@
+pub mod Vocabulary
 pub mod Told
 pub mod Dirty
 pub mod Counted

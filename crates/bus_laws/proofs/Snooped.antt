@@ -1,16 +1,5 @@
 -- What becomes of the states of a line in the caches where another core's request is seen, and where a line comes in.
-use Rattle.std.proofs.Common.{◌≡◌, ◌≢◌, ◌∙◌, ◌⊎◌, ◌≤◌, ◌%◌, ℕ, zero, suc, true, false, List, [], ◌∷◌, length, map, slice_set, slice_index_or, Option, Some, None, nat_eq, if◌then◌else◌, inl, inr, refl, sym, ap, subst, get_or-set_same, get_or-set_other}
-use Rattle.std.proofs.lemmas.Bool.Decides.{eqb_tells}
-use Rattle.std.proofs.lemmas.List.{get_or_past}
-use Rattle.std.proofs.Math.ListN.{length-set}
-use Rattle.std.specs.Map.{lookup, remove_entry}
-use Rattle.basic_laws.proofs.Basics.{decide, lt-or}
-use Rattle.protocol_tables.specs.declared.state.State.{State}
-use Rattle.protocol_tables.specs.declared.state.State.TheVariants.{I, S, E, O, M}
-use Rattle.protocol_tables.specs.declared.state.Snoop.{Snoop}
-use Rattle.snoop_bus.specs.Asks.{tag_at, or_invalid}
-use Rattle.snoop_bus.specs.Tags.{TagSet, tag_of, in_next, snooped, snooped_in}
-use Rattle.snoop_bus.specs.CacheContents.{TagSets, tags_at, tag_in, at_line, sets_of, at_core, at_others, requested}
+use Rattle.bus_laws.proofs.Vocabulary.{◌≡◌, ◌≢◌, ◌∙◌, ◌⊎◌, ◌≤◌, ◌%◌, ℕ, zero, suc, true, false, List, [], ◌∷◌, length, map, slice_set, slice_index_or, Option, Some, None, nat_eq, if◌then◌else◌, inl, inr, refl, sym, ap, subst, get_or-set_same, get_or-set_other, eqb_tells, get_or_past, length-set, lookup, remove_entry, decide, lt-or, State, I, S, E, O, M, Snoop, tag_at, or_invalid, TagSet, tag_of, in_next, snooped, snooped_in, TagSets, tags_at, tag_in, at_line, sets_of, at_core, at_others, requested}
 use Rattle.bus_laws.proofs.Victims.{Once, no_set, AreNeat, gone-remove}
 
 -- ---- one set

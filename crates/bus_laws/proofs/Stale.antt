@@ -1,27 +1,6 @@
 -- A call of a bus changes a line of memory only where no copy of it that counts is dirty then.
-use Rattle.std.proofs.Common.{◌≡◌, ◌≢◌, ◌∙◌, ◌≤◌, ◌%◌, ℕ, zero, suc, true, false, List, [], ◌∷◌, length, take, slice_index_or, Some, None, option_map, nat_eq, inl, inr, refl, sym, ap, subst, get_or-set_same}
-use Rattle.std.proofs.lemmas.List.{get_or_past}
-use Rattle.std.proofs.Math.ListN.{length-set}
-use Rattle.basic_laws.proofs.Basics.{decide, lt-or}
-use Rattle.protocol_tables.specs.Laws.{is_dirty}
-use Rattle.protocol_tables.specs.Tables.{Table}
-use Rattle.protocol_tables.specs.declared.state.State.{State}
-use Rattle.protocol_tables.specs.declared.state.State.TheVariants.{I, M}
-use Rattle.protocol_tables.specs.declared.state.Snoop.{Snoop}
-use Rattle.cache_set.specs.declared.Line.{Line}
-use Rattle.cache_set.specs.declared.Victim.{Victim}
-use Rattle.snoop_bus.specs.Lines.{Words, line_in}
-use Rattle.snoop_bus.specs.Coherent.{state_of, may_share}
-use Rattle.std.specs.Map.{lookup}
-use Rattle.std.proofs.lemmas.Bool.{eq-eqb}
-use Rattle.snoop_bus.specs.Tags.{TagSet, tag_of, leaving, filled}
-use Rattle.snoop_bus.specs.CacheContents.{TagSets, tags_at, tag_in, at_line, sets_of, is_held, requested, filled_by}
-use Rattle.snoop_bus.specs.Copies.{Sets, copy_at, cache_of, set_at, tags_of}
-use Rattle.snoop_bus.specs.Bus.{AllCoherent}
-use Rattle.snoop_bus.specs.MemoryAfter.{written_back, flushed, sent_words, victim_at}
-use Rattle.snoop_bus.specs.Asks.{tag_at, or_invalid}
+use Rattle.bus_laws.proofs.Vocabulary.{◌≡◌, ◌≢◌, ◌∙◌, ◌≤◌, ◌%◌, ℕ, zero, suc, true, false, List, [], ◌∷◌, length, take, slice_index_or, Some, None, option_map, nat_eq, inl, inr, refl, sym, ap, subst, get_or-set_same, get_or_past, length-set, decide, lt-or, is_dirty, Table, State, I, M, Snoop, Line, Victim, Words, line_in, state_of, may_share, lookup, eq-eqb, TagSet, tag_of, leaving, filled, TagSets, tags_at, tag_in, at_line, sets_of, is_held, requested, filled_by, Sets, copy_at, cache_of, set_at, tags_of, AllCoherent, written_back, flushed, sent_words, victim_at, tag_at, or_invalid, tag_at-copy}
 use Rattle.snoop_bus.proofs.CacheTags.{tags_at-tags, sets_of-tags}
-use Rattle.snoop_bus.proofs.StateLemmas.{tag_at-copy}
 use Rattle.snoop_bus.proofs.TagLemmas.{victim_tag, leaving-tags}
 use Rattle.bus_laws.proofs.Victims.{AreNeat, AllNeat, no_set, own-kept, sets-leave}
 use Rattle.bus_laws.proofs.Snooped.{requested-beside, own-alone}

@@ -1,9 +1,5 @@
 -- Accesses, by the state of the core's own copy.
-use Rattle.std.proofs.Common.{◌≡◌, ◌↔◌, ℕ, Bool, true, false, List, Option, Some, None, refl, sym, ap, ◌∙◌, is_some}
-use Rattle.protocol_tables.specs.declared.state.State.{State}
-use Rattle.protocol_tables.specs.Tables.{Table}
-use Rattle.snoop_bus.specs.CacheContents.{TagSets, Accessed, loaded, loaded_in, written, written_in, write_in}
-use Rattle.snoop_bus.specs.Asks.{hits, hit_in, tag_at}
+use Rattle.bus_laws.proofs.Vocabulary.{◌≡◌, ◌↔◌, ℕ, Bool, true, false, List, Option, Some, None, refl, sym, ap, ◌∙◌, is_some, State, Table, TagSets, Accessed, loaded, loaded_in, written, written_in, write_in, hits, hit_in, tag_at}
 use Rattle.bus_laws.specs.Hits.{IsHit}
 
 pub load-told : (t : Table) (core line : ℕ) (caches : List TagSets) → IsHit (loaded t core line caches) ↔ (hits t core line false caches ≡ true)

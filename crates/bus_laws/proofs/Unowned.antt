@@ -1,25 +1,6 @@
 -- A line of memory that changes has no dirty copy then: the one that was sent or written back was the only one.
-use Rattle.std.proofs.Common.{◌≡◌, ◌≢◌, ◌∙◌, ℕ, suc, Bool, true, false, if◌then◌else◌, List, [], ◌∷◌, length, slice_set, Option, Some, None, option_map, inl, inr, refl, sym, ap, subst, get_or-set_same, get_or-set_other}
-use Rattle.std.proofs.lemmas.List.{get_or_past}
-use Rattle.basic_laws.proofs.Basics.{decide, lt-or}
-use Rattle.protocol_tables.specs.Laws.{is_dirty}
-use Rattle.protocol_tables.specs.Tables.{Table, table_of}
-use Rattle.protocol_tables.specs.declared.kind.ProtocolKind.{ProtocolKind}
+use Rattle.bus_laws.proofs.Vocabulary.{◌≡◌, ◌≢◌, ◌∙◌, ℕ, suc, Bool, true, false, if◌then◌else◌, List, [], ◌∷◌, length, slice_set, Option, Some, None, option_map, inl, inr, refl, sym, ap, subst, get_or-set_same, get_or-set_other, get_or_past, decide, lt-or, is_dirty, Table, table_of, ProtocolKind, State, I, S, E, O, M, Snoop, Line, Victim, table_of_rows, rows_of, Words, line_in, state_of, may_share, leaving, filled, TagSets, tags_at, tag_in, at_line, sets_of, requested, filled_by, Sets, copy_at, copy_in, tags_of, written_back, flushed, sent_of, first_of_two, sent_words, tag_at, or_invalid, tag_at-copy}
 use Rattle.protocol_tables.specs.declared.kind.ProtocolKind.TheVariants.{Msi, Mesi, Moesi, Mosi}
-use Rattle.protocol_tables.specs.declared.state.State.{State}
-use Rattle.protocol_tables.specs.declared.state.State.TheVariants.{I, S, E, O, M}
-use Rattle.protocol_tables.specs.declared.state.Snoop.{Snoop}
-use Rattle.cache_set.specs.declared.Line.{Line}
-use Rattle.cache_set.specs.declared.Victim.{Victim}
-use Rattle.snoop_bus.specs.Rows.{table_of_rows, rows_of}
-use Rattle.snoop_bus.specs.Lines.{Words, line_in}
-use Rattle.snoop_bus.specs.Coherent.{state_of, may_share}
-use Rattle.snoop_bus.specs.Tags.{leaving, filled}
-use Rattle.snoop_bus.specs.CacheContents.{TagSets, tags_at, tag_in, at_line, sets_of, requested, filled_by}
-use Rattle.snoop_bus.specs.Copies.{Sets, copy_at, copy_in, tags_of}
-use Rattle.snoop_bus.specs.MemoryAfter.{written_back, flushed, sent_of, first_of_two, sent_words}
-use Rattle.snoop_bus.specs.Asks.{tag_at, or_invalid}
-use Rattle.snoop_bus.proofs.StateLemmas.{tag_at-copy}
 use Rattle.bus_laws.proofs.Victims.{AreNeat, AllNeat, sets-leave}
 use Rattle.bus_laws.proofs.Snooped.{left_of, requested-here, own-alone}
 use Rattle.bus_laws.proofs.Dirty.{apart}

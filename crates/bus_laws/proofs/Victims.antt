@@ -1,16 +1,5 @@
 -- Sets of tags under accesses: each line lies in one set alone and once, none is in I, and the line that leaves a set is gone.
-use Rattle.std.proofs.Common.{arith, ◌≡◌, ◌≢◌, ◌<◌, ◌≤◌, ◌-◌, ◌%◌, ℕ, zero, suc, false, List, [], ◌∷◌, length, take, map, slice_get, slice_set, slice_index_or, Option, Some, None, nat_eq, if◌then◌else◌, ◌⊎◌, inl, inr, refl, sym, subst, get_or-set_same, get_or-set_other}
-use Rattle.std.proofs.lemmas.Bool.Decides.{eqb_tells}
-use Rattle.std.proofs.lemmas.Bool.{eq-eqb}
-use Rattle.std.proofs.lemmas.List.{get_or_past}
-use Rattle.std.proofs.Math.ListN.{length-set}
-use Rattle.std.specs.Map.{lookup, remove_entry}
-use Rattle.basic_laws.proofs.Basics.{decide, lt-or}
-use Rattle.protocol_tables.specs.declared.state.State.{State}
-use Rattle.protocol_tables.specs.declared.state.State.TheVariants.{I, S, E, O, M}
-use Rattle.protocol_tables.specs.declared.state.Snoop.{Snoop}
-use Rattle.snoop_bus.specs.Tags.{TagSet, tag_set, tag_of, used, filled, leaving, restated, in_next, snooped, snooped_in}
-use Rattle.snoop_bus.specs.CacheContents.{TagSets, tags_at, tag_in, at_line, sets_of, at_core, at_others, requested, used_by, filled_by}
+use Rattle.bus_laws.proofs.Vocabulary.{arith, ◌≡◌, ◌≢◌, ◌<◌, ◌≤◌, ◌-◌, ◌%◌, ℕ, zero, suc, false, List, [], ◌∷◌, length, take, map, slice_get, slice_set, slice_index_or, Option, Some, None, nat_eq, if◌then◌else◌, ◌⊎◌, inl, inr, refl, sym, subst, get_or-set_same, get_or-set_other, eqb_tells, eq-eqb, get_or_past, length-set, lookup, remove_entry, decide, lt-or, State, I, S, E, O, M, Snoop, TagSet, tag_set, tag_of, used, filled, leaving, restated, in_next, snooped, snooped_in, TagSets, tags_at, tag_in, at_line, sets_of, at_core, at_others, requested, used_by, filled_by}
 
 -- ---- the tags of one set
 

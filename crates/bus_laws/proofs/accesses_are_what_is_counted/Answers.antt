@@ -1,6 +1,4 @@
-use Rattle.tso_model.specs.FlatMachine.{chosen}
-use Rattle.tso_model.specs.MemoryAccess.{access_of}
-use Rattle.bus_laws.specs.Uses.{use_at}
+use Rattle.bus_laws.proofs.Vocabulary.{chosen, access_of, use_at}
 use Rattle.bus_laws.proofs.Counted.{choice-use, use-told}
 use Rattle.bus_laws.proofs.accesses_are_what_is_counted.Goals as goal
 

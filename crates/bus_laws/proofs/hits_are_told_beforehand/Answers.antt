@@ -1,9 +1,4 @@
-use Rattle.std.proofs.Common.{◌≡◌, ◌/◌, true, false}
-use Rattle.protocol_tables.specs.declared.requests.Request.TheVariants.{GetM}
-use Rattle.snoop_bus.specs.Rows.{table_of_rows}
-use Rattle.snoop_bus.specs.CacheContents.{loaded, written}
-use Rattle.snoop_bus.specs.Accesses.{contents_of}
-use Rattle.snoop_bus.specs.Asks.{hits, in_halves}
+use Rattle.bus_laws.proofs.Vocabulary.{◌≡◌, ◌/◌, true, false, GetM, table_of_rows, loaded, written, contents_of, hits, in_halves}
 use Rattle.bus_laws.proofs.Told.{load-told, write-told, told-as, not-both}
 use Rattle.bus_laws.proofs.hits_are_told_beforehand.Goals as goal
 

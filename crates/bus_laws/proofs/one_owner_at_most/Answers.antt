@@ -1,4 +1,4 @@
-use Rattle.snoop_bus.specs.Bus.{counted_copies}
+use Rattle.bus_laws.proofs.Vocabulary.{counted_copies}
 use Rattle.bus_laws.proofs.Dirty.{one-owner}
 use Rattle.bus_laws.proofs.one_owner_at_most.Goals as goal
 
