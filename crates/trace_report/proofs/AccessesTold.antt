@@ -1,23 +1,5 @@
 -- The accesses that a trace tells, and those that are counted.
-use Rattle.std.proofs.Common.{◌≡◌, ◌≢◌, ◌∙◌, ℕ, zero, suc, ◌+◌, ◌<◌, ◌≤◌, ◌==◌, ◌&&◌, Bool, true, false, List, [], ◌∷◌, length, replicate, slice_index_or, Option, Some, None, refl, sym, ap, subst, arith, inl, inr, get_or-set_same, get_or-set_other}
-use Rattle.std.proofs.lemmas.List.{get_or_past}
-use Rattle.std.proofs.Math.ListN.{length-set}
-use Rattle.basic_laws.proofs.Basics.{decide, lt-or, test-true, test-false}
-use Rattle.tso_model.specs.FlatMachine.{chosen}
-use Rattle.tso_model.specs.Runs.{has_ended, CoresExist}
-use Rattle.tso_model.specs.declared.instruction.Core.{Core}
-use Rattle.tso_model.specs.declared.choice.Choice.{Choice}
-use Rattle.snoop_bus.specs.declared.access.AccessKind.{AccessKind}
-use Rattle.snoop_bus.specs.declared.access.AccessKind.TheVariants.{Hit, Upgrade, Miss}
-use Rattle.machine_core.specs.Running.{Running, use_by, machine_after}
-use Rattle.machine_core.specs.Statistics.{Statistics, no_counts, with_access, with_forward, with_write_back, with_flush, at_core, flush_counted, counted, statistics_from}
-use Rattle.machine_core.specs.declared.counts.Counts.{Counts}
-use Rattle.machine_core.specs.declared.accesses.CacheUse.{CacheUse}
-use Rattle.machine_core.specs.declared.accesses.CacheUse.TheVariants.{Unused, Forwarded, Through}
-use Rattle.machine_core.proofs.CountBounds.{length-counted}
-use Rattle.trace_report.specs.Shown.{Shown}
-use Rattle.trace_report.specs.Steps.{is_forwarded, access_in, step_of, steps_from}
-use Rattle.trace_report.specs.TraceLaws.{count_of, is_kind, is_access, tells_access, tells_forward, one_if, steps_that}
+use Rattle.trace_report.proofs.Vocabulary.{◌≡◌, ◌≢◌, ◌∙◌, ℕ, zero, suc, ◌+◌, ◌<◌, ◌≤◌, ◌==◌, ◌&&◌, Bool, true, false, List, [], ◌∷◌, length, replicate, slice_index_or, Option, Some, None, refl, sym, ap, subst, arith, inl, inr, get_or-set_same, get_or-set_other, get_or_past, length-set, decide, lt-or, test-true, test-false, chosen, has_ended, CoresExist, Core, Choice, AccessKind, Hit, Upgrade, Miss, Running, use_by, machine_after, Statistics, no_counts, with_access, with_forward, with_write_back, with_flush, at_core, flush_counted, counted, statistics_from, Counts, CacheUse, Unused, Forwarded, Through, length-counted, Shown, is_forwarded, access_in, step_of, steps_from, count_of, is_kind, is_access, tells_access, tells_forward, one_if, steps_that}
 
 -- the counts of one core among those of all
 abbrev pub of : List Counts → ℕ → Counts

@@ -1,33 +1,7 @@
 -- A line that its core awaits isn't in the core's cache, but for an upgrade: so the line that leaves for it is another.
-use Rattle.std.proofs.Common.{◌≡◌, ◌≢◌, ◌∙◌, ◌⊎◌, ◌<◌, ◌≤◌, ◌%◌, ◌/◌, ℕ, Bool, true, false, not, List, [], length, slice_set, slice_index_or, Option, Some, None, is_some, inl, inr, refl, sym, ap, subst, get_or-set_same, get_or-set_other}
+use Rattle.trace_report.proofs.Vocabulary.{◌≡◌, ◌≢◌, ◌∙◌, ◌⊎◌, ◌<◌, ◌≤◌, ◌%◌, ◌/◌, ℕ, Bool, true, false, not, List, [], length, slice_set, slice_index_or, Option, Some, None, is_some, inl, inr, refl, sym, ap, subst, get_or-set_same, get_or-set_other, eqb_tells, get_or_past, length-set, decide, lt-or, MemoryAccess, NoAccess, Reads, Writes, Locks, Holder, Free, HeldBy, HeldBetween, needs_bus, chosen, Choice, Table, transient_of, I, S, E, O, M, Request, GetS, GetM, Transient, IsD, ImD, SmD, Geometry, table_of_rows, TagSet, tag_of, used, TagSets, tags_at, tag_in, at_line, sets_of, used_by, loaded_in, written_in, write_in, asked, Awaited, tag_at, hit_in, or_invalid, awaiting, asking, asked_caches_in, completed, completed_in, Caches, Used, not_through, load_by, write_by, hits_by, is_awaited, asking_by, completing_by, Unused, IsUseFor, KeepsNoCopyInI, no_set, absent-remove, AllNeat, found-valid, all-requested, all-used, all-filled, own-kept}
 use Rattle.std.specs.Option.{option_map}
-use Rattle.std.proofs.lemmas.Bool.Decides.{eqb_tells}
-use Rattle.std.proofs.lemmas.List.{get_or_past}
-use Rattle.std.proofs.Math.ListN.{length-set}
-use Rattle.basic_laws.proofs.Basics.{decide, lt-or}
-use Rattle.tso_model.specs.MemoryAccess.{MemoryAccess, NoAccess, Reads, Writes, Locks}
-use Rattle.tso_model.specs.SplitMachine.{Holder, Free, HeldBy, HeldBetween, needs_bus}
-use Rattle.tso_model.specs.FlatMachine.{chosen}
-use Rattle.tso_model.specs.declared.choice.Choice.{Choice}
-use Rattle.protocol_tables.specs.Tables.{Table}
-use Rattle.protocol_tables.specs.Transients.{transient_of}
 use Rattle.protocol_tables.specs.declared.state.State.{State}
-use Rattle.protocol_tables.specs.declared.state.State.TheVariants.{I, S, E, O, M}
-use Rattle.protocol_tables.specs.declared.requests.Request.{Request}
-use Rattle.protocol_tables.specs.declared.requests.Request.TheVariants.{GetS, GetM}
-use Rattle.protocol_tables.specs.declared.requests.Transient.{Transient}
-use Rattle.protocol_tables.specs.declared.requests.Transient.TheVariants.{IsD, ImD, SmD}
-use Rattle.snoop_bus.specs.Geometry.{Geometry}
-use Rattle.snoop_bus.specs.Rows.{table_of_rows}
-use Rattle.snoop_bus.specs.Tags.{TagSet, tag_of, used}
-use Rattle.snoop_bus.specs.CacheContents.{TagSets, tags_at, tag_in, at_line, sets_of, used_by, loaded_in, written_in, write_in}
-use Rattle.snoop_bus.specs.Requests.{asked}
-use Rattle.snoop_bus.specs.Asks.{Awaited, tag_at, hit_in, or_invalid, awaiting, asking, asked_caches_in, completed, completed_in}
-use Rattle.machine_core.specs.Caches.{Caches, Used, not_through, load_by, write_by, hits_by, is_awaited, asking_by, completing_by}
-use Rattle.machine_core.specs.declared.accesses.CacheUse.TheVariants.{Unused}
-use Rattle.bus_laws.specs.Uses.{IsUseFor}
-use Rattle.trace_report.specs.TraceLaws.{KeepsNoCopyInI}
-use Rattle.bus_laws.proofs.Victims.{no_set, absent-remove, AllNeat, found-valid, all-requested, all-used, all-filled, own-kept}
 use Rattle.trace_report.proofs.VictimsLeave.{wrote_in, HasGone, filled-gone, modified, IsWithin, NeatAfter, GoneBy, use-neat, use-gone, use-rows}
 use Rattle.trace_report.proofs.UsesOnBus.{StaysHeld, UsesOn, made, unused, begun, ended}
 

@@ -1,37 +1,12 @@
 -- What a step tells of its core: the register that was moved, the pending stores, and why it stalled.
-use Rattle.std.proofs.Common.{arith, ◌≡◌, ◌≢◌, ◌∙◌, ◌⊎◌, ◌≤◌, ◌+◌, ◌==◌, ℕ, zero, suc, Bool, true, false, nat_lt, if◌then◌else◌, List, [], ◌∷◌, ◌++◌, length, take, drop, slice_index, slice_set, Option, Some, None, inl, inr, refl, sym, ap, subst, length-append, get_or-set_same}
-use Rattle.std.proofs.lemmas.List.{get_or_past}
-use Rattle.std.proofs.lemmas.Bool.Decides.{nat_tests}
-use Rattle.std.proofs.Math.ListN.{length-set}
-use Rattle.basic_laws.proofs.Basics.{lt-or}
-use Rattle.tso_model.specs.Litmus.{Litmus}
-use Rattle.tso_model.specs.Actions.{action_of}
-use Rattle.tso_model.specs.Thread.{value_of}
+use Rattle.trace_report.proofs.Vocabulary.{arith, ◌≡◌, ◌≢◌, ◌∙◌, ◌⊎◌, ◌≤◌, ◌+◌, ◌==◌, ℕ, zero, suc, Bool, true, false, nat_lt, if◌then◌else◌, List, [], ◌∷◌, ◌++◌, length, take, drop, slice_index, slice_set, Option, Some, None, inl, inr, refl, sym, ap, subst, length-append, get_or-set_same, get_or_past, nat_tests, length-set, lt-or, Litmus, action_of, value_of, CoreState, State, Effect, idle, is_none_pending, stalled, stored, effect_by, effect_of, core_of, chosen, applied, MemoryAccess, NoAccess, Reads, Writes, Locks, access_of, next_of, Holder, Free, HeldBy, HeldBetween, Attempt, same_choice, needs_bus, acts, asks, begins, completes, as_read, writes_last, split_effect, BusState, effect_on, Bus, Atomic, Split, Core, Instr, Action, Store, Load, Move, Fence, Lock, Entry, Choice, Step, Drain, Outcome, Committed, Buffered, Moved, Stalled, Stall, same-is, Running, machine_after, attempt_on, stall_name, moved_by, moved_at, moved_from, buffer_if_changed, with_moved, with_buffer, CoresAreTold, IsWordOfStall, done, full, lock, empty, IsHeldByOther, IsWordOfStallOn, flat, bus, StallsAreTold}
 use Rattle.tso_model.specs.Registers.{index_of}
-use Rattle.tso_model.specs.FlatMachine.{CoreState, State, Effect, idle, is_none_pending, stalled, stored, effect_by, step_of, effect_of, core_of, chosen, applied, after_choice}
-use Rattle.tso_model.specs.MemoryAccess.{MemoryAccess, NoAccess, Reads, Writes, Locks, access_of, next_of}
-use Rattle.tso_model.specs.SplitMachine.{Holder, Free, HeldBy, HeldBetween, Attempt, same_choice, needs_bus, acts, asks, begins, completes, as_read, writes_last, split_effect}
-use Rattle.tso_model.specs.EitherBus.{BusState, effect_on}
-use Rattle.tso_model.specs.declared.choice.Bus.{Bus}
-use Rattle.tso_model.specs.declared.choice.Bus.TheVariants.{Atomic, Split}
-use Rattle.tso_model.specs.declared.instruction.Core.{Core}
-use Rattle.tso_model.specs.declared.instruction.Instr.{Instr}
-use Rattle.tso_model.specs.declared.action.Action.{Action}
-use Rattle.tso_model.specs.declared.action.Action.TheVariants.{Store, Load, Move, Fence, Lock}
-use Rattle.tso_model.specs.declared.execution.Entry.{Entry}
-use Rattle.tso_model.specs.declared.choice.Choice.{Choice}
-use Rattle.tso_model.specs.declared.choice.Choice.TheVariants.{Step, Drain}
-use Rattle.tso_model.specs.declared.choice.Outcome.{Outcome}
-use Rattle.tso_model.specs.declared.choice.Outcome.TheVariants.{Committed, Buffered, Moved, Stalled}
-use Rattle.tso_model.specs.declared.choice.Stall.{Stall}
+use Rattle.tso_model.specs.FlatMachine.{step_of, after_choice}
 use Rattle.tso_model.specs.declared.choice.Stall.TheVariants as stall
-use Rattle.split_laws.proofs.Following.{same-is}
-use Rattle.machine_core.specs.Running.{Running, machine_after, attempt_on, effect_by as effect_made}
-use Rattle.trace_report.specs.Lines.{stall_name}
-use Rattle.trace_report.specs.Steps.{moved_by, moved_at, moved_from, buffer_if_changed}
+use Rattle.machine_core.specs.Running.{effect_by as effect_made}
 use Rattle.trace_report.specs.Steps as steps
 use Rattle.trace_report.specs.declared.step.Moved as move
-use Rattle.trace_report.specs.StepLaws.{with_moved, with_buffer, CoresAreTold, IsWordOfStall, done, full, fence, lock, empty, IsHeldByOther, IsWordOfStallOn, flat, bus, StallsAreTold}
+use Rattle.trace_report.specs.StepLaws.{fence}
 use Rattle.trace_report.proofs.Effects.{Form, still, grown, shrunk}
 use Rattle.trace_report.proofs.Stalls.{MovesBy, effect-moves}
 use Rattle.trace_report.proofs.Whole.{form-of}

@@ -1,54 +1,13 @@
 -- What a choice makes of the copies that are sent to memory: those that its step tells, those that it counts, and those that are
 -- told already and counted later.
-use Rattle.std.proofs.Common.{◌≡◌, ◌≢◌, ◌∙◌, ℕ, zero, suc, Bool, true, false, not, ◌||◌, nat_lt, if◌then◌else◌, List, [], ◌∷◌, length, drop, Option, Some, None, refl, sym, ap, subst}
-use Rattle.std.specs.Prelude.{filter}
-use Rattle.std.specs.List.{list_any}
+use Rattle.trace_report.proofs.Vocabulary.{◌≡◌, ◌≢◌, ◌∙◌, ℕ, zero, suc, Bool, true, false, not, ◌||◌, nat_lt, if◌then◌else◌, List, [], ◌∷◌, length, drop, Option, Some, None, refl, sym, ap, subst, filter, list_any, Each, Litmus, action_of, writes_to, CoreState, State, Effect, is_none_pending, stalled, stored, effect_by, effect_of, core_of, chosen, MemoryAccess, NoAccess, Reads, Writes, Locks, load_access, access_by, step_access, access_of, next_of, Holder, Free, HeldBy, HeldBetween, BusEffect, same_choice, needs_bus, acts, asks, begins, completes, as_read, writes_last, split_effect, BusState, effect_on, Bus, Atomic, Split, Core, Instr, Loc, Action, Store, Load, Move, Fence, Lock, Entry, Kind, R, W, F, LR, LW, Choice, Step, Drain, Outcome, Stall, Table, transient_of, Request, GetS, GetM, Transient, IsD, ImD, SmD, table_of_rows, TagSets, loaded_in, written_in, write_in, Awaited, tag_at, or_invalid, hit_in, asking, awaiting, completed, completed_in, IsStore, AllStores, same-is, HolderWaits, CacheUse, Unused, Forwarded, Through, Caches, Used, not_through, load_by, write_by, load_after, use_by_kind, use_of, asking_by, hits_by, would_hit, attempt_of, is_awaited, used_between, use_on, nothing_sent, sent_whole, sent_at, sent_on, LineRequest}
 use Rattle.std.specs.Option.{option_map}
-use Rattle.basic_laws.proofs.Lists.{Each}
 use Rattle.basic_laws.proofs.WithPending.{drain_with}
-use Rattle.tso_model.specs.Litmus.{Litmus}
-use Rattle.tso_model.specs.Actions.{action_of}
-use Rattle.tso_model.specs.ProgramOrder.{writes_to}
-use Rattle.tso_model.specs.FlatMachine.{CoreState, State, Effect, is_none_pending, stalled, stored, effect_by, step_of, effect_of, core_of, chosen}
-use Rattle.tso_model.specs.MemoryAccess.{MemoryAccess, NoAccess, Reads, Writes, Locks, load_access, access_by, step_access, access_of, next_of}
-use Rattle.tso_model.specs.SplitMachine.{Holder, Free, HeldBy, HeldBetween, BusEffect, same_choice, needs_bus, acts, asks, begins, completes, as_read, writes_last, split_effect}
-use Rattle.tso_model.specs.EitherBus.{BusState, effect_on}
-use Rattle.tso_model.specs.declared.choice.Bus.{Bus}
-use Rattle.tso_model.specs.declared.choice.Bus.TheVariants.{Atomic, Split}
-use Rattle.tso_model.specs.declared.instruction.Core.{Core}
-use Rattle.tso_model.specs.declared.instruction.Instr.{Instr}
-use Rattle.tso_model.specs.declared.instruction.Loc.{Loc}
-use Rattle.tso_model.specs.declared.action.Action.{Action}
-use Rattle.tso_model.specs.declared.action.Action.TheVariants.{Store, Load, Move, Fence, Lock}
-use Rattle.tso_model.specs.declared.execution.Entry.{Entry}
-use Rattle.tso_model.specs.declared.execution.Kind.{Kind}
-use Rattle.tso_model.specs.declared.execution.Kind.TheVariants.{R, W, F, LR, LW}
-use Rattle.tso_model.specs.declared.choice.Choice.{Choice}
-use Rattle.tso_model.specs.declared.choice.Choice.TheVariants.{Step, Drain}
-use Rattle.tso_model.specs.declared.choice.Outcome.{Outcome}
-use Rattle.tso_model.specs.declared.choice.Stall.{Stall}
+use Rattle.tso_model.specs.FlatMachine.{step_of}
 use Rattle.tso_model.specs.declared.choice.Stall.TheVariants as stall
 use Rattle.tso_model.specs.declared.choice.Outcome.TheVariants as out
-use Rattle.protocol_tables.specs.Tables.{Table}
-use Rattle.protocol_tables.specs.Transients.{transient_of}
 use Rattle.protocol_tables.specs.declared.state.State.TheVariants as tag
 use Rattle.protocol_tables.specs.declared.state.State as protocol
-use Rattle.protocol_tables.specs.declared.requests.Request.{Request}
-use Rattle.protocol_tables.specs.declared.requests.Request.TheVariants.{GetS, GetM}
-use Rattle.protocol_tables.specs.declared.requests.Transient.{Transient}
-use Rattle.protocol_tables.specs.declared.requests.Transient.TheVariants.{IsD, ImD, SmD}
-use Rattle.snoop_bus.specs.Rows.{table_of_rows}
-use Rattle.snoop_bus.specs.CacheContents.{TagSets, loaded_in, written_in, write_in}
-use Rattle.snoop_bus.specs.Asks.{Awaited, tag_at, or_invalid, hit_in, asking, awaiting, completed, completed_in}
-use Rattle.split_laws.proofs.Steps.{IsStore}
-use Rattle.split_laws.proofs.Waiting.{AllStores}
-use Rattle.split_laws.proofs.Following.{same-is}
-use Rattle.split_laws.proofs.Effects.{HolderWaits}
-use Rattle.machine_core.specs.declared.accesses.CacheUse.{CacheUse}
-use Rattle.machine_core.specs.declared.accesses.CacheUse.TheVariants.{Unused, Forwarded, Through}
-use Rattle.machine_core.specs.Caches.{Caches, Used, not_through, load_by, write_by, load_after, use_by_kind, use_of, asking_by, hits_by, would_hit, attempt_of, is_awaited, used_between, use_on}
-use Rattle.trace_report.specs.Steps.{nothing_sent, sent_whole, sent_at, sent_on}
-use Rattle.trace_report.specs.declared.step.LineRequest.{LineRequest}
 
 -- whose copy is sent as the caches are used, and whose was sent for what is awaited
 abbrev pub flush_in : CacheUse → Option Core

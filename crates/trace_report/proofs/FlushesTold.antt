@@ -1,55 +1,13 @@
 -- The flushes that a trace tells, and those that are counted.
-use Rattle.std.proofs.Common.{◌≡◌, ◌∙◌, ℕ, zero, suc, ◌+◌, ◌==◌, ◌&&◌, Bool, true, false, if◌then◌else◌, List, [], ◌∷◌, length, length-set, map, slice_index_or, Option, Some, None, refl, sym, ap, subst, arith}
-use Rattle.std.proofs.lemmas.List.{length-replicate, length-map, set-get_or}
-use Rattle.std.specs.List.{list_any}
-use Rattle.basic_laws.proofs.Lists.{Each}
-use Rattle.tso_model.specs.Litmus.{Litmus}
-use Rattle.tso_model.specs.FlatMachine.{State, idle, program_of, chosen, core_of, applied, effect_of}
-use Rattle.tso_model.specs.Runs.{has_ended, is_done}
-use Rattle.tso_model.specs.ProgramOrder.{writes_to}
-use Rattle.tso_model.specs.MemoryAccess.{MemoryAccess, NoAccess, Reads, Writes, Locks, step_access, drain_access, access_of}
-use Rattle.tso_model.specs.SplitMachine.{Holder, Free, HeldBy, HeldBetween, Attempt, same_choice, needs_bus, acts, asks, begins, completes, as_read, writes_last, split_effect}
-use Rattle.tso_model.specs.EitherBus.{BusState, BusRun, after_on}
-use Rattle.tso_model.specs.declared.choice.Bus.{Bus}
-use Rattle.tso_model.specs.declared.choice.Bus.TheVariants.{Atomic, Split}
-use Rattle.tso_model.specs.declared.instruction.Core.{Core}
-use Rattle.tso_model.specs.declared.choice.Choice.{Choice}
-use Rattle.tso_model.specs.declared.choice.Choice.TheVariants.{Step, Drain}
+use Rattle.trace_report.proofs.Vocabulary.{◌≡◌, ◌∙◌, ℕ, zero, suc, ◌+◌, ◌==◌, ◌&&◌, Bool, true, false, if◌then◌else◌, List, [], ◌∷◌, length, map, slice_index_or, Option, Some, None, refl, sym, ap, subst, arith, length-replicate, length-map, set-get_or, list_any, Each, Litmus, State, idle, program_of, chosen, core_of, applied, effect_of, has_ended, is_done, writes_to, MemoryAccess, NoAccess, Reads, Writes, Locks, step_access, drain_access, access_of, Holder, Free, HeldBy, HeldBetween, Attempt, same_choice, needs_bus, acts, asks, begins, completes, as_read, writes_last, split_effect, BusState, BusRun, after_on, Bus, Atomic, Split, Core, Choice, Step, Drain, Table, Transient, IsD, ImD, SmD, Kind, R, W, F, LR, LW, Entry, Request, GetS, GetM, AccessKind, Hit, Upgrade, Miss, tags_in, Configuration, TagSets, at_others, loaded_in, written_in, write_in, Awaited, asked_caches_in, completed, completed_in, table_of_rows, quiet-same, done-next, done-pending, done-anywhere, IsStore, AllStores, choice-stores, start-stores, same-is, Live, LiveIn, live-after, live-start, Caches, not_through, load_by, use_by_kind, use_of, is_awaited, used_between, Statistics, no_counts, with_access, with_forward, with_write_back, with_flush, at_core, flush_counted, counted, Counts, CacheUse, Unused, Forwarded, Through, Running, new_machine, attempt_on, use_by, machine_after, length-counted, step_of, steps_from, request_at, is_sender, tells_flush, one_if, steps_that}
+use Rattle.std.proofs.Common.{length-set}
 use Rattle.tso_model.specs.declared.choice.Outcome.TheVariants as out
 use Rattle.tso_model.specs.declared.choice.Stall.TheVariants as stall
-use Rattle.protocol_tables.specs.Tables.{Table}
 use Rattle.protocol_tables.specs.declared.state.State as protocol
-use Rattle.protocol_tables.specs.declared.requests.Transient.{Transient}
-use Rattle.protocol_tables.specs.declared.requests.Transient.TheVariants.{IsD, ImD, SmD}
-use Rattle.tso_model.specs.declared.execution.Kind.{Kind}
-use Rattle.tso_model.specs.declared.execution.Kind.TheVariants.{R, W, F, LR, LW}
-use Rattle.tso_model.specs.declared.execution.Entry.{Entry}
-use Rattle.protocol_tables.specs.declared.requests.Request.{Request}
-use Rattle.protocol_tables.specs.declared.requests.Request.TheVariants.{GetS, GetM}
-use Rattle.snoop_bus.specs.declared.access.AccessKind.{AccessKind}
-use Rattle.snoop_bus.specs.declared.access.AccessKind.TheVariants.{Hit, Upgrade, Miss}
-use Rattle.snoop_bus.specs.Copies.{tags_in}
 use Rattle.snoop_bus.specs.Bus.{empty_caches}
-use Rattle.machine_core.specs.Configuration.{Configuration}
-use Rattle.snoop_bus.specs.CacheContents.{TagSets, at_others, loaded_in, written_in, write_in}
-use Rattle.snoop_bus.specs.Asks.{Awaited, asked_caches_in, completed, completed_in}
-use Rattle.snoop_bus.specs.Rows.{table_of_rows}
-use Rattle.split_laws.proofs.Cores.{quiet-same, done-next, done-pending, done-anywhere}
-use Rattle.split_laws.proofs.Steps.{IsStore}
-use Rattle.split_laws.proofs.Waiting.{AllStores, choice-stores, start-stores}
-use Rattle.split_laws.proofs.Following.{same-is}
-use Rattle.split_laws.proofs.Effects.{Live, LiveIn, live-after, live-start}
-use Rattle.machine_core.specs.Caches.{Caches, not_through, load_by, use_by_kind, use_of, is_awaited, used_between}
-use Rattle.machine_core.specs.Statistics.{Statistics, no_counts, with_access, with_forward, with_write_back, with_flush, at_core, flush_counted, counted}
-use Rattle.machine_core.specs.declared.counts.Counts.{Counts}
-use Rattle.machine_core.specs.declared.accesses.CacheUse.{CacheUse}
-use Rattle.machine_core.specs.declared.accesses.CacheUse.TheVariants.{Unused, Forwarded, Through}
-use Rattle.machine_core.specs.Running.{Running, new_machine, attempt_on, effect_by, use_by, machine_after}
+use Rattle.machine_core.specs.Running.{effect_by}
 use Rattle.machine_core.specs.inner.Keeping.{IsAmong, IsFlusherAmong, IsSenderAmong}
-use Rattle.machine_core.proofs.CountBounds.{length-counted}
 use Rattle.machine_core.proofs.CountsOnBus.{senders}
-use Rattle.trace_report.specs.Steps.{step_of, steps_from, request_at}
-use Rattle.trace_report.specs.TraceLaws.{is_sender, tells_flush, one_if, steps_that}
 use Rattle.trace_report.proofs.AccessesTold.{of, kept, added, counts_after, counting, stopped}
 use Rattle.trace_report.proofs.RunsTold.{run_of, going}
 use Rattle.trace_report.proofs.Flushes.{flush_in, flush_awaited, UpgradesQuietly, Turns, whole, asked, arrived, choice-turn}

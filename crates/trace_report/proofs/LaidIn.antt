@@ -1,22 +1,8 @@
 -- The changes of a step, laid into the states before it.
-use Rattle.std.proofs.Common.{◌≡◌, ◌≢◌, ◌∙◌, ℕ, zero, suc, ◌+◌, ◌<◌, ◌==◌, ◌&&◌, Bool, true, false, if◌then◌else◌, List, [], ◌∷◌, ◌++◌, length, map, All, refl, sym, ap, subst, arith, ◌⊎◌, inl, inr}
-use Rattle.std.specs.Int.{div_ceil}
-use Rattle.std.proofs.lemmas.Bool.Decides.{nat_tests}
-use Rattle.std.proofs.lemmas.List.Elements.{All-nil, All-cons, All-append, All-weaker}
-use Rattle.basic_laws.proofs.Basics.{test-true, test-false, and-false}
-use Rattle.basic_laws.proofs.Lists.{Each, each-append}
-use Rattle.tso_model.specs.Litmus.{Litmus}
-use Rattle.tso_model.specs.declared.choice.Choice.{Choice}
-use Rattle.protocol_tables.specs.declared.requests.Transient.TheVariants.{IsD, ImD, SmD}
+use Rattle.trace_report.proofs.Vocabulary.{◌≡◌, ◌≢◌, ◌∙◌, ℕ, zero, suc, ◌+◌, ◌<◌, ◌==◌, ◌&&◌, Bool, true, false, if◌then◌else◌, List, [], ◌∷◌, ◌++◌, length, map, All, refl, sym, ap, subst, arith, ◌⊎◌, inl, inr, div_ceil, nat_tests, All-nil, All-cons, All-append, All-weaker, test-true, test-false, and-false, Each, each-append, Litmus, Choice, IsD, ImD, SmD, Running, machine_after, step_of, placed, line_states, core_states, lines_of, states_of, number_of, change_of, changes_in, is_of, laid_in, with_changes, ChangesOne, ChangesLeadFromStatesToStates, LineState, StateChange, PlacedState}
 use Rattle.protocol_tables.specs.declared.state.State.TheVariants as tag
 use Rattle.trace_report.specs.declared.step.LineState.TheVariants as state
 use Rattle.trace_report.proofs.Whole.{words-kept}
-use Rattle.machine_core.specs.Running.{Running, machine_after}
-use Rattle.trace_report.specs.Steps.{step_of, placed, line_states, core_states, lines_of, states_of, number_of, change_of, changes_in}
-use Rattle.trace_report.specs.TraceLaws.{is_of, laid_in, with_changes, ChangesOne, ChangesLeadFromStatesToStates}
-use Rattle.trace_report.specs.declared.step.LineState.{LineState}
-use Rattle.trace_report.specs.declared.step.StateChange.{StateChange}
-use Rattle.trace_report.specs.declared.states.PlacedState.{PlacedState}
 
 -- ---- the states of lines
 

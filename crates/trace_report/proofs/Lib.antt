@@ -1,3 +1,4 @@
+pub mod Vocabulary
 pub mod LineNames
 pub mod Shapes
 pub mod Effects

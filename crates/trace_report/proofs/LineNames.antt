@@ -1,9 +1,5 @@
 -- The name of a line, made name by name.
-use Rattle.std.proofs.Common.{◌≡◌, ◌∙◌, ℕ, ◌+◌, ◌<◌, ◌≤◌, List, [], ◌∷◌, ◌++◌, length, take, drop, get_or, codes, Option, Some, sym, ap, append_assoc, append-nil, arith}
-use Rattle.std.proofs.Math.ListN.{drop_of_length-le}
-use Rattle.std.proofs.lemmas.List.{drop_more, get_or-take, length-take}
-use Rattle.tso_model.specs.Litmus.{Litmus}
-use Rattle.trace_report.specs.Lines.{after_plus, joined, line_name, write_back_text}
+use Rattle.trace_report.proofs.Vocabulary.{◌≡◌, ◌∙◌, ℕ, ◌+◌, ◌<◌, ◌≤◌, List, [], ◌∷◌, ◌++◌, length, take, drop, get_or, codes, Option, Some, sym, ap, append_assoc, append-nil, arith, drop_of_length-le, drop_more, get_or-take, length-take, Litmus, after_plus, joined, line_name, write_back_text}
 
 -- what is left of the first names from a place before their end
 left : (names : List (List ℕ)) (stop i : ℕ) → i < stop → i < length names → drop i (take stop names) ≡ get_or names i [] ∷ drop (i + 1) (take stop names)

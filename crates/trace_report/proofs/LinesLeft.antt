@@ -1,16 +1,7 @@
 -- A line that left a core's cache is among those whose states changed.
-use Rattle.std.proofs.Common.{arith, ◌≡◌, ◌≢◌, ◌∙◌, ◌⊎◌, ◌+◌, ◌<◌, ◌≤◌, ◌==◌, ◌&&◌, ℕ, zero, suc, Bool, true, false, if◌then◌else◌, List, [], ◌∷◌, ◌++◌, length, Option, Some, None, is_some, inl, inr, refl, sym, ap, subst}
-use Rattle.std.proofs.lemmas.Bool.Decides.{nat_tests}
-use Rattle.basic_laws.proofs.Basics.{decide, test-true}
-use Rattle.tso_model.specs.Litmus.{Litmus}
-use Rattle.protocol_tables.specs.declared.requests.Transient.{Transient}
-use Rattle.protocol_tables.specs.declared.requests.Transient.TheVariants.{IsD, ImD, SmD}
+use Rattle.trace_report.proofs.Vocabulary.{arith, ◌≡◌, ◌≢◌, ◌∙◌, ◌⊎◌, ◌+◌, ◌<◌, ◌≤◌, ◌==◌, ◌&&◌, ℕ, zero, suc, Bool, true, false, if◌then◌else◌, List, [], ◌∷◌, ◌++◌, length, Option, Some, None, is_some, inl, inr, refl, sym, ap, subst, nat_tests, decide, test-true, Litmus, Transient, IsD, ImD, SmD, Running, state_with, line_state, line_states, lines_of, states_of, number_of, changes_in, is_absent, left_by, StateChange, PlacedState}
 use Rattle.protocol_tables.specs.declared.state.State as protocol
 use Rattle.protocol_tables.specs.declared.state.State.TheVariants as tag
-use Rattle.machine_core.specs.Running.{Running}
-use Rattle.trace_report.specs.Steps.{state_with, line_state, line_states, lines_of, states_of, number_of, changes_in, is_absent, left_by}
-use Rattle.trace_report.specs.declared.step.StateChange.{StateChange}
-use Rattle.trace_report.specs.declared.states.PlacedState.{PlacedState}
 use Rattle.trace_report.proofs.LaidIn.{grid, grid-is}
 
 -- a line of the core was in a state other than I, and is in I

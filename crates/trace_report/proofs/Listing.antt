@@ -1,10 +1,5 @@
 -- Lists of states and of changes, made one after the other.
-use Rattle.std.proofs.Common.{◌≡◌, ◌∙◌, ℕ, zero, suc, ◌+◌, ◌-◌, ◌<◌, ◌≤◌, List, [], ◌∷◌, ◌++◌, length, drop, get_or, min, refl, sym, ap, append_assoc, append-nil, arith}
-use Rattle.std.proofs.lemmas.List.{drop_more}
-use Rattle.machine_core.specs.Running.{Running}
-use Rattle.trace_report.specs.Steps.{placed, line_states, core_states, lines_of, change_of, changes_in}
-use Rattle.trace_report.specs.declared.states.PlacedState.{PlacedState}
-use Rattle.trace_report.specs.declared.step.StateChange.{StateChange}
+use Rattle.trace_report.proofs.Vocabulary.{◌≡◌, ◌∙◌, ℕ, zero, suc, ◌+◌, ◌-◌, ◌<◌, ◌≤◌, List, [], ◌∷◌, ◌++◌, length, drop, get_or, min, refl, sym, ap, append_assoc, append-nil, arith, drop_more, Running, placed, line_states, core_states, lines_of, change_of, changes_in, PlacedState, StateChange}
 
 -- ---- states
 

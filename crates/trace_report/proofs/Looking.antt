@@ -1,18 +1,8 @@
 -- What is looked up of a core on a machine.
-use Rattle.std.proofs.Common.{◌≡◌, ◌∙◌, ℕ, zero, suc, ◌+◌, ◌-◌, ◌<◌, List, [], ◌∷◌, ◌++◌, length, take, Option, Some, None, option_map, slice_get, slice_index_or, refl, sym, ap, arith, length-append}
-use Rattle.std.specs.Option.{option_and_then, unwrap_or}
-use Rattle.tso_model.specs.Actions.{action_of}
-use Rattle.tso_model.specs.Thread.{value_in}
-use Rattle.tso_model.specs.FlatMachine.{CoreState, idle, core_of}
+use Rattle.trace_report.proofs.Vocabulary.{◌≡◌, ◌∙◌, ℕ, zero, suc, ◌+◌, ◌-◌, ◌<◌, List, [], ◌∷◌, ◌++◌, length, take, Option, Some, None, option_map, slice_get, slice_index_or, refl, sym, ap, arith, length-append, option_and_then, unwrap_or, action_of, value_in, CoreState, idle, core_of, Action, Move, Instr, Entry, Running, moved_by}
 use Rattle.tso_model.specs.declared.register.Reg.{Reg}
-use Rattle.tso_model.specs.declared.action.Action.{Action}
-use Rattle.tso_model.specs.declared.action.Action.TheVariants.{Move}
 use Rattle.tso_model.specs.declared.action.Operand.{Operand}
-use Rattle.tso_model.specs.declared.instruction.Instr.{Instr}
-use Rattle.tso_model.specs.declared.execution.Entry.{Entry}
-use Rattle.machine_core.specs.Running.{Running}
 use Rattle.machine_core.specs.inner.Looking.{core_at, pending_at}
-use Rattle.trace_report.specs.Steps.{moved_by}
 use Rattle.trace_report.specs.declared.step.Moved.{Moved}
 
 place-in : (cores : List CoreState) (i : ℕ) → unwrap_or (option_map (λ (s : CoreState). s.place) (slice_get cores i)) 0 ≡ (slice_index_or cores i idle).place

@@ -1,23 +1,6 @@
 -- The lines and stores that a step names are the test's.
-use Rattle.std.proofs.Common.{ℕ, zero, suc, ◌+◌, ◌<◌, ◌≤◌, Bool, true, false, ◌&&◌, ◌==◌, if◌then◌else◌, List, [], ◌∷◌, length, Option, Some, None, IfSome, All, arith}
-use Rattle.std.proofs.lemmas.List.Elements.{All-nil, All-cons, All-head, All-tail, All-append}
-use Rattle.tso_model.specs.Litmus.{Litmus}
-use Rattle.tso_model.specs.MemoryAccess.{MemoryAccess, NoAccess, Reads, Writes, Locks}
-use Rattle.tso_model.specs.declared.choice.Bus.{Bus}
-use Rattle.tso_model.specs.declared.choice.Bus.TheVariants.{Atomic, Split}
-use Rattle.tso_model.specs.declared.choice.Outcome.{Outcome}
-use Rattle.tso_model.specs.declared.choice.Outcome.TheVariants.{Committed, Buffered, Moved, Asked, Stalled}
-use Rattle.tso_model.specs.declared.execution.Entry.{Entry}
-use Rattle.snoop_bus.specs.Asks.{Awaited}
-use Rattle.machine_core.specs.Running.{Running}
-use Rattle.machine_core.specs.declared.accesses.CacheUse.{CacheUse}
-use Rattle.machine_core.specs.declared.accesses.CacheUse.TheVariants.{Unused, Forwarded, Through}
-use Rattle.trace_report.specs.Known.{IsAt, IsLine}
-use Rattle.trace_report.specs.Steps.{goes_on_bus, request_at, sent_on, line_states, core_states, lines_of, states_of, number_of, is_absent, change_of, changes_in, left_by, wrote_back_by, buffer_if_changed}
+use Rattle.trace_report.proofs.Vocabulary.{ℕ, zero, suc, ◌+◌, ◌<◌, ◌≤◌, Bool, true, false, ◌&&◌, ◌==◌, if◌then◌else◌, List, [], ◌∷◌, length, Option, Some, None, IfSome, All, arith, All-nil, All-cons, All-head, All-tail, All-append, Litmus, MemoryAccess, NoAccess, Reads, Writes, Locks, Bus, Atomic, Split, Outcome, Committed, Buffered, Moved, Asked, Stalled, Entry, Awaited, Running, CacheUse, Unused, Forwarded, Through, IsAt, IsLine, goes_on_bus, request_at, sent_on, line_states, core_states, lines_of, states_of, number_of, is_absent, change_of, changes_in, left_by, wrote_back_by, buffer_if_changed, LineRequest, StateChange, PlacedState}
 use Rattle.trace_report.proofs.Places.{AccessKnown, line-at, line-within}
-use Rattle.trace_report.specs.declared.step.LineRequest.{LineRequest}
-use Rattle.trace_report.specs.declared.step.StateChange.{StateChange}
-use Rattle.trace_report.specs.declared.states.PlacedState.{PlacedState}
 
 -- ---- requests
 

@@ -1,43 +1,8 @@
 -- The request that a step tells is the one that the other caches see.
-use Rattle.std.proofs.Common.{◌≡◌, ◌≢◌, ◌∙◌, ◌/◌, ℕ, Bool, true, false, not, if◌then◌else◌, List, [], ◌∷◌, Option, Some, None, is_some, option_map, inl, inr, refl, sym, ap, subst}
-use Rattle.tso_model.specs.Litmus.{Litmus}
-use Rattle.tso_model.specs.FlatMachine.{State, chosen, core_of, effect_of}
-use Rattle.tso_model.specs.MemoryAccess.{MemoryAccess, NoAccess, Reads, Writes, Locks, access_of, next_of}
-use Rattle.tso_model.specs.SplitMachine.{Holder, Free, HeldBy, HeldBetween, BusEffect, same_choice, needs_bus, acts, asks, begins, completes, as_read, writes_last, split_effect}
-use Rattle.tso_model.specs.EitherBus.{BusState, effect_on}
-use Rattle.tso_model.specs.declared.choice.Bus.{Bus}
-use Rattle.tso_model.specs.declared.choice.Bus.TheVariants.{Atomic, Split}
-use Rattle.tso_model.specs.declared.choice.Choice.{Choice}
-use Rattle.tso_model.specs.declared.choice.Choice.TheVariants.{Step}
-use Rattle.tso_model.specs.declared.choice.Outcome.{Outcome}
-use Rattle.tso_model.specs.declared.execution.Entry.{Entry}
-use Rattle.protocol_tables.specs.Tables.{Table}
-use Rattle.protocol_tables.specs.declared.requests.Request.{Request}
-use Rattle.protocol_tables.specs.declared.requests.Request.TheVariants.{GetS, GetM}
-use Rattle.protocol_tables.specs.declared.requests.Transient.{Transient}
-use Rattle.protocol_tables.specs.declared.requests.Transient.TheVariants.{IsD, ImD, SmD}
+use Rattle.trace_report.proofs.Vocabulary.{◌≡◌, ◌≢◌, ◌∙◌, ◌/◌, ℕ, Bool, true, false, not, if◌then◌else◌, List, [], ◌∷◌, Option, Some, None, is_some, option_map, inl, inr, refl, sym, ap, subst, Litmus, State, chosen, core_of, effect_of, MemoryAccess, NoAccess, Reads, Writes, Locks, access_of, next_of, Holder, Free, HeldBy, HeldBetween, BusEffect, same_choice, needs_bus, acts, asks, begins, completes, as_read, writes_last, split_effect, BusState, effect_on, Bus, Atomic, Split, Choice, Step, Outcome, Entry, Table, Request, GetS, GetM, Transient, IsD, ImD, SmD, M, table_of_rows, asked, used, filled, snooped, TagSets, at_line, tag_in, sets_of, is_held, requested, filled_by, loaded_in, written_in, write_in, Awaited, asking, awaiting, asked_for, asked_caches_in, completed, completed_in, hit_in, same-is, AllStores, HolderWaits, Through, Caches, Used, asking_by, completing_by, use_of, used_between, use_on, hits_by, attempt_of, is_awaited, Configuration, Running, new_machine, machine_after, IsUseFor, choice-use, goes_on_bus, nothing_sent, request_at, sent_whole, sent_asked, sent_at, sent_on, with_seen, OthersSeeTheRequest, after_choices, Sent, LineRequest}
 use Rattle.protocol_tables.specs.declared.state.State as protocol
-use Rattle.protocol_tables.specs.declared.state.State.TheVariants.{M}
-use Rattle.snoop_bus.specs.Rows.{table_of_rows}
-use Rattle.snoop_bus.specs.Requests.{asked}
-use Rattle.snoop_bus.specs.Tags.{used, filled, snooped}
-use Rattle.snoop_bus.specs.CacheContents.{TagSets, at_line, tag_in, sets_of, is_held, requested, filled_by, loaded_in, written_in, write_in}
-use Rattle.snoop_bus.specs.Asks.{Awaited, asking, awaiting, asked_for, asked_caches_in, completed, completed_in, hit_in}
-use Rattle.split_laws.proofs.Following.{same-is}
-use Rattle.split_laws.proofs.Waiting.{AllStores}
-use Rattle.split_laws.proofs.Effects.{HolderWaits}
-use Rattle.machine_core.specs.declared.accesses.CacheUse.TheVariants.{Through}
-use Rattle.machine_core.specs.Caches.{Caches, Used, asking_by, completing_by, use_of, used_between, use_on, hits_by, attempt_of, is_awaited}
-use Rattle.machine_core.specs.Configuration.{Configuration}
-use Rattle.machine_core.specs.Running.{Running, new_machine, machine_after}
-use Rattle.bus_laws.specs.Uses.{IsUseFor}
-use Rattle.bus_laws.proofs.Counted.{choice-use}
 use Rattle.bus_laws.proofs.Snooped.{requested-at, own-alone}
-use Rattle.trace_report.specs.Steps.{goes_on_bus, nothing_sent, request_at, sent_whole, sent_asked, sent_at, sent_on}
 use Rattle.trace_report.specs.Steps as steps
-use Rattle.trace_report.specs.StepLaws.{with_seen, OthersSeeTheRequest, after_choices}
-use Rattle.trace_report.specs.declared.sending.Sent.{Sent}
-use Rattle.trace_report.specs.declared.step.LineRequest.{LineRequest}
 use Rattle.trace_report.proofs.Flushes.{AsksNothing, flat-nothing, last-unused}
 use Rattle.trace_report.proofs.FlushesTold.{IsSound, sound-first, sound-after}
 use Rattle.trace_report.proofs.UsesOnBus.{own-stores}

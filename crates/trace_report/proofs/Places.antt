@@ -1,35 +1,7 @@
 -- Each location and line that a step names is one of the test's.
-use Rattle.std.proofs.Common.{◌≡◌, ◌∙◌, ℕ, zero, suc, ◌+◌, ◌*◌, ◌/◌, ◌<◌, ◌≤◌, Bool, true, false, nat_lt, if◌then◌else◌, List, [], ◌∷◌, ◌++◌, length, take, drop, Option, Some, None, IfSome, All, slice_get, slice_index, slice_index_or, sym, subst, arith, inl, inr}
-use Rattle.std.specs.Int.{div_ceil}
-use Rattle.std.proofs.lemmas.Grind.{div_ceil_times}
-use Rattle.std.proofs.Math.Nat.{div-mul-le_self, mul-le-mul_right, add-mul}
-use Rattle.std.proofs.lemmas.List.Elements.{All-nil, All-cons, All-head, All-tail, All-push, All-drop}
-use Rattle.tso_model.specs.Litmus.{Litmus, IsTest, IsProgram, KnownLocation}
-use Rattle.tso_model.specs.Actions.{action_of, location_of}
-use Rattle.tso_model.specs.Thread.{entry, fence, value_in, value_of, updated}
-use Rattle.tso_model.specs.FlatMachine.{load_value, CoreState, State, Effect, is_none_pending, stalled, stored, effect_by, step_of, effect_of, core_of, chosen, program_of, applied, start}
-use Rattle.tso_model.specs.MemoryAccess.{MemoryAccess, NoAccess, Reads, Writes, Locks, access_of, next_of, access_by, step_access, load_access, locked_access, store_access, drain_access}
-use Rattle.std.specs.Prelude.{filter}
-use Rattle.tso_model.specs.ProgramOrder.{writes_to}
-use Rattle.tso_model.specs.SplitMachine.{Holder, Free, HeldBy, HeldBetween, Attempt, same_choice, needs_bus, acts, asks, begins, load_part, completes, as_read, writes_last, split_effect}
-use Rattle.tso_model.specs.EitherBus.{BusState, effect_on}
-use Rattle.tso_model.specs.declared.choice.Bus.{Bus}
-use Rattle.tso_model.specs.declared.choice.Bus.TheVariants.{Atomic, Split}
-use Rattle.tso_model.specs.declared.instruction.Instr.{Instr}
-use Rattle.tso_model.specs.declared.instruction.Loc.{Loc}
-use Rattle.tso_model.specs.declared.action.Action.{Action}
-use Rattle.tso_model.specs.declared.action.Action.TheVariants.{Store, Load, Move, Fence, Lock}
-use Rattle.tso_model.specs.declared.execution.Entry.{Entry}
-use Rattle.tso_model.specs.declared.execution.Kind.{Kind}
-use Rattle.tso_model.specs.declared.execution.Kind.TheVariants.{R, W, F, LR, LW}
-use Rattle.tso_model.specs.declared.choice.Choice.{Choice}
-use Rattle.tso_model.specs.declared.choice.Choice.TheVariants.{Step, Drain}
-use Rattle.tso_model.specs.declared.choice.Stall.{Stall}
+use Rattle.trace_report.proofs.Vocabulary.{◌≡◌, ◌∙◌, ℕ, zero, suc, ◌+◌, ◌*◌, ◌/◌, ◌<◌, ◌≤◌, Bool, true, false, nat_lt, if◌then◌else◌, List, [], ◌∷◌, ◌++◌, length, take, drop, Option, Some, None, IfSome, All, slice_get, slice_index, slice_index_or, sym, subst, arith, inl, inr, div_ceil, div_ceil_times, div-mul-le_self, mul-le-mul_right, add-mul, All-nil, All-cons, All-head, All-tail, All-push, All-drop, Litmus, IsTest, IsProgram, KnownLocation, action_of, location_of, entry, fence, value_in, value_of, updated, CoreState, State, Effect, is_none_pending, stalled, stored, effect_by, effect_of, core_of, chosen, program_of, applied, start, MemoryAccess, NoAccess, Reads, Writes, Locks, access_of, next_of, access_by, step_access, load_access, locked_access, store_access, drain_access, filter, writes_to, Holder, Free, HeldBy, HeldBetween, Attempt, same_choice, needs_bus, acts, asks, begins, load_part, completes, as_read, writes_last, split_effect, BusState, effect_on, Bus, Atomic, Split, Instr, Loc, Action, Store, Load, Move, Fence, Lock, Entry, Kind, R, W, F, LR, LW, Choice, Step, Drain, Stall, Committed, Buffered, HasLocation, IsLocationFor, core-cases, starts-idle, IsAt, IsLine, AreStoresKnown}
+use Rattle.tso_model.specs.FlatMachine.{load_value, step_of}
 use Rattle.tso_model.specs.declared.choice.Stall.TheVariants as stall
-use Rattle.tso_model.specs.declared.choice.Outcome.TheVariants.{Committed, Buffered}
-use Rattle.order_builder.specs.PrintedOrder.{HasLocation, IsLocationFor}
-use Rattle.split_laws.proofs.Cores.{core-cases, starts-idle}
-use Rattle.trace_report.specs.Known.{IsAt, IsLine, AreStoresKnown}
 
 -- ---- entries
 

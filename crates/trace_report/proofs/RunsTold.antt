@@ -1,26 +1,9 @@
 -- The steps of a trace, summed along its run.
-use Rattle.std.proofs.Common.{◌≡◌, ◌∙◌, ℕ, suc, ◌+◌, ◌≤◌, Bool, true, false, List, [], ◌∷◌, ◌++◌, length, drop, refl, sym, ap, subst, inl, inr, get_or-set_same}
-use Rattle.std.proofs.lemmas.List.{get_or_past}
-use Rattle.std.proofs.Math.ListN.{length-set}
-use Rattle.basic_laws.proofs.Basics.{lt-or}
-use Rattle.tso_model.specs.Litmus.{Litmus}
-use Rattle.tso_model.specs.FlatMachine.{CoreState, Effect, idle, core_of, chosen, start}
-use Rattle.tso_model.specs.Runs.{Run, has_ended, stall_count, then_run, run}
-use Rattle.tso_model.specs.SplitMachine.{Attempt}
-use Rattle.tso_model.specs.EitherBus.{BusState, BusRun, unheld, then_on, resting_on, run_on, run_on_from, choices_in}
+use Rattle.trace_report.proofs.Vocabulary.{◌≡◌, ◌∙◌, ℕ, suc, ◌+◌, ◌≤◌, Bool, true, false, List, [], ◌∷◌, ◌++◌, length, drop, refl, sym, ap, subst, inl, inr, get_or-set_same, get_or_past, length-set, lt-or, Litmus, CoreState, Effect, idle, core_of, chosen, start, Run, has_ended, stall_count, then_run, run, Attempt, BusState, BusRun, unheld, then_on, resting_on, run_on, run_on_from, choices_in, Bus, Atomic, Choice, Table, Configuration, Caches, use_on, state_after_on, no_statistics, Running, new_machine, attempt_on, machine_after, step_of, steps_from, trace_of, committed_at, committed_in, stalls_in, TellsRun, run_traced}
 use Rattle.tso_model.specs.Together.{put_together}
-use Rattle.tso_model.specs.declared.choice.Bus.{Bus}
-use Rattle.tso_model.specs.declared.choice.Bus.TheVariants.{Atomic}
-use Rattle.tso_model.specs.declared.choice.Choice.{Choice}
-use Rattle.protocol_tables.specs.Tables.{Table}
 use Rattle.split_laws.specs.BusLaws.{AtomicRunsAreFlatRuns}
-use Rattle.machine_core.specs.Configuration.{Configuration}
 use Rattle.machine_core.specs.Answered.{answered, answered_from}
-use Rattle.machine_core.specs.Caches.{Caches, use_on, state_after_on}
-use Rattle.machine_core.specs.Statistics.{no_statistics}
-use Rattle.machine_core.specs.Running.{Running, new_machine, attempt_on, effect_by, machine_after}
-use Rattle.trace_report.specs.Steps.{step_of, steps_from, trace_of}
-use Rattle.trace_report.specs.TraceLaws.{committed_at, committed_in, stalls_in, TellsRun, run_traced}
+use Rattle.machine_core.specs.Running.{effect_by}
 use Rattle.trace_report.proofs.Effects.{Form, effect-form, named-is, nothing-new}
 
 -- the choices with the answers of a machine's caches along them, and the run under them from the machine's state on

@@ -1,13 +1,5 @@
 -- No choice changes the shape of the caches.
-use Rattle.std.proofs.Common.{◌≡◌, ℕ, Bool, true, false, if◌then◌else◌, List, [], ◌∷◌, refl}
-use Rattle.std.specs.List.{list_any}
-use Rattle.tso_model.specs.ProgramOrder.{writes_to}
-use Rattle.tso_model.specs.MemoryAccess.{MemoryAccess, NoAccess, Reads, Writes, Locks}
-use Rattle.tso_model.specs.declared.execution.Entry.{Entry}
-use Rattle.tso_model.specs.declared.execution.Kind.{Kind}
-use Rattle.tso_model.specs.declared.execution.Kind.TheVariants.{R, W, F, LR, LW}
-use Rattle.machine_core.specs.Caches.{Caches, load_by, not_through, asking_by, completing_by, use_by_kind, use_of, used_between}
-use Rattle.machine_core.specs.declared.accesses.CacheUse.TheVariants.{Forwarded}
+use Rattle.trace_report.proofs.Vocabulary.{◌≡◌, ℕ, Bool, true, false, if◌then◌else◌, List, [], ◌∷◌, refl, list_any, writes_to, MemoryAccess, NoAccess, Reads, Writes, Locks, Entry, Kind, R, W, F, LR, LW, Caches, load_by, not_through, asking_by, completing_by, use_by_kind, use_of, used_between, Forwarded}
 
 asking-shape : (c : Caches) (core : ℕ) (what : MemoryAccess) → (asking_by c core what).caches.shape ≡ c.shape
 asking-shape c core NoAccess = refl

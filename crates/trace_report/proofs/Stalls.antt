@@ -1,35 +1,8 @@
 -- A choice that stalled: nothing else is told of it.
-use Rattle.std.proofs.Common.{◌≡◌, ◌⊎◌, inl, inr, ◌∙◌, ℕ, Bool, true, false, if◌then◌else◌, List, [], ◌++◌, length, drop, Option, Some, None, refl, sym, ap, subst}
-use Rattle.tso_model.specs.Litmus.{Litmus}
-use Rattle.tso_model.specs.Actions.{action_of}
-use Rattle.tso_model.specs.FlatMachine.{CoreState, State, effect_by, step_of, effect_of, core_of, chosen}
-use Rattle.tso_model.specs.MemoryAccess.{MemoryAccess, NoAccess, Reads, Writes, Locks, access_by, step_access, access_of, next_of}
-use Rattle.tso_model.specs.SplitMachine.{Holder, Free, HeldBy, HeldBetween, Attempt, same_choice, needs_bus, acts, asks, begins, completes, as_read, writes_last, split_effect}
-use Rattle.tso_model.specs.EitherBus.{BusState, effect_on}
-use Rattle.tso_model.specs.declared.choice.Bus.{Bus}
-use Rattle.tso_model.specs.declared.choice.Bus.TheVariants.{Atomic, Split}
-use Rattle.tso_model.specs.declared.instruction.Instr.{Instr}
-use Rattle.tso_model.specs.declared.action.Action.{Action}
-use Rattle.tso_model.specs.declared.action.Action.TheVariants.{Store, Load, Move, Fence, Lock}
-use Rattle.tso_model.specs.declared.execution.Entry.{Entry}
-use Rattle.tso_model.specs.declared.choice.Choice.{Choice}
-use Rattle.tso_model.specs.declared.choice.Choice.TheVariants.{Step, Drain}
-use Rattle.tso_model.specs.declared.choice.Outcome.{Outcome}
-use Rattle.tso_model.specs.declared.choice.Outcome.TheVariants.{Moved, Stalled}
-use Rattle.tso_model.specs.declared.choice.Stall.{Stall}
-use Rattle.snoop_bus.specs.Asks.{Awaited}
-use Rattle.split_laws.proofs.Following.{same-is}
-use Rattle.machine_core.specs.Caches.{Caches, is_awaited, used_between}
-use Rattle.machine_core.specs.Running.{Running, use_by, machine_after}
+use Rattle.trace_report.proofs.Vocabulary.{◌≡◌, ◌⊎◌, inl, inr, ◌∙◌, ℕ, Bool, true, false, if◌then◌else◌, List, [], ◌++◌, length, drop, Option, Some, None, refl, sym, ap, subst, Litmus, action_of, CoreState, State, effect_by, effect_of, core_of, chosen, MemoryAccess, NoAccess, Reads, Writes, Locks, access_by, step_access, access_of, next_of, Holder, Free, HeldBy, HeldBetween, Attempt, same_choice, needs_bus, acts, asks, begins, completes, as_read, writes_last, split_effect, BusState, effect_on, Bus, Atomic, Split, Instr, Action, Store, Load, Move, Fence, Lock, Entry, Choice, Step, Drain, Outcome, Moved, Stalled, Stall, Awaited, same-is, Caches, is_awaited, used_between, Running, use_by, machine_after, CacheUse, Unused, states_of, changes_in, is_forwarded, access_in, request_at, nothing_sent, sent_on, moved_at, moved_by, moved_from, wrote_back_by, buffer_if_changed, stores_on, stalled_step, LineRequest, Sent}
+use Rattle.tso_model.specs.FlatMachine.{step_of}
 use Rattle.machine_core.specs.Running as running
-use Rattle.machine_core.specs.declared.accesses.CacheUse.{CacheUse}
-use Rattle.machine_core.specs.declared.accesses.CacheUse.TheVariants.{Unused}
-use Rattle.trace_report.specs.Steps.{states_of, changes_in, is_forwarded, access_in, request_at, nothing_sent, sent_on, moved_at, moved_by, moved_from, wrote_back_by, buffer_if_changed}
 use Rattle.trace_report.specs.Steps as steps
-use Rattle.trace_report.specs.inner.Left.{stores_on}
-use Rattle.trace_report.specs.Stalls.{stalled_step}
-use Rattle.trace_report.specs.declared.step.LineRequest.{LineRequest}
-use Rattle.trace_report.specs.declared.sending.Sent.{Sent}
 use Rattle.trace_report.proofs.Effects.{stall-rests, drop-all}
 use Rattle.trace_report.proofs.Whole.{form-of, same-fields, same-test, unchanged}
 

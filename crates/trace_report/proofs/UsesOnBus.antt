@@ -1,28 +1,7 @@
 -- What a choice has to do with the caches on either bus, and who holds the bus after it.
-use Rattle.std.proofs.Common.{◌≡◌, ◌≢◌, ◌⊎◌, ℕ, Bool, true, false, if◌then◌else◌, inl, inr, refl, ap, subst}
-use Rattle.basic_laws.proofs.Lists.{each-at}
-use Rattle.tso_model.specs.Litmus.{Litmus}
-use Rattle.tso_model.specs.FlatMachine.{State, chosen, core_of, effect_of, applied}
-use Rattle.tso_model.specs.MemoryAccess.{MemoryAccess, NoAccess, Reads, Writes, Locks, access_of, next_of}
-use Rattle.tso_model.specs.SplitMachine.{Holder, Free, HeldBy, HeldBetween, BusEffect, same_choice, needs_bus, acts, asks, begins, completes, as_read, writes_last, split_effect}
-use Rattle.tso_model.specs.EitherBus.{BusState}
-use Rattle.tso_model.specs.declared.choice.Bus.{Bus}
-use Rattle.tso_model.specs.declared.choice.Bus.TheVariants.{Atomic, Split}
-use Rattle.tso_model.specs.declared.choice.Choice.{Choice}
-use Rattle.tso_model.specs.declared.choice.Choice.TheVariants.{Step}
-use Rattle.tso_model.specs.declared.choice.Outcome.TheVariants.{Asked, Stalled}
+use Rattle.trace_report.proofs.Vocabulary.{◌≡◌, ◌≢◌, ◌⊎◌, ℕ, Bool, true, false, if◌then◌else◌, inl, inr, refl, ap, subst, each-at, Litmus, State, chosen, core_of, effect_of, applied, MemoryAccess, NoAccess, Reads, Writes, Locks, access_of, next_of, Holder, Free, HeldBy, HeldBetween, BusEffect, same_choice, needs_bus, acts, asks, begins, completes, as_read, writes_last, split_effect, BusState, Bus, Atomic, Split, Choice, Step, Asked, Stalled, Entry, quiet-same, IsStore, AllStores, access-kept, same-is, IsOther, HolderWaits, Unused, Caches, Used, not_through, asking_by, completing_by, hits_by, attempt_of, is_awaited, used_between, use_on, state_after_on, IsUseFor, choice-use}
 use Rattle.tso_model.specs.declared.choice.Stall.TheVariants as stall
-use Rattle.tso_model.specs.declared.execution.Entry.{Entry}
 use Rattle.split_laws.specs.inner.Pending.{PendingIsOwn}
-use Rattle.split_laws.proofs.Cores.{quiet-same}
-use Rattle.split_laws.proofs.Steps.{IsStore}
-use Rattle.split_laws.proofs.Waiting.{AllStores, access-kept}
-use Rattle.split_laws.proofs.Following.{same-is, IsOther}
-use Rattle.split_laws.proofs.Effects.{HolderWaits}
-use Rattle.machine_core.specs.declared.accesses.CacheUse.TheVariants.{Unused}
-use Rattle.machine_core.specs.Caches.{Caches, Used, not_through, asking_by, completing_by, hits_by, attempt_of, is_awaited, used_between, use_on, state_after_on}
-use Rattle.bus_laws.specs.Uses.{IsUseFor}
-use Rattle.bus_laws.proofs.Counted.{choice-use}
 use Rattle.trace_report.proofs.Flushes.{last-unused}
 
 -- what holds the bus after a choice to make an access held it before, and its access is the same; by the accesses that choices

@@ -1,40 +1,10 @@
 -- The line that a step tells as written back is the one that gave way in its set.
-use Rattle.std.proofs.Common.{arith, ◌≡◌, ◌≢◌, ◌∙◌, ◌⊎◌, ◌+◌, ◌-◌, ◌<◌, ◌≤◌, ◌/◌, ◌%◌, ◌==◌, ◌&&◌, ℕ, zero, suc, Bool, true, false, if◌then◌else◌, List, [], ◌∷◌, ◌++◌, length, take, slice_get, slice_set, slice_index_or, Option, Some, None, nat_eq, inl, inr, refl, sym, ap, subst, get_or-set_same, get_or-set_other}
+use Rattle.trace_report.proofs.Vocabulary.{arith, ◌≡◌, ◌≢◌, ◌∙◌, ◌⊎◌, ◌+◌, ◌-◌, ◌<◌, ◌≤◌, ◌/◌, ◌%◌, ◌==◌, ◌&&◌, ℕ, zero, suc, Bool, true, false, if◌then◌else◌, List, [], ◌∷◌, ◌++◌, length, take, slice_get, slice_set, slice_index_or, Option, Some, None, nat_eq, inl, inr, refl, sym, ap, subst, get_or-set_same, get_or-set_other, eqb_tells, nat_tests, get_or_past, length-set, decide, lt-or, Litmus, IsTest, chosen, MemoryAccess, NoAccess, Reads, Writes, Locks, access_of, Holder, Free, HeldBy, Loc, Choice, Table, Transient, IsD, ImD, SmD, table_of_rows, TagSet, tag_of, leaving, filled, TagSets, tags_at, tag_in, at_line, sets_of, is_held, dirty_in, writes_back, filled_by, loaded_in, written_in, write_in, Awaited, tag_at, completed, completed_in, Configuration, Caches, Used, through, load_by, write_by, completion_by, completing_by, at_access, bus_holder, bus_holder_as, bus_holder_of, Running, new_machine, use_by, machine_after, CacheUse, Unused, Forwarded, Through, IsUseFor, no_set, found-valid, own-kept, state_with, awaited_at, line_state, line_states, placed, lines_of, states_of, number_of, change_of, changes_in, is_absent, left_by, wrote_back_by, WriteBacksAreTold, KeepsWays, after_choices, KeepsNoCopyInI, StateChange, PlacedState}
 use Rattle.std.specs.Map.{lookup}
 use Rattle.std.proofs.lemmas.Bool.{eq-eqb}
-use Rattle.std.proofs.lemmas.Bool.Decides.{eqb_tells, nat_tests}
-use Rattle.std.proofs.lemmas.List.{get_or_past}
-use Rattle.std.proofs.Math.ListN.{length-set}
-use Rattle.basic_laws.proofs.Basics.{decide, lt-or}
-use Rattle.tso_model.specs.Litmus.{Litmus, IsTest}
-use Rattle.tso_model.specs.FlatMachine.{chosen}
-use Rattle.tso_model.specs.MemoryAccess.{MemoryAccess, NoAccess, Reads, Writes, Locks, access_of}
-use Rattle.tso_model.specs.SplitMachine.{Holder, Free, HeldBy}
-use Rattle.tso_model.specs.declared.instruction.Loc.{Loc}
-use Rattle.tso_model.specs.declared.choice.Choice.{Choice}
-use Rattle.protocol_tables.specs.Tables.{Table}
-use Rattle.protocol_tables.specs.declared.requests.Transient.{Transient}
-use Rattle.protocol_tables.specs.declared.requests.Transient.TheVariants.{IsD, ImD, SmD}
 use Rattle.protocol_tables.specs.declared.state.State as protocol
 use Rattle.protocol_tables.specs.declared.state.State.TheVariants as tag
-use Rattle.snoop_bus.specs.Rows.{table_of_rows}
-use Rattle.snoop_bus.specs.Tags.{TagSet, tag_of, leaving, filled}
-use Rattle.snoop_bus.specs.CacheContents.{TagSets, tags_at, tag_in, at_line, sets_of, is_held, dirty_in, writes_back, filled_by, loaded_in, written_in, write_in}
-use Rattle.snoop_bus.specs.Asks.{Awaited, tag_at, completed, completed_in}
-use Rattle.machine_core.specs.Configuration.{Configuration}
-use Rattle.machine_core.specs.Caches.{Caches, Used, through, load_by, write_by, completion_by, completing_by, at_access}
-use Rattle.machine_core.specs.Looking.{bus_holder, bus_holder_as, bus_holder_of}
-use Rattle.machine_core.specs.Running.{Running, new_machine, use_by, machine_after}
-use Rattle.machine_core.specs.declared.accesses.CacheUse.{CacheUse}
-use Rattle.machine_core.specs.declared.accesses.CacheUse.TheVariants.{Unused, Forwarded, Through}
-use Rattle.bus_laws.specs.Uses.{IsUseFor}
-use Rattle.bus_laws.proofs.Victims.{no_set, found-valid, own-kept}
-use Rattle.trace_report.specs.Steps.{state_with, awaited_at, line_state, line_states, placed, lines_of, states_of, number_of, change_of, changes_in, is_absent, left_by, wrote_back_by}
 use Rattle.trace_report.specs.Steps as steps
-use Rattle.trace_report.specs.StepLaws.{WriteBacksAreTold, KeepsWays, after_choices}
-use Rattle.trace_report.specs.TraceLaws.{KeepsNoCopyInI}
-use Rattle.trace_report.specs.declared.step.StateChange.{StateChange}
-use Rattle.trace_report.specs.declared.states.PlacedState.{PlacedState}
 use Rattle.trace_report.proofs.Awaiting.{MayComplete, MayMake, HolderMayMake, asks-quiet, use-still}
 use Rattle.trace_report.proofs.LaidIn.{grid, grid-is}
 use Rattle.trace_report.proofs.LinesLeft.{LeavesLine}

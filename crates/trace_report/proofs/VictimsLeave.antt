@@ -1,19 +1,6 @@
 -- The line that an access sends away: it was in the core's cache before the access, and isn't after it.
-use Rattle.std.proofs.Common.{◌≡◌, ◌≢◌, ◌∙◌, ◌<◌, ◌/◌, ℕ, Bool, true, false, List, [], length, Option, Some, None, inl, inr, refl, sym, ap, subst, get_or-set_same}
-use Rattle.tso_model.specs.MemoryAccess.{MemoryAccess, NoAccess, Reads, Writes, Locks}
-use Rattle.protocol_tables.specs.Tables.{Table}
+use Rattle.trace_report.proofs.Vocabulary.{◌≡◌, ◌≢◌, ◌∙◌, ◌<◌, ◌/◌, ℕ, Bool, true, false, List, [], length, Option, Some, None, inl, inr, refl, sym, ap, subst, get_or-set_same, MemoryAccess, NoAccess, Reads, Writes, Locks, Table, I, M, table_of_rows, leaving, filled, TagSets, tags_at, tag_in, at_line, sets_of, dirty_in, writes_back, filled_by, loaded_in, loaded, written_in, write_in, written, tag_at, Caches, Used, CacheUse, Unused, Forwarded, Through, IsUseFor, KeepsNoCopyInI, AllNeat, found-valid, all-requested, all-used, all-filled, own-kept, sets-leave}
 use Rattle.protocol_tables.specs.declared.state.State.{State}
-use Rattle.protocol_tables.specs.declared.state.State.TheVariants.{I, M}
-use Rattle.snoop_bus.specs.Rows.{table_of_rows}
-use Rattle.snoop_bus.specs.Tags.{leaving, filled}
-use Rattle.snoop_bus.specs.CacheContents.{TagSets, tags_at, tag_in, at_line, sets_of, dirty_in, writes_back, filled_by, loaded_in, loaded, written_in, write_in, written}
-use Rattle.snoop_bus.specs.Asks.{tag_at}
-use Rattle.machine_core.specs.Caches.{Caches, Used}
-use Rattle.machine_core.specs.declared.accesses.CacheUse.{CacheUse}
-use Rattle.machine_core.specs.declared.accesses.CacheUse.TheVariants.{Unused, Forwarded, Through}
-use Rattle.bus_laws.specs.Uses.{IsUseFor}
-use Rattle.trace_report.specs.TraceLaws.{KeepsNoCopyInI}
-use Rattle.bus_laws.proofs.Victims.{AllNeat, found-valid, all-requested, all-used, all-filled, own-kept, sets-leave}
 
 -- whether a dirty line is written back as the caches are used
 abbrev pub wrote_in : CacheUse → Bool

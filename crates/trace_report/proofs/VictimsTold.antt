@@ -1,41 +1,12 @@
 -- Where a dirty line is written back it is told.
-use Rattle.std.proofs.Common.{arith, ◌≡◌, ◌≢◌, ◌∙◌, ◌⊎◌, ◌/◌, ◌<◌, ◌==◌, ◌&&◌, ℕ, zero, suc, Bool, true, false, if◌then◌else◌, List, length, map, replicate, slice_index_or, Option, Some, None, is_some, inl, inr, refl, sym, ap, subst}
-use Rattle.std.specs.Int.{div_ceil}
-use Rattle.std.proofs.lemmas.Grind.{div_ceil_times}
-use Rattle.std.proofs.lemmas.List.{length-replicate}
-use Rattle.std.proofs.Math.Nat.{div-mul-le_self, mul-le-mul_right}
-use Rattle.basic_laws.proofs.Basics.{lt-or}
-use Rattle.tso_model.specs.Litmus.{Litmus, IsTest}
-use Rattle.tso_model.specs.FlatMachine.{chosen}
-use Rattle.tso_model.specs.MemoryAccess.{MemoryAccess, NoAccess, Reads, Writes, Locks, access_of}
-use Rattle.tso_model.specs.SplitMachine.{Holder, Free, HeldBy, HeldBetween}
-use Rattle.tso_model.specs.declared.choice.Choice.{Choice}
-use Rattle.protocol_tables.specs.Tables.{Table}
-use Rattle.protocol_tables.specs.declared.requests.Transient.{Transient}
+use Rattle.trace_report.proofs.Vocabulary.{arith, ◌≡◌, ◌≢◌, ◌∙◌, ◌⊎◌, ◌/◌, ◌<◌, ◌==◌, ◌&&◌, ℕ, zero, suc, Bool, true, false, if◌then◌else◌, List, length, map, replicate, slice_index_or, Option, Some, None, is_some, inl, inr, refl, sym, ap, subst, div_ceil, div_ceil_times, length-replicate, div-mul-le_self, mul-le-mul_right, lt-or, Litmus, IsTest, chosen, MemoryAccess, NoAccess, Reads, Writes, Locks, access_of, Holder, Free, HeldBy, HeldBetween, Choice, Table, Transient, table_of_rows, rows_of, tags_in, tag_at, TagSet, Configuration, at_access, bus_holder, bus_holder_as, bus_holder_of, no_counts, CacheUse, Unused, Forwarded, Through, Running, new_machine, use_by, machine_after, length-counted, AreStoresKnown, state_with, awaited_at, lines_of, states_of, number_of, changes_in, left_by, wrote_back_by, step_of, tells_write_back, KeepsNoCopyInI, StateChange, IsNeat, none-neat, no-sets, no_set, AllNeat}
 use Rattle.protocol_tables.specs.declared.state.State as protocol
 use Rattle.protocol_tables.specs.declared.state.State.TheVariants as tag
-use Rattle.snoop_bus.specs.Rows.{table_of_rows, rows_of}
-use Rattle.snoop_bus.specs.Copies.{tags_in}
-use Rattle.snoop_bus.specs.Asks.{tag_at}
-use Rattle.snoop_bus.specs.Tags.{TagSet}
-use Rattle.machine_core.specs.Configuration.{Configuration}
-use Rattle.machine_core.specs.Caches.{at_access}
-use Rattle.machine_core.specs.Looking.{bus_holder, bus_holder_as, bus_holder_of}
-use Rattle.machine_core.specs.Statistics.{no_counts}
-use Rattle.machine_core.specs.declared.accesses.CacheUse.{CacheUse}
-use Rattle.machine_core.specs.declared.accesses.CacheUse.TheVariants.{Unused, Forwarded, Through}
-use Rattle.machine_core.specs.Running.{Running, new_machine, use_by, machine_after}
-use Rattle.machine_core.proofs.CountBounds.{length-counted}
-use Rattle.trace_report.specs.Known.{AreStoresKnown}
-use Rattle.trace_report.specs.Steps.{state_with, awaited_at, lines_of, states_of, number_of, changes_in, left_by, wrote_back_by, step_of}
-use Rattle.trace_report.specs.TraceLaws.{tells_write_back, KeepsNoCopyInI}
-use Rattle.trace_report.specs.declared.step.StateChange.{StateChange}
 use Rattle.trace_report.proofs.Awaiting.{HolderMayMake, rows-after, neat-after, may-after, gone-after, rest-after}
 use Rattle.trace_report.proofs.FlushesTold.{IsSound, sound-first, sound-after}
 use Rattle.trace_report.proofs.LinesLeft.{present, left-found}
 use Rattle.trace_report.proofs.Places.{AccessKnown, access-known, stores-first}
 use Rattle.trace_report.proofs.UsesOnBus.{UsesOn, choice-uses}
-use Rattle.bus_laws.proofs.Victims.{IsNeat, none-neat, no-sets, no_set, AllNeat}
 use Rattle.trace_report.proofs.VictimsLeave.{wrote_in, IsWithin}
 use Rattle.trace_report.proofs.Whole.{words-kept, stores-kept}
 

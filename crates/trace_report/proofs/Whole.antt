@@ -1,38 +1,12 @@
 -- What a choice did, from what was looked at before it and after it.
-use Rattle.std.proofs.Common.{◌≡◌, ◌∙◌, ℕ, Bool, true, List, [], ◌∷◌, ◌++◌, length, drop, Option, ◌<◌, ◌==◌, inl, inr, refl, sym, ap, subst, arith, option_map, get_or-set_same, All}
-use Rattle.std.proofs.Math.ListN.{length-set}
-use Rattle.tso_model.specs.Litmus.{Litmus, IsTest}
-use Rattle.tso_model.specs.FlatMachine.{idle, core_of, chosen}
-use Rattle.tso_model.specs.MemoryAccess.{access_of}
-use Rattle.tso_model.specs.declared.instruction.Core.{Core}
-use Rattle.tso_model.specs.declared.choice.Choice.{Choice}
-use Rattle.tso_model.specs.declared.choice.Outcome.{Outcome}
-use Rattle.tso_model.specs.declared.execution.Entry.{Entry}
-use Rattle.snoop_bus.specs.declared.access.AccessKind.{AccessKind}
-use Rattle.snoop_bus.specs.Geometry.{Geometry, IsLineSize}
-use Rattle.basic_laws.proofs.Basics.{test-true}
-use Rattle.machine_core.specs.Configuration.{Configuration}
-use Rattle.machine_core.specs.Caches.{is_awaited}
-use Rattle.machine_core.specs.Running.{Running, configuration_of, attempt_on, effect_by, use_by, machine_after}
-use Rattle.machine_core.specs.declared.accesses.CacheUse.{CacheUse}
-use Rattle.trace_report.specs.Shown.{Shown}
-use Rattle.trace_report.specs.inner.Steps.{waited_before}
-use Rattle.trace_report.specs.Steps.{states_of, number_of, changes_in, is_forwarded, access_in, request_at, sent_on, moved_from, wrote_back_by, buffer_if_changed, step_of}
+use Rattle.trace_report.proofs.Vocabulary.{◌≡◌, ◌∙◌, ℕ, Bool, true, List, [], ◌∷◌, ◌++◌, length, drop, Option, ◌<◌, ◌==◌, inl, inr, refl, sym, ap, subst, arith, option_map, get_or-set_same, All, length-set, Litmus, IsTest, idle, core_of, chosen, access_of, Core, Choice, Outcome, Entry, AccessKind, Geometry, IsLineSize, test-true, Configuration, is_awaited, Running, attempt_on, use_by, machine_after, CacheUse, Shown, waited_before, states_of, number_of, changes_in, is_forwarded, access_in, request_at, sent_on, moved_from, wrote_back_by, buffer_if_changed, step_of, IsTraced, IsTold, stores_on, waited_on, IsLeftBy, HasLocation, IsAt, AreStoresKnown, IsKnown, All-append, All-drop, All-weaker, LineRequest, StateChange, PlacedState, Sent}
+use Rattle.machine_core.specs.Running.{configuration_of, effect_by}
 use Rattle.trace_report.specs.inner.Told.{IsLookedAt}
-use Rattle.trace_report.specs.Told.{IsTraced, IsTold}
-use Rattle.trace_report.specs.inner.Left.{stores_on, waited_on, IsLeftBy}
 use Rattle.trace_report.proofs.Effects.{Form, effect-form, waited-is}
 use Rattle.trace_report.proofs.Places.{effect-places, stores-next, access-known, at-place}
 use Rattle.trace_report.proofs.Named.{sent-known, request-known, written-back-known, changes-known, states-known, buffer-known}
-use Rattle.order_builder.specs.PrintedOrder.{HasLocation}
-use Rattle.trace_report.specs.Known.{IsAt, AreStoresKnown, IsKnown}
-use Rattle.std.proofs.lemmas.List.Elements.{All-append, All-drop, All-weaker}
 use Rattle.trace_report.proofs.Shapes.{used-shape}
 use Rattle.trace_report.specs.declared.step.Moved.{Moved}
-use Rattle.trace_report.specs.declared.step.LineRequest.{LineRequest}
-use Rattle.trace_report.specs.declared.step.StateChange.{StateChange}
-use Rattle.trace_report.specs.declared.states.PlacedState.{PlacedState}
-use Rattle.trace_report.specs.declared.sending.Sent.{Sent}
 use Rattle.trace_report.specs.declared.telling.Left.{Left}
 
 -- what is shown, by its parts

@@ -1,23 +1,7 @@
 -- The write-backs that a trace tells are those that are counted; and all that it tells of the accesses.
-use Rattle.std.proofs.Common.{◌≡◌, ◌≢◌, ◌∙◌, ℕ, ◌+◌, ◌<◌, ◌==◌, ◌&&◌, Bool, true, false, List, [], ◌∷◌, length, Some, refl, sym, ap, subst, arith}
-use Rattle.std.proofs.lemmas.List.{length-replicate}
-use Rattle.tso_model.specs.FlatMachine.{chosen}
-use Rattle.tso_model.specs.Runs.{has_ended, CoresExist}
-use Rattle.tso_model.specs.declared.choice.Choice.{Choice}
-use Rattle.protocol_tables.specs.Tables.{filled_shared, filled_by_sharing, written_in_place}
+use Rattle.trace_report.proofs.Vocabulary.{◌≡◌, ◌≢◌, ◌∙◌, ℕ, ◌+◌, ◌<◌, ◌==◌, ◌&&◌, Bool, true, false, List, [], ◌∷◌, length, Some, refl, sym, ap, subst, arith, length-replicate, chosen, has_ended, CoresExist, Choice, filled_shared, filled_by_sharing, written_in_place, I, S, E, O, M, AccessKind, Hit, Upgrade, Miss, Running, new_machine, use_by, machine_after, Statistics, no_counts, with_access, with_forward, with_write_back, at_core, counted, Counts, CacheUse, Unused, Forwarded, Through, length-counted, step_of, steps_from, count_of, is_sender, tells_write_back, one_if, steps_that, ProtocolsKeepNoCopyInI, AccessesAreTold}
 use Rattle.protocol_tables.specs.declared.kind.ProtocolKind.TheVariants.{Msi, Mesi, Moesi, Mosi}
 use Rattle.protocol_tables.specs.declared.state.State.{State}
-use Rattle.protocol_tables.specs.declared.state.State.TheVariants.{I, S, E, O, M}
-use Rattle.snoop_bus.specs.declared.access.AccessKind.{AccessKind}
-use Rattle.snoop_bus.specs.declared.access.AccessKind.TheVariants.{Hit, Upgrade, Miss}
-use Rattle.machine_core.specs.Running.{Running, new_machine, use_by, machine_after}
-use Rattle.machine_core.specs.Statistics.{Statistics, no_counts, with_access, with_forward, with_write_back, at_core, counted}
-use Rattle.machine_core.specs.declared.counts.Counts.{Counts}
-use Rattle.machine_core.specs.declared.accesses.CacheUse.{CacheUse}
-use Rattle.machine_core.specs.declared.accesses.CacheUse.TheVariants.{Unused, Forwarded, Through}
-use Rattle.machine_core.proofs.CountBounds.{length-counted}
-use Rattle.trace_report.specs.Steps.{step_of, steps_from}
-use Rattle.trace_report.specs.TraceLaws.{count_of, is_sender, tells_write_back, one_if, steps_that, ProtocolsKeepNoCopyInI, AccessesAreTold}
 use Rattle.trace_report.proofs.AccessesTold.{of, kept, added, flushed-kept, none-told, counts_after, counting, stopped, no-counts, none-of, accesses-told, forwards-told}
 use Rattle.trace_report.proofs.Flushes.{flush_awaited}
 use Rattle.trace_report.proofs.FlushesTold.{sound-first, flushes-told}

@@ -1,6 +1,4 @@
-use Rattle.std.proofs.Common.{◌≤◌, length, arith}
-use Rattle.std.proofs.Common.{min}
-use Rattle.trace_report.specs.Steps.{changes_in}
+use Rattle.trace_report.proofs.Vocabulary.{◌≤◌, length, arith, min, changes_in}
 use Rattle.trace_report.proofs.Listing.{all-changes}
 use Rattle.trace_report.proofs.states.changes_in.Goals as goal
 

@@ -1,5 +1,4 @@
-use Rattle.std.proofs.Common.{◌≡◌, ◌++◌, drop}
-use Rattle.trace_report.specs.Steps.{changes_in}
+use Rattle.trace_report.proofs.Vocabulary.{◌≡◌, ◌++◌, drop, changes_in}
 use Rattle.trace_report.proofs.states.changes_in.Given as goal
 
 abbrev pub invariant-loop-at : goal.invariant-loop-at

@@ -1,5 +1,4 @@
-use Rattle.std.proofs.Common.{◌≡◌, drop}
-use Rattle.trace_report.specs.Steps.{left_by}
+use Rattle.trace_report.proofs.Vocabulary.{◌≡◌, drop, left_by}
 use Rattle.trace_report.proofs.states.left_by.Given as goal
 
 abbrev pub invariant-loop-change : goal.invariant-loop-change

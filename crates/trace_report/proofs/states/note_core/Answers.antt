@@ -1,7 +1,4 @@
-use Rattle.std.proofs.Common.{◌++◌, ap, rules}
-use Rattle.trace_report.specs.Steps.{line_states}
-use Rattle.trace_report.specs.declared.states.PlacedState.{PlacedState}
-use Rattle.trace_report.specs.declared.step.LineState.{LineState}
+use Rattle.trace_report.proofs.Vocabulary.{◌++◌, ap, rules, line_states, PlacedState, LineState}
 use Rattle.trace_report.proofs.Listing.{one-line}
 use Rattle.trace_report.proofs.states.note_core.Goals as goal
 

@@ -1,5 +1,4 @@
-use Rattle.std.proofs.Common.{◌≡◌, ◌++◌, ◌-◌}
-use Rattle.trace_report.specs.Steps.{line_states}
+use Rattle.trace_report.proofs.Vocabulary.{◌≡◌, ◌++◌, ◌-◌, line_states}
 use Rattle.trace_report.proofs.states.note_core.Given as goal
 
 abbrev pub invariant-loop-line : goal.invariant-loop-line

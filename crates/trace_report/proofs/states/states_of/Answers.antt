@@ -1,5 +1,4 @@
-use Rattle.std.proofs.Common.{◌<◌, length, arith}
-use Rattle.trace_report.specs.Steps.{core_states}
+use Rattle.trace_report.proofs.Vocabulary.{◌<◌, length, arith, core_states}
 use Rattle.trace_report.proofs.Listing.{one-core}
 use Rattle.trace_report.proofs.states.states_of.Goals as goal
 

@@ -1,5 +1,4 @@
-use Rattle.std.proofs.Common.{◌≡◌, ◌++◌, ◌-◌, length}
-use Rattle.trace_report.specs.Steps.{core_states}
+use Rattle.trace_report.proofs.Vocabulary.{◌≡◌, ◌++◌, ◌-◌, length, core_states}
 use Rattle.trace_report.proofs.states.states_of.Given as goal
 
 abbrev pub invariant-loop-core : goal.invariant-loop-core

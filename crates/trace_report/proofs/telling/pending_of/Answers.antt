@@ -1,5 +1,4 @@
-use Rattle.std.proofs.Common.{length, take, sym, ap, ◌∙◌}
-use Rattle.tso_model.specs.FlatMachine.{core_of}
+use Rattle.trace_report.proofs.Vocabulary.{length, take, sym, ap, ◌∙◌, core_of}
 use Rattle.trace_report.proofs.Looking.{next-pending, all-pending, one-pending-fewer}
 use Rattle.trace_report.proofs.telling.pending_of.Goals as goal
 

@@ -1,5 +1,4 @@
-use Rattle.std.proofs.Common.{◌≡◌, ◌-◌, length, take}
-use Rattle.tso_model.specs.FlatMachine.{core_of}
+use Rattle.trace_report.proofs.Vocabulary.{◌≡◌, ◌-◌, length, take, core_of}
 use Rattle.trace_report.proofs.telling.pending_of.Given as goal
 
 abbrev pub invariant-loop-store : goal.invariant-loop-store

@@ -1,14 +1,5 @@
-use Rattle.std.proofs.Common.{◌≡◌, ◌∙◌, ◌<◌, length, ap, sym, subst, option_map}
-use Rattle.std.specs.Prelude.{Ok}
-use Rattle.std.specs.Option.{unwrap_or}
-use Rattle.tso_model.specs.FlatMachine.{chosen, core_of}
-use Rattle.snoop_bus.specs.Asks.{awaited_by}
-use Rattle.snoop_bus.specs.Geometry.{IsLineSize}
+use Rattle.trace_report.proofs.Vocabulary.{◌≡◌, ◌∙◌, ◌<◌, length, ap, sym, subst, option_map, Ok, unwrap_or, chosen, core_of, awaited_by, IsLineSize, machine_after, IsKnown, stalled_step, states_of, request_at, sent_on, wrote_back_by, step_of}
 use Rattle.machine_core.specs.inner.Keeping.{access_in}
-use Rattle.machine_core.specs.Running.{machine_after}
-use Rattle.trace_report.specs.Known.{IsKnown}
-use Rattle.trace_report.specs.Stalls.{stalled_step}
-use Rattle.trace_report.specs.Steps.{states_of, request_at, sent_on, wrote_back_by, step_of}
 use Rattle.trace_report.proofs.Looking.{place-of}
 use Rattle.trace_report.proofs.Stalls.{stall-shown}
 use Rattle.trace_report.proofs.Whole.{Leaves, left-looked, WasLookedAt, told-whole, told-next, looked-next, step-known}

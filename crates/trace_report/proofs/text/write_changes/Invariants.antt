@@ -1,5 +1,4 @@
-use Rattle.std.proofs.Common.{◌≡◌, ◌++◌, drop, string_bytes}
-use Rattle.trace_report.specs.Lines.{changes_text}
+use Rattle.trace_report.proofs.Vocabulary.{◌≡◌, ◌++◌, drop, string_bytes, changes_text}
 use Rattle.trace_report.proofs.text.write_changes.Given as goal
 
 abbrev pub invariant-loop-change : goal.invariant-loop-change

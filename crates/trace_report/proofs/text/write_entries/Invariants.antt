@@ -1,5 +1,4 @@
-use Rattle.std.proofs.Common.{◌≡◌, ◌++◌, drop, string_bytes}
-use Rattle.trace_report.specs.Lines.{entries_text}
+use Rattle.trace_report.proofs.Vocabulary.{◌≡◌, ◌++◌, drop, string_bytes, entries_text}
 use Rattle.trace_report.proofs.text.write_entries.Given as goal
 
 abbrev pub invariant-loop-entry : goal.invariant-loop-entry

@@ -1,5 +1,4 @@
-use Rattle.std.proofs.Common.{◌≡◌, ◌++◌, drop, string_bytes}
-use Rattle.trace_report.specs.Lines.{later_stores}
+use Rattle.trace_report.proofs.Vocabulary.{◌≡◌, ◌++◌, drop, string_bytes, later_stores}
 use Rattle.trace_report.proofs.text.write_later.Given as goal
 
 abbrev pub invariant-loop-store : goal.invariant-loop-store

@@ -1,5 +1,4 @@
-use Rattle.std.proofs.Common.{◌+◌, ◌*◌, ◌<◌, ◌≤◌, length, take, string_bytes, arith, rules}
-use Rattle.std.proofs.lemmas.List.{length-take}
+use Rattle.trace_report.proofs.Vocabulary.{◌+◌, ◌*◌, ◌<◌, ◌≤◌, length, take, string_bytes, arith, rules, length-take}
 use Rattle.trace_report.proofs.LineNames.{one-named, all-named}
 use Rattle.trace_report.proofs.text.write_line_name.Goals as goal
 

@@ -1,5 +1,4 @@
-use Rattle.std.proofs.Common.{◌≡◌, ◌+◌, ◌++◌, take, drop, string_bytes}
-use Rattle.trace_report.specs.Lines.{after_plus}
+use Rattle.trace_report.proofs.Vocabulary.{◌≡◌, ◌+◌, ◌++◌, take, drop, string_bytes, after_plus}
 use Rattle.trace_report.proofs.text.write_line_name.Given as goal
 
 abbrev pub invariant-loop-loc : goal.invariant-loop-loc

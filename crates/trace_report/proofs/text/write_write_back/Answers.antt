@@ -1,4 +1,4 @@
-use Rattle.std.proofs.Common.{string_bytes}
+use Rattle.trace_report.proofs.Vocabulary.{string_bytes}
 use Rattle.trace_report.proofs.LineNames.{one-written_back}
 use Rattle.trace_report.proofs.text.write_write_back.Goals as goal
 

@@ -1,0 +1,89 @@
+-- The names that the proofs of this crate bring in from definitions and from crates below; each file takes its own from here.
+pub use Rattle.std.proofs.Common.{◌≡◌, ◌∙◌, ℕ, ◌+◌, ◌<◌, ◌≤◌, List, [], ◌∷◌, ◌++◌, length, take, drop, get_or, codes, Option, Some, sym, ap, append_assoc, append-nil, arith, Bool, true, false, if◌then◌else◌, refl, zero, suc, nat_lt, None, subst, length-append, ◌*◌, ◌/◌, IfSome, All, slice_get, slice_index, slice_index_or, inl, inr, ◌&&◌, ◌==◌, ◌-◌, option_map, min, get_or-set_same, ◌⊎◌, ◌≢◌, map, replicate, get_or-set_other, not, ◌||◌, ◌%◌, slice_set, is_some, nat_eq, rules, string_bytes}
+pub use Rattle.std.proofs.Math.ListN.{drop_of_length-le, length-set}
+pub use Rattle.std.proofs.lemmas.List.{drop_more, get_or-take, length-take, get_or_past, length-replicate, length-map, set-get_or}
+pub use Rattle.tso_model.specs.Litmus.{Litmus, IsTest, IsProgram, KnownLocation}
+pub use Rattle.trace_report.specs.Lines.{after_plus, joined, line_name, write_back_text, stall_name, changes_text, entries_text, later_stores}
+pub use Rattle.std.specs.List.{list_any}
+pub use Rattle.tso_model.specs.ProgramOrder.{writes_to}
+pub use Rattle.tso_model.specs.MemoryAccess.{MemoryAccess, NoAccess, Reads, Writes, Locks, access_of, next_of, access_by, step_access, load_access, locked_access, store_access, drain_access}
+pub use Rattle.tso_model.specs.declared.execution.Entry.{Entry}
+pub use Rattle.tso_model.specs.declared.execution.Kind.{Kind}
+pub use Rattle.tso_model.specs.declared.execution.Kind.TheVariants.{R, W, F, LR, LW}
+pub use Rattle.machine_core.specs.Caches.{Caches, load_by, not_through, asking_by, completing_by, use_by_kind, use_of, used_between, is_awaited, use_on, state_after_on, Used, write_by, load_after, hits_by, would_hit, attempt_of, at_access, through, completion_by}
+pub use Rattle.machine_core.specs.declared.accesses.CacheUse.TheVariants.{Forwarded, Unused, Through}
+pub use Rattle.tso_model.specs.Actions.{action_of, location_of}
+pub use Rattle.tso_model.specs.FlatMachine.{CoreState, State, Effect, is_none_pending, stalled, stored, effect_by, effect_of, core_of, chosen, program_of, applied, start, idle}
+pub use Rattle.tso_model.specs.SplitMachine.{Holder, Free, HeldBy, HeldBetween, Attempt, same_choice, needs_bus, acts, asks, begins, completes, as_read, after_first, writes_last, split_effect, load_part, BusEffect}
+pub use Rattle.tso_model.specs.EitherBus.{BusState, effect_on, BusRun, unheld, then_on, resting_on, run_on, run_on_from, choices_in, after_on}
+pub use Rattle.tso_model.specs.declared.choice.Bus.{Bus}
+pub use Rattle.tso_model.specs.declared.choice.Bus.TheVariants.{Atomic, Split}
+pub use Rattle.tso_model.specs.declared.instruction.Instr.{Instr}
+pub use Rattle.tso_model.specs.declared.action.Action.{Action}
+pub use Rattle.tso_model.specs.declared.action.Action.TheVariants.{Store, Load, Move, Fence, Lock}
+pub use Rattle.tso_model.specs.declared.choice.Choice.{Choice}
+pub use Rattle.tso_model.specs.declared.choice.Choice.TheVariants.{Step, Drain}
+pub use Rattle.tso_model.specs.declared.choice.Outcome.{Outcome}
+pub use Rattle.tso_model.specs.declared.choice.Outcome.TheVariants.{Committed, Buffered, Moved, Asked, Stalled}
+pub use Rattle.tso_model.specs.declared.choice.Stall.{Stall}
+pub use Rattle.split_laws.proofs.Following.{same-is, IsOther}
+pub use Rattle.split_laws.proofs.Steps.{drain-no-lock, IsStore}
+pub use Rattle.trace_report.specs.TraceLaws.{committed_at, committed_in, stalls_in, TellsRun, run_traced, is_of, laid_in, with_changes, ChangesOne, ChangesLeadFromStatesToStates, count_of, is_kind, is_access, tells_access, tells_forward, one_if, steps_that, KeepsNoCopyInI, is_sender, tells_flush, tells_write_back, ProtocolsKeepNoCopyInI, AccessesAreTold}
+pub use Rattle.trace_report.specs.inner.Steps.{waited_before}
+pub use Rattle.std.specs.Int.{div_ceil}
+pub use Rattle.std.proofs.lemmas.Grind.{div_ceil_times}
+pub use Rattle.std.proofs.Math.Nat.{div-mul-le_self, mul-le-mul_right, add-mul}
+pub use Rattle.std.proofs.lemmas.List.Elements.{All-nil, All-cons, All-head, All-tail, All-push, All-drop, All-append, All-weaker}
+pub use Rattle.tso_model.specs.Thread.{entry, fence, value_in, value_of, updated}
+pub use Rattle.std.specs.Prelude.{filter, Ok}
+pub use Rattle.tso_model.specs.declared.instruction.Loc.{Loc}
+pub use Rattle.order_builder.specs.PrintedOrder.{HasLocation, IsLocationFor}
+pub use Rattle.split_laws.proofs.Cores.{core-cases, starts-idle, length-starts, quiet-same, done-next, done-pending, done-anywhere}
+pub use Rattle.trace_report.specs.Known.{IsAt, IsLine, AreStoresKnown, IsKnown}
+pub use Rattle.snoop_bus.specs.Asks.{Awaited, tag_at, or_invalid, hit_in, asking, completed, completed_in, asked_caches_in, asked_for, awaited_by}
+unfoldable pub use Rattle.snoop_bus.specs.Asks.{awaiting}
+pub use Rattle.machine_core.specs.Running.{Running, attempt_on, use_by, machine_after, new_machine}
+pub use Rattle.machine_core.specs.declared.accesses.CacheUse.{CacheUse}
+pub use Rattle.trace_report.specs.Steps.{goes_on_bus, request_at, sent_on, line_states, core_states, lines_of, states_of, number_of, is_absent, change_of, changes_in, left_by, wrote_back_by, buffer_if_changed, moved_by, placed, is_forwarded, access_in, moved_from, nothing_sent, moved_at, steps_from, trace_of, sent_whole, sent_at, state_with, line_state, awaited_at, sent_asked}
+unfoldable pub use Rattle.trace_report.specs.Steps.{step_of}
+pub use Rattle.trace_report.specs.declared.step.LineRequest.{LineRequest}
+pub use Rattle.trace_report.specs.declared.step.StateChange.{StateChange}
+pub use Rattle.trace_report.specs.declared.states.PlacedState.{PlacedState}
+pub use Rattle.std.specs.Option.{option_and_then, unwrap_or}
+pub use Rattle.tso_model.specs.declared.instruction.Core.{Core}
+pub use Rattle.snoop_bus.specs.declared.access.AccessKind.{AccessKind}
+pub use Rattle.snoop_bus.specs.Geometry.{Geometry, IsLineSize}
+pub use Rattle.basic_laws.proofs.Basics.{test-true, lt-or, test-false, and-false, decide}
+pub use Rattle.machine_core.specs.Configuration.{Configuration}
+pub use Rattle.trace_report.specs.Shown.{Shown}
+pub use Rattle.trace_report.specs.Told.{IsTraced, IsTold}
+pub use Rattle.trace_report.specs.inner.Left.{stores_on, waited_on, IsLeftBy}
+pub use Rattle.trace_report.specs.declared.sending.Sent.{Sent}
+pub use Rattle.trace_report.specs.Stalls.{stalled_step}
+pub use Rattle.protocol_tables.specs.Tables.{Table, filled_shared, filled_by_sharing, written_in_place}
+pub use Rattle.tso_model.specs.Runs.{Run, has_ended, stall_count, then_run, run, CoresExist, is_done}
+pub use Rattle.machine_core.specs.Statistics.{no_statistics, Statistics, no_counts, with_access, with_forward, with_write_back, with_flush, at_core, flush_counted, counted, statistics_from}
+pub use Rattle.std.proofs.lemmas.Bool.Decides.{nat_tests, eqb_tells}
+pub use Rattle.basic_laws.proofs.Lists.{Each, each-append, each-at}
+pub use Rattle.protocol_tables.specs.declared.requests.Transient.TheVariants.{IsD, ImD, SmD}
+pub use Rattle.trace_report.specs.declared.step.LineState.{LineState}
+pub use Rattle.snoop_bus.specs.declared.access.AccessKind.TheVariants.{Hit, Upgrade, Miss}
+pub use Rattle.machine_core.specs.declared.counts.Counts.{Counts}
+pub use Rattle.machine_core.proofs.CountBounds.{length-counted}
+pub use Rattle.protocol_tables.specs.Transients.{transient_of}
+pub use Rattle.protocol_tables.specs.declared.requests.Request.{Request}
+pub use Rattle.protocol_tables.specs.declared.requests.Request.TheVariants.{GetS, GetM}
+pub use Rattle.protocol_tables.specs.declared.requests.Transient.{Transient}
+pub use Rattle.snoop_bus.specs.Rows.{table_of_rows, rows_of}
+pub use Rattle.snoop_bus.specs.CacheContents.{TagSets, loaded_in, written_in, write_in, tags_at, tag_in, at_line, sets_of, dirty_in, writes_back, filled_by, loaded, written, used_by, at_others, is_held, requested}
+pub use Rattle.split_laws.proofs.Waiting.{AllStores, access-kept, choice-stores, start-stores}
+pub use Rattle.split_laws.proofs.Effects.{HolderWaits, Live, LiveIn, live-after, live-start}
+pub use Rattle.protocol_tables.specs.declared.state.State.TheVariants.{I, M, S, E, O}
+pub use Rattle.snoop_bus.specs.Tags.{leaving, filled, TagSet, tag_of, used, snooped}
+pub use Rattle.bus_laws.specs.Uses.{IsUseFor}
+pub use Rattle.bus_laws.proofs.Victims.{AllNeat, found-valid, all-requested, all-used, all-filled, own-kept, sets-leave, no_set, absent-remove, IsNeat, none-neat, no-sets}
+pub use Rattle.bus_laws.proofs.Counted.{choice-use}
+pub use Rattle.snoop_bus.specs.Requests.{asked}
+pub use Rattle.snoop_bus.specs.Copies.{tags_in}
+pub use Rattle.machine_core.specs.Looking.{bus_holder, bus_holder_as, bus_holder_of}
+pub use Rattle.trace_report.specs.StepLaws.{with_moved, with_buffer, CoresAreTold, IsWordOfStall, done, full, lock, empty, IsHeldByOther, IsWordOfStallOn, flat, bus, StallsAreTold, with_seen, OthersSeeTheRequest, after_choices, WriteBacksAreTold, KeepsWays}
