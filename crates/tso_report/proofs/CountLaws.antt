@@ -1,16 +1,6 @@
 -- One run more raises one count and keeps the order.
-use Rattle.std.proofs.Common.{◌≡◌, ◌≢◌, ◌∙◌, ℕ, ◌+◌, cond, List, [], ◌∷◌, Option, Some, None, unwrap_or, refl, sym, ap}
-use Rattle.std.specs.declared.cmp.Ordering.{Ordering}
-use Rattle.std.specs.declared.cmp.Ordering.TheVariants.{Less, Equal, Greater}
-use Rattle.std.specs.Ordering.{nat_cmp, match_ordering, is_eq, ordering_reverse}
-use Rattle.std.specs.Cmp.Lexicographic.{slice_cmp}
-use Rattle.std.specs.BTreeMap.{insert_entry, is_at}
-use Rattle.std.specs.Map.{lookup, keys_of}
-use Rattle.std.specs.List.{AllByRecursion}
-use Rattle.std.specs.List.Sorted.{IsStrictlySortedBy}
-use Rattle.std.proofs.lemmas.Cmp.{nat_list_cmp_total, tied_itself}
+use Rattle.tso_report.proofs.Vocabulary.{◌≡◌, ◌≢◌, ◌∙◌, ℕ, ◌+◌, cond, List, [], ◌∷◌, Option, Some, None, unwrap_or, refl, sym, ap, Ordering, Less, Equal, Greater, nat_cmp, match_ordering, is_eq, ordering_reverse, slice_cmp, insert_entry, is_at, lookup, keys_of, AllByRecursion, IsStrictlySortedBy, nat_list_cmp_total, tied_itself, count_of, with_values, Ascend}
 use Rattle.std.proofs.lemmas.Map.Lookups.{exact_bytes}
-use Rattle.tso_report.specs.Tally.{count_of, with_values, Ascend}
 
 -- ---- the count of the values themselves
 

@@ -1,3 +1,4 @@
+pub mod Vocabulary
 pub mod OrderLaw
 pub mod Short
 pub mod Texts

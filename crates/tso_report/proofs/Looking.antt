@@ -1,12 +1,5 @@
 -- What is looked at, one core and one location at a time.
-use Rattle.std.proofs.Common.{◌≡◌, ◌∙◌, ℕ, zero, suc, ◌+◌, ◌-◌, ◌<◌, ◌≤◌, Bool, List, [], ◌∷◌, ◌++◌, length, map, filter, All, ap, sym, subst, append_assoc, arith}
-use Rattle.std.proofs.lemmas.List.Elements.{filter-append, All-filter, All-append, All-cons, All-nil}
-use Rattle.tso_model.specs.Litmus.{Litmus}
-use Rattle.tso_model.specs.declared.register.Reg.{Reg}
-use Rattle.tso_report.specs.declared.named.Named.{Named}
-use Rattle.tso_report.specs.Report.{all_registers}
-use Rattle.tso_report.specs.Tally.{is_looked_at, register_of, location, named_registers, named_locations, looked_at}
-use Rattle.tso_report.specs.inner.Tally.{IsKnown}
+use Rattle.tso_report.proofs.Vocabulary.{◌≡◌, ◌∙◌, ℕ, zero, suc, ◌+◌, ◌-◌, ◌<◌, ◌≤◌, Bool, List, [], ◌∷◌, ◌++◌, length, map, filter, All, ap, sym, subst, append_assoc, arith, filter-append, All-filter, All-append, All-cons, All-nil, Litmus, Reg, Named, all_registers, is_looked_at, register_of, location, named_registers, named_locations, looked_at, IsKnown}
 
 count-next : (i n : ℕ) → i < n → n - i ≡ suc (n - (i + 1))
 count-next i n h = omega arith

@@ -1,32 +1,12 @@
 -- The lines of a report before its order are none that an order could begin with.
-use Rattle.std.proofs.Common.{◌≡◌, ℕ, ◌<◌, ◌^◌, Bool, true, not, eqb, List, [], ◌∷◌, ◌++◌, get_or, All, inl, inr, refl, ap, ◌∙◌, arith, rules}
+use Rattle.tso_report.proofs.Vocabulary.{◌≡◌, ℕ, ◌<◌, ◌^◌, Bool, true, not, eqb, List, [], ◌∷◌, ◌++◌, get_or, All, inl, inr, refl, ap, ◌∙◌, arith, rules, decimal, list_all, and_parts, and_from, nat_tests, digits_decimal, All-cons, All-nil, Litmus, IsTest, Bus, Atomic, Split, Entry, is_printable, is_test_name, printed_lines, printed_order, IsBefore, IsOrderFor, SpellsOrder, Shown, protocol_name, ProtocolKind, Msi, Mesi, Moesi, Mosi, Geometry, IsLineSize, IsShapeWithinLimits, Configuration, report, line, test_line, shape_text, bus_text, register_lines, memory_line, condition_line, choices_line, cache_lines}
 use Rattle.std.specs.Prelude.{codes}
-use Rattle.std.specs.Fmt.{decimal}
-use Rattle.std.specs.List.{list_all}
 use Rattle.std.specs.Char.{is_ascii_digit}
-use Rattle.std.proofs.lemmas.Bool.{and_parts, and_from}
-use Rattle.std.proofs.lemmas.Bool.Decides.{nat_tests}
-use Rattle.std.proofs.lemmas.Fmt.{digits_decimal}
 use Rattle.std.proofs.lemmas.Str.Parse.{IsNumeralModel, numerals_by_fold}
 use Rattle.std.proofs.lemmas.List.{append_assoc}
-use Rattle.std.proofs.lemmas.List.Elements.{All-cons, All-nil}
 use Rattle.std.proofs.lemmas.List.Folds.{list_all-append}
-use Rattle.tso_model.specs.Litmus.{Litmus, IsTest}
-use Rattle.tso_model.specs.declared.choice.Bus.{Bus}
-use Rattle.tso_model.specs.declared.choice.Bus.TheVariants.{Atomic, Split}
-use Rattle.tso_model.specs.declared.execution.Entry.{Entry}
-use Rattle.tso_model.specs.Names.{is_printable, is_test_name}
 use Rattle.decimals.specs.Decimals.{decimal_from}
 use Rattle.order_builder.specs.Lines.{is_line}
-use Rattle.order_builder.specs.PrintedOrder.{printed_lines, printed_order}
-use Rattle.order_builder.specs.Spelling.{IsBefore, IsOrderFor, SpellsOrder}
-use Rattle.tso_report.specs.Shown.{Shown}
-use Rattle.protocol_tables.specs.Names.{protocol_name}
-use Rattle.protocol_tables.specs.declared.kind.ProtocolKind.{ProtocolKind}
-use Rattle.protocol_tables.specs.declared.kind.ProtocolKind.TheVariants.{Msi, Mesi, Moesi, Mosi}
-use Rattle.snoop_bus.specs.Geometry.{Geometry, IsLineSize, IsShapeWithinLimits}
-use Rattle.machine_core.specs.Configuration.{Configuration}
-use Rattle.tso_report.specs.Report.{report, line, test_line, shape_text, bus_text, register_lines, memory_line, condition_line, choices_line, cache_lines}
 
 -- ---- no line feed
 

@@ -1,38 +1,16 @@
 -- The maximum length of each line of a report.
-use Rattle.std.proofs.Common.{inl, inr, ◌≡◌, ℕ, ◌+◌, ◌-◌, ◌*◌, ◌≤◌, ◌<◌, ◌^◌, zero, suc, Bool, true, false, not, nat_le, ◌&&◌, List, [], ◌∷◌, ◌++◌, length, map, slice_index, slice_index_or, All, Option, Some, None, length-append, refl, arith}
+use Rattle.tso_report.proofs.Vocabulary.{inl, inr, ◌≡◌, ℕ, ◌+◌, ◌-◌, ◌*◌, ◌≤◌, ◌<◌, ◌^◌, zero, suc, Bool, true, false, not, nat_le, ◌&&◌, List, [], ◌∷◌, ◌++◌, length, map, slice_index, slice_index_or, All, Option, Some, None, length-append, refl, arith, decimal, list_all, length-decimal-le, and_parts, nat_tests, All-head, All-tail, Litmus, IsTest, Condition, begins_name, continues_name, is_name, is_register_word, is_location_name, is_test_name, Bus, Atomic, Split, Reg, Entry, letters_of, printed_access, printed_entry, printed_end, printed_lines, printed_order, HasAccess, IsEntryFor, IsOrderFor, protocol_name, ProtocolKind, Msi, Mesi, Moesi, Mosi, Geometry, IsLineSize, Configuration, IsConfigurationWithinLimits, Counts, Shown, report, line, test_line, machine_line, shape_text, bus_text, printed_register, printed_registers, all_registers, register_line, register_lines, printed_words, memory_line, printed_quantifier, printed_truth, printed_verdict, condition_line, choices_line, traffic_text, cache_line, cache_lines}
 use Rattle.std.specs.Prelude.{codes}
-use Rattle.std.specs.Fmt.{decimal}
-use Rattle.std.specs.List.{list_all}
-use Rattle.std.proofs.lemmas.Fmt.{length-decimal-le}
-use Rattle.std.proofs.lemmas.Bool.{and_parts}
-use Rattle.std.proofs.lemmas.Bool.Decides.{nat_tests}
-use Rattle.std.proofs.lemmas.List.Elements.{All-head, All-tail}
-use Rattle.tso_model.specs.Litmus.{Litmus, IsTest}
-use Rattle.tso_model.specs.Condition.{Condition}
-use Rattle.tso_model.specs.Names.{begins_name, continues_name, is_name, is_register_word, is_location_name, is_test_name}
 use Rattle.tso_model.specs.Registers.{IsWord, AreRegisters, index_of, name_of}
 use Rattle.tso_model.specs.Thread.{value_in}
-use Rattle.tso_model.specs.declared.choice.Bus.{Bus}
-use Rattle.tso_model.specs.declared.choice.Bus.TheVariants.{Atomic, Split}
-use Rattle.tso_model.specs.declared.register.Reg.{Reg}
 use Rattle.tso_model.specs.declared.register.Reg.TheVariants.{Eax, Ebx, Ecx, Edx, Esi, Edi}
 use Rattle.tso_model.specs.declared.condition.Quantifier.{Quantifier}
 use Rattle.tso_model.specs.declared.condition.Quantifier.TheVariants.{Exists, NotExists, Forall}
-use Rattle.tso_model.specs.declared.execution.Entry.{Entry}
 use Rattle.tso_model.specs.declared.execution.Kind.{Kind}
 use Rattle.tso_model.specs.declared.execution.Kind.TheVariants.{R, W, F, LR, LW}
-use Rattle.order_builder.specs.PrintedOrder.{letters_of, printed_access, printed_entry, printed_end, printed_lines, printed_order}
-use Rattle.order_builder.specs.Spelling.{HasAccess, IsEntryFor, IsOrderFor}
-use Rattle.protocol_tables.specs.Names.{protocol_name}
-use Rattle.protocol_tables.specs.declared.kind.ProtocolKind.{ProtocolKind}
-use Rattle.protocol_tables.specs.declared.kind.ProtocolKind.TheVariants.{Msi, Mesi, Moesi, Mosi}
-use Rattle.snoop_bus.specs.Geometry.{Geometry, IsShapeWithinLimits as IsShape, IsLineSize}
-use Rattle.machine_core.specs.Configuration.{Configuration, IsConfigurationWithinLimits}
+use Rattle.snoop_bus.specs.Geometry.{IsShapeWithinLimits as IsShape}
 use Rattle.machine_core.specs.Keeping.{IsAtMost}
-use Rattle.machine_core.specs.declared.counts.Counts.{Counts}
-use Rattle.tso_report.specs.Shown.{Shown}
 use Rattle.tso_report.specs.Limits.{longest_report, IsSmall}
-use Rattle.tso_report.specs.Report.{report, line, test_line, machine_line, shape_text, bus_text, printed_register, printed_registers, all_registers, register_line, register_lines, printed_words, memory_line, printed_quantifier, printed_truth, printed_verdict, condition_line, choices_line, traffic_text, cache_line, cache_lines}
 
 -- ---- texts put together
 

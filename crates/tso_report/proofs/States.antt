@@ -1,19 +1,9 @@
 -- The lists of values with their counts, as a map of vectors keeps them.
-use Rattle.std.proofs.Common.{◌≡◌, ◌∙◌, ℕ, ◌+◌, ◌≤◌, cond, List, [], ◌∷◌, sum, Vec, Option, Some, None, unwrap_or, option_map, refl, sym, ap, arith}
+use Rattle.tso_report.proofs.Vocabulary.{◌≡◌, ◌∙◌, ℕ, ◌+◌, ◌≤◌, cond, List, [], ◌∷◌, sum, Vec, Option, Some, None, unwrap_or, option_map, refl, sym, ap, arith, Ordering, Less, Equal, Greater, nat_cmp, match_ordering, is_eq, slice_cmp, insert_entry, is_at, lookup, keys_of, values_of, IsStrictlySortedBy, nat_list_cmp_total, on_total, count_of, with_values, states_of}
 use Rattle.std.specs.declared.alloc.Global.{Global}
-use Rattle.std.specs.declared.cmp.Ordering.{Ordering}
-use Rattle.std.specs.declared.cmp.Ordering.TheVariants.{Less, Equal, Greater}
-use Rattle.std.specs.Ordering.{nat_cmp, match_ordering, is_eq}
 use Rattle.std.specs.Cmp.{IsTotalOrder}
-use Rattle.std.specs.Cmp.Lexicographic.{slice_cmp}
-use Rattle.std.specs.BTreeMap.{insert_entry, is_at}
-use Rattle.std.specs.Map.{lookup, keys_of, values_of}
-use Rattle.std.specs.List.Sorted.{IsStrictlySortedBy}
-use Rattle.std.proofs.lemmas.Cmp.{nat_list_cmp_total, on_total}
 use Rattle.std.proofs.lemmas.Map.Entries.{sum_by-insert_entry}
 use Rattle.std.proofs.lemmas.Map.Steps.{lookup-le-sum}
-use Rattle.tso_report.specs.Tally.{count_of, with_values}
-use Rattle.tso_report.specs.inner.Counted.{states_of}
 
 -- vectors are compared as lists
 abbrev pub by_items : Vec ℕ Global → Vec ℕ Global → Ordering

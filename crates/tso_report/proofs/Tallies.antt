@@ -1,11 +1,6 @@
 -- What a tally is tallied_in as, and what it holds.
-use Rattle.std.proofs.Common.{◌≡◌, ◌∙◌, ℕ, Bool, List, ◌++◌, length, All, sym, ap, subst, append_assoc}
-use Rattle.tso_model.specs.Litmus.{Litmus}
-use Rattle.tso_report.specs.declared.named.Named.{Named}
+use Rattle.tso_report.proofs.Vocabulary.{◌≡◌, ◌∙◌, ℕ, Bool, List, ◌++◌, length, All, sym, ap, subst, append_assoc, Litmus, Named, looked_at, sweep_line, state_lines, observation, tally_text, Tallied, IsKnown, states_of, counts_in, IsKept}
 use Rattle.tso_report.specs.declared.counters.Counters.{Counters}
-use Rattle.tso_report.specs.Tally.{looked_at, sweep_line, state_lines, observation, tally_text}
-use Rattle.tso_report.specs.inner.Tally.{Tallied, IsKnown}
-use Rattle.tso_report.specs.inner.Counted.{states_of, counts_in, IsKept}
 use Rattle.tso_report.proofs.Looking.{looked-known}
 
 abbrev tallied_in : Litmus → Counters → Tallied

@@ -1,9 +1,6 @@
 -- Texts made piece by piece.
-use Rattle.std.proofs.Common.{◌≡◌, ℕ, List, [], ◌∷◌, ◌++◌, length, codes, append-nil, ◌⊎◌, inl, inr, refl, sym, ap, ◌∙◌}
+use Rattle.tso_report.proofs.Vocabulary.{◌≡◌, ℕ, List, [], ◌∷◌, ◌++◌, length, codes, append-nil, ◌⊎◌, inl, inr, refl, sym, ap, ◌∙◌, Litmus, Named, printed_value, printed_values}
 use Rattle.std.proofs.lemmas.List.{append_assoc}
-use Rattle.tso_model.specs.Litmus.{Litmus}
-use Rattle.tso_report.specs.declared.named.Named.{Named}
-use Rattle.tso_report.specs.Tally.{printed_value, printed_values}
 
 -- what was written so far, after which a piece and then a rest come
 rest-after : (piece rest before after : List ℕ) → after ≡ before ++ piece → after ++ rest ≡ before ++ (piece ++ rest)

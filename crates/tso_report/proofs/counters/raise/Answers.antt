@@ -1,4 +1,4 @@
-use Rattle.std.proofs.Common.{◌∙◌, ap, unwrap_or, arith}
+use Rattle.tso_report.proofs.Vocabulary.{◌∙◌, ap, unwrap_or, arith}
 use Rattle.tso_report.proofs.States.{lookup-states_of, count-few, sum-raised, states-raised}
 use Rattle.tso_report.proofs.counters.raise.Goals as goal
 

@@ -1,6 +1,4 @@
-use Rattle.std.proofs.Common.{◌≡◌, ◌++◌, drop, map}
-use Rattle.serde_json.specs.View.{view}
-use Rattle.tso_report.specs.Json.{counts_value}
+use Rattle.tso_report.proofs.Vocabulary.{◌≡◌, ◌++◌, drop, map, view, counts_value}
 use Rattle.tso_report.proofs.json.cache_value.Given as goal
 
 abbrev pub invariant-loop-counts : goal.invariant-loop-counts

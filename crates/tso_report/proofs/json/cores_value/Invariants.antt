@@ -1,6 +1,4 @@
-use Rattle.std.proofs.Common.{◌≡◌, ◌++◌, drop, map}
-use Rattle.serde_json.specs.View.{view}
-use Rattle.tso_report.specs.Json.{registers_value}
+use Rattle.tso_report.proofs.Vocabulary.{◌≡◌, ◌++◌, drop, map, view, registers_value}
 use Rattle.tso_report.proofs.json.cores_value.Given as goal
 
 abbrev pub invariant-loop-registers : goal.invariant-loop-registers

@@ -1,6 +1,4 @@
-use Rattle.std.proofs.Common.{◌≡◌, drop}
-use Rattle.serde_json.specs.View.{members_view}
-use Rattle.tso_report.specs.Json.{memory_members}
+use Rattle.tso_report.proofs.Vocabulary.{◌≡◌, drop, members_view, memory_members}
 use Rattle.tso_report.proofs.json.memory_value.Given as goal
 
 abbrev pub invariant-loop-loc : goal.invariant-loop-loc

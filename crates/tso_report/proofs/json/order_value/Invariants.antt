@@ -1,7 +1,4 @@
-use Rattle.std.proofs.Common.{◌≡◌, ◌++◌, drop, map}
-use Rattle.serde_json.specs.Data.{string}
-use Rattle.serde_json.specs.View.{view}
-use Rattle.order_builder.specs.PrintedOrder.{printed_entry}
+use Rattle.tso_report.proofs.Vocabulary.{◌≡◌, ◌++◌, drop, map, string, view, printed_entry}
 use Rattle.tso_report.proofs.json.order_value.Given as goal
 
 abbrev pub invariant-loop-entry : goal.invariant-loop-entry

@@ -1,8 +1,5 @@
-use Rattle.std.proofs.Common.{◌∙◌, ap}
-use Rattle.serde_json.specs.Data.{object}
-use Rattle.serde_json.specs.Written.{has_float}
+use Rattle.tso_report.proofs.Vocabulary.{◌∙◌, ap, object, has_float, shown}
 use Rattle.serde_json.proofs.Views.{view-Object}
-use Rattle.tso_report.specs.Shown.{shown}
 use Rattle.tso_report.proofs.NoFloats.{run_has_no_float}
 use Rattle.tso_report.proofs.json.report_json.Goals as goal
 

@@ -1,5 +1,4 @@
-use Rattle.std.proofs.Common.{◌≡◌, ◌++◌, drop, map, filter}
-use Rattle.tso_report.specs.Tally.{is_looked_at, register_of}
+use Rattle.tso_report.proofs.Vocabulary.{◌≡◌, ◌++◌, drop, map, filter, is_looked_at, register_of}
 use Rattle.tso_report.proofs.named.note_each.Given as goal
 
 abbrev pub invariant-loop-reg : goal.invariant-loop-reg

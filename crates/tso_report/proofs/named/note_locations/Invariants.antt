@@ -1,5 +1,4 @@
-use Rattle.std.proofs.Common.{◌≡◌, ◌-◌, ◌++◌, length, filter}
-use Rattle.tso_report.specs.Tally.{is_looked_at, named_locations}
+use Rattle.tso_report.proofs.Vocabulary.{◌≡◌, ◌-◌, ◌++◌, length, filter, is_looked_at, named_locations}
 use Rattle.tso_report.proofs.named.note_locations.Given as goal
 
 abbrev pub invariant-loop-loc : goal.invariant-loop-loc

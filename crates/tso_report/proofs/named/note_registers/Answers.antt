@@ -1,5 +1,4 @@
-use Rattle.std.proofs.Common.{◌++◌, length, filter, arith}
-use Rattle.tso_report.specs.Tally.{is_looked_at, named_registers}
+use Rattle.tso_report.proofs.Vocabulary.{◌++◌, length, filter, arith, is_looked_at, named_registers}
 use Rattle.tso_report.proofs.Looking.{core-noted}
 use Rattle.tso_report.proofs.named.note_registers.Goals as goal
 

@@ -1,5 +1,4 @@
-use Rattle.std.proofs.Common.{◌≡◌, ◌-◌, ◌++◌, length, filter}
-use Rattle.tso_report.specs.Tally.{is_looked_at, named_registers}
+use Rattle.tso_report.proofs.Vocabulary.{◌≡◌, ◌-◌, ◌++◌, length, filter, is_looked_at, named_registers}
 use Rattle.tso_report.proofs.named.note_registers.Given as goal
 
 abbrev pub invariant-loop-core : goal.invariant-loop-core

@@ -1,5 +1,4 @@
-use Rattle.std.proofs.Common.{◌≡◌, ◌++◌, drop, map}
-use Rattle.tso_report.specs.Tally.{shown_value}
+use Rattle.tso_report.proofs.Vocabulary.{◌≡◌, ◌++◌, drop, map, shown_value}
 use Rattle.tso_report.proofs.named.values_at.Given as goal
 
 abbrev pub invariant-loop-named : goal.invariant-loop-named

@@ -1,5 +1,4 @@
-use Rattle.std.proofs.Common.{◌++◌, string_bytes, codes, rules}
-use Rattle.tso_report.specs.Tally.{frequency_text}
+use Rattle.tso_report.proofs.Vocabulary.{◌++◌, string_bytes, codes, rules, frequency_text}
 use Rattle.tso_report.proofs.Texts.{ended_line}
 use Rattle.tso_report.proofs.observation.write_observed.Goals as goal
 

@@ -1,9 +1,4 @@
-use Rattle.std.proofs.Common.{◌++◌, All, subst, length, string_bytes}
-use Rattle.std.specs.Slice.Iter.{iter_rest}
-use Rattle.std.specs.Iterator.Adapters.{zip_first, zip_second}
-use Rattle.std.proofs.lemmas.List.Elements.{All-tail}
-use Rattle.tso_report.specs.Tally.{printed_values}
-use Rattle.tso_report.specs.inner.Tally.{IsKnown}
+use Rattle.tso_report.proofs.Vocabulary.{◌++◌, All, subst, length, string_bytes, iter_rest, zip_first, zip_second, All-tail, printed_values, IsKnown}
 use Rattle.tso_report.proofs.Texts.{values-next, values-end}
 use Rattle.tso_report.proofs.printed_values.write_values.Goals as goal
 

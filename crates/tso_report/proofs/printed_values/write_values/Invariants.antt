@@ -1,8 +1,4 @@
-use Rattle.std.proofs.Common.{◌≡◌, ◌++◌, All, length, string_bytes}
-use Rattle.std.specs.Slice.Iter.{iter_rest}
-use Rattle.std.specs.Iterator.Adapters.{zip_first, zip_second}
-use Rattle.tso_report.specs.Tally.{printed_values}
-use Rattle.tso_report.specs.inner.Tally.{IsKnown}
+use Rattle.tso_report.proofs.Vocabulary.{◌≡◌, ◌++◌, All, length, string_bytes, iter_rest, zip_first, zip_second, printed_values, IsKnown}
 use Rattle.tso_report.proofs.printed_values.write_values.Given as goal
 
 abbrev pub invariant-loop-named : goal.invariant-loop-named

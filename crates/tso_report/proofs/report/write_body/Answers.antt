@@ -1,6 +1,4 @@
-use Rattle.std.proofs.Common.{string_bytes, rules}
-use Rattle.order_builder.specs.PrintedOrder.{printed_order}
-use Rattle.tso_report.specs.Report.{register_lines, memory_line, condition_line, choices_line, cache_lines}
+use Rattle.tso_report.proofs.Vocabulary.{string_bytes, rules, printed_order, register_lines, memory_line, condition_line, choices_line, cache_lines}
 use Rattle.tso_report.proofs.Texts.{seven_pieces}
 use Rattle.tso_report.proofs.report.write_body.Goals as goal
 

@@ -1,5 +1,4 @@
-use Rattle.std.proofs.Common.{◌≡◌, ◌++◌, drop, string_bytes}
-use Rattle.tso_report.specs.Report.{cache_lines}
+use Rattle.tso_report.proofs.Vocabulary.{◌≡◌, ◌++◌, drop, string_bytes, cache_lines}
 use Rattle.tso_report.proofs.report.write_caches.Given as goal
 
 abbrev pub invariant-loop-core : goal.invariant-loop-core

@@ -1,6 +1,4 @@
-use Rattle.std.proofs.Common.{◌++◌, ap, ◌∙◌, append_assoc, string_bytes, codes}
-use Rattle.std.specs.Fmt.{decimal}
-use Rattle.tso_report.specs.Report.{line, printed_registers, all_registers}
+use Rattle.tso_report.proofs.Vocabulary.{◌++◌, ap, ◌∙◌, append_assoc, string_bytes, codes, decimal, line, printed_registers, all_registers}
 use Rattle.tso_report.proofs.report.write_core.Goals as goal
 
 pub returns : goal.returns

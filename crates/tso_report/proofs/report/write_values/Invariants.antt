@@ -1,5 +1,4 @@
-use Rattle.std.proofs.Common.{◌≡◌, ◌++◌, drop, string_bytes}
-use Rattle.tso_report.specs.Report.{printed_registers}
+use Rattle.tso_report.proofs.Vocabulary.{◌≡◌, ◌++◌, drop, string_bytes, printed_registers}
 use Rattle.tso_report.proofs.report.write_values.Given as goal
 
 abbrev pub invariant-loop-reg : goal.invariant-loop-reg

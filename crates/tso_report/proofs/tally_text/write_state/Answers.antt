@@ -1,5 +1,4 @@
-use Rattle.std.proofs.Common.{All, length, sym, subst}
-use Rattle.tso_report.specs.inner.Tally.{IsKnown}
+use Rattle.tso_report.proofs.Vocabulary.{All, length, sym, subst, IsKnown}
 use Rattle.tso_report.proofs.Looking.{looked-known}
 use Rattle.tso_report.proofs.tally_text.write_state.Goals as goal
 

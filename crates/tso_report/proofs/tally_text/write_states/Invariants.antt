@@ -1,6 +1,4 @@
-use Rattle.std.proofs.Common.{◌≡◌, ◌++◌, string_bytes}
-use Rattle.tso_report.specs.Tally.{state_lines}
-use Rattle.tso_report.specs.inner.Counted.{states_of}
+use Rattle.tso_report.proofs.Vocabulary.{◌≡◌, ◌++◌, string_bytes, state_lines, states_of}
 use Rattle.tso_report.proofs.tally_text.write_states.Given as goal
 
 abbrev pub invariant-loop-values : goal.invariant-loop-values

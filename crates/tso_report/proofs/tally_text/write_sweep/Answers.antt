@@ -1,6 +1,4 @@
-use Rattle.std.proofs.Common.{◌∙◌, ◌+◌, ◌++◌, ◌∷◌, [], ap, string_bytes, codes, rules}
-use Rattle.std.specs.Fmt.{decimal}
-use Rattle.tso_report.specs.Tally.{ends_text}
+use Rattle.tso_report.proofs.Vocabulary.{◌∙◌, ◌+◌, ◌++◌, ◌∷◌, [], ap, string_bytes, codes, rules, decimal, ends_text}
 use Rattle.tso_report.proofs.Texts.{ended_line, sweep_nested}
 use Rattle.tso_report.proofs.tally_text.write_sweep.Goals as goal
 

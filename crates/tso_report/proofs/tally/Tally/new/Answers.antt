@@ -1,4 +1,4 @@
-use Rattle.std.proofs.Common.{is_some}
+use Rattle.tso_report.proofs.Vocabulary.{is_some}
 use Rattle.tso_report.proofs.tally.Tally.new.Goals as goal
 
 pub invariant_of-result : goal.invariant_of-result

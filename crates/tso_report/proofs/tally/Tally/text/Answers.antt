@@ -1,5 +1,4 @@
-use Rattle.std.proofs.Common.{◌∙◌, ◌++◌, ap, string_bytes, is_some}
-use Rattle.tso_report.specs.Tally.{sweep_line}
+use Rattle.tso_report.proofs.Vocabulary.{◌∙◌, ◌++◌, ap, string_bytes, is_some, sweep_line}
 use Rattle.tso_report.proofs.Tallies.{text-of-tally}
 use Rattle.tso_report.proofs.tally.Tally.text.Goals as goal
 

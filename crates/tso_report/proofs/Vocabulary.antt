@@ -1,0 +1,44 @@
+-- The names that the proofs of this crate bring in from definitions and from crates below; each file takes its own from here.
+pub use Rattle.std.proofs.Common.{◌≡◌, ℕ, ◌<◌, ◌^◌, Bool, true, not, eqb, List, [], ◌∷◌, ◌++◌, get_or, All, inl, inr, refl, ap, ◌∙◌, arith, rules, ◌+◌, ◌-◌, ◌*◌, ◌≤◌, zero, suc, false, nat_le, ◌&&◌, length, map, slice_index, slice_index_or, Option, Some, None, length-append, codes, append-nil, ◌⊎◌, sym, ◌||◌, filter, subst, append_assoc, cond, sum, Vec, unwrap_or, option_map, ◌≢◌, drop, string_bytes, is_some}
+pub use Rattle.std.specs.Fmt.{decimal}
+pub use Rattle.std.specs.List.{list_all, AllByRecursion}
+pub use Rattle.std.proofs.lemmas.Bool.{and_parts, and_from, or_parts}
+pub use Rattle.std.proofs.lemmas.Bool.Decides.{nat_tests}
+pub use Rattle.std.proofs.lemmas.Fmt.{digits_decimal, length-decimal-le}
+pub use Rattle.std.proofs.lemmas.List.Elements.{All-cons, All-nil, All-head, All-tail, filter-append, All-filter, All-append}
+pub use Rattle.tso_model.specs.Litmus.{Litmus, IsTest}
+pub use Rattle.tso_model.specs.declared.choice.Bus.{Bus}
+pub use Rattle.tso_model.specs.declared.choice.Bus.TheVariants.{Atomic, Split}
+pub use Rattle.tso_model.specs.declared.execution.Entry.{Entry}
+pub use Rattle.tso_model.specs.Names.{is_printable, is_test_name, begins_name, continues_name, is_name, is_register_word, is_location_name}
+pub use Rattle.order_builder.specs.PrintedOrder.{printed_lines, printed_order, letters_of, printed_access, printed_entry, printed_end}
+pub use Rattle.order_builder.specs.Spelling.{IsBefore, IsOrderFor, SpellsOrder, HasAccess, IsEntryFor}
+pub use Rattle.tso_report.specs.Shown.{Shown, shown}
+pub use Rattle.protocol_tables.specs.Names.{protocol_name}
+pub use Rattle.protocol_tables.specs.declared.kind.ProtocolKind.{ProtocolKind}
+pub use Rattle.protocol_tables.specs.declared.kind.ProtocolKind.TheVariants.{Msi, Mesi, Moesi, Mosi}
+pub use Rattle.snoop_bus.specs.Geometry.{Geometry, IsLineSize, IsShapeWithinLimits}
+pub use Rattle.machine_core.specs.Configuration.{Configuration, IsConfigurationWithinLimits}
+pub use Rattle.tso_report.specs.Report.{report, line, test_line, shape_text, bus_text, register_lines, memory_line, condition_line, choices_line, cache_lines, machine_line, printed_register, printed_registers, register_line, printed_words, printed_quantifier, printed_truth, printed_verdict, traffic_text, cache_line}
+unfoldable pub use Rattle.tso_report.specs.Report.{all_registers}
+pub use Rattle.tso_model.specs.Condition.{Condition}
+pub use Rattle.tso_model.specs.declared.register.Reg.{Reg}
+pub use Rattle.machine_core.specs.declared.counts.Counts.{Counts}
+pub use Rattle.tso_report.specs.declared.named.Named.{Named}
+pub use Rattle.tso_report.specs.Tally.{printed_value, printed_values, is_looked_at, register_of, location, named_registers, named_locations, looked_at, count_of, with_values, sweep_line, state_lines, observation, tally_text, Ascend, shown_value, frequency_text, ends_text}
+pub use Rattle.std.specs.Ordering.{nat_cmp, match_ordering, is_eq, ordering_reverse}
+pub use Rattle.std.specs.Cmp.Lexicographic.{slice_cmp}
+pub use Rattle.std.specs.declared.cmp.Ordering.{Ordering}
+pub use Rattle.std.specs.declared.cmp.Ordering.TheVariants.{Less, Equal, Greater}
+pub use Rattle.serde_json.specs.Data.{string, Members, no_members, member, put, object}
+pub use Rattle.serde_json.specs.View.{items_of, view, members_view}
+pub use Rattle.serde_json.specs.Written.{has_float, items_have_float, members_have_float}
+pub use Rattle.tso_report.specs.Json.{count, counts_value, cache_value, condition_value, with_bus, machine_members, machine_value, memory_members, memory_value, order_value, registers_value, cores_value, run_value}
+pub use Rattle.tso_report.specs.inner.Tally.{IsKnown, Tallied}
+pub use Rattle.std.specs.BTreeMap.{insert_entry, is_at}
+pub use Rattle.std.specs.Map.{lookup, keys_of, values_of}
+unfoldable pub use Rattle.std.specs.List.Sorted.{IsStrictlySortedBy}
+pub use Rattle.std.proofs.lemmas.Cmp.{nat_list_cmp_total, on_total, tied_itself}
+pub use Rattle.tso_report.specs.inner.Counted.{states_of, counts_in, IsKept}
+pub use Rattle.std.specs.Slice.Iter.{iter_rest}
+pub use Rattle.std.specs.Iterator.Adapters.{zip_first, zip_second}
