@@ -1,20 +1,5 @@
 -- Of the same final states the same is printed, but for the choices.
-use Rattle.std.proofs.Common.{◌≡◌, ◌∙◌, ◌+◌, ℕ, Bool, false, not, cond, if◌then◌else◌, List, [], ◌∷◌, map, drop, length, slice_index_or, Contains, Option, Some, None, refl, sym, ap, subst}
-use Rattle.std.specs.Prelude.{count_by}
-use Rattle.std.proofs.lemmas.List.Elements.{recursion_from_All}
-use Rattle.std.proofs.lemmas.List.Sums.{sum_by-cons}
-use Rattle.std.proofs.lemmas.Option.{slice_get_within, get_or_from_slice_get}
-use Rattle.tso_model.specs.Litmus.{Litmus, IsTest}
-use Rattle.tso_model.specs.Condition.{Claim, Condition, truth_of}
-use Rattle.tso_report.specs.declared.named.Named.{Named}
-use Rattle.shown_values.specs.Shown.{named_in, values_at}
-use Rattle.shown_values.specs.declared.show.Show.{Show}
-use Rattle.explorer.specs.FinalStates.{Have}
-use Rattle.explorer.specs.declared.final_states.FinalState.{FinalState}
-use Rattle.outcome_report.specs.Outcomes.{Outcome, outcome_of, shown_values, ArePrinted, true_from}
-use Rattle.outcome_report.specs.OutcomesJson.{holds_in}
-use Rattle.outcome_report.specs.Hidden.{AreNotShown}
-use Rattle.outcome_report.specs.Laws.{AreAlike, OutcomesOfTheSameValuesAreAlike, OutcomesAreOneButForChoices}
+use Rattle.outcome_report.proofs.Vocabulary.{◌≡◌, ◌∙◌, ◌+◌, ℕ, Bool, false, not, cond, if◌then◌else◌, List, [], ◌∷◌, map, drop, length, slice_index_or, Contains, Option, Some, None, refl, sym, ap, subst, count_by, recursion_from_All, sum_by-cons, slice_get_within, get_or_from_slice_get, Litmus, IsTest, Claim, Condition, truth_of, Named, named_in, values_at, Show, Have, FinalState, Outcome, outcome_of, shown_values, ArePrinted, true_from, holds_in, AreNotShown, AreAlike, OutcomesOfTheSameValuesAreAlike, OutcomesAreOneButForChoices}
 use Rattle.outcome_report.proofs.Members.{Member, to-member, member-place, member-map, member-each, same-lists}
 use Rattle.outcome_report.proofs.Showing.{truth-shown}
 

@@ -1,17 +1,8 @@
 -- What is shown isn't hidden, so states that differ in hidden registers alone look alike.
-use Rattle.std.proofs.Common.{◌≡◌, ◌<◌, ◌≤◌, ◌⊎◌, ℕ, ◌+◌, zero, suc, Bool, false, List, [], ◌∷◌, ◌++◌, map, length, take, drop, Some, slice_get, slice_set, slice_index, slice_index_or, if◌then◌else◌, arith, ap, sym, ◌∙◌, subst, refl}
+use Rattle.outcome_report.proofs.Vocabulary.{◌≡◌, ◌<◌, ◌≤◌, ◌⊎◌, ℕ, ◌+◌, zero, suc, Bool, false, List, [], ◌∷◌, ◌++◌, map, length, take, drop, Some, slice_get, slice_set, slice_index, slice_index_or, if◌then◌else◌, arith, ap, sym, ◌∙◌, subst, refl, index_of, Reg, Core, cleared, hidden_of, seen_from, seen, Named, Register, Location, shown_value, AreNotShown, IsNotHidden}
 use Rattle.std.proofs.Math.ListN.{length-set}
 use Rattle.std.specs.Prelude.{All}
-use Rattle.tso_model.specs.Registers.{index_of}
-use Rattle.tso_model.specs.declared.register.Reg.{Reg}
-use Rattle.tso_model.specs.declared.instruction.Core.{Core}
-use Rattle.eager_laws.specs.Dead.{cleared, hidden_of, seen_from, seen}
-use Rattle.tso_report.specs.declared.named.Named.{Named}
-use Rattle.tso_report.specs.declared.named.Named.TheVariants.{Register, Location}
-use Rattle.tso_report.specs.Tally.{shown_value}
 use Rattle.tso_report.specs.inner.Tally.{IsKnown}
-use Rattle.outcome_report.specs.Hidden.{AreNotShown}
-use Rattle.outcome_report.specs.inner.Hidden.{IsNotHidden}
 
 pub lt-or : (n k : ℕ) → (k < n) ⊎ (n ≤ k)
 lt-or n k = grind arith

@@ -1,14 +1,7 @@
 -- One list of values more in a list of entries in ascending order.
-use Rattle.std.proofs.Common.{◌≡◌, ◌∙◌, Bool, true, false, cond, List, [], ◌∷◌, Option, Some, None, is_some, Ordering, Less, Equal, Greater, Contains, refl, ap, subst, ℕ}
-use Rattle.std.specs.List.{AllByRecursion}
-use Rattle.std.specs.List.Sorted.{IsStrictlySortedBy}
-use Rattle.std.specs.Ordering.{is_eq, nat_cmp, ordering_reverse, match_ordering}
-use Rattle.std.specs.Cmp.Lexicographic.{slice_cmp}
-use Rattle.std.specs.BTreeMap.{insert_entry, is_at}
-use Rattle.std.specs.Map.{lookup, keys_of}
-use Rattle.std.proofs.lemmas.Cmp.{nat_list_cmp_total, eq_by_cmp_equiv, tied_itself}
+use Rattle.outcome_report.proofs.Vocabulary.{◌≡◌, ◌∙◌, Bool, true, false, cond, List, [], ◌∷◌, Option, Some, None, is_some, Less, Equal, Contains, refl, ap, subst, ℕ, AllByRecursion, IsStrictlySortedBy, is_eq, nat_cmp, ordering_reverse, match_ordering, slice_cmp, insert_entry, is_at, lookup, keys_of, nat_list_cmp_total, eq_by_cmp_equiv, tied_itself, Contains-keys_from_lookup, IsSome-lookup_from_Contains}
+use Rattle.std.proofs.Common.{Ordering, Greater}
 use Rattle.std.proofs.lemmas.Map.Lookups.{exact_bytes}
-use Rattle.std.proofs.lemmas.Map.Views.{Contains-keys_from_lookup, IsSome-lookup_from_Contains}
 
 abbrev pub R : List ℕ → List ℕ → Ordering
 R = slice_cmp nat_cmp

@@ -1,22 +1,6 @@
 -- What is kept of a list of final states: of those that look alike one.
-use Rattle.std.proofs.Common.{◌≡◌, ◌∙◌, ◌<◌, Bool, true, false, cond, List, [], ◌∷◌, map, length, drop, slice_index_or, ◌+◌, is_some, Some, Vec, Bor, All, Contains, refl, sym, ap, subst, ℕ}
-use Rattle.std.specs.List.{AllByRecursion}
-use Rattle.std.specs.List.Sorted.{IsStrictlySortedBy}
-use Rattle.std.specs.Ordering.{is_eq, match_ordering}
-use Rattle.std.specs.BTreeMap.{insert_entry, is_at}
-use Rattle.std.specs.Map.{lookup, keys_of, values_of}
-use Rattle.std.specs.declared.alloc.Global.{Global}
-use Rattle.std.specs.declared.cmp.Ordering.{Ordering}
-use Rattle.std.specs.declared.cmp.Ordering.TheVariants.{Less, Equal, Greater}
-use Rattle.std.proofs.lemmas.Map.Views.{Contains-keys_from_lookup}
-use Rattle.std.proofs.lemmas.List.Elements.{All-from_recursion, recursion_from_All}
-use Rattle.std.proofs.lemmas.List.{get_or-map, length-map, drop_more}
-use Rattle.tso_model.specs.Litmus.{Litmus}
-use Rattle.explorer.specs.declared.final_states.FinalState.{FinalState}
-use Rattle.tso_report.specs.Tally.{shown_value}
-use Rattle.tso_report.specs.declared.named.Named.{Named}
-use Rattle.outcome_report.specs.Outcomes.{Outcome, outcome_of, shown_values, ArePrinted}
-use Rattle.outcome_report.specs.inner.Shown.{IsOf, is_kept, kept_of, with_outcome, kept_after, AreShown}
+use Rattle.outcome_report.proofs.Vocabulary.{◌≡◌, ◌∙◌, ◌<◌, Bool, true, false, cond, List, [], ◌∷◌, map, length, drop, slice_index_or, ◌+◌, is_some, Some, Vec, Bor, All, Contains, refl, sym, ap, subst, ℕ, AllByRecursion, IsStrictlySortedBy, is_eq, match_ordering, insert_entry, is_at, lookup, keys_of, values_of, Global, Ordering, Greater, Contains-keys_from_lookup, All-from_recursion, recursion_from_All, get_or-map, length-map, drop_more, Litmus, FinalState, shown_value, Named, Outcome, outcome_of, shown_values, ArePrinted, IsOf, is_kept, kept_of, with_outcome, kept_after, AreShown}
+use Rattle.std.specs.declared.cmp.Ordering.TheVariants.{Less, Equal}
 use Rattle.outcome_report.proofs.Inserting.{R, same-values, ascends, each-inserted, stands-still, stands-there}
 
 abbrev pub Kept : Type 0

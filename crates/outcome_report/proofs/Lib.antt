@@ -1,3 +1,4 @@
+pub mod Vocabulary
 pub mod Inserting
 pub mod Keeping
 pub mod Truths

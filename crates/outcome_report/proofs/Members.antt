@@ -1,9 +1,6 @@
 -- Members of lists, and lists in ascending order that have the same.
-use Rattle.std.proofs.Common.{◌≡◌, ◌∙◌, ◌⊎◌, inl, inr, ◌<◌, ℕ, zero, suc, Bool, true, false, cond, List, [], ◌∷◌, ◌++◌, map, filter, length, slice_index_or, Contains, Some, Less, Equal, refl, sym, ap, subst, arith}
-use Rattle.std.specs.List.{AllByRecursion, slice_get}
-use Rattle.std.specs.List.Sorted.{IsStrictlySortedBy}
-use Rattle.std.specs.Ordering.{ordering_reverse}
-use Rattle.std.proofs.lemmas.Cmp.{nat_list_cmp_total, tied_itself}
+use Rattle.outcome_report.proofs.Vocabulary.{◌≡◌, ◌∙◌, ◌⊎◌, inl, inr, ◌<◌, ℕ, zero, suc, Bool, true, false, cond, List, [], ◌∷◌, ◌++◌, map, filter, length, slice_index_or, Contains, Some, Less, Equal, refl, sym, ap, subst, arith, AllByRecursion, IsStrictlySortedBy, ordering_reverse, nat_list_cmp_total, tied_itself}
+use Rattle.std.specs.List.{slice_get}
 use Rattle.outcome_report.proofs.Inserting.{R}
 
 abbrev pub Member : {X : Type 0} → X → List X → Type 0

@@ -1,19 +1,8 @@
 -- The values that are printed have no float, so that their text is known.
-use Rattle.std.proofs.Common.{◌≡◌, ℕ, Bool, true, false, ◌||◌, List, [], ◌∷◌, Option, Some, None, codes, refl}
-use Rattle.std.specs.Ordering.{nat_cmp, match_ordering}
-use Rattle.std.specs.Cmp.Lexicographic.{slice_cmp}
-use Rattle.std.specs.declared.cmp.Ordering.{Ordering}
-use Rattle.std.specs.declared.cmp.Ordering.TheVariants.{Less, Equal, Greater}
+use Rattle.outcome_report.proofs.Vocabulary.{◌≡◌, ℕ, Bool, true, false, ◌||◌, List, [], ◌∷◌, Option, Some, None, codes, refl, nat_cmp, match_ordering, slice_cmp, Ordering, Greater, Members, no_members, member, put, object, has_float, members_have_float, Litmus, Condition, Named, Outcome, shown_values, is_met_in, verdict_value, key_of, value_members, with_holds, holds_in, state_value, states_value, observation_value, outcomes_value}
+use Rattle.std.specs.declared.cmp.Ordering.TheVariants.{Less, Equal}
 use Rattle.std.proofs.lemmas.Bool.{or_parts}
-use Rattle.serde_json.specs.Data.{Members, no_members, member, put, object}
-use Rattle.serde_json.specs.Written.{has_float, members_have_float}
-use Rattle.tso_model.specs.Litmus.{Litmus}
-use Rattle.tso_model.specs.Condition.{Condition}
 use Rattle.tso_report.specs.Json.{count}
-use Rattle.tso_report.specs.declared.named.Named.{Named}
-use Rattle.outcome_report.specs.Outcomes.{Outcome, shown_values, is_met_in}
-use Rattle.outcome_report.specs.Verdict.{verdict_value}
-use Rattle.outcome_report.specs.OutcomesJson.{key_of, value_members, with_holds, holds_in, state_value, states_value, observation_value, outcomes_value}
 
 neither : (p q : Bool) → p ≡ false → q ≡ false → p || q ≡ false
 neither true q h k = h

@@ -1,12 +1,6 @@
 -- The numbers of the states in which a claim is true: one state after the other.
-use Rattle.std.proofs.Common.{◌≡◌, ◌∙◌, ◌≤◌, ℕ, suc, ◌+◌, Bool, true, false, if◌then◌else◌, List, [], ◌∷◌, ◌++◌, length, Bor, codes, refl, sym, ap, subst, append_assoc, append-nil, arith}
+use Rattle.outcome_report.proofs.Vocabulary.{◌≡◌, ◌∙◌, ◌≤◌, ℕ, suc, ◌+◌, Bool, true, false, if◌then◌else◌, List, [], ◌∷◌, ◌++◌, length, Bor, codes, refl, sym, ap, subst, append_assoc, append-nil, arith, values_of, All-head, All-tail, Claim, NamesExist, truth_of, FinalState, outcome_of, true_from, true_in, printed_numbers, kept_of, outcomes_at, AllHave}
 use Rattle.std.specs.Fmt.{decimal}
-use Rattle.std.specs.Map.{values_of}
-use Rattle.std.proofs.lemmas.List.Elements.{All-head, All-tail}
-use Rattle.tso_model.specs.Condition.{Claim, NamesExist, truth_of}
-use Rattle.explorer.specs.declared.final_states.FinalState.{FinalState}
-use Rattle.outcome_report.specs.Outcomes.{outcome_of, true_from, true_in, printed_numbers}
-use Rattle.outcome_report.specs.inner.Shown.{kept_of, outcomes_at, AllHave}
 use Rattle.outcome_report.proofs.Truths.{Entries, states-kept}
 
 -- of so many states so many come before the others, and the numbers of these are still to be written; then it is the whole

@@ -1,8 +1,5 @@
 -- What is printed of the final states that a search found.
-use Rattle.std.proofs.Common.{◌≡◌, ◌∙◌, ℕ, suc, ◌+◌, Bool, List, [], ◌∷◌, length, slice_index_or, All, refl, sym, ap, subst}
-use Rattle.std.specs.Map.{values_of}
-use Rattle.std.proofs.lemmas.Option.{slice_get-get_or}
-use Rattle.tso_model.specs.Litmus.{Litmus, IsTest}
+use Rattle.outcome_report.proofs.Vocabulary.{◌≡◌, ◌∙◌, ℕ, suc, ◌+◌, Bool, List, [], ◌∷◌, length, slice_index_or, All, refl, sym, ap, subst, values_of, slice_get-get_or, Litmus, IsTest, AreReached, FinalState, Named, is_as_claimed, Outcome, outcome_of, is_met_in, outcomes_in, PrintsOutcomes, IsOf, kept_after, AreShown}
 use Rattle.tso_model.specs.FinalState.{words_from, registers_from}
 use Rattle.tso_model.specs.Runs.{run}
 use Rattle.tso_model.specs.declared.choice.Choice.{Choice}
@@ -10,13 +7,6 @@ use Rattle.tso_model.specs.declared.execution.Entry.{Entry}
 use Rattle.tso_model.specs.declared.instruction.Instr.{Instr}
 use Rattle.tso_laws.specs.EndedRuns.{End, IsExecution}
 use Rattle.outcome_laws.specs.Outcomes.{LeadToEnd}
-use Rattle.explorer.specs.FinalStates.{AreReached}
-use Rattle.explorer.specs.declared.final_states.FinalState.{FinalState}
-use Rattle.tso_report.specs.declared.named.Named.{Named}
-use Rattle.outcome_report.specs.Verdict.{is_as_claimed}
-use Rattle.outcome_report.specs.Outcomes.{Outcome, outcome_of, is_met_in}
-use Rattle.outcome_report.specs.Printed.{outcomes_in, PrintsOutcomes}
-use Rattle.outcome_report.specs.inner.Shown.{IsOf, kept_after, AreShown}
 use Rattle.outcome_report.proofs.Keeping.{kept-shown, kept-printed}
 
 -- ---- a final state has registers for each core and a word for each location

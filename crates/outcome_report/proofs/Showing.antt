@@ -1,19 +1,8 @@
 -- What the condition says of a state shows in the values that are looked at.
-use Rattle.std.proofs.Common.{◌≡◌, ◌∙◌, ◌⊎◌, inl, inr, ⊎_elim, ◌<◌, ◌≤◌, ◌+◌, ◌==◌, ◌&&◌, ◌||◌, ℕ, zero, suc, Bool, true, false, not, List, [], ◌∷◌, ◌++◌, map, drop, length, slice_index, slice_index_or, Some, refl, sym, ap, subst, arith}
+use Rattle.outcome_report.proofs.Vocabulary.{◌≡◌, ◌∙◌, ◌⊎◌, inl, inr, ⊎_elim, ◌<◌, ◌≤◌, ◌+◌, ◌==◌, ◌&&◌, ◌||◌, ℕ, zero, suc, Bool, true, false, not, List, [], ◌∷◌, ◌++◌, map, drop, length, slice_index, slice_index_or, Some, refl, sym, ap, subst, arith, Litmus, Claim, TruthClaim, RegClaim, LocClaim, NotClaim, AndClaim, OrClaim, Condition, truth_of, NamesExist, index_of, Reg, Eax, Ebx, Ecx, Edx, Esi, Edi, names_register, names_location, is_looked_at, register_of, location, named_registers, named_locations, shown_value, is_added, is_shown, named_in, Show, Named, Outcome, shown_values, TruthIsShown}
 use Rattle.std.proofs.lemmas.Bool.Decides.{leb_tells, eqb_tells}
-use Rattle.tso_model.specs.Litmus.{Litmus}
-use Rattle.tso_model.specs.Condition.{Claim, TruthClaim, RegClaim, LocClaim, NotClaim, AndClaim, OrClaim, Condition, truth_of, NamesExist}
 use Rattle.tso_model.specs.Thread.{value_in}
-use Rattle.tso_model.specs.Registers.{index_of}
-use Rattle.tso_model.specs.declared.register.Reg.{Reg}
-use Rattle.tso_model.specs.declared.register.Reg.TheVariants.{Eax, Ebx, Ecx, Edx, Esi, Edi}
 use Rattle.tso_report.specs.Report.{all_registers}
-use Rattle.tso_report.specs.Tally.{names_register, names_location, is_looked_at, register_of, location, named_registers, named_locations, shown_value}
-use Rattle.shown_values.specs.Shown.{is_added, is_shown, named_in}
-use Rattle.shown_values.specs.declared.show.Show.{Show}
-use Rattle.tso_report.specs.declared.named.Named.{Named}
-use Rattle.outcome_report.specs.Outcomes.{Outcome, shown_values}
-use Rattle.outcome_report.specs.Laws.{TruthIsShown}
 use Rattle.outcome_report.proofs.Members.{Member, member-left, member-right, member-filter}
 
 -- ---- what the condition names is looked at

@@ -1,17 +1,5 @@
 -- Every register is hidden at first, and those that aren't shown stay so.
-use Rattle.std.proofs.Common.{◌≡◌, ◌≢◌, ◌∙◌, ◌<◌, ◌⊎◌, inl, inr, ℕ, zero, suc, Bool, true, false, List, [], ◌∷◌, ◌++◌, length, filter, cond, Some, slice_get, slice_set, slice_index_or, arith, ap, sym, subst, refl}
-use Rattle.tso_model.specs.Litmus.{Litmus}
-use Rattle.tso_model.specs.Registers.{index_of}
-use Rattle.tso_model.specs.declared.register.Reg.{Reg}
-use Rattle.tso_model.specs.declared.register.Reg.TheVariants.{Eax, Ebx, Ecx, Edx, Esi, Edi}
-use Rattle.tso_model.specs.declared.instruction.Core.{Core}
-use Rattle.eager_laws.specs.Dead.{none_hidden, hidden_of}
-use Rattle.tso_report.specs.declared.named.Named.{Named}
-use Rattle.tso_report.specs.declared.named.Named.TheVariants.{Register}
-use Rattle.tso_report.specs.Tally.{register_of}
-use Rattle.shown_values.specs.Shown.{is_shown, named_in}
-use Rattle.shown_values.specs.declared.show.Show.{Show}
-use Rattle.outcome_report.specs.Hidden.{IsHidden}
+use Rattle.outcome_report.proofs.Vocabulary.{◌≡◌, ◌≢◌, ◌∙◌, ◌<◌, ◌⊎◌, inl, inr, ℕ, zero, suc, Bool, true, false, List, [], ◌∷◌, ◌++◌, length, filter, cond, Some, slice_get, slice_set, slice_index_or, arith, ap, sym, subst, refl, Litmus, index_of, Reg, Eax, Ebx, Ecx, Edx, Esi, Edi, Core, none_hidden, hidden_of, Named, Register, register_of, is_shown, named_in, Show, IsHidden}
 use Rattle.outcome_report.proofs.Hiding.{row-at}
 
 -- ---- one register more is shown

@@ -1,17 +1,6 @@
 -- In how many states a claim is true: one state after the other, and no more than there are.
-use Rattle.std.proofs.Common.{◌≡◌, ◌∙◌, ℕ, suc, ◌+◌, ◌-◌, Bool, true, false, not, cond, List, [], ◌∷◌, length, Vec, Bor, Some, refl, sym, ap, subst, arith}
-use Rattle.std.specs.Prelude.{count_by}
-use Rattle.std.specs.Map.{values_of}
-use Rattle.std.specs.declared.alloc.Global.{Global}
-use Rattle.std.proofs.lemmas.List.Sums.{sum_by-cons}
-use Rattle.std.proofs.lemmas.List.Elements.{All-head, All-tail, All-nil, All-cons}
-use Rattle.tso_model.specs.Litmus.{Litmus, IsTest, IsCondition}
-use Rattle.tso_model.specs.Condition.{Claim, NamesExist, truth_of, claim_of, condition_of}
+use Rattle.outcome_report.proofs.Vocabulary.{◌≡◌, ◌∙◌, ℕ, suc, ◌+◌, ◌-◌, Bool, true, false, not, cond, List, [], ◌∷◌, length, Vec, Bor, Some, refl, sym, ap, subst, arith, count_by, values_of, Global, sum_by-cons, All-head, All-tail, All-nil, All-cons, Litmus, IsTest, IsCondition, Claim, NamesExist, truth_of, claim_of, condition_of, FinalState, Named, Outcome, outcome_of, shown_values, held_in, failed_in, IsOf, kept_of, outcomes_at, AreShown, AllHave}
 use Rattle.tso_model.specs.declared.condition.Cond.{Cond}
-use Rattle.explorer.specs.declared.final_states.FinalState.{FinalState}
-use Rattle.tso_report.specs.declared.named.Named.{Named}
-use Rattle.outcome_report.specs.Outcomes.{Outcome, outcome_of, shown_values, held_in, failed_in}
-use Rattle.outcome_report.specs.inner.Shown.{IsOf, kept_of, outcomes_at, AreShown, AllHave}
 
 abbrev pub Entries : Type 0
 Entries = List (Vec ℕ Global × Bor FinalState)

@@ -1,21 +1,7 @@
 -- What is written of the states that are kept.
-use Rattle.std.proofs.Common.{◌≡◌, ◌∙◌, ℕ, List, [], ◌∷◌, ◌++◌, map, length, Vec, Bor, refl, sym, ap, subst, append_assoc, append-nil}
-use Rattle.std.specs.Map.{values_of}
-use Rattle.std.specs.declared.alloc.Global.{Global}
-use Rattle.std.proofs.lemmas.List.{length-map, map-append}
-use Rattle.std.proofs.lemmas.List.Elements.{All-head, All-tail}
-use Rattle.serde_json.specs.Data.{array}
+use Rattle.outcome_report.proofs.Vocabulary.{◌≡◌, ◌∙◌, ℕ, List, [], ◌∷◌, ◌++◌, map, length, Vec, Bor, refl, sym, ap, subst, append_assoc, append-nil, values_of, Global, length-map, map-append, All-head, All-tail, array, view, items_of, Litmus, FinalState, shown_value, Named, Outcome, outcome_of, shown_values, state_line, by_line, outcome_lines, outcomes_line, condition_lines, outcomes_text, holds_in, state_value, states_value, IsOf, kept_of, AreShown, kept_lines, kept_values}
 use Rattle.serde_json.specs.declared.value.Value.{Value}
-use Rattle.serde_json.specs.View.{view, items_of}
-use Rattle.tso_model.specs.Litmus.{Litmus}
-use Rattle.explorer.specs.declared.final_states.FinalState.{FinalState}
 use Rattle.tso_report.specs.Report.{test_line}
-use Rattle.tso_report.specs.Tally.{shown_value}
-use Rattle.tso_report.specs.declared.named.Named.{Named}
-use Rattle.outcome_report.specs.Outcomes.{Outcome, outcome_of, shown_values, state_line, by_line, outcome_lines, outcomes_line, condition_lines, outcomes_text}
-use Rattle.outcome_report.specs.OutcomesJson.{holds_in, state_value, states_value}
-use Rattle.outcome_report.specs.inner.Shown.{IsOf, kept_of, AreShown}
-use Rattle.outcome_report.specs.inner.Written.{kept_lines, kept_values}
 use Rattle.outcome_report.proofs.Truths.{Entries, as-many}
 
 abbrev Is : Litmus → List Named → List ℕ × Outcome → Type 0

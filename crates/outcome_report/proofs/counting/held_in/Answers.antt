@@ -1,5 +1,4 @@
-use Rattle.std.proofs.Common.{◌∙◌}
-use Rattle.tso_model.specs.Condition.{claim_of}
+use Rattle.outcome_report.proofs.Vocabulary.{◌∙◌, claim_of}
 use Rattle.outcome_report.proofs.Truths.{none-counted, next-has, one-held, one-failed}
 use Rattle.outcome_report.proofs.counting.held_in.Goals as goal
 

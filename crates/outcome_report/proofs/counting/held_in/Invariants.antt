@@ -1,4 +1,4 @@
-use Rattle.tso_model.specs.Condition.{claim_of}
+use Rattle.outcome_report.proofs.Vocabulary.{claim_of}
 use Rattle.outcome_report.proofs.Truths.{Counts}
 use Rattle.outcome_report.proofs.counting.held_in.Given as goal
 

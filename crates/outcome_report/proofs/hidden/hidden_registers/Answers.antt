@@ -1,8 +1,4 @@
-use Rattle.std.proofs.Common.{◌≡◌, ◌∙◌, [], ◌∷◌, Some, slice_get, length, inl, inr, ap, sym, subst, arith}
-use Rattle.std.proofs.lemmas.List.{length-append}
-use Rattle.shown_values.specs.Shown.{named_in}
-use Rattle.outcome_report.specs.Hidden.{IsHidden}
-use Rattle.outcome_report.specs.inner.Hidden.{IsNotHidden}
+use Rattle.outcome_report.proofs.Vocabulary.{◌≡◌, ◌∙◌, [], ◌∷◌, Some, slice_get, length, inl, inr, ap, sym, subst, arith, length-append, named_in, IsHidden, IsNotHidden}
 use Rattle.outcome_report.proofs.Hiding.{core-known, whole, get-or, get-within, lt-or, not-shown}
 use Rattle.outcome_report.proofs.Staying.{AreAllHidden, all_six, six-hidden, one-row-more, got, unnamed}
 use Rattle.outcome_report.proofs.hidden.hidden_registers.Goals as goal

@@ -1,9 +1,4 @@
-use Rattle.std.proofs.Common.{◌≡◌, ◌<◌, ℕ, Some, slice_get, length}
-use Rattle.tso_report.specs.declared.named.Named.{Named}
-use Rattle.tso_model.specs.declared.register.Reg.{Reg}
-use Rattle.tso_report.specs.Tally.{register_of}
-use Rattle.outcome_report.specs.Hidden.{IsHidden}
-use Rattle.outcome_report.specs.inner.Hidden.{IsNotHidden}
+use Rattle.outcome_report.proofs.Vocabulary.{◌≡◌, ◌<◌, ℕ, Some, slice_get, length, Named, Reg, register_of, IsHidden, IsNotHidden}
 use Rattle.outcome_report.proofs.Staying.{AreAllHidden}
 use Rattle.outcome_report.proofs.hidden.hidden_registers.Given as goal
 

@@ -1,5 +1,4 @@
-use Rattle.std.proofs.Common.{[], sym, subst, ◌∙◌}
-use Rattle.outcome_report.specs.inner.Hidden.{IsNotHidden}
+use Rattle.outcome_report.proofs.Vocabulary.{[], sym, subst, ◌∙◌, IsNotHidden}
 use Rattle.outcome_report.proofs.Hiding.{shows}
 use Rattle.outcome_report.proofs.Staying.{stays}
 use Rattle.outcome_report.proofs.hidden.reveal.Goals as goal

@@ -1,4 +1,4 @@
-use Rattle.outcome_report.specs.inner.Shown.{kept_of}
+use Rattle.outcome_report.proofs.Vocabulary.{kept_of}
 use Rattle.outcome_report.proofs.Truths.{all-have}
 use Rattle.outcome_report.proofs.json.observation_value.Goals as goal
 

@@ -1,7 +1,4 @@
-use Rattle.std.proofs.Common.{◌∙◌, ap}
-use Rattle.std.specs.Map.{values_of}
-use Rattle.serde_json.specs.Written.{has_float}
-use Rattle.outcome_report.specs.inner.Shown.{kept_of}
+use Rattle.outcome_report.proofs.Vocabulary.{◌∙◌, ap, values_of, has_float, kept_of}
 use Rattle.outcome_report.proofs.NoFloats.{outcomes_have_no_float}
 use Rattle.outcome_report.proofs.json.outcomes_json.Goals as goal
 

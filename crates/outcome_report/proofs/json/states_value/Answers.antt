@@ -1,4 +1,4 @@
-use Rattle.std.proofs.Common.{◌∙◌}
+use Rattle.outcome_report.proofs.Vocabulary.{◌∙◌}
 use Rattle.serde_json.proofs.Views.{view-Array}
 use Rattle.outcome_report.proofs.Writing.{as-named, is-whole, one-made, all-made}
 use Rattle.outcome_report.proofs.json.states_value.Goals as goal

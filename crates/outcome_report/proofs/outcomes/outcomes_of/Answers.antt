@@ -1,5 +1,4 @@
-use Rattle.std.proofs.Common.{[]}
-use Rattle.outcome_report.specs.inner.Shown.{kept_of, kept_after}
+use Rattle.outcome_report.proofs.Vocabulary.{[], kept_of, kept_after}
 use Rattle.outcome_report.proofs.Keeping.{one-kept}
 use Rattle.outcome_report.proofs.outcomes.outcomes_of.Goals as goal
 

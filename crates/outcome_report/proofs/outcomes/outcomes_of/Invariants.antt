@@ -1,5 +1,4 @@
-use Rattle.std.proofs.Common.{◌≡◌, [], drop}
-use Rattle.outcome_report.specs.inner.Shown.{kept_of, kept_after}
+use Rattle.outcome_report.proofs.Vocabulary.{◌≡◌, [], drop, kept_of, kept_after}
 use Rattle.outcome_report.proofs.outcomes.outcomes_of.Given as goal
 
 abbrev pub invariant-loop-state : goal.invariant-loop-state

@@ -1,8 +1,4 @@
-use Rattle.std.proofs.Common.{◌∙◌, [], string_bytes, ap}
-use Rattle.std.specs.Map.{values_of}
-use Rattle.shown_values.specs.Shown.{named_in}
-use Rattle.outcome_report.specs.Printed.{outcomes_in}
-use Rattle.outcome_report.specs.inner.Shown.{kept_of, kept_after}
+use Rattle.outcome_report.proofs.Vocabulary.{◌∙◌, [], string_bytes, ap, values_of, named_in, outcomes_in, kept_of, kept_after}
 use Rattle.outcome_report.proofs.Printing.{reached-whole, kept-is-shown, kept-out}
 use Rattle.outcome_report.proofs.report.outcomes_report.Goals as goal
 

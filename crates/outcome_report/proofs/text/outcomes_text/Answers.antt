@@ -1,4 +1,4 @@
-use Rattle.std.proofs.Common.{string_bytes}
+use Rattle.outcome_report.proofs.Vocabulary.{string_bytes}
 use Rattle.outcome_report.proofs.Writing.{text-whole}
 use Rattle.outcome_report.proofs.text.outcomes_text.Goals as goal
 

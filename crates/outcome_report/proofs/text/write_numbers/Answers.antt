@@ -1,5 +1,4 @@
-use Rattle.std.proofs.Common.{◌∙◌, ◌+◌, ◌<◌, ◌≤◌, ◌^◌, length, string_bytes, arith}
-use Rattle.tso_model.specs.Condition.{claim_of}
+use Rattle.outcome_report.proofs.Vocabulary.{◌∙◌, ◌+◌, ◌<◌, ◌≤◌, ◌^◌, length, string_bytes, arith, claim_of}
 use Rattle.outcome_report.proofs.Numbering.{none-numbered, next-has, one-true, one-false, one-more-fits}
 use Rattle.outcome_report.proofs.text.write_numbers.Goals as goal
 

@@ -1,8 +1,4 @@
-use Rattle.std.proofs.Common.{◌++◌, length, string_bytes}
-use Rattle.std.specs.Map.{values_of}
-use Rattle.tso_model.specs.Condition.{claim_of}
-use Rattle.outcome_report.specs.Outcomes.{true_in, printed_numbers}
-use Rattle.outcome_report.specs.inner.Shown.{kept_of}
+use Rattle.outcome_report.proofs.Vocabulary.{◌++◌, length, string_bytes, values_of, claim_of, true_in, printed_numbers, kept_of}
 use Rattle.outcome_report.proofs.Numbering.{Numbered}
 use Rattle.outcome_report.proofs.text.write_numbers.Given as goal
 

@@ -1,6 +1,4 @@
-use Rattle.std.proofs.Common.{◌≡◌, ◌++◌, string_bytes}
-use Rattle.outcome_report.specs.inner.Shown.{kept_of}
-use Rattle.outcome_report.specs.inner.Written.{kept_lines}
+use Rattle.outcome_report.proofs.Vocabulary.{◌≡◌, ◌++◌, string_bytes, kept_of, kept_lines}
 use Rattle.outcome_report.proofs.text.write_states.Given as goal
 
 abbrev pub invariant-loop-values : goal.invariant-loop-values

@@ -1,0 +1,44 @@
+-- The names that the proofs of this crate bring in from definitions and from crates below; each file takes its own from here.
+pub use Rattle.std.proofs.Common.{◌≡◌, ◌∙◌, Bool, true, false, cond, List, [], ◌∷◌, Option, Some, None, is_some, Less, Equal, Contains, refl, ap, subst, ℕ, ◌<◌, map, length, drop, slice_index_or, ◌+◌, Vec, Bor, All, sym, suc, ◌-◌, not, arith, ◌≤◌, if◌then◌else◌, ◌++◌, codes, append_assoc, append-nil, ◌||◌, ◌⊎◌, inl, inr, zero, filter, ⊎_elim, ◌==◌, ◌&&◌, slice_index, take, slice_get, slice_set, ◌≢◌, string_bytes, ◌^◌}
+pub use Rattle.std.specs.List.{AllByRecursion}
+unfoldable pub use Rattle.std.specs.List.Sorted.{IsStrictlySortedBy}
+pub use Rattle.std.specs.Ordering.{is_eq, nat_cmp, ordering_reverse, match_ordering}
+pub use Rattle.std.specs.Cmp.Lexicographic.{slice_cmp}
+pub use Rattle.std.specs.BTreeMap.{insert_entry, is_at}
+pub use Rattle.std.specs.Map.{lookup, keys_of, values_of}
+pub use Rattle.std.proofs.lemmas.Cmp.{nat_list_cmp_total, eq_by_cmp_equiv, tied_itself}
+pub use Rattle.std.proofs.lemmas.Map.Views.{Contains-keys_from_lookup, IsSome-lookup_from_Contains}
+pub use Rattle.std.specs.declared.alloc.Global.{Global}
+pub use Rattle.std.specs.declared.cmp.Ordering.{Ordering}
+pub use Rattle.std.specs.declared.cmp.Ordering.TheVariants.{Greater}
+pub use Rattle.std.proofs.lemmas.List.Elements.{All-from_recursion, recursion_from_All, All-head, All-tail, All-nil, All-cons}
+pub use Rattle.std.proofs.lemmas.List.{get_or-map, length-map, drop_more, map-append, length-append}
+pub use Rattle.tso_model.specs.Litmus.{Litmus, IsTest, IsCondition}
+pub use Rattle.explorer.specs.declared.final_states.FinalState.{FinalState}
+pub use Rattle.tso_report.specs.Tally.{shown_value, names_register, names_location, is_looked_at, register_of, location, named_registers, named_locations}
+pub use Rattle.tso_report.specs.declared.named.Named.{Named}
+pub use Rattle.outcome_report.specs.Outcomes.{Outcome, outcome_of, shown_values, ArePrinted, held_in, failed_in, true_from, true_in, printed_numbers, state_line, by_line, outcome_lines, outcomes_line, condition_lines, outcomes_text, is_met_in}
+pub use Rattle.outcome_report.specs.inner.Shown.{IsOf, is_kept, kept_of, with_outcome, kept_after, AreShown, outcomes_at, AllHave}
+pub use Rattle.std.specs.Prelude.{count_by}
+pub use Rattle.std.proofs.lemmas.List.Sums.{sum_by-cons}
+pub use Rattle.tso_model.specs.Condition.{Claim, NamesExist, truth_of, claim_of, condition_of, Condition, TruthClaim, RegClaim, LocClaim, NotClaim, AndClaim, OrClaim}
+pub use Rattle.serde_json.specs.Data.{array, Members, no_members, member, put, object}
+pub use Rattle.serde_json.specs.View.{view, items_of, members_view}
+pub use Rattle.outcome_report.specs.OutcomesJson.{holds_in, state_value, states_value, key_of, value_members, with_holds, observation_value, outcomes_value}
+pub use Rattle.outcome_report.specs.inner.Written.{kept_lines, kept_values}
+pub use Rattle.serde_json.specs.Written.{has_float, members_have_float}
+pub use Rattle.outcome_report.specs.Verdict.{verdict_value, is_as_claimed}
+pub use Rattle.std.proofs.lemmas.Option.{slice_get-get_or, slice_get_within, get_or_from_slice_get}
+pub use Rattle.explorer.specs.FinalStates.{AreReached, Have}
+pub use Rattle.outcome_report.specs.Printed.{outcomes_in, PrintsOutcomes}
+pub use Rattle.tso_model.specs.Registers.{index_of}
+pub use Rattle.tso_model.specs.declared.register.Reg.{Reg}
+pub use Rattle.tso_model.specs.declared.register.Reg.TheVariants.{Eax, Ebx, Ecx, Edx, Esi, Edi}
+pub use Rattle.shown_values.specs.Shown.{is_added, is_shown, named_in, values_at}
+pub use Rattle.shown_values.specs.declared.show.Show.{Show}
+pub use Rattle.outcome_report.specs.Laws.{TruthIsShown, AreAlike, OutcomesOfTheSameValuesAreAlike, OutcomesAreOneButForChoices}
+pub use Rattle.outcome_report.specs.Hidden.{AreNotShown, IsHidden}
+pub use Rattle.tso_model.specs.declared.instruction.Core.{Core}
+pub use Rattle.eager_laws.specs.Dead.{cleared, hidden_of, seen_from, seen, none_hidden}
+pub use Rattle.tso_report.specs.declared.named.Named.TheVariants.{Register, Location}
+pub use Rattle.outcome_report.specs.inner.Hidden.{IsNotHidden}
