@@ -1,25 +1,10 @@
 -- Runs that are made on the flat machine, one after the other: what is counted of each, and that on the atomic bus it is the run
 -- of every machine with caches.
-use Rattle.std.proofs.Common.{◌≡◌, ℕ, suc, true, List, [], ◌∷◌, length, map, Option, Bool, refl, sym, ap, ◌∙◌}
-use Rattle.tso_model.specs.Litmus.{Litmus}
-use Rattle.tso_model.specs.FlatMachine.{State, chosen, effect_of, applied, registers_in, start}
-use Rattle.tso_model.specs.Runs.{Run, run}
+use Rattle.sweeper.proofs.Vocabulary.{◌≡◌, ℕ, suc, true, List, [], ◌∷◌, length, map, Option, Bool, refl, sym, ap, ◌∙◌, Litmus, State, chosen, effect_of, applied, registers_in, start, Run, run, unheld, HitsFit, Bus, Atomic, Choice, table_of, ProtocolKind, Configuration, state_of, core_of_processor, RunCounts, with_state, with_verdict, values_in, run_by, run_under, AnswersFit, verdict, with_one_run}
 use Rattle.tso_model.specs.SplitMachine.{Attempt}
-use Rattle.tso_model.specs.EitherBus.{unheld, HitsFit}
-use Rattle.tso_model.specs.declared.choice.Bus.{Bus}
-use Rattle.tso_model.specs.declared.choice.Bus.TheVariants.{Atomic}
-use Rattle.tso_model.specs.declared.choice.Choice.{Choice}
-use Rattle.protocol_tables.specs.Tables.{table_of}
-use Rattle.protocol_tables.specs.declared.kind.ProtocolKind.{ProtocolKind}
-use Rattle.machine_core.specs.Configuration.{Configuration}
 use Rattle.machine_core.specs.Answered.{answered}
-use Rattle.flat_machine.specs.State.{state_of, core_of_processor}
 use Rattle.flat_machine.specs.declared.snapshot.Processor.{Processor}
 use Rattle.flat_machine.specs.declared.snapshot.Snapshot.{Snapshot}
-use Rattle.tso_report.specs.Tally.{RunCounts, with_state, with_verdict, values_in}
-use Rattle.simulator.specs.Runs.{run_by, run_under, AnswersFit}
-use Rattle.simulator.specs.Simulation.{verdict}
-use Rattle.sweeper.specs.Counting.{with_one_run}
 
 -- ---- what a run leaves, and what is counted of it
 

@@ -1,3 +1,4 @@
+pub mod Vocabulary
 pub mod RunsCounted
 pub mod SweptRuns
 pub mod FlatSweeps

@@ -1,17 +1,6 @@
 -- What one more run adds to what is counted of a sweep: the lists of values stay in ascending order, and each run is counted once.
-use Rattle.std.proofs.Common.{◌≡◌, ◌<◌, ◌≤◌, ◌⊎◌, inl, inr, ◌==◌, ◌&&◌, ◌+◌, ℕ, Bool, true, false, not, cond, List, Option, Some, None, refl, sym, ap, subst, ◌∙◌, arith}
+use Rattle.sweeper.proofs.Vocabulary.{◌≡◌, ◌<◌, ◌≤◌, ◌⊎◌, inl, inr, ◌==◌, ◌&&◌, ◌+◌, ℕ, Bool, true, false, not, cond, List, Option, Some, None, refl, sym, ap, subst, ◌∙◌, arith, sum, values_of, registers_in, Litmus, Run, ProtocolKind, Configuration, RunCounts, with_state, with_verdict, values_in, runs_in, AnswersFit, verdict, choices_of, with_one_run, AnswersFitFrom}
 use Rattle.std.proofs.lemmas.Bool.Decides.{nat_tests}
-use Rattle.std.specs.Prelude.{sum}
-use Rattle.std.specs.Map.{values_of}
-use Rattle.tso_model.specs.FlatMachine.{registers_in}
-use Rattle.tso_model.specs.Litmus.{Litmus}
-use Rattle.tso_model.specs.Runs.{Run}
-use Rattle.protocol_tables.specs.declared.kind.ProtocolKind.{ProtocolKind}
-use Rattle.machine_core.specs.Configuration.{Configuration}
-use Rattle.tso_report.specs.Tally.{RunCounts, with_state, with_verdict, values_in, runs_in}
-use Rattle.simulator.specs.Runs.{AnswersFit}
-use Rattle.simulator.specs.Simulation.{verdict}
-use Rattle.sweeper.specs.Counting.{choices_of, with_one_run, AnswersFitFrom}
 use Rattle.sweeper.proofs.StateLemmas.{States, Ascend, EachGiven, ascend-with, given-with, sum-with}
 
 abbrev pub values-left : Litmus → Run → List ℕ

@@ -1,13 +1,10 @@
 -- The states of a tally: lists of values in ascending order, each with the number of runs that gave it.
-use Rattle.std.proofs.Common.{◌≡◌, ◌<◌, ◌+◌, ℕ, zero, suc, Bool, true, false, cond, List, [], ◌∷◌, length, slice_index_or, Option, Some, None, is_some, Ordering, Less, Equal, Greater, All, Contains, refl, sym, ap, subst, ◌∙◌, arith}
-use Rattle.std.specs.Prelude.{bytes_eq, sum}
-use Rattle.std.specs.List.{AllByRecursion}
+use Rattle.sweeper.proofs.Vocabulary.{◌≡◌, ◌<◌, ◌+◌, ℕ, zero, suc, Bool, true, false, cond, List, [], ◌∷◌, length, slice_index_or, Option, Some, None, is_some, Ordering, Less, Equal, Greater, All, Contains, refl, sym, ap, subst, ◌∙◌, arith, bytes_eq, sum, AllByRecursion, lookup, keys_of, values_of, count_of, with_values}
 use Rattle.std.specs.List.Sorted.{IsStrictlySortedBy}
 use Rattle.std.specs.Option.{unwrap_or, option_map}
 use Rattle.std.specs.Ordering.{is_eq, nat_cmp, ordering_reverse, match_ordering, eq_by_cmp}
 use Rattle.std.specs.Cmp.Lexicographic.{slice_cmp}
 use Rattle.std.specs.BTreeMap.{insert_entry, is_at}
-use Rattle.std.specs.Map.{lookup, keys_of, values_of}
 use Rattle.std.proofs.lemmas.Cmp.{nat_list_cmp_total, eq_by_cmp_equiv}
 use Rattle.std.proofs.lemmas.Map.Entries.{sum_by-insert_entry, lookup_from_place}
 use Rattle.std.proofs.lemmas.Map.Keys.{IsDistinct-from_sorted}
@@ -15,7 +12,6 @@ use Rattle.std.proofs.lemmas.Map.Text.{is_eq-slice_cmp}
 use Rattle.std.proofs.lemmas.Map.Views.{All-values-insert_entry, Contains-keys_from_lookup}
 use Rattle.std.proofs.lemmas.Slice.Eq.{bytes_eq-Decides}
 use Rattle.std.proofs.lemmas.Option.{slice_get-get_or}
-use Rattle.tso_report.specs.Tally.{count_of, with_values}
 
 abbrev R : List ℕ → List ℕ → Ordering
 R = slice_cmp nat_cmp

@@ -1,38 +1,20 @@
 -- A machine that makes one run after the other: what it counts of each, and that it goes back to where it began.
-use Rattle.std.proofs.Common.{◌≡◌, ℕ, Bool, true, false, if◌then◌else◌, List, [], ◌∷◌, Option, refl, sym, ap, subst, ◌∙◌}
-use Rattle.std.specs.List.{list_any}
-use Rattle.tso_model.specs.Litmus.{Litmus}
+use Rattle.sweeper.proofs.Vocabulary.{◌≡◌, ℕ, Bool, true, false, if◌then◌else◌, List, [], ◌∷◌, Option, refl, sym, ap, subst, ◌∙◌, list_any, Litmus, State, chosen, core_of, registers_in, Run, has_ended, BusState, effect_on, after_on, Bus, Atomic, Split, Choice, Table, ProtocolKind, Configuration, Running, new_machine, restarted, RunCounts, with_state, with_verdict, with_unfinished, values_in, run_by, run_under, AnswersFit, AnswersFitBy, machine_run, AnswersFitOn, verdict, with_one_run, RunLaws, IsDriven, from-new, ended-as-driven}
 use Rattle.tso_model.specs.ProgramOrder.{writes_to}
-use Rattle.tso_model.specs.FlatMachine.{State, chosen, core_of, registers_in}
-use Rattle.tso_model.specs.Runs.{Run, has_ended}
 use Rattle.tso_model.specs.MemoryAccess.{MemoryAccess, NoAccess, Reads, Writes, Locks, access_of}
-use Rattle.tso_model.specs.EitherBus.{BusState, effect_on, after_on}
 use Rattle.tso_model.specs.Together.{together}
-use Rattle.tso_model.specs.declared.choice.Bus.{Bus}
-use Rattle.tso_model.specs.declared.choice.Bus.TheVariants.{Atomic, Split}
-use Rattle.tso_model.specs.declared.choice.Choice.{Choice}
 use Rattle.tso_model.specs.declared.execution.Entry.{Entry}
 use Rattle.tso_model.specs.declared.execution.Kind.{Kind}
 use Rattle.tso_model.specs.declared.execution.Kind.TheVariants.{R, W, F, LR, LW}
-use Rattle.protocol_tables.specs.Tables.{Table}
 use Rattle.protocol_tables.specs.Tables.{table_of as table_of_kind}
-use Rattle.protocol_tables.specs.declared.kind.ProtocolKind.{ProtocolKind}
 use Rattle.snoop_bus.specs.Rows.{Rows, rows_of, table_of_rows}
 use Rattle.snoop_bus.specs.Geometry.{Geometry}
 use Rattle.machine_core.specs.declared.accesses.CacheUse.TheVariants.{Forwarded}
 use Rattle.machine_core.specs.Caches.{Caches, not_through, load_by, use_by_kind, use_of, attempt_of, is_awaited, used_between}
-use Rattle.machine_core.specs.Configuration.{Configuration}
 use Rattle.machine_core.specs.Statistics.{Statistics, statistics_from, statistics_after}
-use Rattle.machine_core.specs.Running.{Running, new_machine, restarted}
 use Rattle.machine_core.specs.inner.Running.{is_ended}
-use Rattle.tso_report.specs.Tally.{RunCounts, with_state, with_verdict, with_unfinished, values_in}
-use Rattle.simulator.specs.Runs.{run_by, run_under, AnswersFit, AnswersFitBy}
-use Rattle.simulator.specs.inner.Runs.{machine_run, AnswersFitOn}
-use Rattle.simulator.specs.Simulation.{verdict}
 use Rattle.simulator.specs.inner.Simulation.{Drives}
-use Rattle.sweeper.specs.Counting.{with_one_run}
 use Rattle.simulator.proofs.BusLemmas.{bus_run, run-is}
-use Rattle.simulator.proofs.SimulationLemmas.{RunLaws, IsDriven, from-new, ended-as-driven}
 
 -- ---- no choice changes the protocol's table, nor the shape of the caches
 

@@ -1,12 +1,5 @@
-use Rattle.std.proofs.Common.{ℕ, List, ap, sym, subst, ◌∙◌, refl}
-use Rattle.tso_model.specs.Litmus.{Litmus}
+use Rattle.sweeper.proofs.Vocabulary.{ℕ, List, ap, sym, subst, ◌∙◌, refl, Litmus, Running, table_in, configuration_of, RunCounts, with_state, with_verdict, values_in, machine_run, verdict, with_one_run, RunLaws, from-new, unfinished-is}
 use Rattle.split_laws.specs.BusChoices.{IsPossibleOn}
-use Rattle.machine_core.specs.Running.{Running, table_in, configuration_of}
-use Rattle.tso_report.specs.Tally.{RunCounts, with_state, with_verdict, values_in}
-use Rattle.simulator.specs.inner.Runs.{machine_run}
-use Rattle.simulator.specs.Simulation.{verdict}
-use Rattle.sweeper.specs.Counting.{with_one_run}
-use Rattle.simulator.proofs.SimulationLemmas.{RunLaws, from-new, unfinished-is}
 use Rattle.sweeper.proofs.SweptRuns.{goes-back, counted-ended, counted-unfinished}
 use Rattle.sweeper.proofs.counting.count_run.Goals as goal
 

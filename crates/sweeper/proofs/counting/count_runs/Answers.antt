@@ -1,13 +1,4 @@
-use Rattle.std.proofs.Common.{◌≡◌, ◌==◌, ◌&&◌, ◌+◌, ℕ, Bool, List, map, refl, ap, sym, subst, ◌∙◌, add-one, arith}
-use Rattle.tso_model.specs.Runs.{Run}
-use Rattle.tso_model.specs.declared.choice.Choice.{Choice}
-use Rattle.protocol_tables.specs.Tables.{table_of}
-use Rattle.scheduler.specs.Seeds.{choice_of_word, drawn_words, seeded_choices}
-use Rattle.machine_core.specs.Running.{Running, restarted}
-use Rattle.tso_report.specs.Tally.{RunCounts, Ascend, runs_in}
-use Rattle.simulator.specs.Runs.{run_under, AnswersFit}
-use Rattle.simulator.specs.inner.Runs.{machine_run}
-use Rattle.sweeper.specs.Counting.{choices_of, seeded_run, with_one_run, counts_from}
+use Rattle.sweeper.proofs.Vocabulary.{◌≡◌, ◌==◌, ◌&&◌, ◌+◌, ℕ, Bool, List, map, refl, ap, sym, subst, ◌∙◌, add-one, arith, Run, Choice, table_of, choice_of_word, drawn_words, seeded_choices, Running, restarted, RunCounts, Ascend, runs_in, run_under, AnswersFit, machine_run, choices_of, seeded_run, with_one_run, counts_from}
 use Rattle.sweeper.proofs.StateLemmas.{ascend-none}
 use Rattle.sweeper.proofs.RunsCounted.{ended-with, ascend-run, runs-with, fit-more}
 use Rattle.sweeper.proofs.SweptRuns.{run-is-under, fits-under}

@@ -1,10 +1,4 @@
-use Rattle.std.proofs.Common.{◌≡◌, ◌==◌}
-use Rattle.protocol_tables.specs.Tables.{table_of}
-use Rattle.protocol_tables.specs.declared.kind.ProtocolKind.{ProtocolKind}
-use Rattle.machine_core.specs.Configuration.{Configuration}
-use Rattle.machine_core.specs.Running.{new_machine}
-use Rattle.tso_report.specs.Tally.{Ascend, runs_in}
-use Rattle.sweeper.specs.Counting.{counts_from, AnswersFitFrom}
+use Rattle.sweeper.proofs.Vocabulary.{◌≡◌, ◌==◌, table_of, ProtocolKind, Configuration, new_machine, Ascend, runs_in, counts_from, AnswersFitFrom}
 use Rattle.sweeper.proofs.counting.count_runs.Given as goal
 
 -- the runs of the seeds so far are counted, and the machine is at the beginning of its test

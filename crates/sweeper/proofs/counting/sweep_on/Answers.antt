@@ -1,7 +1,4 @@
-use Rattle.std.proofs.Common.{ap, ◌∙◌}
-use Rattle.protocol_tables.specs.Tables.{Table}
-use Rattle.machine_core.specs.Running.{new_machine}
-use Rattle.flat_machine.proofs.Choosing.{on-ok}
+use Rattle.sweeper.proofs.Vocabulary.{ap, ◌∙◌, Table, new_machine, on-ok}
 use Rattle.sweeper.proofs.SweptRuns.{beginning-new}
 use Rattle.sweeper.proofs.counting.sweep_on.Goals as goal
 

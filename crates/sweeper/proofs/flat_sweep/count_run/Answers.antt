@@ -1,12 +1,4 @@
-use Rattle.std.proofs.Common.{◌≡◌, List, ℕ, map, ap, sym, ◌∙◌, refl}
-use Rattle.tso_model.specs.FlatMachine.{State}
-use Rattle.tso_model.specs.Runs.{Run, run, run_from}
-use Rattle.tso_model.specs.declared.choice.Choice.{Choice}
-use Rattle.scheduler.specs.Seeds.{seeded_choices}
-use Rattle.tso_report.specs.Tally.{RunCounts, with_state, with_verdict, values_in}
-use Rattle.flat_machine.specs.State.{state_of}
-use Rattle.simulator.specs.Simulation.{verdict}
-use Rattle.sweeper.specs.Counting.{choices_of}
+use Rattle.sweeper.proofs.Vocabulary.{◌≡◌, List, ℕ, map, ap, sym, ◌∙◌, refl, State, Run, run, run_from, Choice, seeded_choices, RunCounts, with_state, with_verdict, values_in, state_of, verdict, choices_of}
 use Rattle.sweeper.proofs.FlatSweeps.{registers-left, counted}
 use Rattle.sweeper.proofs.SweptRuns.{counted-unfinished}
 use Rattle.sweeper.proofs.flat_sweep.count_run.Goals as goal

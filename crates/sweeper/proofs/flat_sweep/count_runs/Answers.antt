@@ -1,9 +1,4 @@
-use Rattle.std.proofs.Common.{◌≡◌, ◌==◌, ◌&&◌, ◌+◌, ℕ, Bool, List, ap, sym, subst, ◌∙◌, add-one, arith}
-use Rattle.tso_model.specs.Runs.{Run, run}
-use Rattle.tso_model.specs.declared.choice.Choice.{Choice}
-use Rattle.tso_report.specs.Tally.{RunCounts, Ascend, runs_in}
-use Rattle.simulator.specs.Runs.{run_under}
-use Rattle.sweeper.specs.Counting.{choices_of, seeded_run, with_one_run, counts_from}
+use Rattle.sweeper.proofs.Vocabulary.{◌≡◌, ◌==◌, ◌&&◌, ◌+◌, ℕ, Bool, List, ap, sym, subst, ◌∙◌, add-one, arith, Run, run, Choice, RunCounts, Ascend, runs_in, run_under, choices_of, seeded_run, with_one_run, counts_from}
 use Rattle.sweeper.proofs.StateLemmas.{ascend-none}
 use Rattle.sweeper.proofs.RunsCounted.{ended-with, ascend-run, runs-with}
 use Rattle.sweeper.proofs.FlatSweeps.{run-is-of-all}

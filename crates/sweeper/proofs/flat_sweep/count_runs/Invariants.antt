@@ -1,9 +1,4 @@
-use Rattle.std.proofs.Common.{◌≡◌, ◌==◌, length}
-use Rattle.tso_model.specs.declared.choice.Bus.TheVariants.{Atomic}
-use Rattle.protocol_tables.specs.declared.kind.ProtocolKind.{ProtocolKind}
-use Rattle.machine_core.specs.Configuration.{Configuration}
-use Rattle.tso_report.specs.Tally.{Ascend, runs_in}
-use Rattle.sweeper.specs.Counting.{counts_from}
+use Rattle.sweeper.proofs.Vocabulary.{◌≡◌, ◌==◌, length, Atomic, ProtocolKind, Configuration, Ascend, runs_in, counts_from}
 use Rattle.sweeper.proofs.flat_sweep.count_runs.Given as goal
 
 -- the runs of the seeds so far are counted

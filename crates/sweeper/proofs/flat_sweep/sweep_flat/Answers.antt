@@ -1,5 +1,4 @@
-use Rattle.std.proofs.Common.{sym}
-use Rattle.flat_machine.proofs.Choosing.{on-ok}
+use Rattle.sweeper.proofs.Vocabulary.{sym, on-ok}
 use Rattle.sweeper.proofs.FlatSweeps.{answers-fit}
 use Rattle.sweeper.proofs.flat_sweep.sweep_flat.Goals as goal
 
