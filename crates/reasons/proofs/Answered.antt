@@ -1,20 +1,7 @@
 -- The next question may be asked and isn't answered; where there is none, the case is full.
-use Rattle.std.proofs.Common.{◌≡◌, ◌&&◌, Bool, true, false, not, if◌then◌else◌, List, [], ◌∷◌, Option, Some, None, refl, sym, ◌⊎◌, inl, inr, subst}
-use Rattle.tso_model.specs.Litmus.{Litmus}
-use Rattle.tso_model.specs.ProgramOrder.{is_read, is_write, writes_to}
-use Rattle.tso_model.specs.declared.execution.Entry.{Entry}
-use Rattle.relational_model.specs.Events.{IsIn}
-use Rattle.relational_model.proofs.Lists.{in-case, in-none, in-first, in-later}
-use Rattle.relational_model.proofs.KindFacts.{and-both}
-use Rattle.refutation_laws.specs.Known.{Known, events_of, same_event, is_event}
+use Rattle.reasons.proofs.Vocabulary.{◌≡◌, ◌&&◌, Bool, true, false, not, if◌then◌else◌, List, [], ◌∷◌, Option, Some, None, refl, sym, ◌⊎◌, inl, inr, subst, Litmus, is_read, is_write, writes_to, Entry, IsIn, in-case, in-none, in-first, in-later, and-both, Known, events_of, same_event, is_event, has_source, are_ordered, may_ask, is_answered, IsFull, IsSound, and-of, is-event, node_of, Node, is_unread, is_unordered, first_where, first_beside, pair_or, first_pair, question_of, read_or, first_unread, next_question}
 use Rattle.refutation_laws.specs.declared.known.Pair.{Pair}
-use Rattle.refutation_laws.specs.inner.FullCases.{has_source, are_ordered, may_ask, is_answered, IsFull, IsSound}
-use Rattle.refutation_laws.proofs.Tests.{and-of}
-use Rattle.refutation_laws.proofs.Settling.{is-event}
-use Rattle.refutations.specs.Trees.{node_of}
-use Rattle.refutations.specs.declared.tree.Node.{Node}
 use Rattle.refutations.specs.declared.tree.Node.TheVariants.{ReadsFrom, ComesFirst}
-use Rattle.reasons.specs.inner.Questions.{is_unread, is_unordered, first_where, first_beside, pair_or, first_pair, question_of, read_or, first_unread, next_question}
 
 -- ---- the first of some
 

@@ -1,3 +1,4 @@
+pub mod Vocabulary
 pub mod Parting
 pub mod Walking
 pub mod Weighing

@@ -1,16 +1,5 @@
 -- Events that are put in a row step by step: those of the rest that none of the rest must precede come next.
-use Rattle.std.proofs.Common.{◌≡◌, ◌<◌, ◌+◌, ◌==◌, ℕ, suc, Bool, true, false, not, if◌then◌else◌, List, [], ◌∷◌, ◌++◌, length, arith, refl, sym, ap, ◌∙◌, ◌⊎◌, inl, inr, subst}
-use Rattle.std.specs.Prelude.{filter}
-use Rattle.std.specs.List.{list_any}
-use Rattle.tso_model.specs.declared.execution.Entry.{Entry}
-use Rattle.relational_model.specs.Events.{IsIn}
-use Rattle.relational_model.proofs.Lists.{in-none, in-first, in-later, in-append, in-left, in-right, in-filter, filter-in}
-use Rattle.relational_model.proofs.KindFacts.{same-number, number-same}
-use Rattle.relational_model.proofs.Sizes.{once-filter}
-use Rattle.relational_model.proofs.Events.{once-append}
-use Rattle.relational_model.specs.inner.Rows.{GoesForward, Once}
-use Rattle.refutation_laws.proofs.Tests.{any-in}
-use Rattle.reasons.specs.inner.Precedence.{is_first, IsParted, IsSorted}
+use Rattle.reasons.proofs.Vocabulary.{◌≡◌, ◌<◌, ◌+◌, ◌==◌, ℕ, suc, Bool, true, false, not, if◌then◌else◌, List, [], ◌∷◌, ◌++◌, length, arith, refl, sym, ap, ◌∙◌, ◌⊎◌, inl, inr, subst, filter, list_any, Entry, IsIn, in-none, in-first, in-later, in-append, in-left, in-right, in-filter, filter-in, same-number, number-same, once-filter, once-append, GoesForward, Once, any-in, is_first, IsParted, IsSorted}
 
 -- ---- what a test picks, and what it leaves
 

@@ -1,36 +1,17 @@
 -- A full case that no leaf closes: all of its events can be put in a row; and a write between two parts is found where there is one.
-use Rattle.std.proofs.Common.{◌≡◌, ℕ, Bool, true, false, not, if◌then◌else◌, List, [], ◌∷◌, length, Option, Some, None, map, filter, refl, sym, ap, ◌∙◌, ◌⊎◌, inl, inr, subst}
-use Rattle.tso_model.specs.Litmus.{Litmus, IsTest, IsCondition}
-use Rattle.tso_model.specs.Condition.{Claim, Condition, NamesExist}
+use Rattle.reasons.proofs.Vocabulary.{◌≡◌, ℕ, Bool, true, false, not, if◌then◌else◌, List, [], ◌∷◌, length, Option, Some, None, map, refl, sym, ap, ◌∙◌, ◌⊎◌, inl, inr, subst, Litmus, IsTest, IsCondition, Claim, Condition, NamesExist, Entry, IsIn, in-case, in-none, in-first, in-later, in-filter, filter-in, and-both, once-filter, once-events, Ordered, Once, Known, bare, events_of, on_location, global_in, is_edge, are_parts, is_between, is_node, asked, asked_by, IsFull, IsSound, NoneBetween, Model, IsOpen, node_of, Node, is_leaf, IsSorted, IsLeafless, LeafOrNone, first_of_two, between_these, between_from, first_between}
+use Rattle.std.proofs.Common.{filter}
 use Rattle.tso_model.specs.declared.condition.Quantifier.{Quantifier}
 use Rattle.tso_model.specs.declared.condition.Quantifier.TheVariants.{Exists, NotExists, Forall}
-use Rattle.tso_model.specs.declared.execution.Entry.{Entry}
-use Rattle.relational_model.specs.Events.{IsIn}
 use Rattle.relational_model.specs.Candidates.{events_from}
-use Rattle.relational_model.proofs.Lists.{in-case, in-none, in-first, in-later, in-filter, filter-in}
-use Rattle.relational_model.proofs.KindFacts.{and-both}
-use Rattle.relational_model.proofs.Sizes.{once-filter}
-use Rattle.relational_model.proofs.Events.{once-events}
-use Rattle.relational_model.specs.inner.Rows.{Ordered, Once}
-use Rattle.refutation_laws.specs.Known.{Known, bare, events_of}
-use Rattle.refutation_laws.specs.Edges.{on_location, global_in, is_edge, are_parts, is_between}
 use Rattle.refutation_laws.specs.Values.{allows}
-use Rattle.refutation_laws.specs.Refutations.{is_node, asked, asked_by}
 use Rattle.refutation_laws.specs.Models.{IsMet}
-use Rattle.refutation_laws.specs.inner.FullCases.{IsFull, IsSound, NoneBetween}
-use Rattle.refutation_laws.specs.declared.model.Model.{Model}
 use Rattle.refutation_laws.specs.inner.Orders.{comes_toward, is_load_part, IsRow, valued, with_loads, order_of}
 use Rattle.refutation_laws.proofs.Building.{one-event}
 use Rattle.refutation_laws.proofs.Progress.{never-stuck}
-use Rattle.refutation_laws.proofs.Settling.{IsOpen}
 use Rattle.refutation_laws.proofs.Completeness.{six-of}
 use Rattle.refutation_laws.proofs.Ordering.{row-is-met}
-use Rattle.refutations.specs.Trees.{node_of}
-use Rattle.refutations.specs.declared.tree.Node.{Node}
 use Rattle.refutations.specs.declared.tree.Node.TheVariants.{Between}
-use Rattle.reasons.specs.Reasons.{is_leaf}
-use Rattle.reasons.specs.inner.Precedence.{IsSorted}
-use Rattle.reasons.specs.inner.Cases.{IsLeafless, LeafOrNone, first_of_two, between_these, between_from, first_between}
 
 -- ---- each event of a test once
 

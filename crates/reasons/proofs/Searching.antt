@@ -1,25 +1,9 @@
 -- The search's state: its nodes are part of a tree, whose open cases are these; they and the leaves weigh no more than all cases.
-use Rattle.std.proofs.Common.{◌≡◌, ◌<◌, ◌≤◌, ◌+◌, ℕ, ◌&&◌, Bool, true, false, not, if◌then◌else◌, List, [], ◌∷◌, ◌++◌, length, map, filter, Some, None, arith, refl, sym, ap, ◌∙◌, subst}
-use Rattle.tso_model.specs.Litmus.{Litmus}
-use Rattle.tso_model.specs.Condition.{Claim}
-use Rattle.tso_model.specs.ProgramOrder.{is_read, is_write, writes_to}
-use Rattle.tso_model.specs.declared.execution.Entry.{Entry}
-use Rattle.relational_model.specs.Events.{IsIn}
-use Rattle.relational_model.proofs.Lists.{in-first, in-later, in-filter}
-use Rattle.relational_model.proofs.KindFacts.{and-both}
-use Rattle.refutation_laws.specs.Known.{Known, events_of, same_event, is_event, nothing, with_source}
-use Rattle.refutation_laws.specs.Refutations.{Node, ReadsFrom, ComesFirst, OnLocation, Globally, Between, FalseClaim, asked, is_node, branches, close, refutes}
-use Rattle.refutation_laws.specs.declared.model.Model.{Model}
-use Rattle.refutation_laws.specs.inner.FullCases.{IsPossible, has_source, may_ask, is_answered, IsSound}
-use Rattle.refutation_laws.proofs.Standing.{same-bare}
-use Rattle.refutation_laws.proofs.Soundness.{bare-same}
-use Rattle.refutations.specs.Trees.{node_of}
-use Rattle.refutations.specs.inner.Trees.{known_of}
-use Rattle.refutations.specs.inner.Stack.{cases_of}
-use Rattle.refutations.specs.declared.answers.Answers.{Answers}
+use Rattle.reasons.proofs.Vocabulary.{◌≡◌, ◌<◌, ◌≤◌, ◌+◌, ℕ, ◌&&◌, Bool, true, false, not, if◌then◌else◌, List, [], ◌∷◌, ◌++◌, length, map, Some, None, arith, refl, sym, ap, ◌∙◌, subst, Litmus, Claim, is_read, is_write, writes_to, Entry, IsIn, in-first, in-later, in-filter, and-both, Known, events_of, same_event, is_event, nothing, with_source, ReadsFrom, ComesFirst, OnLocation, Globally, Between, FalseClaim, asked, is_node, branches, close, refutes, Model, IsPossible, has_source, may_ask, is_answered, IsSound, same-bare, bare-same, node_of, known_of, cases_of, Answers, open_after, is_leaf, leaves_of, HasMoreCases, most_cases}
+use Rattle.std.proofs.Common.{filter}
+use Rattle.refutation_laws.specs.Refutations.{Node}
 use Rattle.refutations.specs.declared.tree.Node as code
 use Rattle.refutations.proofs.Stack.{cases-push}
-use Rattle.reasons.specs.Reasons.{open_after, is_leaf, leaves_of, HasMoreCases, most_cases}
 use Rattle.reasons.proofs.Weighing.{total, some-weight, weight-at-first}
 use Rattle.reasons.proofs.Branching.{turned, fewer-cases}
 

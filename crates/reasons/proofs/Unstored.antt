@@ -1,12 +1,10 @@
 -- The steps among the choices along a sequentially consistent order lead to it on a machine without store buffers: it follows any other
 -- run of that machine with that order, and makes a core's register moves where its next entry is committed.
-use Rattle.std.proofs.Common.{◌≡◌, ◌≢◌, ◌<◌, ◌≤◌, ℕ, ◌+◌, ◌-◌, max, zero, suc, Bool, true, false, if◌then◌else◌, List, [], ◌∷◌, ◌++◌, filter, Option, Some, None, slice_get, slice_set, slice_index, slice_index_or, length, inl, inr, arith, ap, sym, ◌∙◌, subst, refl, append_assoc, get_or-set_same, get_or-set_other}
-use Rattle.std.proofs.lemmas.List.{set-get_or, length-set}
+use Rattle.reasons.proofs.Vocabulary.{◌≡◌, ◌<◌, ◌≤◌, ℕ, ◌+◌, ◌-◌, suc, Bool, true, false, if◌then◌else◌, List, [], ◌∷◌, ◌++◌, Option, Some, None, slice_index_or, length, inl, inr, arith, ap, sym, ◌∙◌, subst, refl, set-get_or, length-set, Litmus, is_store, Entry, steps, drained, choices_for, places_after, last_steps, choices_from, beginnings, choices_along, LeadTo, is_step}
+use Rattle.std.proofs.Common.{◌≢◌, max, zero, filter, slice_get, slice_set, slice_index, append_assoc, get_or-set_same, get_or-set_other}
 use Rattle.basic_laws.proofs.Basics.{decide}
 use Rattle.basic_laws.proofs.Lists.{append-nil}
 use Rattle.tso_model.specs.Actions.{action_of}
-use Rattle.tso_model.specs.Litmus.{Litmus}
-use Rattle.tso_model.specs.ProgramOrder.{is_store}
 use Rattle.tso_model.specs.Thread.{entry, fence, value_in, value_of, updated}
 use Rattle.tso_model.specs.FlatMachine.{CoreState, State, Effect, idle, advanced, advanced_with, moved, when_drained, effect_by, step_of, drain_of, core_of, program_of, effect_of, chosen, memory_after, after_choice, applied, start, started, step, drain}
 use Rattle.tso_model.specs.Runs.{CoresExist, stall_count, is_done, all_done, has_ended, run_from}
@@ -15,7 +13,6 @@ use Rattle.tso_model.specs.declared.instruction.Loc.{Loc}
 use Rattle.tso_model.specs.declared.register.Reg.{Reg}
 use Rattle.tso_model.specs.declared.action.Action.{Action}
 use Rattle.tso_model.specs.declared.action.Action.TheVariants.{Store, Load, Move, Fence, Lock}
-use Rattle.tso_model.specs.declared.execution.Entry.{Entry}
 use Rattle.tso_model.specs.declared.execution.Kind.TheVariants.{LR, LW}
 use Rattle.tso_model.specs.declared.choice.Choice.{Choice}
 use Rattle.tso_model.specs.declared.choice.Choice.TheVariants.{Step, Drain}
@@ -23,14 +20,12 @@ use Rattle.tso_model.specs.declared.choice.Stall.{Stall}
 use Rattle.tso_model.specs.declared.choice.Stall.TheVariants as stall
 use Rattle.tso_model.specs.declared.choice.Outcome.TheVariants.{Committed, Stalled}
 use Rattle.tso_laws.specs.Choices.{state_after, commits_of}
-use Rattle.tso_laws.specs.Along.{steps, drained, choices_for, places_after, last_steps, choices_from, beginnings, choices_along, LeadTo}
 use Rattle.tso_laws.specs.Reached.{IsReached}
 use Rattle.tso_laws.specs.inner.Laws.{StallsChangeNothing, RunsStopWhereTheyEnd}
 use Rattle.tso_laws.proofs.OrderSteps.{AllTake, takes-append, commits-append}
 use Rattle.tso_laws.proofs.Along.{done-at}
 use Rattle.tso_laws.proofs.Work.{choice-changes, done-undone, done-length}
 use Rattle.outcome_laws.proofs.Behind.{Moves, moves-more, moves-place, moves-made, set-same, set-set, with_core}
-use Rattle.reasons.specs.inner.Steps.{is_step}
 
 -- ---- the steps among the choices along an order
 

@@ -1,21 +1,5 @@
 -- Back from event to event: where one comes again, the way between is a cycle.
-use Rattle.std.proofs.Common.{◌≡◌, ◌<◌, ◌-◌, ℕ, suc, Bool, true, false, if◌then◌else◌, List, [], ◌∷◌, length, Option, Some, None, option_map, slice_index_or, map, arith, refl, sym, ap, ◌∙◌, ◌⊎◌, inl, inr, subst}
-use Rattle.std.specs.List.{list_all}
-use Rattle.std.specs.Global.{Vec}
-use Rattle.tso_model.specs.Litmus.{Litmus}
-use Rattle.tso_model.specs.declared.execution.Entry.{Entry}
-use Rattle.relational_model.specs.Events.{IsIn}
-use Rattle.relational_model.proofs.Lists.{in-case, in-none, in-first, in-later}
-use Rattle.relational_model.proofs.Sizes.{no-more}
-use Rattle.relational_model.specs.inner.Rows.{Ordered, Once}
-use Rattle.refutation_laws.specs.Known.{bare, same_event, is_event, events_of}
-use Rattle.refutation_laws.specs.Edges.{leads_back, is_cycle}
-use Rattle.refutation_laws.proofs.Tests.{and-of}
-use Rattle.refutation_laws.proofs.Standing.{same-bare}
-use Rattle.refutation_laws.proofs.Soundness.{itself}
-use Rattle.refutation_laws.proofs.Settling.{is-event}
-use Rattle.reasons.specs.inner.Cycles.{up_to}
-use Rattle.reasons.specs.inner.Precedence.{IsSorted}
+use Rattle.reasons.proofs.Vocabulary.{◌≡◌, ◌<◌, ◌-◌, ℕ, suc, Bool, true, false, if◌then◌else◌, List, [], ◌∷◌, length, Option, Some, None, option_map, slice_index_or, map, arith, refl, sym, ap, ◌∙◌, ◌⊎◌, inl, inr, subst, list_all, Vec, Litmus, Entry, IsIn, in-case, in-none, in-first, in-later, no-more, Ordered, Once, bare, same_event, is_event, events_of, leads_back, is_cycle, and-of, same-bare, itself, is-event, up_to, IsSorted}
 
 -- ---- events of a test have the value 0, so that one event is one entry
 

@@ -1,17 +1,5 @@
 -- How many cases a case can come to: over its open questions the product of their answers. What is added to each factor has the search end.
-use Rattle.std.proofs.Common.{◌≡◌, ◌≤◌, ◌+◌, ◌*◌, ◌&&◌, ◌||◌, ℕ, Bool, true, false, if◌then◌else◌, List, [], ◌∷◌, length, Option, arith, refl, sym, ap, ◌∙◌, ◌⊎◌, inl, inr, subst}
-use Rattle.std.proofs.lemmas.Nat.{mul-le}
-use Rattle.tso_model.specs.Litmus.{Litmus}
-use Rattle.tso_model.specs.ProgramOrder.{is_read, is_write, writes_to}
-use Rattle.tso_model.specs.declared.execution.Entry.{Entry}
-use Rattle.relational_model.specs.Events.{IsIn}
-use Rattle.relational_model.proofs.Lists.{in-case, in-none, Precedes}
-use Rattle.refutation_laws.specs.Known.{Known, bare, events_of, same_event, is_event, nothing, with_source}
-use Rattle.refutation_laws.specs.Refutations.{sources_of}
-use Rattle.refutation_laws.specs.inner.FullCases.{has_source, are_ordered}
-use Rattle.refutation_laws.proofs.Tests.{or-first, Holds, any-holds}
-use Rattle.refutation_laws.proofs.Standing.{same-bare}
-use Rattle.reasons.specs.Reasons.{product, sources_in, orders_in, all_orders, most_cases}
+use Rattle.reasons.proofs.Vocabulary.{◌≡◌, ◌≤◌, ◌+◌, ◌*◌, ◌&&◌, ◌||◌, ℕ, Bool, true, false, if◌then◌else◌, List, [], ◌∷◌, length, Option, arith, refl, sym, ap, ◌∙◌, ◌⊎◌, inl, inr, subst, mul-le, Litmus, is_read, is_write, writes_to, Entry, IsIn, in-case, in-none, Precedes, Known, bare, events_of, same_event, is_event, nothing, with_source, sources_of, has_source, are_ordered, or-first, Holds, any-holds, same-bare, product, sources_in, orders_in, all_orders, most_cases}
 
 -- ---- products
 

@@ -1,5 +1,4 @@
-use Rattle.std.proofs.Common.{◌≡◌, ◌++◌, drop}
-use Rattle.std.specs.Prelude.{filter}
+use Rattle.reasons.proofs.Vocabulary.{◌≡◌, ◌++◌, drop, filter}
 use Rattle.reasons.specs.inner.Steps as spec
 use Rattle.reasons.proofs.choices.steps_among.Given as goal
 

@@ -1,6 +1,5 @@
-use Rattle.std.proofs.Common.{◌≡◌, ◌∙◌, filter, ap, subst, sym}
-use Rattle.tso_laws.specs.Along.{choices_along, LeadTo}
-use Rattle.reasons.specs.inner.Steps.{is_step}
+use Rattle.reasons.proofs.Vocabulary.{◌≡◌, ◌∙◌, ap, subst, sym, choices_along, LeadTo, is_step}
+use Rattle.std.proofs.Common.{filter}
 use Rattle.reasons.proofs.Unstored.{steps-lead}
 use Rattle.reasons.proofs.choices.unbuffered_choices.Goals as goal
 

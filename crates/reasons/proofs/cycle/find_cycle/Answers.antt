@@ -1,9 +1,4 @@
-use Rattle.std.proofs.Common.{◌≡◌, true, sym, subst}
-use Rattle.std.specs.List.{list_any}
-use Rattle.relational_model.specs.Events.{IsIn}
-use Rattle.relational_model.specs.inner.Rows.{Ordered}
-use Rattle.refutation_laws.specs.Edges.{is_edge}
-use Rattle.refutations.specs.inner.Trees.{known_of, relations_of}
+use Rattle.reasons.proofs.Vocabulary.{◌≡◌, true, sym, subst, list_any, IsIn, Ordered, is_edge, known_of, relations_of}
 use Rattle.reasons.proofs.Parting.{no-items}
 use Rattle.reasons.proofs.Walking.{all-in-row}
 use Rattle.reasons.proofs.cycle.find_cycle.Goals as goal

@@ -1,5 +1,4 @@
-use Rattle.std.proofs.Common.{◌≡◌, ◌++◌, option_map, drop}
-use Rattle.reasons.specs.inner.Cycles.{up_to}
+use Rattle.reasons.proofs.Vocabulary.{◌≡◌, ◌++◌, option_map, drop, up_to}
 use Rattle.reasons.proofs.cycle.front_to.Given as goal
 
 abbrev pub invariant-loop-p : goal.invariant-loop-p

@@ -1,7 +1,4 @@
-use Rattle.std.proofs.Common.{◌≡◌, true, drop}
-use Rattle.std.specs.List.{list_any}
-use Rattle.refutation_laws.specs.Edges.{is_edge}
-use Rattle.refutations.specs.inner.Trees.{known_of, relations_of}
+use Rattle.reasons.proofs.Vocabulary.{◌≡◌, true, drop, list_any, is_edge, known_of, relations_of}
 use Rattle.reasons.proofs.cycle.predecessor.Given as goal
 
 -- it is still to come

@@ -1,6 +1,4 @@
-use Rattle.std.proofs.Common.{◌<◌, ◌-◌, length, None, Some, sym, subst}
-use Rattle.refutation_laws.specs.Edges.{is_edge}
-use Rattle.refutations.specs.inner.Trees.{known_of, relations_of}
+use Rattle.reasons.proofs.Vocabulary.{◌<◌, ◌-◌, length, None, Some, sym, subst, is_edge, known_of, relations_of}
 use Rattle.reasons.proofs.Walking.{IsWalk, around, shorter, walk-on, smaller, told}
 use Rattle.reasons.proofs.cycle.walk_back.Goals as goal
 

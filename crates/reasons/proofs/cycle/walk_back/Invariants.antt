@@ -1,6 +1,4 @@
-use Rattle.std.proofs.Common.{◌-◌, length}
-use Rattle.refutation_laws.specs.Edges.{is_edge}
-use Rattle.refutations.specs.inner.Trees.{known_of, relations_of}
+use Rattle.reasons.proofs.Vocabulary.{◌-◌, length, is_edge, known_of, relations_of}
 use Rattle.reasons.proofs.Walking.{IsWalk}
 use Rattle.reasons.proofs.cycle.walk_back.Given as goal
 

@@ -1,7 +1,5 @@
-use Rattle.std.proofs.Common.{sym, ◌∙◌, subst}
-use Rattle.refutations.specs.inner.Trees.{known_of}
+use Rattle.reasons.proofs.Vocabulary.{sym, ◌∙◌, subst, known_of, CycleOrRow}
 use Rattle.refutations.specs.declared.edges.Acyclic.TheVariants.{OnLocation, Globally}
-use Rattle.reasons.specs.inner.Cycles.{CycleOrRow}
 use Rattle.reasons.proofs.Rowing.{leaf-or-none}
 use Rattle.reasons.proofs.leaves.find_leaf.Goals as goal
 

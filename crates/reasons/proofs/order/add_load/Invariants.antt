@@ -1,6 +1,4 @@
-use Rattle.std.proofs.Common.{◌≡◌, ◌++◌, drop}
-use Rattle.std.specs.Prelude.{filter}
-use Rattle.refutation_laws.specs.Edges.{are_parts}
+use Rattle.reasons.proofs.Vocabulary.{◌≡◌, ◌++◌, drop, filter, are_parts}
 use Rattle.reasons.proofs.order.add_load.Given as goal
 
 abbrev pub invariant-loop-r : goal.invariant-loop-r

@@ -1,4 +1,4 @@
-use Rattle.refutations.specs.inner.Trees.{known_of}
+use Rattle.reasons.proofs.Vocabulary.{known_of}
 use Rattle.reasons.proofs.Rowing.{order-met}
 use Rattle.reasons.proofs.order.make_order.Goals as goal
 

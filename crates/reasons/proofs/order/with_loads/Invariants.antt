@@ -1,4 +1,4 @@
-use Rattle.std.proofs.Common.{◌≡◌, ◌++◌, drop}
+use Rattle.reasons.proofs.Vocabulary.{◌≡◌, ◌++◌, drop}
 use Rattle.refutation_laws.specs.inner.Orders as spec
 use Rattle.reasons.proofs.order.with_loads.Given as goal
 

@@ -1,6 +1,5 @@
-use Rattle.std.proofs.Common.{◌≡◌, ◌++◌, map, drop}
+use Rattle.reasons.proofs.Vocabulary.{◌≡◌, ◌++◌, map, drop, known_of}
 use Rattle.refutation_laws.specs.inner.Orders as spec
-use Rattle.refutations.specs.inner.Trees.{known_of}
 use Rattle.reasons.proofs.order.with_values.Given as goal
 
 abbrev pub invariant-loop-e : goal.invariant-loop-e

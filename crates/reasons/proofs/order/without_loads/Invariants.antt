@@ -1,5 +1,4 @@
-use Rattle.std.proofs.Common.{◌≡◌, ◌++◌, not, drop}
-use Rattle.std.specs.Prelude.{filter}
+use Rattle.reasons.proofs.Vocabulary.{◌≡◌, ◌++◌, not, drop, filter}
 use Rattle.refutation_laws.specs.inner.Orders as spec
 use Rattle.reasons.proofs.order.without_loads.Given as goal
 

@@ -1,5 +1,4 @@
-use Rattle.std.proofs.Common.{◌≡◌, drop}
-use Rattle.refutations.specs.inner.Trees.{known_of}
+use Rattle.reasons.proofs.Vocabulary.{◌≡◌, drop, known_of}
 use Rattle.reasons.specs.inner.Questions as spec
 use Rattle.reasons.proofs.questions.first_unread.Given as goal
 

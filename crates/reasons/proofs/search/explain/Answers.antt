@@ -1,12 +1,4 @@
-use Rattle.std.proofs.Common.{◌<◌, ◌+◌, ◌∷◌, arith, map, sym, ap, ◌∙◌, subst}
-use Rattle.std.proofs.lemmas.List.{nil_from_length}
-use Rattle.std.specs.Global.{Vec}
-use Rattle.refutations.specs.Trees.{node_of}
-use Rattle.refutations.specs.inner.Trees.{known_of}
-use Rattle.refutations.specs.inner.Stack.{cases_of}
-use Rattle.refutations.specs.declared.answers.Answers.{Answers}
-use Rattle.refutations.specs.declared.tree.Node.{Node}
-use Rattle.reasons.specs.inner.Cases.{IsStep}
+use Rattle.reasons.proofs.Vocabulary.{◌<◌, ◌+◌, ◌∷◌, arith, map, sym, ap, ◌∙◌, subst, nil_from_length, Vec, node_of, known_of, cases_of, Answers, Node, IsStep}
 use Rattle.reasons.proofs.Weighing.{total}
 use Rattle.reasons.proofs.Searching.{IsSearch, first-case, its-sound, one-too-many, lighter-by-leaf, lighter-by-question, after-leaf, after-question, all-done}
 use Rattle.reasons.proofs.search.explain.Goals as goal

@@ -1,6 +1,4 @@
-use Rattle.std.proofs.Common.{◌≤◌, map}
-use Rattle.refutations.specs.Trees.{node_of}
-use Rattle.refutations.specs.inner.Stack.{cases_of}
+use Rattle.reasons.proofs.Vocabulary.{◌≤◌, map, node_of, cases_of}
 use Rattle.reasons.proofs.Weighing.{total}
 use Rattle.reasons.proofs.Searching.{IsSearch}
 use Rattle.reasons.proofs.search.explain.Given as goal

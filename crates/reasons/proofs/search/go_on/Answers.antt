@@ -1,6 +1,4 @@
-use Rattle.std.proofs.Common.{sym, ap, ◌∙◌}
-use Rattle.refutations.specs.inner.Trees.{known_of}
-use Rattle.reasons.specs.inner.Questions.{next_question}
+use Rattle.reasons.proofs.Vocabulary.{sym, ap, ◌∙◌, known_of, next_question}
 use Rattle.reasons.proofs.Answered.{open-question, no-question}
 use Rattle.reasons.proofs.search.go_on.Goals as goal
 

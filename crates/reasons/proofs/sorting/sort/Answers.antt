@@ -1,7 +1,4 @@
-use Rattle.std.proofs.Common.{◌≡◌, ◌++◌, not, sym, ap, ◌∙◌, subst}
-use Rattle.std.specs.Prelude.{filter}
-use Rattle.refutations.specs.inner.Trees.{known_of}
-use Rattle.reasons.specs.inner.Precedence.{edge_in, is_first, IsParted}
+use Rattle.reasons.proofs.Vocabulary.{◌≡◌, ◌++◌, not, sym, ap, ◌∙◌, subst, filter, known_of, edge_in, is_first, IsParted}
 use Rattle.reasons.proofs.Parting.{none-first, parted-more, fewer-left, no-items, some-items}
 use Rattle.reasons.proofs.sorting.sort.Goals as goal
 

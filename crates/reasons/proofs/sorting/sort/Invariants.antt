@@ -1,6 +1,4 @@
-use Rattle.std.proofs.Common.{length}
-use Rattle.refutations.specs.inner.Trees.{known_of}
-use Rattle.reasons.specs.inner.Precedence.{edge_in, IsParted}
+use Rattle.reasons.proofs.Vocabulary.{length, known_of, edge_in, IsParted}
 use Rattle.reasons.proofs.sorting.sort.Given as goal
 
 abbrev pub invariant-loop-rest : goal.invariant-loop-rest

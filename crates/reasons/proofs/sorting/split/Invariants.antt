@@ -1,7 +1,4 @@
-use Rattle.std.proofs.Common.{◌≡◌, ◌++◌, not, drop}
-use Rattle.std.specs.Prelude.{filter}
-use Rattle.refutations.specs.inner.Trees.{known_of}
-use Rattle.reasons.specs.inner.Precedence.{edge_in, is_first}
+use Rattle.reasons.proofs.Vocabulary.{◌≡◌, ◌++◌, not, drop, filter, known_of, edge_in, is_first}
 use Rattle.reasons.proofs.sorting.split.Given as goal
 
 -- those that were gone over, and those that are still to come
