@@ -1,19 +1,8 @@
 -- The parts of a refutation's nodes, one by one.
-use Rattle.std.specs.Prelude.{filter}
-use Rattle.std.proofs.Common.{Bool, true, false, cond, ℕ, suc, zero, ◌+◌, ◌≡◌, ◌≤◌, ◌<◌, List, [], ◌∷◌, ◌++◌, length, drop, map, get_or, slice_index, refl, sym, ap, ◌∙◌, arith, subst, ◌⊎◌, inl, inr, ◌≢◌, set, length-set, get_or-set_same, get_or-set_other, append_assoc}
-use Rattle.std.proofs.lemmas.List.{drop_all, at_drop_more}
-use Rattle.tso_model.specs.Litmus.{Litmus}
-use Rattle.refutation_laws.specs.Known.{Known}
-use Rattle.refutation_laws.specs.Refutations.{asked}
-use Rattle.refutation_laws.specs.declared.model.Model.{Model}
-use Rattle.refutations.specs.Trees.{node_of}
+use Rattle.reason_report.proofs.Vocabulary.{filter, Bool, true, false, cond, ℕ, suc, zero, ◌+◌, ◌≡◌, ◌≤◌, ◌<◌, List, [], ◌∷◌, ◌++◌, length, drop, map, get_or, slice_index, refl, sym, ap, ◌∙◌, arith, subst, ◌⊎◌, inl, inr, ◌≢◌, set, length-set, get_or-set_same, get_or-set_other, append_assoc, drop_all, at_drop_more, Litmus, Known, asked, Model, node_of, Part, grown, replies, branches_with, Reply, Refutation, parts_at, first_part, parts_of, branch_in, AreNext, IsNext, AreBelow, IsReady}
 use Rattle.refutations.specs.declared.tree.Node.{Node}
 use Rattle.reason_report.specs.Steps as spec
-use Rattle.reason_report.specs.Steps.{Part, grown, replies, branches_with}
 use Rattle.reason_report.specs.declared.replies.Branch.{Branch}
-use Rattle.reason_report.specs.declared.replies.Reply.{Reply}
-use Rattle.reason_report.specs.declared.parts.Refutation.{Refutation}
-use Rattle.reason_report.specs.inner.Parts.{parts_at, first_part, parts_of, branch_in, AreNext, IsNext, AreBelow, IsReady}
 
 pub cut : {X : Type 0} (xs : List X) (i : ℕ) → i < length xs → (x : X) × (drop i xs ≡ x ∷ drop (suc i) xs)
 cut [] i h = absurd (omega (arith, h))

@@ -1,24 +1,7 @@
 -- Cases that a leaf closes at once: those that one line closes together, and the groups that they make.
-use Rattle.std.proofs.Common.{ℕ, suc, zero, ◌+◌, ◌-◌, ◌&&◌, ◌≡◌, ◌≤◌, ◌<◌, Bool, true, false, not, cond, List, [], ◌∷◌, ◌++◌, length, take, drop, get_or, map, refl, sym, ap, ◌∙◌, arith, subst, append_assoc}
-use Rattle.std.proofs.lemmas.List.{take_all, drop_all, length-drop}
-use Rattle.std.specs.Prelude.{filter}
-use Rattle.std.specs.List.{flat_map, list_any, list_all}
-use Rattle.tso_model.specs.Litmus.{Litmus}
-use Rattle.tso_model.specs.Condition.{Claim}
-use Rattle.refutation_laws.specs.Known.{Known}
-use Rattle.refutation_laws.specs.Refutations.{asked}
-use Rattle.refutations.specs.inner.Trees.{known_of}
-use Rattle.tso_report.specs.declared.named.Named.{Named}
-use Rattle.tso_report.specs.Tally.{looked_at}
-use Rattle.reason_report.specs.Places.{suffices, name_the_same}
+use Rattle.reason_report.proofs.Vocabulary.{ℕ, suc, zero, ◌+◌, ◌-◌, ◌&&◌, ◌≡◌, ◌≤◌, ◌<◌, Bool, true, false, not, cond, List, [], ◌∷◌, ◌++◌, length, take, drop, get_or, map, refl, sym, ap, ◌∙◌, arith, subst, append_assoc, take_all, drop_all, length-drop, filter, flat_map, list_any, list_all, Litmus, Claim, Known, asked, known_of, Named, looked_at, suffices, name_the_same, Branch, are_alike, groups, is_false_source, known_of_case, closed_case, step_of, Reply, Refutation, Closed, IsClosed, AreClosed, closed_branch, same_truths, alike, known_alike, rest_of}
 use Rattle.reason_report.specs.Steps as spec
-use Rattle.reason_report.specs.Steps.{Branch, are_alike, groups, is_false_source, known_of_case, closed_case}
-use Rattle.reason_report.specs.Views.{step_of}
 use Rattle.reason_report.specs.declared.steps.Step as declared
-use Rattle.reason_report.specs.declared.replies.Reply.{Reply}
-use Rattle.reason_report.specs.declared.parts.Refutation.{Refutation}
-use Rattle.reason_report.specs.declared.closed.Closed.{Closed}
-use Rattle.reason_report.specs.inner.Closed.{IsClosed, AreClosed, closed_branch, same_truths, alike, known_alike, rest_of}
 
 -- ---- lists
 

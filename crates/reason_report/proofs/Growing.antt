@@ -1,6 +1,5 @@
 -- Lists that a loop makes of another one, item by item.
-use Rattle.std.proofs.Common.{ℕ, ◌+◌, ◌≡◌, ◌<◌, List, [], ◌∷◌, ◌++◌, length, drop, get_or, map, sym, ap, ◌∙◌, append_assoc}
-use Rattle.std.proofs.lemmas.List.{drop_more}
+use Rattle.reason_report.proofs.Vocabulary.{ℕ, ◌+◌, ◌≡◌, ◌<◌, List, [], ◌∷◌, ◌++◌, length, drop, get_or, map, sym, ap, ◌∙◌, append_assoc, drop_more}
 use Rattle.reason_report.proofs.Grouping.{map-push, map-twice}
 
 -- what is made of the next item stands behind what is made

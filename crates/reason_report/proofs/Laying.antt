@@ -1,17 +1,8 @@
 -- Tasks and the parts that they are for.
-use Rattle.std.proofs.Common.{ℕ, suc, zero, ◌+◌, ◌-◌, ◌<◌, ◌==◌, get_or, Option, Some, None, ◌≡◌, ◌≤◌, Bool, true, false, not, cond, List, [], ◌∷◌, ◌++◌, length, drop, map, refl, sym, ap, ◌∙◌, arith, subst, append_assoc}
-use Rattle.std.proofs.lemmas.List.{append-nil, drop_all}
+use Rattle.reason_report.proofs.Vocabulary.{ℕ, suc, zero, ◌+◌, ◌-◌, ◌<◌, ◌==◌, get_or, Option, Some, None, ◌≡◌, ◌≤◌, Bool, true, false, not, cond, List, [], ◌∷◌, ◌++◌, length, drop, map, refl, sym, ap, ◌∙◌, arith, subst, append_assoc, append-nil, drop_all, filter, replicate, flat_map, Litmus, Claim, Known, Model, Part, Branch, Step, is_leaf, is_closed, branches_with, with_reply, so_steps, case_steps, rest_steps, closed_case, groups, leaf_steps, grown, Reply, step_of, first_part, Task, Passed, Case, So, Endcases, task_of, tasks_of, branch_task, branch_tasks, end_of, as_branch, emit, depth_of, AreWithin, spec_wanted, with_wanted, ended_by}
 use Rattle.std.proofs.lemmas.Bool.Decides.{nat_tests}
-use Rattle.std.specs.Prelude.{filter, replicate}
-use Rattle.std.specs.List.{flat_map}
-use Rattle.tso_model.specs.Litmus.{Litmus}
-use Rattle.tso_model.specs.Condition.{Claim}
-use Rattle.refutation_laws.specs.Known.{Known}
 use Rattle.refutation_laws.specs.Refutations as refutations
-use Rattle.refutation_laws.specs.declared.model.Model.{Model}
 use Rattle.reason_report.specs.Steps as spec
-use Rattle.reason_report.specs.Steps.{Part, Branch, Step, is_leaf, is_closed, branches_with, with_reply, so_steps, case_steps, rest_steps, closed_case, groups, leaf_steps, grown}
-use Rattle.reason_report.specs.declared.replies.Reply.{Reply}
 use Rattle.reason_report.specs.declared.replies.Branch as replies
 use Rattle.reason_report.specs.declared.steps.Step as steps
 use Rattle.reason_report.specs.declared.steps.Step.TheVariants as step
@@ -19,9 +10,6 @@ use Rattle.reason_report.specs.declared.layout.Wanted.{Wanted}
 use Rattle.reason_report.specs.declared.layout.Wanted.TheVariants as wanted
 use Rattle.reason_report.specs.declared.layout.Task as declared
 use Rattle.reason_report.specs.declared.layout.Task.TheVariants as code
-use Rattle.reason_report.specs.Views.{step_of}
-use Rattle.reason_report.specs.inner.Parts.{first_part}
-use Rattle.reason_report.specs.inner.Tasks.{Task, Passed, Case, So, Endcases, task_of, tasks_of, branch_task, branch_tasks, end_of, as_branch, emit, depth_of, AreWithin, spec_wanted, with_wanted, ended_by}
 
 cut-at : {X : Type 0} (xs : List X) (i : ℕ) (d : X) → i < length xs → drop i xs ≡ get_or xs i d ∷ drop (suc i) xs
 cut-at [] i d w = absurd (omega (arith, w))

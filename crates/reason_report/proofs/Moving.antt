@@ -1,7 +1,5 @@
 -- From one part to the next.
-use Rattle.std.proofs.Common.{ℕ, suc, zero, ◌+◌, ◌≡◌, ◌≤◌, ◌<◌, List, [], ◌∷◌, length, drop, slice_index, refl, sym, ap, ◌∙◌, arith}
-use Rattle.reason_report.specs.Steps.{Part}
-use Rattle.reason_report.specs.inner.Parts.{AreNext, IsNext}
+use Rattle.reason_report.proofs.Vocabulary.{ℕ, suc, zero, ◌+◌, ◌≡◌, ◌≤◌, ◌<◌, List, [], ◌∷◌, length, drop, slice_index, refl, sym, ap, ◌∙◌, arith, Part, AreNext, IsNext}
 
 drop-once : {X : Type 0} (xs : List X) (j : ℕ) → drop 1 (drop j xs) ≡ drop (suc j) xs
 drop-once xs zero = refl

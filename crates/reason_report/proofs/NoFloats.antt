@@ -1,35 +1,12 @@
 -- The values that are printed have no float, so that their text is known.
-use Rattle.std.specs.Prelude.{filter}
-use Rattle.tso_model.specs.ProgramOrder.{writes_to}
-use Rattle.tso_model.specs.declared.choice.Choice.{Choice}
-use Rattle.tso_model.specs.declared.execution.Entry.{Entry}
-use Rattle.order_builder.specs.PrintedOrder.{printed_entry}
-use Rattle.tso_report.specs.declared.named.Named.{Named}
-use Rattle.tso_report.specs.Tally.{looked_at}
-use Rattle.outcome_report.specs.OutcomesJson.{value_members}
-use Rattle.outcome_report.specs.Verdict.{verdict_value}
-use Rattle.reason_report.specs.declared.readings.Reading.{Reading}
-use Rattle.reason_report.specs.inner.Shown.{reading_value, coherence_members_by, shown_value}
-use Rattle.reason_report.specs.ReasonJson.{with_coherence}
-use Rattle.std.proofs.Common.{◌≡◌, ◌+◌, ℕ, Bool, true, false, ◌||◌, List, [], ◌∷◌, map, Option, Some, None, refl}
+use Rattle.reason_report.proofs.Vocabulary.{filter, writes_to, Choice, Entry, printed_entry, Named, looked_at, value_members, verdict_value, Reading, reading_value, coherence_members_by, shown_value, with_coherence, ◌≡◌, ◌+◌, ℕ, Bool, true, false, ◌||◌, List, [], ◌∷◌, map, Option, Some, None, refl, Data, string, array, Members, no_members, member, put, items_of, has_float, items_have_float, members_have_float, Litmus, Condition, Model, count, key_of, Place, Answer, From, Before, Closing, Uniproc, Cycle, Amid, False, Step, Leaf, source_text, edge_value, edges_value, answer_value, place_members, closing_value, step_value, asked_value, never_value_of}
 use Rattle.std.specs.Ordering.{nat_cmp, match_ordering}
 use Rattle.std.specs.Cmp.Lexicographic.{slice_cmp}
 use Rattle.std.specs.declared.cmp.Ordering.{Ordering}
 use Rattle.std.specs.declared.cmp.Ordering.TheVariants.{Less, Equal, Greater}
 use Rattle.std.proofs.lemmas.Bool.{or_parts}
-use Rattle.serde_json.specs.Data.{Data, string, array, Members, no_members, member, put}
-use Rattle.serde_json.specs.View.{items_of}
-use Rattle.serde_json.specs.Written.{has_float, items_have_float, members_have_float}
-use Rattle.tso_model.specs.Litmus.{Litmus}
-use Rattle.tso_model.specs.Condition.{Condition}
-use Rattle.refutation_laws.specs.declared.model.Model.{Model}
-use Rattle.tso_report.specs.Json.{count}
-use Rattle.outcome_report.specs.OutcomesJson.{key_of}
 use Rattle.reason_report.specs.declared.steps.Edge.{Edge}
-use Rattle.reason_report.specs.Places.{Place}
-use Rattle.reason_report.specs.Steps.{Answer, From, Before, Closing, Uniproc, Cycle, Amid, False, Step, Case, So, Leaf, Endcases}
-use Rattle.reason_report.specs.ReasonText.{source_text}
-use Rattle.reason_report.specs.ReasonJson.{edge_value, edges_value, answer_value, place_members, closing_value, step_value, asked_value, never_value_of}
+use Rattle.reason_report.specs.Steps.{Case, So, Endcases}
 
 neither : (p q : Bool) → p ≡ false → q ≡ false → p || q ≡ false
 neither true q h k = h

@@ -1,39 +1,12 @@
 -- What is shown of an execution is its candidate.
-use Rattle.std.proofs.Common.{ℕ, suc, zero, ◌+◌, ◌||◌, ◌≡◌, ◌≤◌, ◌<◌, Bool, true, false, cond, List, [], ◌∷◌, ◌++◌, length, drop, get_or, map, Option, Some, None, refl, sym, ap, ◌∙◌, arith, subst, append_assoc}
-use Rattle.std.specs.Prelude.{All, filter, slice_get, codes}
-use Rattle.std.specs.List.{flat_map, list_any}
-use Rattle.std.proofs.lemmas.List.{at_drop_more, append-nil, drop_all}
-use Rattle.serde_json.specs.Data.{Data, Members, no_members, member, put, object, array, string}
-use Rattle.serde_json.specs.View.{items_of}
-use Rattle.tso_model.specs.Litmus.{Litmus}
-use Rattle.tso_model.specs.ProgramOrder.{is_read, writes_to, is_before}
-use Rattle.tso_model.specs.ProgramEntries.{made}
+use Rattle.reason_report.proofs.Vocabulary.{ℕ, suc, zero, ◌+◌, ◌||◌, ◌≡◌, ◌≤◌, ◌<◌, Bool, true, false, cond, List, [], ◌∷◌, ◌++◌, length, drop, get_or, map, Option, Some, None, refl, sym, ap, ◌∙◌, arith, subst, append_assoc, All, filter, slice_get, codes, flat_map, list_any, at_drop_more, append-nil, drop_all, Data, Members, no_members, member, put, object, array, string, items_of, Litmus, is_read, writes_to, is_before, made, final_words, final_registers, words_from, registers_from, Instr, Choice, Entry, IsIn, IsCandidateOf, LeaveTheSame, last_in, IsExecutionOf, Model, value_members, printed_entry, line, test_line, looked_at, verdict_line, verdict_value, model_name, asked_line, from_line, reads_of, coherence_lines, coherence_line, allowed_text, asked_value, from_value, coherence_members, with_coherence, allowed_value, Reading, Named, IsKnown, allowed_in, ShowsExecution, last_or, ReadsIt, AreIn, AreReadings, IsShown, reading_of, reading_line, reading_value, coherence_by, coherence_members_by}
 use Rattle.tso_model.specs.Axioms.{counting, IsTsoExecution}
-use Rattle.tso_model.specs.FinalState.{final_words, final_registers, words_from, registers_from}
-use Rattle.tso_model.specs.declared.instruction.Instr.{Instr}
-use Rattle.tso_model.specs.declared.choice.Choice.{Choice}
-use Rattle.tso_model.specs.declared.execution.Entry.{Entry}
-use Rattle.relational_model.specs.Events.{IsIn}
 use Rattle.relational_model.specs.Candidates.{Candidate, words_left}
-use Rattle.relational_model.specs.CandidatesOfOrders.{IsCandidateOf, LeaveTheSame, last_in}
-use Rattle.refutation_laws.specs.Models.{IsExecutionOf}
-use Rattle.refutation_laws.specs.declared.model.Model.{Model}
 use Rattle.refutation_laws.specs.declared.model.Model.TheVariants.{Tso, Sequential}
 use Rattle.scheduler.specs.Printed.{printed_choices}
 use Rattle.outcome_report.specs.Outcomes.{by_line, state_line}
-use Rattle.outcome_report.specs.OutcomesJson.{value_members}
-use Rattle.order_builder.specs.PrintedOrder.{printed_entry}
-use Rattle.tso_report.specs.Report.{line, test_line}
-use Rattle.tso_report.specs.Tally.{looked_at, values_in, shown_value}
-use Rattle.outcome_report.specs.Verdict.{verdict_line, verdict_value}
-use Rattle.reason_report.specs.ReasonText.{model_name, asked_line, from_line, reads_of, coherence_lines, coherence_line, allowed_text}
-use Rattle.reason_report.specs.ReasonJson.{asked_value, from_value, coherence_members, with_coherence, allowed_value}
-use Rattle.reason_report.specs.declared.readings.Reading.{Reading}
-use Rattle.tso_report.specs.declared.named.Named.{Named}
-use Rattle.tso_report.specs.inner.Tally.{IsKnown}
-use Rattle.reason_report.specs.Printed.{allowed_in, ShowsExecution}
+use Rattle.tso_report.specs.Tally.{values_in, shown_value}
 use Rattle.reason_report.specs.inner.Shown as inner
-use Rattle.reason_report.specs.inner.Shown.{last_or, ReadsIt, AreIn, AreReadings, IsShown, reading_of, reading_line, reading_value, coherence_by, coherence_members_by}
 
 -- ---- the last write
 

@@ -1,15 +1,9 @@
 -- What an order makes of the programs, core by core, place by place and location by location.
-use Rattle.std.proofs.Common.{ℕ, suc, ◌+◌, ◌≡◌, ◌<◌, cond, List, [], ◌∷◌, ◌++◌, length, drop, get_or, refl, sym, ap, ◌∙◌, append_assoc}
-use Rattle.std.specs.Prelude.{slice_index_or}
-use Rattle.std.proofs.lemmas.List.{at_drop_more}
+use Rattle.reason_report.proofs.Vocabulary.{ℕ, suc, ◌+◌, ◌≡◌, ◌<◌, cond, List, [], ◌∷◌, ◌++◌, length, drop, get_or, refl, sym, ap, ◌∙◌, append_assoc, slice_index_or, at_drop_more, values_by, read_values, made_by, made_from, word_after, words_from, registers_of, registers_from, Instr, Entry}
 use Rattle.tso_model.specs.Actions.{action_of}
 use Rattle.tso_model.specs.Thread.{is_reading, reads_in}
-use Rattle.tso_model.specs.ProgramEntries.{values_by, read_values, made_by, made_from}
-use Rattle.tso_model.specs.FinalState.{word_after, words_from, registers_of, registers_from}
-use Rattle.tso_model.specs.declared.instruction.Instr.{Instr}
 use Rattle.tso_model.specs.declared.action.Action.{Action}
 use Rattle.tso_model.specs.declared.action.Action.TheVariants.{Store, Load, Move, Fence, Lock}
-use Rattle.tso_model.specs.declared.execution.Entry.{Entry}
 
 -- there is a value for each read
 pub reads-count : (core place : ℕ) (program : List Instr) (order : List Entry) → length (read_values core place program order) ≡ reads_in program

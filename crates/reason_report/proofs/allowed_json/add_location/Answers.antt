@@ -1,9 +1,4 @@
-use Rattle.std.proofs.Common.{◌∙◌, [], ap, sym}
-use Rattle.std.specs.Prelude.{slice_index_or}
-use Rattle.serde_json.specs.Data.{put}
-use Rattle.serde_json.specs.View.{view, members_view}
-use Rattle.tso_model.specs.ProgramOrder.{writes_to}
-use Rattle.reason_report.specs.ReasonJson.{with_coherence}
+use Rattle.reason_report.proofs.Vocabulary.{◌∙◌, [], ap, sym, slice_index_or, put, view, members_view, writes_to, with_coherence}
 use Rattle.reason_report.proofs.Shown.{none-go, member-is}
 use Rattle.reason_report.proofs.allowed_json.add_location.Goals as goal
 

@@ -1,7 +1,4 @@
-use Rattle.std.proofs.Common.{◌∙◌, ap}
-use Rattle.std.proofs.lemmas.Result.{IfOk-weaker}
-use Rattle.serde_json.specs.Written.{has_float, compact_text}
-use Rattle.tso_report.specs.Report.{line}
+use Rattle.reason_report.proofs.Vocabulary.{◌∙◌, ap, IfOk-weaker, has_float, compact_text, line}
 use Rattle.reason_report.proofs.NoFloats.{shown_has_no_float}
 use Rattle.reason_report.proofs.Shown.{value-is}
 use Rattle.reason_report.proofs.allowed_json.allowed_json.Goals as goal

@@ -1,6 +1,4 @@
-use Rattle.std.proofs.Common.{◌≡◌, drop}
-use Rattle.serde_json.specs.View.{members_view}
-use Rattle.reason_report.specs.inner.Shown.{coherence_members_by}
+use Rattle.reason_report.proofs.Vocabulary.{◌≡◌, drop, members_view, coherence_members_by}
 use Rattle.reason_report.proofs.allowed_json.coherence_value.Given as goal
 
 abbrev pub invariant-loop-loc : goal.invariant-loop-loc

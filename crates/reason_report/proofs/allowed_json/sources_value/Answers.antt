@@ -1,5 +1,4 @@
-use Rattle.serde_json.specs.View.{view}
-use Rattle.reason_report.specs.inner.Shown.{reading_value}
+use Rattle.reason_report.proofs.Vocabulary.{view, reading_value}
 use Rattle.reason_report.proofs.Growing.{one-more-seen}
 use Rattle.reason_report.proofs.allowed_json.sources_value.Goals as goal
 

@@ -1,6 +1,4 @@
-use Rattle.std.proofs.Common.{◌≡◌, ◌++◌, drop, map}
-use Rattle.serde_json.specs.View.{view}
-use Rattle.reason_report.specs.inner.Shown.{reading_value}
+use Rattle.reason_report.proofs.Vocabulary.{◌≡◌, ◌++◌, drop, map, view, reading_value}
 use Rattle.reason_report.proofs.allowed_json.sources_value.Given as goal
 
 abbrev pub invariant-loop-reading : goal.invariant-loop-reading

@@ -1,6 +1,4 @@
-use Rattle.std.proofs.Common.{◌≡◌, drop}
-use Rattle.serde_json.specs.View.{members_view}
-use Rattle.outcome_report.specs.OutcomesJson.{value_members}
+use Rattle.reason_report.proofs.Vocabulary.{◌≡◌, drop, members_view, value_members}
 use Rattle.reason_report.proofs.allowed_json.values_value.Given as goal
 
 abbrev pub invariant-loop-at : goal.invariant-loop-at

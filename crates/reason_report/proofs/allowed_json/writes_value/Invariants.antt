@@ -1,9 +1,4 @@
-use Rattle.std.proofs.Common.{◌≡◌, ◌++◌, drop, map}
-use Rattle.std.specs.Prelude.{filter}
-use Rattle.serde_json.specs.Data.{string}
-use Rattle.serde_json.specs.View.{view}
-use Rattle.tso_model.specs.ProgramOrder.{writes_to}
-use Rattle.order_builder.specs.PrintedOrder.{printed_entry}
+use Rattle.reason_report.proofs.Vocabulary.{◌≡◌, ◌++◌, drop, map, filter, string, view, writes_to, printed_entry}
 use Rattle.reason_report.proofs.allowed_json.writes_value.Given as goal
 
 abbrev pub invariant-loop-entry : goal.invariant-loop-entry

@@ -1,5 +1,4 @@
-use Rattle.std.proofs.Common.{◌∙◌, ◌++◌, ap, string_bytes}
-use Rattle.tso_report.specs.Report.{test_line}
+use Rattle.reason_report.proofs.Vocabulary.{◌∙◌, ◌++◌, ap, string_bytes, test_line}
 use Rattle.reason_report.proofs.Shown.{text-is}
 use Rattle.reason_report.proofs.allowed_text.allowed_text.Goals as goal
 

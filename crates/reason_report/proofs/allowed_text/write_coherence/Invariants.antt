@@ -1,5 +1,4 @@
-use Rattle.std.proofs.Common.{◌≡◌, ◌++◌, drop, string_bytes}
-use Rattle.reason_report.specs.inner.Shown.{coherence_by}
+use Rattle.reason_report.proofs.Vocabulary.{◌≡◌, ◌++◌, drop, string_bytes, coherence_by}
 use Rattle.reason_report.proofs.allowed_text.write_coherence.Given as goal
 
 abbrev pub invariant-loop-loc : goal.invariant-loop-loc

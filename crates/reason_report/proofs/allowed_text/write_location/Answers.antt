@@ -1,8 +1,4 @@
-use Rattle.std.proofs.Common.{◌∙◌, ◌++◌, [], ap, sym, string_bytes}
-use Rattle.std.specs.Prelude.{slice_index_or}
-use Rattle.std.proofs.lemmas.List.{append-nil}
-use Rattle.tso_model.specs.ProgramOrder.{writes_to}
-use Rattle.reason_report.specs.ReasonText.{coherence_line}
+use Rattle.reason_report.proofs.Vocabulary.{◌∙◌, ◌++◌, [], ap, sym, string_bytes, slice_index_or, append-nil, writes_to, coherence_line}
 use Rattle.reason_report.proofs.Shown.{none-go, line-is, location-written}
 use Rattle.reason_report.proofs.allowed_text.write_location.Goals as goal
 

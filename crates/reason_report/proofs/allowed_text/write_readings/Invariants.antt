@@ -1,6 +1,4 @@
-use Rattle.std.proofs.Common.{◌≡◌, ◌++◌, drop, string_bytes}
-use Rattle.std.specs.List.{flat_map}
-use Rattle.reason_report.specs.inner.Shown.{reading_line}
+use Rattle.reason_report.proofs.Vocabulary.{◌≡◌, ◌++◌, drop, string_bytes, flat_map, reading_line}
 use Rattle.reason_report.proofs.allowed_text.write_readings.Given as goal
 
 abbrev pub invariant-loop-reading : goal.invariant-loop-reading

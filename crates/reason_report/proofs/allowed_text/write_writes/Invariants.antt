@@ -1,9 +1,4 @@
-use Rattle.std.proofs.Common.{◌≡◌, ◌++◌, drop, string_bytes}
-use Rattle.std.specs.Prelude.{filter, codes}
-use Rattle.std.specs.List.{flat_map}
-use Rattle.tso_model.specs.ProgramOrder.{writes_to}
-use Rattle.tso_model.specs.declared.execution.Entry.{Entry}
-use Rattle.order_builder.specs.PrintedOrder.{printed_entry}
+use Rattle.reason_report.proofs.Vocabulary.{◌≡◌, ◌++◌, drop, string_bytes, filter, codes, flat_map, writes_to, Entry, printed_entry}
 use Rattle.reason_report.proofs.allowed_text.write_writes.Given as goal
 
 abbrev pub invariant-loop-entry : goal.invariant-loop-entry

@@ -1,4 +1,4 @@
-use Rattle.serde_json.specs.View.{view}
+use Rattle.reason_report.proofs.Vocabulary.{view}
 use Rattle.reason_report.specs.ReasonJson as spec
 use Rattle.reason_report.proofs.Growing.{one-more-seen}
 use Rattle.reason_report.proofs.as_json.edges_value.Goals as goal

@@ -1,5 +1,4 @@
-use Rattle.std.proofs.Common.{◌≡◌, ◌++◌, drop, map}
-use Rattle.serde_json.specs.View.{view}
+use Rattle.reason_report.proofs.Vocabulary.{◌≡◌, ◌++◌, drop, map, view}
 use Rattle.reason_report.specs.ReasonJson as spec
 use Rattle.reason_report.proofs.as_json.edges_value.Given as goal
 

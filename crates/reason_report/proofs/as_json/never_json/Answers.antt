@@ -1,6 +1,4 @@
-use Rattle.std.proofs.Common.{ap, ◌∙◌, map}
-use Rattle.serde_json.specs.Written.{has_float}
-use Rattle.reason_report.specs.Views.{step_of}
+use Rattle.reason_report.proofs.Vocabulary.{ap, ◌∙◌, map, has_float, step_of}
 use Rattle.reason_report.proofs.NoFloats.{never_has_no_float}
 use Rattle.reason_report.proofs.as_json.never_json.Goals as goal
 

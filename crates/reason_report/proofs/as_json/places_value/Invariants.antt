@@ -1,7 +1,5 @@
-use Rattle.std.proofs.Common.{◌≡◌, drop, map}
-use Rattle.serde_json.specs.View.{members_view}
+use Rattle.reason_report.proofs.Vocabulary.{◌≡◌, drop, map, members_view, place_of}
 use Rattle.reason_report.specs.ReasonJson as spec
-use Rattle.reason_report.specs.Views.{place_of}
 use Rattle.reason_report.proofs.as_json.places_value.Given as goal
 
 abbrev pub invariant-loop-at : goal.invariant-loop-at

@@ -1,6 +1,4 @@
-use Rattle.serde_json.specs.View.{view}
-use Rattle.serde_json.specs.Data.{string}
-use Rattle.reason_report.specs.ReasonText.{source_text}
+use Rattle.reason_report.proofs.Vocabulary.{view, string, source_text}
 use Rattle.reason_report.proofs.Growing.{one-more-seen}
 use Rattle.reason_report.proofs.as_json.sources_value.Goals as goal
 

@@ -1,6 +1,4 @@
-use Rattle.std.proofs.Common.{◌≡◌, ◌++◌, drop, map}
-use Rattle.serde_json.specs.View.{view}
-use Rattle.serde_json.specs.Data.{string}
+use Rattle.reason_report.proofs.Vocabulary.{◌≡◌, ◌++◌, drop, map, view, string}
 use Rattle.reason_report.specs.ReasonText as text
 use Rattle.reason_report.proofs.as_json.sources_value.Given as goal
 

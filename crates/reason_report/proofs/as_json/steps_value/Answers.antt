@@ -1,7 +1,5 @@
-use Rattle.std.proofs.Common.{ap, ◌∙◌}
-use Rattle.serde_json.specs.View.{view}
+use Rattle.reason_report.proofs.Vocabulary.{ap, ◌∙◌, view, step_of}
 use Rattle.reason_report.specs.ReasonJson as spec
-use Rattle.reason_report.specs.Views.{step_of}
 use Rattle.reason_report.proofs.Growing.{one-more-of-seen}
 use Rattle.reason_report.proofs.as_json.steps_value.Goals as goal
 

@@ -1,7 +1,5 @@
-use Rattle.std.proofs.Common.{◌≡◌, ◌++◌, drop, map}
-use Rattle.serde_json.specs.View.{view}
+use Rattle.reason_report.proofs.Vocabulary.{◌≡◌, ◌++◌, drop, map, view, step_of}
 use Rattle.reason_report.specs.ReasonJson as spec
-use Rattle.reason_report.specs.Views.{step_of}
 use Rattle.reason_report.proofs.as_json.steps_value.Given as goal
 
 abbrev pub invariant-loop-step : goal.invariant-loop-step

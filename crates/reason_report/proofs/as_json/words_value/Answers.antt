@@ -1,5 +1,4 @@
-use Rattle.serde_json.specs.View.{view}
-use Rattle.tso_report.specs.Json.{count}
+use Rattle.reason_report.proofs.Vocabulary.{view, count}
 use Rattle.reason_report.proofs.Growing.{one-more-seen}
 use Rattle.reason_report.proofs.as_json.words_value.Goals as goal
 

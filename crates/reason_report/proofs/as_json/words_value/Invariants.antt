@@ -1,6 +1,4 @@
-use Rattle.std.proofs.Common.{◌≡◌, ◌++◌, drop, map}
-use Rattle.serde_json.specs.View.{view}
-use Rattle.tso_report.specs.Json.{count}
+use Rattle.reason_report.proofs.Vocabulary.{◌≡◌, ◌++◌, drop, map, view, count}
 use Rattle.reason_report.proofs.as_json.words_value.Given as goal
 
 abbrev pub invariant-loop-word : goal.invariant-loop-word

@@ -1,5 +1,4 @@
-use Rattle.std.proofs.Common.{◌≡◌, ◌++◌, drop, string_bytes}
-use Rattle.std.specs.List.{flat_map}
+use Rattle.reason_report.proofs.Vocabulary.{◌≡◌, ◌++◌, drop, string_bytes, flat_map}
 use Rattle.reason_report.specs.ReasonText as spec
 use Rattle.reason_report.proofs.as_text.write_bars.Given as goal
 

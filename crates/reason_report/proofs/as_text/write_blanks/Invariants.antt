@@ -1,4 +1,4 @@
-use Rattle.std.proofs.Common.{◌≡◌, ◌++◌, string_bytes}
+use Rattle.reason_report.proofs.Vocabulary.{◌≡◌, ◌++◌, string_bytes}
 use Rattle.reason_report.specs.ReasonText as spec
 use Rattle.reason_report.proofs.as_text.write_blanks.Given as goal
 

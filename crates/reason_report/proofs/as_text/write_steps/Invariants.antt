@@ -1,7 +1,5 @@
-use Rattle.std.proofs.Common.{◌≡◌, ◌++◌, drop, map, string_bytes}
-use Rattle.std.specs.List.{flat_map}
+use Rattle.reason_report.proofs.Vocabulary.{◌≡◌, ◌++◌, drop, map, string_bytes, flat_map, step_of}
 use Rattle.reason_report.specs.ReasonText as spec
-use Rattle.reason_report.specs.Views.{step_of}
 use Rattle.reason_report.proofs.as_text.write_steps.Given as goal
 
 abbrev pub invariant-loop-step : goal.invariant-loop-step

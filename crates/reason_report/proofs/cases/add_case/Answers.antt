@@ -1,9 +1,5 @@
-use Rattle.std.proofs.Common.{◌+◌, ap}
-use Rattle.std.proofs.lemmas.Result.{on_ok_weaker}
-use Rattle.refutation_laws.specs.Refutations.{asked}
-use Rattle.refutations.specs.inner.Trees.{known_of}
+use Rattle.reason_report.proofs.Vocabulary.{◌+◌, ap, on_ok_weaker, asked, known_of, root_at}
 use Rattle.reason_report.specs.Steps as spec
-use Rattle.reason_report.specs.inner.Parts.{root_at}
 use Rattle.reason_report.proofs.Grouping.{known-is, case-added}
 use Rattle.reason_report.proofs.cases.add_case.Goals as goal
 

@@ -1,9 +1,5 @@
-use Rattle.std.proofs.Common.{◌∙◌, ◌+◌, ◌∷◌, ◌++◌, ap, sym, subst, refl, drop, map}
-use Rattle.refutation_laws.specs.Refutations.{asked}
-use Rattle.refutations.specs.inner.Trees.{known_of}
+use Rattle.reason_report.proofs.Vocabulary.{◌∙◌, ◌+◌, ◌∷◌, ◌++◌, ap, sym, subst, refl, drop, map, asked, known_of, step_of, AreClosed, closed_branch, rest_of}
 use Rattle.reason_report.specs.Steps as spec
-use Rattle.reason_report.specs.Views.{step_of}
-use Rattle.reason_report.specs.inner.Closed.{AreClosed, closed_branch, rest_of}
 use Rattle.reason_report.proofs.Grouping.{closed-at, closed-drop, skipped, grouped, none-more, one-more-group, rest-whole}
 use Rattle.reason_report.proofs.cases.add_closed.Goals as goal
 use Rattle.reason_report.proofs.cases.add_closed.Goals.{then-not-is_alike_to_some+in_ok-add_case, else-not-is_alike_to_some}

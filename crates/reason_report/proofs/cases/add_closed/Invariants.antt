@@ -1,10 +1,5 @@
-use Rattle.std.proofs.Common.{◌≡◌, ◌++◌, [], drop, take, map}
-use Rattle.std.specs.List.{flat_map}
-use Rattle.refutation_laws.specs.Refutations.{asked}
-use Rattle.refutations.specs.inner.Trees.{known_of}
+use Rattle.reason_report.proofs.Vocabulary.{◌≡◌, ◌++◌, [], drop, take, map, flat_map, asked, known_of, step_of, closed_branch}
 use Rattle.reason_report.specs.Steps as spec
-use Rattle.reason_report.specs.Views.{step_of}
-use Rattle.reason_report.specs.inner.Closed.{closed_branch}
 use Rattle.reason_report.proofs.cases.add_closed.Given as goal
 
 abbrev pub invariant-loop-at : goal.invariant-loop-at

@@ -1,7 +1,4 @@
-use Rattle.std.proofs.Common.{◌∙◌, sym, ap, length}
-use Rattle.std.proofs.lemmas.Result.{IfOk-weaker}
-use Rattle.refutations.specs.inner.Trees.{known_of}
-use Rattle.reason_report.specs.inner.Closed.{closed_branch, rest_of}
+use Rattle.reason_report.proofs.Vocabulary.{◌∙◌, sym, ap, length, IfOk-weaker, known_of, closed_branch, rest_of}
 use Rattle.reason_report.proofs.Grouping.{replies-is, one-alone, several, answered}
 use Rattle.reason_report.proofs.cases.case_answer.Goals as goal
 

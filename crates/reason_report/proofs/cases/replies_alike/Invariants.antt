@@ -1,7 +1,4 @@
-use Rattle.std.proofs.Common.{◌≡◌, ◌++◌, ◌∷◌, drop, map}
-use Rattle.std.specs.Prelude.{filter}
-use Rattle.reason_report.specs.declared.closed.Closed.{Closed}
-use Rattle.reason_report.specs.inner.Closed.{alike}
+use Rattle.reason_report.proofs.Vocabulary.{◌≡◌, ◌++◌, ◌∷◌, drop, map, filter, Closed, alike}
 use Rattle.reason_report.proofs.cases.replies_alike.Given as goal
 
 abbrev pub invariant-loop-other : goal.invariant-loop-other

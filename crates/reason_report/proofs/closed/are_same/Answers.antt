@@ -1,4 +1,4 @@
-use Rattle.std.proofs.Common.{◌∙◌, sym}
+use Rattle.reason_report.proofs.Vocabulary.{◌∙◌, sym}
 use Rattle.reason_report.proofs.Grouping.{shorter}
 use Rattle.reason_report.proofs.closed.are_same.Goals as goal
 

@@ -1,5 +1,4 @@
-use Rattle.std.proofs.Common.{◌≡◌, drop}
-use Rattle.reason_report.specs.inner.Closed.{same_truths}
+use Rattle.reason_report.proofs.Vocabulary.{◌≡◌, drop, same_truths}
 use Rattle.reason_report.proofs.closed.are_same.Given as goal
 
 abbrev pub invariant-loop-at : goal.invariant-loop-at

@@ -1,8 +1,5 @@
-use Rattle.std.proofs.Common.{◌∙◌, ◌+◌, ◌∷◌, ◌++◌, [], ap, sym, subst, refl, map}
-use Rattle.refutations.specs.inner.Trees.{known_of}
+use Rattle.reason_report.proofs.Vocabulary.{◌∙◌, ◌+◌, ◌∷◌, ◌++◌, [], ap, sym, subst, refl, map, known_of, branch_in, AreClosed, closed_branch}
 use Rattle.reason_report.specs.Steps as spec
-use Rattle.reason_report.specs.inner.Parts.{branch_in}
-use Rattle.reason_report.specs.inner.Closed.{AreClosed, closed_branch}
 use Rattle.reason_report.proofs.Cutting.{below-get, closed-more, closed-less}
 use Rattle.reason_report.proofs.Grouping.{closed-push, map-push}
 use Rattle.reason_report.proofs.closed.closed_among.Goals as goal

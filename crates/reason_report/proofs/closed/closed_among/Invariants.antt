@@ -1,9 +1,4 @@
-use Rattle.std.proofs.Common.{◌≡◌, ◌++◌, drop, map}
-use Rattle.std.specs.Prelude.{filter}
-use Rattle.refutations.specs.inner.Trees.{known_of}
-use Rattle.reason_report.specs.Steps.{is_closed}
-use Rattle.reason_report.specs.inner.Parts.{branch_in}
-use Rattle.reason_report.specs.inner.Closed.{AreClosed, closed_branch}
+use Rattle.reason_report.proofs.Vocabulary.{◌≡◌, ◌++◌, drop, map, filter, known_of, is_closed, branch_in, AreClosed, closed_branch}
 use Rattle.reason_report.proofs.closed.closed_among.Given as goal
 
 abbrev pub invariant-loop-branch : goal.invariant-loop-branch

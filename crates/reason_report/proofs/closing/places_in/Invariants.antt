@@ -1,10 +1,4 @@
-use Rattle.std.proofs.Common.{◌≡◌, ◌++◌, drop, map}
-use Rattle.std.specs.Prelude.{filter}
-use Rattle.refutation_laws.specs.Refutations.{asked}
-use Rattle.refutations.specs.inner.Trees.{known_of}
-use Rattle.reason_report.specs.Places.{suffices, place_in}
-use Rattle.reason_report.specs.Views.{place_of}
-use Rattle.reason_report.specs.inner.Closed.{known_alike}
+use Rattle.reason_report.proofs.Vocabulary.{◌≡◌, ◌++◌, drop, map, filter, asked, known_of, suffices, place_in, place_of, known_alike}
 use Rattle.reason_report.proofs.closing.places_in.Given as goal
 
 abbrev pub invariant-loop-named : goal.invariant-loop-named

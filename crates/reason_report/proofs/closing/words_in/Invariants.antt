@@ -1,10 +1,4 @@
-use Rattle.std.proofs.Common.{◌≡◌, ◌++◌, drop, map}
-use Rattle.std.specs.Prelude.{filter}
-use Rattle.std.specs.List.{flat_map}
-use Rattle.refutations.specs.inner.Trees.{known_of}
-use Rattle.reason_report.specs.Places.{words_at}
-use Rattle.reason_report.specs.declared.closed.Closed.{Closed}
-use Rattle.reason_report.specs.inner.Closed.{alike, known_alike}
+use Rattle.reason_report.proofs.Vocabulary.{◌≡◌, ◌++◌, drop, map, filter, flat_map, known_of, words_at, Closed, alike, known_alike}
 use Rattle.reason_report.proofs.closing.words_in.Given as goal
 
 abbrev pub invariant-loop-other : goal.invariant-loop-other

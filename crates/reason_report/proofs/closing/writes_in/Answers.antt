@@ -1,5 +1,4 @@
-use Rattle.refutations.specs.inner.Trees.{known_of}
-use Rattle.reason_report.specs.Steps.{write_in}
+use Rattle.reason_report.proofs.Vocabulary.{known_of, write_in}
 use Rattle.reason_report.proofs.Growing.{one-more}
 use Rattle.reason_report.proofs.closing.writes_in.Goals as goal
 

@@ -1,6 +1,4 @@
-use Rattle.std.proofs.Common.{◌≡◌, ◌++◌, drop, map}
-use Rattle.refutations.specs.inner.Trees.{known_of}
-use Rattle.reason_report.specs.Steps.{write_in}
+use Rattle.reason_report.proofs.Vocabulary.{◌≡◌, ◌++◌, drop, map, known_of, write_in}
 use Rattle.reason_report.proofs.closing.writes_in.Given as goal
 
 abbrev pub invariant-loop-reply : goal.invariant-loop-reply

@@ -1,6 +1,4 @@
-use Rattle.std.proofs.Common.{◌∙◌, ◌-◌, ap, refl, arith}
-use Rattle.refutations.specs.inner.Trees.{known_of}
-use Rattle.reason_report.specs.inner.Parts.{branch_in}
+use Rattle.reason_report.proofs.Vocabulary.{◌∙◌, ◌-◌, ap, refl, arith, known_of, branch_in}
 use Rattle.reason_report.proofs.Cutting.{below-get}
 use Rattle.reason_report.proofs.Laying.{started-some, started-none, tasks-more}
 use Rattle.reason_report.proofs.layout.add_tasks.Goals as goal

@@ -1,7 +1,4 @@
-use Rattle.std.proofs.Common.{◌≡◌, ◌++◌, drop, map}
-use Rattle.refutations.specs.inner.Trees.{known_of}
-use Rattle.reason_report.specs.inner.Parts.{branch_in}
-use Rattle.reason_report.specs.inner.Tasks.{tasks_of, branch_tasks}
+use Rattle.reason_report.proofs.Vocabulary.{◌≡◌, ◌++◌, drop, map, known_of, branch_in, tasks_of, branch_tasks}
 use Rattle.reason_report.proofs.layout.add_tasks.Given as goal
 
 abbrev pub invariant-loop-i : goal.invariant-loop-i

@@ -1,7 +1,4 @@
-use Rattle.std.proofs.Common.{◌≡◌, ◌++◌, [], map, vec_len}
-use Rattle.tso_model.specs.Litmus.{Litmus}
-use Rattle.reason_report.specs.Views.{step_of}
-use Rattle.reason_report.specs.inner.Tasks.{tasks_of, emit}
+use Rattle.reason_report.proofs.Vocabulary.{◌≡◌, ◌++◌, [], map, vec_len, Litmus, step_of, tasks_of, emit}
 use Rattle.reason_report.proofs.layout.end_all.Given as goal
 
 abbrev pub invariant-loop-task : goal.invariant-loop-task

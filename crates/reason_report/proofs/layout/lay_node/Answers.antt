@@ -1,11 +1,5 @@
-use Rattle.std.proofs.Common.{◌∙◌, ◌+◌, ap, sym, refl, arith, map}
-use Rattle.std.proofs.lemmas.Result.{on_ok_weaker}
-use Rattle.refutation_laws.specs.Refutations.{asked}
-use Rattle.refutations.specs.inner.Trees.{known_of}
+use Rattle.reason_report.proofs.Vocabulary.{◌∙◌, ◌+◌, ap, sym, refl, arith, map, on_ok_weaker, asked, known_of, step_of, parts_of, root_at, tasks_of}
 use Rattle.reason_report.specs.Steps as spec
-use Rattle.reason_report.specs.Views.{step_of}
-use Rattle.reason_report.specs.inner.Parts.{parts_of, root_at}
-use Rattle.reason_report.specs.inner.Tasks.{tasks_of}
 use Rattle.reason_report.proofs.Cutting.{cut-part}
 use Rattle.reason_report.proofs.Laying.{leaf-laid, within-more}
 use Rattle.reason_report.proofs.layout.lay_node.Goals as goal

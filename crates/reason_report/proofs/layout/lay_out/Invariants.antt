@@ -1,10 +1,5 @@
-use Rattle.std.proofs.Common.{◌≡◌, ◌++◌, map}
-use Rattle.refutation_laws.specs.Refutations.{asked}
-use Rattle.refutations.specs.Trees.{node_of}
+use Rattle.reason_report.proofs.Vocabulary.{◌≡◌, ◌++◌, map, asked, node_of, step_of, parts_of, AreWithin, tasks_of, emit}
 use Rattle.reason_report.specs.Steps as spec
-use Rattle.reason_report.specs.Views.{step_of}
-use Rattle.reason_report.specs.inner.Parts.{parts_of}
-use Rattle.reason_report.specs.inner.Tasks.{AreWithin, tasks_of, emit}
 use Rattle.reason_report.proofs.layout.lay_out.Given as goal
 
 abbrev pub invariant-loop-at : goal.invariant-loop-at

@@ -1,12 +1,5 @@
-use Rattle.std.proofs.Common.{◌∙◌, ◌+◌, ◌∷◌, ◌++◌, Some, ap, sym, refl, subst, arith, map, length}
-use Rattle.std.proofs.lemmas.Result.{on_ok_weaker}
-use Rattle.refutation_laws.specs.Known.{nothing}
-use Rattle.refutation_laws.specs.Refutations.{asked}
-use Rattle.refutations.specs.inner.Trees.{known_of}
+use Rattle.reason_report.proofs.Vocabulary.{◌∙◌, ◌+◌, ◌∷◌, ◌++◌, Some, ap, sym, refl, subst, arith, map, length, on_ok_weaker, nothing, asked, known_of, step_of, parts_of, root_at, AreWithin, Case, So, tasks_of, with_wanted, emit}
 use Rattle.reason_report.specs.Steps as spec
-use Rattle.reason_report.specs.Views.{step_of}
-use Rattle.reason_report.specs.inner.Parts.{parts_of, root_at}
-use Rattle.reason_report.specs.inner.Tasks.{AreWithin, Case, So, tasks_of, with_wanted, emit}
 use Rattle.reason_report.proofs.Cutting.{cut-part}
 use Rattle.reason_report.proofs.Laying.{part-passed, within-passed, within-more, wanted-within, case-laid, so-laid}
 use Rattle.reason_report.proofs.layout.lay_part.Goals as goal

@@ -1,14 +1,5 @@
-use Rattle.std.proofs.Common.{◌∙◌, ◌+◌, ◌++◌, ◌==◌, [], ap, sym, subst, refl, arith, map, length, not}
-use Rattle.std.specs.Prelude.{filter}
-use Rattle.std.specs.List.{flat_map}
-use Rattle.std.proofs.lemmas.Result.{on_ok_weaker}
-use Rattle.refutation_laws.specs.Refutations.{asked}
-use Rattle.refutations.specs.inner.Trees.{known_of}
+use Rattle.reason_report.proofs.Vocabulary.{◌∙◌, ◌+◌, ◌++◌, ◌==◌, [], ap, sym, subst, refl, arith, map, length, not, filter, flat_map, on_ok_weaker, asked, known_of, step_of, parts_of, root_at, branch_in, closed_branch, AreWithin, tasks_of, branch_tasks}
 use Rattle.reason_report.specs.Steps as spec
-use Rattle.reason_report.specs.Views.{step_of}
-use Rattle.reason_report.specs.inner.Parts.{parts_of, root_at, branch_in}
-use Rattle.reason_report.specs.inner.Closed.{closed_branch}
-use Rattle.reason_report.specs.inner.Tasks.{AreWithin, tasks_of, branch_tasks}
 use Rattle.reason_report.proofs.Cutting.{cut-part}
 use Rattle.reason_report.proofs.Laying.{question-laid, within-branches, within-more}
 use Rattle.reason_report.proofs.layout.lay_question.Goals as goal

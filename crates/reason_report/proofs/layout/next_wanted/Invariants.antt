@@ -1,8 +1,4 @@
-use Rattle.std.proofs.Common.{ℕ, ◌≡◌, ◌++◌, List, map, vec_len}
-use Rattle.tso_model.specs.Litmus.{Litmus}
-use Rattle.reason_report.specs.Steps.{Part}
-use Rattle.reason_report.specs.Views.{step_of}
-use Rattle.reason_report.specs.inner.Tasks.{AreWithin, tasks_of, emit}
+use Rattle.reason_report.proofs.Vocabulary.{ℕ, ◌≡◌, ◌++◌, List, map, vec_len, Litmus, Part, step_of, AreWithin, tasks_of, emit}
 use Rattle.reason_report.proofs.layout.next_wanted.Given as goal
 
 abbrev pub invariant-loop-task : goal.invariant-loop-task

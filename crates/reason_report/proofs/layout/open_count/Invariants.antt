@@ -1,8 +1,4 @@
-use Rattle.std.proofs.Common.{◌≡◌, ◌≤◌, ◌+◌, drop, map, length, not}
-use Rattle.std.specs.Prelude.{filter}
-use Rattle.refutation_laws.specs.Known.{Known}
-use Rattle.reason_report.specs.Steps.{is_closed}
-use Rattle.reason_report.specs.inner.Parts.{branch_in}
+use Rattle.reason_report.proofs.Vocabulary.{◌≡◌, ◌≤◌, ◌+◌, drop, map, length, not, filter, Known, is_closed, branch_in}
 use Rattle.reason_report.proofs.layout.open_count.Given as goal
 
 abbrev pub invariant-loop-branch : goal.invariant-loop-branch

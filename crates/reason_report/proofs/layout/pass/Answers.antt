@@ -1,4 +1,4 @@
-use Rattle.std.proofs.Common.{◌+◌, refl}
+use Rattle.reason_report.proofs.Vocabulary.{◌+◌, refl}
 use Rattle.reason_report.proofs.Laying.{pass-more}
 use Rattle.reason_report.proofs.layout.pass.Goals as goal
 

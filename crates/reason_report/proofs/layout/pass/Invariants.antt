@@ -1,6 +1,4 @@
-use Rattle.std.proofs.Common.{◌≡◌, ◌++◌}
-use Rattle.std.specs.Prelude.{replicate}
-use Rattle.reason_report.specs.inner.Tasks.{Passed, tasks_of}
+use Rattle.reason_report.proofs.Vocabulary.{◌≡◌, ◌++◌, replicate, Passed, tasks_of}
 use Rattle.reason_report.proofs.layout.pass.Given as goal
 
 abbrev pub invariant-loop-part : goal.invariant-loop-part

@@ -1,7 +1,4 @@
-use Rattle.std.proofs.Common.{◌∙◌, ap, sym, subst, length}
-use Rattle.std.specs.Prelude.{All}
-use Rattle.tso_report.specs.inner.Tally.{IsKnown}
-use Rattle.reason_report.specs.inner.Parts.{AreNext, parts_at}
+use Rattle.reason_report.proofs.Vocabulary.{◌∙◌, ap, sym, subst, length, All, IsKnown, AreNext, parts_at}
 use Rattle.reason_report.proofs.layout.steps_of.Goals as goal
 
 pub lay_out-requires : goal.lay_out-requires

@@ -1,5 +1,4 @@
-use Rattle.std.proofs.Common.{◌≡◌, ◌++◌, drop}
-use Rattle.refutations.specs.inner.Trees.{known_of, relations_of}
+use Rattle.reason_report.proofs.Vocabulary.{◌≡◌, ◌++◌, drop, known_of, relations_of}
 use Rattle.reason_report.specs.Steps as spec
 use Rattle.reason_report.proofs.leaves.edges_of.Given as goal
 

@@ -1,5 +1,4 @@
-use Rattle.std.proofs.Common.{◌∙◌, [], ap, length}
-use Rattle.std.specs.Prelude.{slice_index_or}
+use Rattle.reason_report.proofs.Vocabulary.{◌∙◌, [], ap, length, slice_index_or}
 use Rattle.reason_report.proofs.Threads.{reads-count}
 use Rattle.reason_report.proofs.made.add_core.Goals as goal
 

@@ -1,4 +1,4 @@
-use Rattle.std.proofs.Common.{◌≡◌, ◌++◌, drop}
+use Rattle.reason_report.proofs.Vocabulary.{◌≡◌, ◌++◌, drop}
 use Rattle.tso_model.specs.ProgramEntries as spec
 use Rattle.tso_model.specs.FinalState as final
 use Rattle.reason_report.proofs.made.make.Given as goal

@@ -1,4 +1,4 @@
-use Rattle.std.proofs.Common.{◌≡◌, ◌+◌, refl, sym, subst, arith}
+use Rattle.reason_report.proofs.Vocabulary.{◌≡◌, ◌+◌, refl, sym, subst, arith}
 use Rattle.reason_report.proofs.Moving.{At, moved, stayed}
 use Rattle.reason_report.proofs.parts.after_parts.Goals as goal
 use Rattle.reason_report.proofs.parts.after_parts.Goals.{then-after-next, else-after-next}

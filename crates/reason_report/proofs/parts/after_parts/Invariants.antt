@@ -1,6 +1,4 @@
-use Rattle.std.proofs.Common.{ℕ, ◌≡◌, ◌≤◌, List, length, drop}
-use Rattle.reason_report.specs.Steps.{Part}
-use Rattle.reason_report.specs.inner.Parts.{AreNext}
+use Rattle.reason_report.proofs.Vocabulary.{ℕ, ◌≡◌, ◌≤◌, List, length, drop, Part, AreNext}
 use Rattle.reason_report.proofs.parts.after_parts.Given as goal
 
 abbrev pub invariant-loop-part : goal.invariant-loop-part

@@ -1,7 +1,5 @@
-use Rattle.std.proofs.Common.{◌∙◌, ◌+◌, ◌++◌, ◌<◌, ap, sym, subst, refl, arith, map, drop, length}
-use Rattle.std.proofs.lemmas.List.{append-nil}
+use Rattle.reason_report.proofs.Vocabulary.{◌∙◌, ◌+◌, ◌++◌, ◌<◌, ap, sym, subst, refl, arith, map, drop, length, append-nil, AreBelow, parts_of, branch_in}
 use Rattle.reason_report.specs.Steps as spec
-use Rattle.reason_report.specs.inner.Parts.{AreBelow, parts_of, branch_in}
 use Rattle.reason_report.proofs.Cutting.{branch-added, no-more, below-push}
 use Rattle.reason_report.proofs.parts.branches.Goals as goal
 

@@ -1,7 +1,4 @@
-use Rattle.std.proofs.Common.{◌≡◌, ◌+◌, ◌++◌, drop, map, length}
-use Rattle.refutation_laws.specs.Known.{Known}
-use Rattle.reason_report.specs.Steps.{branches_with}
-use Rattle.reason_report.specs.inner.Parts.{AreBelow, parts_of, branch_in}
+use Rattle.reason_report.proofs.Vocabulary.{◌≡◌, ◌+◌, ◌++◌, drop, map, length, Known, branches_with, AreBelow, parts_of, branch_in}
 use Rattle.reason_report.proofs.parts.branches.Given as goal
 
 -- the branches so far, and those of the answers that are left

@@ -1,6 +1,5 @@
-use Rattle.std.proofs.Common.{◌∙◌, ◌+◌, ◌-◌, ◌≡◌, ◌≤◌, ◌<◌, ap, sym, refl, subst, arith, length, length-set}
+use Rattle.reason_report.proofs.Vocabulary.{◌∙◌, ◌+◌, ◌-◌, ◌≡◌, ◌≤◌, ◌<◌, ap, sym, refl, subst, arith, length, length-set, AreNext, parts_at}
 use Rattle.reason_report.specs.Steps as spec
-use Rattle.reason_report.specs.inner.Parts.{AreNext, parts_at}
 use Rattle.reason_report.proofs.Cutting.{next-extended}
 use Rattle.reason_report.proofs.parts.next_parts.Goals as goal
 

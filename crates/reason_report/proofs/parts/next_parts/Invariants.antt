@@ -1,6 +1,4 @@
-use Rattle.std.proofs.Common.{◌≡◌, length}
-use Rattle.refutation_laws.specs.declared.model.Model.{Model}
-use Rattle.reason_report.specs.inner.Parts.{AreNext, parts_at}
+use Rattle.reason_report.proofs.Vocabulary.{◌≡◌, length, Model, AreNext, parts_at}
 use Rattle.reason_report.proofs.parts.next_parts.Given as goal
 
 abbrev pub invariant-loop-at : goal.invariant-loop-at

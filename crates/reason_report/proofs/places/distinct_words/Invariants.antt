@@ -1,5 +1,4 @@
-use Rattle.std.proofs.Common.{◌≡◌, ◌++◌, drop}
-use Rattle.reason_report.specs.Places.{distinct, unseen, known_among}
+use Rattle.reason_report.proofs.Vocabulary.{◌≡◌, ◌++◌, drop, distinct, unseen, known_among}
 use Rattle.reason_report.proofs.places.distinct_words.Given as goal
 
 abbrev pub invariant-loop-word : goal.invariant-loop-word

@@ -1,7 +1,4 @@
-use Rattle.std.proofs.Common.{◌≡◌, ◌++◌, drop, map}
-use Rattle.refutation_laws.specs.Refutations.{asked}
-use Rattle.refutations.specs.inner.Trees.{known_of}
-use Rattle.reason_report.specs.Places.{suffices}
+use Rattle.reason_report.proofs.Vocabulary.{◌≡◌, ◌++◌, drop, map, asked, known_of, suffices}
 use Rattle.reason_report.proofs.places.named_among.Given as goal
 
 abbrev pub invariant-loop-place : goal.invariant-loop-place

@@ -1,5 +1,4 @@
-use Rattle.std.specs.Prelude.{filter}
-use Rattle.tso_model.specs.ProgramOrder.{writes_to}
+use Rattle.reason_report.proofs.Vocabulary.{filter, writes_to}
 use Rattle.reason_report.proofs.Shown.{last-of}
 use Rattle.reason_report.proofs.readings.last_write.Goals as goal
 

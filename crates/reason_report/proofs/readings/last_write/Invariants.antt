@@ -1,8 +1,4 @@
-use Rattle.std.proofs.Common.{◌≡◌, drop}
-use Rattle.std.specs.Prelude.{filter}
-use Rattle.tso_model.specs.ProgramOrder.{writes_to}
-use Rattle.relational_model.specs.CandidatesOfOrders.{last_in}
-use Rattle.reason_report.specs.inner.Shown.{last_or}
+use Rattle.reason_report.proofs.Vocabulary.{◌≡◌, drop, filter, writes_to, last_in, last_or}
 use Rattle.reason_report.proofs.readings.last_write.Given as goal
 
 abbrev pub invariant-loop-e : goal.invariant-loop-e

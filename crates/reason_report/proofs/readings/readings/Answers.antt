@@ -1,4 +1,4 @@
-use Rattle.std.proofs.Common.{◌∙◌, ◌+◌, ap, refl}
+use Rattle.reason_report.proofs.Vocabulary.{◌∙◌, ◌+◌, ap, refl}
 use Rattle.reason_report.proofs.Shown.{in-one, reading-more, reading-less, readings-done}
 use Rattle.reason_report.proofs.readings.readings.Goals as goal
 use Rattle.reason_report.proofs.readings.readings.Goals.{then-is_read+in_ok-push, else-is_read}

@@ -1,8 +1,4 @@
-use Rattle.std.proofs.Common.{◌++◌, List, drop}
-use Rattle.std.specs.Prelude.{filter}
-use Rattle.tso_model.specs.ProgramOrder.{is_read}
-use Rattle.reason_report.specs.declared.readings.Reading.{Reading}
-use Rattle.reason_report.specs.inner.Shown.{AreReadings}
+use Rattle.reason_report.proofs.Vocabulary.{◌++◌, List, drop, filter, is_read, Reading, AreReadings}
 use Rattle.reason_report.proofs.readings.readings.Given as goal
 
 -- with readings of what is left, those so far are the readings of all

@@ -1,7 +1,4 @@
-use Rattle.std.proofs.Common.{◌≡◌, ◌++◌, drop, map, Some}
-use Rattle.std.specs.Prelude.{filter}
-use Rattle.tso_model.specs.ProgramOrder.{writes_to}
-use Rattle.refutation_laws.specs.Refutations.{sources_of}
+use Rattle.reason_report.proofs.Vocabulary.{◌≡◌, ◌++◌, drop, map, Some, filter, writes_to, sources_of}
 use Rattle.reason_report.specs.declared.replies.Reply.TheVariants.{Reads}
 use Rattle.reason_report.proofs.replies.sources.Given as goal
 

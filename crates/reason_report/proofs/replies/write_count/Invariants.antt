@@ -1,6 +1,4 @@
-use Rattle.std.proofs.Common.{◌≡◌, ◌≤◌, ◌+◌, drop, length}
-use Rattle.std.specs.Prelude.{filter}
-use Rattle.tso_model.specs.ProgramOrder.{writes_to}
+use Rattle.reason_report.proofs.Vocabulary.{◌≡◌, ◌≤◌, ◌+◌, drop, length, filter, writes_to}
 use Rattle.reason_report.proofs.replies.write_count.Given as goal
 
 abbrev pub invariant-loop-w : goal.invariant-loop-w

@@ -1,9 +1,4 @@
-use Rattle.std.proofs.Common.{◌∙◌, ap, sym, subst, length, string_bytes}
-use Rattle.std.proofs.lemmas.Result.{IfOk-weaker}
-use Rattle.tso_model.specs.ProgramEntries.{made}
-use Rattle.refutation_laws.specs.Models.{IsExecutionOf}
-use Rattle.reason_report.specs.Printed.{allowed_in, ShowsExecution}
-use Rattle.reason_report.specs.inner.Shown.{AreIn}
+use Rattle.reason_report.proofs.Vocabulary.{◌∙◌, ap, sym, subst, length, string_bytes, IfOk-weaker, made, IsExecutionOf, allowed_in, ShowsExecution, AreIn}
 use Rattle.reason_report.proofs.Shown.{all-in, tso-of, registers-length, words-length, known-moved, shows}
 use Rattle.reason_report.proofs.report.allowed_report.Goals as goal
 

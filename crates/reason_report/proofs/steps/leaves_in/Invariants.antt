@@ -1,6 +1,5 @@
-use Rattle.std.proofs.Common.{◌≡◌, ◌≤◌, ◌+◌, drop, map}
+use Rattle.reason_report.proofs.Vocabulary.{◌≡◌, ◌≤◌, ◌+◌, drop, map, step_of}
 use Rattle.reason_report.specs.Steps as spec
-use Rattle.reason_report.specs.Views.{step_of}
 use Rattle.reason_report.proofs.steps.leaves_in.Given as goal
 
 abbrev pub invariant-loop-step : goal.invariant-loop-step

@@ -1,4 +1,4 @@
-use Rattle.std.proofs.Common.{refl}
+use Rattle.reason_report.proofs.Vocabulary.{refl}
 use Rattle.std.specs.Fmt.{digits}
 use Rattle.json.specs.Print.{escape_byte, print_from}
 use Rattle.tso_report.specs.Report.{all_registers}
