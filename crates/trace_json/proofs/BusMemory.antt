@@ -1,13 +1,8 @@
 -- Memory's own words, followed from step to step, are those of the bus's memory.
-use Rattle.std.proofs.Common.{arith, ◌≡◌, ◌∙◌, ◌<◌, ◌≤◌, ◌+◌, ◌/◌, ◌%◌, ◌||◌, ℕ, zero, suc, Bool, true, false, if◌then◌else◌, List, [], ◌∷◌, length, map, slice_index, Option, Some, None, inl, inr, refl, sym, ap, subst}
+use Rattle.trace_json.proofs.Vocabulary.{arith, ◌≡◌, ◌∙◌, ◌<◌, ◌≤◌, ◌+◌, ◌/◌, ◌%◌, ◌||◌, ℕ, zero, suc, Bool, true, false, if◌then◌else◌, List, [], ◌∷◌, length, map, slice_index, Option, Some, None, inl, inr, refl, sym, ap, subst, get_or_past, length-set, Choice, table_of, ProtocolKind, Caches, Running, new_machine, machine_after, line_state, lines_of, is_newer, is_newer_in, own_word, own_words_from, own_words}
 use Rattle.std.specs.List.{range_with_len}
-use Rattle.std.proofs.lemmas.List.{get_or_past}
-use Rattle.std.proofs.Math.ListN.{length-set}
 use Rattle.basic_laws.proofs.Basics.{lt-or}
-use Rattle.tso_model.specs.declared.choice.Choice.{Choice}
 use Rattle.protocol_tables.specs.Laws.{is_dirty}
-use Rattle.protocol_tables.specs.Tables.{table_of}
-use Rattle.protocol_tables.specs.declared.kind.ProtocolKind.{ProtocolKind}
 use Rattle.protocol_tables.specs.declared.requests.Transient.TheVariants.{IsD, ImD, SmD}
 use Rattle.protocol_tables.specs.declared.state.State.{State}
 use Rattle.snoop_bus.specs.Coherent.{state_of}
@@ -19,19 +14,15 @@ use Rattle.snoop_bus.specs.Bus.{BusModel, counted_copies, current_words, IsSameM
 use Rattle.snoop_bus.specs.inner.Accesses.{memory_words_of}
 use Rattle.snoop_bus.specs.declared.holding.HeldBus.{HeldBus}
 use Rattle.snoop_bus.specs.declared.holding.Transaction.{Transaction}
-use Rattle.machine_core.specs.Caches.{Caches}
-use Rattle.machine_core.specs.Running.{Running, new_machine, machine_after}
 use Rattle.bus_laws.specs.Owners.{IsOwner}
 use Rattle.bus_laws.specs.inner.Calls.{IsCalled}
 use Rattle.bus_laws.proofs.Victims.{AllNeat}
 use Rattle.bus_laws.proofs.Called.{called-stale}
 use Rattle.trace_report.specs.StepLaws.{after_choices}
-use Rattle.trace_report.specs.Steps.{line_state, lines_of}
 use Rattle.trace_report.specs.declared.step.LineState.{LineState}
 use Rattle.trace_report.specs.declared.step.LineState.TheVariants.{Stable, Transient}
 use Rattle.trace_report.proofs.VictimsTold.{IsKept, kept-first, kept-after, rows-kept, line-below}
 use Rattle.trace_report.proofs.WriteBacksTold.{protocols-keep}
-use Rattle.trace_json.specs.OwnWords.{is_newer, is_newer_in, own_word, own_words_from, own_words}
 use Rattle.trace_json.specs.inner.BusMemory.{ShowsAs, IsBusOf, ToldMemoryIsTheBuses}
 
 -- ---- along the choices

@@ -1,3 +1,4 @@
+pub mod Vocabulary
 pub mod NoFloats
 pub mod NoFloatsWhole
 pub mod Looking

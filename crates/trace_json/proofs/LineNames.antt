@@ -1,8 +1,5 @@
 -- How many locations a line has, and that a line past the last location has none.
-use Rattle.std.proofs.Common.{◌≡◌, ℕ, ◌+◌, ◌-◌, ◌*◌, ◌≤◌, List, [], length, take, min, ap, sym, arith}
-use Rattle.std.proofs.lemmas.List.{drop_all, length-drop, length-take}
-use Rattle.tso_model.specs.Litmus.{Litmus}
-use Rattle.trace_report.specs.Lines.{names_in_line, joined, line_name}
+use Rattle.trace_json.proofs.Vocabulary.{◌≡◌, ℕ, ◌+◌, ◌-◌, ◌*◌, ◌≤◌, List, [], length, take, min, ap, sym, arith, drop_all, length-drop, length-take, Litmus, names_in_line, joined, line_name}
 
 -- a line past the last location has no name
 pub unnamed : (t : Litmus) (words line : ℕ) → length t.locations ≤ line * words → [] ≡ line_name t words line

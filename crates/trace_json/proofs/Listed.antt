@@ -1,20 +1,6 @@
 -- Values in a list, made one after the other.
-use Rattle.std.proofs.Common.{◌≡◌, ◌∙◌, ℕ, suc, ◌+◌, ◌-◌, ◌<◌, List, [], ◌∷◌, ◌++◌, map, sym, ap, append_assoc, append-nil, arith, rules, String, Global, Vec, string_bytes}
-use Rattle.std.proofs.lemmas.List.{map-append}
-use Rattle.serde_json.specs.Data.{Data, array, string}
-use Rattle.serde_json.specs.View.{view, items_of}
-use Rattle.serde_json.specs.declared.value.Value.{Value, the_lemmas}
+use Rattle.trace_json.proofs.Vocabulary.{◌≡◌, ◌∙◌, ℕ, suc, ◌+◌, ◌-◌, ◌<◌, List, [], ◌∷◌, ◌++◌, map, sym, ap, append_assoc, append-nil, arith, rules, String, Global, Vec, string_bytes, map-append, Data, array, string, view, items_of, Value, the_lemmas, Litmus, core_of, Entry, Configuration, Running, registers_value, store_text, texts, set_json, sets_json, core_with, core_json, cores_json, IsShown}
 use Rattle.serde_json.specs.declared.value.Value.TheVariants.{String as Text, Array}
-use Rattle.tso_model.specs.Litmus.{Litmus}
-use Rattle.tso_model.specs.FlatMachine.{core_of}
-use Rattle.tso_model.specs.declared.execution.Entry.{Entry}
-use Rattle.machine_core.specs.Configuration.{Configuration}
-use Rattle.machine_core.specs.Running.{Running}
-use Rattle.tso_report.specs.Json.{registers_value}
-use Rattle.trace_report.specs.Lines.{store_text}
-use Rattle.trace_json.specs.Values.{texts}
-use Rattle.trace_json.specs.MachineJson.{set_json, sets_json, core_with, core_json, cores_json}
-use Rattle.trace_json.specs.inner.Looked.{IsShown}
 
 -- a text as a value
 pub view-text : (t : String Global) → view (Text t) ≡ string (string_bytes t)

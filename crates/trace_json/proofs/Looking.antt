@@ -1,12 +1,6 @@
 -- What is looked up on a machine, one after the other.
-use Rattle.std.proofs.Common.{◌≡◌, ◌∙◌, ℕ, zero, suc, ◌+◌, ◌-◌, ◌<◌, List, [], ◌∷◌, ◌++◌, length, map, take, Some, None, option_map, slice_get, slice_index_or, refl, sym, ap, arith, length-append}
-use Rattle.std.specs.Option.{unwrap_or}
-use Rattle.tso_model.specs.FlatMachine.{CoreState, idle, core_of}
-use Rattle.snoop_bus.specs.declared.looking.CachedLine.{CachedLine}
-use Rattle.machine_core.specs.Running.{Running}
+use Rattle.trace_json.proofs.Vocabulary.{◌≡◌, ◌∙◌, ℕ, zero, suc, ◌+◌, ◌-◌, ◌<◌, List, [], ◌∷◌, ◌++◌, length, map, take, Some, None, option_map, slice_get, slice_index_or, refl, sym, ap, arith, length-append, unwrap_or, CoreState, idle, core_of, CachedLine, Running, registers_value, copies_in}
 use Rattle.machine_core.specs.inner.Looking.{core_at, cached_line}
-use Rattle.tso_report.specs.Json.{registers_value}
-use Rattle.trace_json.specs.MachineJson.{copies_in}
 
 -- ---- a list read one after the other
 read-on : {A : Type 0} (n : ℕ) (xs done : List A) (x : A) → n ≡ length done → Some x ≡ slice_get xs n → done ≡ take n xs → done ++ x ∷ [] ≡ take (n + 1) xs

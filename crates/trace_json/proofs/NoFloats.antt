@@ -1,38 +1,7 @@
 -- The values of a trace have no float, so that their text is known.
-use Rattle.std.proofs.Common.{◌≡◌, ℕ, zero, suc, ◌+◌, Bool, true, false, ◌||◌, if◌then◌else◌, List, [], ◌∷◌, map, take, length, ◌/◌, Option, Some, None, refl}
+use Rattle.trace_json.proofs.Vocabulary.{◌≡◌, ℕ, zero, suc, ◌+◌, Bool, true, false, ◌||◌, if◌then◌else◌, List, [], ◌∷◌, map, take, length, ◌/◌, Option, Some, None, refl, nat_cmp, match_ordering, slice_cmp, Ordering, Less, Equal, Greater, or_parts, Data, string, Members, no_members, member, put, items_of, has_float, items_have_float, members_have_float, Litmus, core_of, has_ended, Entry, Choice, printed_entry, table_of, ProtocolKind, CachedLine, Configuration, Running, new_machine, machine_after, bus_holder_of, count, memory_members, memory_value, order_value, Shown, counts, text_or_null, texts, own_words, access_name, stall_name, line_name, names_in_line, store_text, printed_core, printed_move, printed_change, printed_request, transient_name, words_in, words_in_line, kept_words, copy_json, copies_in, set_json, sets_json, core_json, cores_json, holder_json, bus_json, machine_json, stall_in, step_json, source_text, Sourced, sourced_by, last_or, last_step_json, step_to, steps_json, start_json, trace_json, Source}
 use Rattle.std.specs.Option.{option_map}
-use Rattle.std.specs.Ordering.{nat_cmp, match_ordering}
-use Rattle.std.specs.Cmp.Lexicographic.{slice_cmp}
-use Rattle.std.specs.declared.cmp.Ordering.{Ordering}
-use Rattle.std.specs.declared.cmp.Ordering.TheVariants.{Less, Equal, Greater}
-use Rattle.std.proofs.lemmas.Bool.{or_parts}
-use Rattle.serde_json.specs.Data.{Data, string, Members, no_members, member, put}
-use Rattle.serde_json.specs.View.{items_of}
-use Rattle.serde_json.specs.Written.{has_float, items_have_float, members_have_float}
-use Rattle.tso_model.specs.Litmus.{Litmus}
-use Rattle.tso_model.specs.FlatMachine.{core_of}
-use Rattle.tso_model.specs.Runs.{has_ended}
-use Rattle.tso_model.specs.declared.execution.Entry.{Entry}
-use Rattle.tso_model.specs.declared.choice.Choice.{Choice}
-use Rattle.order_builder.specs.PrintedOrder.{printed_entry}
-use Rattle.protocol_tables.specs.Tables.{table_of}
-use Rattle.protocol_tables.specs.declared.kind.ProtocolKind.{ProtocolKind}
-use Rattle.snoop_bus.specs.declared.looking.CachedLine.{CachedLine}
-use Rattle.machine_core.specs.Configuration.{Configuration}
-use Rattle.machine_core.specs.Running.{Running, new_machine, machine_after}
-use Rattle.machine_core.specs.Looking.{bus_holder_of}
 use Rattle.machine_core.specs.declared.looking.BusHolder.{BusHolder}
-use Rattle.tso_report.specs.Json.{count, memory_members, memory_value, order_value}
-use Rattle.trace_report.specs.Shown.{Shown}
-use Rattle.trace_json.specs.Values.{counts, text_or_null, texts}
-use Rattle.trace_json.specs.OwnWords.{own_words}
-use Rattle.trace_report.specs.Lines.{access_name, stall_name, line_name, names_in_line, store_text}
-use Rattle.trace_report.specs.Lines.{printed_core, printed_move, printed_change, printed_request, transient_name}
-use Rattle.trace_json.specs.MachineJson.{words_in, words_in_line, kept_words, copy_json, copies_in, set_json, sets_json, core_json, cores_json, holder_json, bus_json, machine_json}
-use Rattle.trace_json.specs.StepJson.{stall_in, step_json}
-use Rattle.trace_json.specs.Supplied.{source_text}
-use Rattle.trace_json.specs.TraceJson.{Sourced, sourced_by, last_or, last_step_json, step_to, steps_json, start_json, trace_json}
-use Rattle.trace_json.specs.declared.supplied.Source.{Source}
 
 neither : (p q : Bool) → p ≡ false → q ≡ false → p || q ≡ false
 neither true q h k = h

@@ -1,29 +1,11 @@
 -- What a trace adds to the members of a run has no float, so that the text of the whole is known.
-use Rattle.std.proofs.Common.{◌≡◌, ℕ, Bool, true, false, ◌||◌, List, [], ◌∷◌, map, Option, Some, None, refl}
-use Rattle.std.specs.Ordering.{nat_cmp, match_ordering}
-use Rattle.std.specs.Cmp.Lexicographic.{slice_cmp}
+use Rattle.trace_json.proofs.Vocabulary.{◌≡◌, ℕ, Bool, true, false, ◌||◌, List, [], ◌∷◌, map, Option, Some, None, refl, nat_cmp, match_ordering, slice_cmp, Ordering, Less, Equal, Greater, or_parts, Data, string, Members, no_members, member, put, items_of, has_float, items_have_float, members_have_float, Litmus, Condition, Choice, ProtocolKind, Configuration, run_members, unfinished_members, text_or_null, instruction_text, program_value, programs_value, trace_json, with_trace, ended_value, unended_value}
 use Rattle.std.specs.Prelude.{codes}
-use Rattle.std.specs.declared.cmp.Ordering.{Ordering}
-use Rattle.std.specs.declared.cmp.Ordering.TheVariants.{Less, Equal, Greater}
-use Rattle.std.proofs.lemmas.Bool.{or_parts}
-use Rattle.serde_json.specs.Data.{Data, string, Members, no_members, member, put}
-use Rattle.serde_json.specs.View.{items_of}
-use Rattle.serde_json.specs.Written.{has_float, items_have_float, members_have_float}
-use Rattle.tso_model.specs.Litmus.{Litmus}
-use Rattle.tso_model.specs.Condition.{Condition}
-use Rattle.tso_model.specs.declared.choice.Choice.{Choice}
 use Rattle.tso_model.specs.declared.instruction.Instr.{Instr}
-use Rattle.protocol_tables.specs.declared.kind.ProtocolKind.{ProtocolKind}
-use Rattle.machine_core.specs.Configuration.{Configuration}
 use Rattle.tso_report.specs.Shown.{Shown}
-use Rattle.tso_report.specs.Json.{run_members, unfinished_members}
 use Rattle.tso_report.proofs.NoFloats.{run_has_no_float}
 use Rattle.std.specs.Option.{option_map}
-use Rattle.trace_json.specs.Values.{text_or_null}
-use Rattle.trace_json.specs.Programs.{instruction_text, program_value, programs_value}
 use Rattle.trace_json.specs.Proposition.{proposition_text, proposition_value}
-use Rattle.trace_json.specs.TraceJson.{trace_json}
-use Rattle.trace_json.specs.TracedRun.{with_trace, ended_value, unended_value}
 use Rattle.trace_json.proofs.NoFloats.{trace_has_no_float}
 
 neither : (p q : Bool) → p ≡ false → q ≡ false → p || q ≡ false

@@ -1,11 +1,5 @@
 -- Memory's own words, one location after the other.
-use Rattle.std.proofs.Common.{◌≡◌, ◌∙◌, ℕ, ◌+◌, ◌<◌, ◌≤◌, ◌/◌, Bool, if◌then◌else◌, List, [], ◌∷◌, ◌++◌, length, drop, get_or, slice_get, sym, ap, append_assoc, append-nil}
-use Rattle.std.proofs.Math.ListN.{drop_of_length-le}
-use Rattle.std.proofs.lemmas.List.{drop_more}
-use Rattle.std.proofs.lemmas.Option.{unwrap_or-slice_get}
-use Rattle.std.specs.Option.{unwrap_or}
-use Rattle.machine_core.specs.Running.{Running}
-use Rattle.trace_json.specs.OwnWords.{is_newer_in, own_word, own_words_from}
+use Rattle.trace_json.proofs.Vocabulary.{◌≡◌, ◌∙◌, ℕ, ◌+◌, ◌<◌, ◌≤◌, ◌/◌, Bool, if◌then◌else◌, List, [], ◌∷◌, ◌++◌, length, drop, get_or, slice_get, sym, ap, append_assoc, append-nil, drop_of_length-le, drop_more, unwrap_or-slice_get, unwrap_or, Running, is_newer_in, own_word, own_words_from}
 
 -- one more
 pub one-word : (m : Running) (words cores loc : ℕ) (newer : Bool) (before own after whole : List ℕ) (s v : ℕ)

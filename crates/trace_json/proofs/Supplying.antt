@@ -1,12 +1,9 @@
 -- Where a word is found: the first core that supplies it, and memory where none does.
-use Rattle.std.proofs.Common.{arith, rules, ◌≡◌, ◌≢◌, ◌∙◌, ℕ, zero, suc, ◌+◌, ◌-◌, ◌<◌, ◌/◌, ◌||◌, Bool, true, false, if◌then◌else◌, List, [], ◌∷◌, length, Option, Some, None, refl, sym, ap, subst}
+use Rattle.trace_json.proofs.Vocabulary.{arith, rules, ◌≡◌, ◌≢◌, ◌∙◌, ℕ, zero, suc, ◌+◌, ◌-◌, ◌<◌, ◌/◌, ◌||◌, Bool, true, false, if◌then◌else◌, List, [], ◌∷◌, length, Option, Some, None, refl, sym, ap, subst, Choice, table_of, ProtocolKind, bus_holder, bus_holder_as, bus_holder_of, at_access, Running, awaited_at, line_state, state_with, is_newer, is_newer_in, own_word, own_words_from, supplies, supplier_from, supplier_or_memory, copy_on, SourcesAreTold, Source}
 use Rattle.std.specs.Prelude.{is_some, slice_index_or}
 use Rattle.tso_model.specs.MemoryAccess.{MemoryAccess, NoAccess, Reads, Writes, Locks, access_of}
 use Rattle.tso_model.specs.SplitMachine.{Holder, Free, HeldBy, HeldBetween}
 use Rattle.tso_model.specs.declared.instruction.Core.{Core}
-use Rattle.tso_model.specs.declared.choice.Choice.{Choice}
-use Rattle.protocol_tables.specs.Tables.{table_of}
-use Rattle.protocol_tables.specs.declared.kind.ProtocolKind.{ProtocolKind}
 use Rattle.protocol_tables.specs.declared.kind.ProtocolKind.TheVariants.{Msi, Mesi, Moesi, Mosi}
 use Rattle.protocol_tables.specs.declared.requests.Request.{Request}
 use Rattle.protocol_tables.specs.declared.requests.Request.TheVariants.{GetS, GetM}
@@ -15,14 +12,6 @@ use Rattle.protocol_tables.specs.declared.state.State as protocol
 use Rattle.protocol_tables.specs.declared.state.State.TheVariants.{I, S, E, O, M}
 use Rattle.snoop_bus.specs.Asks.{Awaited}
 use Rattle.snoop_bus.specs.Requests.{asked}
-use Rattle.machine_core.specs.Looking.{bus_holder, bus_holder_as, bus_holder_of}
-use Rattle.machine_core.specs.Caches.{at_access}
-use Rattle.machine_core.specs.Running.{Running}
-use Rattle.trace_report.specs.Steps.{awaited_at, line_state, state_with}
-use Rattle.trace_json.specs.OwnWords.{is_newer, is_newer_in, own_word, own_words_from}
-use Rattle.trace_json.specs.Supplied.{supplies, supplier_from, supplier_or_memory}
-use Rattle.trace_json.specs.SupplyLaws.{copy_on, SourcesAreTold}
-use Rattle.trace_json.specs.declared.supplied.Source.{Source}
 use Rattle.trace_json.specs.declared.supplied.Source.TheVariants.{Cache, Other, Bus, Memory}
 
 -- ---- one core after the other

@@ -1,34 +1,9 @@
 -- The steps of a run, one after the other.
-use Rattle.std.proofs.Common.{◌≡◌, ◌∙◌, ℕ, ◌<◌, ◌&&◌, not, Bool, true, false, if◌then◌else◌, List, [], ◌∷◌, ◌++◌, length, map, drop, refl, sym, ap, append_assoc, append-nil, Option, Some, slice_set, subst, ◌≤◌}
-use Rattle.std.proofs.Math.ListN.{drop_of_length-le}
-use Rattle.std.proofs.lemmas.List.{length-set, map-append}
-use Rattle.serde_json.specs.Data.{Data}
-use Rattle.serde_json.specs.View.{view}
-use Rattle.serde_json.specs.declared.value.Value.{Value}
-use Rattle.tso_model.specs.Litmus.{Litmus}
+use Rattle.trace_json.proofs.Vocabulary.{◌≡◌, ◌∙◌, ℕ, ◌<◌, ◌&&◌, not, Bool, true, false, if◌then◌else◌, List, [], ◌∷◌, ◌++◌, length, map, drop, refl, sym, ap, append_assoc, append-nil, Option, Some, slice_set, subst, ◌≤◌, drop_of_length-le, map-append, Data, view, Value, Litmus, memory_after, chosen, has_ended, CoresExist, Entry, Choice, Table, IsLineSize, Configuration, Running, new_machine, effect_by, machine_after, IsTraced, IsLookedAt, some-word, Shown, step_of, own_words, words_in, machine_json, step_json, found_by, supplied_to, Sourced, sourced_by, last_or, step_to, steps_json, Source, IsShown, told_last}
+use Rattle.std.proofs.lemmas.List.{length-set}
 use Rattle.tso_model.specs.ProgramOrder.{is_write}
-use Rattle.tso_model.specs.FlatMachine.{memory_after, chosen}
-use Rattle.tso_model.specs.Runs.{has_ended, CoresExist}
-use Rattle.tso_model.specs.declared.execution.Entry.{Entry}
-use Rattle.tso_model.specs.declared.choice.Choice.{Choice}
-use Rattle.protocol_tables.specs.Tables.{Table}
-use Rattle.snoop_bus.specs.Geometry.{IsLineSize}
-use Rattle.machine_core.specs.Configuration.{Configuration}
-use Rattle.machine_core.specs.Running.{Running, new_machine, effect_by, machine_after}
 use Rattle.machine_core.specs.inner.Running.{is_ended}
-use Rattle.trace_report.specs.Told.{IsTraced}
-use Rattle.trace_report.specs.inner.Told.{IsLookedAt}
-use Rattle.trace_report.proofs.Whole.{some-word}
 use Rattle.trace_report.proofs.Traced.{traced-first}
-use Rattle.trace_report.specs.Shown.{Shown}
-use Rattle.trace_report.specs.Steps.{step_of}
-use Rattle.trace_json.specs.OwnWords.{own_words}
-use Rattle.trace_json.specs.MachineJson.{words_in, machine_json}
-use Rattle.trace_json.specs.StepJson.{step_json}
-use Rattle.trace_json.specs.Supplied.{found_by, supplied_to}
-use Rattle.trace_json.specs.TraceJson.{Sourced, sourced_by, last_or, step_to, steps_json}
-use Rattle.trace_json.specs.declared.supplied.Source.{Source}
-use Rattle.trace_json.specs.inner.Looked.{IsShown, told_last}
 
 -- whether the test has ended on a machine that was never refused memory
 end-of : (m : Running) (b : Bool) → m.failed ≡ false → b ≡ is_ended m → has_ended m.test m.state.flat ≡ b

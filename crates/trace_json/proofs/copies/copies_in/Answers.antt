@@ -1,5 +1,4 @@
-use Rattle.std.proofs.Common.{◌∙◌, length, take, sym, ap}
-use Rattle.trace_json.specs.MachineJson.{copies_in}
+use Rattle.trace_json.proofs.Vocabulary.{◌∙◌, length, take, sym, ap, copies_in}
 use Rattle.trace_json.proofs.Looking.{next-copy, all-copies, one-copy-fewer}
 use Rattle.trace_json.proofs.copies.copies_in.Goals as goal
 

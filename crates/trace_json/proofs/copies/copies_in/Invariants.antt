@@ -1,5 +1,4 @@
-use Rattle.std.proofs.Common.{◌≡◌, ◌-◌, length, take}
-use Rattle.trace_json.specs.MachineJson.{copies_in}
+use Rattle.trace_json.proofs.Vocabulary.{◌≡◌, ◌-◌, length, take, copies_in}
 use Rattle.trace_json.proofs.copies.copies_in.Given as goal
 
 abbrev pub invariant-loop-copy : goal.invariant-loop-copy

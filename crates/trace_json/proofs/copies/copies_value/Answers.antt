@@ -1,6 +1,4 @@
-use Rattle.std.proofs.Common.{◌+◌, map, drop, ap}
-use Rattle.std.proofs.lemmas.List.{drop_more, drop_all}
-use Rattle.trace_json.specs.MachineJson.{copy_json}
+use Rattle.trace_json.proofs.Vocabulary.{◌+◌, map, drop, ap, drop_more, drop_all, copy_json}
 use Rattle.trace_json.proofs.Listed.{listed, all-listed}
 use Rattle.trace_json.proofs.copies.copies_value.Goals as goal
 

@@ -1,6 +1,4 @@
-use Rattle.std.proofs.Common.{◌≡◌, ◌++◌, drop, map}
-use Rattle.serde_json.specs.View.{view}
-use Rattle.trace_json.specs.MachineJson.{copy_json}
+use Rattle.trace_json.proofs.Vocabulary.{◌≡◌, ◌++◌, drop, map, view, copy_json}
 use Rattle.trace_json.proofs.copies.copies_value.Given as goal
 
 abbrev pub invariant-loop-copy : goal.invariant-loop-copy

@@ -1,4 +1,4 @@
-use Rattle.trace_json.specs.MachineJson.{sets_json}
+use Rattle.trace_json.proofs.Vocabulary.{sets_json}
 use Rattle.trace_json.proofs.Listed.{one-set}
 use Rattle.trace_json.proofs.copies.sets_value.Goals as goal
 

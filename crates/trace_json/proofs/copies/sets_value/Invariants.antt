@@ -1,6 +1,4 @@
-use Rattle.std.proofs.Common.{◌≡◌, ◌++◌, ◌-◌, map}
-use Rattle.serde_json.specs.View.{view}
-use Rattle.trace_json.specs.MachineJson.{sets_json}
+use Rattle.trace_json.proofs.Vocabulary.{◌≡◌, ◌++◌, ◌-◌, map, view, sets_json}
 use Rattle.trace_json.proofs.copies.sets_value.Given as goal
 
 abbrev pub invariant-loop-set : goal.invariant-loop-set

@@ -1,7 +1,4 @@
-use Rattle.std.proofs.Common.{◌≡◌, ◌++◌, drop, map}
-use Rattle.serde_json.specs.Data.{string}
-use Rattle.serde_json.specs.View.{view}
-use Rattle.trace_report.specs.Lines.{store_text}
+use Rattle.trace_json.proofs.Vocabulary.{◌≡◌, ◌++◌, drop, map, string, view, store_text}
 use Rattle.trace_json.proofs.cores.buffer_value.Given as goal
 
 abbrev pub invariant-loop-store : goal.invariant-loop-store

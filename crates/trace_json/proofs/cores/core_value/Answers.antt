@@ -1,10 +1,5 @@
-use Rattle.std.proofs.Common.{◌∙◌, [], ◌∷◌, ap, map}
-use Rattle.std.specs.Option.{unwrap_or}
-use Rattle.serde_json.specs.View.{view}
-use Rattle.tso_report.specs.Json.{registers_value}
-use Rattle.trace_report.specs.Lines.{store_text}
+use Rattle.trace_json.proofs.Vocabulary.{◌∙◌, [], ◌∷◌, ap, map, unwrap_or, view, registers_value, store_text, texts}
 use Rattle.trace_report.proofs.Looking.{place-of}
-use Rattle.trace_json.specs.Values.{texts}
 use Rattle.trace_json.proofs.Looking.{registers-of}
 use Rattle.trace_json.proofs.Listed.{core-made}
 use Rattle.trace_json.proofs.cores.core_value.Goals as goal

@@ -1,5 +1,4 @@
-use Rattle.std.proofs.Common.{◌<◌, length, arith}
-use Rattle.trace_json.specs.MachineJson.{cores_json}
+use Rattle.trace_json.proofs.Vocabulary.{◌<◌, length, arith, cores_json}
 use Rattle.trace_json.proofs.Listed.{one-core}
 use Rattle.trace_json.proofs.cores.cores_value.Goals as goal
 

@@ -1,6 +1,4 @@
-use Rattle.std.proofs.Common.{◌≡◌, ◌++◌, ◌-◌, length, map}
-use Rattle.serde_json.specs.View.{view}
-use Rattle.trace_json.specs.MachineJson.{cores_json}
+use Rattle.trace_json.proofs.Vocabulary.{◌≡◌, ◌++◌, ◌-◌, length, map, view, cores_json}
 use Rattle.trace_json.proofs.cores.cores_value.Given as goal
 
 abbrev pub invariant-loop-core : goal.invariant-loop-core

@@ -1,7 +1,4 @@
-use Rattle.std.proofs.Common.{◌∙◌, ◌<◌, ◌≤◌, ◌∷◌, ◌++◌, [], length, take, ap, sym, arith}
-use Rattle.std.proofs.lemmas.List.{take_more, take_all}
-use Rattle.std.proofs.lemmas.Option.{unwrap_or-slice_get}
-use Rattle.std.specs.Option.{unwrap_or}
+use Rattle.trace_json.proofs.Vocabulary.{◌∙◌, ◌<◌, ◌≤◌, ◌∷◌, ◌++◌, [], length, take, ap, sym, arith, take_more, take_all, unwrap_or-slice_get, unwrap_or}
 use Rattle.trace_json.proofs.machine.seen_words.Goals as goal
 
 pub loop-loc-preserved : goal.loop-loc-preserved

@@ -1,4 +1,4 @@
-use Rattle.std.proofs.Common.{◌≡◌, take}
+use Rattle.trace_json.proofs.Vocabulary.{◌≡◌, take}
 use Rattle.trace_json.proofs.machine.seen_words.Given as goal
 
 abbrev pub invariant-loop-loc : goal.invariant-loop-loc

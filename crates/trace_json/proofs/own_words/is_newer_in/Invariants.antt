@@ -1,5 +1,4 @@
-use Rattle.std.proofs.Common.{◌≡◌, length}
-use Rattle.trace_json.specs.OwnWords.{is_newer_in}
+use Rattle.trace_json.proofs.Vocabulary.{◌≡◌, length, is_newer_in}
 use Rattle.trace_json.proofs.own_words.is_newer_in.Given as goal
 
 abbrev pub invariant-loop-core : goal.invariant-loop-core

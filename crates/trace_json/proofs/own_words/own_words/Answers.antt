@@ -1,6 +1,4 @@
-use Rattle.std.proofs.Common.{◌≡◌, ◌∙◌, ◌+◌, ◌<◌, length, [], ◌∷◌, length-append, ap, refl, arith}
-use Rattle.std.specs.Option.{unwrap_or}
-use Rattle.trace_json.specs.OwnWords.{own_words}
+use Rattle.trace_json.proofs.Vocabulary.{◌≡◌, ◌∙◌, ◌+◌, ◌<◌, length, [], ◌∷◌, length-append, ap, refl, arith, unwrap_or, own_words}
 use Rattle.trace_json.proofs.Owning.{one-word}
 use Rattle.trace_json.proofs.own_words.own_words.Goals as goal
 

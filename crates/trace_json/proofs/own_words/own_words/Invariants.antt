@@ -1,5 +1,4 @@
-use Rattle.std.proofs.Common.{◌≡◌, ◌++◌, length, drop}
-use Rattle.trace_json.specs.OwnWords.{own_words_from, own_words}
+use Rattle.trace_json.proofs.Vocabulary.{◌≡◌, ◌++◌, length, drop, own_words_from, own_words}
 use Rattle.trace_json.proofs.own_words.own_words.Given as goal
 
 abbrev pub invariant-loop-loc : goal.invariant-loop-loc

@@ -1,7 +1,4 @@
-use Rattle.std.proofs.Common.{◌+◌, ◌∙◌, map, drop, ap}
-use Rattle.std.proofs.lemmas.List.{drop_more, drop_all}
-use Rattle.serde_json.specs.Data.{string}
-use Rattle.trace_json.specs.Programs.{instruction_text}
+use Rattle.trace_json.proofs.Vocabulary.{◌+◌, ◌∙◌, map, drop, ap, drop_more, drop_all, string, instruction_text}
 use Rattle.trace_json.proofs.Listed.{listed, all-listed, view-text}
 use Rattle.trace_json.proofs.programs.program_value.Goals as goal
 

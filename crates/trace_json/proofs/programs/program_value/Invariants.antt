@@ -1,7 +1,4 @@
-use Rattle.std.proofs.Common.{◌≡◌, ◌++◌, drop, map}
-use Rattle.serde_json.specs.Data.{string}
-use Rattle.serde_json.specs.View.{view}
-use Rattle.trace_json.specs.Programs.{instruction_text}
+use Rattle.trace_json.proofs.Vocabulary.{◌≡◌, ◌++◌, drop, map, string, view, instruction_text}
 use Rattle.trace_json.proofs.programs.program_value.Given as goal
 
 abbrev pub invariant-loop-instr : goal.invariant-loop-instr

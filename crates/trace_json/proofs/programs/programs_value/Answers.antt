@@ -1,6 +1,4 @@
-use Rattle.std.proofs.Common.{◌+◌, ◌<◌, ◌∙◌, [], length, map, drop, ap, arith}
-use Rattle.std.proofs.lemmas.List.{drop_more}
-use Rattle.trace_json.specs.Programs.{program_value}
+use Rattle.trace_json.proofs.Vocabulary.{◌+◌, ◌<◌, ◌∙◌, [], length, map, drop, ap, arith, drop_more, program_value}
 use Rattle.trace_json.proofs.Listed.{listed}
 use Rattle.trace_json.proofs.programs.programs_value.Goals as goal
 

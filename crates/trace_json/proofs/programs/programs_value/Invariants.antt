@@ -1,6 +1,4 @@
-use Rattle.std.proofs.Common.{◌≡◌, ◌++◌, drop, map}
-use Rattle.serde_json.specs.View.{view}
-use Rattle.trace_json.specs.Programs.{program_value}
+use Rattle.trace_json.proofs.Vocabulary.{◌≡◌, ◌++◌, drop, map, view, program_value}
 use Rattle.trace_json.proofs.programs.programs_value.Given as goal
 
 abbrev pub invariant-loop-core : goal.invariant-loop-core

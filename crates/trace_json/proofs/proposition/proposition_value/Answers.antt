@@ -1,5 +1,4 @@
-use Rattle.std.proofs.Common.{sym}
-use Rattle.tso_model.specs.Condition.{condition_of}
+use Rattle.trace_json.proofs.Vocabulary.{sym, condition_of}
 use Rattle.trace_json.proofs.proposition.proposition_value.Goals as goal
 
 pub write_proposition-requires : goal.write_proposition-requires

@@ -1,7 +1,4 @@
-use Rattle.std.proofs.Common.{◌+◌, ◌∙◌, map, drop, ap}
-use Rattle.std.proofs.lemmas.List.{drop_more}
-use Rattle.serde_json.specs.Data.{string}
-use Rattle.trace_report.specs.Lines.{printed_change}
+use Rattle.trace_json.proofs.Vocabulary.{◌+◌, ◌∙◌, map, drop, ap, drop_more, string, printed_change}
 use Rattle.trace_json.proofs.Listed.{listed, view-text}
 use Rattle.trace_json.proofs.step.changes_value.Goals as goal
 

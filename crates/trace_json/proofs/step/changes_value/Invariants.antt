@@ -1,7 +1,4 @@
-use Rattle.std.proofs.Common.{◌≡◌, ◌++◌, drop, map}
-use Rattle.serde_json.specs.Data.{string}
-use Rattle.serde_json.specs.View.{view}
-use Rattle.trace_report.specs.Lines.{printed_change}
+use Rattle.trace_json.proofs.Vocabulary.{◌≡◌, ◌++◌, drop, map, string, view, printed_change}
 use Rattle.trace_json.proofs.step.changes_value.Given as goal
 
 abbrev pub invariant-loop-change : goal.invariant-loop-change

@@ -1,5 +1,4 @@
-use Rattle.std.proofs.Common.{All, sym, subst}
-use Rattle.order_builder.specs.PrintedOrder.{HasLocation}
+use Rattle.trace_json.proofs.Vocabulary.{All, sym, subst, HasLocation}
 use Rattle.trace_json.proofs.step.put_done.Goals as goal
 
 pub order_value-requires : goal.order_value-requires

@@ -1,5 +1,4 @@
-use Rattle.std.proofs.Common.{All, sym, subst}
-use Rattle.trace_report.specs.Known.{IsLine}
+use Rattle.trace_json.proofs.Vocabulary.{All, sym, subst, IsLine}
 use Rattle.trace_json.proofs.step.put_left.Goals as goal
 
 pub changes_value-requires : goal.changes_value-requires

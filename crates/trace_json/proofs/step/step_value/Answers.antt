@@ -1,7 +1,4 @@
-use Rattle.std.proofs.Common.{◌∙◌, ap}
-use Rattle.serde_json.specs.Data.{object}
-use Rattle.serde_json.proofs.Views.{view-Object}
-use Rattle.trace_report.specs.Shown.{shown}
+use Rattle.trace_json.proofs.Vocabulary.{◌∙◌, ap, object, view-Object, shown}
 use Rattle.trace_json.specs.inner.Stepped.{with_left}
 use Rattle.trace_json.proofs.step.step_value.Goals as goal
 

@@ -1,6 +1,4 @@
-use Rattle.std.proofs.Common.{◌≡◌, ◌∙◌, ◌<◌, length, true, false, ap, sym, arith}
-use Rattle.trace_json.specs.Supplied.{supplies, supplier_from}
-use Rattle.trace_json.specs.SupplyLaws.{copy_on}
+use Rattle.trace_json.proofs.Vocabulary.{◌≡◌, ◌∙◌, ◌<◌, length, true, false, ap, sym, arith, supplies, supplier_from, copy_on}
 use Rattle.trace_json.proofs.Supplying.{next-core, this-core}
 use Rattle.trace_json.proofs.supplied.supplier.Goals as goal
 

@@ -1,5 +1,4 @@
-use Rattle.std.proofs.Common.{◌≡◌, ◌-◌, length}
-use Rattle.trace_json.specs.Supplied.{supplier_from}
+use Rattle.trace_json.proofs.Vocabulary.{◌≡◌, ◌-◌, length, supplier_from}
 use Rattle.trace_json.proofs.supplied.supplier.Given as goal
 
 abbrev pub invariant-loop-core : goal.invariant-loop-core

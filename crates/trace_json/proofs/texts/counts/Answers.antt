@@ -1,6 +1,4 @@
-use Rattle.std.proofs.Common.{◌+◌, map, drop, ap}
-use Rattle.std.proofs.lemmas.List.{drop_more, drop_all}
-use Rattle.tso_report.specs.Json.{count}
+use Rattle.trace_json.proofs.Vocabulary.{◌+◌, map, drop, ap, drop_more, drop_all, count}
 use Rattle.trace_json.proofs.Listed.{listed, all-listed}
 use Rattle.trace_json.proofs.texts.counts.Goals as goal
 

@@ -1,6 +1,4 @@
-use Rattle.std.proofs.Common.{◌≡◌, ◌++◌, drop, map}
-use Rattle.serde_json.specs.View.{view}
-use Rattle.tso_report.specs.Json.{count}
+use Rattle.trace_json.proofs.Vocabulary.{◌≡◌, ◌++◌, drop, map, view, count}
 use Rattle.trace_json.proofs.texts.counts.Given as goal
 
 abbrev pub invariant-loop-number : goal.invariant-loop-number

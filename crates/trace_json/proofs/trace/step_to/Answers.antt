@@ -1,10 +1,4 @@
-use Rattle.std.proofs.Common.{◌∙◌, ap, sym, subst, refl}
-use Rattle.machine_core.specs.Configuration.{Configuration}
-use Rattle.serde_json.specs.View.{view}
-use Rattle.trace_report.specs.Known.{IsKnown}
-use Rattle.trace_report.specs.Shown.{shown}
-use Rattle.trace_report.proofs.Whole.{some-word}
-use Rattle.trace_json.specs.inner.Looked.{sourced}
+use Rattle.trace_json.proofs.Vocabulary.{◌∙◌, ap, sym, subst, refl, Configuration, view, IsKnown, shown, some-word, sourced}
 use Rattle.trace_json.proofs.Tracing.{is-shown, one-step}
 use Rattle.trace_json.proofs.trace.step_to.Goals as goal
 

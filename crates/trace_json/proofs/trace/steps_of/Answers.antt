@@ -1,8 +1,4 @@
-use Rattle.std.proofs.Common.{◌∙◌, ap, sym, subst}
-use Rattle.snoop_bus.specs.Geometry.{IsLineSize}
-use Rattle.trace_report.specs.inner.Told.{IsLookedAt}
-use Rattle.trace_report.proofs.Whole.{looked-at}
-use Rattle.trace_json.specs.TraceJson.{steps_json}
+use Rattle.trace_json.proofs.Vocabulary.{◌∙◌, ap, sym, subst, IsLineSize, IsLookedAt, looked-at, steps_json}
 use Rattle.trace_json.proofs.trace.steps_of.Goals as goal
 
 pub states_of-requires : goal.states_of-requires

@@ -1,8 +1,4 @@
-use Rattle.std.proofs.Common.{◌∙◌, ap, sym, map}
-use Rattle.std.proofs.lemmas.List.{drop_more}
-use Rattle.serde_json.specs.View.{view}
-use Rattle.trace_json.specs.TraceJson.{step_to, steps_json}
-use Rattle.trace_json.specs.inner.Looked.{sourced}
+use Rattle.trace_json.proofs.Vocabulary.{◌∙◌, ap, sym, map, drop_more, view, step_to, steps_json, sourced}
 use Rattle.trace_json.proofs.Tracing.{one-pushed, core-there, all-made, none-left}
 use Rattle.trace_json.proofs.trace.steps_on.Goals as goal
 

@@ -1,9 +1,4 @@
-use Rattle.std.proofs.Common.{length, drop, map}
-use Rattle.serde_json.specs.View.{view}
-use Rattle.tso_model.specs.Runs.{CoresExist}
-use Rattle.trace_report.specs.Told.{IsTold}
-use Rattle.trace_json.specs.TraceJson.{steps_json}
-use Rattle.trace_json.specs.inner.Looked.{HasMemory}
+use Rattle.trace_json.proofs.Vocabulary.{length, drop, map, view, CoresExist, IsTold, steps_json, HasMemory}
 use Rattle.trace_json.proofs.Tracing.{Made}
 use Rattle.trace_json.proofs.trace.steps_on.Given as goal
 

@@ -1,10 +1,4 @@
-use Rattle.std.proofs.Common.{◌∙◌, sym, subst, option_map}
-use Rattle.std.proofs.lemmas.List.{drop_more}
-use Rattle.snoop_bus.specs.Geometry.{IsLineSize}
-use Rattle.trace_report.specs.inner.Told.{IsLookedAt}
-use Rattle.trace_report.proofs.Whole.{looked-at}
-use Rattle.trace_json.specs.TraceJson.{alone, last_or, steps_json}
-use Rattle.trace_json.specs.inner.Looked.{sourced}
+use Rattle.trace_json.proofs.Vocabulary.{◌∙◌, sym, subst, option_map, drop_more, IsLineSize, IsLookedAt, looked-at, alone, last_or, steps_json, sourced}
 use Rattle.trace_json.proofs.Tracing.{ToldLast, next-told, core-there, last-told, none-told}
 use Rattle.trace_json.proofs.trace.tell_last.Goals as goal
 

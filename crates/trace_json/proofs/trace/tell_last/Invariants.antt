@@ -1,10 +1,4 @@
-use Rattle.std.proofs.Common.{IfSome, length, drop, option_map}
-use Rattle.tso_model.specs.Runs.{CoresExist}
-use Rattle.trace_report.specs.Shown.{shown}
-use Rattle.trace_report.specs.Known.{IsKnown}
-use Rattle.trace_report.specs.Told.{IsTold}
-use Rattle.trace_json.specs.TraceJson.{alone, last_or, steps_json}
-use Rattle.trace_json.specs.inner.Looked.{HasMemory, sourced}
+use Rattle.trace_json.proofs.Vocabulary.{IfSome, length, drop, option_map, CoresExist, shown, IsKnown, IsTold, alone, last_or, steps_json, HasMemory, sourced}
 use Rattle.trace_json.proofs.Tracing.{ToldLast}
 use Rattle.trace_json.proofs.trace.tell_last.Given as goal
 

@@ -1,8 +1,4 @@
-use Rattle.std.proofs.Common.{sym, subst}
-use Rattle.trace_report.specs.inner.Told.{IsLookedAt}
-use Rattle.snoop_bus.specs.Geometry.{IsLineSize}
-use Rattle.trace_report.proofs.Whole.{looked-at}
-use Rattle.trace_report.specs.Shown.{shown}
+use Rattle.trace_json.proofs.Vocabulary.{sym, subst, IsLookedAt, IsLineSize, looked-at, shown}
 use Rattle.trace_json.proofs.Tracing.{each-after, source-told}
 use Rattle.trace_json.proofs.trace.tell_on.Goals as goal
 

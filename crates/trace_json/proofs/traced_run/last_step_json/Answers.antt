@@ -1,5 +1,4 @@
-use Rattle.std.proofs.Common.{◌∙◌, ap}
-use Rattle.serde_json.specs.Written.{has_float}
+use Rattle.trace_json.proofs.Vocabulary.{◌∙◌, ap, has_float}
 use Rattle.trace_json.proofs.NoFloats.{last_step_has_no_float}
 use Rattle.trace_json.proofs.traced_run.last_step_json.Goals as goal
 

@@ -1,8 +1,4 @@
-use Rattle.std.proofs.Common.{◌∙◌, ap}
-use Rattle.serde_json.specs.Data.{object}
-use Rattle.serde_json.specs.Written.{has_float}
-use Rattle.serde_json.proofs.Views.{view-Object}
-use Rattle.trace_json.specs.TracedRun.{with_trace}
+use Rattle.trace_json.proofs.Vocabulary.{◌∙◌, ap, object, has_float, view-Object, with_trace}
 use Rattle.trace_json.proofs.NoFloatsWhole.{unended_has_no_float}
 use Rattle.trace_json.proofs.traced_run.unended_json.Goals as goal
 
