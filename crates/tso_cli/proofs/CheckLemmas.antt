@@ -1,33 +1,9 @@
 -- What `check` answers, and what that means.
-use Rattle.std.proofs.Common.{◌≡◌, ◌≢◌, ℕ, false, ◌<◌, ◌≤◌, ◌^◌, List, [], length, get_or, Some, slice_get, slice_index_or, All, refl, sym, ap, subst, arith}
-use Rattle.std.proofs.lemmas.Option.{slice_get-get_or}
-use Rattle.tso_model.specs.Litmus.{Litmus, IsTest}
-use Rattle.tso_model.specs.Axioms.{IsWhole, IsTsoExecution}
-use Rattle.tso_model.specs.Standing.{StandsIn}
-use Rattle.tso_model.specs.Runs.{Run}
-use Rattle.tso_model.specs.FlatMachine.{program_of}
-use Rattle.tso_model.specs.declared.execution.Entry.{Entry}
+use Rattle.tso_cli.proofs.Vocabulary.{◌≡◌, ◌≢◌, ℕ, false, ◌<◌, ◌≤◌, ◌^◌, List, [], length, get_or, Some, slice_get, slice_index_or, All, refl, sym, ap, subst, arith, slice_get-get_or, Litmus, IsTest, IsWhole, IsTsoExecution, StandsIn, Run, program_of, Entry, FitsTest, IsExecution, HasWord, HasAccess, IsEntryFor, IsOrderFor, SpellsOrder, HasFault, OrderFault, IsFirstBreach, Breach, ProtocolKind, Configuration, report, Shown, shown_of, IsCheckAnswer, IsJudgement, valid, valid_line, invalid_line, JudgesOrder, JudgesEachOrder, PrintsExecution, Status, Good}
 use Rattle.tso_model.specs.declared.execution.Kind.{Kind}
 use Rattle.tso_model.specs.declared.execution.Kind.TheVariants.{R, W, F, LR, LW}
-use Rattle.tso_laws.specs.Entries.{FitsTest}
-use Rattle.tso_laws.specs.EndedRuns.{IsExecution}
-use Rattle.order_builder.specs.PrintedOrder.{HasWord}
-use Rattle.order_builder.specs.Spelling.{HasAccess, IsEntryFor, IsOrderFor, SpellsOrder, HasFault}
-use Rattle.order_builder.specs.declared.fault.OrderFault.{OrderFault}
-use Rattle.axiom_checker.specs.FirstBreach.{IsFirstBreach}
-use Rattle.axiom_checker.specs.declared.breach.Breach.{Breach}
-use Rattle.protocol_tables.specs.declared.kind.ProtocolKind.{ProtocolKind}
 use Rattle.snoop_bus.specs.Geometry.{IsShapeWithinLimits}
-use Rattle.machine_core.specs.Configuration.{Configuration}
-use Rattle.tso_report.specs.Report.{report}
-use Rattle.tso_report.specs.Shown.{Shown}
-use Rattle.simulator.specs.Simulation.{shown_of}
-use Rattle.commands.specs.Answers.{IsCheckAnswer, IsJudgement, refused, judged, valid, invalid}
-use Rattle.commands.specs.CheckLines.{valid_line, invalid_line}
-use Rattle.tso_cli.specs.Judgement.{JudgesOrder, JudgesEachOrder}
-use Rattle.tso_cli.specs.RunHeadline.{PrintsExecution}
-use Rattle.commands.specs.declared.answer.Status.{Status}
-use Rattle.commands.specs.declared.answer.Status.TheVariants.{Good}
+use Rattle.commands.specs.Answers.{refused, judged, invalid}
 
 -- ---- what an answer means
 

@@ -1,13 +1,7 @@
 -- From the bytes that were read and written to what the definitions say of the whole input.
-use Rattle.std.proofs.Common.{◌≡◌, ◌+◌, ℕ, ◌≤◌, ◌<◌, List, [], ◌∷◌, length, take, Option, Some, None, IfSome, arith, ap, refl, subst, length-take, zero, suc}
-use Rattle.litmus_reader.specs.Spelling.{SpellsTest, IsRefused as IsRefusedTest}
-use Rattle.tso_io.specs.Limits.{longest_input}
-use Rattle.commands.specs.Dividing.{parts_of}
-use Rattle.tso_cli.specs.Answers.{IsInputAnswer, IsAnswerTo, IsAnswer, most_read, too_large, refused, answered}
-use Rattle.tso_cli.specs.Headline.{InputHeadline, PartsHeadline, Headline}
-use Rattle.command_line.specs.declared.settings.Settings.{Settings}
+use Rattle.tso_cli.proofs.Vocabulary.{◌≡◌, ◌+◌, ℕ, ◌≤◌, ◌<◌, List, [], ◌∷◌, length, take, Option, Some, None, IfSome, arith, ap, refl, subst, length-take, zero, suc, SpellsTest, longest_input, parts_of, IsInputAnswer, IsAnswerTo, IsAnswer, most_read, too_large, refused, answered, InputHeadline, PartsHeadline, Headline, Settings, Status}
+use Rattle.litmus_reader.specs.Spelling.{IsRefused as IsRefusedTest}
 use Rattle.command_line.specs.declared.settings.Settings.TheVariants as settings
-use Rattle.commands.specs.declared.answer.Status.{Status}
 
 take-short : (n : ℕ) (xs : List ℕ) → length xs ≤ n → take n xs ≡ xs
 take-short zero [] h = refl

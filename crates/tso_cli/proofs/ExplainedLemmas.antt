@@ -1,28 +1,8 @@
 -- What `run` answers to the choices that `why` prints.
-use Rattle.std.proofs.Common.{◌≡◌, ℕ, Bool, List, length, refl, sym, subst, arith}
-use Rattle.tso_model.specs.Litmus.{Litmus, IsTest}
-use Rattle.tso_model.specs.Runs.{run}
-use Rattle.tso_model.specs.declared.choice.Bus.TheVariants.{Atomic}
-use Rattle.tso_model.specs.declared.choice.Choice.{Choice}
-use Rattle.tso_model.specs.declared.execution.Entry.{Entry}
-use Rattle.tso_laws.specs.Along.{LeadTo}
-use Rattle.litmus_reader.specs.Spelling.{SpellsTest}
-use Rattle.refutation_laws.specs.Models.{depth_of}
-use Rattle.scheduler.specs.Grammar.{SpellsChoices}
-use Rattle.scheduler.specs.Printed.{printed_choices}
-use Rattle.protocol_tables.specs.declared.kind.ProtocolKind.{ProtocolKind}
-use Rattle.machine_core.specs.Configuration.{Configuration}
-use Rattle.simulator.specs.Runs.{counts_under}
-use Rattle.simulator.specs.Simulation.{shown_of}
-use Rattle.command_line.specs.Explanation.{Explanation}
+use Rattle.tso_cli.proofs.Vocabulary.{◌≡◌, ℕ, Bool, List, length, refl, sym, subst, arith, Litmus, IsTest, run, Atomic, Choice, Entry, LeadTo, SpellsTest, depth_of, SpellsChoices, printed_choices, ProtocolKind, Configuration, counts_under, shown_of, Explanation, parts_of, joined, IsWhyAnswer, Status, Good, IsInputAnswer, too_large, refused, answered, IsPrinted, AreReadOneWay}
 use Rattle.command_line.specs.declared.settings.Settings.TheVariants as settings
-use Rattle.commands.specs.Dividing.{parts_of, joined}
-use Rattle.commands.specs.Why.{IsWhyAnswer, never, allowed, too_many}
-use Rattle.commands.specs.declared.answer.Status.{Status}
-use Rattle.commands.specs.declared.answer.Status.TheVariants.{Good}
-use Rattle.tso_cli.specs.Answers.{IsInputAnswer, too_large, refused, answered, IsPrinted}
+use Rattle.commands.specs.Why.{never, allowed, too_many}
 use Rattle.tso_cli.specs.Explained.{AreRunAgain, IsExplained, never, allowed}
-use Rattle.tso_cli.specs.inner.ReadOneWay.{AreReadOneWay}
 use Rattle.tso_cli.proofs.PrintedLemmas.{refused-is-none, unended-is-none}
 use Rattle.tso_cli.proofs.Replayed.{choices-short, replayed-joined}
 use Rattle.tso_cli.proofs.WitnessLemmas.{Reaching, choices-few}

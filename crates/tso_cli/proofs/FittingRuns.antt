@@ -1,19 +1,7 @@
 -- Runs that end fit their test, and their choices are counted.
-use Rattle.std.proofs.Common.{◌≡◌, ℕ, ◌+◌, Bool, List, [], ◌∷◌, length, suc, All, Option, Some, None, is_some, refl, ap, ◌∙◌}
-use Rattle.std.specs.Option.{option_map}
-use Rattle.tso_model.specs.Litmus.{Litmus}
-use Rattle.tso_model.specs.Condition.{Condition}
-use Rattle.tso_model.specs.FinalState.{words_from}
-use Rattle.tso_model.specs.declared.execution.Entry.{Entry}
-use Rattle.order_builder.specs.PrintedOrder.{HasLocation}
-use Rattle.order_builder.specs.Spelling.{IsOrderFor}
-use Rattle.protocol_tables.specs.Tables.{table_of}
-use Rattle.tso_cli.specs.Fitting.{EndedRunsFit, ChoicesAreCounted}
-use Rattle.simulator.specs.Runs.{run_under}
-use Rattle.simulator.proofs.CountLemmas.{counts-each}
+use Rattle.tso_cli.proofs.Vocabulary.{◌≡◌, ℕ, ◌+◌, Bool, List, [], ◌∷◌, length, suc, All, Option, Some, None, is_some, refl, ap, ◌∙◌, option_map, Litmus, Condition, words_from, Entry, HasLocation, IsOrderFor, table_of, EndedRunsFit, ChoicesAreCounted, run_under, counts-each, RunLaws}
 use Rattle.tso_cli.proofs.HeadlineLemmas.{Runs}
 use Rattle.tso_cli.proofs.Rechecked.{registers_each, choices-few, small-run}
-use Rattle.simulator.proofs.SimulationLemmas.{RunLaws}
 
 -- what a law of order texts says
 abbrev pub OrdersCanBePrinted : Type 0

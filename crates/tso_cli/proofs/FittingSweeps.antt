@@ -1,32 +1,9 @@
 -- What is counted of a plan's runs fits their test.
-use Rattle.std.proofs.Common.{◌≡◌, ℕ, zero, suc, ◌+◌, ◌<◌, Bool, true, false, cond, List, [], ◌∷◌, map, All, slice_index, slice_index_or, Option, Some, None, is_some, refl, sym, subst, ◌∙◌, arith}
-use Rattle.std.specs.Option.{option_map}
-use Rattle.std.specs.Ordering.{nat_cmp, match_ordering}
-use Rattle.std.specs.Cmp.Lexicographic.{slice_cmp}
-use Rattle.std.specs.BTreeMap.{insert_entry}
+use Rattle.tso_cli.proofs.Vocabulary.{◌≡◌, ℕ, zero, suc, ◌+◌, ◌<◌, Bool, true, false, cond, List, [], ◌∷◌, map, All, slice_index, slice_index_or, Option, Some, None, is_some, refl, sym, subst, ◌∙◌, arith, option_map, nat_cmp, match_ordering, slice_cmp, insert_entry, length-map, All-head, All-tail, All-cons, All-nil, All-map, Litmus, IsTest, Condition, truth_of, registers_in, IsWord, AreRegisters, index_of, Run, table_of, ProtocolKind, Configuration, Named, RunCounts, looked_at, shown_value, values_in, count_of, with_state, with_verdict, ended_in, runs_in, AnswersFit, verdict, choices_of, seeded_run, with_one_run, counts_from, Ascend, ascend-none, sum-with, ascend-run, runs-with, IsStateAt, IsStateOf, SweptCountsFit}
 use Rattle.std.specs.declared.cmp.Ordering.{Ordering}
 use Rattle.std.specs.declared.cmp.Ordering.TheVariants.{Less, Equal, Greater}
-use Rattle.std.proofs.lemmas.List.{length-map}
-use Rattle.std.proofs.lemmas.List.Elements.{All-head, All-tail, All-cons, All-nil, All-map}
-use Rattle.tso_model.specs.Litmus.{Litmus, IsTest}
-use Rattle.tso_model.specs.Condition.{Condition, truth_of}
-use Rattle.tso_model.specs.FlatMachine.{registers_in}
-use Rattle.tso_model.specs.Registers.{IsWord, AreRegisters, index_of}
-use Rattle.tso_model.specs.Runs.{Run}
-use Rattle.protocol_tables.specs.Tables.{table_of}
-use Rattle.protocol_tables.specs.declared.kind.ProtocolKind.{ProtocolKind}
-use Rattle.machine_core.specs.Configuration.{Configuration}
-use Rattle.tso_report.specs.declared.named.Named.{Named}
 use Rattle.tso_report.specs.declared.named.Named.TheVariants.{Register, Location}
-use Rattle.tso_report.specs.Tally.{RunCounts, looked_at, shown_value, values_in, count_of, with_state, with_verdict, ended_in, runs_in}
-use Rattle.simulator.specs.Runs.{AnswersFit}
-use Rattle.simulator.specs.Simulation.{verdict}
-use Rattle.sweeper.specs.Counting.{choices_of, seeded_run, with_one_run, counts_from}
 use Rattle.tso_cli.proofs.HeadlineLemmas.{Runs}
-use Rattle.sweeper.proofs.StateLemmas.{Ascend, ascend-none, sum-with}
-use Rattle.sweeper.proofs.RunsCounted.{ascend-run, runs-with}
-use Rattle.tso_cli.specs.Fitting.{IsStateAt, IsStateOf}
-use Rattle.tso_cli.specs.Fitting.{SweptCountsFit}
 
 -- ---- the values of a state are words
 

@@ -1,48 +1,16 @@
 -- The headline holds of each answer.
-use Rattle.std.proofs.Common.{◌≡◌, ◌<◌, ◌^◌, ℕ, Bool, List, ◌++◌, length, true, false, Option, Some, None, IfSome, subst, refl, arith}
-use Rattle.tso_model.specs.Litmus.{Litmus, IsTest}
-use Rattle.tso_model.specs.Axioms.{IsWhole}
-use Rattle.tso_model.specs.Standing.{StandsIn}
-use Rattle.tso_model.specs.SequentialConsistency.{KeepsAllOrder}
-use Rattle.tso_model.specs.declared.choice.Bus.{Bus}
-use Rattle.tso_model.specs.declared.choice.Bus.TheVariants.{Atomic}
-use Rattle.tso_model.specs.declared.choice.Choice.{Choice}
-use Rattle.tso_model.specs.declared.execution.Entry.{Entry}
-use Rattle.tso_laws.specs.Entries.{FitsTest}
-use Rattle.tso_laws.specs.EndedRuns.{IsExecution}
+use Rattle.tso_cli.proofs.Vocabulary.{◌≡◌, ◌<◌, ◌^◌, ℕ, Bool, List, ◌++◌, length, true, false, Option, Some, None, IfSome, subst, refl, arith, Litmus, IsTest, IsWhole, StandsIn, KeepsAllOrder, Bus, Atomic, Choice, Entry, FitsTest, IsExecution, IsDecided, IsOrderFor, SpellsOrder, Table, table_of, ProtocolKind, Configuration, IsConfigurationWithinLimits, head, report, Shown, IsAnswerTo, IsInputAnswer, IsAnswer, too_large, answered, run_text, IsRunAnswer, ran, IsWithinLimits, parts_of, Plan, PrintsExecution, PrintsEachRun, HeadlineOfRuns, ending_text, traced_in, IsTooLong, IsTraceAnswer, too_long, traced, PrintsTraceIn, PrintsEachTrace, HeadlineOfTraces, PrintsSweep, HeadlineOfSweeps, HeadlineOf, InputHeadline, Headline, run_by, run_under, AnswersFitBy, AnswersFit, counts_under, unfinished_line, report_in, unfinished_in, shown_of, Settings, Status, AreReadOneWay, never-both}
 use Rattle.tso_laws.specs.Words.{HoldsWords}
-use Rattle.scheduler.specs.Refusals.{IsDecided}
-use Rattle.order_builder.specs.Spelling.{IsOrderFor, SpellsOrder}
-use Rattle.protocol_tables.specs.Tables.{Table, table_of}
-use Rattle.protocol_tables.specs.declared.kind.ProtocolKind.{ProtocolKind}
 use Rattle.snoop_bus.specs.Geometry.{IsShapeWithinLimits as IsShape}
-use Rattle.machine_core.specs.Configuration.{Configuration, IsConfigurationWithinLimits}
-use Rattle.tso_report.specs.Report.{head, report}
-use Rattle.tso_report.specs.Shown.{Shown}
-use Rattle.tso_cli.specs.Answers.{IsAnswerTo, IsInputAnswer, IsAnswer, too_large, refused, answered}
-use Rattle.commands.specs.Answers.{run_text, IsRunAnswer, refused, ran}
-use Rattle.command_line.specs.Limits.{IsWithinLimits}
-use Rattle.commands.specs.Dividing.{parts_of}
-use Rattle.scheduler.specs.Plan.{Plan}
-use Rattle.tso_cli.specs.RunHeadline.{PrintsExecution, PrintsEachRun, HeadlineOfRuns}
-use Rattle.commands.specs.Trace.{ending_text, traced_in, IsTooLong, IsTraceAnswer, refused, too_long, traced}
-use Rattle.tso_cli.specs.TraceHeadline.{PrintsTraceIn, PrintsEachTrace, HeadlineOfTraces}
-use Rattle.tso_cli.specs.SweepHeadline.{PrintsSweep, HeadlineOfSweeps}
-use Rattle.tso_cli.specs.Headline.{HeadlineOf, InputHeadline, Headline}
-use Rattle.simulator.specs.Runs.{run_by, run_under, AnswersFitBy, AnswersFit, counts_under}
-use Rattle.commands.specs.Lines.{unfinished_line}
-use Rattle.commands.specs.RunTexts.{report_in, unfinished_in}
-use Rattle.simulator.specs.Simulation.{shown_of}
-use Rattle.command_line.specs.declared.settings.Settings.{Settings}
+use Rattle.tso_cli.specs.Answers.{refused}
+use Rattle.commands.specs.Answers.{refused}
+use Rattle.commands.specs.Trace.{refused}
 use Rattle.command_line.specs.declared.settings.Settings.TheVariants as settings
-use Rattle.commands.specs.declared.answer.Status.{Status}
 use Rattle.tso_cli.proofs.CheckLemmas.{check-means, run-spells}
-use Rattle.tso_cli.specs.inner.ReadOneWay.{AreReadOneWay}
 use Rattle.tso_cli.proofs.OneAnswer.{short_rest}
 use Rattle.tso_cli.proofs.OutcomesLemmas.{Searches, outcomes-mean}
 use Rattle.tso_cli.proofs.WhyLemmas.{Refuting, reasons-mean}
 use Rattle.tso_cli.proofs.SweepLemmas.{sweep-means}
-use Rattle.commands.proofs.TraceLengths.{never-both}
 use Rattle.tso_cli.proofs.WitnessLemmas.{Reaching, witness-means}
 
 -- the order spells itself in what is written

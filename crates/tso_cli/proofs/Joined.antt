@@ -1,9 +1,6 @@
 -- An input that was put together is parts_at into its parts again.
-use Rattle.std.proofs.Common.{◌≡◌, ◌==◌, ℕ, zero, suc, Bool, true, false, cond, nat_eq, codes, List, [], ◌∷◌, ◌++◌, drop, replicate, Option, Some, None, refl, sym, ap, subst}
-use Rattle.std.specs.List.{starts_with}
+use Rattle.tso_cli.proofs.Vocabulary.{◌≡◌, ◌==◌, ℕ, zero, suc, Bool, true, false, cond, nat_eq, codes, List, [], ◌∷◌, ◌++◌, drop, replicate, Option, Some, None, refl, sym, ap, subst, starts_with, starts_is, after_feed, after_end, after_divider, parts_at, with_byte, parts_from, parts_of, joined, HasNoDivider, EndsInFeed}
 use Rattle.std.proofs.lemmas.Bool.Decides.{Decides-eqb}
-use Rattle.std.proofs.lemmas.Slice.Eq.{starts_is}
-use Rattle.commands.specs.Dividing.{after_feed, after_end, after_divider, parts_at, with_byte, parts_from, parts_of, joined, HasNoDivider, EndsInFeed}
 
 -- whether a line begins after the text
 abbrev line_begins : Bool → List ℕ → Bool

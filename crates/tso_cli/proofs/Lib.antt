@@ -1,3 +1,4 @@
+pub mod Vocabulary
 pub mod SweepLemmas
 pub mod OneAnswer
 pub mod WitnessLemmas

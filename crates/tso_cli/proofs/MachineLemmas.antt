@@ -1,46 +1,15 @@
 -- On the atomic bus the protocol and the shape of the caches change two kinds of lines alone.
-use Rattle.std.proofs.Common.{◌≡◌, ◌<◌, ◌==◌, ◌+◌, ℕ, zero, suc, Bool, true, false, cond, List, [], ◌∷◌, ◌++◌, length, Some, codes, refl, sym, ap, subst, ◌∙◌, inl, inr, append_assoc, append-nil, arith}
-use Rattle.std.specs.Fmt.{decimal}
-use Rattle.tso_model.specs.Litmus.{Litmus, IsTest}
-use Rattle.tso_model.specs.FlatMachine.{registers_in}
-use Rattle.tso_model.specs.Runs.{Run, run}
-use Rattle.tso_model.specs.declared.choice.Choice.{Choice}
-use Rattle.scheduler.specs.Refusals.{IsDecided}
-use Rattle.scheduler.specs.declared.fault.ChoiceFault.TheVariants.{TooMany}
-use Rattle.protocol_tables.specs.Tables.{table_of}
-use Rattle.protocol_tables.specs.declared.kind.ProtocolKind.{ProtocolKind}
-use Rattle.machine_core.specs.Configuration.{Configuration}
+use Rattle.tso_cli.proofs.Vocabulary.{◌≡◌, ◌<◌, ◌==◌, ◌+◌, ℕ, zero, suc, Bool, true, false, cond, List, [], ◌∷◌, ◌++◌, length, Some, codes, refl, sym, ap, subst, ◌∙◌, inl, inr, append_assoc, arith, decimal, Litmus, IsTest, registers_in, Run, run, Choice, IsDecided, TooMany, table_of, ProtocolKind, Configuration, printed_order, Shown, line, head, body, test_line, machine_line, register_lines, memory_line, condition_line, choices_line, cache_lines, report, RunCounts, tally_text, Plan, parts_of, EndsInFeed, input_refusal, test_refusal, choices_refusal, unfinished_line, report_in, unfinished_in, run_under, counts_under, shown_of, verdict, sweep_status, IsSweepAnswer, choices_of, seeded_run, with_one_run, counts_from, sweep_counts, IsAnswerTo, IsInputAnswer, IsAnswer, too_large, answered, run_text, run_status, status_under, IsRunAnswer, ran, ending_text, IsTraceAnswer, traced, traced_in, FitsForm, IsTooLong, too_long, trace_text, trace_under, json_ended, json_unended, AreReadOneWay, Settings, Status, Good, Refused, Unended, atomic-run, counts-each, never-both, one-word}
+use Rattle.std.proofs.Common.{append-nil}
 use Rattle.machine_core.specs.declared.counts.Counts.{Counts}
-use Rattle.order_builder.specs.PrintedOrder.{printed_order}
-use Rattle.tso_report.specs.Shown.{Shown}
-use Rattle.tso_report.specs.Report.{line, head, body, test_line, machine_line, register_lines, memory_line, condition_line, choices_line, cache_lines, report}
 use Rattle.tso_report.specs.Json.{json_report}
 use Rattle.tso_report.specs.inner.JsonFrame.{other_members}
-use Rattle.tso_report.specs.Tally.{RunCounts, tally_text}
-use Rattle.scheduler.specs.Plan.{Plan}
 use Rattle.command_line.specs.declared.settings.Settings.TheVariants as settings
-use Rattle.commands.specs.Dividing.{parts_of, EndsInFeed}
-use Rattle.commands.specs.Lines.{input_refusal, test_refusal, choices_refusal, unfinished_line}
-use Rattle.commands.specs.RunTexts.{report_in, unfinished_in}
-use Rattle.simulator.specs.Runs.{run_under, counts_under}
-use Rattle.simulator.specs.Simulation.{shown_of, verdict}
-use Rattle.commands.specs.Sweep.{sweep_status, IsSweepAnswer}
-use Rattle.sweeper.specs.Counting.{choices_of, seeded_run, with_one_run, counts_from, sweep_counts}
-use Rattle.tso_cli.specs.Answers.{IsAnswerTo, IsInputAnswer, IsAnswer, too_large, refused, answered}
-use Rattle.commands.specs.Answers.{run_text, run_status, text_under, status_under, IsRunAnswer, refused, ran}
+use Rattle.tso_cli.specs.Answers.{refused}
+use Rattle.commands.specs.Answers.{text_under, refused}
 use Rattle.tso_cli.specs.Machines.{AreAtomicAtOneDepth, DifferInLines, DifferInMembers, ReportsDiffer, RunsAnswerAlike, TracesDiffer, TracesAnswerAlike, SweepsAnswerAlike, TracesDifferIn}
-use Rattle.commands.specs.Trace.{ending_text, traced_text, IsTraceAnswer, refused, traced, object_text, traced_in, FitsForm, IsTooLong, too_long}
-use Rattle.trace_report.specs.Lines.{trace_text}
+use Rattle.commands.specs.Trace.{traced_text, refused, object_text}
 use Rattle.trace_report.specs.Shown.{Shown as Step}
-use Rattle.trace_report.specs.Steps.{trace_under}
-use Rattle.trace_json.specs.TracedRun.{json_ended, json_unended}
-use Rattle.tso_cli.specs.inner.ReadOneWay.{AreReadOneWay}
-use Rattle.command_line.specs.declared.settings.Settings.{Settings}
-use Rattle.commands.specs.declared.answer.Status.{Status}
-use Rattle.commands.specs.declared.answer.Status.TheVariants.{Good, Refused, Unended}
-use Rattle.simulator.proofs.BusLemmas.{atomic-run}
-use Rattle.simulator.proofs.CountLemmas.{counts-each}
-use Rattle.commands.proofs.TraceLengths.{never-both, one-word}
 
 -- ---- a report as one text with two places
 

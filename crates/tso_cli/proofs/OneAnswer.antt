@@ -1,27 +1,12 @@
 -- There is one answer to an input.
-use Rattle.std.proofs.Common.{◌≡◌, ◌≤◌, ◌<◌, ◌^◌, ℕ, Bool, List, length, Some, refl, sym, ◌∙◌, ap, subst, arith}
-use Rattle.tso_model.specs.Litmus.{Litmus, IsTest}
-use Rattle.tso_model.specs.declared.execution.Entry.{Entry}
-use Rattle.scheduler.specs.Refusals.{IsDecided}
-use Rattle.scheduler.specs.declared.fault.ChoiceFault.TheVariants.{TooMany}
-use Rattle.protocol_tables.specs.declared.kind.ProtocolKind.{ProtocolKind}
-use Rattle.machine_core.specs.Configuration.{Configuration}
-use Rattle.commands.specs.Dividing.{parts_of}
-use Rattle.simulator.specs.Runs.{run_under, counts_under}
-use Rattle.commands.specs.Lines.{test_refusal, choices_refusal}
-use Rattle.commands.specs.CheckLines.{order_refusal, invalid_line}
-use Rattle.tso_cli.specs.Answers.{IsAnswerTo, IsInputAnswer, IsAnswer, too_large, refused, answered}
-use Rattle.commands.specs.Answers.{run_text, run_status, IsRunAnswer, IsJudgement, IsCheckAnswer, refused, ran, judged, valid, invalid}
-use Rattle.commands.specs.Trace.{traced_in, IsTooLong, IsTraceAnswer, refused, too_long, traced}
-use Rattle.commands.specs.Witness.{IsWitness, IsWitnessAnswer, reached, too_small, invalid, refused, judged}
-use Rattle.command_line.specs.declared.settings.Settings.{Settings}
+use Rattle.tso_cli.proofs.Vocabulary.{◌≡◌, ◌≤◌, ◌<◌, ◌^◌, ℕ, Bool, List, length, Some, refl, sym, ◌∙◌, ap, subst, arith, Litmus, IsTest, Entry, IsDecided, TooMany, ProtocolKind, Configuration, parts_of, run_under, counts_under, test_refusal, choices_refusal, order_refusal, invalid_line, IsAnswerTo, IsInputAnswer, IsAnswer, too_large, answered, run_text, run_status, IsRunAnswer, IsJudgement, IsCheckAnswer, ran, valid, traced_in, IsTooLong, IsTraceAnswer, too_long, traced, IsWitness, IsWitnessAnswer, reached, too_small, Settings, Status, GivesOneAnswer, AreReadOneWay, one-word, never-both}
+use Rattle.tso_cli.specs.Answers.{refused}
+use Rattle.commands.specs.Answers.{refused, judged, invalid}
+use Rattle.commands.specs.Trace.{refused}
+use Rattle.commands.specs.Witness.{invalid, refused, judged}
 use Rattle.command_line.specs.declared.settings.Settings.TheVariants as settings
-use Rattle.commands.specs.declared.answer.Status.{Status}
-use Rattle.tso_cli.specs.OneText.{GivesOneAnswer}
-use Rattle.tso_cli.specs.inner.ReadOneWay.{AreReadOneWay}
 use Rattle.tso_cli.proofs.CheckLemmas.{IsReal, IsOne}
 use Rattle.commands.proofs.DividingLemmas.{rest_within}
-use Rattle.commands.proofs.TraceLengths.{one-word, never-both}
 
 abbrev pub Same : List ℕ → List ℕ → Status → Status → Type 0
 Same out other status again = (out ≡ other) × (status ≡ again)

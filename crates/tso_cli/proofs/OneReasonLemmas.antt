@@ -1,17 +1,9 @@
 -- What the headline decides of `why`.
-use Rattle.std.proofs.Common.{◌≡◌, ◌∙◌, ◌<◌, ◌≤◌, ◌⊎◌, inl, inr, ℕ, Bool, List, length, sym, ap, subst}
-use Rattle.tso_model.specs.Litmus.{Litmus}
-use Rattle.litmus_reader.specs.Spelling.{SpellsTest, IsRefused as IsRefusedTest}
-use Rattle.litmus_reader.specs.declared.fault.TextFault.{TextFault}
-use Rattle.command_line.specs.Explanation.{Explanation}
+use Rattle.tso_cli.proofs.Vocabulary.{◌≡◌, ◌∙◌, ◌<◌, ◌≤◌, ◌⊎◌, inl, inr, ℕ, Bool, List, length, sym, ap, subst, Litmus, SpellsTest, TextFault, Explanation, longest_input, Parts, parts_of, test_refusal, PrintsRefutation, PrintsExecutionOf, HeadlineOfReasons, PartsHeadline, InputHeadline, AreReadOneWay}
+use Rattle.litmus_reader.specs.Spelling.{IsRefused as IsRefusedTest}
 use Rattle.command_line.specs.declared.settings.Settings.TheVariants as settings
-use Rattle.tso_io.specs.Limits.{longest_input}
-use Rattle.commands.specs.Dividing.{Parts, parts_of}
-use Rattle.commands.specs.Lines.{test_refusal}
-use Rattle.tso_cli.specs.WhyHeadline.{PrintsRefutation, PrintsExecutionOf, HeadlineOfReasons, never, allowed, too_many}
-use Rattle.tso_cli.specs.Headline.{PartsHeadline, InputHeadline}
+use Rattle.tso_cli.specs.WhyHeadline.{never, allowed, too_many}
 use Rattle.tso_cli.specs.OneReason.{AreOneReason, one_text, both_never, both_allowed, first_gives_none, second_gives_none}
-use Rattle.tso_cli.specs.inner.ReadOneWay.{AreReadOneWay}
 use Rattle.tso_cli.proofs.OneTextLemmas.{AreDecided, sizes}
 
 one-reason : (test : List ℕ) (t : Litmus) (e f : Explanation) (json again : Bool) (out other : List ℕ) → e.model ≡ f.model → SpellsTest test t

@@ -1,33 +1,11 @@
 -- What the headline decides of `outcomes`.
-use Rattle.std.proofs.Common.{◌≡◌, ◌∙◌, ◌<◌, ◌≤◌, ◌⊎◌, inl, inr, ℕ, Bool, true, false, List, [], ◌∷◌, ◌++◌, map, length, Contains, Option, Some, None, refl, sym, ap, subst}
-use Rattle.std.specs.Option.{ForSome}
-use Rattle.std.specs.Ordering.{nat_cmp}
-use Rattle.std.specs.Cmp.Lexicographic.{slice_cmp}
-use Rattle.std.specs.List.Sorted.{IsStrictlySortedBy}
-use Rattle.std.proofs.lemmas.List.{length-map}
-use Rattle.tso_model.specs.Litmus.{Litmus, IsTest}
-use Rattle.tso_model.specs.Condition.{Condition}
-use Rattle.tso_model.specs.declared.choice.Choice.{Choice}
-use Rattle.litmus_reader.specs.Spelling.{SpellsTest, IsRefused as IsRefusedTest}
-use Rattle.litmus_reader.specs.declared.fault.TextFault.{TextFault}
-use Rattle.tso_report.specs.Report.{test_line}
-use Rattle.tso_report.specs.declared.named.Named.{Named}
-use Rattle.shown_values.specs.Shown.{named_in}
-use Rattle.outcome_report.specs.Verdict.{verdict_line, verdict_value}
-use Rattle.outcome_report.specs.Outcomes.{Outcome, shown_values, held_in, failed_in, true_in, is_met_in, outcomes_line, state_line, by_line, outcome_lines, observation_line, true_line, condition_lines}
+use Rattle.tso_cli.proofs.Vocabulary.{◌≡◌, ◌∙◌, ◌<◌, ◌≤◌, ◌⊎◌, inl, inr, ℕ, Bool, true, false, List, [], ◌∷◌, ◌++◌, map, length, Contains, Option, Some, None, refl, sym, ap, subst, ForSome, nat_cmp, slice_cmp, IsStrictlySortedBy, length-map, Litmus, IsTest, Condition, Choice, SpellsTest, TextFault, test_line, Named, named_in, verdict_line, verdict_value, Outcome, shown_values, held_in, failed_in, is_met_in, outcomes_in, AreAlike, OutcomesOfTheSameValuesAreAlike, Search, longest_input, Parts, parts_of, test_refusal, AreAllOutcomes, HeadlineOfOutcomes, all, PartsHeadline, InputHeadline, AreReadOneWay}
+use Rattle.litmus_reader.specs.Spelling.{IsRefused as IsRefusedTest}
+use Rattle.outcome_report.specs.Outcomes.{true_in, outcomes_line, state_line, by_line, outcome_lines, observation_line, true_line, condition_lines}
 use Rattle.outcome_report.specs.OutcomesJson.{state_value, holds_in, observation_value}
-use Rattle.outcome_report.specs.Printed.{outcomes_in}
-use Rattle.outcome_report.specs.Laws.{AreAlike, OutcomesOfTheSameValuesAreAlike}
-use Rattle.command_line.specs.Search.{Search}
 use Rattle.command_line.specs.declared.settings.Settings.TheVariants as settings
-use Rattle.tso_io.specs.Limits.{longest_input}
-use Rattle.commands.specs.Dividing.{Parts, parts_of}
-use Rattle.commands.specs.Lines.{test_refusal}
-use Rattle.commands.specs.Outcomes.{AreAllOutcomes}
-use Rattle.tso_cli.specs.OutcomesHeadline.{PrintsAllOutcomes, HeadlineOfOutcomes, all, too_many}
-use Rattle.tso_cli.specs.Headline.{PartsHeadline, InputHeadline}
+use Rattle.tso_cli.specs.OutcomesHeadline.{PrintsAllOutcomes, too_many}
 use Rattle.tso_cli.specs.OneSearch.{without_choices, ShowOneSearch, ShowsNoState, AreOneSearch, one_text, both_show, first_shows_none, second_shows_none}
-use Rattle.tso_cli.specs.inner.ReadOneWay.{AreReadOneWay}
 use Rattle.tso_cli.proofs.OneTextLemmas.{AreDecided, sizes}
 use Rattle.tso_cli.proofs.Revisited.{each-there, same-met}
 

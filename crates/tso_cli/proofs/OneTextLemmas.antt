@@ -1,53 +1,12 @@
 -- What the headline decides by itself.
-use Rattle.std.proofs.Common.{◌≡◌, ◌<◌, ◌≤◌, ◌^◌, ◌+◌, ◌⊎◌, inl, inr, ℕ, zero, suc, Bool, true, false, cond, List, ◌++◌, length, Option, Some, None, IfSome, Contains, refl, sym, ap, subst, ◌∙◌, arith}
-use Rattle.std.specs.Map.{keys_of}
-use Rattle.std.proofs.lemmas.Slice.Eq.{bytes_eq-Decides}
-use Rattle.tso_model.specs.Litmus.{Litmus, IsTest}
-use Rattle.tso_model.specs.Condition.{Condition}
-use Rattle.tso_model.specs.Axioms.{IsTsoExecution}
-use Rattle.tso_model.specs.FinalState.{final_words, final_registers}
-use Rattle.tso_model.specs.Runs.{Run, run}
-use Rattle.tso_model.specs.declared.choice.Bus.{Bus}
-use Rattle.tso_model.specs.declared.choice.Bus.TheVariants.{Atomic, Split}
-use Rattle.tso_model.specs.declared.choice.Choice.{Choice}
-use Rattle.tso_model.specs.declared.execution.Entry.{Entry}
-use Rattle.litmus_reader.specs.Spelling.{SpellsTest, IsRefused as IsRefusedTest, IsDecided as IsDecidedTest}
-use Rattle.litmus_reader.specs.declared.fault.TextFault.{TextFault}
-use Rattle.scheduler.specs.Grammar.{SpellsChoices}
-use Rattle.scheduler.specs.Refusals.{IsRefusedAsChoices, IsDecided}
+use Rattle.tso_cli.proofs.Vocabulary.{◌≡◌, ◌<◌, ◌≤◌, ◌^◌, ◌+◌, ◌⊎◌, inl, inr, ℕ, zero, suc, Bool, true, false, cond, List, ◌++◌, length, Option, Some, None, IfSome, Contains, refl, sym, ap, subst, ◌∙◌, arith, keys_of, bytes_eq-Decides, Litmus, IsTest, Condition, IsTsoExecution, final_words, final_registers, Run, run, Bus, Atomic, Split, Choice, Entry, SpellsTest, TextFault, SpellsChoices, IsRefusedAsChoices, IsDecided, TooMany, SpellsOrder, HasFault, OrderFault, IsFirstBreach, Breach, ProtocolKind, Configuration, head, observation, state_lines, sweep_line, ended_in, run_counts, Plan, longest_input, Parts, parts_of, test_refusal, choices_refusal, order_refusal, invalid_line, verdict, sweep_lines, PrintsExecution, PrintsEachRun, HeadlineOfRuns, seeded_order, values_after, has_values, has_truth, seeds_from, seeds_with, PrintsSweep, HeadlineOfSweeps, JudgesOrder, JudgesEachOrder, WitnessesOrder, WitnessesEachOrder, unreached, broken, HeadlineOf, PartsHeadline, InputHeadline, ShowOneExecution, AreOneRun, AreOneTrace, AreOneWitness, PrintsEachTrace, HeadlineOfTraces, PrintsTrace, PrintsTracedObject, PrintsTraceIn, trace_text, trace_under, FitsForm, IsTooLong, AreReadOneWay, Settings, too-long-or-not, one-word}
+use Rattle.litmus_reader.specs.Spelling.{IsRefused as IsRefusedTest, IsDecided as IsDecidedTest}
 use Rattle.scheduler.specs.declared.fault.ChoiceFault.{ChoiceFault}
-use Rattle.scheduler.specs.declared.fault.ChoiceFault.TheVariants.{TooMany}
-use Rattle.order_builder.specs.Spelling.{SpellsOrder, HasFault}
-use Rattle.order_builder.specs.declared.fault.OrderFault.{OrderFault}
-use Rattle.axiom_checker.specs.FirstBreach.{IsFirstBreach}
-use Rattle.axiom_checker.specs.declared.breach.Breach.{Breach}
-use Rattle.protocol_tables.specs.declared.kind.ProtocolKind.{ProtocolKind}
-use Rattle.machine_core.specs.Configuration.{Configuration}
-use Rattle.tso_report.specs.Report.{head}
-use Rattle.tso_report.specs.Tally.{observation, state_lines, sweep_line, ended_in, run_counts}
-use Rattle.scheduler.specs.Plan.{Plan}
-use Rattle.tso_io.specs.Limits.{longest_input}
-use Rattle.commands.specs.Dividing.{Parts, parts_of}
-use Rattle.commands.specs.Lines.{test_refusal, choices_refusal}
-use Rattle.commands.specs.CheckLines.{order_refusal, invalid_line}
-use Rattle.simulator.specs.Simulation.{verdict}
-use Rattle.commands.specs.Sweep.{sweep_lines}
-use Rattle.tso_cli.specs.RunHeadline.{PrintsExecution, PrintsEachRun, HeadlineOfRuns}
-use Rattle.tso_cli.specs.SweepHeadline.{seeded_order, values_after, has_values, has_truth, seeds_from, seeds_with, PrintsSweep, HeadlineOfSweeps}
 use Rattle.tso_cli.specs.SplitRun.{split_run}
-use Rattle.tso_cli.specs.Judgement.{JudgesOrder, JudgesEachOrder, WitnessesOrder, WitnessesEachOrder, reached, unreached, broken}
-use Rattle.tso_cli.specs.Headline.{HeadlineOf, PartsHeadline, InputHeadline}
-use Rattle.tso_cli.specs.OneText.{ShowOneExecution, AreOneRun, AreOneTrace, AreOneWitness}
-use Rattle.tso_cli.specs.TraceHeadline.{PrintsEachTrace, HeadlineOfTraces, PrintsTrace, PrintsTracedObject, PrintsTraceIn}
-use Rattle.trace_report.specs.Lines.{trace_text}
-use Rattle.trace_report.specs.Steps.{trace_under}
-use Rattle.commands.specs.Trace.{FitsForm, IsTooLong}
-use Rattle.tso_cli.specs.inner.ReadOneWay.{AreReadOneWay}
-use Rattle.command_line.specs.declared.settings.Settings.{Settings}
+use Rattle.tso_cli.specs.Judgement.{reached}
 use Rattle.command_line.specs.declared.settings.Settings.TheVariants as settings
 use Rattle.tso_cli.proofs.OneAnswer.{short_rest}
 use Rattle.tso_cli.proofs.SameStates.{one-list}
-use Rattle.commands.proofs.TraceLengths.{too-long-or-not, one-word}
 
 -- each text and each order is one or the other
 pub record AreDecided : Type 0 where

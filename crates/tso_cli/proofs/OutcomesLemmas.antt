@@ -1,23 +1,8 @@
 -- What the answer of a search means.
-use Rattle.std.proofs.Common.{◌≡◌, ◌∙◌, ◌≤◌, ℕ, zero, suc, Bool, List, [], map, length, Contains, refl, ap, subst, arith}
-use Rattle.std.proofs.lemmas.List.{append-nil}
-use Rattle.std.proofs.lemmas.List.Elements.{All-weaker, All-contains}
-use Rattle.tso_model.specs.Limits.{most_depth}
-use Rattle.tso_model.specs.Litmus.{Litmus, IsTest}
-use Rattle.tso_model.specs.Axioms.{IsTsoExecution}
-use Rattle.tso_model.specs.FinalState.{final_words, final_registers}
-use Rattle.tso_model.specs.declared.execution.Entry.{Entry}
+use Rattle.tso_cli.proofs.Vocabulary.{◌≡◌, ◌∙◌, ◌≤◌, ℕ, zero, suc, Bool, List, [], map, length, Contains, refl, ap, subst, arith, append-nil, All-weaker, All-contains, most_depth, Litmus, IsTest, IsTsoExecution, final_words, final_registers, Entry, SpellsChoices, printed_choices, Named, named_in, values_at, Outcome, shown_values, Search, AreAllOutcomes, IsOutcomesAnswer, found, HeadlineOfOutcomes, all, Status, Leads, made-of}
 use Rattle.outcome_laws.specs.Outcomes.{IsEnd, IsSequentiallyConsistent, EndsAreWhatTsoAllows, ChoicesToAnEndAreCounted}
-use Rattle.scheduler.specs.Grammar.{SpellsChoices}
-use Rattle.scheduler.specs.Printed.{printed_choices}
-use Rattle.tso_report.specs.declared.named.Named.{Named}
-use Rattle.shown_values.specs.Shown.{named_in, values_at}
-use Rattle.outcome_report.specs.Outcomes.{Outcome, shown_values}
-use Rattle.command_line.specs.Search.{Search}
-use Rattle.commands.specs.Outcomes.{AreAllOutcomes, IsOutcomesAnswer, found, too_many}
-use Rattle.tso_cli.specs.OutcomesHeadline.{shown_after, AreExactly, HeadlineOfOutcomes, all, too_many}
-use Rattle.commands.specs.declared.answer.Status.{Status}
-use Rattle.commands.proofs.FoundOutcomes.{Leads, made-of}
+use Rattle.commands.specs.Outcomes.{too_many}
+use Rattle.tso_cli.specs.OutcomesHeadline.{shown_after, AreExactly, too_many}
 use Rattle.tso_cli.proofs.WitnessLemmas.{Reaching, work-within}
 
 -- what the crates below say of the ends of runs, and of the choices that lead there

@@ -1,7 +1,5 @@
 -- What was printed is neither a refusal nor unfinished.
-use Rattle.std.proofs.Common.{◌⊎◌, inl, inr}
-use Rattle.commands.specs.declared.answer.Status.TheVariants.{Refused, Unended}
-use Rattle.tso_cli.specs.Answers.{IsPrinted}
+use Rattle.tso_cli.proofs.Vocabulary.{◌⊎◌, inl, inr, Refused, Unended, IsPrinted}
 
 pub refused-is-none : IsPrinted Refused → ⊥
 refused-is-none (inl is) = let no : ⊥ = cc in no

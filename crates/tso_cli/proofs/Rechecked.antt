@@ -1,47 +1,16 @@
 -- The report of a run is short, and what `check` answers to it.
-use Rattle.std.proofs.Common.{◌≡◌, ◌+◌, ◌-◌, ◌*◌, ◌≤◌, ◌^◌, ℕ, suc, Bool, true, false, cond, List, [], ◌∷◌, ◌++◌, length, All, slice_index, slice_index_or, drop, length-append, codes, refl, sym, ap, subst, ◌∙◌, arith}
-use Rattle.std.proofs.lemmas.List.Elements.{All-map, All-head, All-tail, All-weaker}
-use Rattle.order_builder.specs.Spelling.{SpellsOrder}
-use Rattle.tso_model.specs.Litmus.{Litmus, IsTest, IsProgram}
-use Rattle.tso_model.specs.Registers.{AreRegisters}
+use Rattle.tso_cli.proofs.Vocabulary.{◌≡◌, ◌+◌, ◌-◌, ◌*◌, ◌≤◌, ◌^◌, ℕ, suc, Bool, true, false, cond, List, [], ◌∷◌, ◌++◌, length, All, slice_index, slice_index_or, drop, length-append, codes, refl, sym, ap, subst, ◌∙◌, arith, All-map, All-head, All-tail, All-weaker, SpellsOrder, Litmus, IsTest, IsProgram, AreRegisters, made_by, made_from, IsTsoExecution, read_values, registers_from, start, Run, has_ended, stall_count, Bus, Instr, StoreImm, StoreReg, Load, SetImm, SetReg, Fence, Xchg, Xadd, Entry, Choice, IsExecution, SpellsTest, Table, table_of, ProtocolKind, Configuration, IsConfigurationWithinLimits, report, Shown, Parts, parts_of, joined, valid_line, run_by, run_under, AnswersFit, counts_under, shown_of, IsInputAnswer, too_large, answered, run_text, run_status, IsRunAnswer, IsCheckAnswer, ran, Status, Good, Unended, attempts_in, length-in, run-is, RunLaws, counts-each, counts-few, AreReadOneWay}
 use Rattle.tso_model.specs.Thread.{entries_of, with_value, value_in}
-use Rattle.tso_model.specs.ProgramEntries.{made_by, made_from}
-use Rattle.tso_model.specs.Axioms.{IsTsoExecution}
-use Rattle.tso_model.specs.ProgramEntries.{read_values}
-use Rattle.tso_model.specs.FinalState.{registers_from}
-use Rattle.tso_model.specs.FlatMachine.{start}
-use Rattle.tso_model.specs.Runs.{Run, has_ended, stall_count}
 use Rattle.tso_model.specs.SplitMachine.{Attempt}
 use Rattle.tso_model.specs.EitherBus.{BusState, unheld, effect_on, after_on, run_on_from, resting_on, then_on}
-use Rattle.tso_model.specs.declared.choice.Bus.{Bus}
-use Rattle.tso_model.specs.declared.instruction.Instr.{Instr}
-use Rattle.tso_model.specs.declared.instruction.Instr.TheVariants.{StoreImm, StoreReg, Load, SetImm, SetReg, Fence, Xchg, Xadd}
-use Rattle.tso_model.specs.declared.execution.Entry.{Entry}
-use Rattle.tso_model.specs.declared.choice.Choice.{Choice}
 use Rattle.tso_model.specs.declared.choice.Outcome.{Outcome}
 use Rattle.tso_model.specs.declared.choice.Outcome.TheVariants.{Committed, Buffered, Moved, Asked, Stalled}
-use Rattle.tso_laws.specs.EndedRuns.{IsExecution}
-use Rattle.litmus_reader.specs.Spelling.{SpellsTest, IsRefused as IsRefusedTest}
-use Rattle.protocol_tables.specs.Tables.{Table, table_of}
-use Rattle.protocol_tables.specs.declared.kind.ProtocolKind.{ProtocolKind}
-use Rattle.machine_core.specs.Configuration.{Configuration, IsConfigurationWithinLimits}
-use Rattle.tso_report.specs.Report.{report}
-use Rattle.tso_report.specs.Shown.{Shown}
+use Rattle.litmus_reader.specs.Spelling.{IsRefused as IsRefusedTest}
 use Rattle.tso_report.specs.Limits.{longest_report, IsSmall}
-use Rattle.commands.specs.Dividing.{Parts, parts_of, joined}
-use Rattle.commands.specs.CheckLines.{valid_line}
-use Rattle.simulator.specs.Runs.{run_by, run_under, AnswersFit, counts_under}
-use Rattle.simulator.specs.Simulation.{shown_of}
-use Rattle.tso_cli.specs.Answers.{IsInputAnswer, too_large, refused, answered}
-use Rattle.commands.specs.Answers.{run_text, run_status, IsRunAnswer, IsCheckAnswer, refused, ran}
+use Rattle.tso_cli.specs.Answers.{refused}
+use Rattle.commands.specs.Answers.{refused}
 use Rattle.command_line.specs.declared.settings.Settings.TheVariants as settings
-use Rattle.commands.specs.declared.answer.Status.{Status}
-use Rattle.commands.specs.declared.answer.Status.TheVariants.{Good, Unended}
-use Rattle.simulator.proofs.BusLemmas.{attempts_in, length-in, run-is}
-use Rattle.simulator.proofs.SimulationLemmas.{RunLaws}
-use Rattle.simulator.proofs.CountLemmas.{counts-each, counts-few}
 use Rattle.tso_cli.proofs.CheckLemmas.{order-for, valid-answer}
-use Rattle.tso_cli.specs.inner.ReadOneWay.{AreReadOneWay}
 use Rattle.tso_cli.proofs.HeadlineLemmas.{Runs, report-spells}
 
 -- ---- how much a run leaves

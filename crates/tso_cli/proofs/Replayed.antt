@@ -1,36 +1,12 @@
 -- What `witness` prints, and what `run` answers to it.
-use Rattle.std.proofs.Common.{◌≡◌, ◌*◌, ◌≤◌, ◌<◌, ℕ, Bool, true, List, [], ◌∷◌, ◌++◌, length, codes, length-append, refl, sym, ap, subst, ◌∙◌, arith}
-use Rattle.std.specs.Fmt.{decimal}
+use Rattle.tso_cli.proofs.Vocabulary.{◌≡◌, ◌*◌, ◌≤◌, ◌<◌, ℕ, Bool, true, List, [], ◌∷◌, ◌++◌, length, codes, length-append, refl, sym, ap, subst, ◌∙◌, arith, decimal, Litmus, IsTest, IsTsoExecution, chosen, run, CoresExist, Atomic, Entry, Choice, choices_along, LeadTo, needed, SpellsTest, SpellsChoices, printed_choice, printed_after, printed_choices, SpellsOrder, table_of, ProtocolKind, Configuration, IsConfigurationWithinLimits, Parts, parts_of, joined, run_under, counts_under, report_in, shown_of, witness_line, IsWitness, IsWitnessAnswer, reached, too_small, invalid, judged, IsInputAnswer, too_large, answered, IsRunAnswer, ran, Status, Good, atomic-run, AreReadOneWay}
 use Rattle.std.proofs.lemmas.Fmt.{length-decimal-le}
-use Rattle.tso_model.specs.Litmus.{Litmus, IsTest}
-use Rattle.tso_model.specs.Axioms.{IsTsoExecution}
-use Rattle.tso_model.specs.FlatMachine.{chosen}
-use Rattle.tso_model.specs.Runs.{run, CoresExist}
-use Rattle.tso_model.specs.declared.choice.Bus.TheVariants.{Atomic}
-use Rattle.tso_model.specs.declared.execution.Entry.{Entry}
-use Rattle.tso_model.specs.declared.choice.Choice.{Choice}
 use Rattle.tso_model.specs.declared.choice.Choice.TheVariants.{Step, Drain}
-use Rattle.tso_laws.specs.Along.{choices_along, LeadTo}
-use Rattle.tso_laws.specs.Depth.{needed}
-use Rattle.litmus_reader.specs.Spelling.{SpellsTest, IsRefused as IsRefusedTest}
-use Rattle.scheduler.specs.Grammar.{SpellsChoices}
-use Rattle.scheduler.specs.Printed.{printed_choice, printed_after, printed_choices}
-use Rattle.order_builder.specs.Spelling.{SpellsOrder}
-use Rattle.protocol_tables.specs.Tables.{table_of}
-use Rattle.protocol_tables.specs.declared.kind.ProtocolKind.{ProtocolKind}
-use Rattle.machine_core.specs.Configuration.{Configuration, IsConfigurationWithinLimits}
-use Rattle.commands.specs.Dividing.{Parts, parts_of, joined}
-use Rattle.simulator.specs.Runs.{run_under, counts_under}
-use Rattle.commands.specs.RunTexts.{report_in}
-use Rattle.simulator.specs.Simulation.{shown_of}
-use Rattle.commands.specs.Witness.{witness_line, IsWitness, IsWitnessAnswer, ReportsOrder, reached, too_small, invalid, refused, judged}
-use Rattle.tso_cli.specs.Answers.{IsInputAnswer, too_large, refused, answered}
-use Rattle.commands.specs.Answers.{IsRunAnswer, refused, ran}
+use Rattle.litmus_reader.specs.Spelling.{IsRefused as IsRefusedTest}
+use Rattle.commands.specs.Witness.{ReportsOrder, refused}
+use Rattle.tso_cli.specs.Answers.{refused}
+use Rattle.commands.specs.Answers.{refused}
 use Rattle.command_line.specs.declared.settings.Settings.TheVariants as settings
-use Rattle.commands.specs.declared.answer.Status.{Status}
-use Rattle.commands.specs.declared.answer.Status.TheVariants.{Good}
-use Rattle.simulator.proofs.BusLemmas.{atomic-run}
-use Rattle.tso_cli.specs.inner.ReadOneWay.{AreReadOneWay}
 use Rattle.tso_cli.proofs.WitnessLemmas.{Reaching, choices-few, line-spells}
 
 -- ---- the line of choices is short

@@ -1,34 +1,8 @@
 -- What `outcomes` prints, once more; and what `run` answers to its choices.
-use Rattle.std.proofs.Common.{◌≡◌, ◌∙◌, ℕ, Bool, List, map, length, Contains, Option, Some, None, refl, sym, ap, subst, arith}
-use Rattle.std.specs.Option.{ForSome}
-use Rattle.std.proofs.lemmas.List.Elements.{All-weaker, All-contains}
-use Rattle.tso_model.specs.Litmus.{Litmus}
-use Rattle.tso_model.specs.Condition.{Condition}
-use Rattle.tso_model.specs.Runs.{run}
-use Rattle.tso_model.specs.declared.choice.Bus.TheVariants.{Atomic}
-use Rattle.litmus_reader.specs.Spelling.{SpellsTest}
-use Rattle.scheduler.specs.Printed.{printed_choices}
-use Rattle.protocol_tables.specs.declared.kind.ProtocolKind.{ProtocolKind}
-use Rattle.machine_core.specs.Configuration.{Configuration}
-use Rattle.tso_report.specs.declared.named.Named.{Named}
-use Rattle.shown_values.specs.Shown.{named_in, values_at}
-use Rattle.outcome_report.specs.Verdict.{is_met}
-use Rattle.outcome_report.specs.Outcomes.{Outcome, shown_values, held_in, failed_in, is_met_in}
-use Rattle.outcome_report.specs.Printed.{outcomes_in}
-use Rattle.outcome_report.specs.Laws.{AreAlike, OutcomesOfTheSameValuesAreAlike}
-use Rattle.command_line.specs.Search.{Search}
-use Rattle.tso_cli.specs.Answers.{IsInputAnswer, too_large, refused, answered, IsPrinted}
-use Rattle.tso_cli.specs.OneText.{ShowTheSameStates}
-use Rattle.commands.specs.Outcomes.{AreAllOutcomes, IsOutcomesAnswer, is_claimed_of, found, too_many}
+use Rattle.tso_cli.proofs.Vocabulary.{◌≡◌, ◌∙◌, ℕ, Bool, List, map, length, Contains, Option, Some, None, refl, sym, ap, subst, arith, ForSome, All-weaker, All-contains, Litmus, Condition, run, Atomic, SpellsTest, printed_choices, ProtocolKind, Configuration, Named, named_in, values_at, is_met, Outcome, shown_values, held_in, failed_in, is_met_in, outcomes_in, AreAlike, OutcomesOfTheSameValuesAreAlike, Search, IsInputAnswer, too_large, refused, answered, IsPrinted, ShowTheSameStates, AreAllOutcomes, IsOutcomesAnswer, is_claimed_of, found, too_many, parts_of, joined, counts_under, shown_of, Status, AreReadOneWay, Leads, made-of}
 use Rattle.commands.specs.Verdicts.{status_of_verdict}
-use Rattle.commands.specs.Dividing.{parts_of, joined}
 use Rattle.tso_cli.specs.Revisited.{IsRevisited, AreRevisited}
-use Rattle.simulator.specs.Runs.{counts_under}
-use Rattle.simulator.specs.Simulation.{shown_of}
 use Rattle.command_line.specs.declared.settings.Settings.TheVariants as settings
-use Rattle.commands.specs.declared.answer.Status.{Status}
-use Rattle.tso_cli.specs.inner.ReadOneWay.{AreReadOneWay}
-use Rattle.commands.proofs.FoundOutcomes.{Leads, made-of}
 use Rattle.tso_cli.proofs.PrintedLemmas.{refused-is-none, unended-is-none}
 use Rattle.tso_cli.proofs.OutcomesLemmas.{Searches, end-of, few-to-end, choices-spell}
 use Rattle.tso_cli.proofs.Replayed.{choices-short, replayed-joined}

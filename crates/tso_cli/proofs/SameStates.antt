@@ -1,21 +1,9 @@
 -- Lists of states in ascending order that count alike are one list.
-use Rattle.std.proofs.Common.{◌≡◌, ◌<◌, ℕ, zero, suc, Bool, true, false, cond, List, [], ◌∷◌, Option, Some, None, is_some, Ordering, Less, Equal, Greater, All, Contains, refl, sym, ap, subst, ◌∙◌, arith}
-use Rattle.std.specs.List.{AllByRecursion}
-use Rattle.std.specs.List.Sorted.{IsStrictlySortedBy}
-use Rattle.std.specs.Option.{unwrap_or}
-use Rattle.std.specs.Ordering.{is_eq, nat_cmp, ordering_reverse}
-use Rattle.std.specs.Cmp.Lexicographic.{slice_cmp}
-use Rattle.std.specs.BTreeMap.{is_at}
-use Rattle.std.specs.Map.{lookup, keys_of}
+use Rattle.tso_cli.proofs.Vocabulary.{◌≡◌, ◌<◌, ℕ, zero, suc, Bool, true, false, cond, List, [], ◌∷◌, Option, Some, None, is_some, Ordering, Less, Equal, Greater, All, Contains, refl, sym, ap, subst, ◌∙◌, arith, AllByRecursion, IsStrictlySortedBy, unwrap_or, is_eq, nat_cmp, ordering_reverse, slice_cmp, is_at, lookup, keys_of, All-head, All-tail, All-weaker, get_or_from_slice_get, slice_get_within, bytes_eq-Decides, count_of, States, Ascend, all-map, same-values}
 use Rattle.std.proofs.lemmas.Cmp.{nat_list_cmp_total, eq_by_cmp_equiv}
-use Rattle.std.proofs.lemmas.List.Elements.{All-head, All-tail, All-weaker}
 use Rattle.std.proofs.lemmas.Map.Entries.{place_from_lookup}
 use Rattle.std.proofs.lemmas.Map.Text.{is_eq-slice_cmp}
 use Rattle.std.proofs.lemmas.Map.Views.{IsSome-lookup_from_Contains}
-use Rattle.std.proofs.lemmas.Option.{get_or_from_slice_get, slice_get_within}
-use Rattle.std.proofs.lemmas.Slice.Eq.{bytes_eq-Decides}
-use Rattle.tso_report.specs.Tally.{count_of}
-use Rattle.sweeper.proofs.StateLemmas.{States, Ascend, all-map, same-values}
 
 abbrev R : List ℕ → List ℕ → Ordering
 R = slice_cmp nat_cmp

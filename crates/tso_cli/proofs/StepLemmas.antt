@@ -1,22 +1,7 @@
 -- From the last step of a test's trace to what is answered to an input; the status of a run that left its test.
-use Rattle.std.proofs.Common.{◌≡◌, ◌≤◌, ℕ, List, length, refl}
-use Rattle.tso_model.specs.Litmus.{Litmus}
-use Rattle.tso_model.specs.Runs.{Run}
-use Rattle.litmus_reader.specs.Spelling.{SpellsTest}
-use Rattle.protocol_tables.specs.declared.kind.ProtocolKind.{ProtocolKind}
-use Rattle.machine_core.specs.Configuration.{Configuration}
-use Rattle.tso_cli.specs.Answers.{answered}
-use Rattle.commands.specs.Answers.{run_status}
-use Rattle.tso_io.specs.Limits.{longest_input}
-use Rattle.commands.specs.Dividing.{parts_of}
-use Rattle.simulator.specs.Simulation.{IsEndingOf}
-use Rattle.tso_cli.specs.Step.{IsStepAnswer}
+use Rattle.tso_cli.proofs.Vocabulary.{◌≡◌, ◌≤◌, ℕ, List, length, refl, Litmus, Run, SpellsTest, ProtocolKind, Configuration, answered, run_status, longest_input, parts_of, IsEndingOf, IsStepAnswer, IsLastStep, told, Status, Refused, Ending, Ended, Unfinished}
 use Rattle.tso_cli.specs.Step as answer
-use Rattle.tso_cli.specs.inner.Step.{IsLastStep, refused, told, status_after}
-use Rattle.commands.specs.declared.answer.Status.{Status}
-use Rattle.commands.specs.declared.answer.Status.TheVariants.{Refused}
-use Rattle.simulator.specs.declared.simulation.Ending.{Ending}
-use Rattle.simulator.specs.declared.simulation.Ending.TheVariants.{Ended, Unfinished}
+use Rattle.tso_cli.specs.inner.Step.{refused, status_after}
 
 pub step-of-test : (kind : ProtocolKind) (c : Configuration) (input : List ℕ) (t : Litmus) (out : List ℕ) (status : Status)
     → length input ≤ longest_input → SpellsTest (parts_of input).test t → IsLastStep t kind c (parts_of input).rest out status

@@ -1,33 +1,7 @@
 -- What is counted of a sweep, and what that means: the final states of TSO executions.
-use Rattle.std.proofs.Common.{◌≡◌, ◌<◌, ◌≤◌, ◌⊎◌, inl, inr, ◌+◌, ℕ, zero, suc, Bool, true, false, not, cond, List, Option, Some, None, IfSome, is_none, All, Contains, refl, sym, ap, subst, ◌∙◌, arith}
-use Rattle.std.proofs.lemmas.Slice.Eq.{bytes_eq-Decides}
+use Rattle.tso_cli.proofs.Vocabulary.{◌≡◌, ◌<◌, ◌≤◌, ◌⊎◌, inl, inr, ◌+◌, ℕ, zero, suc, Bool, true, false, not, cond, List, Option, Some, None, IfSome, is_none, All, Contains, refl, sym, ap, subst, ◌∙◌, arith, bytes_eq-Decides, option_map, keys_of, registers_in, Litmus, IsTsoExecution, KeepsAllOrder, Condition, truth_of, final_words, final_registers, Run, Atomic, Choice, Entry, IsExecution, ProtocolKind, Configuration, RunCounts, with_state, with_verdict, values_in, count_of, runs_in, state_line, Plan, run_under, AnswersFit, verdict, IsSweepAnswer, choices_of, seeded_run, with_one_run, counts_from, sweep_counts, values_after, has_values, has_truth, seeds_from, HasPart, PrintsSweep, Status, States, Ascend, EachGiven, count-with, ascend-none, each-counted, counted-there, values-left, one, states-judged, unfinished-judged, held-judged, failed-judged, ascend-run, given-run, runs-with}
 use Rattle.std.specs.Prelude.{bytes_eq}
-use Rattle.std.specs.Option.{option_map}
-use Rattle.std.specs.Map.{keys_of}
-use Rattle.tso_model.specs.FlatMachine.{registers_in}
-use Rattle.tso_model.specs.Litmus.{Litmus}
-use Rattle.tso_model.specs.Axioms.{IsTsoExecution}
-use Rattle.tso_model.specs.SequentialConsistency.{KeepsAllOrder}
-use Rattle.tso_model.specs.Condition.{Condition, truth_of}
-use Rattle.tso_model.specs.FinalState.{final_words, final_registers}
-use Rattle.tso_model.specs.Runs.{Run}
-use Rattle.tso_model.specs.declared.choice.Bus.TheVariants.{Atomic}
-use Rattle.tso_model.specs.declared.choice.Choice.{Choice}
-use Rattle.tso_model.specs.declared.execution.Entry.{Entry}
-use Rattle.tso_laws.specs.EndedRuns.{IsExecution}
-use Rattle.protocol_tables.specs.declared.kind.ProtocolKind.{ProtocolKind}
-use Rattle.machine_core.specs.Configuration.{Configuration}
-use Rattle.tso_report.specs.Tally.{RunCounts, with_state, with_verdict, values_in, count_of, runs_in, state_line}
-use Rattle.scheduler.specs.Plan.{Plan}
-use Rattle.simulator.specs.Runs.{run_under, AnswersFit}
-use Rattle.simulator.specs.Simulation.{verdict}
-use Rattle.commands.specs.Sweep.{IsSweepAnswer}
-use Rattle.sweeper.specs.Counting.{choices_of, seeded_run, with_one_run, counts_from, sweep_counts}
-use Rattle.tso_cli.specs.SweepHeadline.{values_after, has_values, has_truth, seeds_from, HasPart, PrintsSweep}
-use Rattle.commands.specs.declared.answer.Status.{Status}
 use Rattle.tso_cli.proofs.SweptLines.{each-line}
-use Rattle.sweeper.proofs.StateLemmas.{States, Ascend, EachGiven, count-with, ascend-none, each-counted, counted-there}
-use Rattle.sweeper.proofs.RunsCounted.{values-left, one, states-judged, unfinished-judged, held-judged, failed-judged, ascend-run, given-run, runs-with}
 
 -- the order of a run that ended
 abbrev order_in : Run → Option (List Entry)

@@ -1,14 +1,5 @@
 -- Each state of a sweep has its line in what is written.
-use Rattle.std.proofs.Common.{◌<◌, ℕ, zero, suc, List, [], ◌∷◌, ◌++◌, length, slice_index_or, All, refl, sym, ap, ◌∙◌, append_assoc, arith}
-use Rattle.tso_model.specs.Litmus.{Litmus}
-use Rattle.protocol_tables.specs.declared.kind.ProtocolKind.{ProtocolKind}
-use Rattle.machine_core.specs.Configuration.{Configuration}
-use Rattle.tso_report.specs.Report.{head}
-use Rattle.tso_report.specs.Tally.{RunCounts, state_line, state_lines, sweep_line, ended_in, observation}
-use Rattle.scheduler.specs.Plan.{Plan}
-use Rattle.tso_cli.specs.SweepHeadline.{HasPart}
-use Rattle.commands.specs.Sweep.{sweep_lines}
-use Rattle.sweeper.proofs.StateLemmas.{States}
+use Rattle.tso_cli.proofs.Vocabulary.{◌<◌, ℕ, zero, suc, List, [], ◌∷◌, ◌++◌, length, slice_index_or, All, refl, sym, ap, ◌∙◌, append_assoc, arith, Litmus, ProtocolKind, Configuration, head, RunCounts, state_line, state_lines, sweep_line, ended_in, observation, Plan, HasPart, sweep_lines, States}
 
 after : (first text line : List ℕ) → HasPart text line → HasPart (first ++ text) line
 after first text line has = (first ++ has.0, has.1, ap (λ (x : List ℕ). first ++ x) has.2 ∙ sym (append_assoc first has.0 (line ++ has.1)))

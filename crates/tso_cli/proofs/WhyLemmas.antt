@@ -1,29 +1,14 @@
 -- What the answer of `why` means.
-use Rattle.std.proofs.Common.{◌≡◌, ℕ, Bool, true, false, not, List, [], length, Option, Some, None, refl, sym, ap, subst, arith}
-use Rattle.std.proofs.lemmas.List.{append-nil}
-use Rattle.tso_model.specs.Litmus.{Litmus, IsTest}
-use Rattle.tso_model.specs.Condition.{Claim, Condition, NamesExist, truth_of}
-use Rattle.tso_model.specs.FinalState.{final_words, final_registers}
-use Rattle.tso_model.specs.FlatMachine.{registers_in}
-use Rattle.tso_model.specs.Runs.{run}
-use Rattle.tso_model.specs.declared.choice.Choice.{Choice}
+use Rattle.tso_cli.proofs.Vocabulary.{◌≡◌, ℕ, Bool, true, false, not, List, [], length, Option, Some, None, refl, sym, ap, subst, arith, append-nil, Litmus, IsTest, Claim, Condition, NamesExist, truth_of, final_words, final_registers, registers_in, run, Choice, Entry, LeadTo, End, IsExecutionOf, depth_of, SpellsChoices, printed_choices, Explanation, IsWhyAnswer, Status, PrintsRefutation, PrintsExecutionOf, HeadlineOfReasons}
 use Rattle.tso_model.specs.declared.condition.Quantifier.{Quantifier}
 use Rattle.tso_model.specs.declared.condition.Quantifier.TheVariants.{Exists, NotExists, Forall}
-use Rattle.tso_model.specs.declared.execution.Entry.{Entry}
-use Rattle.tso_laws.specs.Along.{LeadTo}
-use Rattle.tso_laws.specs.EndedRuns.{End}
-use Rattle.refutation_laws.specs.Models.{IsExecutionOf, depth_of}
 use Rattle.refutation_laws.specs.Refutations.{Node, asked, refutes}
 use Rattle.refutation_laws.specs.declared.model.Model.{Model}
 use Rattle.refutation_laws.specs.declared.model.Model.TheVariants.{Tso, Sequential}
-use Rattle.scheduler.specs.Grammar.{SpellsChoices}
-use Rattle.scheduler.specs.Printed.{printed_choices}
 use Rattle.reason_report.specs.ReasonText.{truth_asked}
 use Rattle.reason_report.specs.Printed.{refutation_in}
-use Rattle.command_line.specs.Explanation.{Explanation}
-use Rattle.commands.specs.Why.{IsAllowedAnswer, IsWhyAnswer, never, allowed, too_many}
-use Rattle.commands.specs.declared.answer.Status.{Status}
-use Rattle.tso_cli.specs.WhyHeadline.{IsSoIn, IsDepthOf, PrintsRefutation, PrintsExecutionOf, HeadlineOfReasons, never, allowed, too_many}
+use Rattle.commands.specs.Why.{IsAllowedAnswer, never, allowed, too_many}
+use Rattle.tso_cli.specs.WhyHeadline.{IsSoIn, IsDepthOf, never, allowed, too_many}
 use Rattle.tso_cli.proofs.WitnessLemmas.{Reaching, choices-few}
 
 -- what the crates below say of refutations

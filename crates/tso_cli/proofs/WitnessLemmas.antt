@@ -1,33 +1,11 @@
 -- What `witness` answers, and what that means.
-use Rattle.std.proofs.Common.{◌≡◌, ◌≢◌, ◌+◌, ◌*◌, ◌≤◌, ◌<◌, ◌^◌, ℕ, zero, suc, true, false, IsTrue, List, [], ◌∷◌, ◌++◌, length, All, refl, sym, ap, subst, ◌∙◌, arith}
-use Rattle.std.specs.List.{list_all}
-use Rattle.std.proofs.lemmas.List.Elements.{All-head, All-tail, All-weaker}
-use Rattle.tso_model.specs.Limits.{most_depth}
-use Rattle.tso_model.specs.Litmus.{Litmus, IsTest, IsProgram}
-use Rattle.tso_model.specs.Axioms.{IsTsoExecution}
-use Rattle.tso_model.specs.Runs.{run, CoresExist}
-use Rattle.tso_model.specs.declared.instruction.Instr.{Instr}
-use Rattle.tso_model.specs.declared.instruction.Instr.TheVariants.{StoreImm, StoreReg, Load, SetImm, SetReg, Fence, Xchg, Xadd}
-use Rattle.tso_model.specs.declared.execution.Entry.{Entry}
-use Rattle.tso_model.specs.declared.choice.Choice.{Choice}
-use Rattle.tso_laws.specs.Along.{choices_along, LeadTo}
+use Rattle.tso_cli.proofs.Vocabulary.{◌≡◌, ◌≢◌, ◌+◌, ◌*◌, ◌≤◌, ◌<◌, ◌^◌, ℕ, zero, suc, true, false, IsTrue, List, [], ◌∷◌, ◌++◌, length, All, refl, sym, ap, subst, ◌∙◌, arith, list_all, All-head, All-tail, All-weaker, most_depth, Litmus, IsTest, IsProgram, IsTsoExecution, run, CoresExist, Instr, StoreImm, StoreReg, Load, SetImm, SetReg, Fence, Xchg, Xadd, Entry, Choice, choices_along, LeadTo, needed, End, SpellsChoices, printed_choices, WitnessesOrder, WitnessesEachOrder, unreached, broken, IsDepth, IsEndingOf, drains, witness_line, IsWitness, IsWitnessAnswer, too_small, invalid, judged, Ending, Ended, Unfinished, Status, Good, AreReadOneWay}
 use Rattle.tso_laws.specs.Counting.{is_plain_store, stores_in, instructions, stores}
-use Rattle.tso_laws.specs.Depth.{needed}
-use Rattle.tso_laws.specs.EndedRuns.{End}
-use Rattle.scheduler.specs.Grammar.{SpellsChoices}
 use Rattle.scheduler.specs.Limits.{most_choices}
-use Rattle.scheduler.specs.Printed.{printed_choices}
 use Rattle.scheduler.specs.Words.{is_space}
-use Rattle.tso_cli.specs.Judgement.{WitnessesOrder, WitnessesEachOrder, reached, unreached, broken}
-use Rattle.command_line.specs.Limits.{IsDepth}
-use Rattle.simulator.specs.Simulation.{IsEndingOf, drains}
-use Rattle.commands.specs.Witness.{witness_line, IsWitness, IsWitnessAnswer, HasEndedWith, reached, too_small, invalid, refused, judged}
-use Rattle.simulator.specs.declared.simulation.Ending.{Ending}
-use Rattle.simulator.specs.declared.simulation.Ending.TheVariants.{Ended, Unfinished}
-use Rattle.commands.specs.declared.answer.Status.{Status}
-use Rattle.commands.specs.declared.answer.Status.TheVariants.{Good}
+use Rattle.tso_cli.specs.Judgement.{reached}
+use Rattle.commands.specs.Witness.{HasEndedWith, reached, refused}
 use Rattle.tso_cli.proofs.CheckLemmas.{IsReal}
-use Rattle.tso_cli.specs.inner.ReadOneWay.{AreReadOneWay}
 
 -- what the crates below say of choices that reach an order
 pub record Reaching : Type 0 where

@@ -1,7 +1,5 @@
 use Rattle.std.specs.Prelude.{Some}
-use Rattle.tso_cli.specs.Answers.{IsAnswer}
-use Rattle.tso_cli.specs.Headline.{Headline}
-use Rattle.commands.proofs.AnswerLemmas.{answer-means}
+use Rattle.tso_cli.proofs.Vocabulary.{IsAnswer, Headline, answer-means}
 use Rattle.tso_cli.proofs.answering.answer_watched.Goals as goal
 
 pub returns-clause-headline : goal.returns-clause-headline

@@ -1,11 +1,4 @@
-use Rattle.std.proofs.Common.{arith, ◌≤◌, length, refl}
-use Rattle.litmus_reader.specs.Reading.{refusal}
-use Rattle.commands.specs.declared.answer.Status.TheVariants.{Refused}
-use Rattle.tso_io.specs.Limits.{longest_input}
-use Rattle.tso_cli.specs.Answers.{IsInputAnswer, IsAnswerTo, too_large, refused, answered}
-use Rattle.commands.specs.Lines.{input_refusal, test_refusal}
-use Rattle.commands.specs.Dividing.{parts_of}
-use Rattle.commands.proofs.AnswerLemmas.{answer-is, answer-means}
+use Rattle.tso_cli.proofs.Vocabulary.{arith, ◌≤◌, length, refl, refusal, Refused, longest_input, IsInputAnswer, IsAnswerTo, too_large, refused, answered, input_refusal, test_refusal, parts_of, answer-is, answer-means}
 use Rattle.tso_cli.proofs.answering.judged_answer.Goals as goal
 
 pub returns-then-input-gt-MAX_INPUT : goal.returns-then-input-gt-MAX_INPUT

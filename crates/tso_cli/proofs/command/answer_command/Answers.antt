@@ -1,6 +1,4 @@
-use Rattle.std.proofs.Common.{subst, sym}
-use Rattle.tso_cli.specs.Answers.{IsAnswer}
-use Rattle.tso_cli.specs.Headline.{Headline}
+use Rattle.tso_cli.proofs.Vocabulary.{subst, sym, IsAnswer, Headline}
 use Rattle.tso_cli.proofs.command.answer_command.Goals as goal
 
 pub returns-clause-exact : goal.returns-clause-exact

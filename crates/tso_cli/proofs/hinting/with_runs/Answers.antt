@@ -1,4 +1,4 @@
-use Rattle.std.proofs.Common.{string_bytes}
+use Rattle.tso_cli.proofs.Vocabulary.{string_bytes}
 use Rattle.tso_cli.proofs.hinting.with_runs.Goals as goal
 
 pub returns : goal.returns

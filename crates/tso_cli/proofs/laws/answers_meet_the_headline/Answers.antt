@@ -1,5 +1,5 @@
 use Rattle.tso_cli.proofs.HeadlineLemmas.{Runs, command-means}
-use Rattle.simulator.proofs.SimulationLemmas.{choices-counted}
+use Rattle.tso_cli.proofs.Vocabulary.{choices-counted}
 use Rattle.tso_cli.proofs.WitnessLemmas.{Reaching}
 use Rattle.tso_cli.proofs.OutcomesLemmas.{Searches}
 use Rattle.tso_cli.proofs.WhyLemmas.{Refuting}

@@ -1,4 +1,4 @@
-use Rattle.tso_laws.specs.Along.{choices_along}
+use Rattle.tso_cli.proofs.Vocabulary.{choices_along}
 use Rattle.tso_cli.proofs.WitnessLemmas.{led-ends}
 use Rattle.tso_cli.proofs.laws.led_simulations_end.Goals as goal
 

@@ -1,5 +1,5 @@
 use Rattle.tso_cli.proofs.HeadlineLemmas.{Runs}
-use Rattle.simulator.proofs.SimulationLemmas.{RunLaws}
+use Rattle.tso_cli.proofs.Vocabulary.{RunLaws}
 use Rattle.tso_cli.proofs.Rechecked.{printed-short}
 use Rattle.tso_cli.proofs.laws.printed_runs_are_short.Goals as goal
 

@@ -1,7 +1,6 @@
 use Rattle.tso_cli.proofs.CheckLemmas.{printed-is-valid}
-use Rattle.commands.specs.Dividing.{parts_of}
+use Rattle.tso_cli.proofs.Vocabulary.{parts_of, RunLaws}
 use Rattle.tso_cli.proofs.HeadlineLemmas.{Runs}
-use Rattle.simulator.proofs.SimulationLemmas.{RunLaws}
 use Rattle.tso_cli.proofs.Rechecked.{rechecked}
 use Rattle.tso_cli.proofs.laws.printed_runs_are_valid.Goals as goal
 

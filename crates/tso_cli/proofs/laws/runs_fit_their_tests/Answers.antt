@@ -1,7 +1,7 @@
 use Rattle.tso_cli.proofs.FittingRuns.{run-fits, choices-counted}
 use Rattle.tso_cli.proofs.FittingSweeps.{counts-fit}
 use Rattle.tso_cli.proofs.HeadlineLemmas.{Runs}
-use Rattle.simulator.proofs.SimulationLemmas.{RunLaws}
+use Rattle.tso_cli.proofs.Vocabulary.{RunLaws}
 use Rattle.tso_cli.proofs.laws.runs_fit_their_tests.Goals as goal
 
 pub returns-clause-ended : goal.returns-clause-ended

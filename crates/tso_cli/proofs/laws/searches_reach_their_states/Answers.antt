@@ -1,7 +1,6 @@
-use Rattle.commands.specs.Dividing.{parts_of}
+use Rattle.tso_cli.proofs.Vocabulary.{parts_of, choices-counted}
 use Rattle.tso_cli.proofs.OutcomesLemmas.{Searches}
 use Rattle.tso_cli.proofs.Revisited.{revisited}
-use Rattle.simulator.proofs.SimulationLemmas.{choices-counted}
 use Rattle.tso_cli.proofs.WitnessLemmas.{Reaching}
 use Rattle.tso_cli.proofs.laws.searches_reach_their_states.Goals as goal
 

@@ -1,5 +1,4 @@
-use Rattle.commands.specs.Dividing.{parts_of}
-use Rattle.simulator.proofs.SimulationLemmas.{choices-counted}
+use Rattle.tso_cli.proofs.Vocabulary.{parts_of, choices-counted}
 use Rattle.tso_cli.proofs.WitnessLemmas.{Reaching}
 use Rattle.tso_cli.proofs.Replayed.{replayed}
 use Rattle.tso_cli.proofs.laws.witnesses_reach_their_orders.Goals as goal

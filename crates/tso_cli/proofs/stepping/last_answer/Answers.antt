@@ -1,13 +1,5 @@
-use Rattle.std.proofs.Common.{ℕ, Ok, ◌∙◌}
-use Rattle.scheduler.specs.declared.fault.ChoiceFault.TheVariants.{TooMany}
-use Rattle.trace_json.specs.TracedRun.{json_last_step}
-use Rattle.commands.specs.declared.answer.Status.TheVariants.{Refused}
-use Rattle.commands.specs.Answers.{status_under}
-use Rattle.commands.specs.Lines.{choices_refusal}
-use Rattle.simulator.specs.Runs.{run_under}
-use Rattle.commands.specs.Trace.{too_long}
-use Rattle.tso_cli.specs.inner.Step.{IsLastStep, refused, told}
-use Rattle.commands.proofs.AnswerLemmas.{answer-is}
+use Rattle.tso_cli.proofs.Vocabulary.{ℕ, Ok, ◌∙◌, TooMany, json_last_step, Refused, status_under, choices_refusal, run_under, too_long, IsLastStep, told, answer-is}
+use Rattle.tso_cli.specs.inner.Step.{refused}
 use Rattle.tso_cli.proofs.StepLemmas.{status-is}
 use Rattle.tso_cli.proofs.stepping.last_answer.Goals as goal
 

@@ -1,14 +1,5 @@
-use Rattle.std.proofs.Common.{arith, ◌≤◌, length, refl}
-use Rattle.litmus_reader.specs.Reading.{refusal}
-use Rattle.commands.specs.declared.answer.Status.TheVariants.{Refused}
-use Rattle.tso_cli.specs.Answers.{too_large, refused}
-use Rattle.tso_io.specs.Limits.{longest_input}
-use Rattle.commands.specs.Lines.{input_refusal, test_refusal}
-use Rattle.commands.specs.Dividing.{parts_of}
-use Rattle.tso_cli.specs.Step.{IsStepAnswer}
+use Rattle.tso_cli.proofs.Vocabulary.{arith, ◌≤◌, length, refl, refusal, Refused, too_large, refused, longest_input, input_refusal, test_refusal, parts_of, IsStepAnswer, IsLastStep, answer-is, answer-means}
 use Rattle.tso_cli.specs.Step as step
-use Rattle.tso_cli.specs.inner.Step.{IsLastStep}
-use Rattle.commands.proofs.AnswerLemmas.{answer-is, answer-means}
 use Rattle.tso_cli.proofs.StepLemmas.{step-of-test}
 use Rattle.tso_cli.proofs.stepping.step_answer.Goals as goal
 

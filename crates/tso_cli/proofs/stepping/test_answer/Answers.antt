@@ -1,10 +1,7 @@
-use Rattle.std.proofs.Common.{◌≢◌}
+use Rattle.tso_cli.proofs.Vocabulary.{◌≢◌, Refused, choices_refusal, IsLastStep, refusal-is}
 use Rattle.scheduler.specs.declared.fault.ChoiceFault.TheVariants as faults
-use Rattle.commands.specs.declared.answer.Status.TheVariants.{Refused}
-use Rattle.commands.specs.Lines.{choices_refusal}
 use Rattle.commands.specs.Trace as trace
-use Rattle.tso_cli.specs.inner.Step.{IsLastStep, refused}
-use Rattle.commands.proofs.AnswerLemmas.{refusal-is}
+use Rattle.tso_cli.specs.inner.Step.{refused}
 use Rattle.tso_cli.proofs.stepping.test_answer.Goals as goal
 
 pub returns-in-Err : goal.returns-in-Err
