@@ -1,8 +1,7 @@
 -- From what an answer is to what it means.
-use Rattle.std.proofs.Common.{ℕ, List, Result, Ok, Err, IfOk, OnOk, string_bytes, subst, sym}
+use Rattle.commands.proofs.Vocabulary.{ℕ, List, Result, Ok, Err, IfOk, OnOk, string_bytes, subst, sym, Status}
 use Rattle.commands.specs.inner.Answers.{Says}
 use Rattle.commands.specs.declared.answer.Answer.{Answer}
-use Rattle.commands.specs.declared.answer.Status.{Status}
 
 pub answer-is : {E : Type 0} (P : List ℕ → Status → Type 0) (r : Result Answer E) (out : List ℕ) (status : Status)
     → IfOk r (λ a. Says a out status) → P out status → IfOk r (λ a. P (string_bytes a.text) a.status)

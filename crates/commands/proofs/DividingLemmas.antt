@@ -1,7 +1,5 @@
 -- The second part of an input is no longer than the input.
-use Rattle.std.proofs.Common.{◌==◌, ◌≤◌, ℕ, Bool, true, false, cond, nat_eq, codes, List, [], ◌∷◌, length, drop, Option, Some, None, IfSome, length-drop, arith}
-use Rattle.std.specs.List.{starts_with}
-use Rattle.commands.specs.Dividing.{after_feed, after_end, after_divider, Parts, parts_at, with_byte, parts_from, parts_of}
+use Rattle.commands.proofs.Vocabulary.{◌==◌, ◌≤◌, ℕ, Bool, true, false, cond, nat_eq, codes, List, [], ◌∷◌, length, drop, Option, Some, None, IfSome, length-drop, arith, starts_with, after_feed, after_end, after_divider, Parts, parts_at, with_byte, parts_from, parts_of}
 
 abbrev IsWithin : ℕ → Option (List ℕ) → Type 0
 IsWithin n o = IfSome o (λ rest. length rest ≤ n)

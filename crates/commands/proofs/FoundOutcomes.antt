@@ -1,22 +1,12 @@
 -- What a search answers, from what it says of the ends of runs.
-use Rattle.std.proofs.Common.{◌≡◌, ◌∙◌, ℕ, zero, suc, Bool, List, [], ◌∷◌, Some, map, All, Contains, slice_get, refl, sym, ap, subst, arith}
-use Rattle.std.specs.List.{AllByRecursion}
+use Rattle.commands.proofs.Vocabulary.{◌≡◌, ◌∙◌, ℕ, zero, suc, Bool, List, [], ◌∷◌, Some, map, All, Contains, slice_get, refl, sym, ap, subst, arith, AllByRecursion, slice_get_within, get_or_from_slice_get, Litmus, AreReached, HaveEveryEnd, FinalState, named_in, values_at, PrintsOutcomes, status_of_verdict, IsOutcomesAnswer, found, is_claimed_of, Status}
 use Rattle.std.proofs.lemmas.List.Elements.{All-weaker, All-contains, All-from_recursion}
-use Rattle.std.proofs.lemmas.Option.{slice_get_within, get_or_from_slice_get}
-use Rattle.tso_model.specs.Litmus.{Litmus}
 use Rattle.outcome_laws.specs.Outcomes.{IsEnd, LeadToEnd}
-use Rattle.explorer.specs.FinalStates.{AreReached, HaveEveryEnd}
-use Rattle.explorer.specs.declared.final_states.FinalState.{FinalState}
 use Rattle.tso_report.specs.declared.named.Named.{Named}
-use Rattle.shown_values.specs.Shown.{named_in, values_at}
 use Rattle.outcome_report.specs.Outcomes.{Outcome, outcome_of, shown_values}
 use Rattle.outcome_report.specs.Hidden.{AreNotShown}
-use Rattle.outcome_report.specs.Printed.{PrintsOutcomes}
 use Rattle.command_line.specs.Search.{Search}
-use Rattle.commands.specs.Verdicts.{status_of_verdict}
-use Rattle.commands.specs.Outcomes.{IsOutcomesAnswer, found, is_claimed_of}
 use Rattle.commands.specs.inner.Searched.{ShowEveryEnd}
-use Rattle.commands.specs.declared.answer.Status.{Status}
 
 -- the choices of an outcome lead to its state
 abbrev pub Leads : Litmus → ℕ → Outcome → Type 0

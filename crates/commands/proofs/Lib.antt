@@ -1,3 +1,4 @@
+pub mod Vocabulary
 pub mod AnswerLemmas
 pub mod DividingLemmas
 pub mod Lines

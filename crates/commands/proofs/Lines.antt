@@ -1,9 +1,7 @@
 -- The parts of a text, line by line.
-use Rattle.std.proofs.Common.{◌≡◌, ◌==◌, ◌≢◌, ◌≤◌, ◌<◌, ◌+◌, ℕ, suc, Bool, true, false, cond, List, [], ◌∷◌, ◌++◌, length, take, drop, None, refl, sym, ap, ◌∙◌, append_assoc, length-drop, drop-cons, get_or, add-one, arith}
+use Rattle.commands.proofs.Vocabulary.{◌≡◌, ◌==◌, ◌≢◌, ◌≤◌, ◌<◌, ◌+◌, ℕ, suc, Bool, true, false, cond, List, [], ◌∷◌, ◌++◌, length, take, drop, None, refl, sym, ap, ◌∙◌, append_assoc, length-drop, drop-cons, get_or, add-one, arith, drop-drop, nil_from_length, after_divider, Parts, with_byte, parts_from, parts_of}
 use Rattle.std.proofs.lemmas.Bool.Decides.{nat_tests}
 use Rattle.std.proofs.Math.Seq.{take-add}
-use Rattle.std.proofs.lemmas.List.{drop-drop, nil_from_length}
-use Rattle.commands.specs.Dividing.{after_divider, Parts, with_byte, parts_from, parts_of}
 use Rattle.commands.specs.inner.Dividing.{line_length}
 
 pub line_within : (text : List ℕ) → line_length text ≤ length text

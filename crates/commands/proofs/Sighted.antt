@@ -1,10 +1,6 @@
 -- What a condition names is there in each final state that a search met.
-use Rattle.std.proofs.Common.{◌≡◌, ℕ, List, length, slice_index_or, All, Some, sym, subst}
-use Rattle.tso_model.specs.Litmus.{Litmus, IsTest, IsCondition}
-use Rattle.tso_model.specs.Condition.{NamesExist, claim_of, condition_of}
+use Rattle.commands.proofs.Vocabulary.{◌≡◌, ℕ, List, length, slice_index_or, All, Some, sym, subst, Litmus, IsTest, IsCondition, NamesExist, claim_of, condition_of, AreReached, FinalState}
 use Rattle.tso_model.specs.declared.condition.Cond.{Cond}
-use Rattle.explorer.specs.FinalStates.{AreReached}
-use Rattle.explorer.specs.declared.final_states.FinalState.{FinalState}
 use Rattle.outcome_report.proofs.Printing.{EndedRunsAreExecutions, reached-whole}
 
 pub names-exist : (t : Litmus) (depth : ℕ) (finals : List FinalState) (c : Cond) → EndedRunsAreExecutions → IsTest t → Some (condition_of c) ≡ t.condition → AreReached t depth finals

@@ -1,10 +1,5 @@
 -- The text of a sweep's answer, put together.
-use Rattle.std.proofs.Common.{◌≡◌, ◌∙◌, ℕ, List, ◌++◌, ap}
-use Rattle.tso_model.specs.Litmus.{Litmus}
-use Rattle.protocol_tables.specs.declared.kind.ProtocolKind.{ProtocolKind}
-use Rattle.machine_core.specs.Configuration.{Configuration}
-use Rattle.tso_report.specs.Report.{head}
-use Rattle.tso_report.specs.Tally.{RunCounts, tally_text}
+use Rattle.commands.proofs.Vocabulary.{◌≡◌, ◌∙◌, ℕ, List, ◌++◌, ap, Litmus, ProtocolKind, Configuration, head, RunCounts, tally_text}
 use Rattle.scheduler.specs.Plan.{Plan}
 use Rattle.commands.specs.Sweep.{sweep_lines}
 use Rattle.sweeper.specs.Counting.{sweep_counts}

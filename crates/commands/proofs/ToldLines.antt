@@ -1,23 +1,12 @@
 -- A trace, written line by line as the choices are made.
-use Rattle.std.proofs.Common.{◌≡◌, ◌∙◌, ℕ, ◌+◌, ◌<◌, ◌≤◌, true, false, List, [], ◌∷◌, ◌++◌, length, drop, refl, sym, ap, subst, arith, append_assoc, append-nil, codes}
+use Rattle.commands.proofs.Vocabulary.{◌≡◌, ◌∙◌, ℕ, ◌+◌, ◌<◌, ◌≤◌, true, false, List, [], ◌∷◌, ◌++◌, length, drop, refl, sym, ap, subst, arith, append_assoc, append-nil, codes, Litmus, chosen, has_ended, CoresExist, Choice, Table, Configuration, Running, new_machine, machine_after, Shown, shown, step_of, steps_from, trace_of, told_step, step_line, step_lines, end_line, trace_text}
 use Rattle.std.proofs.Math.ListN.{drop_of_length-le}
-use Rattle.tso_model.specs.Litmus.{Litmus}
-use Rattle.tso_model.specs.FlatMachine.{chosen}
-use Rattle.tso_model.specs.Runs.{has_ended, CoresExist}
-use Rattle.tso_model.specs.declared.choice.Choice.{Choice}
 use Rattle.tso_model.specs.declared.choice.Stall.{Stall}
 use Rattle.protocol_tables.specs.PrintedTable.{line}
-use Rattle.protocol_tables.specs.Tables.{Table}
-use Rattle.machine_core.specs.Configuration.{Configuration}
-use Rattle.machine_core.specs.Running.{Running, new_machine, machine_after}
-use Rattle.trace_report.specs.Shown.{Shown, shown}
-use Rattle.trace_report.specs.Steps.{step_of, steps_from, trace_of}
 use Rattle.trace_report.specs.Stalls.{stall_line}
-use Rattle.trace_report.specs.inner.ToldSteps.{told_step}
 use Rattle.trace_report.specs.declared.step.Step.{Step}
 use Rattle.trace_report.specs.declared.telling.Told.{Told}
 use Rattle.trace_report.specs.declared.telling.Told.TheVariants.{Stalled, Made}
-use Rattle.trace_report.specs.Lines.{step_line, step_lines, end_line, trace_text}
 
 -- what is still to come, after so many choices, and the text of the whole
 pub record SoFar (t : Litmus) (words : ℕ) (old m : Running) (choices : List Choice) (i : ℕ) (begun text : List ℕ) : Type 0 where

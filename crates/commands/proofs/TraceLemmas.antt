@@ -1,13 +1,6 @@
 -- The text of a trace, put together of what was written.
-use Rattle.std.proofs.Common.{◌≡◌, ℕ, true, false, List, ◌++◌, refl, sym, ap, ◌∙◌, append_assoc}
-use Rattle.tso_model.specs.Litmus.{Litmus}
-use Rattle.tso_model.specs.Runs.{Run}
-use Rattle.machine_core.specs.declared.counts.Counts.{Counts}
+use Rattle.commands.proofs.Vocabulary.{◌≡◌, ℕ, true, false, List, ◌++◌, refl, sym, ap, ◌∙◌, append_assoc, Litmus, Run, Counts, body, unfinished_line, shown_of, ending_text}
 use Rattle.tso_report.specs.Shown.{Shown}
-use Rattle.tso_report.specs.Report.{body}
-use Rattle.commands.specs.Lines.{unfinished_line}
-use Rattle.simulator.specs.Simulation.{shown_of}
-use Rattle.commands.specs.Trace.{ending_text}
 
 -- three pieces, one after the other
 pub three-pieces : (head trace ending first second all : List ℕ) → first ≡ head → second ≡ first ++ trace → all ≡ second ++ ending

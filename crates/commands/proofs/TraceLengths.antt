@@ -1,31 +1,19 @@
 -- How many choices a run uses, and the word that says the first one too many.
-use Rattle.std.proofs.Common.{◌≡◌, ◌≤◌, ◌<◌, ℕ, Bool, true, false, ◌⊎◌, inl, inr, suc, List, [], ◌∷◌, length, Result, Option, Some, None, Err, refl, sym, ap, subst, ◌∙◌, arith}
+use Rattle.commands.proofs.Vocabulary.{◌≡◌, ◌≤◌, ◌<◌, ℕ, Bool, true, false, ◌⊎◌, inl, inr, suc, List, [], ◌∷◌, length, Result, Option, Some, None, Err, refl, sym, ap, subst, ◌∙◌, arith, Litmus, start, Run, has_ended, Choice, TooMany, Table, table_of, ProtocolKind, Configuration, run_by, run_under, IsEndingOf, FitsForm, IsTooLong, Ended, Unfinished}
 use Rattle.std.specs.Prelude.{IsSome, if◌then◌else◌}
-use Rattle.tso_model.specs.Litmus.{Litmus}
-use Rattle.tso_model.specs.FlatMachine.{start}
 use Rattle.tso_model.specs.EitherBus.{BusState, unheld, effect_on, after_on, resting_on, then_on, run_on_from}
 use Rattle.tso_model.specs.SplitMachine.{Attempt}
-use Rattle.tso_model.specs.Runs.{Run, has_ended}
 use Rattle.tso_model.specs.declared.choice.Bus.{Bus}
 use Rattle.tso_model.specs.declared.choice.Bus.TheVariants.{Atomic, Split}
-use Rattle.tso_model.specs.declared.choice.Choice.{Choice}
 use Rattle.tso_laws.proofs.Beginnings.{run-begins}
 use Rattle.scheduler.specs.WordOfChoice.{IsWordOfChoice}
 use Rattle.scheduler.specs.declared.fault.ChoiceFault.{ChoiceFault}
-use Rattle.scheduler.specs.declared.fault.ChoiceFault.TheVariants.{TooMany}
 use Rattle.scheduler.proofs.Stopping.{stops}
-use Rattle.protocol_tables.specs.Tables.{Table, table_of}
-use Rattle.protocol_tables.specs.declared.kind.ProtocolKind.{ProtocolKind}
 use Rattle.machine_core.specs.Answered.{answered}
 use Rattle.machine_core.specs.Statistics.{no_statistics}
-use Rattle.machine_core.specs.Configuration.{Configuration}
 use Rattle.trace_json.specs.TracedRun.{most_steps}
-use Rattle.simulator.specs.Runs.{run_by, run_under}
-use Rattle.simulator.specs.Simulation.{IsEndingOf}
-use Rattle.commands.specs.Trace.{FitsForm, IsTooLong}
 use Rattle.commands.specs.inner.Trace.{used_in}
 use Rattle.simulator.specs.declared.simulation.Ending.{Ending}
-use Rattle.simulator.specs.declared.simulation.Ending.TheVariants.{Ended, Unfinished}
 use Rattle.simulator.proofs.BusLemmas.{length-answered}
 
 -- a run uses no more choices than there are

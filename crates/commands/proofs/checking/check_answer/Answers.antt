@@ -1,8 +1,5 @@
-use Rattle.std.proofs.Common.{◌≢◌}
+use Rattle.commands.proofs.Vocabulary.{◌≢◌, IsCheckAnswer, IsJudgement, refused, judged, order_refusal, Refused}
 use Rattle.order_builder.specs.declared.fault.OrderFault.TheVariants as faults
-use Rattle.commands.specs.Answers.{IsCheckAnswer, IsJudgement, refused, judged}
-use Rattle.commands.specs.CheckLines.{order_refusal}
-use Rattle.commands.specs.declared.answer.Status.TheVariants.{Refused}
 use Rattle.commands.proofs.AnswerLemmas.{answer-means, refusal-is}
 use Rattle.commands.proofs.checking.check_answer.Goals as goal
 

@@ -1,8 +1,5 @@
-use Rattle.std.proofs.Common.{◌≢◌}
+use Rattle.commands.proofs.Vocabulary.{◌≢◌, IsJudgement, valid, invalid, valid_line, invalid_line, Good, Invalid}
 use Rattle.axiom_checker.specs.declared.breach.Breach.TheVariants as breaches
-use Rattle.commands.specs.Answers.{IsJudgement, valid, invalid}
-use Rattle.commands.specs.CheckLines.{valid_line, invalid_line}
-use Rattle.commands.specs.declared.answer.Status.TheVariants.{Good, Invalid}
 use Rattle.commands.proofs.AnswerLemmas.{answer-is, refusal-is}
 use Rattle.commands.proofs.NamedBreaches.{named}
 use Rattle.commands.proofs.checking.judgement.Goals as goal

@@ -1,4 +1,4 @@
-use Rattle.std.proofs.Common.{◌≡◌, ◌+◌, drop}
+use Rattle.commands.proofs.Vocabulary.{◌≡◌, ◌+◌, drop}
 use Rattle.commands.specs.inner.Dividing as words
 use Rattle.commands.proofs.dividing.line_length.Given as goal
 

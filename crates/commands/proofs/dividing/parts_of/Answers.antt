@@ -1,4 +1,4 @@
-use Rattle.std.proofs.Common.{sym, ap, ◌∙◌}
+use Rattle.commands.proofs.Vocabulary.{sym, ap, ◌∙◌}
 use Rattle.std.specs.Option.{option_map}
 use Rattle.commands.proofs.Lines.{past-line}
 use Rattle.commands.proofs.dividing.parts_of.Goals as goal

@@ -1,4 +1,4 @@
-use Rattle.std.proofs.Common.{◌≡◌, ◌≤◌, ◌-◌, ◌++◌, length, take, drop}
+use Rattle.commands.proofs.Vocabulary.{◌≡◌, ◌≤◌, ◌-◌, ◌++◌, length, take, drop}
 use Rattle.commands.specs.Dividing as words
 use Rattle.commands.proofs.dividing.parts_of.Given as goal
 

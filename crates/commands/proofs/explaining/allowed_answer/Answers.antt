@@ -1,9 +1,5 @@
-use Rattle.std.proofs.Common.{◌∙◌, string_bytes, ap, subst, sym}
-use Rattle.tso_laws.specs.Along.{LeadTo}
+use Rattle.commands.proofs.Vocabulary.{◌∙◌, string_bytes, ap, subst, sym, LeadTo, ShowsExecution, status_of_verdict, IsWhyAnswer, allowed}
 use Rattle.refutation_laws.specs.Models.{depth_of}
-use Rattle.reason_report.specs.Printed.{ShowsExecution}
-use Rattle.commands.specs.Verdicts.{status_of_verdict}
-use Rattle.commands.specs.Why.{IsWhyAnswer, allowed}
 use Rattle.commands.proofs.explaining.allowed_answer.Goals as goal
 
 pub returns : goal.returns

@@ -1,9 +1,6 @@
-use Rattle.std.proofs.Common.{◌≡◌, ◌∙◌, false, map, string_bytes, ap, subst, sym}
+use Rattle.commands.proofs.Vocabulary.{◌≡◌, ◌∙◌, false, map, string_bytes, ap, subst, sym, refutation_in, status_of_verdict, IsWhyAnswer, never}
 use Rattle.refutations.specs.Trees.{node_of}
 use Rattle.outcome_report.specs.Verdict.{is_as_claimed}
-use Rattle.reason_report.specs.Printed.{refutation_in}
-use Rattle.commands.specs.Verdicts.{status_of_verdict}
-use Rattle.commands.specs.Why.{IsWhyAnswer, never}
 use Rattle.commands.proofs.explaining.refuted_answer.Goals as goal
 
 pub returns : goal.returns

@@ -1,7 +1,4 @@
-use Rattle.std.proofs.Common.{◌≡◌, ◌∙◌, string_bytes, ap, subst, sym}
-use Rattle.reason_report.specs.Printed.{unfinished_cases_in}
-use Rattle.commands.specs.Why.{IsWhyAnswer, too_many}
-use Rattle.commands.specs.declared.answer.Status.TheVariants.{Unended}
+use Rattle.commands.proofs.Vocabulary.{◌≡◌, ◌∙◌, string_bytes, ap, subst, sym, unfinished_cases_in, IsWhyAnswer, too_many, Unended}
 use Rattle.commands.proofs.explaining.unfinished_answer.Goals as goal
 
 pub returns : goal.returns

@@ -1,4 +1,4 @@
-use Rattle.simulator.specs.Runs.{run_under}
+use Rattle.commands.proofs.Vocabulary.{run_under}
 use Rattle.commands.proofs.TraceLengths.{is-too-long, is-short}
 use Rattle.commands.proofs.measuring.measure.Goals as goal
 

@@ -1,7 +1,4 @@
-use Rattle.std.proofs.Common.{string_bytes, subst, sym}
-use Rattle.explorer.specs.FinalStates.{AreReached}
-use Rattle.shown_values.specs.Shown.{named_in}
-use Rattle.outcome_report.specs.Printed.{PrintsOutcomes}
+use Rattle.commands.proofs.Vocabulary.{string_bytes, subst, sym, AreReached, named_in, PrintsOutcomes}
 use Rattle.commands.proofs.FoundOutcomes.{search-answers}
 use Rattle.commands.proofs.outcomes.found_answer.Goals as goal
 

@@ -1,6 +1,4 @@
-use Rattle.std.proofs.Common.{ap, subst, sym}
-use Rattle.explorer.specs.FinalStates.{AreReached, HasMoreStates}
-use Rattle.shown_values.specs.Shown.{named_in}
+use Rattle.commands.proofs.Vocabulary.{ap, subst, sym, AreReached, HasMoreStates, named_in}
 use Rattle.commands.proofs.FoundOutcomes.{search-shows}
 use Rattle.commands.proofs.outcomes.outcomes_answer.Goals as goal
 

@@ -1,7 +1,5 @@
-use Rattle.std.proofs.Common.{string_bytes, ◌≡◌, ◌∙◌, ap, subst, sym}
-use Rattle.outcome_report.specs.Printed.{unfinished_search_in}
-use Rattle.commands.specs.Outcomes.{IsOutcomesAnswer, too_many}
-use Rattle.commands.specs.declared.answer.Status.TheVariants.{Unended}
+use Rattle.commands.proofs.Vocabulary.{string_bytes, ◌≡◌, ◌∙◌, ap, subst, sym, unfinished_search_in, IsOutcomesAnswer, Unended}
+use Rattle.commands.specs.Outcomes.{too_many}
 use Rattle.commands.proofs.outcomes.unfinished_answer.Goals as goal
 
 pub returns : goal.returns

@@ -1,9 +1,5 @@
-use Rattle.std.proofs.Common.{◌≢◌, ℕ, Ok}
+use Rattle.commands.proofs.Vocabulary.{◌≢◌, ℕ, Ok, Refused, run_text, run_status, IsRunAnswer, refused, ran, choices_refusal, run_under, AnswersFit, counts_under}
 use Rattle.scheduler.specs.declared.fault.ChoiceFault.TheVariants as faults
-use Rattle.commands.specs.declared.answer.Status.TheVariants.{Refused}
-use Rattle.commands.specs.Answers.{run_text, run_status, IsRunAnswer, refused, ran}
-use Rattle.commands.specs.Lines.{choices_refusal}
-use Rattle.simulator.specs.Runs.{run_under, AnswersFit, counts_under}
 use Rattle.commands.proofs.AnswerLemmas.{answer-is, refusal-is}
 use Rattle.commands.proofs.running.run_answer.Goals as goal
 

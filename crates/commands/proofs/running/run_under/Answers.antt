@@ -1,9 +1,5 @@
-use Rattle.std.proofs.Common.{List, ap, refl, ◌∙◌}
-use Rattle.machine_core.specs.declared.counts.Counts.{Counts}
-use Rattle.simulator.specs.Runs.{run_under, counts_under}
+use Rattle.commands.proofs.Vocabulary.{List, ap, refl, ◌∙◌, Counts, run_under, counts_under, shown_of, IsEndingOf, HasCounts, Ended}
 use Rattle.commands.specs.RunTexts.{report_in}
-use Rattle.simulator.specs.Simulation.{shown_of, IsEndingOf, HasCounts}
-use Rattle.simulator.specs.declared.simulation.Ending.TheVariants.{Ended}
 use Rattle.commands.proofs.running.run_under.Goals as goal
 
 pub returns-in_ok-text-in-Ok-Ended-clause-says : goal.returns-in_ok-text-in-Ok-Ended-clause-says

@@ -1,7 +1,5 @@
-use Rattle.std.proofs.Common.{◌≡◌, ◌==◌, ◌++◌, Bool, cond, string_bytes, ap, ◌∙◌, rules}
-use Rattle.commands.specs.declared.answer.Status.TheVariants.{Good, Unended}
+use Rattle.commands.proofs.Vocabulary.{◌≡◌, ◌==◌, ◌++◌, Bool, cond, string_bytes, ap, ◌∙◌, rules, Good, Unended, RunCounts}
 use Rattle.commands.proofs.SweptText.{lines-of}
-use Rattle.tso_report.specs.Tally.{RunCounts}
 use Rattle.commands.proofs.sweeping.sweep_answer.Goals as goal
 
 pub returns : goal.returns

@@ -1,9 +1,4 @@
-use Rattle.std.proofs.Common.{arith, ℕ, ◌≡◌, ◌+◌, ◌∙◌, drop, string_bytes, false, refl, sym, ap, subst}
-use Rattle.std.proofs.lemmas.List.{drop_more}
-use Rattle.tso_model.specs.Runs.{has_ended, stall_count}
-use Rattle.machine_core.specs.Running.{Running}
-use Rattle.trace_report.specs.Shown.{Shown}
-use Rattle.trace_report.specs.inner.ToldSteps.{stalls_told}
+use Rattle.commands.proofs.Vocabulary.{arith, ℕ, ◌≡◌, ◌+◌, ◌∙◌, drop, string_bytes, false, refl, sym, ap, subst, drop_more, has_ended, stall_count, Running, Shown, stalls_told}
 use Rattle.trace_report.proofs.RunsTold.{step-outcome}
 use Rattle.simulator.proofs.DriveLemmas as drive
 use Rattle.commands.proofs.ToldLines as lines

@@ -1,6 +1,4 @@
-use Rattle.std.proofs.Common.{◌≡◌, ◌≤◌, drop, string_bytes}
-use Rattle.tso_model.specs.Runs.{has_ended}
-use Rattle.trace_report.specs.Told.{IsTold}
+use Rattle.commands.proofs.Vocabulary.{◌≡◌, ◌≤◌, drop, string_bytes, has_ended, IsTold}
 use Rattle.simulator.proofs.DriveLemmas as drive
 use Rattle.commands.proofs.ToldLines as lines
 use Rattle.commands.proofs.told_run.drive_telling.Given as goal

@@ -1,7 +1,5 @@
-use Rattle.std.proofs.Common.{◌-◌, ◌∙◌, ap, refl, sym, subst, length, string_bytes}
-use Rattle.trace_report.specs.Told.{IsTraced}
+use Rattle.commands.proofs.Vocabulary.{◌-◌, ◌∙◌, ap, refl, sym, subst, length, string_bytes, IsTraced, AnswersFitBy}
 use Rattle.trace_report.proofs.Traced.{traced-first}
-use Rattle.simulator.specs.Runs.{AnswersFitBy}
 use Rattle.simulator.proofs.SimulationLemmas.{answers-fit}
 use Rattle.commands.proofs.ToldLines.{trace-whole}
 use Rattle.simulator.proofs.Endings.{Laws, IsLeftOf, ending-is, ending-fits, ending-counts}

@@ -1,7 +1,4 @@
-use Rattle.std.proofs.Common.{ℕ, Ok, false}
-use Rattle.commands.specs.Answers.{status_under}
-use Rattle.simulator.specs.Runs.{run_under}
-use Rattle.commands.specs.Trace.{traced_in, IsTraceAnswer, traced}
+use Rattle.commands.proofs.Vocabulary.{ℕ, Ok, false, status_under, run_under, traced_in, IsTraceAnswer, traced}
 use Rattle.commands.proofs.AnswerLemmas.{answer-is}
 use Rattle.commands.proofs.TraceLengths.{lines-fit}
 use Rattle.commands.proofs.tracing.lines_answer.Goals as goal

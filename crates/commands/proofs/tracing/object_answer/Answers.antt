@@ -1,9 +1,4 @@
-use Rattle.std.proofs.Common.{ℕ, Ok, true}
-use Rattle.scheduler.specs.declared.fault.ChoiceFault.TheVariants.{TooMany}
-use Rattle.commands.specs.declared.answer.Status.TheVariants.{Refused}
-use Rattle.commands.specs.Answers.{status_under}
-use Rattle.commands.specs.Lines.{choices_refusal}
-use Rattle.commands.specs.Trace.{traced_in, IsTraceAnswer, too_long, traced}
+use Rattle.commands.proofs.Vocabulary.{ℕ, Ok, true, TooMany, Refused, status_under, choices_refusal, traced_in, IsTraceAnswer, too_long, traced}
 use Rattle.commands.proofs.AnswerLemmas.{answer-is}
 use Rattle.commands.proofs.tracing.object_answer.Goals as goal
 

@@ -1,8 +1,6 @@
-use Rattle.std.proofs.Common.{◌≢◌}
+use Rattle.commands.proofs.Vocabulary.{◌≢◌, Refused, choices_refusal, IsTraceAnswer}
 use Rattle.scheduler.specs.declared.fault.ChoiceFault.TheVariants as faults
-use Rattle.commands.specs.declared.answer.Status.TheVariants.{Refused}
-use Rattle.commands.specs.Lines.{choices_refusal}
-use Rattle.commands.specs.Trace.{IsTraceAnswer, refused}
+use Rattle.commands.specs.Trace.{refused}
 use Rattle.commands.proofs.AnswerLemmas.{refusal-is}
 use Rattle.commands.proofs.tracing.trace_answer.Goals as goal
 

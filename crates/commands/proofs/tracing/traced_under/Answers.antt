@@ -1,12 +1,4 @@
-use Rattle.std.proofs.Common.{List, ℕ, ◌++◌, string_bytes, ap, refl, subst, ◌∙◌}
-use Rattle.machine_core.specs.declared.counts.Counts.{Counts}
-use Rattle.tso_report.specs.Report.{head}
-use Rattle.trace_report.specs.Lines.{trace_text}
-use Rattle.trace_report.specs.Steps.{trace_under}
-use Rattle.simulator.specs.Runs.{run_under, counts_under}
-use Rattle.simulator.specs.Simulation.{shown_of, IsEndingOf, HasCounts}
-use Rattle.commands.specs.Trace.{ending_text}
-use Rattle.simulator.specs.declared.simulation.Ending.TheVariants.{Ended}
+use Rattle.commands.proofs.Vocabulary.{List, ℕ, ◌++◌, string_bytes, ap, refl, subst, ◌∙◌, Counts, head, trace_text, trace_under, run_under, counts_under, shown_of, IsEndingOf, HasCounts, ending_text, Ended}
 use Rattle.commands.proofs.TraceLemmas.{three-pieces, ended-text}
 use Rattle.commands.proofs.tracing.traced_under.Goals as goal
 

@@ -1,5 +1,4 @@
-use Rattle.std.proofs.Common.{subst, sym}
-use Rattle.explorer.specs.FinalStates.{AreReached}
+use Rattle.commands.proofs.Vocabulary.{subst, sym, AreReached}
 use Rattle.commands.proofs.unfinished.cause_of_end.Goals as goal
 
 pub sighting_in-requires : goal.sighting_in-requires

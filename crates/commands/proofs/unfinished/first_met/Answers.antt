@@ -1,5 +1,4 @@
-use Rattle.std.proofs.Common.{length, sym, subst}
-use Rattle.tso_model.specs.Condition.{NamesExist, claim_of}
+use Rattle.commands.proofs.Vocabulary.{length, sym, subst, NamesExist, claim_of}
 use Rattle.commands.proofs.unfinished.first_met.Goals as goal
 
 pub cond_holds-requires : goal.cond_holds-requires

@@ -1,9 +1,5 @@
-use Rattle.std.proofs.Common.{◌≡◌}
-use Rattle.tso_laws.specs.Along.{choices_along}
+use Rattle.commands.proofs.Vocabulary.{◌≡◌, choices_along, depth_line, witness_line, IsWitness, reached, too_small, Good, Invalid}
 use Rattle.tso_laws.specs.Depth.{needed}
-use Rattle.commands.specs.Lines.{depth_line}
-use Rattle.commands.specs.Witness.{witness_line, IsWitness, reached, too_small}
-use Rattle.commands.specs.declared.answer.Status.TheVariants.{Good, Invalid}
 use Rattle.commands.proofs.AnswerLemmas.{answer-is}
 use Rattle.commands.proofs.witnessing.reached.Goals as goal
 

@@ -1,8 +1,6 @@
-use Rattle.std.proofs.Common.{◌≢◌}
+use Rattle.commands.proofs.Vocabulary.{◌≢◌, order_refusal, IsWitness, IsWitnessAnswer, Refused}
 use Rattle.order_builder.specs.declared.fault.OrderFault.TheVariants as faults
-use Rattle.commands.specs.CheckLines.{order_refusal}
-use Rattle.commands.specs.Witness.{IsWitness, IsWitnessAnswer, refused, judged}
-use Rattle.commands.specs.declared.answer.Status.TheVariants.{Refused}
+use Rattle.commands.specs.Witness.{refused, judged}
 use Rattle.commands.proofs.AnswerLemmas.{answer-means, refusal-is}
 use Rattle.commands.proofs.witnessing.witness_answer.Goals as goal
 

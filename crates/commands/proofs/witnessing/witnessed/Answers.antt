@@ -1,8 +1,6 @@
-use Rattle.std.proofs.Common.{◌≢◌}
+use Rattle.commands.proofs.Vocabulary.{◌≢◌, invalid_line, IsWitness, Invalid}
 use Rattle.axiom_checker.specs.declared.breach.Breach.TheVariants as breaches
-use Rattle.commands.specs.CheckLines.{invalid_line}
-use Rattle.commands.specs.Witness.{IsWitness, invalid}
-use Rattle.commands.specs.declared.answer.Status.TheVariants.{Invalid}
+use Rattle.commands.specs.Witness.{invalid}
 use Rattle.commands.proofs.AnswerLemmas.{refusal-is}
 use Rattle.commands.proofs.NamedBreaches.{named}
 use Rattle.commands.proofs.witnessing.witnessed.Goals as goal
