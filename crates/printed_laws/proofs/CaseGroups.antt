@@ -1,16 +1,5 @@
 -- Each case that a leaf closes at once stands in a group: in its own, or in that of a case before it which is alike.
-use Rattle.std.proofs.Common.{◌≡◌, ◌||◌, Bool, true, false, not, cond, List, [], ◌∷◌, ◌++◌, refl, sym, ap, ◌∙◌, ◌⊎◌, inl, inr}
-use Rattle.std.specs.Prelude.{filter}
-use Rattle.std.specs.List.{list_any, list_all}
-use Rattle.std.proofs.lemmas.Bool.{and_parts, and_from, or_cases, or_right}
-use Rattle.std.proofs.lemmas.List.Folds.{list_any-append}
-use Rattle.tso_model.specs.Litmus.{Litmus}
-use Rattle.tso_model.specs.Condition.{Claim}
-use Rattle.basic_laws.proofs.Lists.{Each}
-use Rattle.tso_report.specs.Tally.{looked_at}
-use Rattle.tso_report.specs.declared.named.Named.{Named}
-use Rattle.reason_report.specs.Places.{suffices, name_the_same}
-use Rattle.reason_report.specs.Steps.{Branch, is_false_source, are_alike, groups}
+use Rattle.printed_laws.proofs.Vocabulary.{◌≡◌, ◌||◌, Bool, true, false, not, cond, List, [], ◌∷◌, ◌++◌, refl, sym, ap, ◌∙◌, ◌⊎◌, inl, inr, filter, list_any, list_all, and_parts, and_from, or_cases, or_right, list_any-append, Litmus, Claim, Each, looked_at, Named, suffices, name_the_same, Branch, is_false_source, are_alike, groups}
 
 or-none : (a : Bool) → (a || false) ≡ true → a ≡ true
 or-none true is = refl

@@ -1,37 +1,20 @@
 -- What a verdict means, that both commands print one, and that the status says the same.
-use Rattle.std.proofs.Common.{◌≡◌, ◌∙◌, ◌<◌, ◌==◌, ℕ, Bool, true, false, not, List, [], map, Contains, Some, refl, sym, ap, subst, eqb-true, arith}
-use Rattle.tso_model.specs.Litmus.{Litmus, IsTest}
-use Rattle.tso_model.specs.Condition.{Claim, Condition, truth_of}
-use Rattle.tso_model.specs.FinalState.{final_words, final_registers}
+use Rattle.printed_laws.proofs.Vocabulary.{◌≡◌, ◌∙◌, ◌<◌, ◌==◌, ℕ, Bool, true, false, not, List, [], map, Contains, Some, refl, sym, ap, subst, eqb-true, arith, Litmus, IsTest, Claim, Condition, truth_of, final_words, final_registers, Entry, Model, Tso, Sequential, EndsAreWhatTsoAllows, SpellsTest, named_in, values_at, truth_asked, is_met, is_well, is_as_claimed, verdict_word, Outcome, shown_values, held_in, failed_in, is_met_in, TruthIsShown, Search, parts_of, made-of, shown_after, AreExactly, PrintsAllOutcomes, HeadlineOfOutcomes, all, IsSoEverywhere, IsSoSomewhere, PrintsVerdict, IsAsClaimed, IsNotAsClaimed, VerdictMeans, VerdictsAgree, StatusTells}
 use Rattle.tso_model.specs.declared.condition.Quantifier.{Quantifier}
 use Rattle.tso_model.specs.declared.condition.Quantifier.TheVariants.{Exists, NotExists, Forall}
-use Rattle.tso_model.specs.declared.execution.Entry.{Entry}
 use Rattle.refutation_laws.specs.Models.{IsExecutionOf, depth_of}
-use Rattle.refutation_laws.specs.declared.model.Model.{Model}
-use Rattle.refutation_laws.specs.declared.model.Model.TheVariants.{Tso, Sequential}
-use Rattle.outcome_laws.specs.Outcomes.{EndsAreWhatTsoAllows}
-use Rattle.litmus_reader.specs.Spelling.{SpellsTest, IsRefused as IsRefusedTest}
+use Rattle.litmus_reader.specs.Spelling.{IsRefused as IsRefusedTest}
 use Rattle.litmus_reader.specs.declared.fault.TextFault.{TextFault}
-use Rattle.shown_values.specs.Shown.{named_in, values_at}
-use Rattle.reason_report.specs.ReasonText.{truth_asked}
-use Rattle.outcome_report.specs.Verdict.{is_met, is_well, is_as_claimed, verdict_word}
-use Rattle.outcome_report.specs.Outcomes.{Outcome, shown_values, held_in, failed_in, is_met_in}
-use Rattle.outcome_report.specs.Laws.{TruthIsShown}
 use Rattle.command_line.specs.Explanation.{Explanation}
-use Rattle.command_line.specs.Search.{Search}
 use Rattle.command_line.specs.declared.settings.Settings.TheVariants as settings
-use Rattle.commands.specs.Dividing.{parts_of}
 use Rattle.commands.specs.Outcomes.{IsOutcomesAnswer, is_claimed_of, found, too_many}
 use Rattle.commands.specs.Verdicts.{status_of_verdict}
 use Rattle.commands.specs.Why.{IsWhyAnswer, never, allowed, too_many}
 use Rattle.commands.specs.declared.answer.Status.{Status}
 use Rattle.commands.specs.declared.answer.Status.TheVariants.{Good}
-use Rattle.commands.proofs.FoundOutcomes.{made-of}
 use Rattle.tso_cli.specs.Answers.{IsInputAnswer, too_large, refused, answered}
-use Rattle.tso_cli.specs.OutcomesHeadline.{shown_after, AreExactly, PrintsAllOutcomes, HeadlineOfOutcomes, all, too_many}
+use Rattle.tso_cli.specs.OutcomesHeadline.{too_many}
 use Rattle.tso_cli.specs.WhyHeadline.{IsSoIn, HeadlineOfReasons, never, allowed, too_many}
-use Rattle.printed_laws.specs.Observed.{IsSoEverywhere, IsSoSomewhere}
-use Rattle.printed_laws.specs.Verdicts.{PrintsVerdict, IsAsClaimed, IsNotAsClaimed, VerdictMeans, VerdictsAgree, StatusTells}
 use Rattle.printed_laws.proofs.Endings.{EndsIn, verdict_tail, ends-so, one-verdict}
 use Rattle.printed_laws.proofs.LastLines as outcomes
 use Rattle.printed_laws.proofs.LastLines.{outcomes-end}

@@ -1,12 +1,5 @@
 -- The lines of choices and of caches, and the counts that they tell.
-use Rattle.std.proofs.Common.{◌≡◌, ℕ, ◌+◌, ◌-◌, ◌^◌, ◌<◌, ◌≤◌, List, [], ◌∷◌, ◌++◌, length, All, refl, sym, ◌∙◌, arith}
-use Rattle.std.specs.Prelude.{codes}
-use Rattle.std.specs.Fmt.{decimal}
-use Rattle.std.proofs.lemmas.List.{append_assoc, append_cancel_left}
-use Rattle.std.proofs.lemmas.List.Elements.{All-head, All-tail}
-use Rattle.machine_core.specs.Keeping.{IsAtMost}
-use Rattle.machine_core.specs.declared.counts.Counts.{Counts}
-use Rattle.tso_report.specs.Report.{line, choices_line, cache_line, cache_lines}
+use Rattle.printed_laws.proofs.Vocabulary.{◌≡◌, ℕ, ◌+◌, ◌-◌, ◌^◌, ◌<◌, ◌≤◌, List, [], ◌∷◌, ◌++◌, length, All, refl, sym, ◌∙◌, arith, codes, decimal, append_assoc, append_cancel_left, All-head, All-tail, IsAtMost, Counts, line, choices_line, cache_line, cache_lines}
 use Rattle.printed_laws.proofs.Cutting.{next-cut}
 
 -- ---- choices

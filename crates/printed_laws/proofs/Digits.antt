@@ -1,11 +1,6 @@
 -- The digits of a number, however great, and texts that are cut at their last space.
-use Rattle.std.proofs.Common.{◌≡◌, ◌∙◌, ℕ, zero, suc, ◌+◌, ◌/◌, ◌%◌, ◌<◌, ◌==◌, Bool, true, false, not, cond, List, [], ◌∷◌, ◌++◌, get_or, drop, refl, sym, ap, subst, lt-ltb, le-leb, arith}
-use Rattle.std.specs.Fmt.{decimal, digits, digits_onto, digit_glyph}
-use Rattle.std.specs.List.{list_all}
-use Rattle.std.specs.Char.{is_ascii_digit}
-use Rattle.std.proofs.lemmas.Bool.Decides.{nat_tests}
-use Rattle.std.proofs.lemmas.Bool.{and_parts, and_from}
-use Rattle.std.proofs.lemmas.List.Folds.{list_all-append}
+use Rattle.printed_laws.proofs.Vocabulary.{◌≡◌, ◌∙◌, ℕ, zero, suc, ◌+◌, ◌/◌, ◌%◌, ◌<◌, ◌==◌, Bool, true, false, not, cond, List, [], ◌∷◌, ◌++◌, get_or, drop, refl, sym, ap, subst, lt-ltb, le-leb, arith, decimal, list_all, is_ascii_digit, nat_tests, and_parts, and_from, list_all-append}
+use Rattle.std.specs.Fmt.{digits, digits_onto, digit_glyph}
 
 -- ---- digits
 

@@ -1,12 +1,6 @@
 -- What a text ends in; and that it ends in one verdict at most.
-use Rattle.std.proofs.Common.{◌≡◌, ◌∙◌, ℕ, suc, ◌+◌, ◌==◌, Bool, true, false, not, List, [], ◌∷◌, ◌++◌, length, drop, get_or, refl, sym, ap, subst, arith}
-use Rattle.std.specs.Prelude.{codes}
-use Rattle.std.specs.List.{list_all, flat_map}
-use Rattle.std.proofs.lemmas.Bool.{and_parts}
-use Rattle.std.proofs.lemmas.List.{append_assoc, append-nil, append_cancel_right, length-append}
-use Rattle.tso_report.specs.Report.{line}
-use Rattle.outcome_report.specs.Verdict.{verdict_word}
-use Rattle.printed_laws.specs.Verdicts.{PrintsVerdict}
+use Rattle.printed_laws.proofs.Vocabulary.{◌≡◌, ◌∙◌, ℕ, suc, ◌+◌, ◌==◌, Bool, true, false, not, List, [], ◌∷◌, ◌++◌, length, drop, get_or, refl, sym, ap, subst, arith, codes, list_all, flat_map, and_parts, append_assoc, append_cancel_right, length-append, line, verdict_word, PrintsVerdict}
+use Rattle.std.proofs.lemmas.List.{append-nil}
 use Rattle.printed_laws.proofs.OutcomeLines.{is_in_line}
 
 abbrev pub EndsIn : List ℕ → List ℕ → Type 0

@@ -1,19 +1,5 @@
 -- The events of a test fit it, and so does what a refutation's node names.
-use Rattle.std.proofs.Common.{◌≡◌, ℕ, ◌+◌, ◌<◌, ◌≤◌, Bool, true, false, ◌||◌, List, [], ◌∷◌, length, All, IfSome, slice_index, slice_index_or, refl, sym, subst, arith}
-use Rattle.std.specs.List.{list_any}
-use Rattle.std.proofs.lemmas.List.Elements.{All-nil, All-cons, All-head, All-tail, All-append, All-map}
-use Rattle.tso_model.specs.Litmus.{Litmus, IsTest, IsProgram, KnownLocation}
-use Rattle.tso_model.specs.Actions.{action_of, location_of}
-use Rattle.tso_model.specs.Thread.{entry, fence, value_in, value_of, updated, entries_by, registers_by, values_after, entries_of}
-use Rattle.tso_model.specs.declared.instruction.Instr.{Instr}
-use Rattle.tso_model.specs.declared.action.Action.{Action}
-use Rattle.tso_model.specs.declared.action.Action.TheVariants.{Store, Load, Move, Fence, Lock}
-use Rattle.tso_model.specs.declared.execution.Entry.{Entry}
-use Rattle.tso_model.specs.declared.execution.Kind.TheVariants.{R, W, LR, LW}
-use Rattle.order_builder.specs.Spelling.{IsEntryFor}
-use Rattle.relational_model.specs.Candidates.{events_from}
-use Rattle.refutation_laws.specs.Known.{bare, events_of, same_event, is_event}
-use Rattle.refutation_laws.proofs.Standing.{same-bare}
+use Rattle.printed_laws.proofs.Vocabulary.{◌≡◌, ℕ, ◌+◌, ◌<◌, ◌≤◌, Bool, true, false, ◌||◌, List, [], ◌∷◌, length, All, IfSome, slice_index, slice_index_or, refl, sym, subst, arith, list_any, All-nil, All-cons, All-head, All-tail, All-append, All-map, Litmus, IsTest, IsProgram, KnownLocation, action_of, location_of, entry, fence, value_in, value_of, updated, entries_by, registers_by, values_after, entries_of, Instr, Action, Store, Load, Move, Fence, Lock, Entry, R, W, LR, LW, IsEntryFor, events_from, bare, events_of, same_event, is_event, same-bare}
 
 -- an event of the test, whatever value it is written with
 abbrev pub IsEventFor : Litmus → Entry → Type 0

@@ -1,21 +1,6 @@
 -- The first two lines of a report, and of a sweep, tell the test's name, the protocol and the configuration.
-use Rattle.std.proofs.Common.{◌≡◌, ℕ, ◌^◌, ◌<◌, true, List, [], ◌∷◌, ◌++◌, get_or, inl, inr, refl, sym, ap, ◌∙◌, arith}
-use Rattle.std.specs.Prelude.{codes}
-use Rattle.std.specs.Fmt.{decimal}
-use Rattle.std.specs.List.{list_all}
-use Rattle.std.proofs.lemmas.Bool.{and_parts}
-use Rattle.std.proofs.lemmas.List.{append_assoc, append_cancel_left}
-use Rattle.tso_model.specs.Litmus.{Litmus, IsTest}
-use Rattle.tso_model.specs.Names.{is_printable, is_test_name}
-use Rattle.tso_model.specs.declared.choice.Bus.{Bus}
-use Rattle.tso_model.specs.declared.choice.Bus.TheVariants.{Atomic, Split}
-use Rattle.protocol_tables.specs.Names.{protocol_name}
-use Rattle.protocol_tables.specs.declared.kind.ProtocolKind.{ProtocolKind}
+use Rattle.printed_laws.proofs.Vocabulary.{◌≡◌, ℕ, ◌^◌, ◌<◌, true, List, [], ◌∷◌, ◌++◌, get_or, inl, inr, refl, sym, ap, ◌∙◌, arith, codes, decimal, list_all, and_parts, append_assoc, append_cancel_left, Litmus, IsTest, is_printable, is_test_name, Bus, Atomic, Split, protocol_name, ProtocolKind, IsLineSize, Configuration, IsConfigurationWithinLimits, line, bus_text, machine_line, head, NameTheSame}
 use Rattle.protocol_tables.specs.declared.kind.ProtocolKind.TheVariants.{Msi, Mesi, Moesi, Mosi}
-use Rattle.snoop_bus.specs.Geometry.{IsLineSize}
-use Rattle.machine_core.specs.Configuration.{Configuration, IsConfigurationWithinLimits}
-use Rattle.tso_report.specs.Report.{line, bus_text, machine_line, head}
-use Rattle.printed_laws.specs.Telling.{NameTheSame}
 use Rattle.printed_laws.proofs.Cutting.{Stops, run-cut, next-cut}
 
 byte-at : (n x y : ℕ) (xs ys : List ℕ) → xs ≡ ys → get_or xs n 0 ≡ x → get_or ys n 0 ≡ y → x ≡ y

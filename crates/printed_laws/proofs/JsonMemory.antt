@@ -1,24 +1,8 @@
 -- A JSON object with a member for each location tells the words, wherever the bytes of the names belong.
-use Rattle.std.proofs.Common.{◌≡◌, ◌≢◌, ℕ, Bool, true, false, not, cond, ◌||◌, List, [], ◌∷◌, length, All, refl, sym, ap, subst, ◌∙◌, arith}
-use Rattle.std.specs.Fmt.{decimal}
-use Rattle.std.specs.Str.{bytes_eq}
-use Rattle.std.specs.Ordering.{nat_cmp, match_ordering, is_eq}
-use Rattle.std.specs.Cmp.Lexicographic.{slice_cmp}
-use Rattle.std.specs.declared.cmp.Ordering.{Ordering}
-use Rattle.std.specs.declared.cmp.Ordering.TheVariants.{Less, Equal, Greater}
-use Rattle.std.proofs.lemmas.Bool.{and_parts}
+use Rattle.printed_laws.proofs.Vocabulary.{◌≡◌, ◌≢◌, ℕ, Bool, true, false, not, cond, ◌||◌, List, [], ◌∷◌, length, All, refl, sym, ap, subst, ◌∙◌, arith, decimal, bytes_eq, nat_cmp, match_ordering, is_eq, slice_cmp, Ordering, Less, Equal, Greater, and_parts, decimal_injective, All-head, All-tail, Members, no_members, member, put, outline, members_outline, are_distinct, is_among, IsWord, bytes_eq-Decides, count, memory_members}
 use Rattle.std.proofs.lemmas.Cmp.{nat_list_cmp_total, tied_itself}
-use Rattle.std.proofs.lemmas.Fmt.{decimal_injective}
-use Rattle.std.proofs.lemmas.List.Elements.{All-head, All-tail}
 use Rattle.std.proofs.lemmas.Map.Lookups.{exact_bytes}
 use Rattle.json.specs.Json as json
-use Rattle.serde_json.specs.Data.{Members, no_members, member, put}
-use Rattle.serde_json.specs.Written.{outline, members_outline}
-use Rattle.tso_model.specs.Litmus.{are_distinct}
-use Rattle.tso_model.specs.Names.{is_among}
-use Rattle.tso_model.specs.Registers.{IsWord}
-use Rattle.std.proofs.lemmas.Slice.Eq.{bytes_eq-Decides}
-use Rattle.tso_report.specs.Json.{count, memory_members}
 use Rattle.printed_laws.proofs.JsonTexts.{text_in}
 
 -- the text at a key

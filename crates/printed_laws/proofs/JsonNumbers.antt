@@ -1,32 +1,6 @@
 -- The JSON value of a run has numbers and nests no deeper than a reader goes, so that its text can be read back.
-use Rattle.std.proofs.Common.{ℕ, suc, ◌-◌, ◌^◌, ◌<◌, ◌≤◌, Bool, inl, inr, List, [], ◌∷◌, map, All, Option, Some, None, arith}
-use Rattle.std.proofs.lemmas.List.Elements.{All-head, All-tail}
-use Rattle.std.specs.Ordering.{nat_cmp, match_ordering}
-use Rattle.std.specs.Cmp.Lexicographic.{slice_cmp}
-use Rattle.std.specs.declared.cmp.Ordering.{Ordering}
-use Rattle.std.specs.declared.cmp.Ordering.TheVariants.{Less, Equal, Greater}
-use Rattle.json.specs.Json.{max_depth}
-use Rattle.json.specs.Tree.{depth, items_depth, members_depth, HasNumbers, ItemsHaveNumbers, MembersHaveNumbers}
-use Rattle.json.proofs.Printed.Decimals.{IsNumber-decimal}
-use Rattle.serde_json.specs.Data.{string, Members, no_members, member, put}
-use Rattle.serde_json.specs.View.{items_of}
-use Rattle.serde_json.specs.Written.{outline, items_outline, members_outline}
-use Rattle.tso_model.specs.Litmus.{Litmus}
-use Rattle.tso_model.specs.Condition.{Condition}
-use Rattle.tso_model.specs.Registers.{IsWord, AreRegisters}
-use Rattle.tso_model.specs.declared.choice.Bus.{Bus}
-use Rattle.tso_model.specs.declared.choice.Bus.TheVariants.{Atomic, Split}
-use Rattle.tso_model.specs.declared.register.Reg.TheVariants.{Eax, Ebx, Ecx, Edx, Esi, Edi}
-use Rattle.tso_model.specs.declared.execution.Entry.{Entry}
-use Rattle.order_builder.specs.PrintedOrder.{printed_entry}
-use Rattle.protocol_tables.specs.declared.kind.ProtocolKind.{ProtocolKind}
-use Rattle.snoop_bus.specs.Geometry.{IsLineSize}
-use Rattle.machine_core.specs.Configuration.{Configuration, IsConfigurationWithinLimits}
-use Rattle.machine_core.specs.Keeping.{IsAtMost}
-use Rattle.machine_core.specs.declared.counts.Counts.{Counts}
-use Rattle.tso_report.specs.Shown.{Shown}
+use Rattle.printed_laws.proofs.Vocabulary.{ℕ, suc, ◌-◌, ◌^◌, ◌<◌, ◌≤◌, Bool, inl, inr, List, [], ◌∷◌, map, All, Option, Some, None, arith, All-head, All-tail, nat_cmp, match_ordering, slice_cmp, Ordering, Less, Equal, Greater, max_depth, depth, items_depth, members_depth, HasNumbers, ItemsHaveNumbers, MembersHaveNumbers, IsNumber-decimal, string, Members, no_members, member, put, items_of, outline, items_outline, members_outline, Litmus, Condition, IsWord, AreRegisters, Bus, Atomic, Split, Eax, Ebx, Ecx, Edx, Esi, Edi, Entry, printed_entry, ProtocolKind, IsLineSize, Configuration, IsConfigurationWithinLimits, IsAtMost, Counts, Shown, count, counts_value, condition_value, with_bus, machine_members, machine_value, memory_members, registers_value, run_value}
 use Rattle.tso_report.specs.Limits.{IsSmall}
-use Rattle.tso_report.specs.Json.{count, counts_value, condition_value, with_bus, machine_members, machine_value, memory_members, registers_value, run_value}
 use Rattle.printed_laws.proofs.Lines.{value-small}
 
 pub small : (n : ℕ) → n ≤ 2 ^ 32 - 1 → n < 2 ^ 64

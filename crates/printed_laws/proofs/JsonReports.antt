@@ -1,35 +1,7 @@
 -- The JSON object of a run that ended tells the run.
-use Rattle.std.proofs.Common.{length, arith, subst, ◌++◌, ◌≡◌, ℕ, ◌-◌, ◌^◌, Bool, true, List, [], ◌∷◌, map, All, Option, Some, None, is_some, refl, sym, ap, ◌∙◌}
-use Rattle.std.specs.Fmt.{decimal}
-use Rattle.std.proofs.lemmas.Fmt.{decimal_injective}
-use Rattle.std.proofs.lemmas.List.{append_cancel_right}
-use Rattle.std.proofs.lemmas.List.Elements.{All-head, All-tail}
+use Rattle.printed_laws.proofs.Vocabulary.{length, arith, subst, ◌++◌, ◌≡◌, ℕ, ◌-◌, ◌^◌, Bool, true, List, [], ◌∷◌, map, All, Option, Some, None, is_some, refl, sym, ap, ◌∙◌, decimal, decimal_injective, append_cancel_right, All-head, All-tail, string, items_of, outline, items_outline, compact_text, Litmus, IsTest, Condition, AreRegisters, value_in, Reg, Eax, Ebx, Ecx, Edx, Esi, Edi, Entry, printed_entry, printed_end, printed_lines, printed_order, IsOrderFor, SpellsOrder, ProtocolKind, Configuration, IsConfigurationWithinLimits, ReportsAreShort, Shown, FitsTest, IsAtMost, Counts, codes, length-append, length-map, all_registers, head, register_lines, memory_line, condition_line, choices_line, cache_lines, counts_value, condition_value, registers_value, run_value, ReportsTellTheirRuns}
 use Rattle.json.specs.Json as json
-use Rattle.serde_json.specs.Data.{string}
-use Rattle.serde_json.specs.View.{items_of}
-use Rattle.serde_json.specs.Written.{outline, items_outline, compact_text}
-use Rattle.tso_model.specs.Litmus.{Litmus, IsTest}
-use Rattle.tso_model.specs.Condition.{Condition}
-use Rattle.tso_model.specs.Registers.{AreRegisters}
-use Rattle.tso_model.specs.Thread.{value_in}
-use Rattle.tso_model.specs.declared.register.Reg.{Reg}
-use Rattle.tso_model.specs.declared.register.Reg.TheVariants.{Eax, Ebx, Ecx, Edx, Esi, Edi}
-use Rattle.tso_model.specs.declared.execution.Entry.{Entry}
-use Rattle.order_builder.specs.PrintedOrder.{printed_entry, printed_end, printed_lines, printed_order}
-use Rattle.order_builder.specs.Spelling.{IsOrderFor, SpellsOrder}
-use Rattle.protocol_tables.specs.declared.kind.ProtocolKind.{ProtocolKind}
-use Rattle.machine_core.specs.Configuration.{Configuration, IsConfigurationWithinLimits}
-use Rattle.tso_report.specs.Laws.{ReportsAreShort}
-use Rattle.tso_report.specs.Shown.{Shown}
-use Rattle.tso_cli.specs.Fitting.{FitsTest}
 use Rattle.printed_laws.proofs.Reports.{OrderIsSpelledOnce}
-use Rattle.machine_core.specs.Keeping.{IsAtMost}
-use Rattle.machine_core.specs.declared.counts.Counts.{Counts}
-use Rattle.std.specs.Prelude.{codes}
-use Rattle.std.proofs.lemmas.List.{length-append, length-map}
-use Rattle.tso_report.specs.Report.{all_registers, head, register_lines, memory_line, condition_line, choices_line, cache_lines}
-use Rattle.tso_report.specs.Json.{counts_value, condition_value, registers_value, run_value}
-use Rattle.printed_laws.specs.Telling.{ReportsTellTheirRuns}
 use Rattle.printed_laws.proofs.Lines.{value-small, same-registers}
 use Rattle.printed_laws.proofs.Counted.{same-counts}
 use Rattle.printed_laws.proofs.JsonTexts.{value-told, members_in, items_in, text_in, truth_in, value_at, text_at, first_item, more_items, has_item, uneven}

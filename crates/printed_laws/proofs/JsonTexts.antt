@@ -1,12 +1,7 @@
 -- The compact text of a JSON value tells the value, up to how its numbers are spelled; and what stands where in a value.
-use Rattle.std.proofs.Common.{◌≡◌, ℕ, zero, suc, ◌≤◌, Bool, true, false, List, [], Option, unwrap_or, sym, ap, ◌∙◌}
+use Rattle.printed_laws.proofs.Vocabulary.{◌≡◌, ℕ, zero, suc, ◌≤◌, Bool, true, false, List, [], Option, unwrap_or, sym, ap, ◌∙◌, document, max_depth, depth, HasNumbers, Data, outline, compact_text, print-outline}
 use Rattle.json.specs.Json as json
-use Rattle.json.specs.Json.{document, max_depth}
-use Rattle.json.specs.Tree.{depth, HasNumbers}
 use Rattle.json.proofs.Printed.Trees.{document-print}
-use Rattle.serde_json.specs.Data.{Data}
-use Rattle.serde_json.specs.Written.{outline, compact_text}
-use Rattle.serde_json.proofs.Texts.{print-outline}
 
 pub value-told : (d e : Data) → HasNumbers (outline d) → HasNumbers (outline e) → depth (outline d) ≤ max_depth → depth (outline e) ≤ max_depth
     → compact_text d ≡ compact_text e → outline d ≡ outline e

@@ -1,21 +1,6 @@
 -- The keys of what is shown differ: a register's has a colon, behind its core's number, and no location's name has one.
-use Rattle.std.proofs.Common.{◌≡◌, ◌≢◌, ◌∙◌, ℕ, zero, suc, ◌+◌, ◌^◌, ◌<◌, Bool, true, false, not, cond, ◌&&◌, ◌||◌, List, [], ◌∷◌, ◌++◌, map, filter, length, slice_index_or, refl, sym, ap, subst, eq-eqb, arith}
-use Rattle.std.specs.Prelude.{codes}
-use Rattle.std.specs.Fmt.{decimal}
-use Rattle.std.specs.Str.{bytes_eq}
-use Rattle.std.specs.List.{AllByRecursion, list_all}
-use Rattle.std.proofs.lemmas.Bool.{and_parts, and_from}
-use Rattle.std.proofs.lemmas.List.{append_assoc, length-append, map-append}
-use Rattle.std.proofs.lemmas.List.Folds.{list_any-append}
-use Rattle.std.proofs.lemmas.Slice.Eq.{bytes_eq-Decides}
-use Rattle.tso_model.specs.Litmus.{Litmus, IsTest, are_distinct}
-use Rattle.tso_model.specs.Names.{is_among, is_name, is_location_name, continues_name}
-use Rattle.tso_report.specs.Report.{all_registers}
-use Rattle.tso_report.specs.Tally.{register_of, named_registers, named_locations}
-use Rattle.tso_report.specs.declared.named.Named.{Named}
-use Rattle.shown_values.specs.Shown.{is_shown, named_in}
-use Rattle.shown_values.specs.declared.show.Show.{Show}
-use Rattle.outcome_report.specs.OutcomesJson.{key_of}
+use Rattle.printed_laws.proofs.Vocabulary.{◌≡◌, ◌≢◌, ◌∙◌, ℕ, zero, suc, ◌+◌, ◌^◌, ◌<◌, Bool, true, false, not, cond, ◌&&◌, ◌||◌, List, [], ◌∷◌, ◌++◌, map, length, slice_index_or, refl, sym, ap, subst, eq-eqb, arith, codes, decimal, bytes_eq, AllByRecursion, list_all, and_parts, and_from, append_assoc, length-append, map-append, list_any-append, bytes_eq-Decides, Litmus, IsTest, are_distinct, is_among, is_name, is_location_name, continues_name, all_registers, register_of, named_registers, named_locations, Named, is_shown, named_in, Show, key_of}
+use Rattle.std.proofs.Common.{filter}
 use Rattle.printed_laws.proofs.Cutting.{number-cut}
 
 -- ---- names that differ

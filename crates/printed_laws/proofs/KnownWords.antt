@@ -1,32 +1,7 @@
 -- The values that the answers of a refutation tell are words, and a fence has none.
-use Rattle.std.proofs.Common.{◌≡◌, ◌∙◌, ℕ, zero, suc, ◌+◌, Bool, true, false, cond, List, [], ◌∷◌, map, All, Option, Some, None, IfSome, slice_index, slice_index_or, refl, ap, arith}
-use Rattle.std.specs.Prelude.{slice_set, filter}
-use Rattle.std.proofs.lemmas.List.Elements.{All-nil, All-cons, All-head, All-tail, All-append, All-map}
-use Rattle.tso_model.specs.Litmus.{Litmus, IsTest, ConstantIsWord}
-use Rattle.tso_model.specs.Registers.{IsWord, AreRegisters, index_of}
-use Rattle.tso_model.specs.Actions.{action_of}
-use Rattle.tso_model.specs.Thread.{entry}
-use Rattle.tso_model.specs.ProgramOrder.{is_read}
-use Rattle.tso_model.specs.declared.register.Reg.{Reg}
-use Rattle.tso_model.specs.declared.instruction.Loc.{Loc}
-use Rattle.tso_model.specs.declared.instruction.Instr.{Instr}
+use Rattle.printed_laws.proofs.Vocabulary.{◌≡◌, ◌∙◌, ℕ, zero, suc, ◌+◌, Bool, true, false, cond, List, [], ◌∷◌, map, All, Option, Some, None, IfSome, slice_index, slice_index_or, refl, ap, arith, filter, All-nil, All-cons, All-head, All-tail, All-append, All-map, Litmus, IsTest, ConstantIsWord, IsWord, AreRegisters, index_of, action_of, entry, is_read, Reg, Loc, Instr, Operand, Number, Held, Update, Exchange, Add, Action, Store, Load, Move, Fence, Lock, Entry, Kind, R, W, F, LR, LW, Known, events_of, same_event, Source, known_in, known_operand, known_update, word_given, write_with, writes_by, left_by, writes_of, left_of, first_registers, writes_from, value_among, returned_from, returned, known_writes, all_known, value_read, register_at_end, words_at_end, can_be_last, value_known, same-bare, IsValueFor}
+use Rattle.std.specs.Prelude.{slice_set}
 use Rattle.tso_model.specs.declared.instruction.Instr.TheVariants as instr
-use Rattle.tso_model.specs.declared.action.Operand.{Operand}
-use Rattle.tso_model.specs.declared.action.Operand.TheVariants.{Number, Held}
-use Rattle.tso_model.specs.declared.action.Update.{Update}
-use Rattle.tso_model.specs.declared.action.Update.TheVariants.{Exchange, Add}
-use Rattle.tso_model.specs.declared.action.Action.{Action}
-use Rattle.tso_model.specs.declared.action.Action.TheVariants.{Store, Load, Move, Fence, Lock}
-use Rattle.tso_model.specs.declared.execution.Entry.{Entry}
-use Rattle.tso_model.specs.declared.execution.Kind.{Kind}
-use Rattle.tso_model.specs.declared.execution.Kind.TheVariants.{R, W, F, LR, LW}
-use Rattle.refutation_laws.specs.Known.{Known, events_of, same_event}
-use Rattle.refutation_laws.specs.declared.known.Source.{Source}
-use Rattle.refutation_laws.specs.Values.{known_in, known_operand, known_update, word_given, write_with, writes_by, left_by, writes_of, left_of, first_registers, writes_from, value_among, returned_from, returned, known_writes, all_known, value_read}
-use Rattle.refutation_laws.specs.Values.{register_at_end, words_at_end, can_be_last}
-use Rattle.refutation_laws.specs.Shown.{value_known}
-use Rattle.refutation_laws.proofs.Standing.{same-bare}
-use Rattle.printed_laws.specs.Reasons.{IsValueFor}
 
 -- a word, if it is known
 abbrev pub MayBeWord : Option ℕ → Type 0

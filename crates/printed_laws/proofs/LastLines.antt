@@ -1,24 +1,5 @@
 -- The verdict that stands at the end of what `outcomes` and `why` print.
-use Rattle.std.proofs.Common.{◌≡◌, ◌∙◌, ℕ, Bool, true, false, List, [], ◌∷◌, ◌++◌, length, Some, refl, sym, ap, subst}
-use Rattle.std.specs.Prelude.{codes}
-use Rattle.std.specs.List.{flat_map}
-use Rattle.std.specs.Fmt.{decimal}
-use Rattle.std.proofs.lemmas.List.{append_assoc}
-use Rattle.json.specs.Print.{escape_byte}
-use Rattle.serde_json.specs.Data.{Data, string, array, object, no_members, member}
-use Rattle.serde_json.specs.View.{items_of}
-use Rattle.serde_json.specs.Written.{compact_text}
-use Rattle.tso_model.specs.Litmus.{Litmus}
-use Rattle.tso_model.specs.Condition.{Condition}
-use Rattle.tso_report.specs.Report.{line, test_line}
-use Rattle.tso_report.specs.Json.{count}
-use Rattle.tso_report.specs.Tally.{frequency}
-use Rattle.tso_report.specs.declared.named.Named.{Named}
-use Rattle.outcome_report.specs.Verdict.{is_well, verdict_word, verdict_line, verdict_value}
-use Rattle.outcome_report.specs.Outcomes.{Outcome, held_in, failed_in, true_in, is_met_in, printed_numbers, outcomes_line, outcome_lines, observation_line, true_line, condition_lines, unfinished_line}
-use Rattle.outcome_report.specs.OutcomesJson.{states_value, observed_value, unfinished_json}
-use Rattle.outcome_report.specs.Printed.{outcomes_in, unfinished_search_in}
-use Rattle.printed_laws.specs.Verdicts.{EndsInNumbers}
+use Rattle.printed_laws.proofs.Vocabulary.{◌≡◌, ◌∙◌, ℕ, Bool, true, false, List, [], ◌∷◌, ◌++◌, length, Some, refl, sym, ap, subst, codes, flat_map, decimal, append_assoc, escape_byte, Data, string, array, object, no_members, member, items_of, compact_text, Litmus, Condition, line, test_line, count, frequency, Named, is_well, verdict_word, verdict_line, verdict_value, Outcome, held_in, failed_in, true_in, is_met_in, printed_numbers, outcomes_line, outcome_lines, observation_line, true_line, condition_lines, unfinished_line, states_value, observed_value, unfinished_json, outcomes_in, unfinished_search_in, EndsInNumbers}
 use Rattle.printed_laws.proofs.OutcomeLines.{digits-in-line, both-in-line}
 use Rattle.printed_laws.proofs.Digits.{all-digits}
 use Rattle.printed_laws.proofs.Words.{object_value, object-text, of-condition}

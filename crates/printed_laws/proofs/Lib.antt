@@ -1,3 +1,4 @@
+pub mod Vocabulary
 pub mod Cutting
 pub mod JsonTexts
 pub mod Unfinished

@@ -1,14 +1,5 @@
 -- The lines of a report, one after the other: what each begins a text with is told by the text.
-use Rattle.std.proofs.Common.{◌≡◌, ℕ, zero, suc, ◌+◌, ◌^◌, ◌<◌, Bool, true, false, List, [], ◌∷◌, ◌++◌, length, get_or, slice_index, All, Option, Some, None, is_some, refl, sym, ap, ◌∙◌, arith}
-use Rattle.std.specs.Prelude.{codes}
-use Rattle.std.specs.Fmt.{decimal}
-use Rattle.std.proofs.lemmas.List.{append_assoc, append_cancel_left, ext_get_or}
-use Rattle.std.proofs.lemmas.List.Elements.{All-head, All-tail}
-use Rattle.tso_model.specs.Condition.{Condition}
-use Rattle.tso_model.specs.Registers.{IsWord, AreRegisters, index_of, name_of}
-use Rattle.tso_model.specs.Thread.{value_in}
-use Rattle.tso_model.specs.declared.register.Reg.{Reg}
-use Rattle.tso_report.specs.Report.{line, all_registers, printed_registers, register_lines, printed_words, printed_quantifier, printed_truth, printed_verdict}
+use Rattle.printed_laws.proofs.Vocabulary.{◌≡◌, ℕ, zero, suc, ◌+◌, ◌^◌, ◌<◌, Bool, true, false, List, [], ◌∷◌, ◌++◌, length, get_or, slice_index, All, Option, Some, None, is_some, refl, sym, ap, ◌∙◌, arith, codes, decimal, append_assoc, append_cancel_left, ext_get_or, All-head, All-tail, Condition, IsWord, AreRegisters, index_of, name_of, value_in, Reg, line, all_registers, printed_registers, register_lines, printed_words, printed_quantifier, printed_truth, printed_verdict}
 use Rattle.printed_laws.proofs.Cutting.{Stops, next-cut}
 
 -- ---- registers

@@ -1,44 +1,10 @@
 -- The JSON value of a machine tells its cores and its memory.
-use Rattle.std.proofs.Common.{◌≡◌, ◌∙◌, ℕ, zero, suc, ◌+◌, ◌/◌, ◌==◌, ◌<◌, Bool, true, false, if◌then◌else◌, Option, Some, None, IfSome, List, [], ◌∷◌, ◌++◌, map, length, get_or, take, drop, All, refl, sym, ap, subst, arith}
-use Rattle.std.specs.Prelude.{codes}
-use Rattle.std.specs.Option.{option_map}
-use Rattle.std.specs.Fmt.{decimal}
-use Rattle.std.proofs.lemmas.Fmt.{decimal_injective}
+use Rattle.printed_laws.proofs.Vocabulary.{◌≡◌, ◌∙◌, ℕ, zero, suc, ◌+◌, ◌/◌, ◌==◌, ◌<◌, Bool, true, false, if◌then◌else◌, Option, Some, None, IfSome, List, [], ◌∷◌, ◌++◌, map, length, get_or, take, drop, All, refl, sym, ap, subst, arith, codes, option_map, decimal, decimal_injective, All-head, All-tail, Data, array, items_of, outline, items_outline, Litmus, IsTest, CoreState, core_of, chosen, IsWord, index_of, CoresExist, value_in, Choice, Entry, Reg, Eax, Ebx, Ecx, Edx, Esi, Edi, table_of, Transient, IsD, ImD, SmD, bus_holder_of, BusHolder, Configuration, Running, new_machine, machine_after, count, registers_value, memory_value, names_in_line, line_name, store_text, transient_name, line_state, IsTraced, LineState, traced-first, traced-next, texts, words_in, copy_json, copies_in, sets_json, words_in_line, kept_words, bus_json, core_with, core_json, cores_json, machine_json, bare_store}
 use Rattle.std.proofs.lemmas.List.{append-nil}
-use Rattle.std.proofs.lemmas.List.Elements.{All-head, All-tail}
 use Rattle.json.specs.Json as json
-use Rattle.serde_json.specs.Data.{Data, array}
-use Rattle.serde_json.specs.View.{items_of}
-use Rattle.serde_json.specs.Written.{outline, items_outline}
-use Rattle.tso_model.specs.Litmus.{Litmus, IsTest}
-use Rattle.tso_model.specs.FlatMachine.{CoreState, core_of, chosen}
-use Rattle.tso_model.specs.Registers.{IsWord, index_of}
-use Rattle.tso_model.specs.Runs.{CoresExist}
-use Rattle.tso_model.specs.Thread.{value_in}
-use Rattle.tso_model.specs.declared.choice.Choice.{Choice}
-use Rattle.tso_model.specs.declared.execution.Entry.{Entry}
-use Rattle.tso_model.specs.declared.register.Reg.{Reg}
-use Rattle.tso_model.specs.declared.register.Reg.TheVariants.{Eax, Ebx, Ecx, Edx, Esi, Edi}
-use Rattle.protocol_tables.specs.Tables.{table_of}
-use Rattle.protocol_tables.specs.declared.requests.Transient.{Transient}
-use Rattle.protocol_tables.specs.declared.requests.Transient.TheVariants.{IsD, ImD, SmD}
 use Rattle.snoop_bus.specs.declared.looking.CachedLine.{CachedLine}
-use Rattle.machine_core.specs.Looking.{bus_holder_of}
-use Rattle.machine_core.specs.declared.looking.BusHolder.{BusHolder}
-use Rattle.machine_core.specs.Configuration.{Configuration}
-use Rattle.machine_core.specs.Running.{Running, new_machine, machine_after}
-use Rattle.tso_report.specs.Json.{count, registers_value, memory_value}
-use Rattle.trace_report.specs.Lines.{names_in_line, line_name, store_text, transient_name}
 use Rattle.trace_report.specs.StepLaws.{after_choices}
-use Rattle.trace_report.specs.Steps.{line_state}
-use Rattle.trace_report.specs.Told.{IsTraced}
-use Rattle.trace_report.specs.declared.step.LineState.{LineState}
-use Rattle.trace_report.proofs.Traced.{traced-first}
-use Rattle.trace_report.proofs.Whole.{traced-next}
-use Rattle.trace_json.specs.Values.{texts}
-use Rattle.trace_json.specs.MachineJson.{words_in, copy_json, copies_in, sets_json, words_in_line, kept_words, bus_json, core_with, core_json, cores_json, machine_json}
 use Rattle.trace_json.proofs.Tracing.{each-after}
-use Rattle.printed_laws.specs.Traces.{bare_store}
 use Rattle.printed_laws.specs.TracedMachines.{copy_shown, copies_shown, holder_shown, ShowTheSameMachine, AreWordsOf, MachinesAreTold}
 use Rattle.printed_laws.proofs.JsonMemory.{memory-told}
 use Rattle.printed_laws.proofs.JsonTexts.{value-told, members_in, items_in, text_in, value_at, text_at, first_item, more_items, uneven}

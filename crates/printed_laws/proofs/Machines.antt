@@ -1,25 +1,7 @@
 -- Reports, their JSON objects and the lines of sweeps tell the test's name, the protocol and the configuration.
-use Rattle.std.proofs.Common.{◌≡◌, ℕ, true, false, List, [], ◌∷◌, ◌++◌, get_or, refl, sym, ap, ◌∙◌, arith}
-use Rattle.std.specs.Prelude.{codes}
-use Rattle.std.specs.Fmt.{decimal}
-use Rattle.std.proofs.lemmas.Fmt.{decimal_injective}
-use Rattle.std.proofs.lemmas.List.{append_cancel_right}
+use Rattle.printed_laws.proofs.Vocabulary.{◌≡◌, ℕ, true, false, List, [], ◌∷◌, ◌++◌, get_or, refl, sym, ap, ◌∙◌, arith, codes, decimal, decimal_injective, append_cancel_right, object, outline, compact_text, Bus, Atomic, Split, printed_order, Litmus, protocol_name, ProtocolKind, Configuration, IsConfigurationWithinLimits, Shown, register_lines, memory_line, condition_line, choices_line, cache_lines, with_bus, machine_members, machine_value, run_value, RunCounts, state_lines, ended_in, runs_in, observation, tally_text, ReportsTellTheirMachines, SweepsTellTheirMachines}
 use Rattle.json.specs.Json as json
-use Rattle.serde_json.specs.Data.{object}
-use Rattle.serde_json.specs.Written.{outline, compact_text}
-use Rattle.tso_model.specs.declared.choice.Bus.{Bus}
-use Rattle.tso_model.specs.declared.choice.Bus.TheVariants.{Atomic, Split}
-use Rattle.order_builder.specs.PrintedOrder.{printed_order}
-use Rattle.tso_model.specs.Litmus.{Litmus}
-use Rattle.protocol_tables.specs.Names.{protocol_name}
-use Rattle.protocol_tables.specs.declared.kind.ProtocolKind.{ProtocolKind}
-use Rattle.machine_core.specs.Configuration.{Configuration, IsConfigurationWithinLimits}
-use Rattle.tso_report.specs.Shown.{Shown}
-use Rattle.tso_report.specs.Report.{register_lines, memory_line, condition_line, choices_line, cache_lines}
-use Rattle.tso_report.specs.Json.{with_bus, machine_members, machine_value, run_value}
-use Rattle.tso_report.specs.Tally.{RunCounts, state_lines, ended_in, runs_in, observation, tally_text}
 use Rattle.scheduler.specs.Plan.{Plan}
-use Rattle.printed_laws.specs.Telling.{ReportsTellTheirMachines, SweepsTellTheirMachines}
 use Rattle.printed_laws.proofs.Cutting.{next-cut}
 use Rattle.printed_laws.proofs.Heads.{protocol-cut, line-small, same-configuration, head-cut}
 use Rattle.printed_laws.proofs.JsonTexts.{value-told, members_in, value_at, text_at}

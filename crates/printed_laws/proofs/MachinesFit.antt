@@ -1,39 +1,15 @@
 -- What a machine holds fits its test, whatever the choices: its words are words, its pending stores and what it commits are entries
 -- that an order of the test may have, and no core stands past its program.
-use Rattle.std.proofs.Common.{◌≡◌, ℕ, zero, suc, ◌+◌, ◌<◌, ◌≤◌, Bool, true, false, nat_lt, if◌then◌else◌, List, [], ◌∷◌, ◌++◌, length, take, drop, filter, All, Option, Some, None, IfSome, slice_get, slice_index, slice_index_or, slice_set, inl, inr, refl, sym, subst, arith}
-use Rattle.std.proofs.lemmas.List.Elements.{All-nil, All-cons, All-head, All-tail, All-push, All-set, All-filter, All-drop}
-use Rattle.tso_model.specs.Litmus.{Litmus, IsTest, IsProgram, KnownLocation, ConstantIsWord}
-use Rattle.tso_model.specs.Registers.{IsWord, AreRegisters, index_of}
-use Rattle.tso_model.specs.Actions.{action_of}
+use Rattle.printed_laws.proofs.Vocabulary.{◌≡◌, ℕ, zero, suc, ◌+◌, ◌<◌, ◌≤◌, Bool, true, false, nat_lt, if◌then◌else◌, List, [], ◌∷◌, ◌++◌, length, take, drop, All, Option, Some, None, IfSome, slice_get, slice_index, slice_index_or, slice_set, inl, inr, refl, sym, subst, arith, All-nil, All-cons, All-head, All-tail, All-push, All-set, All-filter, All-drop, Litmus, IsTest, IsProgram, KnownLocation, ConstantIsWord, IsWord, AreRegisters, index_of, action_of, is_write, writes_to, entry, fence, value_in, value_of, sum_of, updated, CoreState, State, Effect, is_none_pending, stalled, advanced_with, stored, load_value, effect_by, idle, program_of, core_of, chosen, effect_of, memory_after, applied, started, start, MemoryAccess, NoAccess, Writes, Locks, access_of, Holder, Free, HeldBy, HeldBetween, Attempt, BusEffect, same_choice, needs_bus, acts, asks, begins, completes, as_read, writes_last, split_effect, Reg, Instr, Operand, Number, Held, Update, Exchange, Add, Action, Store, Load, Move, Fence, Lock, Bus, Atomic, Split, Choice, Drain, Stall, Committed, Buffered, Entry, Kind, R, W, F, LR, LW, HasAccess, IsEntryFor, ActionKnown, AccessKnown}
+use Rattle.std.proofs.Common.{filter}
 use Rattle.tso_model.specs.Axioms.{last_value}
-use Rattle.tso_model.specs.ProgramOrder.{is_write, writes_to}
-use Rattle.tso_model.specs.Thread.{entry, fence, value_in, value_of, sum_of, updated}
-use Rattle.tso_model.specs.FlatMachine.{CoreState, State, Effect, is_none_pending, stalled, advanced_with, stored, load_value, effect_by, step_of, idle, program_of, core_of, chosen, effect_of, memory_after, applied, started, start}
-use Rattle.tso_model.specs.MemoryAccess.{MemoryAccess, NoAccess, Reads, Writes, Locks, access_of, next_of}
-use Rattle.tso_model.specs.SplitMachine.{Holder, Free, HeldBy, HeldBetween, Attempt, BusEffect, same_choice, needs_bus, acts, asks, begins, completes, as_read, writes_last, split_effect}
+use Rattle.tso_model.specs.FlatMachine.{step_of}
+use Rattle.tso_model.specs.MemoryAccess.{Reads, next_of}
 use Rattle.tso_model.specs.EitherBus.{BusState, effect_on}
-use Rattle.tso_model.specs.declared.register.Reg.{Reg}
-use Rattle.tso_model.specs.declared.instruction.Instr.{Instr}
 use Rattle.tso_model.specs.declared.instruction.Instr.TheVariants.{StoreImm, SetImm}
-use Rattle.tso_model.specs.declared.action.Operand.{Operand}
-use Rattle.tso_model.specs.declared.action.Operand.TheVariants.{Number, Held}
-use Rattle.tso_model.specs.declared.action.Update.{Update}
-use Rattle.tso_model.specs.declared.action.Update.TheVariants.{Exchange, Add}
-use Rattle.tso_model.specs.declared.action.Action.{Action}
-use Rattle.tso_model.specs.declared.action.Action.TheVariants.{Store, Load, Move, Fence, Lock}
-use Rattle.tso_model.specs.declared.choice.Bus.{Bus}
-use Rattle.tso_model.specs.declared.choice.Bus.TheVariants.{Atomic, Split}
-use Rattle.tso_model.specs.declared.choice.Choice.{Choice}
-use Rattle.tso_model.specs.declared.choice.Choice.TheVariants.{Step, Drain}
-use Rattle.tso_model.specs.declared.choice.Stall.{Stall}
+use Rattle.tso_model.specs.declared.choice.Choice.TheVariants.{Step}
 use Rattle.tso_model.specs.declared.choice.Stall.TheVariants as stall
-use Rattle.tso_model.specs.declared.choice.Outcome.TheVariants.{Committed, Buffered}
-use Rattle.tso_model.specs.declared.execution.Entry.{Entry}
-use Rattle.tso_model.specs.declared.execution.Kind.{Kind}
-use Rattle.tso_model.specs.declared.execution.Kind.TheVariants.{R, W, F, LR, LW}
-use Rattle.order_builder.specs.Spelling.{HasAccess, IsEntryFor}
 use Rattle.split_laws.proofs.Cores.{core-cases, starts-idle}
-use Rattle.trace_report.proofs.Places.{ActionKnown, AccessKnown}
 
 -- ---- words
 

@@ -1,26 +1,5 @@
 -- What the word of a condition means: for each end of the machine's runs, and for each execution.
-use Rattle.std.proofs.Common.{◌≡◌, ◌∙◌, ◌<◌, ◌+◌, ◌==◌, ℕ, zero, suc, Bool, true, false, not, cond, List, [], ◌∷◌, map, length, get_or, Contains, Some, refl, sym, ap, subst, eqb-true, arith}
-use Rattle.std.specs.Prelude.{codes, count_by}
-use Rattle.std.specs.List.{list_all}
-use Rattle.std.proofs.lemmas.List.Elements.{All-contains}
-use Rattle.std.proofs.lemmas.List.Sums.{sum_by-cons}
-use Rattle.tso_model.specs.Litmus.{Litmus, IsTest}
-use Rattle.tso_model.specs.Condition.{Claim, Condition, truth_of}
-use Rattle.tso_model.specs.FinalState.{final_words, final_registers}
-use Rattle.tso_model.specs.FlatMachine.{registers_in}
-use Rattle.tso_model.specs.Runs.{run}
-use Rattle.outcome_laws.specs.Outcomes.{IsEnd, EndsAreWhatTsoAllows}
-use Rattle.litmus_reader.specs.Spelling.{SpellsTest}
-use Rattle.tso_report.specs.Tally.{frequency}
-use Rattle.tso_report.specs.declared.named.Named.{Named}
-use Rattle.shown_values.specs.Shown.{named_in, values_at}
-use Rattle.outcome_report.specs.Outcomes.{Outcome, shown_values, held_in, failed_in}
-use Rattle.outcome_report.specs.Laws.{TruthIsShown}
-use Rattle.commands.specs.Dividing.{parts_of}
-use Rattle.commands.proofs.FoundOutcomes.{Leads, made-of}
-use Rattle.command_line.specs.Search.{Search}
-use Rattle.tso_cli.specs.OutcomesHeadline.{shown_after, PrintsAllOutcomes, HeadlineOfOutcomes, all, too_many}
-use Rattle.printed_laws.specs.Observed.{PrintsWord, IsSoEverywhere, IsSoSomewhere, IsSoNowhere, IsAlwaysSo, IsSometimesSo, WordMeans}
+use Rattle.printed_laws.proofs.Vocabulary.{◌≡◌, ◌∙◌, ◌<◌, ◌+◌, ◌==◌, ℕ, zero, suc, Bool, true, false, not, cond, List, [], ◌∷◌, map, length, get_or, Contains, Some, refl, sym, ap, subst, eqb-true, arith, codes, count_by, list_all, All-contains, sum_by-cons, Litmus, IsTest, Claim, Condition, truth_of, final_words, final_registers, registers_in, run, IsEnd, EndsAreWhatTsoAllows, SpellsTest, frequency, Named, named_in, values_at, Outcome, shown_values, held_in, failed_in, TruthIsShown, parts_of, Leads, made-of, Search, shown_after, PrintsAllOutcomes, HeadlineOfOutcomes, all, too_many, PrintsWord, IsSoEverywhere, IsSoSomewhere, IsSoNowhere, IsAlwaysSo, IsSometimesSo, WordMeans}
 use Rattle.printed_laws.proofs.Digits.{is_no_space}
 use Rattle.printed_laws.proofs.Words.{is_unquoted, word-is, word-isnt}
 

@@ -1,28 +1,6 @@
 -- The lines of `outcomes` tell the states, and in which the condition's proposition is true.
-use Rattle.std.proofs.Common.{◌≡◌, ◌∙◌, ℕ, ◌^◌, ◌<◌, ◌==◌, Bool, true, false, not, List, [], ◌∷◌, ◌++◌, map, drop, length, get_or, All, Option, Some, None, refl, sym, ap, subst, arith}
-use Rattle.std.specs.Prelude.{codes}
-use Rattle.std.specs.Fmt.{decimal}
-use Rattle.std.specs.List.{list_all}
-use Rattle.std.specs.Char.{is_ascii_digit}
-use Rattle.std.proofs.lemmas.Bool.{and_parts, and_from}
-use Rattle.std.proofs.lemmas.Bool.Decides.{nat_tests}
-use Rattle.std.proofs.lemmas.List.{append_assoc, append_cancel_left}
-use Rattle.std.proofs.lemmas.List.Elements.{All-head, All-tail}
-use Rattle.std.proofs.lemmas.List.Folds.{list_all-append}
-use Rattle.tso_model.specs.Litmus.{Litmus}
-use Rattle.tso_model.specs.Names.{is_printable}
-use Rattle.tso_model.specs.Condition.{Condition}
-use Rattle.tso_model.specs.declared.choice.Choice.{Choice}
-use Rattle.tso_model.specs.declared.choice.Choice.TheVariants.{Step, Drain}
-use Rattle.scheduler.specs.Printed.{printed_choice, printed_after, printed_choices}
-use Rattle.tso_report.specs.Report.{line, test_line}
-use Rattle.tso_report.specs.Tally.{printed_values}
-use Rattle.tso_report.specs.declared.named.Named.{Named}
-use Rattle.shown_values.specs.Shown.{named_in}
-use Rattle.outcome_report.specs.Outcomes.{Outcome, shown_values, outcomes_line, outcome_lines, condition_lines}
-use Rattle.tso_cli.specs.Fitting.{IsStateAt}
-use Rattle.outcome_report.proofs.Alike.{alike}
-use Rattle.printed_laws.specs.Outcomes.{OutcomesTellTheirStates, OutcomesTellTheirTests}
+use Rattle.printed_laws.proofs.Vocabulary.{◌≡◌, ◌∙◌, ℕ, ◌^◌, ◌<◌, ◌==◌, Bool, true, false, not, List, [], ◌∷◌, ◌++◌, map, drop, length, get_or, All, Option, Some, None, refl, sym, ap, subst, arith, codes, decimal, list_all, is_ascii_digit, and_parts, and_from, nat_tests, append_assoc, append_cancel_left, All-head, All-tail, list_all-append, Litmus, is_printable, Condition, Choice, Drain, printed_choice, printed_after, printed_choices, line, test_line, printed_values, Named, named_in, Outcome, shown_values, outcomes_line, outcome_lines, condition_lines, IsStateAt, alike, OutcomesTellTheirStates, OutcomesTellTheirTests}
+use Rattle.tso_model.specs.declared.choice.Choice.TheVariants.{Step}
 use Rattle.printed_laws.proofs.Cutting.{run-cut, next-cut}
 use Rattle.printed_laws.proofs.Heads.{printable-name}
 use Rattle.printed_laws.proofs.Sweeps.{NoState, values-cut}

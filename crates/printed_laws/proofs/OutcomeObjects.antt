@@ -1,34 +1,11 @@
 -- The JSON object of `outcomes` tells the states, and in which the condition's proposition is true.
-use Rattle.std.proofs.Common.{◌≡◌, ◌∙◌, ℕ, ◌^◌, ◌<◌, ◌≤◌, Bool, true, not, List, [], ◌∷◌, ◌++◌, map, length, All, Option, Some, None, refl, sym, ap, arith}
-use Rattle.std.specs.Prelude.{codes}
-use Rattle.std.proofs.lemmas.List.Sums.{count_by-le-length}
-use Rattle.std.proofs.lemmas.Fmt.{decimal_injective}
-use Rattle.std.proofs.lemmas.List.{append_cancel_right, length-map}
-use Rattle.std.proofs.lemmas.List.Elements.{All-head, All-tail}
+use Rattle.printed_laws.proofs.Vocabulary.{◌≡◌, ◌∙◌, ℕ, ◌^◌, ◌<◌, ◌≤◌, Bool, true, not, List, [], ◌∷◌, ◌++◌, map, length, All, Option, Some, None, refl, sym, ap, arith, codes, count_by-le-length, decimal_injective, append_cancel_right, length-map, All-head, All-tail, max_depth, items_depth, members_depth, HasNumbers, ItemsHaveNumbers, MembersHaveNumbers, IsNumber-decimal, object, Members, no_members, member, items_of, outline, items_outline, members_outline, compact_text, Litmus, IsTest, Condition, truth_of, IsWord, Named, memory_members, named_in, Show, verdict_value, Outcome, shown_values, held_in, failed_in, is_met_in, key_of, value_members, with_holds, holds_in, state_value, observation_value, outcomes_value, IsStateAt, OutcomesFit, OutcomesTellTheirStates, OutcomesTellTheirTests, alike}
 use Rattle.json.specs.Json as json
-use Rattle.json.specs.Json.{max_depth}
-use Rattle.json.specs.Tree.{depth as depth_of, items_depth, members_depth, HasNumbers, ItemsHaveNumbers, MembersHaveNumbers}
-use Rattle.json.proofs.Printed.Decimals.{IsNumber-decimal}
-use Rattle.serde_json.specs.Data.{object, Members, no_members, member}
-use Rattle.serde_json.specs.View.{items_of}
-use Rattle.serde_json.specs.Written.{outline, items_outline, members_outline, compact_text}
-use Rattle.tso_model.specs.Litmus.{Litmus, IsTest}
-use Rattle.tso_model.specs.Condition.{Condition, truth_of}
-use Rattle.tso_model.specs.Registers.{IsWord}
-use Rattle.tso_report.specs.declared.named.Named.{Named}
-use Rattle.tso_report.specs.Json.{memory_members}
-use Rattle.shown_values.specs.Shown.{named_in}
-use Rattle.shown_values.specs.declared.show.Show.{Show}
-use Rattle.outcome_report.specs.Verdict.{verdict_value}
-use Rattle.outcome_report.specs.Outcomes.{Outcome, shown_values, held_in, failed_in, is_met_in}
-use Rattle.outcome_report.specs.OutcomesJson.{key_of, value_members, with_holds, holds_in, state_value, observation_value, outcomes_value}
-use Rattle.tso_cli.specs.Fitting.{IsStateAt}
-use Rattle.printed_laws.specs.Outcomes.{OutcomesFit, OutcomesTellTheirStates, OutcomesTellTheirTests}
+use Rattle.json.specs.Tree.{depth as depth_of}
 use Rattle.printed_laws.proofs.JsonTexts.{value-told, members_in, items_in, value_at, text_at, first_item, more_items, has_item, uneven}
 use Rattle.printed_laws.proofs.JsonNumbers.{one-more, no-deeper}
 use Rattle.printed_laws.proofs.JsonMemory.{memory-told}
 use Rattle.printed_laws.proofs.Keys.{keys-distinct}
-use Rattle.outcome_report.proofs.Alike.{alike}
 use Rattle.printed_laws.proofs.OutcomeLines.{choices_of}
 
 -- the members behind the first

@@ -1,26 +1,7 @@
 -- Whether nodes close a case is a matter of the events in its answers: the values that these are written with don't count.
-use Rattle.std.proofs.Common.{◌≡◌, ◌==◌, ℕ, zero, suc, ◌&&◌, ◌||◌, Bool, true, false, not, cond, List, [], ◌∷◌, ◌++◌, map, length, Option, Some, None, slice_index, slice_index_or, refl, sym, ap, ◌∙◌}
+use Rattle.printed_laws.proofs.Vocabulary.{◌≡◌, ◌==◌, ℕ, zero, suc, ◌&&◌, ◌||◌, Bool, true, false, not, cond, List, [], ◌∷◌, ◌++◌, map, length, Option, Some, None, slice_index, slice_index_or, refl, sym, ap, ◌∙◌, filter, list_any, list_all, option_map, Litmus, Claim, TruthClaim, RegClaim, LocClaim, NotClaim, AndClaim, OrClaim, writes_to, Reg, Entry, Known, bare, events_of, same_event, is_event, with_source, with_pair, is_write_of, reads_from, comes_before, is_overwritten, from_reads, relates, on_location, global_in, is_edge, is_cycle, are_parts, left_of, known_in, first_registers, writes_from, value_among, returned_from, returned, known_writes, all_known, value_read, register_at_end, can_be_last, words_at_end, can_be, allows, Node, ReadsFrom, ComesFirst, OnLocation, Globally, Between, FalseClaim, sources_of, is_node, branches, close, Source, Model, Relation, Po, PoLoc, PoGhb, Mfence, Implied, Rf, Rfe, Co, Fr, Reply, Reads, First, with_reply}
 use mathlib.Core.Path.{fun_ext, ap₂}
-use Rattle.std.specs.Prelude.{filter}
-use Rattle.std.specs.List.{list_any, list_all}
-use Rattle.std.specs.Option.{option_map}
-use Rattle.tso_model.specs.Litmus.{Litmus}
-use Rattle.tso_model.specs.Condition.{Claim, TruthClaim, RegClaim, LocClaim, NotClaim, AndClaim, OrClaim}
-use Rattle.tso_model.specs.ProgramOrder.{writes_to}
-use Rattle.tso_model.specs.declared.register.Reg.{Reg}
-use Rattle.tso_model.specs.declared.execution.Entry.{Entry}
-use Rattle.refutation_laws.specs.Known.{Known, bare, events_of, same_event, is_event, with_source, with_pair, is_write_of, reads_from, comes_before, is_overwritten, from_reads}
-use Rattle.refutation_laws.specs.Edges.{relates, on_location, global_in, is_edge, is_cycle, are_parts}
-use Rattle.refutation_laws.specs.Values.{left_of, known_in, first_registers, writes_from, value_among, returned_from, returned, known_writes, all_known, value_read, register_at_end, can_be_last, words_at_end, can_be, allows}
-use Rattle.refutation_laws.specs.Refutations.{Node, ReadsFrom, ComesFirst, OnLocation, Globally, Between, FalseClaim, sources_of, is_node, branches, close}
-use Rattle.refutation_laws.specs.declared.known.Source.{Source}
 use Rattle.refutation_laws.specs.declared.known.Pair.{Pair}
-use Rattle.refutation_laws.specs.declared.model.Model.{Model}
-use Rattle.refutation_laws.specs.declared.model.Relation.{Relation}
-use Rattle.refutation_laws.specs.declared.model.Relation.TheVariants.{Po, PoLoc, PoGhb, Mfence, Implied, Rf, Rfe, Co, Fr}
-use Rattle.reason_report.specs.declared.replies.Reply.{Reply}
-use Rattle.reason_report.specs.declared.replies.Reply.TheVariants.{Reads, First}
-use Rattle.reason_report.specs.Steps.{with_reply}
 
 -- ---- answers without values
 

@@ -1,16 +1,5 @@
 -- What is printed of runs tells them apart.
-use Rattle.std.proofs.Common.{◌≡◌, ℕ, ◌+◌, ◌≤◌, Bool, true, false, cond, List, length, get_or, refl, sym, ap, ◌∙◌, arith}
-use Rattle.json.specs.Print.{escape_byte}
-use Rattle.tso_model.specs.Litmus.{Litmus, IsTest}
-use Rattle.tso_model.specs.Runs.{Run}
-use Rattle.protocol_tables.specs.declared.kind.ProtocolKind.{ProtocolKind}
-use Rattle.machine_core.specs.Configuration.{Configuration, IsConfigurationWithinLimits}
-use Rattle.tso_report.specs.Shown.{Shown}
-use Rattle.tso_cli.specs.Fitting.{FitsTest, shown_under, EndedRunsFit, ChoicesAreCounted}
-use Rattle.commands.specs.RunTexts.{report_in, unfinished_in}
-use Rattle.simulator.specs.Runs.{run_under}
-use Rattle.printed_laws.specs.OfRuns.{PrintedRunsAreTold}
-use Rattle.printed_laws.specs.Telling.{ReportsTellTheirRuns, UnfinishedRunsAreTold}
+use Rattle.printed_laws.proofs.Vocabulary.{◌≡◌, ℕ, ◌+◌, ◌≤◌, Bool, true, false, cond, List, length, get_or, refl, sym, ap, ◌∙◌, arith, escape_byte, Litmus, IsTest, Run, ProtocolKind, Configuration, IsConfigurationWithinLimits, Shown, FitsTest, shown_under, EndedRunsFit, ChoicesAreCounted, report_in, unfinished_in, run_under, PrintedRunsAreTold, ReportsTellTheirRuns, UnfinishedRunsAreTold}
 
 -- ---- a report is no text of a run that didn't end
 

@@ -1,37 +1,9 @@
 -- What `trace` prints tells the run and its steps.
-use Rattle.std.proofs.Common.{◌≡◌, ◌∙◌, ℕ, ◌+◌, ◌^◌, ◌<◌, ◌≤◌, Bool, true, false, cond, List, [], ◌∷◌, ◌++◌, length, get_or, refl, sym, ap, arith}
-use Rattle.std.specs.Prelude.{codes}
-use Rattle.std.proofs.lemmas.List.{append_cancel_left, append_cancel_right}
+use Rattle.printed_laws.proofs.Vocabulary.{◌≡◌, ◌∙◌, ℕ, ◌+◌, ◌^◌, ◌<◌, ◌≤◌, Bool, true, false, cond, List, [], ◌∷◌, ◌++◌, length, get_or, refl, sym, ap, arith, codes, append_cancel_left, append_cancel_right, max_depth, print, escape_byte, json_tokens, depth, members_depth, HasNumbers, MembersHaveNumbers, IsNumber-decimal, Data, Members, put, outline, members_outline, compact_text, print-outline, Litmus, IsTest, Run, CoresExist, Choice, ProtocolKind, Configuration, IsConfigurationWithinLimits, Shown, head, body, run_members, run_value, unfinished_members, unfinished_value, json_report, json_unfinished, trace_text, trace_under, programs_value, proposition_value, trace_json, report_in, unfinished_in, run_under, counts_under, FitsTest, shown_under, EndedRunsFit, ChoicesAreCounted, PrintedRunsAreTold, ReportsTellTheirMachines, told_by_line, told_by_object, TraceValuesTellTheirSteps, PrintedTracesAreTold, PrintedTracesNameTheSame}
 use Rattle.json.specs.Json as json
-use Rattle.json.specs.Json.{max_depth}
-use Rattle.json.specs.Print.{print, escape_byte}
-use Rattle.json.specs.Tree.{json_tokens, depth, members_depth, HasNumbers, MembersHaveNumbers}
-use Rattle.json.proofs.Printed.Decimals.{IsNumber-decimal}
-use Rattle.serde_json.specs.Data.{Data, Members, put}
-use Rattle.serde_json.specs.Written.{outline, members_outline, compact_text}
-use Rattle.serde_json.proofs.Texts.{print-outline}
-use Rattle.tso_model.specs.Litmus.{Litmus, IsTest}
-use Rattle.tso_model.specs.Runs.{Run, CoresExist}
-use Rattle.tso_model.specs.declared.choice.Choice.{Choice}
-use Rattle.protocol_tables.specs.declared.kind.ProtocolKind.{ProtocolKind}
-use Rattle.machine_core.specs.Configuration.{Configuration, IsConfigurationWithinLimits}
-use Rattle.tso_report.specs.Shown.{Shown}
-use Rattle.tso_report.specs.Report.{head, body}
-use Rattle.tso_report.specs.Json.{run_members, run_value, unfinished_members, unfinished_value, json_report, json_unfinished}
-use Rattle.trace_report.specs.Lines.{trace_text}
-use Rattle.trace_report.specs.Steps.{trace_under}
-use Rattle.trace_json.specs.Programs.{programs_value}
-use Rattle.trace_json.specs.Proposition.{proposition_value}
-use Rattle.trace_json.specs.TraceJson.{trace_json}
 use Rattle.trace_json.specs.TracedRun.{with_trace, ended_value, unended_value, json_ended, json_unended}
 use Rattle.commands.specs.Lines.{unfinished_line}
-use Rattle.commands.specs.RunTexts.{report_in, unfinished_in}
 use Rattle.commands.specs.Trace.{ending_text}
-use Rattle.simulator.specs.Runs.{run_under, counts_under}
-use Rattle.tso_cli.specs.Fitting.{FitsTest, shown_under, EndedRunsFit, ChoicesAreCounted}
-use Rattle.printed_laws.specs.OfRuns.{PrintedRunsAreTold}
-use Rattle.printed_laws.specs.Telling.{ReportsTellTheirMachines}
-use Rattle.printed_laws.specs.Traces.{told_by_line, told_by_object, TraceValuesTellTheirSteps, PrintedTracesAreTold, PrintedTracesNameTheSame}
 use Rattle.printed_laws.proofs.Heads.{head-cut}
 use Rattle.printed_laws.proofs.JsonNumbers.{run-numbers, run-depth}
 use Rattle.printed_laws.proofs.JsonTexts.{value-told, value_at}

@@ -1,19 +1,6 @@
 -- The tree that is read from steps is the same of steps of which the same is told, so the printed lines and the JSON value tell it.
-use Rattle.std.proofs.Common.{◌≡◌, ◌∙◌, ℕ, true, List, [], ◌∷◌, ◌++◌, map, Option, Some, None, refl, sym, ap, subst}
+use Rattle.printed_laws.proofs.Vocabulary.{◌≡◌, ◌∙◌, ℕ, true, List, [], ◌∷◌, ◌++◌, map, Option, Some, None, refl, sym, ap, subst, flat_map, option_map, Litmus, Entry, Node, OnLocation, Globally, asked, refutes, Reply, Reads, Event, Edge, Answer, From, Before, Closing, Uniproc, Cycle, Amid, False, Step, Case, So, Leaf, Endcases, steps_of, told_event, told_edge, told_answer, told_closing, told_step, told_by_value, entry_in, source_in, leaf_in, replies_in, ReadPart, Closed, Cases, nodes_of, parts_from, parts_in, tree_of, LinesTellTheirTree, PrintedTreesRefute, ValuesTellTheirTree, PrintedValuesRefute}
 use mathlib.Core.Path.{ap₂}
-use Rattle.std.specs.List.{flat_map}
-use Rattle.std.specs.Option.{option_map}
-use Rattle.tso_model.specs.Litmus.{Litmus}
-use Rattle.tso_model.specs.declared.execution.Entry.{Entry}
-use Rattle.refutation_laws.specs.Refutations.{Node, OnLocation, Globally, asked, refutes}
-use Rattle.reason_report.specs.declared.replies.Reply.{Reply}
-use Rattle.reason_report.specs.declared.replies.Reply.TheVariants.{Reads}
-use Rattle.reason_report.specs.declared.steps.Event.{Event}
-use Rattle.reason_report.specs.declared.steps.Edge.{Edge}
-use Rattle.reason_report.specs.Steps.{Answer, From, Before, Closing, Uniproc, Cycle, Amid, False, Step, Case, So, Leaf, Endcases, steps_of}
-use Rattle.printed_laws.specs.Reasons.{told_event, told_edge, told_answer, told_closing, told_step, told_by_value}
-use Rattle.printed_laws.specs.ReadBack.{entry_in, source_in, leaf_in, replies_in, ReadPart, Closed, Cases, nodes_of, parts_from, parts_in, tree_of}
-use Rattle.printed_laws.specs.ReadBack.{LinesTellTheirTree, PrintedTreesRefute, ValuesTellTheirTree, PrintedValuesRefute}
 use Rattle.printed_laws.proofs.ReasonLines.{lines-tell}
 use Rattle.printed_laws.proofs.ReasonValues.{values-tell}
 use Rattle.printed_laws.proofs.ReasonsFit.{steps-fit}

@@ -1,21 +1,6 @@
 -- The answers of a refutation, as they are read from its steps.
-use Rattle.std.proofs.Common.{◌≡◌, ◌&&◌, Bool, true, false, not, cond, List, [], ◌∷◌, ◌++◌, map, Option, Some, None, refl, sym, ap, ◌∙◌, ◌⊎◌, inl, inr}
+use Rattle.printed_laws.proofs.Vocabulary.{◌≡◌, ◌&&◌, Bool, true, false, not, cond, List, [], ◌∷◌, ◌++◌, map, Option, Some, None, refl, sym, ap, ◌∙◌, ◌⊎◌, inl, inr, filter, list_any, option_map, and_parts, and_from, or_right, Litmus, Entry, Each, each-map, Known, bare, same_event, Node, ReadsFrom, ComesFirst, OnLocation, Globally, Between, FalseClaim, sources_of, same-bare, itself, Reply, Reads, First, replies, Branch, write_in, answer_at, is_source, groups, entry_in, replies_in, ReadCase, same_source, same_reply}
 use mathlib.Core.Path.{fun_ext, ap₂}
-use Rattle.std.specs.Prelude.{filter}
-use Rattle.std.specs.List.{list_any}
-use Rattle.std.specs.Option.{option_map}
-use Rattle.std.proofs.lemmas.Bool.{and_parts, and_from, or_right}
-use Rattle.tso_model.specs.Litmus.{Litmus}
-use Rattle.tso_model.specs.declared.execution.Entry.{Entry}
-use Rattle.basic_laws.proofs.Lists.{Each, each-map}
-use Rattle.refutation_laws.specs.Known.{Known, bare, same_event}
-use Rattle.refutation_laws.specs.Refutations.{Node, ReadsFrom, ComesFirst, OnLocation, Globally, Between, FalseClaim, sources_of}
-use Rattle.refutation_laws.proofs.Standing.{same-bare}
-use Rattle.refutation_laws.proofs.Soundness.{itself}
-use Rattle.reason_report.specs.declared.replies.Reply.{Reply}
-use Rattle.reason_report.specs.declared.replies.Reply.TheVariants.{Reads, First}
-use Rattle.reason_report.specs.Steps.{replies, Branch, write_in, answer_at, is_source, groups}
-use Rattle.printed_laws.specs.ReadBack.{entry_in, replies_in, ReadCase, same_source, same_reply}
 use Rattle.printed_laws.proofs.PlainAnswers.{plain-reply}
 
 -- ---- lists

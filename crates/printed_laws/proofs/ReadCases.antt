@@ -1,20 +1,7 @@
 -- The cases of one question, as they are read from its steps: each answer has a case, and its part closes it.
-use Rattle.std.proofs.Common.{◌≡◌, ℕ, ◌+◌, ◌||◌, Bool, true, false, cond, List, [], ◌∷◌, ◌++◌, map, refl, sym, ap, ◌∙◌, subst, append-nil, append_assoc}
-use Rattle.std.specs.Prelude.{filter}
-use Rattle.std.specs.List.{list_any, flat_map}
-use Rattle.std.proofs.lemmas.Bool.{and_parts, and_from, or_right}
-use Rattle.tso_model.specs.Litmus.{Litmus}
-use Rattle.tso_model.specs.Condition.{Claim}
-use Rattle.basic_laws.proofs.Lists.{Each, each-append, each-map}
-use Rattle.refutation_laws.specs.Known.{Known}
-use Rattle.refutation_laws.specs.Refutations.{Node, ReadsFrom, ComesFirst, OnLocation, Globally, Between, FalseClaim, is_node, branches, close}
-use Rattle.refutation_laws.specs.declared.model.Model.{Model}
+use Rattle.printed_laws.proofs.Vocabulary.{◌≡◌, ℕ, ◌+◌, ◌||◌, Bool, true, false, cond, List, [], ◌∷◌, ◌++◌, map, refl, sym, ap, ◌∙◌, subst, append-nil, filter, list_any, flat_map, and_parts, and_from, or_right, Litmus, Claim, Each, each-append, each-map, Known, Node, ReadsFrom, ComesFirst, OnLocation, Globally, Between, FalseClaim, is_node, branches, close, Model, Reply, Step, Case, So, Endcases, is_false, replies, with_reply, Part, Branch, is_closed, is_source, is_false_source, are_alike, groups, closed_case, answer_of_case, answer_of_branch, case_steps, so_steps, rest_steps, leaf_in, replies_in, ReadCase, ReadPart, Closed, Cases, same_reply, nodes_with, nodes_of, cases_with, parts_from, parts_in}
+use Rattle.std.proofs.Common.{append_assoc}
 use Rattle.refutation_laws.proofs.Composing.{side-by-side}
-use Rattle.reason_report.specs.declared.replies.Reply.{Reply}
-use Rattle.reason_report.specs.Steps.{Step, Case, So, Endcases}
-use Rattle.reason_report.specs.Steps.{is_false, replies, with_reply, Part, Branch, is_closed, is_source, is_false_source, are_alike, groups}
-use Rattle.reason_report.specs.Steps.{closed_case, answer_of_case, answer_of_branch, case_steps, so_steps, rest_steps}
-use Rattle.printed_laws.specs.ReadBack.{leaf_in, replies_in, ReadCase, ReadPart, Closed, Cases, same_reply, nodes_with, nodes_of, cases_with, parts_from, parts_in}
 use Rattle.printed_laws.proofs.PlainAnswers.{plain-reply, reply-alike, close-alike}
 use Rattle.printed_laws.proofs.CaseGroups.{alike-parts}
 use Rattle.printed_laws.proofs.ReadAnswers.{each-mapped, each-filter, kept, map-twice, Answers, IsGiven, same-replies, plain-twice, itself-reply, one-read, several-read, others-given}

@@ -1,21 +1,6 @@
 -- The leaves of a refutation, as they are read from its steps: without the values that their entries are written with.
-use Rattle.std.proofs.Common.{◌≡◌, ℕ, ◌==◌, ◌&&◌, Bool, true, not, List, [], ◌∷◌, map, Option, Some, None, refl, ap, ◌∙◌}
+use Rattle.printed_laws.proofs.Vocabulary.{◌≡◌, ℕ, ◌==◌, ◌&&◌, Bool, true, not, List, [], ◌∷◌, map, Option, Some, None, refl, ap, ◌∙◌, list_any, list_all, and_from, Litmus, Claim, Entry, Known, bare, same_event, is_event, is_write_of, reads_from, comes_before, is_overwritten, from_reads, relates, on_location, global_in, is_edge, is_cycle, leads_back, are_parts, Node, ReadsFrom, ComesFirst, OnLocation, Globally, Between, FalseClaim, is_node, close, Source, Model, Relation, Po, PoLoc, PoGhb, Mfence, Implied, Rf, Rfe, Co, Fr, Closing, Uniproc, Cycle, Amid, False, Leaf, edges_back, edges_of, is_leaf, leaf_steps, source_in, leaf_in}
 use mathlib.Core.Path.{fun_ext, ap₂}
-use Rattle.std.specs.List.{list_any, list_all}
-use Rattle.std.proofs.lemmas.Bool.{and_from}
-use Rattle.tso_model.specs.Litmus.{Litmus}
-use Rattle.tso_model.specs.Condition.{Claim}
-use Rattle.tso_model.specs.declared.execution.Entry.{Entry}
-use Rattle.refutation_laws.specs.Known.{Known, bare, same_event, is_event, is_write_of, reads_from, comes_before, is_overwritten, from_reads}
-use Rattle.refutation_laws.specs.Edges.{relates, on_location, global_in, is_edge, is_cycle, leads_back, are_parts}
-use Rattle.refutation_laws.specs.Refutations.{Node, ReadsFrom, ComesFirst, OnLocation, Globally, Between, FalseClaim, is_node, close}
-use Rattle.refutation_laws.specs.declared.known.Source.{Source}
-use Rattle.refutation_laws.specs.declared.model.Model.{Model}
-use Rattle.refutation_laws.specs.declared.model.Relation.{Relation}
-use Rattle.refutation_laws.specs.declared.model.Relation.TheVariants.{Po, PoLoc, PoGhb, Mfence, Implied, Rf, Rfe, Co, Fr}
-use Rattle.reason_report.specs.Steps.{Closing, Uniproc, Cycle, Amid, False, Leaf}
-use Rattle.reason_report.specs.Steps.{edges_back, edges_of, is_leaf, leaf_steps}
-use Rattle.printed_laws.specs.ReadBack.{source_in, leaf_in}
 
 -- ---- leaves without values
 

@@ -1,29 +1,9 @@
 -- What is read back from the steps of a refutation refutes: each question has a part for each of its answers, and each part closes
 -- the case of its answer.
-use Rattle.std.proofs.Common.{◌≡◌, ℕ, ◌==◌, Bool, true, false, not, cond, List, [], ◌∷◌, ◌++◌, map, length, drop, Option, refl, sym, ap, ◌∙◌, subst, ◌⊎◌, inl, inr, append-nil}
+use Rattle.printed_laws.proofs.Vocabulary.{◌≡◌, ℕ, ◌==◌, Bool, true, false, not, cond, List, [], ◌∷◌, ◌++◌, map, length, drop, Option, refl, sym, ap, ◌∙◌, subst, ◌⊎◌, inl, inr, append-nil, filter, flat_map, and_parts, and_from, Litmus, Claim, is_write, Entry, length-map, Each, each-left, each-right, Known, bare, nothing, same_event, is_event, with_source, Node, ReadsFrom, ComesFirst, OnLocation, Globally, Between, FalseClaim, sources_of, is_node, branches, close, Model, same-bare, bare-same, Reply, Reads, First, Step, is_leaf, leaf_steps, replies, with_reply, Part, Branch, branches_with, is_closed, groups, rest_steps, question_steps, grown, question_of, ReadCase, Closed, Cases, nodes_with, nodes_of, parts_in, tree_of, StepsOfRefutationsRefute}
 use mathlib.Core.Path.{ap₂}
-use Rattle.std.specs.Prelude.{filter}
-use Rattle.std.specs.List.{flat_map}
-use Rattle.std.proofs.lemmas.Bool.{and_parts, and_from}
-use Rattle.tso_model.specs.Litmus.{Litmus}
-use Rattle.tso_model.specs.Condition.{Claim}
-use Rattle.tso_model.specs.ProgramOrder.{is_write}
-use Rattle.tso_model.specs.declared.execution.Entry.{Entry}
-use Rattle.std.proofs.lemmas.List.{length-map}
-use Rattle.basic_laws.proofs.Lists.{Each, each-left, each-right}
 use Rattle.relational_model.proofs.KindFacts.{number-same, same-number}
-use Rattle.refutation_laws.specs.Known.{Known, bare, nothing, same_event, is_event, with_source}
-use Rattle.refutation_laws.specs.Refutations.{Node, ReadsFrom, ComesFirst, OnLocation, Globally, Between, FalseClaim, sources_of, is_node, branches, close}
-use Rattle.refutation_laws.specs.declared.model.Model.{Model}
-use Rattle.refutation_laws.proofs.Standing.{same-bare}
-use Rattle.refutation_laws.proofs.Soundness.{bare-same}
-use Rattle.reason_report.specs.declared.replies.Reply.{Reply}
-use Rattle.reason_report.specs.declared.replies.Reply.TheVariants.{Reads, First}
-use Rattle.reason_report.specs.Steps.{Step}
-use Rattle.reason_report.specs.Steps.{is_leaf, leaf_steps, replies, with_reply, Part, Branch, branches_with, is_closed, groups}
-use Rattle.reason_report.specs.Steps.{rest_steps, question_steps, grown, parts_of}
-use Rattle.printed_laws.specs.ReadBack.{question_of, ReadCase, Closed, Cases, nodes_with, nodes_of, parts_in, tree_of}
-use Rattle.printed_laws.specs.ReadBack.{StepsOfRefutationsRefute}
+use Rattle.reason_report.specs.Steps.{parts_of}
 use Rattle.printed_laws.proofs.PlainAnswers.{plain-reply}
 use Rattle.printed_laws.proofs.CaseGroups.{all-grouped}
 use Rattle.printed_laws.proofs.ReadAnswers.{each-mapped, each-filter, kept, both-kept, Answers, replies-answer, IsGiven, given-alike}

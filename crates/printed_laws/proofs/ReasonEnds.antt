@@ -1,29 +1,7 @@
 -- The verdict that stands at the end of what `why` prints.
-use Rattle.std.proofs.Common.{◌≡◌, ◌∙◌, ℕ, Bool, true, false, List, [], ◌∷◌, ◌++◌, map, Option, Some, None, refl, sym, ap, subst}
-use Rattle.std.specs.Prelude.{codes}
-use Rattle.std.specs.List.{flat_map}
-use Rattle.std.specs.Fmt.{decimal}
-use Rattle.std.proofs.lemmas.List.{append_assoc}
-use Rattle.json.specs.Print.{escape_byte}
-use Rattle.serde_json.specs.Data.{Data, string, array, object, no_members, member}
-use Rattle.serde_json.specs.View.{items_of}
-use Rattle.serde_json.specs.Written.{compact_text}
-use Rattle.tso_model.specs.Litmus.{Litmus}
-use Rattle.tso_model.specs.Condition.{Condition}
-use Rattle.tso_model.specs.declared.choice.Choice.{Choice}
-use Rattle.relational_model.specs.Candidates.{Candidate}
-use Rattle.refutation_laws.specs.Refutations.{Node, asked}
-use Rattle.refutation_laws.specs.declared.model.Model.{Model}
-use Rattle.scheduler.specs.Printed.{printed_choices}
-use Rattle.tso_report.specs.Report.{line, test_line, printed_quantifier, printed_truth}
-use Rattle.tso_report.specs.Json.{count}
-use Rattle.tso_report.specs.Tally.{looked_at, printed_values}
-use Rattle.outcome_report.specs.Verdict.{is_well, verdict_word, verdict_line, verdict_value}
-use Rattle.outcome_report.specs.Outcomes.{by_line, state_line}
-use Rattle.outcome_report.specs.OutcomesJson.{value_members}
-use Rattle.reason_report.specs.Steps.{Step, Case, So, Leaf, Endcases, steps_of, leaves_in}
-use Rattle.reason_report.specs.ReasonText.{model_name, truth_asked, asked_line, never_line, step_line, blanks, answer_text, closing_text, from_line, reads_of, coherence_lines, values_left, unfinished_line}
-use Rattle.reason_report.specs.ReasonJson.{asked_value, step_value, from_value, coherence_members, unfinished_json}
+use Rattle.printed_laws.proofs.Vocabulary.{◌≡◌, ◌∙◌, ℕ, Bool, true, false, List, [], ◌∷◌, ◌++◌, map, Option, Some, None, refl, sym, ap, subst, codes, flat_map, decimal, append_assoc, escape_byte, Data, string, array, object, no_members, member, items_of, compact_text, Litmus, Condition, Choice, Candidate, Node, asked, Model, printed_choices, line, test_line, printed_quantifier, printed_truth, count, looked_at, printed_values, is_well, verdict_word, verdict_line, verdict_value, by_line, state_line, value_members, Step, Case, So, Leaf, Endcases, steps_of, leaves_in, model_name, truth_asked, asked_line, never_line, step_line, blanks, answer_text, closing_text, from_line, reads_of, coherence_lines, values_left, asked_value, step_value, from_value, coherence_members}
+use Rattle.reason_report.specs.ReasonText.{unfinished_line}
+use Rattle.reason_report.specs.ReasonJson.{unfinished_json}
 use Rattle.reason_report.specs.Printed.{refutation_in, allowed_in, unfinished_cases_in}
 use Rattle.printed_laws.proofs.OutcomeLines.{digits-in-line, both-in-line}
 use Rattle.printed_laws.proofs.Digits.{all-digits}

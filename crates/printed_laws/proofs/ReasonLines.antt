@@ -1,26 +1,6 @@
 -- The lines of a reason tell its steps.
-use Rattle.std.proofs.Common.{◌≡◌, ◌∙◌, ℕ, zero, suc, ◌==◌, Bool, true, false, if◌then◌else◌, List, [], ◌∷◌, ◌++◌, map, length, get_or, All, Option, Some, None, refl, sym, ap}
-use Rattle.std.specs.Prelude.{codes}
-use Rattle.std.specs.Fmt.{decimal}
-use Rattle.std.specs.List.{list_all, flat_map}
-use Rattle.std.specs.Char.{is_ascii_digit}
-use Rattle.std.proofs.lemmas.Bool.{and_parts}
-use Rattle.std.proofs.lemmas.List.{append_assoc, append_cancel_left, length-replicate}
-use Rattle.std.proofs.lemmas.List.Elements.{All-head, All-tail}
-use Rattle.tso_model.specs.Litmus.{Litmus, IsTest}
-use Rattle.tso_model.specs.Condition.{Condition}
-use Rattle.tso_model.specs.Names.{is_printable, is_test_name}
-use Rattle.tso_report.specs.Report.{line, test_line}
-use Rattle.refutation_laws.specs.Edges.{on_location, global_in}
-use Rattle.refutation_laws.specs.declared.model.Model.{Model}
-use Rattle.refutation_laws.specs.declared.model.Model.TheVariants.{Tso, Sequential}
-use Rattle.reason_report.specs.declared.steps.Event.{Event}
-use Rattle.reason_report.specs.Steps.{Closing, Uniproc, Cycle, Amid, False, Step, Case, So, Leaf, Endcases, leaves_in}
-use Rattle.outcome_report.specs.Verdict.{verdict_line}
-use Rattle.reason_report.specs.ReasonText.{model_name, asked_line, event_text, cycle_text, answer_text, place_text}
-use Rattle.reason_report.specs.ReasonText.{closing_text, blanks, step_line, never_line}
-use Rattle.printed_laws.specs.Reasons.{told_closing, told_step, ClosingFits, StepFits}
-use Rattle.printed_laws.specs.Reasons.{ReasonsTellTheirTests, ReasonsTellTheirSteps}
+use Rattle.printed_laws.proofs.Vocabulary.{◌≡◌, ◌∙◌, ℕ, zero, suc, ◌==◌, Bool, true, false, if◌then◌else◌, List, [], ◌∷◌, ◌++◌, map, length, get_or, All, Option, Some, None, refl, sym, ap, codes, decimal, list_all, flat_map, is_ascii_digit, and_parts, append_assoc, append_cancel_left, length-replicate, All-head, All-tail, Litmus, IsTest, Condition, is_printable, is_test_name, line, test_line, on_location, global_in, Model, Tso, Sequential, Event, Closing, Uniproc, Cycle, Amid, False, Step, Case, So, Leaf, Endcases, leaves_in, verdict_line, model_name, asked_line, event_text, cycle_text, answer_text, place_text, closing_text, blanks, step_line, never_line, told_closing, told_step, ClosingFits, ReasonsTellTheirTests, ReasonsTellTheirSteps}
+use Rattle.printed_laws.specs.Reasons.{StepFits}
 use Rattle.printed_laws.proofs.Cutting.{run-cut}
 use Rattle.printed_laws.proofs.Digits.{all-digits}
 use Rattle.printed_laws.proofs.TraceWords.{read-cut, apart}

@@ -1,31 +1,5 @@
 -- The parts of a line of a reason: answers, cycles and places. What each begins a text with is told by the text.
-use Rattle.std.proofs.Common.{◌≡◌, ◌∙◌, ℕ, ◌^◌, ◌<◌, ◌==◌, true, false, List, [], ◌∷◌, ◌++◌, map, length, get_or, All, Option, Some, None, IfSome, refl, sym, ap, arith}
-use Rattle.std.specs.Prelude.{codes}
-use Rattle.std.specs.Option.{option_map}
-use Rattle.std.specs.Fmt.{decimal}
-use Rattle.std.specs.List.{list_all, flat_map}
-use Rattle.std.specs.Char.{is_ascii_digit}
-use Rattle.std.proofs.lemmas.Bool.{and_parts, and_from}
-use Rattle.std.proofs.lemmas.Bool.Decides.{nat_tests}
-use Rattle.std.proofs.lemmas.Fmt.{decimal_nonempty}
-use Rattle.std.proofs.lemmas.List.{append_assoc, append_cancel_left}
-use Rattle.std.proofs.lemmas.List.Elements.{All-head, All-tail}
-use Rattle.tso_model.specs.Litmus.{Litmus, IsTest}
-use Rattle.tso_model.specs.Names.{continues_name}
-use Rattle.tso_model.specs.Registers.{IsWord, name_of}
-use Rattle.tso_model.specs.declared.instruction.Core.{Core}
-use Rattle.tso_model.specs.declared.register.Reg.{Reg}
-use Rattle.order_builder.proofs.NameLaws.{all_of_location}
-use Rattle.tso_report.specs.declared.named.Named.{Named}
-use Rattle.tso_report.specs.declared.named.Named.TheVariants.{Register, Location}
-use Rattle.outcome_report.specs.OutcomesJson.{key_of}
-use Rattle.refutation_laws.specs.declared.model.Relation.{Relation}
-use Rattle.reason_report.specs.Places.{Place}
-use Rattle.reason_report.specs.declared.steps.Event.{Event}
-use Rattle.reason_report.specs.declared.steps.Edge.{Edge}
-use Rattle.reason_report.specs.Steps.{Answer, From, Before}
-use Rattle.reason_report.specs.ReasonText.{event_text, relation_text, hop_text, cycle_text, source_text, or_text, sources_text, answer_text, bar_text, words_text, place_text}
-use Rattle.printed_laws.specs.Reasons.{told_event, told_edge, told_answer, EventFits, LeadFrom, CycleFits, AnswerFits, IsNamed, PlaceFits}
+use Rattle.printed_laws.proofs.Vocabulary.{◌≡◌, ◌∙◌, ℕ, ◌^◌, ◌<◌, ◌==◌, true, false, List, [], ◌∷◌, ◌++◌, map, length, get_or, All, Option, Some, None, IfSome, refl, sym, ap, arith, codes, option_map, decimal, list_all, flat_map, is_ascii_digit, and_parts, and_from, nat_tests, decimal_nonempty, append_assoc, append_cancel_left, All-head, All-tail, Litmus, IsTest, continues_name, IsWord, name_of, Core, Reg, all_of_location, Named, Register, Location, key_of, Relation, Place, Event, Edge, Answer, From, Before, event_text, relation_text, hop_text, cycle_text, source_text, or_text, sources_text, answer_text, bar_text, words_text, place_text, told_event, told_edge, told_answer, EventFits, LeadFrom, CycleFits, AnswerFits, IsNamed, PlaceFits}
 use Rattle.printed_laws.proofs.Cutting.{Stops, run-cut, number-cut, next-cut}
 use Rattle.printed_laws.proofs.Digits.{all-digits}
 use Rattle.printed_laws.proofs.TraceWords.{ends-stop, register-cut, same-core, same-loc, apart, location-cut}

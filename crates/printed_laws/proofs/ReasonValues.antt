@@ -1,33 +1,8 @@
 -- The JSON value of a reason tells its steps.
-use Rattle.std.proofs.Common.{◌≡◌, ◌∙◌, ℕ, ◌^◌, ◌<◌, ◌≤◌, ◌==◌, if◌then◌else◌, false, List, [], ◌∷◌, ◌++◌, map, get_or, All, Option, Some, None, IfSome, refl, sym, ap, arith}
-use Rattle.std.specs.Prelude.{codes}
-use Rattle.std.specs.Option.{option_map}
-use Rattle.std.proofs.lemmas.Fmt.{decimal_injective}
-use Rattle.std.proofs.lemmas.List.{append_cancel_right}
-use Rattle.std.proofs.lemmas.List.Elements.{All-head, All-tail}
+use Rattle.printed_laws.proofs.Vocabulary.{◌≡◌, ◌∙◌, ℕ, ◌^◌, ◌<◌, ◌≤◌, ◌==◌, if◌then◌else◌, false, List, [], ◌∷◌, ◌++◌, map, get_or, All, Option, Some, None, IfSome, refl, sym, ap, arith, codes, option_map, decimal_injective, append_cancel_right, All-head, All-tail, max_depth, items_depth, members_depth, HasNumbers, ItemsHaveNumbers, MembersHaveNumbers, IsNumber-decimal, string, array, items_of, outline, items_outline, members_outline, compact_text, Litmus, IsTest, Condition, IsWord, count, key_of, on_location, global_in, Model, Relation, Place, Event, Edge, Answer, From, Before, Uniproc, Cycle, Amid, False, Step, Case, So, Leaf, Endcases, leaves_in, event_text, relation_text, source_text, verdict_value, asked_value, edge_value, answer_value, place_members, step_value, never_value_of, told_event, told_edge, told_answer, told_by_value, depth_in, EventFits, LeadFrom, CycleFits, AnswerFits, PlaceFits, AreCounted, ReasonValuesTellTheirSteps}
 use Rattle.json.specs.Json as json
-use Rattle.json.specs.Json.{max_depth}
-use Rattle.json.specs.Tree.{depth as depth_of, items_depth, members_depth, HasNumbers, ItemsHaveNumbers, MembersHaveNumbers}
-use Rattle.json.proofs.Printed.Decimals.{IsNumber-decimal}
-use Rattle.serde_json.specs.Data.{string, array}
-use Rattle.serde_json.specs.View.{items_of}
-use Rattle.serde_json.specs.Written.{outline, items_outline, members_outline, compact_text}
-use Rattle.tso_model.specs.Litmus.{Litmus, IsTest}
-use Rattle.tso_model.specs.Condition.{Condition}
-use Rattle.tso_model.specs.Registers.{IsWord}
-use Rattle.tso_report.specs.Json.{count}
-use Rattle.outcome_report.specs.OutcomesJson.{key_of}
-use Rattle.refutation_laws.specs.Edges.{on_location, global_in}
-use Rattle.refutation_laws.specs.declared.model.Model.{Model}
-use Rattle.refutation_laws.specs.declared.model.Relation.{Relation}
-use Rattle.reason_report.specs.Places.{Place}
-use Rattle.reason_report.specs.declared.steps.Event.{Event}
-use Rattle.reason_report.specs.declared.steps.Edge.{Edge}
-use Rattle.reason_report.specs.Steps.{Answer, From, Before, Uniproc, Cycle, Amid, False, Step, Case, So, Leaf, Endcases, leaves_in}
-use Rattle.reason_report.specs.ReasonText.{event_text, relation_text, source_text}
-use Rattle.outcome_report.specs.Verdict.{verdict_value}
-use Rattle.reason_report.specs.ReasonJson.{asked_value, edge_value, answer_value, place_members, step_value, never_value_of}
-use Rattle.printed_laws.specs.Reasons.{told_event, told_edge, told_answer, told_by_value, depth_in, EventFits, LeadFrom, CycleFits, AnswerFits, PlaceFits, StepFits, AreCounted, ReasonValuesTellTheirSteps}
+use Rattle.json.specs.Tree.{depth as depth_of}
+use Rattle.printed_laws.specs.Reasons.{StepFits}
 use Rattle.printed_laws.proofs.JsonTexts.{value-told, members_in, items_in, text_in, value_at, text_at, first_item, more_items, has_item, uneven}
 use Rattle.printed_laws.proofs.ReasonWords.{event-cut, AreTold, uniproc-told, global-told, relation-cut}
 use Rattle.printed_laws.proofs.ReasonParts.{source-cut}

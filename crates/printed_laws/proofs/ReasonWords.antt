@@ -1,26 +1,5 @@
 -- The words of a reason: events, relations and places. What each begins a text with is told by the text.
-use Rattle.std.proofs.Common.{◌≡◌, ◌∙◌, ℕ, ◌^◌, ◌<◌, ◌==◌, ◌&&◌, Bool, true, false, not, if◌then◌else◌, List, [], ◌∷◌, ◌++◌, length, get_or, Option, Some, None, IfSome, inl, inr, refl, sym, ap, subst, arith}
-use Rattle.std.specs.Prelude.{codes}
-use Rattle.std.specs.Fmt.{decimal}
-use Rattle.std.specs.List.{list_all}
-use Rattle.std.proofs.lemmas.Bool.Decides.{nat_tests}
-use Rattle.std.proofs.lemmas.List.{append_assoc, append_cancel_left}
-use Rattle.tso_model.specs.Litmus.{Litmus, IsTest}
-use Rattle.tso_model.specs.Names.{continues_name}
-use Rattle.tso_model.specs.Registers.{IsWord}
-use Rattle.tso_model.specs.declared.execution.Entry.{Entry}
-use Rattle.tso_model.specs.declared.execution.Kind.{Kind}
-use Rattle.tso_model.specs.declared.execution.Kind.TheVariants.{R, W, F, LR, LW}
-use Rattle.order_builder.specs.PrintedOrder.{letters_of, printed_access}
-use Rattle.order_builder.specs.Spelling.{HasAccess}
-use Rattle.refutation_laws.specs.Edges.{on_location, global_in}
-use Rattle.refutation_laws.specs.declared.model.Model.{Model}
-use Rattle.refutation_laws.specs.declared.model.Model.TheVariants.{Tso, Sequential}
-use Rattle.refutation_laws.specs.declared.model.Relation.{Relation}
-use Rattle.refutation_laws.specs.declared.model.Relation.TheVariants.{Po, PoLoc, PoGhb, Mfence, Implied, Rf, Rfe, Co, Fr}
-use Rattle.reason_report.specs.declared.steps.Event.{Event}
-use Rattle.reason_report.specs.ReasonText.{location_text, entry_text, event_text, relation_text}
-use Rattle.printed_laws.specs.Reasons.{told_event, IsValueFor, EventFits, IsOneOf}
+use Rattle.printed_laws.proofs.Vocabulary.{◌≡◌, ◌∙◌, ℕ, ◌^◌, ◌<◌, ◌==◌, ◌&&◌, Bool, true, false, not, if◌then◌else◌, List, [], ◌∷◌, ◌++◌, length, get_or, Option, Some, None, IfSome, inl, inr, refl, sym, ap, subst, arith, codes, decimal, list_all, nat_tests, append_assoc, append_cancel_left, Litmus, IsTest, continues_name, IsWord, Entry, Kind, R, W, F, LR, LW, letters_of, printed_access, HasAccess, on_location, global_in, Model, Tso, Sequential, Relation, Po, PoLoc, PoGhb, Mfence, Implied, Rf, Rfe, Co, Fr, Event, location_text, entry_text, event_text, relation_text, told_event, IsValueFor, EventFits, IsOneOf}
 use Rattle.printed_laws.proofs.Cutting.{BeginsWithout, run-cut, next-cut}
 use Rattle.printed_laws.proofs.TraceWords.{Ends, word-cut, same-core, same-loc, apart, location-cut, value-cut}
 

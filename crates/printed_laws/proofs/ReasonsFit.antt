@@ -1,33 +1,7 @@
 -- The steps of a refutation fit its test.
-use Rattle.std.proofs.Common.{◌≡◌, ℕ, zero, suc, ◌+◌, ◌≤◌, ◌||◌, Bool, true, false, not, cond, List, [], ◌∷◌, ◌++◌, map, length, drop, All, Option, Some, None, IfSome, inl, inr, refl, ap, subst, arith}
-use Rattle.std.specs.Prelude.{filter}
-use Rattle.std.specs.List.{list_any, list_all, flat_map}
-use Rattle.std.proofs.lemmas.Bool.{and_parts}
-use Rattle.std.proofs.lemmas.List.{length-map}
-use Rattle.std.proofs.lemmas.List.Elements.{All-nil, All-cons, All-head, All-tail, All-append, All-map, All-filter, All-weaker}
-use Rattle.tso_model.specs.Litmus.{Litmus, IsTest}
-use Rattle.tso_model.specs.Condition.{Claim}
-use Rattle.tso_model.specs.Registers.{IsWord}
-use Rattle.tso_model.specs.ProgramOrder.{writes_to}
-use Rattle.tso_model.specs.declared.register.Reg.{Reg}
-use Rattle.tso_model.specs.declared.execution.Entry.{Entry}
-use Rattle.tso_report.specs.Report.{all_registers}
-use Rattle.tso_report.specs.Tally.{looked_at, is_looked_at, register_of, named_registers, named_locations}
-use Rattle.tso_report.specs.declared.named.Named.{Named}
-use Rattle.tso_report.specs.declared.named.Named.TheVariants.{Register, Location}
-use Rattle.refutation_laws.specs.Known.{Known, nothing, events_of, is_event, with_source}
-use Rattle.refutation_laws.specs.Edges.{relates, on_location, global_in, is_edge, is_cycle, leads_back}
-use Rattle.refutation_laws.specs.Shown.{first_of}
-use Rattle.refutation_laws.specs.Refutations.{Node, ReadsFrom, ComesFirst, OnLocation, Globally, Between, FalseClaim, sources_of, is_node, branches, close, asked}
-use Rattle.refutation_laws.specs.declared.model.Model.{Model}
-use Rattle.refutation_laws.specs.declared.model.Relation.{Relation}
-use Rattle.reason_report.specs.Places.{words_at, known_among, unseen, suffices, place_in, places_in}
-use Rattle.reason_report.specs.declared.replies.Reply.{Reply}
-use Rattle.reason_report.specs.declared.replies.Reply.TheVariants.{Reads, First}
-use Rattle.reason_report.specs.declared.steps.Event.{Event}
-use Rattle.reason_report.specs.Steps.{Step, Case, So, Endcases, event_at, edges_back, edges_of, is_leaf, leaf_steps, replies, with_reply, Part, Branch, branches_with, is_closed}
-use Rattle.reason_report.specs.Steps.{write_in, answer_at, are_alike, groups, known_of_case, closed_case, case_steps, so_steps, rest_steps, question_steps, grown, parts_of, steps_of}
-use Rattle.printed_laws.specs.Reasons.{EventFits, IsOneOf, LeadFrom, CycleFits, AnswerFits, IsNamed, PlaceFits, StepFits, StepsOfRefutationsFit, PrintedRefutationsTellTheirSteps}
+use Rattle.printed_laws.proofs.Vocabulary.{◌≡◌, ℕ, zero, suc, ◌+◌, ◌≤◌, ◌||◌, Bool, true, false, not, cond, List, [], ◌∷◌, ◌++◌, map, length, drop, All, Option, Some, None, IfSome, inl, inr, refl, ap, subst, arith, filter, list_any, list_all, flat_map, and_parts, length-map, All-nil, All-cons, All-head, All-tail, All-append, All-map, All-filter, All-weaker, Litmus, IsTest, Claim, IsWord, writes_to, Reg, Entry, all_registers, looked_at, is_looked_at, register_of, named_registers, named_locations, Named, Register, Location, Known, nothing, events_of, is_event, with_source, relates, on_location, global_in, is_edge, is_cycle, leads_back, first_of, Node, ReadsFrom, ComesFirst, OnLocation, Globally, Between, FalseClaim, sources_of, is_node, branches, close, asked, Model, Relation, words_at, known_among, unseen, suffices, place_in, places_in, Reply, Reads, First, Event, Step, Case, So, Endcases, event_at, edges_back, edges_of, is_leaf, leaf_steps, replies, with_reply, Part, Branch, branches_with, is_closed, write_in, answer_at, are_alike, groups, known_of_case, closed_case, case_steps, so_steps, rest_steps, question_steps, grown, steps_of, EventFits, IsOneOf, LeadFrom, CycleFits, AnswerFits, IsNamed, PlaceFits, StepsOfRefutationsFit, PrintedRefutationsTellTheirSteps}
+use Rattle.reason_report.specs.Steps.{parts_of}
+use Rattle.printed_laws.specs.Reasons.{StepFits}
 use Rattle.printed_laws.proofs.KnownWords.{MayBeWord, either, value-fits, register-word, location-words}
 use Rattle.printed_laws.proofs.ReasonLines.{lines-tell}
 use Rattle.printed_laws.proofs.EventsFit.{IsEventFor, events-fit, event-fits}

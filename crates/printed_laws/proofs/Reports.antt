@@ -1,18 +1,5 @@
 -- The lines of a report tell its run.
-use Rattle.std.proofs.Common.{◌≡◌, ℕ, ◌^◌, ◌<◌, false, List, [], ◌∷◌, ◌++◌, length, refl, sym, ap, subst, ◌∙◌, arith}
-use Rattle.std.specs.Prelude.{codes}
-use Rattle.std.proofs.lemmas.List.{append_assoc, append_cancel_left}
-use Rattle.tso_model.specs.Litmus.{Litmus, IsTest}
-use Rattle.tso_model.specs.declared.execution.Entry.{Entry}
-use Rattle.order_builder.specs.PrintedOrder.{printed_order}
-use Rattle.order_builder.specs.Spelling.{SpellsOrder}
-use Rattle.protocol_tables.specs.declared.kind.ProtocolKind.{ProtocolKind}
-use Rattle.machine_core.specs.Configuration.{Configuration, IsConfigurationWithinLimits}
-use Rattle.tso_report.specs.Laws.{ReportSpellsItsOrder, ReportsAreShort}
-use Rattle.tso_report.specs.Shown.{Shown}
-use Rattle.tso_report.specs.Report.{line, head, report, register_lines, printed_words, memory_line, printed_verdict, condition_line, choices_line, cache_lines}
-use Rattle.tso_cli.specs.Fitting.{FitsTest}
-use Rattle.printed_laws.specs.Telling.{ReportsTellTheirRuns}
+use Rattle.printed_laws.proofs.Vocabulary.{◌≡◌, ℕ, ◌^◌, ◌<◌, false, List, [], ◌∷◌, ◌++◌, length, refl, sym, ap, subst, ◌∙◌, arith, codes, append_assoc, append_cancel_left, Litmus, IsTest, Entry, printed_order, SpellsOrder, ProtocolKind, Configuration, IsConfigurationWithinLimits, ReportSpellsItsOrder, ReportsAreShort, Shown, line, head, report, register_lines, printed_words, memory_line, printed_verdict, condition_line, choices_line, cache_lines, FitsTest, ReportsTellTheirRuns}
 use Rattle.printed_laws.proofs.Cutting.{same-cut}
 use Rattle.printed_laws.proofs.Lines.{register-lines-cut, words-cut, verdict-cut}
 use Rattle.printed_laws.proofs.Counted.{Choices, AreFewChoices, choices-cut, caches-told}

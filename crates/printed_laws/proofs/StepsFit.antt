@@ -1,49 +1,16 @@
 -- Each step of a trace fits its test.
-use Rattle.std.proofs.Common.{◌≡◌, ◌∙◌, ℕ, zero, suc, ◌+◌, ◌<◌, ◌≤◌, ◌==◌, Bool, true, false, if◌then◌else◌, List, [], ◌∷◌, ◌++◌, length, drop, All, Option, Some, None, IfSome, slice_get, subst, arith}
-use Rattle.std.proofs.lemmas.List.{length-replicate}
-use Rattle.std.proofs.lemmas.List.Elements.{All-nil, All-cons, All-head, All-tail, All-append, All-drop, All-weaker}
-use Rattle.tso_model.specs.Litmus.{Litmus, IsTest}
-use Rattle.tso_model.specs.Registers.{IsWord, index_of}
-use Rattle.tso_model.specs.Actions.{action_of}
-use Rattle.tso_model.specs.FlatMachine.{core_of, chosen, program_of}
-use Rattle.tso_model.specs.MemoryAccess.{access_of}
-use Rattle.tso_model.specs.Runs.{has_ended, CoresExist}
-use Rattle.tso_model.specs.declared.choice.Bus.{Bus}
-use Rattle.tso_model.specs.declared.choice.Bus.TheVariants.{Atomic, Split}
-use Rattle.tso_model.specs.declared.choice.Choice.{Choice}
-use Rattle.tso_model.specs.declared.choice.Choice.TheVariants.{Step, Drain}
+use Rattle.printed_laws.proofs.Vocabulary.{◌≡◌, ◌∙◌, ℕ, zero, suc, ◌+◌, ◌<◌, ◌≤◌, ◌==◌, Bool, true, false, if◌then◌else◌, List, [], ◌∷◌, ◌++◌, length, drop, All, Option, Some, None, IfSome, slice_get, subst, arith, length-replicate, All-nil, All-cons, All-head, All-tail, All-append, All-drop, All-weaker, Litmus, IsTest, IsWord, index_of, action_of, core_of, chosen, program_of, access_of, has_ended, CoresExist, Bus, Atomic, Split, Choice, Drain, Committed, Buffered, Moved, Asked, Stalled, Core, Instr, Action, Store, Load, Move, Fence, Lock, Entry, HasWord, IsEntryFor, Table, table_of, ProtocolKind, Awaited, is_awaited, Configuration, IsConfigurationWithinLimits, Running, new_machine, machine_after, IsAt, AreStoresKnown, moved_by, moved_at, moved_from, buffer_if_changed, sent_on, placed, line_states, core_states, lines_of, states_of, number_of, change_of, changes_in, step_of, steps_from, trace_under, IsTraced, LineRequest, StateChange, access-known, traced-first, step-known, traced-next, StepFits}
+use Rattle.tso_model.specs.declared.choice.Choice.TheVariants.{Step}
 use Rattle.tso_model.specs.declared.choice.Outcome.{Outcome}
-use Rattle.tso_model.specs.declared.choice.Outcome.TheVariants.{Committed, Buffered, Moved, Asked, Stalled}
-use Rattle.tso_model.specs.declared.instruction.Core.{Core}
-use Rattle.tso_model.specs.declared.instruction.Instr.{Instr}
-use Rattle.tso_model.specs.declared.action.Action.{Action}
-use Rattle.tso_model.specs.declared.action.Action.TheVariants.{Store, Load, Move, Fence, Lock}
-use Rattle.tso_model.specs.declared.execution.Entry.{Entry}
-use Rattle.order_builder.specs.PrintedOrder.{HasWord}
-use Rattle.order_builder.specs.Spelling.{IsEntryFor}
-use Rattle.protocol_tables.specs.Tables.{Table, table_of}
-use Rattle.protocol_tables.specs.declared.kind.ProtocolKind.{ProtocolKind}
-use Rattle.snoop_bus.specs.Asks.{Awaited}
-use Rattle.machine_core.specs.Caches.{is_awaited}
 use Rattle.machine_core.specs.Statistics.{no_counts}
-use Rattle.machine_core.specs.Configuration.{Configuration, IsConfigurationWithinLimits}
-use Rattle.machine_core.specs.Running.{Running, new_machine, attempt_on, effect_by, use_by, machine_after}
+use Rattle.machine_core.specs.Running.{attempt_on, effect_by, use_by}
 use Rattle.machine_core.specs.declared.accesses.CacheUse.{CacheUse}
 use Rattle.machine_core.specs.declared.accesses.CacheUse.TheVariants.{Unused, Forwarded, Through}
 use Rattle.machine_core.specs.inner.Keeping.{IsAmong, IsFlusherAmong, IsSenderAmong}
 use Rattle.machine_core.proofs.CountBounds.{length-counted}
 use Rattle.machine_core.proofs.CountsOnBus.{senders}
-use Rattle.trace_report.specs.Known.{IsAt, AreStoresKnown}
-use Rattle.trace_report.specs.Steps.{moved_by, moved_at, moved_from, buffer_if_changed, sent_on, placed, line_states, core_states, lines_of, states_of, number_of, change_of, changes_in, step_of, steps_from, trace_under}
-use Rattle.trace_report.specs.Told.{IsTraced}
 use Rattle.trace_report.specs.declared.states.PlacedState.{PlacedState}
-use Rattle.trace_report.specs.declared.step.LineRequest.{LineRequest}
-use Rattle.trace_report.specs.declared.step.StateChange.{StateChange}
 use Rattle.trace_report.proofs.FlushesTold.{IsSound, sound-first, sound-after}
-use Rattle.trace_report.proofs.Places.{access-known}
-use Rattle.trace_report.proofs.Traced.{traced-first}
-use Rattle.trace_report.proofs.Whole.{step-known, traced-next}
-use Rattle.printed_laws.specs.Traces.{StepFits}
 use Rattle.printed_laws.proofs.MachinesFit.{word-at, PendingFits, pending-entry, CoresFit, HolderFits, BusFits, effect-fits, memory-fits, cores-fit, start-fits}
 
 -- ---- a machine

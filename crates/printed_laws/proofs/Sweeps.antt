@@ -1,20 +1,7 @@
 -- The lines of a sweep tell what was counted.
-use Rattle.std.proofs.Common.{◌≡◌, ℕ, ◌+◌, ◌^◌, ◌<◌, ◌==◌, Bool, true, false, cond, List, [], ◌∷◌, ◌++◌, length, get_or, All, Option, Some, None, is_some, refl, sym, ap, ◌∙◌, arith}
-use Rattle.std.specs.Prelude.{codes, sum, slice_index_or}
-use Rattle.std.specs.Fmt.{decimal}
+use Rattle.printed_laws.proofs.Vocabulary.{◌≡◌, ℕ, ◌+◌, ◌^◌, ◌<◌, ◌==◌, Bool, true, false, cond, List, [], ◌∷◌, ◌++◌, length, get_or, All, Option, Some, None, is_some, refl, sym, ap, ◌∙◌, arith, codes, sum, decimal, append_assoc, append_cancel_left, All-head, All-tail, sum_by-cons, Litmus, Condition, IsWord, name_of, Named, Register, Location, line, head, RunCounts, looked_at, ended_in, printed_value, printed_values, state_lines, sweep_line, frequency, observed_line, observation, tally_text, IsStateOf, SweepsTellTheirCounts}
+use Rattle.std.specs.Prelude.{slice_index_or}
 use Rattle.std.specs.Map.{values_of}
-use Rattle.std.proofs.lemmas.List.{append_assoc, append_cancel_left}
-use Rattle.std.proofs.lemmas.List.Elements.{All-head, All-tail}
-use Rattle.std.proofs.lemmas.List.Sums.{sum_by-cons}
-use Rattle.tso_model.specs.Litmus.{Litmus}
-use Rattle.tso_model.specs.Condition.{Condition}
-use Rattle.tso_model.specs.Registers.{IsWord, name_of}
-use Rattle.tso_report.specs.declared.named.Named.{Named}
-use Rattle.tso_report.specs.declared.named.Named.TheVariants.{Register, Location}
-use Rattle.tso_report.specs.Report.{line, head}
-use Rattle.tso_report.specs.Tally.{RunCounts, looked_at, ended_in, printed_value, printed_values, state_lines, sweep_line, frequency, observed_line, observation, tally_text}
-use Rattle.tso_cli.specs.Fitting.{IsStateOf}
-use Rattle.printed_laws.specs.Telling.{SweepsTellTheirCounts}
 use Rattle.printed_laws.proofs.Cutting.{Stops, next-cut}
 
 -- ---- the values of a state

@@ -1,31 +1,11 @@
 -- The lines of a trace tell its steps.
-use Rattle.std.proofs.Common.{◌≡◌, ◌∙◌, ℕ, ◌+◌, ◌^◌, ◌<◌, ◌==◌, List, [], ◌∷◌, ◌++◌, map, length, get_or, All, Option, Some, None, IfSome, if◌then◌else◌, refl, sym, ap, arith}
-use Rattle.std.specs.Prelude.{codes}
-use Rattle.std.specs.Option.{option_map}
-use Rattle.std.specs.Fmt.{decimal}
-use Rattle.std.specs.Char.{is_ascii_digit}
-use Rattle.std.proofs.lemmas.List.{append_assoc, append_cancel_left, length-map}
-use Rattle.std.proofs.lemmas.List.Elements.{All-head, All-tail, All-cons, All-nil}
-use Rattle.tso_model.specs.Litmus.{Litmus, IsTest}
-use Rattle.tso_model.specs.Names.{continues_name}
-use Rattle.tso_model.specs.FlatMachine.{chosen}
-use Rattle.tso_model.specs.declared.choice.Choice.{Choice}
-use Rattle.tso_model.specs.declared.choice.Choice.TheVariants.{Step, Drain}
-use Rattle.tso_model.specs.declared.choice.Stall.{Stall}
-use Rattle.tso_model.specs.declared.choice.Stall.TheVariants.{Done, Full, Fence, Lock, Empty, Bus}
+use Rattle.printed_laws.proofs.Vocabulary.{◌≡◌, ◌∙◌, ℕ, ◌+◌, ◌^◌, ◌<◌, ◌==◌, List, [], ◌∷◌, ◌++◌, map, length, get_or, All, Option, Some, None, IfSome, if◌then◌else◌, refl, sym, ap, arith, codes, option_map, decimal, is_ascii_digit, append_assoc, append_cancel_left, length-map, All-head, All-tail, All-cons, All-nil, Litmus, IsTest, continues_name, chosen, Choice, Drain, Stall, Done, Full, Empty, Committed, Buffered, Moved, Asked, Stalled, Entry, printed_choice, HasWord, all_of_location, IsAt, IsLine, outcome_name, entries_text, moved_text, forwarded_text, access_text, request_text, flush_text, write_back_text, changes_text, store_text, later_stores, stores_text, buffer_text, step_lines, StateChange, bare_store, told_by_line, StepFits, TracesTellTheirSteps}
+use Rattle.tso_model.specs.declared.choice.Choice.TheVariants.{Step}
+use Rattle.tso_model.specs.declared.choice.Stall.TheVariants.{Fence, Lock, Bus}
 use Rattle.tso_model.specs.declared.choice.Outcome.{Outcome}
-use Rattle.tso_model.specs.declared.choice.Outcome.TheVariants.{Committed, Buffered, Moved, Asked, Stalled}
-use Rattle.tso_model.specs.declared.execution.Entry.{Entry}
-use Rattle.scheduler.specs.Printed.{printed_choice}
-use Rattle.order_builder.specs.PrintedOrder.{HasWord}
-use Rattle.order_builder.proofs.NameLaws.{all_of_location}
 use Rattle.protocol_tables.specs.PrintedTable.{line}
-use Rattle.trace_report.specs.Known.{IsAt, IsLine}
-use Rattle.trace_report.specs.Lines.{outcome_name, entries_text, moved_text, forwarded_text, access_text, request_text, flush_text, write_back_text, changes_text, store_text, later_stores, stores_text, buffer_text}
-use Rattle.trace_report.specs.Lines.{step_line, step_lines}
+use Rattle.trace_report.specs.Lines.{step_line}
 use Rattle.trace_report.specs.Shown.{Shown}
-use Rattle.trace_report.specs.declared.step.StateChange.{StateChange}
-use Rattle.printed_laws.specs.Traces.{bare_store, told_by_line, StepFits, TracesTellTheirSteps}
 use Rattle.printed_laws.proofs.Cutting.{run-cut}
 use Rattle.printed_laws.proofs.Digits.{all-digits}
 use Rattle.printed_laws.proofs.TraceWords.{Ends, read-cut, core_in, choice-cut, apart, same-loc, value-cut}

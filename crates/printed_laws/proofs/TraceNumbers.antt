@@ -1,52 +1,13 @@
 -- The JSON value of a trace has numbers and nests no deeper than a reader goes, so that its text can be read back.
-use Rattle.std.proofs.Common.{ℕ, zero, suc, ◌+◌, ◌*◌, ◌/◌, ◌^◌, ◌<◌, ◌≤◌, Bool, true, false, nat_lt, if◌then◌else◌, List, [], ◌∷◌, map, length, take, slice_index, All, Option, Some, None, IfSome, arith}
+use Rattle.printed_laws.proofs.Vocabulary.{ℕ, zero, suc, ◌+◌, ◌*◌, ◌/◌, ◌^◌, ◌<◌, ◌≤◌, Bool, true, false, nat_lt, if◌then◌else◌, List, [], ◌∷◌, map, length, take, slice_index, All, Option, Some, None, IfSome, arith, range_with_len, nat_cmp, match_ordering, slice_cmp, Ordering, Less, Equal, Greater, All-nil, All-cons, All-head, All-tail, All-drop, All-take, depth, items_depth, members_depth, HasNumbers, ItemsHaveNumbers, MembersHaveNumbers, IsNumber-decimal, Data, Members, no_members, member, put, items_of, outline, items_outline, members_outline, Litmus, IsTest, Condition, IsWord, index_of, value_in, core_of, chosen, MemoryAccess, NoAccess, Writes, Locks, access_of, Holder, Free, HeldBy, HeldBetween, has_ended, CoresExist, Reg, Eax, Ebx, Ecx, Edx, Esi, Edi, Choice, Awaited, table_of, ProtocolKind, Transient, at_access, Configuration, bus_holder, bus_holder_as, bus_holder_of, Running, new_machine, machine_after, BusHolder, count, registers_value, names_in_line, store_text, transient_name, step_of, words_in, copy_json, sets_json, core_json, cores_json, words_in_line, kept_words, bus_json, machine_json, own_word, own_words_from, own_words, is_newer_in, instruction_text, program_value, programs_value, proposition_text, proposition_value, sourced_by, step_to, steps_json, trace_json, IsReadable}
 use Rattle.std.specs.Prelude.{option_map, slice_index_or}
-use Rattle.std.specs.List.{range_with_len}
-use Rattle.std.specs.Ordering.{nat_cmp, match_ordering}
-use Rattle.std.specs.Cmp.Lexicographic.{slice_cmp}
-use Rattle.std.specs.declared.cmp.Ordering.{Ordering}
-use Rattle.std.specs.declared.cmp.Ordering.TheVariants.{Less, Equal, Greater}
-use Rattle.std.proofs.lemmas.List.Elements.{All-nil, All-cons, All-head, All-tail, All-drop, All-take}
-use Rattle.json.specs.Tree.{depth, items_depth, members_depth, HasNumbers, ItemsHaveNumbers, MembersHaveNumbers}
-use Rattle.json.proofs.Printed.Decimals.{IsNumber-decimal}
-use Rattle.serde_json.specs.Data.{Data, Members, no_members, member, put}
-use Rattle.serde_json.specs.View.{items_of}
-use Rattle.serde_json.specs.Written.{outline, items_outline, members_outline}
-use Rattle.tso_model.specs.Litmus.{Litmus, IsTest}
-use Rattle.tso_model.specs.Condition.{Condition}
-use Rattle.tso_model.specs.Registers.{IsWord, index_of}
-use Rattle.tso_model.specs.Thread.{value_in}
-use Rattle.tso_model.specs.FlatMachine.{core_of, chosen}
-use Rattle.tso_model.specs.MemoryAccess.{MemoryAccess, NoAccess, Reads, Writes, Locks, access_of}
-use Rattle.tso_model.specs.SplitMachine.{Holder, Free, HeldBy, HeldBetween}
-use Rattle.tso_model.specs.Runs.{has_ended, CoresExist}
-use Rattle.tso_model.specs.declared.register.Reg.{Reg}
-use Rattle.tso_model.specs.declared.register.Reg.TheVariants.{Eax, Ebx, Ecx, Edx, Esi, Edi}
-use Rattle.tso_model.specs.declared.choice.Choice.{Choice}
+use Rattle.tso_model.specs.MemoryAccess.{Reads}
 use Rattle.snoop_bus.specs.Accesses.{with_words}
 use Rattle.cache_set.specs.Limits.{most_words}
 use Rattle.snoop_bus.specs.Lines.{offset_of, line_of_words}
 use Rattle.snoop_bus.specs.Tags.{tag_set}
 use Rattle.snoop_bus.specs.CacheContents.{sets_of}
-use Rattle.snoop_bus.specs.Asks.{Awaited}
-use Rattle.protocol_tables.specs.Tables.{table_of}
-use Rattle.protocol_tables.specs.declared.kind.ProtocolKind.{ProtocolKind}
-use Rattle.protocol_tables.specs.declared.requests.Transient.{Transient}
 use Rattle.protocol_tables.specs.declared.state.State.{State}
-use Rattle.machine_core.specs.Caches.{at_access}
-use Rattle.machine_core.specs.Configuration.{Configuration}
-use Rattle.machine_core.specs.Looking.{bus_holder, bus_holder_as, bus_holder_of}
-use Rattle.machine_core.specs.Running.{Running, new_machine, machine_after}
-use Rattle.machine_core.specs.declared.looking.BusHolder.{BusHolder}
-use Rattle.tso_report.specs.Json.{count, registers_value}
-use Rattle.trace_report.specs.Lines.{names_in_line, store_text, transient_name}
-use Rattle.trace_report.specs.Steps.{step_of}
-use Rattle.trace_json.specs.MachineJson.{words_in, copy_json, sets_json, core_json, cores_json, words_in_line, kept_words, bus_json, machine_json}
-use Rattle.trace_json.specs.OwnWords.{own_word, own_words_from, own_words, is_newer_in}
-use Rattle.trace_json.specs.Programs.{instruction_text, program_value, programs_value}
-use Rattle.trace_json.specs.Proposition.{proposition_text, proposition_value}
-use Rattle.trace_json.specs.TraceJson.{sourced_by, step_to, steps_json, trace_json}
-use Rattle.printed_laws.specs.Traces.{IsReadable}
 use Rattle.printed_laws.proofs.JsonNumbers.{memory-numbers, memory-depth}
 use Rattle.printed_laws.proofs.MachinesFit.{word-at, CoreFits, HolderFits}
 use Rattle.printed_laws.proofs.StepsFit.{MachineFits, fits-first, fits-next}

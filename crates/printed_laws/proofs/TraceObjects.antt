@@ -1,35 +1,14 @@
 -- The object of a step tells the step: each member is read as the part of a line that has the same words.
-use Rattle.std.proofs.Common.{◌≡◌, ◌∙◌, ℕ, ◌+◌, ◌<◌, ◌≤◌, ◌==◌, if◌then◌else◌, List, [], ◌∷◌, ◌++◌, map, get_or, Option, Some, None, IfSome, refl, sym, ap, arith}
-use Rattle.std.specs.Prelude.{codes}
-use Rattle.std.specs.Option.{option_map}
+use Rattle.printed_laws.proofs.Vocabulary.{◌≡◌, ◌∙◌, ℕ, ◌+◌, ◌<◌, ◌≤◌, ◌==◌, if◌then◌else◌, List, [], ◌∷◌, ◌++◌, map, get_or, Option, Some, None, IfSome, refl, sym, ap, arith, codes, option_map, max_depth, items_depth, HasNumbers, ItemsHaveNumbers, Data, string, items_of, outline, items_outline, Litmus, IsTest, Stall, Done, Full, Empty, Committed, Buffered, Moved, Asked, Stalled, Entry, Core, printed_choice, printed_entry, AccessKind, stall_name, line_name, access_name, printed_move, printed_request, printed_core, printed_change, entries_text, moved_text, access_text, request_text, flush_text, write_back_text, changes_text, LineRequest, StateChange, text_or_null, outcome_word, stall_in, step_json, told_by_object, StepFits, SourceFits, ObjectsTellTheirSteps}
 use Rattle.json.specs.Json as json
-use Rattle.json.specs.Json.{max_depth}
-use Rattle.json.specs.Tree.{depth as depth_of, items_depth, HasNumbers, ItemsHaveNumbers}
-use Rattle.serde_json.specs.Data.{Data, string}
-use Rattle.serde_json.specs.View.{items_of}
-use Rattle.serde_json.specs.Written.{outline, items_outline}
-use Rattle.tso_model.specs.Litmus.{Litmus, IsTest}
-use Rattle.tso_model.specs.declared.choice.Stall.{Stall}
-use Rattle.tso_model.specs.declared.choice.Stall.TheVariants.{Done, Full, Fence, Lock, Empty, Bus}
+use Rattle.json.specs.Tree.{depth as depth_of}
+use Rattle.tso_model.specs.declared.choice.Stall.TheVariants.{Fence, Lock, Bus}
 use Rattle.tso_model.specs.declared.choice.Outcome.{Outcome}
-use Rattle.tso_model.specs.declared.choice.Outcome.TheVariants.{Committed, Buffered, Moved, Asked, Stalled}
-use Rattle.tso_model.specs.declared.execution.Entry.{Entry}
-use Rattle.tso_model.specs.declared.instruction.Core.{Core}
-use Rattle.scheduler.specs.Printed.{printed_choice}
-use Rattle.order_builder.specs.PrintedOrder.{printed_entry}
-use Rattle.snoop_bus.specs.declared.access.AccessKind.{AccessKind}
-use Rattle.trace_report.specs.Lines.{stall_name, line_name, access_name, printed_move, printed_request, printed_core, printed_change}
-use Rattle.trace_report.specs.Lines.{entries_text, moved_text, access_text, request_text, flush_text, write_back_text, changes_text}
 use Rattle.trace_report.specs.Shown.{Shown}
-use Rattle.trace_report.specs.declared.step.LineRequest.{LineRequest}
-use Rattle.trace_report.specs.declared.step.StateChange.{StateChange}
 use Rattle.trace_report.specs.declared.step.Moved as move
-use Rattle.trace_json.specs.Values.{text_or_null}
-use Rattle.trace_json.specs.StepJson.{outcome_word, stall_in, step_json}
 use Rattle.trace_json.specs.Supplied.{source_text}
 use Rattle.trace_json.specs.declared.supplied.Source.{Source}
 use Rattle.trace_json.specs.declared.supplied.Source.TheVariants.{Buffer, Cache, Other, Bus as OnBus, Memory}
-use Rattle.printed_laws.specs.Traces.{told_by_object, StepFits, SourceFits, ObjectsTellTheirSteps}
 use Rattle.printed_laws.proofs.JsonTexts.{value-told, items_in, text_in, truth_in, value_at, text_at}
 use Rattle.printed_laws.proofs.TraceWords.{choice-cut}
 use Rattle.printed_laws.proofs.TraceParts.{Follows, entries-cut, moved-cut, access-cut, request-cut, flush-cut, write-back-cut, changes-cut}

@@ -1,36 +1,13 @@
 -- The parts of a step's line, each after a space: what each begins a text with is told by the text. A part may be missing; which one
 -- stands there is told by its first letters, or behind a core's number by the byte after it.
-use Rattle.std.proofs.Common.{◌≡◌, ◌∙◌, ℕ, ◌+◌, ◌*◌, ◌/◌, ◌<◌, ◌≤◌, ◌==◌, Bool, true, false, ◌||◌, if◌then◌else◌, List, [], ◌∷◌, ◌++◌, length, take, drop, get_or, All, Option, Some, None, IfSome, refl, sym, ap, arith}
-use Rattle.std.specs.Prelude.{codes}
-use Rattle.std.specs.Fmt.{decimal}
-use Rattle.std.specs.List.{list_all}
-use Rattle.std.specs.Char.{is_ascii_digit}
+use Rattle.printed_laws.proofs.Vocabulary.{◌≡◌, ◌∙◌, ℕ, ◌+◌, ◌*◌, ◌/◌, ◌<◌, ◌≤◌, ◌==◌, Bool, true, false, ◌||◌, if◌then◌else◌, List, [], ◌∷◌, ◌++◌, length, take, drop, get_or, All, Option, Some, None, IfSome, refl, sym, ap, arith, codes, decimal, list_all, is_ascii_digit, and_parts, append_assoc, append_cancel_left, drop_more, get_or-take, length-take, All-head, All-tail, Litmus, IsTest, continues_name, IsWord, name_of, Eax, Ebx, Ecx, Edx, Esi, Edi, Reg, Core, Entry, letters_of, printed_access, printed_entry, IsEntryFor, IsOrderFor, IsD, ImD, SmD, AccessKind, IsLine, access_name, request_name, state_name, after_plus, joined, line_name, entries_text, moved_text, forwarded_text, access_text, request_text, flush_text, write_back_text, changes_text, LineRequest, LineState, StateChange}
 use Rattle.std.proofs.Math.Nat.{mul-div_cancel}
-use Rattle.std.proofs.lemmas.Bool.{and_parts}
-use Rattle.std.proofs.lemmas.List.{append_assoc, append_cancel_left, drop_more, get_or-take, length-take}
-use Rattle.std.proofs.lemmas.List.Elements.{All-head, All-tail}
-use Rattle.tso_model.specs.Litmus.{Litmus, IsTest}
-use Rattle.tso_model.specs.Names.{continues_name}
-use Rattle.tso_model.specs.Registers.{IsWord, name_of}
-use Rattle.tso_model.specs.declared.register.Reg.TheVariants.{Eax, Ebx, Ecx, Edx, Esi, Edi}
-use Rattle.tso_model.specs.declared.register.Reg.{Reg}
-use Rattle.tso_model.specs.declared.instruction.Core.{Core}
-use Rattle.tso_model.specs.declared.execution.Entry.{Entry}
-use Rattle.order_builder.specs.PrintedOrder.{letters_of, printed_access, printed_entry}
-use Rattle.order_builder.specs.Spelling.{IsEntryFor, IsOrderFor}
 use Rattle.protocol_tables.specs.declared.requests.Request.{Request}
 use Rattle.protocol_tables.specs.declared.requests.Request.TheVariants.{GetS, GetM}
-use Rattle.protocol_tables.specs.declared.requests.Transient.TheVariants.{IsD, ImD, SmD}
 use Rattle.protocol_tables.specs.declared.state.State.TheVariants as tag
-use Rattle.snoop_bus.specs.declared.access.AccessKind.{AccessKind}
 use Rattle.snoop_bus.specs.declared.access.AccessKind.TheVariants.{Hit, Upgrade, Miss}
-use Rattle.trace_report.specs.Known.{IsLine}
-use Rattle.trace_report.specs.Lines.{access_name, request_name, state_name, after_plus, joined, line_name, entries_text, moved_text, forwarded_text, access_text, request_text, flush_text, write_back_text, changes_text}
 use Rattle.trace_report.specs.declared.step.Moved.{Moved}
-use Rattle.trace_report.specs.declared.step.LineRequest.{LineRequest}
-use Rattle.trace_report.specs.declared.step.LineState.{LineState}
 use Rattle.trace_report.specs.declared.step.LineState.TheVariants as state
-use Rattle.trace_report.specs.declared.step.StateChange.{StateChange}
 use Rattle.printed_laws.proofs.Cutting.{next-cut, same-cut}
 use Rattle.printed_laws.proofs.Digits.{all-digits}
 use Rattle.printed_laws.proofs.TraceWords.{Ends, ends-stop, word-cut, read-cut, register-cut, same-core, location-cut, entry-cut}

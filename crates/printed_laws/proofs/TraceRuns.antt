@@ -1,26 +1,7 @@
 -- The steps of two traces of a test are the same where their choices are, and the JSON value of a trace tells its steps.
-use Rattle.std.proofs.Common.{◌≡◌, ◌∙◌, ℕ, Bool, true, false, if◌then◌else◌, List, [], ◌∷◌, map, length, refl, sym, ap, subst, arith}
+use Rattle.printed_laws.proofs.Vocabulary.{◌≡◌, ◌∙◌, ℕ, Bool, true, false, if◌then◌else◌, List, [], ◌∷◌, map, length, refl, sym, ap, subst, arith, Data, items_of, outline, items_outline, Litmus, IsTest, has_ended, CoresExist, Choice, table_of, ProtocolKind, Configuration, IsConfigurationWithinLimits, Running, new_machine, machine_after, step_of, steps_from, trace_under, IsTraced, traced-first, traced-next, words_in, machine_json, step_json, own_words, Sourced, sourced_by, step_to, steps_json, trace_json, told_by_object, StepFits}
 use Rattle.json.specs.Json as json
-use Rattle.serde_json.specs.Data.{Data}
-use Rattle.serde_json.specs.View.{items_of}
-use Rattle.serde_json.specs.Written.{outline, items_outline}
-use Rattle.tso_model.specs.Litmus.{Litmus, IsTest}
-use Rattle.tso_model.specs.Runs.{has_ended, CoresExist}
-use Rattle.tso_model.specs.declared.choice.Choice.{Choice}
-use Rattle.protocol_tables.specs.Tables.{table_of}
-use Rattle.protocol_tables.specs.declared.kind.ProtocolKind.{ProtocolKind}
-use Rattle.machine_core.specs.Configuration.{Configuration, IsConfigurationWithinLimits}
-use Rattle.machine_core.specs.Running.{Running, new_machine, machine_after}
 use Rattle.trace_report.specs.Shown.{Shown}
-use Rattle.trace_report.specs.Steps.{step_of, steps_from, trace_under}
-use Rattle.trace_report.specs.Told.{IsTraced}
-use Rattle.trace_report.proofs.Traced.{traced-first}
-use Rattle.trace_report.proofs.Whole.{traced-next}
-use Rattle.trace_json.specs.MachineJson.{words_in, machine_json}
-use Rattle.trace_json.specs.StepJson.{step_json}
-use Rattle.trace_json.specs.OwnWords.{own_words}
-use Rattle.trace_json.specs.TraceJson.{Sourced, sourced_by, step_to, steps_json, trace_json}
-use Rattle.printed_laws.specs.Traces.{told_by_object, StepFits}
 use Rattle.printed_laws.proofs.JsonTexts.{value_at, items_in, first_item, more_items, has_item, uneven}
 use Rattle.printed_laws.proofs.StepsFit.{MachineFits, fits-first, fits-next, step-fits}
 use Rattle.printed_laws.proofs.TraceObjects.{step-told}

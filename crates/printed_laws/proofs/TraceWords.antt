@@ -1,28 +1,7 @@
 -- The words of a trace: what each begins a text with is told by the text.
-use Rattle.std.proofs.Common.{◌≡◌, ◌∙◌, ℕ, ◌^◌, ◌<◌, ◌==◌, true, false, if◌then◌else◌, List, [], ◌∷◌, ◌++◌, length, get_or, Option, unwrap_or, refl, sym, ap, subst, arith}
-use Rattle.std.specs.Prelude.{codes}
-use Rattle.std.specs.Fmt.{decimal}
-use Rattle.std.specs.List.{list_all}
-use Rattle.std.specs.Char.{is_ascii_digit}
-use Rattle.std.proofs.lemmas.Bool.Decides.{nat_tests}
-use Rattle.std.proofs.lemmas.List.{append_assoc, append_cancel_left}
-use Rattle.tso_model.specs.Litmus.{Litmus, IsTest}
-use Rattle.tso_model.specs.Names.{continues_name}
-use Rattle.tso_model.specs.Registers.{name_of}
-use Rattle.tso_model.specs.declared.register.Reg.{Reg}
-use Rattle.tso_model.specs.declared.register.Reg.TheVariants.{Eax, Ebx, Ecx, Edx, Esi, Edi}
-use Rattle.tso_model.specs.declared.instruction.Core.{Core}
-use Rattle.tso_model.specs.declared.instruction.Loc.{Loc}
-use Rattle.tso_model.specs.declared.choice.Choice.{Choice}
-use Rattle.tso_model.specs.declared.choice.Choice.TheVariants.{Step, Drain}
-use Rattle.tso_model.specs.declared.execution.Entry.{Entry}
-use Rattle.tso_model.specs.declared.execution.Kind.{Kind}
-use Rattle.tso_model.specs.declared.execution.Kind.TheVariants.{R, W, F, LR, LW}
-use Rattle.scheduler.specs.Printed.{printed_choice}
-use Rattle.order_builder.specs.PrintedOrder.{letters_of, printed_access, printed_entry}
-use Rattle.order_builder.specs.Spelling.{HasAccess, IsEntryFor}
+use Rattle.printed_laws.proofs.Vocabulary.{◌≡◌, ◌∙◌, ℕ, ◌^◌, ◌<◌, ◌==◌, true, false, if◌then◌else◌, List, [], ◌∷◌, ◌++◌, length, get_or, Option, unwrap_or, refl, sym, ap, subst, arith, codes, decimal, list_all, is_ascii_digit, nat_tests, append_assoc, append_cancel_left, Litmus, IsTest, continues_name, name_of, Reg, Eax, Ebx, Ecx, Edx, Esi, Edi, Core, Loc, Choice, Drain, Entry, Kind, R, W, F, LR, LW, printed_choice, letters_of, printed_access, printed_entry, HasAccess, IsEntryFor, all_of_location, location_again}
+use Rattle.tso_model.specs.declared.choice.Choice.TheVariants.{Step}
 use Rattle.order_builder.specs.inner.Reading.{location_named}
-use Rattle.order_builder.proofs.NameLaws.{all_of_location, location_again}
 use Rattle.printed_laws.proofs.Cutting.{BeginsWithout, Stops, run-cut, number-cut, next-cut, same-cut}
 
 -- ---- words

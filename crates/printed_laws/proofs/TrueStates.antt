@@ -1,17 +1,8 @@
 -- `True` has the numbers of the states in which a claim is true, and no others.
-use Rattle.std.proofs.Common.{◌≡◌, ◌∙◌, ◌⊎◌, inl, inr, ◌<◌, ◌≤◌, ◌+◌, ◌↔◌, ℕ, zero, suc, Bool, true, false, cond, List, [], ◌∷◌, length, Contains, Some, refl, sym, ap, subst, arith}
+use Rattle.printed_laws.proofs.Vocabulary.{◌≡◌, ◌∙◌, ◌⊎◌, inl, inr, ◌<◌, ◌≤◌, ◌+◌, ◌↔◌, ℕ, zero, suc, Bool, true, false, cond, List, [], ◌∷◌, length, Contains, Some, refl, sym, ap, subst, arith, Litmus, IsTest, Claim, Condition, truth_of, named_in, values_at, Outcome, shown_values, true_from, true_in, holds_in, TruthIsShown, Search, PrintsAllOutcomes, EndsInNumbers, NumbersOfTrueStates, TrueNamesTrueStates, HoldsTellsTrueStates}
 use Rattle.std.specs.List.{slice_get}
 use Rattle.std.proofs.lemmas.Option.{slice_get_within, get_or_from_slice_get}
-use Rattle.tso_model.specs.Litmus.{Litmus, IsTest}
-use Rattle.tso_model.specs.Condition.{Claim, Condition, truth_of}
-use Rattle.shown_values.specs.Shown.{named_in, values_at}
-use Rattle.outcome_report.specs.Outcomes.{Outcome, shown_values, true_from, true_in}
-use Rattle.outcome_report.specs.OutcomesJson.{holds_in}
-use Rattle.outcome_report.specs.Laws.{TruthIsShown}
 use Rattle.outcome_report.proofs.Members.{Member, to-member, member-place}
-use Rattle.command_line.specs.Search.{Search}
-use Rattle.tso_cli.specs.OutcomesHeadline.{PrintsAllOutcomes}
-use Rattle.printed_laws.specs.Verdicts.{EndsInNumbers, NumbersOfTrueStates, TrueNamesTrueStates, HoldsTellsTrueStates}
 use Rattle.printed_laws.proofs.LastLines.{numbers-end}
 
 from-member : {X : Type 0} (x : X) (xs : List X) → Member x xs → Contains xs x

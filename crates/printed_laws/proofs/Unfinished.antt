@@ -1,15 +1,5 @@
 -- What is printed of a run that didn't end tells how far it came.
-use Rattle.std.proofs.Common.{ℕ, ◌^◌, ◌<◌, true, false, [], ◌∷◌, ◌++◌, refl, ap, arith}
-use Rattle.std.specs.Prelude.{codes}
-use Rattle.std.specs.Fmt.{decimal}
-use Rattle.std.proofs.lemmas.Fmt.{decimal_injective}
-use Rattle.std.proofs.lemmas.List.{append_cancel_right}
-use Rattle.json.specs.Tree.{HasNumbers}
-use Rattle.json.proofs.Printed.Decimals.{IsNumber-decimal}
-use Rattle.serde_json.specs.Written.{outline, compact_text}
-use Rattle.tso_report.specs.Report.{line}
-use Rattle.tso_report.specs.Json.{unfinished_value}
-use Rattle.printed_laws.specs.Telling.{UnfinishedRunsAreTold}
+use Rattle.printed_laws.proofs.Vocabulary.{ℕ, ◌^◌, ◌<◌, true, false, [], ◌∷◌, ◌++◌, refl, ap, arith, codes, decimal, decimal_injective, append_cancel_right, HasNumbers, IsNumber-decimal, outline, compact_text, line, unfinished_value, UnfinishedRunsAreTold}
 use Rattle.printed_laws.proofs.Cutting.{next-cut}
 use Rattle.printed_laws.proofs.JsonTexts.{value-told, value_at, text_at}
 

@@ -1,28 +1,9 @@
 -- The word that is printed of a condition is that of its counts.
-use Rattle.std.proofs.Common.{◌≡◌, ◌∙◌, ℕ, ◌==◌, Bool, true, false, not, cond, List, [], ◌∷◌, ◌++◌, length, get_or, Some, refl, sym, ap, subst, arith}
-use Rattle.std.specs.Prelude.{codes}
-use Rattle.std.specs.Fmt.{decimal}
-use Rattle.std.specs.List.{list_all}
-use Rattle.std.proofs.lemmas.List.{append_assoc, append_cancel_left, append_cancel_right}
-use Rattle.json.specs.Print.{escape, escape_byte}
-use Rattle.serde_json.specs.Data.{Data, string, object, no_members, member}
-use Rattle.serde_json.specs.Written.{compact_text}
-use Rattle.tso_model.specs.Litmus.{Litmus}
-use Rattle.tso_model.specs.Condition.{Condition}
-use Rattle.tso_report.specs.Report.{line, test_line}
-use Rattle.tso_report.specs.Json.{count}
-use Rattle.tso_report.specs.Tally.{frequency}
-use Rattle.tso_report.specs.declared.named.Named.{Named}
-use Rattle.outcome_report.specs.Verdict.{is_well, verdict_word, verdict_value}
-use Rattle.outcome_report.specs.Outcomes.{Outcome, outcomes_line, outcome_lines, condition_lines, unfinished_line, held_in, failed_in, true_in, is_met_in, printed_numbers}
-use Rattle.outcome_report.specs.OutcomesJson.{states_value, observed_value, observation_value, unfinished_json}
-use Rattle.outcome_report.specs.Printed.{outcomes_in, unfinished_search_in}
-use Rattle.printed_laws.specs.Observed.{EndsInWord, HasWordInObject, PrintsWord}
+use Rattle.printed_laws.proofs.Vocabulary.{◌≡◌, ◌∙◌, ℕ, ◌==◌, Bool, true, false, not, cond, List, [], ◌∷◌, ◌++◌, length, get_or, Some, refl, sym, ap, subst, arith, codes, decimal, list_all, append_assoc, append_cancel_left, append_cancel_right, escape, escape_byte, Data, string, object, no_members, member, compact_text, Litmus, Condition, line, test_line, count, frequency, Named, is_well, verdict_word, verdict_value, Outcome, outcomes_line, outcome_lines, condition_lines, unfinished_line, held_in, failed_in, true_in, is_met_in, printed_numbers, states_value, observed_value, observation_value, unfinished_json, outcomes_in, unfinished_search_in, EndsInWord, HasWordInObject, PrintsWord, is_ascii_digit}
 use Rattle.printed_laws.proofs.Cutting.{Stops, run-cut}
 use Rattle.printed_laws.proofs.Digits.{all-digits, is_no_space, number-no-space, both-no-space, last-cut}
 use Rattle.printed_laws.proofs.OutcomeLines.{is_in_line, digits-in-line, both-in-line}
 use Rattle.printed_laws.proofs.Endings.{feed-there, last-line}
-use Rattle.std.specs.Char.{is_ascii_digit}
 
 -- ---- lines
 

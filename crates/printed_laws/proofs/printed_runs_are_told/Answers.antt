@@ -1,5 +1,4 @@
-use Rattle.std.proofs.Common.{Bool, true, false}
-use Rattle.printed_laws.specs.Telling.{ReportsTellTheirRuns, UnfinishedRunsAreTold}
+use Rattle.printed_laws.proofs.Vocabulary.{Bool, true, false, ReportsTellTheirRuns, UnfinishedRunsAreTold}
 use Rattle.printed_laws.proofs.PrintedRuns.{runs-told}
 use Rattle.printed_laws.proofs.printed_runs_are_told.Goals as goal
 

@@ -1,4 +1,4 @@
-use Rattle.std.proofs.Common.{true, false, ◌∙◌}
+use Rattle.printed_laws.proofs.Vocabulary.{true, false, ◌∙◌}
 use Rattle.printed_laws.proofs.Claims.{TextsAreDecided, outcomes-tell, why-tells, ok-is-good}
 use Rattle.printed_laws.proofs.outcomes.statuses_tell_the_verdict.Goals as goal
 

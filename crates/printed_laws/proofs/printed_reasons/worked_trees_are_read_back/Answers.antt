@@ -1,5 +1,4 @@
-use Rattle.std.proofs.Common.{refl}
-use Rattle.tso_report.specs.Report.{all_registers}
+use Rattle.printed_laws.proofs.Vocabulary.{refl, all_registers}
 use Rattle.printed_laws.proofs.printed_reasons.worked_trees_are_read_back.Goals as goal
 
 pub returns-clause-passing : goal.returns-clause-passing
