@@ -1,8 +1,5 @@
 -- Final states of which no register is hidden.
-use Rattle.std.proofs.Common.{◌≡◌, ◌∙◌, ℕ, List, [], ap, sym, subst}
-use Rattle.std.specs.Prelude.{◌↔◌}
-use Rattle.eager_laws.specs.Dead.{seen}
-use Rattle.explorer.specs.FinalStates.{AreWhat, AreAmong}
+use Rattle.promises.proofs.Vocabulary.{◌≡◌, ◌∙◌, ℕ, List, [], ap, sym, subst, ◌↔◌, seen, AreWhat, AreAmong}
 use Rattle.explorer.specs.declared.final_states.FinalState.{FinalState}
 
 pub are-exactly : (Allowed : List (List ℕ) → List ℕ → Type 0) (finals : List FinalState) → ((registers : List (List ℕ)) → seen [] registers ≡ registers) → AreWhat Allowed [] finals

@@ -1,3 +1,4 @@
+pub mod Vocabulary
 mod TracedRuns
 mod ExactSearches
 mod LinesAgain

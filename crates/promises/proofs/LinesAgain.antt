@@ -1,16 +1,9 @@
 -- The two lines of each state stand in the text of `outcomes`.
-use Rattle.std.proofs.Common.{◌≡◌, ◌∙◌, ℕ, Bool, false, List, [], ◌∷◌, ◌++◌, length, refl, sym, ap, subst}
-use Rattle.std.specs.Prelude.{codes}
+use Rattle.promises.proofs.Vocabulary.{◌≡◌, ◌∙◌, ℕ, Bool, false, List, [], ◌∷◌, ◌++◌, length, refl, sym, ap, subst, codes, append_assoc, Litmus, Choice, Step, Drain, ProtocolKind, Configuration}
 use Rattle.std.specs.Fmt.{decimal}
 use Rattle.std.specs.List.{AllByRecursion}
-use Rattle.std.proofs.lemmas.List.{append_assoc}
 use Rattle.std.proofs.lemmas.List.Elements.{All-from_recursion, recursion_from_All}
-use Rattle.tso_model.specs.Litmus.{Litmus}
-use Rattle.tso_model.specs.declared.choice.Choice.{Choice}
-use Rattle.tso_model.specs.declared.choice.Choice.TheVariants.{Step, Drain}
 use Rattle.scheduler.specs.Printed.{printed_after, printed_choices}
-use Rattle.protocol_tables.specs.declared.kind.ProtocolKind.{ProtocolKind}
-use Rattle.machine_core.specs.Configuration.{Configuration}
 use Rattle.tso_report.specs.Report.{line, test_line}
 use Rattle.tso_report.specs.declared.named.Named.{Named}
 use Rattle.shown_values.specs.Shown.{named_in}

@@ -1,12 +1,6 @@
 -- A claim that no tree refutes: what makes it true.
-use Rattle.std.proofs.Common.{◌≡◌, true, List, length, ◌⊎◌, inl, inr}
-use Rattle.tso_model.specs.Litmus.{Litmus}
-use Rattle.tso_model.specs.Condition.{Claim, truth_of}
+use Rattle.promises.proofs.Vocabulary.{◌≡◌, true, List, length, ◌⊎◌, inl, inr, Litmus, Claim, truth_of, registers_in, CoresExist, run, Choice, Entry}
 use Rattle.tso_model.specs.FinalState.{final_registers, final_words}
-use Rattle.tso_model.specs.FlatMachine.{registers_in}
-use Rattle.tso_model.specs.Runs.{CoresExist, run}
-use Rattle.tso_model.specs.declared.choice.Choice.{Choice}
-use Rattle.tso_model.specs.declared.execution.Entry.{Entry}
 use Rattle.tso_laws.specs.EndedRuns.{End}
 use Rattle.relational_model.specs.Candidates.{Candidate, registers_left, words_left}
 use Rattle.refutation_laws.specs.Models.{HasCandidate, HasExecution, HasRun, IsAllowedBy, IsExecutionOf, IsRefuted, depth_of}

@@ -1,19 +1,12 @@
 -- What the headline of `trace` says of choices that a text spells.
-use Rattle.std.proofs.Common.{◌≡◌, ◌≤◌, ◌<◌, ℕ, Bool, true, false, refl, List, length, Result, Ok, Err, IfOk, Some, string_bytes}
-use Rattle.tso_model.specs.Litmus.{Litmus}
-use Rattle.tso_model.specs.Runs.{Run, run}
-use Rattle.tso_model.specs.declared.choice.Bus.TheVariants.{Atomic, Split}
-use Rattle.tso_model.specs.declared.choice.Choice.{Choice}
+use Rattle.promises.proofs.Vocabulary.{◌≡◌, ◌≤◌, ◌<◌, ℕ, Bool, true, false, refl, List, length, Result, Ok, Err, IfOk, Some, string_bytes, Litmus, Run, run, Atomic, Split, Choice, ProtocolKind, Configuration, parts_of}
 use Rattle.litmus_reader.specs.Spelling.{SpellsTest}
 use Rattle.scheduler.specs.Grammar.{SpellsChoices}
 use Rattle.scheduler.specs.WordOfChoice.{IsWordOfChoice}
 use Rattle.scheduler.specs.declared.fault.ChoiceFault.TheVariants.{TooMany}
-use Rattle.protocol_tables.specs.declared.kind.ProtocolKind.{ProtocolKind}
-use Rattle.machine_core.specs.Configuration.{Configuration}
 use Rattle.command_line.specs.declared.settings.Settings.TheVariants as settings
 use Rattle.tso_cli.specs.Headline.{Headline}
 use Rattle.commands.specs.Lines.{choices_refusal}
-use Rattle.commands.specs.Dividing.{parts_of}
 use Rattle.tso_cli.specs.SplitRun.{split_run}
 use Rattle.tso_cli.specs.TraceHeadline.{PrintsTrace, PrintsTracedObject, PrintsEachTrace}
 use Rattle.commands.specs.declared.answer.Answer.{Answer}

@@ -1,4 +1,4 @@
-use Rattle.std.proofs.Common.{Some, true, false}
+use Rattle.promises.proofs.Vocabulary.{Some, true, false}
 use Rattle.command_line.specs.declared.settings.Settings.TheVariants as settings
 use Rattle.promises.proofs.searched.both_forms_show_one_search.Goals as goal
 

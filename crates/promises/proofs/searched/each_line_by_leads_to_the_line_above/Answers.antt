@@ -1,5 +1,4 @@
-use Rattle.std.proofs.Common.{false}
-use Rattle.commands.specs.Dividing.{parts_of}
+use Rattle.promises.proofs.Vocabulary.{false, parts_of}
 use Rattle.promises.proofs.LinesAgain.{lines-again}
 use Rattle.promises.proofs.searched.each_line_by_leads_to_the_line_above.Goals as goal
 

@@ -1,5 +1,4 @@
-use Rattle.std.proofs.Common.{subst}
-use Rattle.eager_laws.specs.Dead.{AreAlike}
+use Rattle.promises.proofs.Vocabulary.{subst, AreAlike}
 use Rattle.promises.proofs.searches.what_is_kept_is_reached_but_for_dead_registers.Goals as goal
 
 pub returns : goal.returns

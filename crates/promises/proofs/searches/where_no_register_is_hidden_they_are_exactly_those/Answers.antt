@@ -1,6 +1,4 @@
-use Rattle.std.proofs.Common.{[], ap}
-use Rattle.eager_laws.specs.Dead.{seen}
-use Rattle.outcome_laws.specs.Outcomes.{IsAllowedByTso, IsAllowedSequentially}
+use Rattle.promises.proofs.Vocabulary.{[], ap, seen, IsAllowedByTso, IsAllowedSequentially}
 use Rattle.promises.proofs.ExactSearches.{are-exactly}
 use Rattle.promises.proofs.searches.where_no_register_is_hidden_they_are_exactly_those.Goals as goal
 

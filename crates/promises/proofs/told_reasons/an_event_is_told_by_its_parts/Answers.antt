@@ -1,4 +1,4 @@
-use Rattle.std.proofs.Common.{ap}
+use Rattle.promises.proofs.Vocabulary.{ap}
 use Rattle.reason_report.specs.declared.steps.Edge.{Edge}
 use Rattle.reason_report.specs.declared.steps.Event.{Event}
 use Rattle.promises.proofs.told_reasons.an_event_is_told_by_its_parts.Goals as goal

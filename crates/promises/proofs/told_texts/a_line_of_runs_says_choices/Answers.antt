@@ -1,5 +1,4 @@
-use Rattle.std.proofs.Common.{◌≤◌, ◌++◌, ℕ, List, ap, arith, inl, inr, length}
-use Rattle.std.proofs.lemmas.List.{length-append}
+use Rattle.promises.proofs.Vocabulary.{◌≤◌, ◌++◌, ℕ, List, ap, arith, inl, inr, length, length-append}
 use Rattle.tso_cli.specs.Hints.{IsHintWithRuns}
 use Rattle.promises.proofs.told_texts.a_line_of_runs_says_choices.Goals as goal
 

@@ -1,6 +1,4 @@
-use Rattle.std.proofs.Common.{ap}
-use Rattle.tso_model.specs.declared.execution.Entry.{Entry}
-use Rattle.trace_report.specs.Shown.{Shown}
+use Rattle.promises.proofs.Vocabulary.{ap, Entry, Shown}
 use Rattle.promises.proofs.traces_told.a_line_tells_each_field.Goals as goal
 
 pub returns-clause-choice : goal.returns-clause-choice

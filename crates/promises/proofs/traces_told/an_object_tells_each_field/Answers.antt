@@ -1,5 +1,4 @@
-use Rattle.std.proofs.Common.{ap}
-use Rattle.trace_report.specs.Shown.{Shown}
+use Rattle.promises.proofs.Vocabulary.{ap, Shown}
 use Rattle.promises.proofs.traces_told.an_object_tells_each_field.Goals as goal
 
 pub returns-clause-choice : goal.returns-clause-choice

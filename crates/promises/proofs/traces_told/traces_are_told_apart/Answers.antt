@@ -1,4 +1,4 @@
-use Rattle.std.proofs.Common.{All, sym, subst}
+use Rattle.promises.proofs.Vocabulary.{All, sym, subst}
 use Rattle.trace_report.specs.Steps.{trace_under}
 use Rattle.printed_laws.specs.Traces.{StepFits}
 use Rattle.promises.proofs.traces_told.traces_are_told_apart.Goals as goal

@@ -1,4 +1,4 @@
-use Rattle.std.proofs.Common.{true, refl, arith}
+use Rattle.promises.proofs.Vocabulary.{true, refl, arith}
 use Rattle.promises.proofs.SomeExecution.{needs-no-more}
 use Rattle.promises.proofs.verdicts_of_conditions.what_is_as_claimed_by_tso.Goals as goal
 

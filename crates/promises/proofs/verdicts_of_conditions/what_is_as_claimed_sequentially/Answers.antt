@@ -1,4 +1,4 @@
-use Rattle.std.proofs.Common.{refl}
+use Rattle.promises.proofs.Vocabulary.{refl}
 use Rattle.promises.proofs.verdicts_of_conditions.what_is_as_claimed_sequentially.Goals as goal
 
 pub returns-clause-exists : goal.returns-clause-exists

@@ -1,4 +1,4 @@
-use Rattle.std.proofs.Common.{true, false, refl, arith}
+use Rattle.promises.proofs.Vocabulary.{true, false, refl, arith}
 use Rattle.promises.proofs.SomeExecution.{needs-no-more}
 use Rattle.promises.proofs.verdicts_of_conditions.what_is_not_as_claimed_by_tso.Goals as goal
 

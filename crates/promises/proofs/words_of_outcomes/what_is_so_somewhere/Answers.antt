@@ -1,4 +1,4 @@
-use Rattle.std.proofs.Common.{refl}
+use Rattle.promises.proofs.Vocabulary.{refl}
 use Rattle.promises.proofs.words_of_outcomes.what_is_so_somewhere.Goals as goal
 
 pub returns-clause-runs : goal.returns-clause-runs

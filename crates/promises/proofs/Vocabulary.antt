@@ -1,0 +1,19 @@
+-- The names that the proofs of this crate bring in from definitions and from crates below; each file takes its own from here.
+pub use Rattle.std.proofs.Common.{◌≡◌, ◌≤◌, ◌<◌, ℕ, Bool, true, false, refl, List, length, Result, Ok, Err, IfOk, Some, string_bytes, ◌∙◌, [], ap, sym, subst, ◌∷◌, ◌++◌, ◌||◌, None, Vec, arith, ◌≢◌, ◌==◌, not, if◌then◌else◌, OnOk, ◌⊎◌, inl, inr, All}
+pub use Rattle.tso_model.specs.Litmus.{Litmus, IsTest}
+pub use Rattle.tso_model.specs.Runs.{Run, run, CoresExist}
+pub use Rattle.tso_model.specs.declared.choice.Bus.TheVariants.{Atomic, Split}
+pub use Rattle.tso_model.specs.declared.choice.Choice.{Choice}
+pub use Rattle.protocol_tables.specs.declared.kind.ProtocolKind.{ProtocolKind}
+pub use Rattle.machine_core.specs.Configuration.{Configuration}
+pub use Rattle.commands.specs.Dividing.{parts_of}
+pub use Rattle.std.specs.Prelude.{◌↔◌, codes}
+pub use Rattle.eager_laws.specs.Dead.{seen, AreAlike}
+pub use Rattle.explorer.specs.FinalStates.{AreWhat, AreAmong, AreReached, HaveEveryEnd}
+pub use Rattle.std.proofs.lemmas.List.{append_assoc, length-append}
+pub use Rattle.tso_model.specs.declared.choice.Choice.TheVariants.{Step, Drain}
+pub use Rattle.outcome_laws.specs.Outcomes.{EndsAreWhatTsoAllows, IsAllowed, IsAllowedByTso, IsAllowedSequentially}
+pub use Rattle.tso_model.specs.Condition.{Claim, truth_of}
+pub use Rattle.tso_model.specs.declared.execution.Entry.{Entry}
+pub use Rattle.tso_model.specs.FlatMachine.{chosen, core_of, effect_of, registers_in}
+pub use Rattle.trace_report.specs.Shown.{Shown}
