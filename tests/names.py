@@ -1,0 +1,169 @@
+#!/usr/bin/env python3
+"""Holds that a definition's name says one thing: it stands in one file of definitions, or means the same in each.
+
+    tests/names.py               each name that two files define and that isn't in STAY; the last line is 'N passed, M failed'
+    tests/names.py --list        each name that two files define, with its files, and why it may stay
+    tests/names.py --arguments   the functions of the code that take six arguments or more, those with the most first
+
+A name may stay where its texts are one text, or where STAY says why. A line of STAY whose name two files no longer define is a
+failure too. Worked examples name their own tests, choices and words: nobody but them speaks of those (EXAMPLES).
+"""
+import os
+import re
+import sys
+
+sys.dont_write_bytecode = True
+import believed
+from judging import TOP
+
+MANY = 6
+EXAMPLES = re.compile(r"^worked_examples\.|\.(?:inner\.)?(?:Worked\w*|Examples)$")
+TESTS = ("promises", "reason_tests", "tso_tests", "worked_examples")
+
+# What stays, and why.
+STAY = {
+    # each says the same of a type of its own
+    "Fails": "a fault that is answered is the one that reading gives, of tests and of orders",
+    "Gives": "what is answered is what reading gives, of tests and of orders",
+    "HasWord": "an entry's value is a word",
+    "first_of_two": "the first of the two that is there",
+    "is_leaf": "a node that asks nothing",
+    "is_space": "the bytes of white space",
+    "last_or": "the last of a list, or this one",
+    "loaded": "what a load leaves, of a core and of the caches",
+    "onto": "one put before what is read after it",
+    "would_hit": "whether an access is a hit, of a machine's caches and of a bus",
+    "◌>>=◌": "what goes on where nothing failed",
+    # the reader's words are of tokens, and mean there what they mean of a test
+    "IsCondition": "a condition as it is written, and within the limits",
+    "Table": "the rows of a test; a protocol's table",
+    "condition_of": "a condition, of what is written and of the code's",
+    "core_of": "the core that a name names; a core of a state",
+    "judged": "what is read, judged by the limits",
+    "located": "a name with its location",
+    "name_of": "the name as it is printed",
+    "negated": "the same with a negation before it",
+    "opened_at": "what stands after the bracket that opens a part",
+    "part_of": "which part of a text, and of a locked instruction",
+    "program_of": "a core's program",
+    "registers_of": "the registers of a core",
+    "registers_with": "the registers with these values",
+    "rows": "the rows of a table",
+    "value_in": "a register's value",
+    "with_register": "the registers with this value in one of them",
+    "word_after": "what stands after a word; a location's word after an order",
+    "words_of": "the words of locations, in the beginning and on a bus",
+}
+
+FUNCTION = re.compile(r"^ *(?:pub(?:\(\w+\))? )?(?:const )?(?:extern \"C\" )?fn (\w+)", re.M)
+
+
+def places():
+    """The modules that define each name, with the definition's text there."""
+    found = {}
+    for module, file in sorted(believed.files().items()):
+        if not EXAMPLES.search(module):
+            for name, definition in file.definitions.items():
+                found.setdefault(name, {})[module] = text_of(definition)
+    return {name: modules for name, modules in found.items() if len(modules) > 1}
+
+
+def text_of(definition):
+    return " ".join(" ".join(line.split()) for line in definition.text)
+
+
+def reason(name, modules):
+    """Why a name may stand in these files, or None."""
+    if len(set(modules.values())) == 1:
+        return "one text"
+    return STAY.get(name)
+
+
+def check():
+    twice = places()
+    faults = ["%s: %s" % (name, ", ".join(sorted(modules))) for name, modules in sorted(twice.items()) if reason(name, modules) is None]
+    faults += ["%s may stay, but stands in one file" % name for name in sorted(STAY) if name not in twice]
+    for fault in faults:
+        print(fault)
+    print("%d passed, %d failed" % (sum(reason(name, modules) is not None for name, modules in twice.items()), len(faults)))
+    return 1 if faults else 0
+
+
+def show():
+    for name, modules in sorted(places().items()):
+        print("%s: %s: %s" % (name, ", ".join(sorted(modules)), reason(name, modules) or "means two things"))
+    return 0
+
+
+# ---- arguments
+
+
+def within(text, at):
+    """What stands between the bracket at this place and the one that closes it."""
+    depth, begin = 0, at + 1
+    while at < len(text):
+        depth += (text[at] in "([{") - (text[at] in ")]}")
+        if depth == 0:
+            return text[begin:at]
+        at += 1
+    return text[begin:]
+
+
+def arguments(text):
+    """The arguments of a function's head, by their commas; commas within brackets part nothing."""
+    depth, pieces = 0, [""]
+    for at, letter in enumerate(text):
+        depth += (letter in "([{<") - (letter in ")]}" or letter == ">" and text[at - 1] != "-")
+        if letter == "," and depth == 0:
+            pieces.append("")
+        else:
+            pieces[-1] += letter
+    return [" ".join(piece.split()) for piece in pieces if piece.strip()]
+
+
+def functions():
+    """Each function of the code, but for tests and worked examples: its file, its name, its arguments."""
+    for crate in sorted(set(os.listdir(os.path.join(TOP, "crates"))) - set(TESTS)):
+        room = os.path.join(TOP, "crates", crate, "src")
+        for name in sorted(os.listdir(room)):
+            with open(os.path.join(room, name), encoding="utf-8") as file:
+                text = "\n".join(line for line in file.read().split("\n") if not line.lstrip().startswith("//"))
+            for found in FUNCTION.finditer(text):
+                at = text.index("(", found.end() + parameters_end(text, found.end()))
+                yield "crates/%s/src/%s" % (crate, name), found.group(1), arguments(within(text, at))
+
+
+def parameters_end(text, at):
+    """How long the type parameters are that stand here, if there are some: a bound may have brackets."""
+    if text[at] != "<":
+        return 0
+    depth, begin = 0, at
+    while True:
+        depth += (text[at] == "<") - (text[at] == ">" and text[at - 1] != "-")
+        at += 1
+        if depth == 0:
+            return at - begin
+
+
+def show_arguments():
+    many = sorted(((len(taken), path, name, taken) for path, name, taken in functions() if len(taken) >= MANY), key=lambda one: (-one[0], one[1:3]))
+    for count, path, name, taken in many:
+        print("%d %s %s(%s)" % (count, path, name, ", ".join(taken)))
+    without = sum(len([one for one in taken if not re.match(r"alloc: |&?(?:mut )?self$", one)]) >= MANY for _, _, _, taken in many)
+    print("%d functions of %d arguments or more; %d without the allocator and self" % (len(many), MANY, without))
+    return 0
+
+
+def main():
+    if sys.argv[1:] == ["--arguments"]:
+        return show_arguments()
+    if sys.argv[1:] == ["--list"]:
+        return show()
+    if sys.argv[1:]:
+        print(__doc__)
+        return 2
+    return check()
+
+
+if __name__ == "__main__":
+    sys.exit(main())
