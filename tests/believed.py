@@ -168,8 +168,8 @@ TOP_LEVEL = ("tso_cli.specs.Headline", "Headline")
 SPLIT = ("tso_cli.specs.SplitRun", "split_run")
 JSON = (("tso_report.specs.Json", "json_report"), ("tso_report.specs.Json", "json_unfinished"))
 TRACED_AS_JSON = (*JSON, ("trace_json.specs.TracedRun", "json_ended"), ("trace_json.specs.TracedRun", "json_unended"))
-FOUND_AS_JSON = (("outcome_report.specs.OutcomesJson", "outcomes_json"), ("outcome_report.specs.OutcomesJson", "unfinished_json"))
-REASONS_AS_JSON = tuple(("reason_report.specs.ReasonJson", name) for name in ("never_json", "allowed_json", "unfinished_json"))
+FOUND_AS_JSON = (("outcome_report.specs.OutcomesJson", "outcomes_json"), ("outcome_report.specs.OutcomesJson", "unfinished_outcomes_json"))
+REASONS_AS_JSON = tuple(("reason_report.specs.ReasonJson", name) for name in ("never_json", "allowed_json", "unfinished_reason_json"))
 PROMISES = {
     "run": ([TOP_LEVEL], "Run", (SPLIT, *JSON)),
     "run-whole": ([TOP_LEVEL], "Run", ()),

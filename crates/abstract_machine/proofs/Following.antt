@@ -1,5 +1,5 @@
 -- A choice of the flat machine is followed by a run of the abstract machine.
-use Rattle.abstract_machine.proofs.Vocabulary.{◌≡◌, ◌<◌, ℕ, ◌+◌, suc, Bool, true, false, List, [], ◌∷◌, ◌++◌, length, map, Option, None, Some, slice_get, slice_set, slice_index, slice_index_or, arith, ap, sym, ◌∙◌, refl, inl, inr, subst, if◌then◌else◌, nat_lt, slice_get-get_or, Litmus, action_of, entry, fence, value_in, value_of, with_value, updated, is_write, CoreState, State, Effect, is_none_pending, stalled, effect_by, step_of, drain_of, idle, program_of, core_of, chosen, effect_of, memory_after, applied, after_choice, Reg, Loc, Instr, Update, Action, Store, Load, Move, Fence, Lock, Entry, W, LR, LW, Choice, Stall, Buffered, NotLocked, HasBegun, HasRead, HasWritten, HardwareThread, Machine, with_thread, with_word, with_buffer, from_memory, read, write, flush, move, mfence, lock, locked_read, locked_write, unlock, Runs, rests, goes_on, Each, each-append, each-at}
+use Rattle.abstract_machine.proofs.Vocabulary.{◌≡◌, ◌<◌, ℕ, ◌+◌, suc, Bool, true, false, List, [], ◌∷◌, ◌++◌, length, map, Option, None, Some, slice_get, slice_set, slice_index, slice_index_or, arith, ap, sym, ◌∙◌, refl, inl, inr, subst, if◌then◌else◌, nat_lt, slice_get-get_or, Litmus, action_of, entry, fence, value_in, value_of, with_value, updated, is_write, CoreState, State, Effect, is_none_pending, stalled, effect_by, step_of, drain_of, idle, program_of, core_of, chosen, effect_of, memory_after, applied, after_choice, Reg, Loc, Instr, Update, Action, Store, Load, Move, Fence, Lock, Entry, W, LR, LW, Choice, Stall, Buffered, NotLocked, HasBegun, HasRead, HasWritten, HardwareThread, Machine, with_thread, with_write, with_buffer, from_memory, read, write, flush, move, mfence, lock, locked_read, locked_write, unlock, Runs, rests, goes_on, Each, each-append, each-at}
 use Rattle.tso_model.specs.declared.choice.Choice.TheVariants as choice
 use Rattle.tso_model.specs.declared.choice.Stall.TheVariants as stall
 use Rattle.abstract_machine.proofs.Lists.{map-set, map-get, set-get, set-set, set-same, length-set, length-map, each-set}
@@ -195,7 +195,7 @@ by-drain t state p place registers (x ∷ rest) g w =
     let threads : List HardwareThread = slice_set (map thread state.cores) p (thread (drain_of s).after) in
     to-target t state p (drain_of s)
     (goes_on (lifted state) _ _ p (thread s) (x ∷ []) [] (map-get thread state.cores p s g) (flush x rest (inl refl) refl)
-    (subst (λ z. Runs t (with_thread (with_word (lifted state) x) p (with_buffer (thread s) rest)) []
+    (subst (λ z. Runs t (with_thread (with_write (lifted state) x) p (with_buffer (thread s) rest)) []
     (record { memory = if z then slice_set state.memory x.loc.0 x.value else state.memory; threads = threads; lock = None }))
     (sym w.0) (rests _)))
 

@@ -1,5 +1,5 @@
 -- The steps of the thread that holds the lock, by how far it is with its locked instruction.
-use Rattle.abstract_machine.proofs.Vocabulary.{◌≡◌, ◌<◌, ℕ, ◌+◌, suc, List, [], ◌∷◌, ◌++◌, length, map, Some, None, slice_get, slice_set, slice_index, arith, ap, sym, ◌∙◌, refl, subst, Litmus, action_of, CoreState, State, Effect, advanced_with, effect_by, load_value, memory_after, applied, Lock, Entry, Committed, NotLocked, HasBegun, HasRead, HardwareThread, Machine, with_thread, with_word, with_buffer, with_progress, Step, read, write, flush, move, mfence, lock, locked_read, locked_write, unlock, each-at, append-nil}
+use Rattle.abstract_machine.proofs.Vocabulary.{◌≡◌, ◌<◌, ℕ, ◌+◌, suc, List, [], ◌∷◌, ◌++◌, length, map, Some, None, slice_get, slice_set, slice_index, arith, ap, sym, ◌∙◌, refl, subst, Litmus, action_of, CoreState, State, Effect, advanced_with, effect_by, load_value, memory_after, applied, Lock, Entry, Committed, NotLocked, HasBegun, HasRead, HardwareThread, Machine, with_thread, with_write, with_buffer, with_progress, ThreadStep, read, write, flush, move, mfence, lock, locked_read, locked_write, unlock, each-at, append-nil}
 use Rattle.abstract_machine.proofs.Lists.{map-set, map-get, set-get, set-set, set-same, not-empty, within}
 use Rattle.abstract_machine.proofs.Reading.{was-read, flush-leaves}
 use Rattle.abstract_machine.proofs.States.{thread}
@@ -28,11 +28,11 @@ own-applied state p f h k o a b c =
 own-flush : Nexts → (t : Litmus) (n : ℕ) (given : List Entry) (state : State) (commits : List Entry) (p : ℕ) (s : CoreState)
     (h k : HardwareThread) (waits : List Entry) (w : Entry) (rest : List Entry) → Base t n state commits → slice_get state.cores p ≡ Some s
     → s.pending ≡ w ∷ rest → Joins given commits waits → Tied t (memory_after (w ∷ []) state.memory) p (drained s rest) k waits
-    → Tracks t n (given ++ (w ∷ [])) (with_thread (with_word (locked_by state p h) w) p k)
+    → Tracks t n (given ++ (w ∷ [])) (with_thread (with_write (locked_by state p h) w) p k)
 own-flush next t n given state commits p s h k waits w rest b g is j tied =
     let plain = oldest-store t n state commits p s w rest b g is in
     subst (λ z. Tracks t n (given ++ (w ∷ [])) z)
-    (own-applied state p (draining s w rest) h k (with_thread (with_word (locked_by state p h) w) p k) (rw plain.0 refl) refl refl)
+    (own-applied state p (draining s w rest) h k (with_thread (with_write (locked_by state p h) w) p k) (rw plain.0 refl) refl refl)
     (held (applied state p (draining s w rest)) (commits ++ (w ∷ [])) p (drained s rest) k waits
     (base-drain next t n state commits p s w rest b g is)
     (set-get state.cores p (drained s rest) (within state.cores p s g)) tied
@@ -52,7 +52,7 @@ load-kept t n state commits p s w rest loc b g is =
 begun-step : Nexts → (t : Litmus) (n : ℕ) (given : List Entry) (state : State) (commits : List Entry) (p : ℕ) (s : CoreState)
     (es : List Entry) (o : Machine) → Base t n state commits → slice_get state.cores p ≡ Some s → InLock t p s.place
     → Joins given commits []
-    → Step t (locked_by state p (with_progress (thread s) HasBegun)) p (with_progress (thread s) HasBegun) es o
+    → ThreadStep t (locked_by state p (with_progress (thread s) HasBegun)) p (with_progress (thread s) HasBegun) es o
     → Tracks t n (given ++ es) o
 begun-step next t n given state commits p s _ _ b g k j (read reg loc v st free can) = absurd (let q = st.so_far in let z : ⊥ = cc in z)
 begun-step next t n given state commits p s _ _ b g k j (write loc operand st) = absurd (let q = st.so_far in let z : ⊥ = cc in z)
@@ -80,7 +80,7 @@ begun-step next t n given state commits p s _ _ b g k j (locked_read loc reg upd
 read-step : Nexts → (t : Litmus) (n : ℕ) (given : List Entry) (state : State) (commits : List Entry) (p : ℕ) (s : CoreState)
     (k : InLock t p s.place) (v : ℕ) (es : List Entry) (o : Machine) → Base t n state commits → slice_get state.cores p ≡ Some s
     → load_value state.memory s k.loc.0 ≡ v → Joins given commits (load_part t p s k v ∷ [])
-    → Step t (locked_by state p (with_progress (thread s) (HasRead v))) p (with_progress (thread s) (HasRead v)) es o
+    → ThreadStep t (locked_by state p (with_progress (thread s) (HasRead v))) p (with_progress (thread s) (HasRead v)) es o
     → Tracks t n (given ++ es) o
 read-step next t n given state commits p s k v _ _ b g e j (read reg loc u st free can) = absurd (let q = st.so_far in let z : ⊥ = cc in z)
 read-step next t n given state commits p s k v _ _ b g e j (write loc operand st) = absurd (let q = st.so_far in let z : ⊥ = cc in z)
@@ -117,11 +117,11 @@ own-leaves : Nexts → (t : Litmus) (n : ℕ) (given : List Entry) (state : Stat
     (k : InLock t p s.place) (v : ℕ) → Base t n state commits → slice_get state.cores p ≡ Some s → load_value state.memory s k.loc.0 ≡ v
     → Joins given commits (load_part t p s k v ∷ []) → s.pending ≡ []
     → Tracks t n (given ++ (store_part t p s k v ∷ []))
-    (with_thread (with_word (locked_by state p (writer t p s k v)) (store_part t p s k v)) p (with_buffer (writer t p s k v) []))
+    (with_thread (with_write (locked_by state p (writer t p s k v)) (store_part t p s k v)) p (with_buffer (writer t p s k v) []))
 own-leaves next t n given state commits p s k v b g e j none =
     subst (λ z. Tracks t n (given ++ (store_part t p s k v ∷ [])) z)
     (own-applied state p f (writer t p s k v) (leaver s.place after.registers)
-    (with_thread (with_word (locked_by state p (writer t p s k v)) (store_part t p s k v)) p (with_buffer (writer t p s k v) []))
+    (with_thread (with_write (locked_by state p (writer t p s k v)) (store_part t p s k v)) p (with_buffer (writer t p s k v) []))
     refl refl refl)
     (held (applied state p f) (commits ++ f.commits) p after (leaver s.place after.registers) []
     (base-step next t n state commits p s k.instruction (Lock k.loc k.reg k.update) b g k.is k.does f made
@@ -150,7 +150,7 @@ own-leaves next t n given state commits p s k v b g e j none =
 written-step : Nexts → (t : Litmus) (n : ℕ) (given : List Entry) (state : State) (commits : List Entry) (p : ℕ) (s : CoreState)
     (k : InLock t p s.place) (v : ℕ) (es : List Entry) (o : Machine) → Base t n state commits → slice_get state.cores p ≡ Some s
     → load_value state.memory s k.loc.0 ≡ v → Joins given commits (load_part t p s k v ∷ [])
-    → Step t (locked_by state p (writer t p s k v)) p (writer t p s k v) es o → Tracks t n (given ++ es) o
+    → ThreadStep t (locked_by state p (writer t p s k v)) p (writer t p s k v) es o → Tracks t n (given ++ es) o
 written-step next t n given state commits p s k v _ _ b g e j (read reg loc u st free can) =
     absurd (let q = st.so_far in let z : ⊥ = cc in z)
 written-step next t n given state commits p s k v _ _ b g e j (write loc operand st) = absurd (let q = st.so_far in let z : ⊥ = cc in z)
@@ -172,7 +172,7 @@ written-step next t n given state commits p s k v _ _ b g e j (flush w rest free
     y = store_part t p s k v
 
     flushed : Entry → List Entry → Machine
-    flushed w rest = with_thread (with_word (locked_by state p h) w) p (with_buffer h rest)
+    flushed w rest = with_thread (with_write (locked_by state p h) w) p (with_buffer h rest)
 
     go : (q : List Entry) → s.pending ≡ q → q ++ (y ∷ []) ≡ w ∷ rest → Tracks t n (given ++ (w ∷ [])) (flushed w rest)
     go [] none a =
@@ -193,7 +193,7 @@ written-step next t n given state commits p s k v _ _ b g e j (flush w rest free
 
 left-step : (t : Litmus) (n : ℕ) (given : List Entry) (state : State) (commits : List Entry) (p : ℕ) (s : CoreState) (place : ℕ)
     (es : List Entry) (o : Machine) → Base t n state commits → slice_get state.cores p ≡ Some s → s.pending ≡ [] → s.place ≡ place + 1
-    → Joins given commits [] → Step t (locked_by state p (leaver place s.registers)) p (leaver place s.registers) es o
+    → Joins given commits [] → ThreadStep t (locked_by state p (leaver place s.registers)) p (leaver place s.registers) es o
     → Tracks t n (given ++ es) o
 left-step t n given state commits p s place _ _ b g a c j (read reg loc v st free can) = absurd (let q = st.so_far in let z : ⊥ = cc in z)
 left-step t n given state commits p s place _ _ b g a c j (write loc operand st) = absurd (let q = st.so_far in let z : ⊥ = cc in z)
@@ -220,7 +220,7 @@ left-step t n given state commits p s place _ _ b g a c j (unlock q l e) =
 
 pub own-step : Nexts → (t : Litmus) (n : ℕ) (given : List Entry) (state : State) (commits : List Entry) (p : ℕ) (s : CoreState)
     (h : HardwareThread) (waits es : List Entry) (o : Machine) → Base t n state commits → slice_get state.cores p ≡ Some s
-    → Tied t state.memory p s h waits → Joins given commits waits → Step t (locked_by state p h) p h es o → Tracks t n (given ++ es) o
+    → Tied t state.memory p s h waits → Joins given commits waits → ThreadStep t (locked_by state p h) p h es o → Tracks t n (given ++ es) o
 own-step next t n given state commits p s _ _ es o b g (begun k) j st = begun-step next t n given state commits p s es o b g k j st
 own-step next t n given state commits p s _ _ es o b g (has_read k v e) j st =
     read-step next t n given state commits p s k v es o b g e j st

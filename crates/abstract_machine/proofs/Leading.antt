@@ -1,5 +1,5 @@
 -- A run of the flat machine that ends the test is followed by one of the abstract machine that ends it too.
-use Rattle.abstract_machine.proofs.Vocabulary.{◌≡◌, ◌<◌, ◌≤◌, ◌==◌, ℕ, ◌+◌, zero, suc, Bool, true, false, List, [], ◌∷◌, ◌++◌, length, None, Some, slice_get, slice_index_or, arith, sym, ◌∙◌, refl, subst, if◌then◌else◌, append_assoc, nat_tests, Litmus, IsTest, IsAdjacent, IsTsoExecution, CoreState, State, is_none_pending, program_of, chosen, effect_of, after_choice, started, start, is_done, all_done, has_ended, Run, resting, then_run, run_from, run, CoresExist, Instr, Entry, Choice, needed, choices_along, LeadTo, Machine, Runs, rests, goes_on, IsFinished, HasEnded, IsReachedFreely, and-left, and-right, Each}
+use Rattle.abstract_machine.proofs.Vocabulary.{◌≡◌, ◌<◌, ◌≤◌, ◌==◌, ℕ, ◌+◌, zero, suc, Bool, true, false, List, [], ◌∷◌, ◌++◌, length, None, Some, slice_get, slice_index_or, arith, sym, ◌∙◌, refl, subst, if◌then◌else◌, append_assoc, nat_tests, Litmus, IsTest, IsAdjacent, IsTsoExecution, CoreState, State, is_none_pending, program_of, chosen, effect_of, after_choice, started, start, is_done, all_done, has_ended, Run, resting, then_run, run_from, run, CoresExist, Instr, Entry, Choice, needed, choices_along, LeadTo, Machine, Runs, rests, goes_on, IsFinished, AllAreFinished, IsReachedFreely, and-left, and-right, Each}
 use Rattle.abstract_machine.proofs.Together.{already-together}
 use Rattle.abstract_machine.proofs.Lists.{get-map, length-set}
 use Rattle.abstract_machine.proofs.States.{thread, lifted, first-lifted, first-size}
@@ -73,7 +73,7 @@ done-finished t p s h =
       buffer = none-is s.pending (and-right (length (program_of t p) == s.place) (is_none_pending s.pending) h);
     }
 
-ended-has : (t : Litmus) (state : State) → has_ended t state ≡ true → HasEnded t (lifted state)
+ended-has : (t : Litmus) (state : State) → has_ended t state ≡ true → AllAreFinished t (lifted state)
 ended-has t state e p h g =
     let x = get-map thread state.cores p h g in
     subst (λ z. IsFinished t p z) x.2 (done-finished t p x.0 (done-at t.programs state.cores p x.0 e x.1))

@@ -1,5 +1,5 @@
 -- One step of a thread in any machine, rule by rule, against the lock.
-use Rattle.abstract_machine.proofs.Vocabulary.{◌≡◌, ◌≢◌, ℕ, zero, suc, List, [], ◌∷◌, ◌++◌, Some, None, slice_get, slice_set, ap, sym, ◌∙◌, refl, ◌⊎◌, inl, inr, Litmus, Entry, NotLocked, HasWritten, HardwareThread, Machine, IsNotBlocked, with_buffer, Step, read, write, flush, move, mfence, lock, locked_read, locked_write, unlock, IsBlocked, KeepsBuffer, ReadsAndFlushesNothing, Unlocks, append-nil}
+use Rattle.abstract_machine.proofs.Vocabulary.{◌≡◌, ◌≢◌, ℕ, zero, suc, List, [], ◌∷◌, ◌++◌, Some, None, slice_get, slice_set, ap, sym, ◌∙◌, refl, ◌⊎◌, inl, inr, Litmus, Entry, NotLocked, HasWritten, HardwareThread, Machine, IsNotBlocked, with_buffer, ThreadStep, read, write, flush, move, mfence, lock, locked_read, locked_write, unlock, IsBlocked, KeepsBuffer, ReadsAndFlushesNothing, Unlocks, append-nil}
 
 -- what stands at a place that was written
 put : (xs : List HardwareThread) (p : ℕ) (h after : HardwareThread) → slice_get (slice_set xs p h) p ≡ Some after → h ≡ after
@@ -21,7 +21,7 @@ pub silent : (m : Machine) (p : ℕ) (h next : HardwareThread) → KeepsBuffer h
 silent m p h next k after e = rw (← put m.threads p next after e) k
 
 pub blocked-waits : (t : Litmus) (m : Machine) (p : ℕ) (h : HardwareThread) (es : List Entry) (o : Machine)
-    → IsBlocked m p → Step t m p h es o → ReadsAndFlushesNothing m p h es o
+    → IsBlocked m p → ThreadStep t m p h es o → ReadsAndFlushesNothing m p h es o
 blocked-waits t m p h _ _ b (read reg loc v st free can) = absurd (blocked-not m p b free)
 blocked-waits t m p h _ _ b (write loc operand st) =
     record { given = inl refl; memory = refl; buffer = silent m p h _ (_, refl); lock = refl }
@@ -37,7 +37,7 @@ blocked-waits t m p h _ _ b (locked_write loc reg update v st) =
 blocked-waits t m p h _ _ b (unlock q l e) = absurd (blocked-not m p b (inr l))
 
 pub held-stays : (t : Litmus) (m : Machine) (p : ℕ) (h : HardwareThread) (es : List Entry) (o : Machine) (q : ℕ)
-    → Step t m p h es o → m.lock ≡ Some q → (o.lock ≡ Some q) ⊎ Unlocks m p h o
+    → ThreadStep t m p h es o → m.lock ≡ Some q → (o.lock ≡ Some q) ⊎ Unlocks m p h o
 held-stays t m p h _ _ q (read reg loc v st free can) is = inl is
 held-stays t m p h _ _ q (write loc operand st) is = inl is
 held-stays t m p h _ _ q (flush w rest free e) is = inl is
@@ -49,7 +49,7 @@ held-stays t m p h _ _ q (locked_write loc reg update v st) is = inl is
 held-stays t m p h _ _ q (unlock w l e) is = inr (record { holder = l; drained = e; free = refl })
 
 pub free-stays : (t : Litmus) (m : Machine) (p : ℕ) (h : HardwareThread) (es : List Entry) (o : Machine)
-    → Step t m p h es o → m.lock ≡ None → (o.lock ≡ None) ⊎ (o.lock ≡ Some p)
+    → ThreadStep t m p h es o → m.lock ≡ None → (o.lock ≡ None) ⊎ (o.lock ≡ Some p)
 free-stays t m p h _ _ (read reg loc v st free can) is = inl is
 free-stays t m p h _ _ (write loc operand st) is = inl is
 free-stays t m p h _ _ (flush w rest free e) is = inl is
@@ -61,7 +61,7 @@ free-stays t m p h _ _ (locked_write loc reg update v st) is = inl is
 free-stays t m p h _ _ (unlock w l e) is = inl refl
 
 pub end-unlocks : (t : Litmus) (m : Machine) (p : ℕ) (h : HardwareThread) (es : List Entry) (o : Machine) (after : HardwareThread)
-    → Step t m p h es o → h.progress ≡ HasWritten → slice_get o.threads p ≡ Some after → after.progress ≡ NotLocked → Unlocks m p h o
+    → ThreadStep t m p h es o → h.progress ≡ HasWritten → slice_get o.threads p ≡ Some after → after.progress ≡ NotLocked → Unlocks m p h o
 end-unlocks t m p h _ _ after (read reg loc v st free can) is at ends = absurd (let q = st.so_far in let z : ⊥ = cc in z)
 end-unlocks t m p h _ _ after (write loc operand st) is at ends = absurd (let q = st.so_far in let z : ⊥ = cc in z)
 end-unlocks t m p h _ _ after (flush w rest free e) is at ends =

@@ -1,5 +1,5 @@
 -- A run of the abstract machine that ends the test leads to a state of the flat machine that has ended it too.
-use Rattle.abstract_machine.proofs.Vocabulary.{◌≡◌, ◌<◌, ℕ, suc, true, List, [], ◌∷◌, ◌++◌, length, map, None, Some, slice_get, slice_set, slice_index_or, arith, ap, sym, ◌∙◌, refl, inl, inr, subst, append_assoc, Litmus, IsTest, IsTsoExecution, final_words, final_registers, CoreState, State, program_of, registers_in, start, is_done, all_done, has_ended, run, put_together, Instr, Entry, Choice, IsPossible, End, IsExecution, StopsAtTheEnd, HardwareThread, Machine, first, Step, Runs, rests, goes_on, IsFinished, HasEnded, registers_of, EndsWith, decide, test-true, append-nil}
+use Rattle.abstract_machine.proofs.Vocabulary.{◌≡◌, ◌<◌, ℕ, suc, true, List, [], ◌∷◌, ◌++◌, length, map, None, Some, slice_get, slice_set, slice_index_or, arith, ap, sym, ◌∙◌, refl, inl, inr, subst, append_assoc, Litmus, IsTest, IsTsoExecution, final_words, final_registers, CoreState, State, program_of, registers_in, start, is_done, all_done, has_ended, run, put_together, Instr, Entry, Choice, IsPossible, End, IsExecution, StopsAtTheEnd, HardwareThread, Machine, first, ThreadStep, Runs, rests, goes_on, IsFinished, AllAreFinished, registers_of_threads, EndsWith, decide, test-true, append-nil}
 use Rattle.abstract_machine.proofs.Lists.{map-get, map-map, set-get, within}
 use Rattle.abstract_machine.proofs.States.{thread, lifted, first-lifted}
 use Rattle.abstract_machine.proofs.FlatStates.{Nexts, HasRoom, IsKnown, test-room, test-known, first-base}
@@ -12,7 +12,7 @@ within-threads : (state : State) (p : ℕ) (s : CoreState) → slice_get state.c
 within-threads state p s g = within (map thread state.cores) p (thread s) (map-get thread state.cores p s g)
 
 track-step : Nexts → (t : Litmus) (n : ℕ) → HasRoom t n → IsKnown t → (given : List Entry) (m : Machine) (q : ℕ) (h : HardwareThread)
-    (es : List Entry) (o : Machine) → Tracks t n given m → slice_get m.threads q ≡ Some h → Step t m q h es o → Tracks t n (given ++ es) o
+    (es : List Entry) (o : Machine) → Tracks t n given m → slice_get m.threads q ≡ Some h → ThreadStep t m q h es o → Tracks t n (given ++ es) o
 track-step next t n room known given _ q h es o (unheld state commits b j) get st =
     open-step next t n room known given state commits q h es o b j get st
 track-step next t n room known given _ q h es o (held state commits p s k waits b g tied j) get st = elim (decide p q) [
@@ -27,7 +27,7 @@ track-step next t n room known given _ q h es o (held state commits p s k waits 
         subst (λ z. slice_get (slice_set (map thread state.cores) p k) z ≡ Some h) (sym same) get in
         let is : h ≡ k = cc in
         own-step next t n given state commits p s k waits es o b g tied j
-        (subst (λ z. Step t (locked_by state p k) p z es o) is (subst (λ z. Step t (locked_by state p k) z h es o) (sym same) st))
+        (subst (λ z. ThreadStep t (locked_by state p k) p z es o) is (subst (λ z. ThreadStep t (locked_by state p k) z h es o) (sym same) st))
 
 track-run : Nexts → (t : Litmus) (n : ℕ) → HasRoom t n → IsKnown t → (given : List Entry) (m : Machine) (es : List Entry) (o : Machine)
     → Tracks t n given m → Runs t m es o → Tracks t n (given ++ es) o
@@ -69,7 +69,7 @@ record Ends (t : Litmus) (n : ℕ) (given : List Entry) (m : Machine) : Type 0 w
   ended : has_ended t state ≡ true
   is : lifted state ≡ m
 
-ends : (t : Litmus) (n : ℕ) (given : List Entry) (m : Machine) → Tracks t n given m → HasEnded t m → Ends t n given m
+ends : (t : Litmus) (n : ℕ) (given : List Entry) (m : Machine) → Tracks t n given m → AllAreFinished t m → Ends t n given m
 ends t n given _ (unheld state commits b j) end =
     let same : put_together given ≡ commits = ap put_together (sym (append-nil given)) ∙ j [] ∙ append-nil commits in
     record {
@@ -96,7 +96,7 @@ Executions = (t : Litmus) (depth : ℕ) (choices : List Choice) → IsTest t →
 pub record Returned (t : Litmus) (order : List Entry) (m : Machine) : Type 0 where
   pub order_is : IsTsoExecution t order
   pub memory : m.memory ≡ final_words t order
-  pub registers : registers_of m ≡ final_registers t order
+  pub registers : registers_of_threads m ≡ final_registers t order
 
 possible-returned : Stops → Executions → (t : Litmus) (depth : ℕ) (order : List Entry) (state : State) → IsTest t
     → IsPossible t depth order state → has_ended t state ≡ true → Returned t order (lifted state)

@@ -1,6 +1,6 @@
 -- How far a run of the flat machine has come where the abstract machine stands: a locked instruction is made when its write
 -- leaves the buffer.
-use Rattle.abstract_machine.proofs.Vocabulary.{◌≡◌, ◌≢◌, ℕ, ◌+◌, List, [], ◌∷◌, ◌++◌, map, Option, Some, None, slice_get, slice_set, ap, sym, ◌∙◌, refl, inl, inr, subst, Litmus, action_of, entry, value_in, with_value, updated, CoreState, State, load_value, program_of, memory_after, applied, Reg, Loc, Instr, Update, Lock, Entry, LR, LW, HasBegun, HasRead, HasWritten, HardwareThread, Machine, IsNotBlocked, with_progress, Step, read, write, flush, move, mfence, lock, locked_read, locked_write, unlock, append-nil}
+use Rattle.abstract_machine.proofs.Vocabulary.{◌≡◌, ◌≢◌, ℕ, ◌+◌, List, [], ◌∷◌, ◌++◌, map, Option, Some, None, slice_get, slice_set, ap, sym, ◌∙◌, refl, inl, inr, subst, Litmus, action_of, entry, value_in, with_value, updated, CoreState, State, load_value, program_of, memory_after, applied, Reg, Loc, Instr, Update, Lock, Entry, LR, LW, HasBegun, HasRead, HasWritten, HardwareThread, Machine, IsNotBlocked, with_progress, ThreadStep, read, write, flush, move, mfence, lock, locked_read, locked_write, unlock, append-nil}
 use Rattle.abstract_machine.proofs.Lists.{map-set, get-map, get-other, set-apart}
 use Rattle.abstract_machine.proofs.States.{thread, lifted}
 use Rattle.abstract_machine.proofs.Joining.{Joins, plain-joins}
@@ -70,11 +70,11 @@ machine-is o memory threads l a b c = rw (a, b, c) refl
 
 pub open-step : Nexts → (t : Litmus) (n : ℕ) → HasRoom t n → IsKnown t → (given : List Entry) (state : State) (commits : List Entry) (q : ℕ)
     (h : HardwareThread) (es : List Entry) (o : Machine) → Base t n state commits → Joins given commits []
-    → slice_get (map thread state.cores) q ≡ Some h → Step t (lifted state) q h es o → Tracks t n (given ++ es) o
+    → slice_get (map thread state.cores) q ≡ Some h → ThreadStep t (lifted state) q h es o → Tracks t n (given ++ es) o
 open-step next t n room known given state commits q h es o b j get st =
     let x = get-map thread state.cores q h get in
     go x.0 x.1 (thread-does next t n room known state commits q x.0 (lifted state) es o b x.1 refl
-    (subst (λ z. Step t (lifted state) q z es o) (sym x.2) st))
+    (subst (λ z. ThreadStep t (lifted state) q z es o) (sym x.2) st))
   where
     go : (s : CoreState) → slice_get state.cores q ≡ Some s → Does t n state commits q s (lifted state) es o → Tracks t n (given ++ es) o
     go s g (acts f c plain mem thr lck) =
@@ -92,7 +92,7 @@ open-step next t n room known given state commits q h es o b j get st =
 
 -- a blocked thread leaves memory
 blocked-keeps : (t : Litmus) (m : Machine) (q : ℕ) (h : HardwareThread) (es : List Entry) (o : Machine) → (IsNotBlocked m q → ⊥)
-    → Step t m q h es o → o.memory ≡ m.memory
+    → ThreadStep t m q h es o → o.memory ≡ m.memory
 blocked-keeps t m q h _ _ n (read reg loc v st free can) = refl
 blocked-keeps t m q h _ _ n (write loc operand st) = refl
 blocked-keeps t m q h _ _ n (flush w rest free is) = absurd (n free)
@@ -106,11 +106,11 @@ blocked-keeps t m q h _ _ n (unlock a b c) = refl
 pub other-step : Nexts → (t : Litmus) (n : ℕ) → HasRoom t n → IsKnown t → (given : List Entry) (state : State) (commits : List Entry)
     (p : ℕ) (s : CoreState) (h : HardwareThread) (waits : List Entry) (q : ℕ) (k : HardwareThread) (es : List Entry) (o : Machine) → p ≢ q
     → Base t n state commits → slice_get state.cores p ≡ Some s → Tied t state.memory p s h waits → Joins given commits waits
-    → slice_get (slice_set (map thread state.cores) p h) q ≡ Some k → Step t (locked_by state p h) q k es o → Tracks t n (given ++ es) o
+    → slice_get (slice_set (map thread state.cores) p h) q ≡ Some k → ThreadStep t (locked_by state p h) q k es o → Tracks t n (given ++ es) o
 other-step next t n room known given state commits p s h waits q k es o apart b at_p tied j get st =
     let x = get-map thread state.cores q k (sym (get-other (map thread state.cores) p q h apart) ∙ get) in
     go x.0 x.1 (thread-does next t n room known state commits q x.0 (locked_by state p h) es o b x.1 refl
-    (subst (λ z. Step t (locked_by state p h) q z es o) (sym x.2) st))
+    (subst (λ z. ThreadStep t (locked_by state p h) q z es o) (sym x.2) st))
   where
     blocked : IsNotBlocked (locked_by state p h) q → ⊥
     blocked (inl e) = let z : ⊥ = cc in z

@@ -1,5 +1,5 @@
 -- A step of a thread that isn't in a locked instruction: a choice of the flat machine, or the beginning of one.
-use Rattle.abstract_machine.proofs.Vocabulary.{◌≡◌, ℕ, ◌+◌, List, [], ◌∷◌, ◌++◌, filter, Some, None, slice_get, slice_set, slice_index, arith, ap, sym, ◌∙◌, refl, Litmus, entry, fence, value_of, writes_to, last_value, CoreState, State, Effect, advanced, advanced_with, memory_after, applied, Reg, Loc, Update, Store, Load, Move, Fence, Lock, Entry, R, W, Committed, Buffered, Moved, NotLocked, HasBegun, Machine, with_thread, with_lock, with_progress, StandsAt, Step, read, write, flush, move, mfence, lock, locked_read, locked_write, unlock, Each, each-append, each-at}
+use Rattle.abstract_machine.proofs.Vocabulary.{◌≡◌, ℕ, ◌+◌, List, [], ◌∷◌, ◌++◌, filter, Some, None, slice_get, slice_set, slice_index, arith, ap, sym, ◌∙◌, refl, Litmus, entry, fence, value_of, writes_to, last_value, CoreState, State, Effect, advanced, advanced_with, memory_after, applied, Reg, Loc, Update, Store, Load, Move, Fence, Lock, Entry, R, W, Committed, Buffered, Moved, NotLocked, HasBegun, Machine, with_thread, with_lock, with_progress, StandsAt, ThreadStep, read, write, flush, move, mfence, lock, locked_read, locked_write, unlock, Each, each-append, each-at}
 use Rattle.abstract_machine.proofs.Lists.{append-one}
 use Rattle.abstract_machine.proofs.Reading.{was-read}
 use Rattle.abstract_machine.proofs.States.{thread}
@@ -16,7 +16,7 @@ pub data Does (t : Litmus) (n : ℕ) (state : State) (commits : List Entry) (p :
 
 pub thread-does : Nexts → (t : Litmus) (n : ℕ) → HasRoom t n → IsKnown t → (state : State) (commits : List Entry) (p : ℕ) (s : CoreState)
     (m : Machine) (es : List Entry) (o : Machine) → Base t n state commits → slice_get state.cores p ≡ Some s → m.memory ≡ state.memory
-    → Step t m p (thread s) es o → Does t n state commits p s m es o
+    → ThreadStep t m p (thread s) es o → Does t n state commits p s m es o
 thread-does next t n room known state commits p s m _ _ b g same (read reg loc v st free can) =
     let sound = each-at (IsSound t) state.cores p s b.sound g in
     let q : v ≡ last_value (filter (writes_to loc.0) s.pending) (slice_index state.memory loc.0) =

@@ -6,8 +6,8 @@ pub use Rattle.tso_model.specs.FlatMachine.{CoreState, State, Effect, advanced_w
 pub use Rattle.tso_model.specs.declared.action.Action.TheVariants.{Lock, Store, Load, Move, Fence}
 pub use Rattle.tso_model.specs.declared.execution.Entry.{Entry}
 pub use Rattle.tso_model.specs.declared.choice.Outcome.TheVariants.{Committed, Buffered, Moved}
-pub use Rattle.abstract_machine.specs.Machine.{NotLocked, HasBegun, HasRead, HardwareThread, Machine, with_thread, with_word, with_buffer, with_progress, first, first_threads, HasWritten, IsNotBlocked, with_lock}
-pub use Rattle.abstract_machine.specs.Steps.{Step, read, write, flush, move, mfence, lock, locked_read, locked_write, unlock, Runs, rests, goes_on, CanRead, from_memory, from_buffer, StandsAt}
+pub use Rattle.abstract_machine.specs.Machine.{NotLocked, HasBegun, HasRead, HardwareThread, Machine, with_thread, with_write, with_buffer, with_progress, first, first_threads, HasWritten, IsNotBlocked, with_lock}
+pub use Rattle.abstract_machine.specs.Steps.{ThreadStep, read, write, flush, move, mfence, lock, locked_read, locked_write, unlock, Runs, rests, goes_on, CanRead, from_memory, from_buffer, StandsAt}
 pub use Rattle.basic_laws.proofs.Lists.{each-at, append-nil, Each, each-append}
 pub use Rattle.tso_model.specs.Axioms.{IsTsoExecution, last_value, IsAdjacent}
 pub use Rattle.tso_model.specs.FinalState.{final_words, final_registers}
@@ -18,7 +18,7 @@ pub use Rattle.tso_model.specs.declared.choice.Choice.{Choice}
 pub use Rattle.tso_laws.specs.Choices.{IsPossible}
 pub use Rattle.tso_laws.specs.EndedRuns.{End, IsExecution}
 pub use Rattle.tso_laws.specs.inner.Stopping.{StopsAtTheEnd}
-pub use Rattle.abstract_machine.specs.Ended.{IsFinished, HasEnded, registers_of, EndsWith, IsReachedFreely}
+pub use Rattle.abstract_machine.specs.Ended.{IsFinished, AllAreFinished, registers_of_threads, EndsWith, IsReachedFreely}
 pub use Rattle.basic_laws.proofs.Basics.{decide, test-true, test-false, max-within, and-left, and-right}
 pub use Rattle.std.specs.Prelude.{IfSome}
 pub use Rattle.std.proofs.lemmas.Bool.Decides.{nat_tests}

@@ -14,19 +14,19 @@ pub record IsFinished (t : Litmus) (p : ℕ) (h : HardwareThread) : Type 0 where
   pub buffer : h.buffer ≡ []
 
 -- the test has ended: every thread is finished
-abbrev pub HasEnded : Litmus → Machine → Type 0
-HasEnded t m = (p : ℕ) (h : HardwareThread) → slice_get m.threads p ≡ Some h → IsFinished t p h
+abbrev pub AllAreFinished : Litmus → Machine → Type 0
+AllAreFinished t m = (p : ℕ) (h : HardwareThread) → slice_get m.threads p ≡ Some h → IsFinished t p h
 
 -- the registers of each thread
-abbrev pub registers_of : Machine → List (List ℕ)
-registers_of m = map (λ h. h.registers) m.threads
+abbrev pub registers_of_threads : Machine → List (List ℕ)
+registers_of_threads m = map (λ h. h.registers) m.threads
 
 -- a run that ends the test in this machine, with this memory order: what its steps gave, the read of each locked instruction
 -- put directly before its write
 pub record EndsWith (t : Litmus) (order : List Entry) (m : Machine) : Type 0 where
   pub given : List Entry
   pub run : Runs t (first t) given m
-  pub ended : HasEnded t m
+  pub ended : AllAreFinished t m
   pub together : put_together given ≡ order
 
 -- some run ends the test with this order

@@ -42,8 +42,8 @@ abbrev pub with_lock : Machine → Option ℕ → Machine
 with_lock m lock = record { memory = m.memory; threads = m.threads; lock = lock }
 
 -- the value of this write in memory, at its location
-abbrev pub with_word : Machine → Entry → Machine
-with_word m w = record { memory = slice_set m.memory w.loc.0 w.value; threads = m.threads; lock = m.lock }
+abbrev pub with_write : Machine → Entry → Machine
+with_write m w = record { memory = slice_set m.memory w.loc.0 w.value; threads = m.threads; lock = m.lock }
 
 -- at the next instruction
 abbrev pub passed : HardwareThread → HardwareThread

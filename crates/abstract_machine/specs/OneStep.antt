@@ -11,7 +11,7 @@ use Rattle.tso_model.specs.declared.action.Update.{Update}
 use Rattle.tso_model.specs.declared.action.Action.TheVariants.{Store, Move, Lock}
 use Rattle.tso_model.specs.declared.execution.Entry.{Entry}
 use Rattle.abstract_machine.specs.Machine.{NotLocked, HasRead, HasWritten, HardwareThread, Machine}
-use Rattle.abstract_machine.specs.Steps.{StandsAt, Step}
+use Rattle.abstract_machine.specs.Steps.{StandsAt, ThreadStep}
 
 -- a thread is blocked where another one holds the lock
 abbrev pub IsBlocked : Machine → ℕ → Type 0
@@ -33,7 +33,7 @@ pub record ReadsAndFlushesNothing (m : Machine) (p : ℕ) (h : HardwareThread) (
 abbrev pub BlockedThreadsReadAndFlushNothing : Type 0
 BlockedThreadsReadAndFlushNothing =
     (t : Litmus) (m : Machine) (p : ℕ) (h : HardwareThread) (es : List Entry) (o : Machine)
-    → IsBlocked m p → Step t m p h es o → ReadsAndFlushesNothing m p h es o
+    → IsBlocked m p → ThreadStep t m p h es o → ReadsAndFlushesNothing m p h es o
 
 -- thread p, which was h, held the lock with its buffer empty, and nobody holds it any more
 pub record Unlocks (m : Machine) (p : ℕ) (h : HardwareThread) (o : Machine) : Type 0 where
@@ -45,18 +45,18 @@ pub record Unlocks (m : Machine) (p : ℕ) (h : HardwareThread) (o : Machine) : 
 -- the thread that makes the step takes it; and a locked instruction that has written ends with the unlocking alone
 pub record OnlyTheHolderUnlocks : Type 0 where
   pub held : (t : Litmus) (m : Machine) (p : ℕ) (h : HardwareThread) (es : List Entry) (o : Machine) (q : ℕ)
-      → Step t m p h es o → m.lock ≡ Some q → (o.lock ≡ Some q) ⊎ Unlocks m p h o
+      → ThreadStep t m p h es o → m.lock ≡ Some q → (o.lock ≡ Some q) ⊎ Unlocks m p h o
   pub free : (t : Litmus) (m : Machine) (p : ℕ) (h : HardwareThread) (es : List Entry) (o : Machine)
-      → Step t m p h es o → m.lock ≡ None → (o.lock ≡ None) ⊎ (o.lock ≡ Some p)
+      → ThreadStep t m p h es o → m.lock ≡ None → (o.lock ≡ None) ⊎ (o.lock ≡ Some p)
   pub ends : (t : Litmus) (m : Machine) (p : ℕ) (h : HardwareThread) (es : List Entry) (o : Machine) (after : HardwareThread)
-      → Step t m p h es o → h.progress ≡ HasWritten → slice_get o.threads p ≡ Some after → after.progress ≡ NotLocked
+      → ThreadStep t m p h es o → h.progress ≡ HasWritten → slice_get o.threads p ≡ Some after → after.progress ≡ NotLocked
       → Unlocks m p h o
 
 -- ---- what the rules leave free
 
 -- thread p, which is h, can make a step that gives nothing to the memory order and leaves memory and the lock as they were
 abbrev pub CanGoOn : Litmus → Machine → ℕ → HardwareThread → Type 0
-CanGoOn t m p h = (o : Machine) × Step t m p h [] o × (o.memory ≡ m.memory) × (o.lock ≡ m.lock)
+CanGoOn t m p h = (o : Machine) × ThreadStep t m p h [] o × (o.memory ≡ m.memory) × (o.lock ≡ m.lock)
 
 -- W: a store, and the write of a locked instruction, go to the write buffer at any time, blocked or not, whatever the buffer has;
 -- and a register is moved at any time
@@ -74,4 +74,4 @@ abbrev pub LockedInstructionsBeginWhateverTheBufferHas : Type 0
 LockedInstructionsBeginWhateverTheBufferHas =
     (t : Litmus) (m : Machine) (p : ℕ) (h : HardwareThread) (loc : Loc) (reg : Reg) (update : Update)
     → StandsAt t p h NotLocked (Lock loc reg update) → m.lock ≡ None
-    → (o : Machine) × Step t m p h [] o × (o.memory ≡ m.memory) × (o.lock ≡ Some p)
+    → (o : Machine) × ThreadStep t m p h [] o × (o.memory ≡ m.memory) × (o.lock ≡ Some p)

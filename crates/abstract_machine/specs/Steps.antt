@@ -15,7 +15,7 @@ use Rattle.tso_model.specs.declared.action.Action.TheVariants.{Store, Load, Move
 use Rattle.tso_model.specs.declared.execution.Entry.{Entry}
 use Rattle.tso_model.specs.declared.execution.Kind.TheVariants.{R, W, LR, LW}
 use Rattle.abstract_machine.specs.Machine.{Progress, NotLocked, HasBegun, HasRead, HasWritten, HardwareThread, Machine, IsNotBlocked}
-use Rattle.abstract_machine.specs.Machine.{with_thread, with_lock, with_word, passed, with_register, with_buffer, with_progress}
+use Rattle.abstract_machine.specs.Machine.{with_thread, with_lock, with_write, passed, with_register, with_buffer, with_progress}
 
 -- thread p stands at an instruction with this action, and is so far with it
 pub record StandsAt (t : Litmus) (p : ℕ) (h : HardwareThread) (progress : Progress) (action : Action) : Type 0 where
@@ -34,40 +34,40 @@ pub data CanRead (m : Machine) (h : HardwareThread) (loc : ℕ) : ℕ → Type 0
 
 -- a step of thread p, which is h, with the entries that it gives to the memory order: a read and a fence when they are made, a
 -- write when it leaves the buffer
-pub data Step (t : Litmus) (m : Machine) (p : ℕ) (h : HardwareThread) : List Entry → Machine → Type 0 where
+pub data ThreadStep (t : Litmus) (m : Machine) (p : ℕ) (h : HardwareThread) : List Entry → Machine → Type 0 where
   -- R: a load reads, where the thread is not blocked
   read : (reg : Reg) (loc : Loc) (v : ℕ) → StandsAt t p h NotLocked (Load reg loc) → IsNotBlocked m p → CanRead m h loc.0 v
-      → Step t m p h (entry p h.place R loc v ∷ []) (with_thread m p (passed (with_register h reg v)))
+      → ThreadStep t m p h (entry p h.place R loc v ∷ []) (with_thread m p (passed (with_register h reg v)))
   -- W: a store goes to the write buffer, at any time
   write : (loc : Loc) (operand : Operand) → StandsAt t p h NotLocked (Store loc operand)
-      → Step t m p h [] (with_thread m p (passed (with_buffer h
+      → ThreadStep t m p h [] (with_thread m p (passed (with_buffer h
       (h.buffer ++ (entry p h.place W loc (value_of h.registers operand) ∷ [])))))
   -- τ: the oldest write of the buffer goes to memory, silently, where the thread is not blocked
   flush : (w : Entry) (rest : List Entry) → IsNotBlocked m p → h.buffer ≡ w ∷ rest
-      → Step t m p h (w ∷ []) (with_thread (with_word m w) p (with_buffer h rest))
+      → ThreadStep t m p h (w ∷ []) (with_thread (with_write m w) p (with_buffer h rest))
   -- a register move, at any time
   move : (reg : Reg) (operand : Operand) → StandsAt t p h NotLocked (Move reg operand)
-      → Step t m p h [] (with_thread m p (passed (with_register h reg (value_of h.registers operand))))
+      → ThreadStep t m p h [] (with_thread m p (passed (with_register h reg (value_of h.registers operand))))
   -- F: a fence, where the buffer is empty
   mfence : StandsAt t p h NotLocked Fence → h.buffer ≡ []
-      → Step t m p h (fence p h.place ∷ []) (with_thread m p (passed h))
+      → ThreadStep t m p h (fence p h.place ∷ []) (with_thread m p (passed h))
   -- L: a locked instruction begins, where nobody holds the lock, whatever the buffer has; the thread holds it from then on
   lock : (loc : Loc) (reg : Reg) (update : Update) → StandsAt t p h NotLocked (Lock loc reg update) → m.lock ≡ None
-      → Step t m p h [] (with_lock (with_thread m p (with_progress h HasBegun)) (Some p))
+      → ThreadStep t m p h [] (with_lock (with_thread m p (with_progress h HasBegun)) (Some p))
   -- R: it reads, as a load does
   locked_read : (loc : Loc) (reg : Reg) (update : Update) (v : ℕ) → StandsAt t p h HasBegun (Lock loc reg update)
       → IsNotBlocked m p → CanRead m h loc.0 v
-      → Step t m p h (entry p h.place LR loc v ∷ []) (with_thread m p (with_progress h (HasRead v)))
+      → ThreadStep t m p h (entry p h.place LR loc v ∷ []) (with_thread m p (with_progress h (HasRead v)))
   -- W: it writes, as a store does, and its register takes the value that was read
   locked_write : (loc : Loc) (reg : Reg) (update : Update) (v : ℕ) → StandsAt t p h (HasRead v) (Lock loc reg update)
-      → Step t m p h [] (with_thread m p (with_progress (with_register (with_buffer h
+      → ThreadStep t m p h [] (with_thread m p (with_progress (with_register (with_buffer h
       (h.buffer ++ (entry p h.place LW loc (updated update v (value_in h.registers reg)) ∷ []))) reg v) HasWritten))
   -- U: it ends, where the thread holds the lock and its buffer is empty; nobody holds the lock then
   unlock : h.progress ≡ HasWritten → m.lock ≡ Some p → h.buffer ≡ []
-      → Step t m p h [] (with_lock (with_thread m p (passed h)) None)
+      → ThreadStep t m p h [] (with_lock (with_thread m p (passed h)) None)
 
 -- steps of the threads in any order, with all that they give to the memory order
 pub data Runs (t : Litmus) : Machine → List Entry → Machine → Type 0 where
   rests : (m : Machine) → Runs t m [] m
   goes_on : (m n o : Machine) (p : ℕ) (h : HardwareThread) (es fs : List Entry) → slice_get m.threads p ≡ Some h
-      → Step t m p h es n → Runs t n fs o → Runs t m (es ++ fs) o
+      → ThreadStep t m p h es n → Runs t n fs o → Runs t m (es ++ fs) o

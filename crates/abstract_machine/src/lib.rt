@@ -21,7 +21,7 @@ ghost use Rattle.tso_laws.specs.Counting.{most_stores};
 ghost use Rattle.tso_laws.specs.Reached.{IsReached};
 ghost use Rattle.tso_laws.specs.WorkedRuns.{short_order, turned_order, wrong_order};
 ghost use Rattle.abstract_machine.specs.Machine.{Machine};
-ghost use Rattle.abstract_machine.specs.Ended.{registers_of, EndsWith, IsReachedFreely};
+ghost use Rattle.abstract_machine.specs.Ended.{registers_of_threads, EndsWith, IsReachedFreely};
 ghost use Rattle.abstract_machine.specs.OneStep.{BlockedThreadsReadAndFlushNothing, OnlyTheHolderUnlocks};
 ghost use Rattle.abstract_machine.specs.OneStep.{StoresAndMovesAreMadeAtAnyTime, LockedInstructionsBeginWhateverTheBufferHas};
 
@@ -36,7 +36,7 @@ pub fn runs_of_the_abstract_machine_are_executions()
     ensures order { (t : Litmus) (order : List Entry) (m : Machine) → IsTest t → EndsWith t order m → IsTsoExecution t order }
     ensures memory { (t : Litmus) (order : List Entry) (m : Machine) → IsTest t → EndsWith t order m → m.memory ≡ final_words t order }
     ensures registers { (t : Litmus) (order : List Entry) (m : Machine) → IsTest t → EndsWith t order m
-        → registers_of m ≡ final_registers t order }
+        → registers_of_threads m ≡ final_registers t order }
 {
     choices_lead_from_state_to_state();
     runs_stop_where_they_end();

@@ -1,5 +1,5 @@
 -- How the programs' entry of an entry of the order is found, and which of the programs' entries came.
-use Rattle.axiom_checker.proofs.Vocabulary.{◌≡◌, ◌<◌, ◌≤◌, ℕ, ◌+◌, ◌*◌, suc, zero, List, length, Option, Some, None, slice_get, slice_index, slice_index_or, slice_set, replicate, true, false, arith, ap, sym, ◌∙◌, ◌⊎◌, inl, inr, subst, refl, cases_eq, false_from_ne_true, slice_get_within, slice_get-get_or, slice_get_cases, get_or-set_same, get_or-set_other, is_some, entry, rank, is_at, Entry, IsFirst, IsNowhere, NoneBefore, same_action, same_but_value, IsExtra, IsTwice, IsStray, IsMissing, kept_in, slot_of, Ascends, AreWithin, IsIndex, HasCome, HasNotCome, slots_of_a_core}
+use Rattle.axiom_checker.proofs.Vocabulary.{◌≡◌, ◌<◌, ◌≤◌, ℕ, ◌+◌, ◌*◌, suc, zero, List, length, Option, Some, None, slice_get, slice_index, slice_index_or, slice_set, replicate, true, false, arith, ap, sym, ◌∙◌, ◌⊎◌, inl, inr, subst, refl, cases_eq, false_from_ne_true, slice_get_within, slice_get-get_or, slice_get_cases, get_or-set_same, get_or-set_other, is_some, entry, rank, is_at, Entry, IsFirst, IsNowhere, NoneBefore, same_action, same_but_value, IsExtra, IsTwice, IsStray, IsMissing, kept_in, slot_of, Ascends, EntriesAreWithin, IsIndex, HasCome, HasNotCome, slots_of_a_core}
 use Rattle.axiom_checker.proofs.Firsts.{some-is, same_or_below, at-place}
 use Rattle.axiom_checker.proofs.Actions.{SameAction, same-parts, same-from, same-turned, same_but_value-parts, entry-is, NoneTwice, same-rank}
 use Rattle.axiom_checker.proofs.Shapes.{AreAlike, alike-at}
@@ -157,7 +157,7 @@ pub index-none-twice : (list : List Entry) (slots : List (Option ℕ)) → IsInd
 index-none-twice list slots index i j x y l e f s = let q = one-index list slots index i j x y e f s in omega arith
 
 -- the table is filled from the front of the list
-module _ (list : List Entry) (cores locations : ℕ) (up : Ascends list) (all : AreWithin cores locations list) where
+module _ (list : List Entry) (cores locations : ℕ) (up : Ascends list) (all : EntriesAreWithin cores locations list) where
   -- the slot of the entry at a place of the list
   pub slot-bound : (i : ℕ) (d : Entry) (n size : ℕ) → i < length list → n ≡ slot_of (slice_index_or list i d) → size ≡ cores * slots_of_a_core → n < size
   slot-bound i d n size within is fits = let w = all i (slice_index_or list i d) (slice_get-get_or list i d within) in let c = w.core in let r = w.fits in omega arith

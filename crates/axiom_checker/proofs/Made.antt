@@ -1,6 +1,6 @@
 -- What the programs make, whatever their reads return: each entry precedes those after it, and all are within the limits of the
 -- test. With the order's own values it is what they make with the order.
-use Rattle.axiom_checker.proofs.Vocabulary.{◌≡◌, ◌<◌, ◌≤◌, ℕ, ◌+◌, ◌*◌, suc, zero, List, [], ◌∷◌, ◌++◌, length, length-append, Some, IfSome, slice_get, slice_index, slice_index_or, take, drop, if◌then◌else◌, Bool, true, false, All, arith, ap, sym, ◌∙◌, subst, refl, ◌⊎◌, inl, inr, cases_order, action_of, location_of, entries_by, entries_of, is_reading, reads_in, Litmus, KnownLocation, IsProgram, IsTest, values_by, read_values, made_from, made, Instr, Action, Store, Load, Move, Fence, Lock, Entry, rank, Each, each-append, each-at, reads_of_all, made_reading, Precedes, Ascends, IsWithin, AreWithin}
+use Rattle.axiom_checker.proofs.Vocabulary.{◌≡◌, ◌<◌, ◌≤◌, ℕ, ◌+◌, ◌*◌, suc, zero, List, [], ◌∷◌, ◌++◌, length, length-append, Some, IfSome, slice_get, slice_index, slice_index_or, take, drop, if◌then◌else◌, Bool, true, false, All, arith, ap, sym, ◌∙◌, subst, refl, ◌⊎◌, inl, inr, cases_order, action_of, location_of, entries_by, entries_of, is_reading, reads_in, Litmus, KnownLocation, IsProgram, IsTest, values_by, read_values, made_from, made, Instr, Action, Store, Load, Move, Fence, Lock, Entry, rank, Each, each-append, each-at, reads_of_all, made_reading, Precedes, Ascends, IsEntryWithin, EntriesAreWithin}
 use Rattle.std.proofs.Math.Seq.{take-append_seam}
 use Rattle.tso_model.specs.Limits.{most_instructions}
 use Rattle.axiom_checker.proofs.Actions.{same-rank, NoneTwice}
@@ -122,7 +122,7 @@ pub made-once : (t : Litmus) (order : List Entry) → NoneTwice (made t order)
 made-once t order i j x y l e f s = let q = one-at (made t order) (made-ascends t order) i j x y e f s.core (same-rank x y s) in omega arith
 
 -- all are within the limits of the test
-within-by : (cores n core place : ℕ) (a : Action) (registers : List ℕ) (word : ℕ) → core < cores → place < most_instructions → IfSome (location_of a) (λ loc. loc.0 < n) → Each (IsWithin cores n) (entries_by core place a registers word)
+within-by : (cores n core place : ℕ) (a : Action) (registers : List ℕ) (word : ℕ) → core < cores → place < most_instructions → IfSome (location_of a) (λ loc. loc.0 < n) → Each (IsEntryWithin cores n) (entries_by core place a registers word)
 within-by cores n core place (Store loc operand) registers word c p l = (record { core = c; fits = omega arith; known = λ _. l }, tt)
 within-by cores n core place (Load reg loc) registers word c p l = (record { core = c; fits = omega arith; known = λ w. absurd (let z : ⊥ = cc in z) }, tt)
 within-by cores n core place (Move reg operand) registers word c p l = tt
@@ -131,27 +131,27 @@ within-by cores n core place (Lock loc reg update) registers word c p l =
     (record { core = c; fits = omega arith; known = λ w. absurd (let z : ⊥ = cc in z) }, (record { core = c; fits = omega arith; known = λ _. l }, tt))
 
 entries-within : (cores n core place : ℕ) (program : List Instr) (registers values : List ℕ) → core < cores → place + length program ≤ most_instructions → All (KnownLocation n) program
-    → Each (IsWithin cores n) (entries_of core place program registers values)
+    → Each (IsEntryWithin cores n) (entries_of core place program registers values)
 entries-within cores n core place [] registers values c l h = tt
 entries-within cores n core place (i ∷ rest) registers values c l h =
-    each-append (IsWithin cores n) (entries_by core place (action_of i) registers (slice_index values 0)) _
+    each-append (IsEntryWithin cores n) (entries_by core place (action_of i) registers (slice_index values 0)) _
     (within-by cores n core place (action_of i) registers (slice_index values 0) c (omega arith) (all-first (KnownLocation n) i rest h))
     (entries-within cores n core (place + 1) rest _ _ c (omega arith) (all-rest (KnownLocation n) i rest h))
 
 programs-within : (cores n core : ℕ) (programs : List (List Instr)) (registers : List (List ℕ)) (reads : List ℕ) → core + length programs ≤ cores → All (IsProgram n) programs
-    → Each (IsWithin cores n) (made_reading core programs registers reads)
+    → Each (IsEntryWithin cores n) (made_reading core programs registers reads)
 programs-within cores n core [] registers reads l h = tt
 programs-within cores n core (p ∷ ps) registers reads l h =
     let first = all-first (IsProgram n) p ps h in
-    each-append (IsWithin cores n) (entries_of core 0 p (slice_index_or registers core []) (take (reads_in p) reads)) (made_reading (core + 1) ps registers (drop (reads_in p) reads))
+    each-append (IsEntryWithin cores n) (entries_of core 0 p (slice_index_or registers core []) (take (reads_in p) reads)) (made_reading (core + 1) ps registers (drop (reads_in p) reads))
     (entries-within cores n core 0 p (slice_index_or registers core []) (take (reads_in p) reads) (omega arith) (let s = first.size in omega arith) first.locations_known)
     (programs-within cores n (core + 1) ps registers (drop (reads_in p) reads) (omega arith) (all-rest (IsProgram n) p ps h))
 
-pub reading-within : (t : Litmus) → IsTest t → (reads : List ℕ) → AreWithin (length t.programs) (length t.locations) (made_reading 0 t.programs t.registers reads)
-reading-within t valid reads k e f = each-at (IsWithin (length t.programs) (length t.locations)) _ k e (programs-within (length t.programs) (length t.locations) 0 t.programs t.registers reads (omega arith) valid.programs_fit) f
+pub reading-within : (t : Litmus) → IsTest t → (reads : List ℕ) → EntriesAreWithin (length t.programs) (length t.locations) (made_reading 0 t.programs t.registers reads)
+reading-within t valid reads k e f = each-at (IsEntryWithin (length t.programs) (length t.locations)) _ k e (programs-within (length t.programs) (length t.locations) 0 t.programs t.registers reads (omega arith) valid.programs_fit) f
 
-pub made-within : (t : Litmus) (order : List Entry) → IsTest t → AreWithin (length t.programs) (length t.locations) (made t order)
-made-within t order valid = of-made (AreWithin (length t.programs) (length t.locations)) t order (reading-within t valid)
+pub made-within : (t : Litmus) (order : List Entry) → IsTest t → EntriesAreWithin (length t.programs) (length t.locations) (made t order)
+made-within t order valid = of-made (EntriesAreWithin (length t.programs) (length t.locations)) t order (reading-within t valid)
 
 -- so many reads there are at most
 program-few : (program : List Instr) → reads_in program ≤ length program

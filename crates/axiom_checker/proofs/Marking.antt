@@ -1,5 +1,5 @@
 -- How far each core has come in the front of an order, and which entries come late.
-use Rattle.axiom_checker.proofs.Vocabulary.{◌≡◌, ◌<◌, ◌≤◌, ℕ, ◌+◌, max, List, [], ◌∷◌, ◌++◌, length, Some, slice_get, slice_index, slice_set, take, filter, Bool, true, false, not, ◌&&◌, ◌==◌, nat_lt, cond, if◌then◌else◌, arith, ap, sym, ◌∙◌, ◌⊎◌, inl, inr, subst, refl, cases_eq, cases_Bool, eq-eqb, eqb-true, ne_eqb, and_from, and_parts, and_left, and_right, not_from_false, not_from_true, not-true, lt-ltb, ltb-true, ltb-false, cases_lt, get_or-set_same, get_or-set_other, take_more, slice_get_within, get_or_from_slice_get, is_before, may_be_passed, is_load, is_store, is_write, writes_to, max-left, max-right, max-first, max-second, by-rank, rank, last_value, Entry, must_stand_before, IsLate, reached, settled, written, is_late}
+use Rattle.axiom_checker.proofs.Vocabulary.{◌≡◌, ◌<◌, ◌≤◌, ℕ, ◌+◌, max, List, [], ◌∷◌, ◌++◌, length, Some, slice_get, slice_index, slice_set, take, filter, Bool, true, false, not, ◌&&◌, ◌==◌, nat_lt, cond, if◌then◌else◌, arith, ap, sym, ◌∙◌, ◌⊎◌, inl, inr, subst, refl, cases_eq, cases_Bool, eq-eqb, eqb-true, ne_eqb, and_from, and_parts, and_left, and_right, not_from_false, not_from_true, not-true, lt-ltb, ltb-true, ltb-false, cases_lt, get_or-set_same, get_or-set_other, take_more, slice_get_within, get_or_from_slice_get, is_before, may_be_passed, is_load, is_store, is_write, writes_to, max-left, max-right, max-first, max-second, by-rank, rank, last_value, Entry, must_stand_before, IsLate, reached, reached_but_for_loads, words_with, is_late}
 use Rattle.axiom_checker.proofs.Firsts.{same_or_below, at-place}
 use Rattle.axiom_checker.proofs.Finds.{last_value-append, filter-append}
 
@@ -68,7 +68,7 @@ all-reached order at marks x here within size are =
     marks-reached order at of_core marks x here within (eq-eqb x.core.0 x.core.0 refl) (λ c n. ne_eqb x.core.0 c n) size are
 
 pub all-settled : (order : List Entry) (at : ℕ) (marks : List ℕ) (x : Entry) → slice_get order at ≡ Some x → x.core.0 < length marks → length (reached marks x) ≡ length marks
-    → AreMarks order at past_loads marks → AreMarks order (at + 1) past_loads (settled marks x)
+    → AreMarks order at past_loads marks → AreMarks order (at + 1) past_loads (reached_but_for_loads marks x)
 all-settled order at marks x here within size are = elim (cases_Bool (is_load x)) [
   | inl load ↦
       subst (λ m. AreMarks order (at + 1) past_loads m) (sym (ap (λ b. if b then marks else reached marks x) load))
@@ -157,7 +157,7 @@ last-more order at loc word x here =
     one false w = refl
 
 pub words-written : (order : List Entry) (at : ℕ) (first words : List ℕ) (x : Entry) → slice_get order at ≡ Some x → (is_write x ≡ true → x.loc.0 < length words)
-    → AreWords order at first words → AreWords order (at + 1) first (written words x)
+    → AreWords order at first words → AreWords order (at + 1) first (words_with words x)
 words-written order at first words x here within are loc = elim (cases_Bool (is_write x)) [
   | inr isnt ↦
       ap (λ b. slice_index (if b then slice_set words x.loc.0 x.value else words) loc) isnt ∙ are loc

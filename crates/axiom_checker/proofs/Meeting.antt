@@ -1,5 +1,5 @@
 -- What the second pass has met among the entries so far.
-use Rattle.axiom_checker.proofs.Vocabulary.{◌≡◌, ◌≢◌, ◌<◌, ◌≤◌, ℕ, ◌+◌, suc, List, length, Option, Some, None, IfSome, IsNone, if◌then◌else◌, slice_get, slice_index, take, filter, Bool, true, false, arith, ap, sym, ◌∙◌, inl, inr, subst, refl, unwrap_or, slice_get-get_or, leb_tells, Litmus, is_read, is_write, writes_to, made, last_value, IsStorePart, Entry, LR, LW, NoneBefore, IsFirst, IsEarliest, IsWrongWrite, written_value, IsLate, IsSeparated, IsWrongRead, due_at, is_late, IsSource, IsFound, HasMet, IsFirstWrongWrite, IsFirstWrongRead, NamesWrongWrite, NamesWrongRead, IsDueFrom, AreOfPrograms, first_of, due_from, Met}
+use Rattle.axiom_checker.proofs.Vocabulary.{◌≡◌, ◌≢◌, ◌<◌, ◌≤◌, ℕ, ◌+◌, suc, List, length, Option, Some, None, IfSome, IsNone, if◌then◌else◌, slice_get, slice_index, take, filter, Bool, true, false, arith, ap, sym, ◌∙◌, inl, inr, subst, refl, unwrap_or, slice_get-get_or, leb_tells, Litmus, is_read, is_write, writes_to, made, last_value, IsStorePart, Entry, LR, LW, NoneBefore, IsFirst, IsEarliest, IsWrongWrite, written_value, IsLate, IsSeparated, IsWrongRead, due_at, is_late, IsSource, IsFound, HasMet, IsFirstWrongWrite, IsFirstWrongRead, NamesWrongWrite, NamesWrongRead, IsDueFrom, AreOfPrograms, first_of_two, due_from, Met}
 use Rattle.axiom_checker.proofs.Marking.{AreMarks, AreWords, of_core, past_loads, late-tells}
 use Rattle.axiom_checker.proofs.Following.{due-right}
 use Rattle.axiom_checker.proofs.Firsts.{one_more, none_in_nothing, same_or_below}
@@ -8,7 +8,7 @@ pub nothing-so-far : {X : Type 0} (list : List Entry) (Fact : ℕ → Entry → 
 nothing-so-far list Fact Names = record { named = tt; none = λ _. none_in_nothing list Fact }
 
 pub so-far-more : {X : Type 0} (list : List Entry) (Fact : ℕ → Entry → Type 0) (at : ℕ) (Names : X → Type 0) (x : Entry) (found next : Option X) → slice_get list at ≡ Some x
-    → (NoneBefore list Fact at → IfSome next Names) → (IsNone next → Fact at x → ⊥) → IsFound list Fact at Names found → IsFound list Fact (at + 1) Names (first_of found next)
+    → (NoneBefore list Fact at → IfSome next Names) → (IsNone next → Fact at x → ⊥) → IsFound list Fact at Names found → IsFound list Fact (at + 1) Names (first_of_two found next)
 so-far-more list Fact at Names x None next here names none so = record { named = names (so.none refl); none = λ n. one_more list Fact at x here (so.none refl) (none n) }
 so-far-more list Fact at Names x (Some y) next here names none so = record { named = so.named; none = λ n. absurd (let z : ⊥ = cc in z) }
 
@@ -22,14 +22,14 @@ module _ (t : Litmus) (order : List Entry) (at : ℕ) (x : Entry) (here : slice_
   first-here Fact y q f none = subst (λ z. IsFirst order Fact at z) (sym q) (record { stands = here; holds = f; earliest = none })
 
   wrote : (found next : Option (Entry × ℕ)) → IfSome next (NamesWrongWrite (made t order) x) → (IsNone next → ¬ IsWrongWrite (made t order) 0 x) → IsFound order (IsWrongWrite (made t order)) at (IsFirstWrongWrite t order) found
-      → IsFound order (IsWrongWrite (made t order)) (at + 1) (IsFirstWrongWrite t order) (first_of found next)
+      → IsFound order (IsWrongWrite (made t order)) (at + 1) (IsFirstWrongWrite t order) (first_of_two found next)
   wrote found next found_it never so =
       so-far-more order (IsWrongWrite (made t order)) at (IsFirstWrongWrite t order) x found next here
       (λ none. if-some _ _ next (λ v h. ((at, first-here (IsWrongWrite (made t order)) v.0 h.0 h.1 none), h.2 ∙ ap (λ y. written_value (made t order) y) (sym h.0))) found_it)
       never so
 
   after : (found : Option (ℕ × Entry)) (b : Bool) → (b ≡ true → IsLate order at x) → (b ≡ false → IsLate order at x → ⊥) → IsFound order (IsLate order) at (λ a. IsFirst order (IsLate order) a.0 a.1) found
-      → IsFound order (IsLate order) (at + 1) (λ a. IsFirst order (IsLate order) a.0 a.1) (first_of found (if b then Some (at, x) else None))
+      → IsFound order (IsLate order) (at + 1) (λ a. IsFirst order (IsLate order) a.0 a.1) (first_of_two found (if b then Some (at, x) else None))
   after found true found_it never so =
       so-far-more order (IsLate order) at (λ a. IsFirst order (IsLate order) a.0 a.1) x found (Some (at, x)) here
       (λ none. first-here (IsLate order) x refl (found_it refl) none) (λ n. absurd (let z : ⊥ = cc in z)) so
@@ -62,7 +62,7 @@ module _ (t : Litmus) (order : List Entry) (at : ℕ) (x : Entry) (here : slice_
 
   split : (found : Option Entry) (next : Entry) (now : Option Entry) → next ≡ unwrap_or (slice_get order (at + 1)) x → IfSome now (λ p. (p ≡ x) × (x.kind ≡ LR) × (IsStorePart x next → ⊥))
       → (IsNone now → x.kind ≡ LR → IsStorePart x next) → IsFound order (IsSeparated order) at (IsEarliest order (IsSeparated order)) found
-      → IsFound order (IsSeparated order) (at + 1) (IsEarliest order (IsSeparated order)) (first_of found now)
+      → IsFound order (IsSeparated order) (at + 1) (IsEarliest order (IsSeparated order)) (first_of_two found now)
   split found next now is found_it never so =
       so-far-more order (IsSeparated order) at (IsEarliest order (IsSeparated order)) x found now here
       (λ none. if-some _ _ now (λ p h. (at, first-here (IsSeparated order) p h.0 (separated-now next is h.1 h.2) none)) found_it)
@@ -70,7 +70,7 @@ module _ (t : Litmus) (order : List Entry) (at : ℕ) (x : Entry) (here : slice_
 
   read : (found now : Option (Entry × ℕ)) → IfSome now (λ w. (w.0 ≡ x) × (is_read x ≡ true) × (x.value ≢ w.1) × (w.1 ≡ due_at t order at x)) → (IsNone now → is_read x ≡ true → x.value ≡ due_at t order at x)
       → IsFound order (IsWrongRead t order) at (IsFirstWrongRead t order) found
-      → IsFound order (IsWrongRead t order) (at + 1) (IsFirstWrongRead t order) (first_of found now)
+      → IsFound order (IsWrongRead t order) (at + 1) (IsFirstWrongRead t order) (first_of_two found now)
   read found now found_it never so =
       so-far-more order (IsWrongRead t order) at (IsFirstWrongRead t order) x found now here
       (λ none. if-some _ _ now (λ w h. (at, first-here (IsWrongRead t order) w.0 h.0 (record { read = h.1; wrong = λ e. h.2 (e ∙ sym h.3) }) none, h.3 ∙ ap (λ y. due_at t order at y) (sym h.0))) found_it)
@@ -85,7 +85,7 @@ pub met-more : (t : Litmus) (order : List Entry) (at : ℕ) (x : Entry) → slic
     → (separated : Option Entry) → IfSome separated (λ p. (p ≡ x) × (x.kind ≡ LR) × (IsStorePart x next → ⊥)) → (IsNone separated → x.kind ≡ LR → IsStorePart x next)
     → (misread : Option (Entry × ℕ)) → IfSome misread (NamesWrongRead entries others words x)
     → (IsNone misread → is_read x ≡ true → IsDueFrom entries others words x x.value)
-    → (met now : Met) → now.wrong_write ≡ first_of met.wrong_write write → now.late ≡ first_of met.late late → now.separated ≡ first_of met.separated separated → now.wrong_read ≡ first_of met.wrong_read misread
+    → (met now : Met) → now.wrong_write ≡ first_of_two met.wrong_write write → now.late ≡ first_of_two met.late late → now.separated ≡ first_of_two met.separated separated → now.wrong_read ≡ first_of_two met.wrong_read misread
     → HasMet t order at met → HasMet t order (at + 1) now
 met-more t order at x here entries is all others words first same_words a o ws l m next next_is write w_found w_none late late_is separated p_found p_none misread r_found r_none met now e1 e2 e3 e4 so =
     let tells = late-tells order at all others x a o l m in
@@ -94,7 +94,7 @@ met-more t order at x here entries is all others words first same_words a o ws l
           subst (λ f. IsFound order (IsWrongWrite (made t order)) (at + 1) (IsFirstWrongWrite t order) f) (sym e1)
           (wrote t order at x here met.wrong_write write (subst (λ es. IfSome write (NamesWrongWrite es x)) is w_found) (subst (λ es. IsNone write → ¬ IsWrongWrite es 0 x) is w_none) so.wrong_write);
       late =
-          subst (λ f. IsFound order (IsLate order) (at + 1) (λ a. IsFirst order (IsLate order) a.0 a.1) f) (sym (e2 ∙ ap (λ n. first_of met.late n) late_is))
+          subst (λ f. IsFound order (IsLate order) (at + 1) (λ a. IsFirst order (IsLate order) a.0 a.1) f) (sym (e2 ∙ ap (λ n. first_of_two met.late n) late_is))
           (after t order at x here met.late (is_late all others x) tells.0 tells.1 so.late);
       separated =
           subst (λ f. IsFound order (IsSeparated order) (at + 1) (IsEarliest order (IsSeparated order)) f) (sym e3)
@@ -141,13 +141,13 @@ one-more-fails order p at x here none fails k y l f = elim (same_or_below k at l
   | inr b ↦ none k y b f
 ]
 
-late-here : (n at : ℕ) (x : Entry) → at < n → (found : Option (ℕ × Entry)) (b : Bool) → IfSome found (λ a. a.0 < n) → IfSome (first_of found (if b then Some (at, x) else None)) (λ a. a.0 < n)
+late-here : (n at : ℕ) (x : Entry) → at < n → (found : Option (ℕ × Entry)) (b : Bool) → IfSome found (λ a. a.0 < n) → IfSome (first_of_two found (if b then Some (at, x) else None)) (λ a. a.0 < n)
 late-here n at x l None true h = l
 late-here n at x l None false h = tt
 late-here n at x l (Some a) b h = h
 
-pub late-within : (n at : ℕ) (x : Entry) → at < n → (found late now : Option (ℕ × Entry)) (b : Bool) → late ≡ (if b then Some (at, x) else None) → now ≡ first_of found late → IfSome found (λ a. a.0 < n) → IfSome now (λ a. a.0 < n)
-late-within n at x l found late now b late_is now_is h = subst (λ o. IfSome o (λ a. a.0 < n)) (sym (now_is ∙ ap (λ o. first_of found o) late_is)) (late-here n at x l found b h)
+pub late-within : (n at : ℕ) (x : Entry) → at < n → (found late now : Option (ℕ × Entry)) (b : Bool) → late ≡ (if b then Some (at, x) else None) → now ≡ first_of_two found late → IfSome found (λ a. a.0 < n) → IfSome now (λ a. a.0 < n)
+late-within n at x l found late now b late_is now_is h = subst (λ o. IfSome o (λ a. a.0 < n)) (sym (now_is ∙ ap (λ o. first_of_two found o) late_is)) (late-here n at x l found b h)
 
 -- the marks and the words have a place for the entry
 pub core-within : (made : List Entry) (cores words : ℕ) (order : List Entry) → AreOfPrograms made cores words order → (at : ℕ) (x : Entry) → slice_get order at ≡ Some x → (marks : ℕ) → marks ≡ cores → x.core.0 < marks

@@ -25,12 +25,12 @@ pub use Rattle.axiom_checker.specs.FirstBreach.{IsFirstBreach}
 pub use Rattle.axiom_checker.specs.declared.breach.Breach.{Breach}
 pub use Rattle.axiom_checker.specs.declared.breach.Breach.TheVariants.{Extra, Twice, Missing, WrongValue, ProgramOrder, NotAdjacent, ReadValue, NoMemory}
 pub use Rattle.axiom_checker.specs.inner.Programs.{reads_of_all, made_reading, kept_in, reads_that_came}
-pub use Rattle.axiom_checker.specs.inner.Slots.{Precedes, Ascends, IsWithin, AreWithin, slot_of, IsIndex, HasCome, HasNotCome, slots_of_a_core, NamesStray}
+pub use Rattle.axiom_checker.specs.inner.Slots.{Precedes, Ascends, IsEntryWithin, EntriesAreWithin, slot_of, IsIndex, HasCome, HasNotCome, slots_of_a_core, NamesStray}
 pub use Rattle.std.proofs.lemmas.List.{map-append, get_or-set_same, get_or-set_other, take_more, get_or_push, get_or_append_left, at_drop_more, at_drop_all, length-set}
 pub use Rattle.std.specs.Option.{is_some, unwrap_or}
-pub use Rattle.axiom_checker.specs.inner.Progress.{reached, settled, written, is_late}
-pub use Rattle.axiom_checker.specs.inner.Sources.{own_write, noted_write, IsSource, IsLastOwn, HasSources}
+pub use Rattle.axiom_checker.specs.inner.Progress.{reached, reached_but_for_loads, words_with, is_late}
+pub use Rattle.axiom_checker.specs.inner.Sources.{own_write, noted_write, IsSource, IsLastOwn, TellsSources}
 pub use Rattle.std.proofs.lemmas.Bool.Decides.{leb_tells}
-pub use Rattle.axiom_checker.specs.inner.Passing.{due_from, IsFound, HasMet, IsFirstWrongWrite, IsFirstWrongRead, NamesWrongWrite, NamesWrongRead, IsDueFrom, AreOfPrograms, first_of, IsMatched}
+pub use Rattle.axiom_checker.specs.inner.Passing.{due_from, IsFound, HasMet, IsFirstWrongWrite, IsFirstWrongRead, NamesWrongWrite, NamesWrongRead, IsDueFrom, AreOfPrograms, first_of_two, IsMatched}
 pub use Rattle.axiom_checker.specs.declared.passing.Met.{Met}
 pub use Rattle.axiom_checker.specs.inner.FirstBreach.{TellsFirstBreach}

@@ -3,7 +3,7 @@
 ghost use Rattle.std.specs.Prelude.{◌≡◌, ◌*◌, ◌≤◌, length, IfOk, IfSome, IsNone, ℕ, slice_get, Some, true};
 ghost use Rattle.axiom_checker.specs.inner.Programs.{kept_in};
 ghost use Rattle.axiom_checker.specs.Entries.{same_but_value, IsExtra};
-ghost use Rattle.axiom_checker.specs.inner.Slots.{slot_of, Ascends, AreWithin, IsIndex};
+ghost use Rattle.axiom_checker.specs.inner.Slots.{slot_of, Ascends, EntriesAreWithin, IsIndex};
 ghost use Rattle.tso_model.specs.declared.execution.Entry.{Entry};
 
 use crate::entries::{is_same_but_value, rank};
@@ -32,7 +32,7 @@ pub fn kept<T: Copy>(table: &[Option<T>], at: usize) -> Option<T>
 /// Errors: out of memory only.
 pub fn index_of(alloc: Global, cores: u8, list: &[Entry]) -> Result<Vec<Option<usize>>, NoMemory>
     requires ascends { Ascends list.now }
-    requires within { (locations : ℕ) × AreWithin cores locations list.now }
+    requires within { (locations : ℕ) × EntriesAreWithin cores locations list.now }
     ensures { IfOk result (λ slots. IsIndex list.now slots.items) }
 {
     let mut slots = vec![in alloc; None; usize::from(cores) * SLOTS_OF_A_CORE]?;

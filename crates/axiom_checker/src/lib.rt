@@ -8,10 +8,10 @@
 
 mod arrivals;
 pub mod breach;
+pub mod breaches;
 mod check;
 mod entries;
 mod index;
-pub mod laws;
 mod passing;
 mod programs;
 mod progress;

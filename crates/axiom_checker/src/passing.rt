@@ -9,10 +9,10 @@ ghost use Rattle.axiom_checker.specs.First.{IsEarliest};
 ghost use Rattle.axiom_checker.specs.Entries.{IsExtra, IsWrongWrite};
 ghost use Rattle.axiom_checker.specs.AxiomBreaches.{Overtakes, IsLate};
 ghost use Rattle.axiom_checker.specs.inner.Slots.{IsIndex};
-ghost use Rattle.axiom_checker.specs.inner.Sources.{HasSources};
+ghost use Rattle.axiom_checker.specs.inner.Sources.{TellsSources};
 ghost use Rattle.tso_model.specs.declared.execution.Kind.TheVariants.{LR};
 ghost use Rattle.axiom_checker.specs.inner.Progress as progress;
-ghost use Rattle.axiom_checker.specs.inner.Passing.{AreOfPrograms, HasMetFor, IsDueFrom, NamesWrongWrite, NamesWrongRead, due_from, first_of};
+ghost use Rattle.axiom_checker.specs.inner.Passing.{AreOfPrograms, HasMetFor, IsDueFrom, NamesWrongWrite, NamesWrongRead, due_from, first_of_two};
 
 use crate::entries::{is_read, is_store_part, is_write, must_stand_before, rank};
 use crate::progress::{is_late, reach, settle, write};
@@ -55,7 +55,7 @@ pub fn pass<L: Ledger>(
     order: &mut Watched<'_, L>,
 ) -> Met
     requires index { IsIndex programs.made.now programs.slots.now }
-    requires sources { HasSources programs.made.now programs.sources.now }
+    requires sources { TellsSources programs.made.now programs.sources.now }
     requires of_programs { AreOfPrograms programs.made.now (length reached.old) (length words.old) order.old.order }
     requires settled { length settled.old ≡ length reached.old }
     requires none_yet { (c : ℕ) → (slice_index reached.old c ≡ 0) × (slice_index settled.old c ≡ 0) }
@@ -92,7 +92,7 @@ pub fn pass<L: Ledger>(
 
 /// The first of the two that is there.
 fn first<T: Copy>(earlier: Option<T>, later: Option<T>) -> Option<T>
-    ensures { result ≡ first_of earlier later }
+    ensures { result ≡ first_of_two earlier later }
 {
     match earlier {
         Some(_) => earlier,
@@ -165,7 +165,7 @@ fn wrong_read(
     x: &Entry,
 ) -> Option<(Entry, u32)>
     requires index { IsIndex programs.made.now programs.slots.now }
-    requires sources { HasSources programs.made.now programs.sources.now }
+    requires sources { TellsSources programs.made.now programs.sources.now }
     ensures found { ¬ IsExtra programs.entry.made.now x.now
         → IfSome result (NamesWrongRead programs.entry.made.now settled.now words.now x.now) }
     ensures none { ¬ IsExtra programs.entry.made.now x.now → IsNone result → program_order.is_read x.now ≡ true

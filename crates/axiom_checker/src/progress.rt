@@ -19,7 +19,7 @@ pub fn reach(marks: &mut [u32], x: &Entry)
 /// Notes how far the entry's core has come with what plain loads may not pass.
 pub fn settle(marks: &mut [u32], x: &Entry)
     requires { x.now.core.0 < length marks.old }
-    ensures { marks.new ≡ progress.settled marks.old x.now }
+    ensures { marks.new ≡ progress.reached_but_for_loads marks.old x.now }
 {
     if x.kind != Kind::R {
         reach(marks, x);
@@ -29,7 +29,7 @@ pub fn settle(marks: &mut [u32], x: &Entry)
 /// Notes the value of a write as its location's word.
 pub fn write(words: &mut [u32], x: &Entry)
     requires { program_order.is_write x.now ≡ true → x.now.loc.0 < length words.old }
-    ensures { words.new ≡ progress.written words.old x.now }
+    ensures { words.new ≡ progress.words_with words.old x.now }
 {
     if is_write(x) {
         words[usize::from(x.loc.0)] = x.value;

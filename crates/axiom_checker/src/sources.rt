@@ -5,8 +5,8 @@ ghost use Rattle.tso_model.specs.ProgramOrder as program_order;
 ghost use Rattle.tso_model.specs.declared.execution.Entry.{Entry};
 ghost use Rattle.axiom_checker.specs.Entries.{IsExtra, written_value};
 ghost use Rattle.axiom_checker.specs.inner.Programs.{kept_in};
-ghost use Rattle.axiom_checker.specs.inner.Slots.{Ascends, AreWithin, IsIndex};
-ghost use Rattle.axiom_checker.specs.inner.Sources.{own_write, IsSource, HasSources, noted_write};
+ghost use Rattle.axiom_checker.specs.inner.Slots.{Ascends, EntriesAreWithin, IsIndex};
+ghost use Rattle.axiom_checker.specs.inner.Sources.{own_write, IsSource, TellsSources, noted_write};
 
 use crate::entries::is_write;
 use crate::index::{find, kept};
@@ -23,8 +23,8 @@ pub fn own_writes(
     made: &[Entry],
 ) -> Result<Vec<Option<Entry>>, NoMemory>
     requires ascends { Ascends made.now }
-    requires within { (cores : ℕ) × AreWithin cores locations made.now }
-    ensures { IfOk result (λ sources. HasSources made.now sources.items) }
+    requires within { (cores : ℕ) × EntriesAreWithin cores locations made.now }
+    ensures { IfOk result (λ sources. TellsSources made.now sources.items) }
 {
     let mut latest = vec![in alloc; None; usize::from(locations)]?;
     find_sources(alloc, made, &mut latest)
@@ -38,8 +38,8 @@ fn find_sources(
 ) -> Result<Vec<Option<Entry>>, NoMemory>
     requires none_yet { (loc : ℕ) → kept_in latest.old loc ≡ None }
     requires ascends { Ascends made.now }
-    requires within { (cores : ℕ) × AreWithin cores (length latest.old) made.now }
-    ensures { IfOk result (λ sources. HasSources made.now sources.items) }
+    requires within { (cores : ℕ) × EntriesAreWithin cores (length latest.old) made.now }
+    ensures { IfOk result (λ sources. TellsSources made.now sources.items) }
 {
     let mut sources = Vec::new(alloc);
     for e in made {
@@ -77,7 +77,7 @@ pub fn source(
     x: &Entry,
 ) -> Option<Entry>
     requires index { IsIndex made.now slots.now }
-    requires sources { HasSources made.now sources.now }
+    requires sources { TellsSources made.now sources.now }
     ensures { ¬ IsExtra made.now x.now → IsSource made.now x.now result }
 {
     let i = find(made, slots, x)?;

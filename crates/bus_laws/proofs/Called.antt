@@ -1,10 +1,10 @@
 -- A call of a bus, and memory's words after it: those that are seen, but where a copy is dirty those of before.
-use Rattle.bus_laws.proofs.Vocabulary.{◌≡◌, ◌≢◌, ◌∙◌, ◌⊎◌, ◌<◌, ◌/◌, ◌&&◌, ℕ, Bool, true, false, if◌then◌else◌, IfSome, List, length, Option, Some, None, option_map, nat_eq, inl, inr, refl, sym, ap, subst, eqb_tells, Loc, is_dirty, Table, table_of, ProtocolKind, GetS, State, Line, table_of_rows, rows_of, line_in, state_of, may_share, TagSets, tag_in, loaded_in, write_in, requested, filled_by, Sets, copy_at, cache_of, tags_of, BusModel, AllCoherent, counted_copies, holder_of, IsFree, written_back, victim_at, loaded_memory_in, written_memory_in, tag_at, or_invalid, hit_in, asked_caches_in, awaiting, awaited_by, awaited_in, Awaited, completed, completed_in, completed_memory, completed_memory_in, contents_of, memory_of, would_hit, line_of, awaited_of, LoadsAt, WritesAt, AsksFor, CompletesAt, tag_at-copy, IsOwner}
+use Rattle.bus_laws.proofs.Vocabulary.{◌≡◌, ◌≢◌, ◌∙◌, ◌⊎◌, ◌<◌, ◌/◌, ◌&&◌, ℕ, Bool, true, false, if◌then◌else◌, IfSome, List, length, Option, Some, None, option_map, nat_eq, inl, inr, refl, sym, ap, subst, eqb_tells, Loc, is_dirty, Table, table_of, ProtocolKind, GetS, State, Line, table_of_rows, rows_of, line_in, state_of_copy, may_share, TagSets, tag_in, loaded_in, write_in, requested, filled_by, Sets, copy_at, cache_of, tags_of, BusModel, AllCoherent, counted_copies, holder_of, IsFree, written_back, victim_at, loaded_memory_in, written_memory_in, tag_at, or_invalid, hit_in, asked_caches_in, awaiting, awaited_by, awaited_in, Awaited, completed, completed_in, completed_memory, completed_memory_in, contents_of, memory_of, would_hit, line_of_location, awaited_of, LoadsAt, WritesAt, AsksFor, CompletesAt, tag_at-copy, IsOwner}
 use Rattle.tso_model.specs.declared.instruction.Core.{Core}
 use Rattle.protocol_tables.specs.Transients.{transient_of}
 use Rattle.protocol_tables.specs.declared.requests.Transient.{Transient}
 use Rattle.protocol_tables.specs.declared.requests.Transient.TheVariants.{IsD, ImD, SmD}
-use Rattle.snoop_bus.specs.Held.{counted, counted_in, transaction_in, holder_in, holder}
+use Rattle.snoop_bus.specs.Held.{counted_copies_of, counted_in, transaction_in, holder_in, holder}
 use Rattle.snoop_bus.specs.inner.Bus.{IsBus}
 use Rattle.snoop_bus.specs.inner.Held.{IsHeld, IsPlaced, Awaits, AskedOf}
 use Rattle.snoop_bus.specs.inner.Accesses.{MayGoOn}
@@ -27,7 +27,7 @@ IsSound b = IsBus b.shape b.locations b.caches b.memory b.held
 -- ---- copies that count
 
 -- where nothing is awaited they are those of the caches
-none-counted : (held : Option HeldBus) (caches : List Sets) → awaited_in (transaction_in held) ≡ None → counted held caches ≡ caches
+none-counted : (held : Option HeldBus) (caches : List Sets) → awaited_in (transaction_in held) ≡ None → counted_copies_of held caches ≡ caches
 none-counted None caches q = refl
 none-counted (Some h) caches q = by_transaction h.transaction q
   where
@@ -53,7 +53,7 @@ tag-none : (caches : List Sets) (core line : ℕ) → copy_at caches core line �
 tag-none caches core line q = tag_at-copy caches core line ∙ ap (option_map (λ (copy : Line). copy.state)) q
 
 -- an access that misses is made where nobody holds the bus
-missing-free : (b : BusModel) (core loc : ℕ) (write : Bool) → MayGoOn b core loc write → tag_at core (line_of b loc) (contents_of b) ≡ None → IsFree b
+missing-free : (b : BusModel) (core loc : ℕ) (write : Bool) → MayGoOn b core loc write → tag_at core (line_of_location b loc) (contents_of b) ≡ None → IsFree b
 missing-free b core loc write (inl free) none = free
 missing-free b core loc write (inr hit) none =
     let misses : would_hit b core loc write ≡ false = ap (hit_in (table_of_rows b.rows) write) none in
@@ -74,7 +74,7 @@ load-call lines old new core loc word access k i h sound neat may at owner =
     t = table_of_rows old.rows
 
     line : ℕ
-    line = line_of old loc
+    line = line_of_location old loc
 
     by_copy : (o : Option Line) → copy_at old.caches core line ≡ o → line_in (loaded_memory_in t core line old.caches o old.memory) k ≡ line_in old.memory k
     by_copy (Some copy) q = refl
@@ -94,7 +94,7 @@ write-call lines old new core loc word access k i h sound neat may at owner =
     t = table_of_rows old.rows
 
     line : ℕ
-    line = line_of old loc
+    line = line_of_location old loc
 
     by_copy : (o : Option Line) → copy_at old.caches core line ≡ o → line_in (written_memory_in t core line old.caches o old.memory) k ≡ line_in old.memory k
     by_copy (Some copy) q = refl
@@ -110,9 +110,9 @@ ask-owner : (caches : List Sets) (h : HeldBus) (x : Option Transaction) (core li
     → ((y : Transaction) → x ≡ Some y → is_dirty y.copy.state ≡ false) → IsOwner (counted_in h.holder.core.0 h.line x caches) line i → IsDirtyAt i line (tags_of caches)
 ask-owner caches h None core line i same within some clean owner = owner-dirty caches i line owner
 ask-owner caches h (Some y) core line i same within some clean owner =
-    by_test (nat_eq i h.holder.core.0 && nat_eq line h.line) (subst (λ o. is_dirty (state_of o) ≡ true) (counting-at caches h.holder.core.0 h.line y.copy i line within some) owner)
+    by_test (nat_eq i h.holder.core.0 && nat_eq line h.line) (subst (λ o. is_dirty (state_of_copy o) ≡ true) (counting-at caches h.holder.core.0 h.line y.copy i line within some) owner)
   where
-    by_test : (b : Bool) → is_dirty (state_of (if b then Some y.copy else copy_at caches i line)) ≡ true → IsDirtyAt i line (tags_of caches)
+    by_test : (b : Bool) → is_dirty (state_of_copy (if b then Some y.copy else copy_at caches i line)) ≡ true → IsDirtyAt i line (tags_of caches)
     by_test true q = absurd (never _ q (clean y refl))
     by_test false q = owner-dirty caches i line q
 
@@ -130,7 +130,7 @@ load-asks lines old new core loc k i h sound after neat free misses at owner =
     t = table_of_rows old.rows
 
     line : ℕ
-    line = line_of old loc.0
+    line = line_of_location old loc.0
 
     none : tag_at core.0 line (contents_of old) ≡ None
     none = by_tag (tag_at core.0 line (contents_of old)) refl misses
@@ -151,7 +151,7 @@ load-asks lines old new core loc k i h sound after neat free misses at owner =
     dirty : IsDirtyAt i k (contents_of new)
     dirty = by_held new.held refl owner
       where
-        by_held : (held : Option HeldBus) → new.held ≡ held → IsOwner (counted held new.caches) k i → IsDirtyAt i k (tags_of new.caches)
+        by_held : (held : Option HeldBus) → new.held ≡ held → IsOwner (counted_copies_of held new.caches) k i → IsDirtyAt i k (tags_of new.caches)
         by_held None q o = owner-dirty new.caches i k o
         by_held (Some x) q o =
             let is : IsHeld new.caches new.memory x = subst (λ held. IfSome held (IsHeld new.caches new.memory)) q after.awaited in
@@ -197,7 +197,7 @@ complete-call lines old new core loc stage access k i h sound neat holds quiet a
     t = table_of_rows old.rows
 
     line : ℕ
-    line = line_of old loc.0
+    line = line_of_location old loc.0
 
     found : IsDirtyAt i k (contents_of new)
     found = quiet-dirty new i k quiet owner
@@ -224,13 +224,13 @@ complete-call lines old new core loc stage access k i h sound neat holds quiet a
         alone : (other v : ℕ) (s : State) → v ≢ line → core.0 ≢ other → tag_at core.0 v (tags_of old.caches) ≡ Some s → may_share s (or_invalid (tag_at other v (tags_of old.caches))) ≡ true
         alone other v s apart n there =
             let beside : v ≢ x.line = λ e. apart (e ∙ here) in
-            let shares = coherent-apart (counted (Some x) old.caches) old.memory (subst (λ held. AllCoherent (counted held old.caches) old.memory) q sound.coherent) core.0 other v n in
-            let first : may_share (state_of (copy_at old.caches core.0 v)) (state_of (copy_at (counted (Some x) old.caches) other v)) ≡ true =
-            subst (λ o. may_share (state_of o) (state_of (copy_at (counted (Some x) old.caches) other v)) ≡ true) (counted-other old.caches x x.transaction core.0 v is.core_in is.some_set beside) shares in
-            let both : may_share (state_of (copy_at old.caches core.0 v)) (state_of (copy_at old.caches other v)) ≡ true =
-            subst (λ o. may_share (state_of (copy_at old.caches core.0 v)) (state_of o) ≡ true) (counted-other old.caches x x.transaction other v is.core_in is.some_set beside) first in
+            let shares = coherent-apart (counted_copies_of (Some x) old.caches) old.memory (subst (λ held. AllCoherent (counted_copies_of held old.caches) old.memory) q sound.coherent) core.0 other v n in
+            let first : may_share (state_of_copy (copy_at old.caches core.0 v)) (state_of_copy (copy_at (counted_copies_of (Some x) old.caches) other v)) ≡ true =
+            subst (λ o. may_share (state_of_copy o) (state_of_copy (copy_at (counted_copies_of (Some x) old.caches) other v)) ≡ true) (counted-other old.caches x x.transaction core.0 v is.core_in is.some_set beside) shares in
+            let both : may_share (state_of_copy (copy_at old.caches core.0 v)) (state_of_copy (copy_at old.caches other v)) ≡ true =
+            subst (λ o. may_share (state_of_copy (copy_at old.caches core.0 v)) (state_of_copy o) ≡ true) (counted-other old.caches x x.transaction other v is.core_in is.some_set beside) first in
             subst (λ a. may_share a (or_invalid (tag_at other v (tags_of old.caches))) ≡ true) (sym (state-of old.caches core.0 v) ∙ ap or_invalid there)
-            (subst (λ b. may_share (state_of (copy_at old.caches core.0 v)) b ≡ true) (sym (state-of old.caches other v)) both)
+            (subst (λ b. may_share (state_of_copy (copy_at old.caches core.0 v)) b ≡ true) (sym (state-of old.caches other v)) both)
 
         fills : (y : Transaction) → x.transaction ≡ Some y → y.transient ≢ SmD → IsDirtyAt i k (filled_by core.0 line y.copy.state (tags_of old.caches))
             → line_in (written_back t (victim_at old.caches core.0 line) old.memory) k ≡ line_in old.memory k

@@ -1,5 +1,5 @@
 -- A call of a bus changes a line of memory only where no copy of it that counts is dirty then.
-use Rattle.bus_laws.proofs.Vocabulary.{◌≡◌, ◌≢◌, ◌∙◌, ◌≤◌, ◌%◌, ℕ, zero, suc, true, false, List, [], ◌∷◌, length, take, slice_index_or, Some, None, option_map, nat_eq, inl, inr, refl, sym, ap, subst, get_or-set_same, get_or_past, length-set, decide, lt-or, is_dirty, Table, State, I, M, Snoop, Line, Victim, Words, line_in, state_of, may_share, lookup, eq-eqb, TagSet, tag_of, leaving, filled, TagSets, tags_at, tag_in, at_line, sets_of, is_held, requested, filled_by, Sets, copy_at, cache_of, set_at, tags_of, AllCoherent, written_back, flushed, sent_words, victim_at, tag_at, or_invalid, tag_at-copy}
+use Rattle.bus_laws.proofs.Vocabulary.{◌≡◌, ◌≢◌, ◌∙◌, ◌≤◌, ◌%◌, ℕ, zero, suc, true, false, List, [], ◌∷◌, length, take, slice_index_or, Some, None, option_map, nat_eq, inl, inr, refl, sym, ap, subst, get_or-set_same, get_or_past, length-set, decide, lt-or, is_dirty, Table, State, I, M, Snoop, Line, Victim, Words, line_in, state_of_copy, may_share, lookup, eq-eqb, TagSet, tag_of, leaving, filled, TagSets, tags_at, tag_in, at_line, sets_of, is_held, requested, filled_by, Sets, copy_at, cache_of, set_at, tags_of, AllCoherent, written_back, flushed, sent_words, victim_at, tag_at, or_invalid, tag_at-copy}
 use Rattle.snoop_bus.proofs.CacheTags.{tags_at-tags, sets_of-tags}
 use Rattle.snoop_bus.proofs.TagLemmas.{victim_tag, leaving-tags}
 use Rattle.bus_laws.proofs.Victims.{AreNeat, AllNeat, no_set, own-kept, sets-leave}
@@ -9,19 +9,19 @@ use Rattle.bus_laws.proofs.Unowned.{SettlesMemory, IsDirtyAt, never, not_absent,
 -- ---- copies that count are apart
 
 abbrev pub AreApart : List Sets → Type 0
-AreApart caches = (i j k : ℕ) → i ≢ j → may_share (state_of (copy_at caches i k)) (state_of (copy_at caches j k)) ≡ true
+AreApart caches = (i j k : ℕ) → i ≢ j → may_share (state_of_copy (copy_at caches i k)) (state_of_copy (copy_at caches j k)) ≡ true
 
 pub coherent-apart : (caches : List Sets) (memory : List Words) → AllCoherent caches memory → AreApart caches
 coherent-apart caches memory h i j k n = elim (lt-or (length memory) k) [
   | inl l ↦ (h.each k l).apart i j n
-  | inr past ↦ ap (λ o. may_share (state_of o) (state_of (copy_at caches j k))) (h.within k i past)
+  | inr past ↦ ap (λ o. may_share (state_of_copy o) (state_of_copy (copy_at caches j k))) (h.within k i past)
 ]
 
 -- the same by the states in the caches
 apart-from : (caches : List Sets) (i j k : ℕ) (s : State) → AreApart caches → i ≢ j → tag_at i k (tags_of caches) ≡ Some s → may_share s (or_invalid (tag_at j k (tags_of caches))) ≡ true
 apart-from caches i j k s h n there =
     subst (λ x. may_share x (or_invalid (tag_at j k (tags_of caches))) ≡ true) (sym (state-of caches i k) ∙ ap or_invalid there)
-    (subst (λ x. may_share (state_of (copy_at caches i k)) x ≡ true) (sym (state-of caches j k)) (h i j k n))
+    (subst (λ x. may_share (state_of_copy (copy_at caches i k)) x ≡ true) (sym (state-of caches j k)) (h i j k n))
 
 -- ---- a line comes in
 

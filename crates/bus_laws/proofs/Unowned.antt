@@ -1,5 +1,5 @@
 -- A line of memory that changes has no dirty copy then: the one that was sent or written back was the only one.
-use Rattle.bus_laws.proofs.Vocabulary.{◌≡◌, ◌≢◌, ◌∙◌, ℕ, suc, Bool, true, false, if◌then◌else◌, List, [], ◌∷◌, length, slice_set, Option, Some, None, option_map, inl, inr, refl, sym, ap, subst, get_or-set_same, get_or-set_other, get_or_past, decide, lt-or, is_dirty, Table, table_of, ProtocolKind, State, I, S, E, O, M, Snoop, Line, Victim, table_of_rows, rows_of, Words, line_in, state_of, may_share, leaving, filled, TagSets, tags_at, tag_in, at_line, sets_of, requested, filled_by, Sets, copy_at, copy_in, tags_of, written_back, flushed, sent_of, first_of_two, sent_words, tag_at, or_invalid, tag_at-copy}
+use Rattle.bus_laws.proofs.Vocabulary.{◌≡◌, ◌≢◌, ◌∙◌, ℕ, suc, Bool, true, false, if◌then◌else◌, List, [], ◌∷◌, length, slice_set, Option, Some, None, option_map, inl, inr, refl, sym, ap, subst, get_or-set_same, get_or-set_other, get_or_past, decide, lt-or, is_dirty, Table, table_of, ProtocolKind, State, I, S, E, O, M, Snoop, Line, Victim, table_of_rows, rows_of, Words, line_in, state_of_copy, may_share, leaving, filled, TagSets, tags_at, tag_in, at_line, sets_of, requested, filled_by, Sets, copy_at, copy_in, tags_of, written_back, flushed, sent_of, first_of_two, sent_words, tag_at, or_invalid, tag_at-copy}
 use Rattle.protocol_tables.specs.declared.kind.ProtocolKind.TheVariants.{Msi, Mesi, Moesi, Mosi}
 use Rattle.bus_laws.proofs.Victims.{AreNeat, AllNeat, sets-leave}
 use Rattle.bus_laws.proofs.Snooped.{left_of, requested-here, own-alone}
@@ -199,9 +199,9 @@ sender-of on line (sets ∷ caches) w h = by_copy (copy_in sets line) refl (send
     by_copy (Some copy) is rest h = by_test copy (on copy.state).to_memory refl is rest h
 
 -- ---- states and copies
-pub state-of : (caches : List Sets) (core line : ℕ) → or_invalid (tag_at core line (tags_of caches)) ≡ state_of (copy_at caches core line)
+pub state-of : (caches : List Sets) (core line : ℕ) → or_invalid (tag_at core line (tags_of caches)) ≡ state_of_copy (copy_at caches core line)
 state-of caches core line = ap or_invalid (tag_at-copy caches core line) ∙ by_copy (copy_at caches core line)
   where
-    by_copy : (o : Option Line) → or_invalid (option_map (λ (copy : Line). copy.state) o) ≡ state_of o
+    by_copy : (o : Option Line) → or_invalid (option_map (λ (copy : Line). copy.state) o) ≡ state_of_copy o
     by_copy None = refl
     by_copy (Some copy) = refl

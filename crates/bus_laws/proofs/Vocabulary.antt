@@ -8,7 +8,7 @@ unfoldable pub use Rattle.snoop_bus.specs.Asks.{awaiting}
 pub use Rattle.protocol_tables.specs.Laws.{is_dirty}
 pub use Rattle.protocol_tables.specs.declared.state.State.TheVariants.{I, S, E, O, M}
 pub use Rattle.snoop_bus.specs.Lines.{Words, line_in}
-pub use Rattle.snoop_bus.specs.Coherent.{state_of, may_share}
+pub use Rattle.snoop_bus.specs.Coherent.{state_of_copy, may_share}
 pub use Rattle.snoop_bus.specs.Copies.{Sets, copy_at, copy_in, tags_of, cache_of, set_at}
 pub use Rattle.snoop_bus.specs.Bus.{AllCoherent, BusModel, counted_copies, holder_of, IsFree}
 pub use Rattle.basic_laws.proofs.Basics.{lt-or, decide}
@@ -31,4 +31,4 @@ pub use Rattle.cache_set.specs.declared.Victim.{Victim}
 pub use Rattle.snoop_bus.specs.MemoryAfter.{written_back, flushed, sent_of, first_of_two, sent_words, victim_at, loaded_memory_in, written_memory_in}
 pub use Rattle.snoop_bus.proofs.StateLemmas.{tag_at-copy}
 pub use Rattle.protocol_tables.specs.declared.requests.Request.TheVariants.{GetS, GetM}
-pub use Rattle.snoop_bus.specs.Accesses.{contents_of, memory_of, would_hit, line_of, awaited_of, LoadsAt, WritesAt, AsksFor, CompletesAt}
+pub use Rattle.snoop_bus.specs.Accesses.{contents_of, memory_of, would_hit, line_of_location, awaited_of, LoadsAt, WritesAt, AsksFor, CompletesAt}

@@ -11,7 +11,7 @@ ghost use Rattle.bus_laws.specs.Hits.{HitsAreToldBeforehand};
 ghost use Rattle.bus_laws.specs.Owners.{OneOwnerAtMost};
 ghost use Rattle.bus_laws.specs.Uses.{AccessesAreWhatIsCounted};
 
-use snoop_bus::laws::whole_accesses_are_two_halves;
+use snoop_bus::whole_accesses::whole_accesses_are_two_halves;
 use split_laws::pending_stores_are_own;
 
 /// An access is a hit, by what it makes of the contents, exactly where `would_hit` says so beforehand: a

@@ -10,8 +10,8 @@ mod hashing;
 mod ways;
 
 use crate::ways::{
-    Way, Ways, copy_at, copy_of, empty_all, empty_ways, is_first, take_over, victim_in, way_of,
-    way_to_take_over,
+    Way, Ways, copy_at, copy_of, empty_all, empty_ways, is_most_recent, take_over, victim_in,
+    way_of, way_to_take_over,
 };
 use protocol_tables::State;
 use std::alloc::Global;
@@ -108,7 +108,7 @@ impl CacheSet {
         ensures valid { IsCacheSet self.new }
         ensures copies { (k : ℕ) → copy_of self.new k ≡ copy_of self.old k }
     {
-        if is_first(&self.ways, line) {
+        if is_most_recent(&self.ways, line) {
             return;
         }
         let _numbers = self.ways.len();

@@ -6,7 +6,7 @@ ghost use Rattle.std.specs.Prelude.{◌≡◌, ◌<◌, ◌≤◌, true, [], ◌
 ghost use Rattle.cache_set.specs.Limits.{most_ways};
 ghost use Rattle.std.specs.Map.{lookup, remove_entry};
 ghost use Rattle.lru.specs.LruCache.{lru_cache};
-ghost use Rattle.cache_set.specs.inner.Ways.{is_empty, has_line, copies_in, way_of, is_first, first_empty, first_full, copy_left, IsForNew, AreWays};
+ghost use Rattle.cache_set.specs.inner.Ways.{is_empty, has_line, copies_in, way_of, is_most_recent, first_empty, first_full, copy_left, IsForNew, AreWays};
 
 use crate::hashing::NumberHasher;
 use crate::{Line, MAX_WORDS, Victim};
@@ -98,8 +98,8 @@ pub fn way_of(ways: &Ways, line: u8) -> Option<u8>
 }
 
 /// Whether a line lies in the way used last.
-pub fn is_first(ways: &Ways, line: u8) -> bool
-    ensures { result ≡ is_first line ways.now.entries }
+pub fn is_most_recent(ways: &Ways, line: u8) -> bool
+    ensures { result ≡ is_most_recent line ways.now.entries }
 {
     match ways.peek_mru() {
         Some((_, way)) => way.has(line),

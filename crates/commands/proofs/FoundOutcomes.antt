@@ -1,5 +1,5 @@
 -- What a search answers, from what it says of the ends of runs.
-use Rattle.commands.proofs.Vocabulary.{◌≡◌, ◌∙◌, ℕ, zero, suc, Bool, List, [], ◌∷◌, Some, map, All, Contains, slice_get, refl, sym, ap, subst, arith, AllByRecursion, slice_get_within, get_or_from_slice_get, Litmus, AreReached, HaveEveryEnd, FinalState, named_in, values_at, PrintsOutcomes, status_of_verdict, IsOutcomesAnswer, found, is_claimed_of, Status}
+use Rattle.commands.proofs.Vocabulary.{◌≡◌, ◌∙◌, ℕ, zero, suc, Bool, List, [], ◌∷◌, Some, map, All, Contains, slice_get, refl, sym, ap, subst, arith, AllByRecursion, slice_get_within, get_or_from_slice_get, Litmus, AreReached, HaveEveryEnd, FinalState, names_shown, values_at, PrintsOutcomes, status_of_verdict, IsOutcomesAnswer, found, is_claimed_of, Status}
 use Rattle.std.proofs.lemmas.List.Elements.{All-weaker, All-contains, All-from_recursion}
 use Rattle.outcome_laws.specs.Outcomes.{IsEnd, LeadToEnd}
 use Rattle.tso_report.specs.declared.named.Named.{Named}
@@ -62,10 +62,10 @@ no-end-missing t names depth finals outcomes every shown registers memory end =
     (All-contains (λ f. Contains (map (shown_values names) outcomes) (shown_values names (outcome_of f))) finals made.0 shown made.1)
 
 pub search-answers : (t : Litmus) (s : Search) (json assert as_claimed : Bool) (finals : List FinalState) (out : List ℕ) (status : Status) → AreReached t s.depth finals
-    → ShowEveryEnd t (named_in s.show t) s.depth finals → PrintsOutcomes t (named_in s.show t) s.depth json finals out as_claimed → status ≡ status_of_verdict assert as_claimed
+    → ShowEveryEnd t (names_shown s.show t) s.depth finals → PrintsOutcomes t (names_shown s.show t) s.depth json finals out as_claimed → status ≡ status_of_verdict assert as_claimed
     → IsOutcomesAnswer t s json assert out status
 search-answers t s json assert as_claimed finals out status reached every prints is =
-    let names = named_in s.show t in
+    let names = names_shown s.show t in
     subst (λ how. IsOutcomesAnswer t s json assert out how) (sym (is ∙ ap (status_of_verdict assert) prints.verdict))
     (subst (λ text. IsOutcomesAnswer t s json assert text (status_of_verdict assert (is_claimed_of t prints.outcomes))) (sym prints.text)
     (found prints.outcomes (record {

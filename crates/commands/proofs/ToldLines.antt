@@ -1,5 +1,5 @@
 -- A trace, written line by line as the choices are made.
-use Rattle.commands.proofs.Vocabulary.{◌≡◌, ◌∙◌, ℕ, ◌+◌, ◌<◌, ◌≤◌, true, false, List, [], ◌∷◌, ◌++◌, length, drop, refl, sym, ap, subst, arith, append_assoc, append-nil, codes, Litmus, chosen, has_ended, CoresExist, Choice, Table, Configuration, Running, new_machine, machine_after, Shown, shown, step_of, steps_from, trace_of, told_step, step_line, step_lines, end_line, trace_text}
+use Rattle.commands.proofs.Vocabulary.{◌≡◌, ◌∙◌, ℕ, ◌+◌, ◌<◌, ◌≤◌, true, false, List, [], ◌∷◌, ◌++◌, length, drop, refl, sym, ap, subst, arith, append_assoc, append-nil, codes, Litmus, chosen, has_ended, CoresExist, Choice, Table, Configuration, Running, new_machine, machine_after, ShownStep, shown_step, trace_step_of, steps_from, trace_of, told_step, trace_step_line, step_lines, end_line, trace_text}
 use Rattle.std.proofs.Math.ListN.{drop_of_length-le}
 use Rattle.tso_model.specs.declared.choice.Stall.{Stall}
 use Rattle.protocol_tables.specs.PrintedTable.{line}
@@ -17,8 +17,8 @@ pub record SoFar (t : Litmus) (words : ℕ) (old m : Running) (choices : List Ch
 pub core-there : (t : Litmus) (choices : List Choice) (i : ℕ) (c : Choice) → drop i choices ≡ c ∷ drop (i + 1) choices → CoresExist (length t.programs) (drop i choices) → chosen c < length t.programs
 core-there t choices i c list cores = (subst (CoresExist (length t.programs)) list cores).0
 
-pub one-more : (t : Litmus) (words : ℕ) (old m next : Running) (choices : List Choice) (i : ℕ) (c : Choice) (step : Shown) (begun text after : List ℕ)
-    → drop i choices ≡ c ∷ drop (i + 1) choices → has_ended m.test m.state.flat ≡ false → next ≡ machine_after m c → step ≡ step_of m c → after ≡ text ++ step_line t words (i + 1) step
+pub one-more : (t : Litmus) (words : ℕ) (old m next : Running) (choices : List Choice) (i : ℕ) (c : Choice) (step : ShownStep) (begun text after : List ℕ)
+    → drop i choices ≡ c ∷ drop (i + 1) choices → has_ended m.test m.state.flat ≡ false → next ≡ machine_after m c → step ≡ trace_step_of m c → after ≡ text ++ trace_step_line t words (i + 1) step
     → SoFar t words old m choices i begun text → SoFar t words old next choices (i + 1) begun after
 one-more t words old m next choices i c step begun text after list going next_is step_is written s =
     let rest = drop (i + 1) choices in
@@ -28,22 +28,22 @@ one-more t words old m next choices i c step begun text after list going next_is
       cores = (subst (CoresExist (length t.programs)) list s.cores).1;
       steps = let old_count = s.steps in let size : length (steps_from m (drop i choices)) ≡ length (steps_from next rest) + 1 = ap length more ∙ (omega arith) in omega arith;
       lines = ap (λ x. x ++ step_lines t words (i + 1 + 1) (steps_from next rest)) written
-          ∙ (append_assoc text (step_line t words (i + 1) step) (step_lines t words (i + 1 + 1) (steps_from next rest))
+          ∙ (append_assoc text (trace_step_line t words (i + 1) step) (step_lines t words (i + 1 + 1) (steps_from next rest))
           ∙ (sym (ap (λ ss. text ++ step_lines t words (i + 1) ss) more) ∙ s.lines));
     }
 
 -- the line of a choice that stalled
 pub stall-written : (t : Litmus) (words used i : ℕ) (choice : Choice) (told : Told) (why : Stall) (text after joined : List ℕ) → joined ≡ after → after ≡ text ++ stall_line (used + 1) choice why
-    → used ≡ i → told ≡ Stalled why → joined ≡ text ++ step_line t words (i + 1) (told_step choice told)
+    → used ≡ i → told ≡ Stalled why → joined ≡ text ++ trace_step_line t words (i + 1) (told_step choice told)
 stall-written t words used i choice told why text after joined is writes same stalls =
-    is ∙ (writes ∙ (ap (λ n. text ++ stall_line (n + 1) choice why) same ∙ sym (ap (λ x. text ++ step_line t words (i + 1) (told_step choice x)) stalls)))
+    is ∙ (writes ∙ (ap (λ n. text ++ stall_line (n + 1) choice why) same ∙ sym (ap (λ x. text ++ trace_step_line t words (i + 1) (told_step choice x)) stalls)))
 
 -- and of one that has a step
-pub step-written : (t : Litmus) (words lines used i : ℕ) (choice : Choice) (told : Told) (step : Step) (text after joined : List ℕ) → joined ≡ after → after ≡ text ++ step_line t lines (used + 1) (shown step)
-    → lines ≡ words → used ≡ i → told ≡ Made step → joined ≡ text ++ step_line t words (i + 1) (told_step choice told)
+pub step-written : (t : Litmus) (words lines used i : ℕ) (choice : Choice) (told : Told) (step : Step) (text after joined : List ℕ) → joined ≡ after → after ≡ text ++ trace_step_line t lines (used + 1) (shown_step step)
+    → lines ≡ words → used ≡ i → told ≡ Made step → joined ≡ text ++ trace_step_line t words (i + 1) (told_step choice told)
 step-written t words lines used i choice told step text after joined is writes alike same made =
-    is ∙ (writes ∙ (ap (λ n. text ++ step_line t n (used + 1) (shown step)) alike ∙ (ap (λ n. text ++ step_line t words (n + 1) (shown step)) same
-    ∙ sym (ap (λ x. text ++ step_line t words (i + 1) (told_step choice x)) made))))
+    is ∙ (writes ∙ (ap (λ n. text ++ trace_step_line t n (used + 1) (shown_step step)) alike ∙ (ap (λ n. text ++ trace_step_line t words (n + 1) (shown_step step)) same
+    ∙ sym (ap (λ x. text ++ trace_step_line t words (i + 1) (told_step choice x)) made))))
 
 -- ---- where the writing stops
 

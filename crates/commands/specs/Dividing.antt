@@ -43,8 +43,8 @@ parts_of input = parts_from true input
 -- ---- put together
 
 -- the input of these two parts
-abbrev pub joined : List ℕ → List ℕ → List ℕ
-joined test rest = test ++ (codes "====\n" ++ rest)
+abbrev pub joined_parts : List ℕ → List ℕ → List ℕ
+joined_parts test rest = test ++ (codes "====\n" ++ rest)
 
 -- no line of the text is `====`: the first part of it is all of it
 abbrev pub HasNoDivider : List ℕ → Type 0

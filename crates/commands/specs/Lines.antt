@@ -24,8 +24,8 @@ choices_refusal (choices.TooMany word) = codes "Refused choices word " ++ (decim
 choices_refusal choices.NoMemory = []
 
 -- `Unfinished used=U stalled=S`
-abbrev pub unfinished_line : ℕ → ℕ → List ℕ
-unfinished_line used stalled = codes "Unfinished used=" ++ (decimal used ++ (codes " stalled=" ++ line (decimal stalled)))
+abbrev pub unfinished_run_line : ℕ → ℕ → List ℕ
+unfinished_run_line used stalled = codes "Unfinished used=" ++ (decimal used ++ (codes " stalled=" ++ line (decimal stalled)))
 
 -- `Depth needed=N`
 abbrev pub depth_line : ℕ → List ℕ

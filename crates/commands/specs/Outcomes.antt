@@ -8,7 +8,7 @@ use Rattle.tso_model.specs.Litmus.{Litmus}
 use Rattle.outcome_laws.specs.Outcomes.{IsEnd, LeadToEnd}
 use Rattle.explorer.specs.FinalStates.{HasMoreStates}
 use Rattle.tso_report.specs.declared.named.Named.{Named}
-use Rattle.shown_values.specs.Shown.{named_in, values_at}
+use Rattle.shown_values.specs.Shown.{names_shown, values_at}
 use Rattle.outcome_report.specs.Verdict.{is_as_claimed}
 use Rattle.outcome_report.specs.Outcomes.{Outcome, shown_values, is_met_in}
 use Rattle.outcome_report.specs.Printed.{outcomes_in, unfinished_search_in}
@@ -32,7 +32,7 @@ is_claimed_of t outcomes = is_as_claimed t.condition (is_met_in t.condition outc
 
 -- the answer of `outcomes` to a test: which of the choices that lead to a state are printed, no clause says
 pub data IsOutcomesAnswer (t : Litmus) (s : Search) (json assert : Bool) : List ℕ → Status → Type 0 where
-  found : (outcomes : List Outcome) → AreAllOutcomes t (named_in s.show t) s.depth outcomes
-      → IsOutcomesAnswer t s json assert (outcomes_in json t (named_in s.show t) s.depth outcomes)
+  found : (outcomes : List Outcome) → AreAllOutcomes t (names_shown s.show t) s.depth outcomes
+      → IsOutcomesAnswer t s json assert (outcomes_in json t (names_shown s.show t) s.depth outcomes)
       (status_of_verdict assert (is_claimed_of t outcomes))
   too_many : HasMoreStates t s.depth s.states → IsOutcomesAnswer t s json assert (unfinished_search_in json t s.states) Unended

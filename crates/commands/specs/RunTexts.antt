@@ -3,17 +3,17 @@ use Rattle.std.specs.Prelude.{ℕ, Bool, true, false, List}
 use Rattle.tso_model.specs.Litmus.{Litmus}
 use Rattle.protocol_tables.specs.declared.kind.ProtocolKind.{ProtocolKind}
 use Rattle.machine_core.specs.Configuration.{Configuration}
-use Rattle.tso_report.specs.Shown.{Shown}
+use Rattle.tso_report.specs.Shown.{ShownRun}
 use Rattle.tso_report.specs.Report.{report}
 use Rattle.tso_report.specs.Json.{json_report, json_unfinished}
-use Rattle.commands.specs.Lines.{unfinished_line}
+use Rattle.commands.specs.Lines.{unfinished_run_line}
 
 -- of a run that ended: its report
-abbrev pub report_in : Bool → Litmus → ProtocolKind → Configuration → Shown → List ℕ
+abbrev pub report_in : Bool → Litmus → ProtocolKind → Configuration → ShownRun → List ℕ
 report_in false t kind c s = report t kind c s
 report_in true t kind c s = json_report t kind c s
 
 -- of a run that hasn't: how far it came
 abbrev pub unfinished_in : Bool → ℕ → ℕ → List ℕ
-unfinished_in false used stalled = unfinished_line used stalled
+unfinished_in false used stalled = unfinished_run_line used stalled
 unfinished_in true used stalled = json_unfinished used stalled

@@ -15,7 +15,7 @@ use Rattle.tso_report.specs.Report.{head, body}
 use Rattle.trace_report.specs.Lines.{trace_text}
 use Rattle.trace_report.specs.Steps.{trace_under}
 use Rattle.trace_json.specs.TracedRun.{most_steps, json_ended, json_unended}
-use Rattle.commands.specs.Lines.{choices_refusal, unfinished_line}
+use Rattle.commands.specs.Lines.{choices_refusal, unfinished_run_line}
 use Rattle.simulator.specs.Runs.{run_under, counts_under, AnswersFit}
 use Rattle.simulator.specs.Simulation.{shown_of}
 use Rattle.commands.specs.declared.answer.Status.{Status}
@@ -23,7 +23,7 @@ use Rattle.commands.specs.declared.answer.Status.TheVariants.{Good, Refused, Une
 
 -- what is after the trace of a run with these counts: the rest of its report where it ended, else how far it came
 abbrev pub ending_text : Litmus → List Counts → Run → List ℕ
-ending_text t counts r = if r.ended then body t (shown_of t counts r) else unfinished_line r.used r.stalled
+ending_text t counts r = if r.ended then body t (shown_of t counts r) else unfinished_run_line r.used r.stalled
 
 -- what is written of a test's run under choices: the first two lines of its report, its trace, and what is after it
 abbrev pub traced_text : Litmus → ProtocolKind → Configuration → List Choice → List ℕ

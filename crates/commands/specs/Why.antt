@@ -5,7 +5,7 @@ use Rattle.tso_model.specs.Litmus.{Litmus}
 use Rattle.tso_model.specs.declared.choice.Choice.{Choice}
 use Rattle.tso_model.specs.declared.execution.Entry.{Entry}
 use Rattle.tso_laws.specs.Along.{LeadTo}
-use Rattle.refutation_laws.specs.Refutations.{Node, asked, refutes}
+use Rattle.refutation_laws.specs.Refutations.{Node, asked_claim, refutes}
 use Rattle.refutation_laws.specs.Models.{IsMet, depth_of}
 use Rattle.reasons.specs.Reasons.{HasMoreCases, most_cases}
 use Rattle.outcome_report.specs.Verdict.{is_as_claimed}
@@ -20,13 +20,13 @@ use Rattle.commands.specs.Verdicts.{status_of_verdict}
 pub record IsAllowedAnswer (t : Litmus) (e : Explanation) (json : Bool) (out : List ℕ) : Type 0 where
   pub order : List Entry
   pub choices : List Choice
-  pub met : IsMet e.model t (asked t.condition) order
+  pub met : IsMet e.model t (asked_claim t.condition) order
   pub lead : LeadTo t (depth_of e.model) choices order
   pub shown : ShowsExecution json e.model t order choices out
 
 -- the answer of `why` to a test: which of the refutations is printed, or which of the executions, no clause says
 pub data IsWhyAnswer (t : Litmus) (e : Explanation) (json assert : Bool) : List ℕ → Status → Type 0 where
-  never : (nodes : List Node) → refutes e.model t (asked t.condition) nodes ≡ true
+  never : (nodes : List Node) → refutes e.model t (asked_claim t.condition) nodes ≡ true
       → IsWhyAnswer t e json assert (refutation_in json e.model t nodes) (status_of_verdict assert (is_as_claimed t.condition false))
   allowed : (out : List ℕ) → IsAllowedAnswer t e json out
       → IsWhyAnswer t e json assert out (status_of_verdict assert (is_as_claimed t.condition true))

@@ -16,7 +16,7 @@ use Rattle.axiom_checker.specs.declared.breach.Breach.{Breach}
 use Rattle.litmus_reader.specs.Spelling.{SpellsTest}
 use Rattle.protocol_tables.specs.declared.kind.ProtocolKind.{ProtocolKind}
 use Rattle.machine_core.specs.Configuration.{Configuration}
-use Rattle.tso_report.specs.Shown.{Shown}
+use Rattle.tso_report.specs.Shown.{ShownRun}
 use Rattle.tso_report.specs.Report.{line}
 use Rattle.commands.specs.Dividing.{Parts}
 use Rattle.commands.specs.Lines.{depth_line}
@@ -60,7 +60,7 @@ pub record ReportsOrder (kind : ProtocolKind) (c : Configuration) (json : Bool) 
   pub order : List Entry
   pub test_spelled : SpellsTest parts.test t
   pub order_spelled : SpellsOrder t parts.rest order
-  pub shown : Shown
+  pub shown : ShownRun
   pub printed : out ≡ report_in json t kind c shown
   pub reached : shown.order ≡ order
   pub stalled : shown.stalled ≡ 0

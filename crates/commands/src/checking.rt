@@ -13,7 +13,7 @@ ghost use Rattle.commands.specs.inner.CheckLines.{CanBeNamed};
 use crate::answer::{Answer, Status};
 use axiom_checker::{Breach, check_order};
 use hints::Cause;
-use order_builder::laws::order_can_be_printed;
+use order_builder::order_texts::order_can_be_printed;
 use order_builder::{OrderFault, entry_text, letters_of, read_order};
 use std::alloc::Global;
 use tso_laws::made_entries_fit_the_test;

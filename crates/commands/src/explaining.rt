@@ -2,7 +2,7 @@
 //! told apart than may be. A part of a reason must never look like a whole one.
 
 ghost use Rattle.std.specs.Prelude.{◌≡◌, ◌<◌, Bool, true, map, IfOk, string_bytes};
-ghost use Rattle.refutation_laws.specs.Refutations.{asked, refutes};
+ghost use Rattle.refutation_laws.specs.Refutations.{asked_claim, refutes};
 ghost use Rattle.refutation_laws.specs.Models.{IsMet};
 ghost use Rattle.refutations.specs.Trees.{node_of};
 ghost use Rattle.reasons.specs.Reasons.{HasMoreCases, most_cases};
@@ -47,7 +47,7 @@ fn refuted_answer(
     assert: bool,
     nodes: &[Node],
 ) -> Result<Answer, NoMemory>
-    requires { refutes plan.model test.now (asked test.now.condition) (map node_of nodes.now) ≡ true }
+    requires { refutes plan.model test.now (asked_claim test.now.condition) (map node_of nodes.now) ≡ true }
     ensures { IfOk result (λ a. IsWhyAnswer test.now plan json assert (string_bytes a.text) a.status) }
 {
     let text = refutation_report(alloc, test, plan.model(), nodes, json)?;
@@ -66,7 +66,7 @@ fn allowed_answer(
     assert: bool,
     execution: &Execution,
 ) -> Result<Answer, NoMemory>
-    requires { IsMet plan.model test.now (asked test.now.condition) execution.now.order.items }
+    requires { IsMet plan.model test.now (asked_claim test.now.condition) execution.now.order.items }
     ensures { IfOk result (λ a. IsWhyAnswer test.now plan json assert (string_bytes a.text) a.status) }
 {
     let choices = choices_to(alloc, test, plan.model(), execution)?;

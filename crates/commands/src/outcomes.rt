@@ -3,7 +3,7 @@
 
 ghost use Rattle.std.specs.Prelude.{Bool, IfOk, string_bytes};
 ghost use Rattle.explorer.specs.FinalStates.{AreReached, HasMoreStates};
-ghost use Rattle.shown_values.specs.Shown.{named_in};
+ghost use Rattle.shown_values.specs.Shown.{names_shown};
 ghost use Rattle.commands.specs.Outcomes.{IsOutcomesAnswer};
 ghost use Rattle.commands.specs.inner.Searched.{ShowEveryEnd};
 
@@ -57,7 +57,7 @@ fn found_answer(
     finals: &[FinalState],
 ) -> Result<Answer, NoMemory>
     requires reached { AreReached test.now search.depth finals.now }
-    requires complete { ShowEveryEnd test.now (named_in search.show test.now) search.depth finals.now }
+    requires complete { ShowEveryEnd test.now (names_shown search.show test.now) search.depth finals.now }
     ensures { IfOk result (λ a. IsOutcomesAnswer test.now search json assert (string_bytes a.text) a.status) }
 {
     let printed = outcomes_report(alloc, test, search.depth(), finals, search.show(), json)?;

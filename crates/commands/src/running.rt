@@ -3,7 +3,7 @@
 
 ghost use Rattle.std.specs.Prelude.{◌≡◌, ◌≢◌, IfOk, OnOk, length, string_bytes};
 ghost use Rattle.tso_model.specs.Runs.{CoresExist};
-ghost use Rattle.tso_report.specs.Shown.{shown, IsOf};
+ghost use Rattle.tso_report.specs.Shown.{shown_run, IsRunOf};
 ghost use Rattle.commands.specs.Answers.{IsRunAnswer};
 ghost use Rattle.commands.specs.inner.Answers.{Says, SaysRun};
 ghost use Rattle.commands.specs.Lines.{choices_refusal};
@@ -123,8 +123,8 @@ fn report_in(
     json: bool,
     run: &Run,
 ) -> Result<String, NoMemory>
-    requires { IsOf test.now (shown run.now) }
-    ensures { IfOk result (λ text. string_bytes text ≡ report_in json test.now protocol config (shown run.now)) }
+    requires { IsRunOf test.now (shown_run run.now) }
+    ensures { IfOk result (λ text. string_bytes text ≡ report_in json test.now protocol config (shown_run run.now)) }
 {
     if json {
         report_json(alloc, test, protocol, config, run)

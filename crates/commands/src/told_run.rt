@@ -4,9 +4,9 @@
 ghost use Rattle.std.specs.Prelude.{◌≡◌, ◌≤◌, ◌++◌, IfOk, OnOk, length, string_bytes};
 ghost use Rattle.tso_model.specs.Runs.{CoresExist, stall_count};
 ghost use Rattle.split_laws.specs.BusChoices.{IsPossibleOn};
-ghost use Rattle.trace_report.specs.Known.{IsKnown};
-ghost use Rattle.trace_report.specs.Lines.{trace_text, step_line, step_lines};
-ghost use Rattle.trace_report.specs.Shown.{shown};
+ghost use Rattle.trace_report.specs.Known.{StepNamesExist};
+ghost use Rattle.trace_report.specs.Lines.{trace_text, trace_step_line, step_lines};
+ghost use Rattle.trace_report.specs.Shown.{shown_step};
 ghost use Rattle.trace_report.specs.Stalls.{stalled_step};
 ghost use Rattle.trace_report.specs.Steps.{trace_of, trace_under, steps_from};
 ghost use Rattle.trace_report.specs.Told.{IsTraced};

@@ -14,7 +14,7 @@ use crate::answer::{Answer, Status};
 use crate::checking::{invalid, refused_order};
 use axiom_checker::check_order;
 use hints::Cause;
-use order_builder::laws::order_can_be_printed;
+use order_builder::order_texts::order_can_be_printed;
 use order_builder::read_order;
 use scheduler::{WitnessFault, choices_text, witness};
 use std::alloc::Global;

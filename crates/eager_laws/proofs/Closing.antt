@@ -1,5 +1,5 @@
 -- Closed states miss none of the ended ones, but for dead registers and exchanges of cores that are alike.
-use Rattle.eager_laws.proofs.Vocabulary.{◌≡◌, ℕ, zero, suc, List, [], ◌∷◌, ◌++◌, Bool, true, length, inl, inr, refl, ap, sym, ◌∙◌, subst, Litmus, IsTest, State, start, chosen, after_choice, run, Choice, state_after, RunsStopWhereTheyEnd, lt-or, IsEager, IsDead, Reaches, IsSized, forgotten, AreAlike, exchanged_choice, exchanged, exchanged_by, IsOneOf, AreOf, AreAllAlike, IsExchangeable, LeadsEagerly, IsIn, AreClosed, IsAlikeOneOf}
+use Rattle.eager_laws.proofs.Vocabulary.{◌≡◌, ℕ, zero, suc, List, [], ◌∷◌, ◌++◌, Bool, true, length, inl, inr, refl, ap, sym, ◌∙◌, subst, Litmus, IsTest, State, start, chosen, after_choice, run, Choice, state_after, RunsStopWhereTheyEnd, lt-or, IsEager, IsDead, Reaches, IsSized, forgotten, AreAlike, exchanged_choice, exchanged, exchanged_by, IsOneOf, AreOf, AreAllAlike, IsExchangeable, LeadsEagerly, IsAmongStates, AreClosed, IsAlikeOneOf}
 use Rattle.eager_laws.proofs.Waits.{eager-first}
 use Rattle.eager_laws.proofs.Alike.{alike-after}
 use Rattle.eager_laws.proofs.EagerAlike.{eager-alike}
@@ -112,10 +112,10 @@ module _ (d : ℕ) (t : Litmus) (test : IsTest t) where
 
       -- that a state of the list stands for each that differs from it in dead registers alone
       abbrev StandsFor : ℕ → Type 0
-      StandsFor n = (last : State) → IsDead d t last → (s u : State) → IsIn states s → IsSized t u → AreAlike t hidden s u → Reaches d t n u last → IsAlikeOneOf t hidden pairs states last
+      StandsFor n = (last : State) → IsDead d t last → (s u : State) → IsAmongStates states s → IsSized t u → AreAlike t hidden s u → Reaches d t n u last → IsAlikeOneOf t hidden pairs states last
 
       -- so does one that is in the list once cores are exchanged
-      turned : (n : ℕ) → StandsFor n → (last : State) → IsDead d t last → (s : State) (es : List (ℕ × ℕ)) → AreOf pairs es → IsIn states (exchanged_by es (forgotten t hidden s)) → Follows last n s
+      turned : (n : ℕ) → StandsFor n → (last : State) → IsDead d t last → (s : State) (es : List (ℕ × ℕ)) → AreOf pairs es → IsAmongStates states (exchanged_by es (forgotten t hidden s)) → Follows last n s
           → IsAlikeOneOf t hidden pairs states last
       turned n later last dead s es h m f =
           let there = reaches-sized d t n f.real last f.sized f.reaches in

@@ -35,4 +35,4 @@ pub use Rattle.tso_model.specs.Runs.{run, stall_count, is_done, all_done, has_en
 pub use Rattle.tso_laws.specs.Choices.{state_after}
 pub use Rattle.tso_laws.specs.inner.Laws.{RunsStopWhereTheyEnd}
 pub use Rattle.eager_laws.specs.inner.Ending.{IsDead, Reaches, IsSized}
-pub use Rattle.eager_laws.specs.Closed.{LeadsEagerly, IsIn, AreClosed, IsAlikeOneOf}
+pub use Rattle.eager_laws.specs.Closed.{LeadsEagerly, IsAmongStates, AreClosed, IsAlikeOneOf}

@@ -15,8 +15,8 @@ LeadsEagerly depth t state [] last = state ≡ last
 LeadsEagerly depth t state (e ∷ es) last = IsEager depth t state e × LeadsEagerly depth t (after_choice t depth state e) es last
 
 -- the state is among these
-abbrev pub IsIn : List State → State → Type 0
-IsIn states state = (i : ℕ) × (slice_get states i ≡ Some state)
+abbrev pub IsAmongStates : List State → State → Type 0
+IsAmongStates states state = (i : ℕ) × (slice_get states i ≡ Some state)
 
 -- eager choices lead from the state to one that is among these once its dead registers are forgotten and cores of these pairs exchanged
 pub record IsCovered (depth : ℕ) (t : Litmus) (hidden : List (List Bool)) (pairs : List (ℕ × ℕ)) (states : List State) (state : State) : Type 0 where
@@ -25,7 +25,7 @@ pub record IsCovered (depth : ℕ) (t : Litmus) (hidden : List (List Bool)) (pai
   pub leads : LeadsEagerly depth t state eager last
   pub exchanges : List (ℕ × ℕ)
   pub of_pairs : AreOf pairs exchanges
-  pub among : IsIn states (exchanged_by exchanges (forgotten t hidden last))
+  pub among : IsAmongStates states (exchanged_by exchanges (forgotten t hidden last))
 
 -- each choice of the test's cores leads from the state to one that is covered, or stalls
 abbrev pub IsExpanded : ℕ → Litmus → List (List Bool) → List (ℕ × ℕ) → List State → State → Type 0
@@ -36,14 +36,14 @@ IsExpanded depth t hidden pairs states state =
 -- the first state is covered, and each of the states is expanded
 pub record AreClosed (depth : ℕ) (t : Litmus) (hidden : List (List Bool)) (pairs : List (ℕ × ℕ)) (states : List State) : Type 0 where
   pub first : IsCovered depth t hidden pairs states (start t)
-  pub each : (state : State) → IsIn states state → IsExpanded depth t hidden pairs states state
+  pub each : (state : State) → IsAmongStates states state → IsExpanded depth t hidden pairs states state
 
 -- one of these differs in dead registers alone from what exchanges make of the state
 pub record IsAlikeOneOf (t : Litmus) (hidden : List (List Bool)) (pairs : List (ℕ × ℕ)) (states : List State) (state : State) : Type 0 where
   pub exchanges : List (ℕ × ℕ)
   pub of_pairs : AreOf pairs exchanges
   pub kept : State
-  pub among : IsIn states kept
+  pub among : IsAmongStates states kept
   pub alike : AreAlike t hidden kept (exchanged_by exchanges state)
 
 -- where the pairs are of cores that are alike and the states are closed, every run that ends leaves one of them, but for dead registers

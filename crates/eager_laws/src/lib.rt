@@ -8,9 +8,9 @@
 //! two cores that are alike is which, it may keep one.
 #![tactic(auto)]
 
-pub mod laws;
+pub mod left_out_states;
 
-pub use laws::{
+pub use left_out_states::{
     alike_cores_are_exchangeable, closed_states_miss_none, dead_registers_change_nothing,
     eager_choices_take_effect,
 };

@@ -4,7 +4,7 @@ ghost use Rattle.tso_model.specs.Condition.{truth_of, NamesExist};
 ghost use Rattle.tso_model.specs.FinalState.{final_registers, final_words};
 ghost use Rattle.tso_model.specs.SequentialConsistency.{KeepsAllOrder};
 ghost use Rattle.tso_model.specs.Axioms.{IsTsoExecution};
-ghost use Rattle.refutation_laws.specs.Refutations.{asked};
+ghost use Rattle.refutation_laws.specs.Refutations.{asked_claim};
 ghost use Rattle.refutation_laws.specs.Models.{IsExecutionOf, IsMet};
 ghost use Rattle.execution_check.specs.inner.Orders as spec;
 
@@ -72,7 +72,7 @@ fn is_execution(
 fn is_asked_true(test: &Test, registers: &[[u32; 6]], words: &[u32]) -> bool
     requires registers { length registers.now ≡ length test.now.programs }
     requires words { length words.now ≡ length test.now.words }
-    ensures { result ≡ truth_of registers.now words.now (asked test.now.condition) }
+    ensures { result ≡ truth_of registers.now words.now (asked_claim test.now.condition) }
 {
     test.know_limits();
     let Some(cond) = test.cond() else {
@@ -95,8 +95,8 @@ pub fn is_met(
     model: Model,
     execution: &Execution,
 ) -> Result<bool, NoMemory>
-    ensures met { IfOk result (λ b. b ≡ true → IsMet model test.now (asked test.now.condition) execution.now.order.items) }
-    ensures unmet { IfOk result (λ b. b ≡ false → ¬ IsMet model test.now (asked test.now.condition) execution.now.order.items) }
+    ensures met { IfOk result (λ b. b ≡ true → IsMet model test.now (asked_claim test.now.condition) execution.now.order.items) }
+    ensures unmet { IfOk result (λ b. b ≡ false → ¬ IsMet model test.now (asked_claim test.now.condition) execution.now.order.items) }
 {
     if !is_execution(alloc, test, model, execution)? {
         return Ok(false);

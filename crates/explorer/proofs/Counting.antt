@@ -1,26 +1,26 @@
 -- The snapshots of a set have as many states as they are.
-use Rattle.explorer.proofs.Vocabulary.{◌≡◌, ◌<◌, ℕ, zero, suc, Bool, false, List, [], ◌∷◌, Some, slice_get, length, arith, ap, sym, ◌∙◌, subst, refl, IsDistinct, AllByRecursion, IsDistinct-head, IsDistinct-tail, IsDistinct-cons, Litmus, State, forgotten, DeadRegistersChangeNothing, AlikeCoresAreExchangeable, state_of, AreLinked, IsReachable, HasMoreStates, Snapshot, Link}
+use Rattle.explorer.proofs.Vocabulary.{◌≡◌, ◌<◌, ℕ, zero, suc, Bool, false, List, [], ◌∷◌, Some, slice_get, length, arith, ap, sym, ◌∙◌, subst, refl, IsDistinct, AllByRecursion, IsDistinct-head, IsDistinct-tail, IsDistinct-cons, Litmus, State, forgotten, DeadRegistersChangeNothing, AlikeCoresAreExchangeable, state_of_snapshot, AreLinked, IsReachable, HasMoreStates, Snapshot, Link}
 use Rattle.flat_machine.specs.contracts.snapshot.SnapshotPartialEq.TheImpl as snapshot_eq
 use Rattle.explorer.proofs.Same.{snapshots-equal}
 use Rattle.explorer.proofs.Linking.{linked-leads, reachable}
 
-differs : (x : Snapshot) (xs : List Snapshot) (j : ℕ) (b : Snapshot) → AllByRecursion (λ y. (snapshot_eq.eq-value).it x y ≡ false) xs → slice_get xs j ≡ Some b → state_of x ≡ state_of b → ⊥
+differs : (x : Snapshot) (xs : List Snapshot) (j : ℕ) (b : Snapshot) → AllByRecursion (λ y. (snapshot_eq.eq-value).it x y ≡ false) xs → slice_get xs j ≡ Some b → state_of_snapshot x ≡ state_of_snapshot b → ⊥
 differs x [] j b h p q = let z : ⊥ = cc in z
 differs x (y ∷ xs) zero b h p q =
     let e : y ≡ b = cc in
-    let r = snapshots-equal x y (q ∙ ap state_of (sym e)) in
+    let r = snapshots-equal x y (q ∙ ap state_of_snapshot (sym e)) in
     let f = h.0 in let z : ⊥ = cc in z
 differs x (y ∷ xs) (suc j) b h p q = differs x xs j b h.1 p q
 
 -- one state stands once
 pub apart : (xs : List Snapshot) → IsDistinct (snapshot_eq.eq-value).it xs → (i j : ℕ) (a b : Snapshot) → slice_get xs i ≡ Some a → slice_get xs j ≡ Some b
-    → state_of a ≡ state_of b → i ≡ j
+    → state_of_snapshot a ≡ state_of_snapshot b → i ≡ j
 apart [] d i j a b p q e = absurd (let z : ⊥ = cc in z)
 apart (x ∷ xs) d zero zero a b p q e = refl
 apart (x ∷ xs) d zero (suc j) a b p q e =
-    let f : x ≡ a = cc in absurd (differs x xs j b (IsDistinct-head (snapshot_eq.eq-value).it x xs d) q (ap state_of f ∙ e))
+    let f : x ≡ a = cc in absurd (differs x xs j b (IsDistinct-head (snapshot_eq.eq-value).it x xs d) q (ap state_of_snapshot f ∙ e))
 apart (x ∷ xs) d (suc i) zero a b p q e =
-    let f : x ≡ b = cc in absurd (differs x xs i a (IsDistinct-head (snapshot_eq.eq-value).it x xs d) p (ap state_of f ∙ sym e))
+    let f : x ≡ b = cc in absurd (differs x xs i a (IsDistinct-head (snapshot_eq.eq-value).it x xs d) p (ap state_of_snapshot f ∙ sym e))
 apart (x ∷ xs) d (suc i) (suc j) a b p q e = ap suc (apart xs (IsDistinct-tail (snapshot_eq.eq-value).it x xs d) i j a b p q e)
 
 -- for each element one that stands for it
@@ -42,7 +42,7 @@ collect {A} {B} R (x ∷ xs) h =
 -- the state can be reached, and is that of the snapshot once its dead registers are forgotten
 record StandsFor (t : Litmus) (d : ℕ) (hidden : List (List Bool)) (x : Snapshot) (s : State) : Type 0 where
   reachable : IsReachable t d s
-  kept_is : forgotten t hidden s ≡ state_of x
+  kept_is : forgotten t hidden s ≡ state_of_snapshot x
 
 -- as many states can be reached as snapshots are linked
 pub more-states : DeadRegistersChangeNothing → AlikeCoresAreExchangeable → (d : ℕ) (t : Litmus) (hidden : List (List Bool)) (xs : List Snapshot) (links : List Link) (limit : ℕ) → IsDistinct (snapshot_eq.eq-value).it xs

@@ -1,5 +1,5 @@
 -- Exchanges of cores that are alike, in choices that lead from the first state to another one.
-use Rattle.explorer.proofs.Vocabulary.{◌≡◌, ◌<◌, ℕ, ◌+◌, zero, suc, Bool, true, false, List, [], ◌∷◌, ◌++◌, length, map, Some, slice_get, if◌then◌else◌, ◌==◌, ap, sym, ◌∙◌, subst, refl, append_assoc, length-set, length-map, length-swap, Litmus, State, started, start, effect_of, after_choice, chosen, stall_count, Instr, Choice, Step, Drain, forgotten, exchanged_core, exchanged_choice, renamed, exchanged, exchanged_by, AreOf, CoresAreAlike, AreAllAlike, IsExchangeable, AlikeCoresAreExchangeable, LeadsBy, LeadsTo, played, Made, Exchanged, append-nil}
+use Rattle.explorer.proofs.Vocabulary.{◌≡◌, ◌<◌, ℕ, ◌+◌, zero, suc, Bool, true, false, List, [], ◌∷◌, ◌++◌, length, map, Some, slice_get, if◌then◌else◌, ◌==◌, ap, sym, ◌∙◌, subst, refl, append_assoc, length-set, length-map, length-swap, Litmus, State, started, start, effect_of, after_choice, chosen, stall_count, Instr, Choice, Step, Drain, forgotten, exchanged_core, exchanged_choice, renamed, exchanged, exchanged_by, AreOf, CoresAreAlike, AreAllAlike, IsExchangeable, AlikeCoresAreExchangeable, LeadsBy, LeadsToForgotten, played, Made, Exchanged, append-nil}
 
 -- ---- pairs
 
@@ -96,7 +96,7 @@ module _ (d : ℕ) (t : Litmus) (hidden : List (List Bool)) where
 
     -- what choices lead to from the first state, those with cores exchanged lead to with these exchanged
     pub leads-exchanged : (cs : List Choice) (es : List (ℕ × ℕ)) (r : State) → AreAllAlike t hidden es → LeadsBy d t (start t) cs r
-        → LeadsTo d t hidden (start t) (exchanged_choices es cs) (exchanged_by es (forgotten t hidden r))
+        → LeadsToForgotten d t hidden (start t) (exchanged_choices es cs) (exchanged_by es (forgotten t hidden r))
     leads-exchanged cs es r h l = record {
       last = exchanged_by es r;
       leads = subst (λ z. LeadsBy d t z (exchanged_choices es cs) (exchanged_by es r)) (start-by es h) (leads-by es h (start t) cs r (start-cores t) l);

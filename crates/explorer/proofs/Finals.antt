@@ -1,5 +1,5 @@
 -- The final states among the snapshots, one more at a time.
-use Rattle.explorer.proofs.Vocabulary.{◌≡◌, ◌<◌, ℕ, ◌+◌, Bool, true, false, List, [], ◌∷◌, ◌++◌, length, map, Some, slice_get, inl, inr, arith, ap, sym, ◌∙◌, subst, refl, IsDistinct, lt-or, Litmus, IsTest, State, registers_in, run, has_ended, RunsStopWhereTheyEnd, ClosedStatesMissNone, forgotten, AreAlike, seen, DeadRegistersChangeNothing, AreAllAlike, AlikeCoresAreExchangeable, state_of, HaveCores, AreReached, Have, HaveEveryEnd, AreDistinct, IsFinalOf, IsMadeOf, AreFinalsOf, IsWhole, Snapshot, FinalState}
+use Rattle.explorer.proofs.Vocabulary.{◌≡◌, ◌<◌, ℕ, ◌+◌, Bool, true, false, List, [], ◌∷◌, ◌++◌, length, map, Some, slice_get, inl, inr, arith, ap, sym, ◌∙◌, subst, refl, IsDistinct, lt-or, Litmus, IsTest, State, registers_in, run, has_ended, RunsStopWhereTheyEnd, ClosedStatesMissNone, forgotten, AreAlike, seen, DeadRegistersChangeNothing, AreAllAlike, AlikeCoresAreExchangeable, state_of_snapshot, HaveCores, AreReached, Have, HaveEveryEnd, AreDistinct, IsFinalOf, IsMadeOf, AreFinalsOf, MissesNoEnd, Snapshot, FinalState}
 use Rattle.flat_machine.specs.contracts.snapshot.SnapshotPartialEq.TheImpl as snapshot_eq
 use Rattle.explorer.proofs.Counting.{apart}
 use Rattle.explorer.proofs.Ending.{ended-same, leads-to-end}
@@ -15,21 +15,21 @@ cores-at t xs i s h q = ap (λ z. length z.cores.items) (sym (get-or xs i s s q)
 seen-same : DeadRegistersChangeNothing → (t : Litmus) (hidden : List (List Bool)) (s r : State) → AreAlike t hidden s r → has_ended t s ≡ true → seen hidden (registers_in s) ≡ seen hidden (registers_in r)
 seen-same law t hidden s r a e = sym (law.at_the_end t hidden s e) ∙ ap registers_in a ∙ law.at_the_end t hidden r (sym (law.ended t hidden s r a) ∙ e)
 
-module _ (law : DeadRegistersChangeNothing) (d : ℕ) (t : Litmus) (hidden : List (List Bool)) (x : Snapshot) (f : FinalState) (h : IsFinalOf d t hidden (state_of x) f) (ended : has_ended t (state_of x) ≡ true) where
-  kept-alike : AreAlike t hidden (state_of x) h.last
+module _ (law : DeadRegistersChangeNothing) (d : ℕ) (t : Litmus) (hidden : List (List Bool)) (x : Snapshot) (f : FinalState) (h : IsFinalOf d t hidden (state_of_snapshot x) f) (ended : has_ended t (state_of_snapshot x) ≡ true) where
+  kept-alike : AreAlike t hidden (state_of_snapshot x) h.last
   kept-alike = ap (forgotten t hidden) (sym h.kept_is) ∙ law.twice t hidden h.last
 
   last-ended : has_ended t h.last ≡ true
-  last-ended = sym (law.ended t hidden (state_of x) h.last kept-alike) ∙ ended
+  last-ended = sym (law.ended t hidden (state_of_snapshot x) h.last kept-alike) ∙ ended
 
-  kept-registers : registers_in (state_of x) ≡ seen hidden f.registers.items
+  kept-registers : registers_in (state_of_snapshot x) ≡ seen hidden f.registers.items
   kept-registers = ap registers_in (sym h.kept_is) ∙ law.at_the_end t hidden h.last last-ended ∙ ap (seen hidden) h.registers_are
 
   kept-memory : x.memory.items ≡ f.memory.items
   kept-memory = ap (λ z. z.memory) (sym h.kept_is) ∙ h.memory_is
 
-  seen-registers : seen hidden f.registers.items ≡ seen hidden (registers_in (state_of x))
-  seen-registers = ap (seen hidden) (sym h.registers_are) ∙ sym (seen-same law t hidden (state_of x) h.last kept-alike ended)
+  seen-registers : seen hidden f.registers.items ≡ seen hidden (registers_in (state_of_snapshot x))
+  seen-registers = ap (seen hidden) (sym h.registers_are) ∙ sym (seen-same law t hidden (state_of_snapshot x) h.last kept-alike ended)
 
 -- ---- one more at a time
 
@@ -52,7 +52,7 @@ finals-none d t hidden xs = record {
 
 -- the next snapshot hasn't ended
 pub finals-skip : (d : ℕ) (t : Litmus) (hidden : List (List Bool)) (xs : List Snapshot) (n : ℕ) (fs : List FinalState) (x : Snapshot) → AreFinalsOf d t hidden xs n fs
-    → slice_get xs n ≡ Some x → has_ended t (state_of x) ≡ false → AreFinalsOf d t hidden xs (n + 1) fs
+    → slice_get xs n ≡ Some x → has_ended t (state_of_snapshot x) ≡ false → AreFinalsOf d t hidden xs (n + 1) fs
 finals-skip d t hidden xs n fs x h at e = record {
   each = λ i f q. made-later d t hidden xs n f (h.each i f q);
   all = λ i s l q w. elim (lt-or n i) [
@@ -60,7 +60,7 @@ finals-skip d t hidden xs n fs x h at e = record {
     | inr m ↦
         let same : i ≡ n = omega (arith, l, m) in
         let is : s ≡ x = get-one xs n s x (subst (λ z. slice_get xs z ≡ Some s) same q) at in
-        absurd (let r = ap (λ z. has_ended t (state_of z)) is in let z : ⊥ = cc in z)
+        absurd (let r = ap (λ z. has_ended t (state_of_snapshot z)) is in let z : ⊥ = cc in z)
   ];
   once = h.once;
 }
@@ -91,9 +91,9 @@ module _ (law : DeadRegistersChangeNothing) (d : ℕ) (t : Litmus) (hidden : Lis
   last-stands [] = refl
   last-stands (g ∷ gs) = last-stands gs
 
-  all : (i : ℕ) (s : Snapshot) → i < n + 1 → slice_get xs i ≡ Some s → has_ended t (state_of s) ≡ true → Have hidden (fs ++ f ∷ []) (registers_in (state_of s)) s.memory.items
+  all : (i : ℕ) (s : Snapshot) → i < n + 1 → slice_get xs i ≡ Some s → has_ended t (state_of_snapshot s) ≡ true → Have hidden (fs ++ f ∷ []) (registers_in (state_of_snapshot s)) s.memory.items
   all i s l q w = elim (lt-or n i) [
-    | inl m ↦ have-more (registers_in (state_of s)) s.memory.items (h.all i s m q w)
+    | inl m ↦ have-more (registers_in (state_of_snapshot s)) s.memory.items (h.all i s m q w)
     | inr m ↦
         let same : i ≡ made.at = omega (arith, l, m, at) in
         let is : made.snapshot ≡ s = get-one xs made.at made.snapshot s made.stands (subst (λ z. slice_get xs z ≡ Some s) same q) in
@@ -101,7 +101,7 @@ module _ (law : DeadRegistersChangeNothing) (d : ℕ) (t : Litmus) (hidden : Lis
           at = length fs;
           final = f;
           stands = last-stands fs;
-          registers_are = seen-registers law d t hidden made.snapshot f made.made made.ended ∙ ap (λ z. seen hidden (registers_in (state_of z))) is;
+          registers_are = seen-registers law d t hidden made.snapshot f made.made made.ended ∙ ap (λ z. seen hidden (registers_in (state_of_snapshot z))) is;
           memory_is = sym (kept-memory law d t hidden made.snapshot f made.made made.ended) ∙ ap (λ z. z.memory.items) is;
         }
   ]
@@ -134,12 +134,12 @@ finals-reached law d t hidden xs n fs h i f q =
 pub record AreAll (d : ℕ) (t : Litmus) (hidden : List (List Bool)) (pairs : List (ℕ × ℕ)) (xs : List Snapshot) : Type 0 where
   pub alike : AreAllAlike t hidden pairs
   pub cores : HaveCores t xs
-  pub whole : IsWhole d t hidden pairs xs
+  pub whole : MissesNoEnd d t hidden pairs xs
 
 finals-complete : DeadRegistersChangeNothing → AlikeCoresAreExchangeable → ClosedStatesMissNone → RunsStopWhereTheyEnd → (d : ℕ) (t : Litmus) (hidden : List (List Bool)) (pairs : List (ℕ × ℕ))
     (xs : List Snapshot) (fs : List FinalState) → IsTest t → AreAll d t hidden pairs xs → AreFinalsOf d t hidden xs (length xs) fs → HaveEveryEnd t d hidden fs
 finals-complete law all closed stop d t hidden pairs xs fs test w h registers memory e =
-    let m = closed d t hidden pairs (map state_of w.whole.earlier) e.choices test w.alike w.whole.closed e.ended in
+    let m = closed d t hidden pairs (map state_of_snapshot w.whole.earlier) e.choices test w.alike w.whole.closed e.ended in
     let last : State = (run t d e.choices).state in
     let ended : has_ended t last ≡ true = sym (stop.stops t d e.choices).ended ∙ e.ended in
     let k = found-back law all t hidden pairs xs w.alike w.cores w.whole.exchanged m.exchanges m.of_pairs last (end-cores stop d t e.choices) ended m.kept (in-grown w.whole.earlier xs m.kept w.whole.grows m.among) m.alike in

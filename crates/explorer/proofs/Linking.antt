@@ -1,5 +1,5 @@
 -- Links lead to their snapshots.
-use Rattle.explorer.proofs.Vocabulary.{◌≡◌, ◌<◌, ◌≤◌, ℕ, ◌+◌, zero, suc, Bool, true, false, List, [], ◌∷◌, ◌++◌, length, Some, slice_get, slice_index_or, if◌then◌else◌, inl, inr, arith, ap, sym, ◌∙◌, subst, refl, length-append, get_or, take, map, append_assoc, not, slice_get-get_or, map-append, take_more, list_any, insert_key, lt-or, Litmus, State, after_choice, start, effect_of, chosen, CoresExist, stall_count, Choice, state_after, state_of, LeadsEagerly, forgotten, AreAlike, DeadRegistersChangeNothing, exchanged_by, AreOf, AreAllAlike, AlikeCoresAreExchangeable, LeadsBy, LeadsTo, IsSettled, LeadByTurns, IsReached, IsLinked, AreLinked, IsPath, GoBack, played, IsArranged, Turn, IsReachable, Snapshot, Link}
+use Rattle.explorer.proofs.Vocabulary.{◌≡◌, ◌<◌, ◌≤◌, ℕ, ◌+◌, zero, suc, Bool, true, false, List, [], ◌∷◌, ◌++◌, length, Some, slice_get, slice_index_or, if◌then◌else◌, inl, inr, arith, ap, sym, ◌∙◌, subst, refl, length-append, get_or, take, map, append_assoc, not, slice_get-get_or, map-append, take_more, list_any, insert_key, lt-or, Litmus, State, after_choice, start, effect_of, chosen, CoresExist, stall_count, Choice, state_after, state_of_snapshot, LeadsEagerly, forgotten, AreAlike, DeadRegistersChangeNothing, exchanged_by, AreOf, AreAllAlike, AlikeCoresAreExchangeable, LeadsBy, LeadsToForgotten, IsSettled, LeadByTurns, IsReachedByChoice, IsLinked, AreLinked, IsPath, GoBack, played, IsArranged, Turn, IsReachable, Snapshot, Link}
 use Rattle.explorer.proofs.Exchanging.{leads-exchanged, of-alike, played-is}
 
 -- ---- places of a list
@@ -62,21 +62,21 @@ leads-alike law d t hidden s u (c ∷ cs) r a l =
 
 -- choices from the first state, and turns from a kept state on
 pub leads-join : DeadRegistersChangeNothing → AlikeCoresAreExchangeable → (d : ℕ) (t : Litmus) (hidden : List (List Bool)) (kept more : State) (cs : List Choice) (turns : List Turn)
-    → LeadsTo d t hidden (start t) cs kept → LeadByTurns d t hidden kept turns more → LeadsTo d t hidden (start t) (played turns cs) more
+    → LeadsToForgotten d t hidden (start t) cs kept → LeadByTurns d t hidden kept turns more → LeadsToForgotten d t hidden (start t) (played turns cs) more
 leads-join law all d t hidden kept more cs turns h k =
     let last : State = k.lead.last in
     let alike : AreAlike t hidden kept h.last = ap (forgotten t hidden) (sym h.kept_is) ∙ law.twice t hidden h.last in
     let w = leads-alike law d t hidden kept h.last k.choices last alike k.lead.leads in
     let x = leads-exchanged d t hidden all (cs ++ k.choices) k.exchanges w.0 k.lead.alike (leads-append d t (start t) cs h.last k.choices w.0 h.leads w.1) in
-    subst (λ z. LeadsTo d t hidden (start t) z more) (sym (ap (λ z. played z cs) k.turns_are ∙ played-is k.choices k.exchanges cs))
+    subst (λ z. LeadsToForgotten d t hidden (start t) z more) (sym (ap (λ z. played z cs) k.turns_are ∙ played-is k.choices k.exchanges cs))
     (record { last = x.last; leads = x.leads; kept_is = x.kept_is ∙ ap (exchanged_by k.exchanges) w.2 ∙ k.lead.kept_is })
 
 -- turns from the first state
 pub leads-first : AlikeCoresAreExchangeable → (d : ℕ) (t : Litmus) (hidden : List (List Bool)) (more : State) (turns : List Turn) → LeadByTurns d t hidden (start t) turns more
-    → LeadsTo d t hidden (start t) (played turns []) more
+    → LeadsToForgotten d t hidden (start t) (played turns []) more
 leads-first all d t hidden more turns k =
     let x = leads-exchanged d t hidden all k.choices k.exchanges k.lead.last k.lead.alike k.lead.leads in
-    subst (λ z. LeadsTo d t hidden (start t) z more) (sym (ap (λ z. played z []) k.turns_are ∙ played-is k.choices k.exchanges []))
+    subst (λ z. LeadsToForgotten d t hidden (start t) z more) (sym (ap (λ z. played z []) k.turns_are ∙ played-is k.choices k.exchanges []))
     (record { last = x.last; leads = x.leads; kept_is = x.kept_is ∙ k.lead.kept_is })
 
 -- ---- links
@@ -87,7 +87,7 @@ linked-grown d t hidden xs ys (suc i) s link h = (h.0, h.1, get-left xs ys link.
 
 -- one snapshot more, reached from one that is there
 pub linked-more : (d : ℕ) (t : Litmus) (hidden : List (List Bool)) (xs : List Snapshot) (links : List Link) (r x : Snapshot) (link : Link) → AreLinked d t hidden xs links
-    → slice_get xs link.from ≡ Some r → LeadByTurns d t hidden (state_of r) link.turns.items (state_of x) → AreLinked d t hidden (xs ++ x ∷ []) (links ++ link ∷ [])
+    → slice_get xs link.from ≡ Some r → LeadByTurns d t hidden (state_of_snapshot r) link.turns.items (state_of_snapshot x) → AreLinked d t hidden (xs ++ x ∷ []) (links ++ link ∷ [])
 linked-more d t hidden xs links r x link h at leads = record {
   count = let a = length-append xs (x ∷ []) in let b = length-append links (link ∷ []) in let n = h.count in omega (arith, a, b, n);
   each = λ i s l p q. elim (lt-or (length xs) i) [
@@ -126,7 +126,7 @@ leads-settled d t s acted settled c after l k e h =
 -- and without what is dead there, with cores that are alike exchanged
 pub reached-is : (d : ℕ) (t : Litmus) (hidden : List (List Bool)) (pairs : List (ℕ × ℕ)) (s acted settled forgot kept : State) (c : Choice) (before after : List Choice) (none exchanges : List (ℕ × ℕ))
     → AreAllAlike t hidden pairs → chosen c < length t.programs → stall_count (effect_of t d s c).outcome ≡ 0 → acted ≡ after_choice t d s c → before ≡ c ∷ []
-    → IsSettled d t acted settled before after → forgot ≡ forgotten t hidden settled → none ≡ [] → IsArranged pairs forgot kept none exchanges → IsReached d t hidden pairs s c after exchanges kept
+    → IsSettled d t acted settled before after → forgot ≡ forgotten t hidden settled → none ≡ [] → IsArranged pairs forgot kept none exchanges → IsReachedByChoice d t hidden pairs s c after exchanges kept
 reached-is d t hidden pairs s acted settled forgot kept c before after none exchanges all l k e b h f n a =
     let made : IsSettled d t acted settled (c ∷ []) after = subst (λ z. IsSettled d t acted settled z after) b h in
     let of : AreOf pairs exchanges = subst (AreOf pairs) (sym (a.appended ∙ ap (λ z. z ++ a.made) n)) a.of_pairs in
@@ -145,7 +145,7 @@ module _ (eq : Snapshot → Snapshot → Bool) (d : ℕ) (t : Litmus) (hidden : 
     (keys : new ≡ insert_key eq old x) (is : added ≡ not (list_any (eq x) old)) (h : AreLinked d t hidden old links) where
   -- it was new
   pub linked-new : (r : Snapshot) (link : Link) (more : List Link) → added ≡ true → more ≡ links ++ link ∷ [] → slice_get old link.from ≡ Some r
-      → LeadByTurns d t hidden (state_of r) link.turns.items (state_of x) → AreLinked d t hidden new more
+      → LeadByTurns d t hidden (state_of_snapshot r) link.turns.items (state_of_snapshot x) → AreLinked d t hidden new more
   linked-new r link more q m at leads =
       let last : new ≡ old ++ x ∷ [] = keys ∙ ap (λ b. if b then old else old ++ x ∷ []) (not-true (list_any (eq x) old) (sym is ∙ q)) in
       subst (λ z. AreLinked d t hidden z more) (sym last) (subst (λ z. AreLinked d t hidden (old ++ x ∷ []) z) (sym m) (linked-more d t hidden old links r x link h at leads))
@@ -157,14 +157,14 @@ module _ (eq : Snapshot → Snapshot → Bool) (d : ℕ) (t : Litmus) (hidden : 
       subst (λ z. AreLinked d t hidden z links) (sym same) h
 
 -- the first alone
-pub linked-first : (d : ℕ) (t : Litmus) (hidden : List (List Bool)) (x : Snapshot) (link : Link) → LeadByTurns d t hidden (start t) link.turns.items (state_of x)
+pub linked-first : (d : ℕ) (t : Litmus) (hidden : List (List Bool)) (x : Snapshot) (link : Link) → LeadByTurns d t hidden (start t) link.turns.items (state_of_snapshot x)
     → AreLinked d t hidden (x ∷ []) (link ∷ [])
 linked-first d t hidden x link leads = record { count = refl; each = each }
   where
     each : (i : ℕ) (s : Snapshot) (l : Link) → slice_get (x ∷ []) i ≡ Some s → slice_get (link ∷ []) i ≡ Some l → IsLinked d t hidden (x ∷ []) i s l
     each zero s l p q = let a : x ≡ s = cc in let b : link ≡ l = cc in
-        subst (λ z. LeadByTurns d t hidden (start t) z.turns.items (state_of s)) b
-        (subst (λ z. LeadByTurns d t hidden (start t) link.turns.items (state_of z)) a leads)
+        subst (λ z. LeadByTurns d t hidden (start t) z.turns.items (state_of_snapshot s)) b
+        (subst (λ z. LeadByTurns d t hidden (start t) link.turns.items (state_of_snapshot z)) a leads)
     each (suc i) s l p q = absurd (let z : ⊥ = cc in z)
 
 -- ---- paths
@@ -184,8 +184,8 @@ pub path-first : AlikeCoresAreExchangeable → (links : List Link) (at : ℕ) (d
     → cs ≡ played (slice_index_or links at d).turns.items was → was ≡ [] → IsPath links at cs
 path-first all links zero d cs was p l e w = λ depth t hidden xs s h q.
     let link : Link = slice_index_or links 0 d in
-    subst (λ z. LeadsTo depth t hidden (start t) z (state_of s)) (sym (e ∙ ap (played link.turns.items) w))
-    (leads-first all depth t hidden (state_of s) link.turns.items (h.each 0 s link q (slice_get-get_or links 0 d l)))
+    subst (λ z. LeadsToForgotten depth t hidden (start t) z (state_of_snapshot s)) (sym (e ∙ ap (played link.turns.items) w))
+    (leads-first all depth t hidden (state_of_snapshot s) link.turns.items (h.each 0 s link q (slice_get-get_or links 0 d l)))
 path-first all links (suc i) d cs was p l e w = absurd (let z : ⊥ = omega (arith, p) in z)
 
 pub path-on : DeadRegistersChangeNothing → AlikeCoresAreExchangeable → (links : List Link) (at : ℕ) (c d : Link) (cs was before : List Choice) → 0 < at → at < length links
@@ -197,28 +197,28 @@ path-on law all links (suc i) c d cs was before p l h e w = λ depth t hidden xs
     let r = linked.each (suc i) s link q g in
     let same : link ≡ slice_index_or links (suc i) d = get-one links (suc i) _ _ g (slice_get-get_or links (suc i) d l) in
     let is : cs ≡ played link.turns.items before = e ∙ ap (λ z. played z.turns.items was) (sym same) ∙ ap (played link.turns.items) w in
-    subst (λ z. LeadsTo depth t hidden (start t) z (state_of s)) (sym is)
-    (leads-join law all depth t hidden (state_of r.0) (state_of s) before link.turns.items (h depth t hidden xs r.0 linked r.2) r.3)
+    subst (λ z. LeadsToForgotten depth t hidden (start t) z (state_of_snapshot s)) (sym is)
+    (leads-join law all depth t hidden (state_of_snapshot r.0) (state_of_snapshot s) before link.turns.items (h depth t hidden xs r.0 linked r.2) r.3)
 
 -- each snapshot can be reached, but for its dead registers
 pub linked-leads : DeadRegistersChangeNothing → AlikeCoresAreExchangeable → (d : ℕ) (t : Litmus) (hidden : List (List Bool)) (xs : List Snapshot) (links : List Link) → AreLinked d t hidden xs links
-    → (n i : ℕ) (s : Snapshot) → i < n → slice_get xs i ≡ Some s → (cs : List Choice) × LeadsTo d t hidden (start t) cs (state_of s)
+    → (n i : ℕ) (s : Snapshot) → i < n → slice_get xs i ≡ Some s → (cs : List Choice) × LeadsToForgotten d t hidden (start t) cs (state_of_snapshot s)
 linked-leads law all d t hidden xs links h zero i s l at = absurd (let z : ⊥ = omega (arith, l) in z)
 linked-leads law all d t hidden xs links h (suc n) zero s l at =
     let m = get-within xs 0 s at in let k = h.count in
     let r = get-some links 0 (omega (arith, m, k)) in
-    (played r.0.turns.items [], leads-first all d t hidden (state_of s) r.0.turns.items (h.each 0 s r.0 at r.1))
+    (played r.0.turns.items [], leads-first all d t hidden (state_of_snapshot s) r.0.turns.items (h.each 0 s r.0 at r.1))
 linked-leads law all d t hidden xs links h (suc n) (suc i) s l at =
     let m = get-within xs (suc i) s at in let k = h.count in
     let r = get-some links (suc i) (omega (arith, m, k)) in
     let w = h.each (suc i) s r.0 at r.1 in
     let before = w.1 in
     let p = linked-leads law all d t hidden xs links h n r.0.from w.0 (omega (arith, l, before)) w.2 in
-    (played r.0.turns.items p.0, leads-join law all d t hidden (state_of w.0) (state_of s) p.0 r.0.turns.items p.1 w.3)
+    (played r.0.turns.items p.0, leads-join law all d t hidden (state_of_snapshot w.0) (state_of_snapshot s) p.0 r.0.turns.items p.1 w.3)
 
 -- a kept state has its dead registers forgotten
 pub linked-forgotten : DeadRegistersChangeNothing → AlikeCoresAreExchangeable → (d : ℕ) (t : Litmus) (hidden : List (List Bool)) (xs : List Snapshot) (links : List Link) → AreLinked d t hidden xs links
-    → (i : ℕ) (s : Snapshot) → slice_get xs i ≡ Some s → forgotten t hidden (state_of s) ≡ state_of s
+    → (i : ℕ) (s : Snapshot) → slice_get xs i ≡ Some s → forgotten t hidden (state_of_snapshot s) ≡ state_of_snapshot s
 linked-forgotten law all d t hidden xs links h i s at =
     let w = linked-leads law all d t hidden xs links h (suc i) i s (omega arith) at in
     ap (forgotten t hidden) (sym w.1.kept_is) ∙ law.twice t hidden w.1.last ∙ w.1.kept_is

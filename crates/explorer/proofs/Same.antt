@@ -1,5 +1,5 @@
 -- Snapshots are equal by == exactly where their states are the same.
-use Rattle.explorer.proofs.Vocabulary.{◌≡◌, ℕ, List, [], ◌∷◌, Bool, true, ◌&&◌, map, ap, refl, rules, subst, pointwise, eqb-true, eq-eqb, eqb, false, sym, and-left, and-right, Entry, CoreState, State, core_of_processor, state_of, Processor, Snapshot}
+use Rattle.explorer.proofs.Vocabulary.{◌≡◌, ℕ, List, [], ◌∷◌, Bool, true, ◌&&◌, map, ap, refl, rules, subst, pointwise, eqb-true, eq-eqb, eqb, false, sym, and-left, and-right, Entry, CoreState, State, core_of_processor, state_of_snapshot, Processor, Snapshot}
 use mathlib.Core.Bool.{beq}
 use Rattle.tso_model.specs.contracts.execution.EntryPartialEq.TheImpl as entry_eq
 use Rattle.flat_machine.specs.contracts.snapshot.ProcessorPartialEq.TheImpl as processor_eq
@@ -44,7 +44,7 @@ processors-same a b q =
         → record { place = m; registers = rs; pending = ps } ≡ (let z : CoreState = record { place = n; registers = ss; pending = qs } in z)
     core-is p u v = rw (p, u, v) refl
 
-pub snapshots-same : (a b : Snapshot) → (snapshot_eq.eq-value).it a b ≡ true → state_of a ≡ state_of b
+pub snapshots-same : (a b : Snapshot) → (snapshot_eq.eq-value).it a b ≡ true → state_of_snapshot a ≡ state_of_snapshot b
 snapshots-same a b q =
     let w = words-same a.memory.items b.memory.items (and-left (pointwise eqb a.memory.items b.memory.items) (pointwise (processor_eq.eq-value).it a.cores.items b.cores.items) q) in
     let v = pointwise-map (processor_eq.eq-value).it core_of_processor processors-same a.cores.items b.cores.items (and-right (pointwise eqb a.memory.items b.memory.items) (pointwise (processor_eq.eq-value).it a.cores.items b.cores.items) q) in
@@ -88,7 +88,7 @@ all-equal (x ∷ xs) (y ∷ ys) q =
     let r : map core_of_processor xs ≡ map core_of_processor ys = cc in
     both ((processor_eq.eq-value).it x y) (pointwise (processor_eq.eq-value).it xs ys) (processors-equal x y h) (all-equal xs ys r)
 
-pub snapshots-equal : (a b : Snapshot) → state_of a ≡ state_of b → (snapshot_eq.eq-value).it a b ≡ true
+pub snapshots-equal : (a b : Snapshot) → state_of_snapshot a ≡ state_of_snapshot b → (snapshot_eq.eq-value).it a b ≡ true
 snapshots-equal a b q =
     both (pointwise eqb a.memory.items b.memory.items) (pointwise (processor_eq.eq-value).it a.cores.items b.cores.items)
     (pointwise-equal eqb itself a.memory.items b.memory.items (ap (λ z. z.memory) q))

@@ -1,5 +1,5 @@
 -- What the search keeps, step by step.
-use Rattle.explorer.proofs.Vocabulary.{◌≡◌, ◌<◌, ◌≤◌, ℕ, ◌+◌, zero, suc, Bool, true, false, List, [], ◌∷◌, ◌++◌, length, map, Some, slice_get, slice_index_or, if◌then◌else◌, inl, inr, arith, ap, sym, ◌∙◌, subst, refl, append_assoc, length-append, drop, ◌==◌, ◌||◌, list_any, insert_key, lt-or, append-nil, Litmus, State, after_choice, effect_of, start, chosen, step, drain, Entry, Choice, Step, Drain, stall_count, IsEager, LeadsEagerly, IsIn, IsCovered, IsExpanded, AreClosed, forgotten, exchanged_by, state_of, LeadsBy, IsSettled, Grows, HaveCores, IsFirst, IsReached, IsVisited, AreVisited, AreLinked, Snapshot, Link, Made, Exchanged}
+use Rattle.explorer.proofs.Vocabulary.{◌≡◌, ◌<◌, ◌≤◌, ℕ, ◌+◌, zero, suc, Bool, true, false, List, [], ◌∷◌, ◌++◌, length, map, Some, slice_get, slice_index_or, if◌then◌else◌, inl, inr, arith, ap, sym, ◌∙◌, subst, refl, append_assoc, length-append, drop, ◌==◌, ◌||◌, list_any, insert_key, lt-or, append-nil, Litmus, State, after_choice, effect_of, start, chosen, step, drain, Entry, Choice, Step, Drain, stall_count, IsEager, LeadsEagerly, IsAmongStates, IsCovered, IsExpanded, AreClosed, forgotten, exchanged_by, state_of_snapshot, LeadsBy, IsSettled, Grows, HaveCores, IsFirstKept, IsReachedByChoice, IsVisited, AreVisited, AreLinked, Snapshot, Link, Made, Exchanged}
 use Rattle.explorer.proofs.Exchanging.{none-alike}
 use Rattle.explorer.proofs.Linking.{get-left, get-back, leads-append, linked-first}
 
@@ -36,17 +36,17 @@ grows-insert eq xs x = go (list_any (eq x) xs)
     go true = grows-none xs
     go false = (x ∷ [], refl)
 
-map-append : (xs ys : List Snapshot) → map state_of (xs ++ ys) ≡ map state_of xs ++ map state_of ys
+map-append : (xs ys : List Snapshot) → map state_of_snapshot (xs ++ ys) ≡ map state_of_snapshot xs ++ map state_of_snapshot ys
 map-append [] ys = refl
-map-append (x ∷ xs) ys = ap (λ z. state_of x ∷ z) (map-append xs ys)
+map-append (x ∷ xs) ys = ap (λ z. state_of_snapshot x ∷ z) (map-append xs ys)
 
 pub get-grown : (xs ys : List Snapshot) (i : ℕ) (x : Snapshot) → Grows xs ys → slice_get xs i ≡ Some x → slice_get ys i ≡ Some x
 get-grown xs ys i x g q = subst (λ z. slice_get z i ≡ Some x) (sym g.1) (get-left xs g.0 i x q)
 
-pub in-grown : (xs ys : List Snapshot) (s : State) → Grows xs ys → IsIn (map state_of xs) s → IsIn (map state_of ys) s
-in-grown xs ys s g m = (m.0, subst (λ z. slice_get z m.0 ≡ Some s) (sym (ap (map state_of) g.1 ∙ map-append xs g.0)) (get-left (map state_of xs) (map state_of g.0) m.0 s m.1))
+pub in-grown : (xs ys : List Snapshot) (s : State) → Grows xs ys → IsAmongStates (map state_of_snapshot xs) s → IsAmongStates (map state_of_snapshot ys) s
+in-grown xs ys s g m = (m.0, subst (λ z. slice_get z m.0 ≡ Some s) (sym (ap (map state_of_snapshot) g.1 ∙ map-append xs g.0)) (get-left (map state_of_snapshot xs) (map state_of_snapshot g.0) m.0 s m.1))
 
-pub covered-grown : (d : ℕ) (t : Litmus) (hidden : List (List Bool)) (pairs : List (ℕ × ℕ)) (xs ys : List Snapshot) (s : State) → Grows xs ys → IsCovered d t hidden pairs (map state_of xs) s → IsCovered d t hidden pairs (map state_of ys) s
+pub covered-grown : (d : ℕ) (t : Litmus) (hidden : List (List Bool)) (pairs : List (ℕ × ℕ)) (xs ys : List Snapshot) (s : State) → Grows xs ys → IsCovered d t hidden pairs (map state_of_snapshot xs) s → IsCovered d t hidden pairs (map state_of_snapshot ys) s
 covered-grown d t hidden pairs xs ys s g h = record {
   eager = h.eager;
   last = h.last;
@@ -60,22 +60,22 @@ pub visited-grown : (d : ℕ) (t : Litmus) (hidden : List (List Bool)) (pairs : 
 visited-grown d t hidden pairs xs ys s c g (inl q) = inl q
 visited-grown d t hidden pairs xs ys s c g (inr h) = inr (covered-grown d t hidden pairs xs ys (after_choice t d s c) g h)
 
-pub expanded-grown : (d : ℕ) (t : Litmus) (hidden : List (List Bool)) (pairs : List (ℕ × ℕ)) (xs ys : List Snapshot) (s : State) → Grows xs ys → IsExpanded d t hidden pairs (map state_of xs) s → IsExpanded d t hidden pairs (map state_of ys) s
+pub expanded-grown : (d : ℕ) (t : Litmus) (hidden : List (List Bool)) (pairs : List (ℕ × ℕ)) (xs ys : List Snapshot) (s : State) → Grows xs ys → IsExpanded d t hidden pairs (map state_of_snapshot xs) s → IsExpanded d t hidden pairs (map state_of_snapshot ys) s
 expanded-grown d t hidden pairs xs ys s g h c l = visited-grown d t hidden pairs xs ys s c g (h c l)
 
 -- ---- the place of a snapshot
 
-map-get : (xs : List Snapshot) (i : ℕ) (x : Snapshot) → slice_get xs i ≡ Some x → slice_get (map state_of xs) i ≡ Some (state_of x)
+map-get : (xs : List Snapshot) (i : ℕ) (x : Snapshot) → slice_get xs i ≡ Some x → slice_get (map state_of_snapshot xs) i ≡ Some (state_of_snapshot x)
 map-get [] i x q = absurd (let z : ⊥ = cc in z)
-map-get (y ∷ xs) zero x q = let z : y ≡ x = cc in ap (λ w. Some (state_of w)) z
+map-get (y ∷ xs) zero x q = let z : y ≡ x = cc in ap (λ w. Some (state_of_snapshot w)) z
 map-get (y ∷ xs) (suc i) x q = map-get xs i x q
 
-pub in-list : (xs : List Snapshot) (i : ℕ) (x : Snapshot) → slice_get xs i ≡ Some x → IsIn (map state_of xs) (state_of x)
+pub in-list : (xs : List Snapshot) (i : ℕ) (x : Snapshot) → slice_get xs i ≡ Some x → IsAmongStates (map state_of_snapshot xs) (state_of_snapshot x)
 in-list xs i x q = (i, map-get xs i x q)
 
-pub from-list : (xs : List Snapshot) (i : ℕ) (s : State) → slice_get (map state_of xs) i ≡ Some s → (x : Snapshot) × (slice_get xs i ≡ Some x) × (state_of x ≡ s) × (i < length xs)
+pub from-list : (xs : List Snapshot) (i : ℕ) (s : State) → slice_get (map state_of_snapshot xs) i ≡ Some s → (x : Snapshot) × (slice_get xs i ≡ Some x) × (state_of_snapshot x ≡ s) × (i < length xs)
 from-list [] i s q = absurd (let z : ⊥ = cc in z)
-from-list (y ∷ xs) zero s q = (y, refl, (let z : state_of y ≡ s = cc in z), omega arith)
+from-list (y ∷ xs) zero s q = (y, refl, (let z : state_of_snapshot y ≡ s = cc in z), omega arith)
 from-list (y ∷ xs) (suc i) s q = let r = from-list xs i s q in (r.0, r.1, r.2, let l = r.3 in omega (arith, l))
 
 -- ---- cores
@@ -96,18 +96,18 @@ cores-insert eq t xs x h q = go (list_any (eq x) xs)
 
 -- ---- all choices of a state
 
-pub expands : (d : ℕ) (t : Litmus) (hidden : List (List Bool)) (pairs : List (ℕ × ℕ)) (xs : List Snapshot) (s : State) → ((k : ℕ) → k < length t.programs → AreVisited d t hidden pairs xs s k) → IsExpanded d t hidden pairs (map state_of xs) s
+pub expands : (d : ℕ) (t : Litmus) (hidden : List (List Bool)) (pairs : List (ℕ × ℕ)) (xs : List Snapshot) (s : State) → ((k : ℕ) → k < length t.programs → AreVisited d t hidden pairs xs s k) → IsExpanded d t hidden pairs (map state_of_snapshot xs) s
 expands d t hidden pairs xs s h (Step k) l = (h k.0 l).0
 expands d t hidden pairs xs s h (Drain k) l = (h k.0 l).1
 
-pub closes : (d : ℕ) (t : Litmus) (hidden : List (List Bool)) (pairs : List (ℕ × ℕ)) (xs : List Snapshot) (n : ℕ) → length xs ≤ n → IsCovered d t hidden pairs (map state_of xs) (start t)
-    → ((i : ℕ) (x : Snapshot) → i < n → slice_get xs i ≡ Some x → IsExpanded d t hidden pairs (map state_of xs) (state_of x)) → AreClosed d t hidden pairs (map state_of xs)
+pub closes : (d : ℕ) (t : Litmus) (hidden : List (List Bool)) (pairs : List (ℕ × ℕ)) (xs : List Snapshot) (n : ℕ) → length xs ≤ n → IsCovered d t hidden pairs (map state_of_snapshot xs) (start t)
+    → ((i : ℕ) (x : Snapshot) → i < n → slice_get xs i ≡ Some x → IsExpanded d t hidden pairs (map state_of_snapshot xs) (state_of_snapshot x)) → AreClosed d t hidden pairs (map state_of_snapshot xs)
 closes d t hidden pairs xs n l first each = record {
   first = first;
   each = λ s m.
       let r = from-list xs m.0 s m.1 in
       let k = r.3 in
-      subst (λ z. IsExpanded d t hidden pairs (map state_of xs) z) r.2 (each m.0 r.0 (omega (arith, l, k)) r.1);
+      subst (λ z. IsExpanded d t hidden pairs (map state_of_snapshot xs) z) r.2 (each m.0 r.0 (omega (arith, l, k)) r.1);
 }
 
 pub grown-within : (xs ys : List Snapshot) (i : ℕ) → Grows xs ys → i < length xs → i < length ys
@@ -123,37 +123,37 @@ visited-more d t hidden pairs xs ys s n g before now k l = elim (lt-or n k) [
 
 -- one snapshot more is expanded
 pub expanded-more : (d : ℕ) (t : Litmus) (hidden : List (List Bool)) (pairs : List (ℕ × ℕ)) (xs ys : List Snapshot) (n : ℕ) → n < length xs → Grows xs ys
-    → ((i : ℕ) (x : Snapshot) → i < n → slice_get xs i ≡ Some x → IsExpanded d t hidden pairs (map state_of xs) (state_of x))
-    → ((x : Snapshot) → slice_get xs n ≡ Some x → IsExpanded d t hidden pairs (map state_of ys) (state_of x))
-    → (i : ℕ) (x : Snapshot) → i < n + 1 → slice_get ys i ≡ Some x → IsExpanded d t hidden pairs (map state_of ys) (state_of x)
+    → ((i : ℕ) (x : Snapshot) → i < n → slice_get xs i ≡ Some x → IsExpanded d t hidden pairs (map state_of_snapshot xs) (state_of_snapshot x))
+    → ((x : Snapshot) → slice_get xs n ≡ Some x → IsExpanded d t hidden pairs (map state_of_snapshot ys) (state_of_snapshot x))
+    → (i : ℕ) (x : Snapshot) → i < n + 1 → slice_get ys i ≡ Some x → IsExpanded d t hidden pairs (map state_of_snapshot ys) (state_of_snapshot x)
 expanded-more d t hidden pairs xs ys n within g before now i x l q =
     let m : i < length xs = omega (arith, l, within) in
     let old : slice_get xs i ≡ Some x = get-back xs g.0 i x m (subst (λ z. slice_get z i ≡ Some x) g.1 q) in
     elim (lt-or n i) [
-      | inl k ↦ expanded-grown d t hidden pairs xs ys (state_of x) g (before i x k old)
+      | inl k ↦ expanded-grown d t hidden pairs xs ys (state_of_snapshot x) g (before i x k old)
       | inr k ↦ let e : i ≡ n = omega (arith, l, k) in now x (subst (λ z. slice_get xs z ≡ Some x) e old)
     ]
 
 -- a set that has an equal snapshot has the state
-pub among : (eq : Snapshot → Snapshot → Bool) → ((a b : Snapshot) → eq a b ≡ true → state_of a ≡ state_of b)
-    → (xs : List Snapshot) (x : Snapshot) → list_any (eq x) xs ≡ true → IsIn (map state_of xs) (state_of x)
+pub among : (eq : Snapshot → Snapshot → Bool) → ((a b : Snapshot) → eq a b ≡ true → state_of_snapshot a ≡ state_of_snapshot b)
+    → (xs : List Snapshot) (x : Snapshot) → list_any (eq x) xs ≡ true → IsAmongStates (map state_of_snapshot xs) (state_of_snapshot x)
 among eq sound [] x q = absurd (let z : ⊥ = cc in z)
 among eq sound (y ∷ ys) x q = go (eq x y) refl (λ r. among eq sound ys x r) q
   where
-    go : (b : Bool) → eq x y ≡ b → (list_any (eq x) ys ≡ true → IsIn (map state_of ys) (state_of x)) → (b || list_any (eq x) ys) ≡ true → IsIn (map state_of (y ∷ ys)) (state_of x)
+    go : (b : Bool) → eq x y ≡ b → (list_any (eq x) ys ≡ true → IsAmongStates (map state_of_snapshot ys) (state_of_snapshot x)) → (b || list_any (eq x) ys) ≡ true → IsAmongStates (map state_of_snapshot (y ∷ ys)) (state_of_snapshot x)
     go true e later r = (0, ap Some (sym (sound x y e)))
     go false e later r = let m = later r in (suc m.0, m.1)
 
 -- what a choice leads to is covered where it is in the set
 pub visits : (d : ℕ) (t : Litmus) (hidden : List (List Bool)) (pairs : List (ℕ × ℕ)) (keys : List Snapshot) (s kept : State) (c : Choice) (choices : List Choice) (exchanges : List (ℕ × ℕ))
-    → IsReached d t hidden pairs s c choices exchanges kept → IsIn (map state_of keys) kept → IsVisited d t hidden pairs keys s c
+    → IsReachedByChoice d t hidden pairs s c choices exchanges kept → IsAmongStates (map state_of_snapshot keys) kept → IsVisited d t hidden pairs keys s c
 visits d t hidden pairs keys s kept c choices exchanges h m = inr (record {
   eager = h.later;
   last = h.last;
   leads = h.eager;
   exchanges = exchanges;
   of_pairs = h.of_pairs;
-  among = subst (IsIn (map state_of keys)) (sym h.kept_is) m;
+  among = subst (IsAmongStates (map state_of_snapshot keys)) (sym h.kept_is) m;
 })
 
 -- the first of a list
@@ -165,7 +165,7 @@ pub same-some : (x y : Snapshot) → Some x ≡ Some y → x ≡ y
 same-some x y q = let z : x ≡ y = cc in z
 
 -- the first snapshot alone
-module _ (d : ℕ) (t : Litmus) (hidden : List (List Bool)) (x : Snapshot) (choices : List Choice) (es : List (ℕ × ℕ)) (h : IsFirst d t hidden choices es (state_of x)) where
+module _ (d : ℕ) (t : Litmus) (hidden : List (List Bool)) (x : Snapshot) (choices : List Choice) (es : List (ℕ × ℕ)) (h : IsFirstKept d t hidden choices es (state_of_snapshot x)) where
   leads-first : LeadsBy d t (start t) choices h.last
   leads-first = subst (λ z. LeadsBy d t (start t) z h.last) (sym h.settled.appended) h.settled.leads
 
@@ -184,14 +184,14 @@ module _ (d : ℕ) (t : Litmus) (hidden : List (List Bool)) (x : Snapshot) (choi
         };
       })))
 
-  pub first-covered : (pairs : List (ℕ × ℕ)) (new : List Snapshot) → new ≡ x ∷ [] → IsCovered d t hidden pairs (map state_of new) (start t)
+  pub first-covered : (pairs : List (ℕ × ℕ)) (new : List Snapshot) → new ≡ x ∷ [] → IsCovered d t hidden pairs (map state_of_snapshot new) (start t)
   first-covered pairs new alone = record {
     eager = h.settled.made;
     last = h.last;
     leads = h.settled.eager;
     exchanges = [];
     of_pairs = tt;
-    among = subst (λ z. IsIn (map state_of z) (forgotten t hidden h.last)) (sym alone) (0, ap Some h.kept_is);
+    among = subst (λ z. IsAmongStates (map state_of_snapshot z) (forgotten t hidden h.last)) (sym alone) (0, ap Some h.kept_is);
   }
 
 pub first-cores : (t : Litmus) (x : Snapshot) (new : List Snapshot) → new ≡ x ∷ [] → length x.cores.items ≡ length t.programs → HaveCores t new

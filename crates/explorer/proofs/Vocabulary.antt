@@ -8,7 +8,7 @@ pub use Rattle.tso_model.specs.FlatMachine.{State, CoreState, idle, program_of, 
 pub use Rattle.tso_model.specs.declared.choice.Choice.{Choice}
 pub use Rattle.tso_model.specs.declared.instruction.Instr.{Instr}
 pub use Rattle.eager_laws.specs.Exchanged.{exchanged, exchanged_by, IsOneOf, AreOf, CoresAreAlike, AreAllAlike, AlikeCoresAreExchangeable, exchanged_core, exchanged_choice, renamed, IsExchangeable, exchanged_entry}
-pub use Rattle.flat_machine.specs.State.{core_of_processor, state_of}
+pub use Rattle.flat_machine.specs.State.{core_of_processor, state_of_snapshot}
 pub use Rattle.explorer.specs.inner.Arranged.{played, IsArranged, ArePairs, HasExchanged, AreExchanged}
 pub use Rattle.explorer.specs.declared.link.Turn.{Turn}
 pub use Rattle.flat_machine.specs.declared.snapshot.Processor.{Processor}
@@ -26,9 +26,9 @@ pub use Rattle.tso_model.specs.declared.execution.Entry.{Entry}
 pub use Rattle.tso_model.specs.declared.choice.Choice.TheVariants.{Step, Drain}
 pub use Rattle.tso_model.specs.Runs.{stall_count, CoresExist, is_done, all_done, has_ended, resting, then_run, run_from, run}
 pub use Rattle.eager_laws.specs.Eager.{IsEager, Avoids, meets}
-pub use Rattle.eager_laws.specs.Closed.{LeadsEagerly, IsIn, IsCovered, IsExpanded, AreClosed, ClosedStatesMissNone}
-pub use Rattle.explorer.specs.Settled.{LeadsBy, IsSettled, LeadsTo}
-pub use Rattle.explorer.specs.inner.Settled.{Grows, HaveCores, IsFirst, IsReached, IsVisited, AreVisited, AreLinked, LeadByTurns, IsLinked, IsPath, GoBack, LeadTo}
+pub use Rattle.eager_laws.specs.Closed.{LeadsEagerly, IsAmongStates, IsCovered, IsExpanded, AreClosed, ClosedStatesMissNone}
+pub use Rattle.explorer.specs.Settled.{LeadsBy, IsSettled, LeadsToForgotten}
+pub use Rattle.explorer.specs.inner.Settled.{Grows, HaveCores, IsFirstKept, IsReachedByChoice, IsVisited, AreVisited, AreLinked, LeadByTurns, IsLinked, IsPath, GoBack, LeadToExchanged}
 pub use Rattle.flat_machine.specs.declared.snapshot.Snapshot.{Snapshot}
 pub use Rattle.explorer.specs.declared.link.Link.{Link}
 pub use Rattle.explorer.specs.declared.link.Turn.TheVariants.{Made, Exchanged}
@@ -44,6 +44,6 @@ pub use Rattle.std.proofs.Math.ListN.{length-set}
 pub use Rattle.std.proofs.lemmas.Bool.Decides.{nat_tests}
 pub use Rattle.std.proofs.lemmas.List.Edits.{length-swap}
 pub use Rattle.tso_laws.specs.inner.Laws.{RunsStopWhereTheyEnd}
-pub use Rattle.explorer.specs.inner.Collected.{IsFinalOf, IsMadeOf, AreFinalsOf, IsWhole}
+pub use Rattle.explorer.specs.inner.Collected.{IsFinalOf, IsMadeOf, AreFinalsOf, MissesNoEnd}
 pub use Rattle.std.specs.declared.vec.Vec.{Vec}
 pub use Rattle.std.specs.declared.alloc.Global.{Global}

@@ -15,7 +15,7 @@ LeadsBy depth t state (c ∷ cs) last =
     × LeadsBy depth t (after_choice t depth state c) cs last
 
 -- they lead to a state that is the kept one once its dead registers are forgotten
-pub record LeadsTo (depth : ℕ) (t : Litmus) (hidden : List (List Bool)) (state : State) (choices : List Choice) (kept : State) : Type 0 where
+pub record LeadsToForgotten (depth : ℕ) (t : Litmus) (hidden : List (List Bool)) (state : State) (choices : List Choice) (kept : State) : Type 0 where
   pub last : State
   pub leads : LeadsBy depth t state choices last
   pub kept_is : forgotten t hidden last ≡ kept

@@ -2,9 +2,9 @@
 //! differ by such exchanges; all of those that have ended are added to it at its end, each with choices that lead there.
 ghost use Rattle.std.specs.Prelude.{◌≡◌, ◌<◌, ◌≤◌, true, IfOk, OnOk, map, length, slice_get, Some};
 ghost use Rattle.tso_model.specs.Runs.{has_ended};
-ghost use Rattle.eager_laws.specs.Closed.{IsIn};
+ghost use Rattle.eager_laws.specs.Closed.{IsAmongStates};
 ghost use Rattle.eager_laws.specs.Exchanged.{exchanged, IsOneOf};
-ghost use Rattle.flat_machine.specs.State.{state_of};
+ghost use Rattle.flat_machine.specs.State.{state_of_snapshot};
 ghost use Rattle.explorer.specs.inner.Settled.{Grows, HaveCores, AreLinked};
 ghost use Rattle.explorer.specs.inner.Arranged.{HasExchanged, AreExchanged};
 ghost use Rattle.explorer.specs.inner.Planned.{IsPlan};
@@ -42,7 +42,7 @@ fn add_exchanged(
     ensures linked { OnOk result (AreLinked plan.now.depth plan.now.test.now plan.now.hidden.now found.new.snapshots.keys found.new.links.items) }
     ensures room { OnOk result (length reached.new.state.cores.items ≡ length plan.now.test.now.programs) }
     ensures among { OnOk result ((s : Snapshot) → slice_get found.old.snapshots.keys from ≡ Some s
-        → IsIn (map state_of found.new.snapshots.keys) (exchanged pair (state_of s))) }
+        → IsAmongStates (map state_of_snapshot found.new.snapshots.keys) (exchanged pair (state_of_snapshot s))) }
 {
     alike_cores_are_exchangeable();
     dead_registers_change_nothing();
@@ -74,7 +74,7 @@ fn add_all_exchanged(
     ensures linked { OnOk result (AreLinked plan.now.depth plan.now.test.now plan.now.hidden.now found.new.snapshots.keys found.new.links.items) }
     ensures room { OnOk result (length reached.new.state.cores.items ≡ length plan.now.test.now.programs) }
     ensures exchanged { OnOk result ((s : Snapshot) → slice_get found.old.snapshots.keys from ≡ Some s
-        → has_ended plan.now.test.now (state_of s) ≡ true → HasExchanged plan.now.alike.items found.new.snapshots.keys (state_of s)) }
+        → has_ended plan.now.test.now (state_of_snapshot s) ≡ true → HasExchanged plan.now.alike.items found.new.snapshots.keys (state_of_snapshot s)) }
 {
     if !has_ended(plan.test, &found.snapshots[from]) {
         return Ok(());

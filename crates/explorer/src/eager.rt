@@ -4,7 +4,7 @@ ghost use Rattle.std.specs.Prelude.{◌≡◌, ◌≢◌, ◌<◌, ◌++◌, tru
 ghost use Rattle.tso_model.specs.FlatMachine.{chosen, program_of, core_of};
 ghost use Rattle.tso_model.specs.declared.choice.Choice.{Choice};
 ghost use Rattle.eager_laws.specs.Eager.{meets, Avoids, OthersAvoid, IsEager, IsEagerBy};
-ghost use Rattle.flat_machine.specs.State.{state_of, core_of_processor};
+ghost use Rattle.flat_machine.specs.State.{state_of_snapshot, core_of_processor};
 ghost use Rattle.explorer.specs.Settled.{IsSettled};
 
 use eager_laws::eager_choices_take_effect;
@@ -46,7 +46,7 @@ fn avoids(program: &[Instr], processor: &Processor, loads: bool, loc: Loc) -> bo
 fn keeps_away(state: &Snapshot, test: &Test, core: Core, other: u8, loads: bool, loc: Loc) -> bool
     requires cores { length state.now.cores.items ≡ length test.now.programs }
     requires other { other < length test.now.programs }
-    ensures { result ≡ true → other ≢ core.0 → Avoids loads loc.0 (program_of test.now other) (core_of (state_of state.now) other) }
+    ensures { result ≡ true → other ≢ core.0 → Avoids loads loc.0 (program_of test.now other) (core_of (state_of_snapshot state.now) other) }
 {
     other == core.0
         || avoids(
@@ -60,7 +60,7 @@ fn keeps_away(state: &Snapshot, test: &Test, core: Core, other: u8, loads: bool,
 /// Whether that is so of every other core.
 fn others_avoid(state: &Snapshot, test: &Test, core: Core, loads: bool, loc: Loc) -> bool
     requires { length state.now.cores.items ≡ length test.now.programs }
-    ensures { result ≡ true → OthersAvoid loads loc.0 test.now (state_of state.now) core.0 }
+    ensures { result ≡ true → OthersAvoid loads loc.0 test.now (state_of_snapshot state.now) core.0 }
 {
     for other in 0..test.cores() {
         if !keeps_away(state, test, core, other, loads, loc) {
@@ -80,8 +80,8 @@ fn is_eager_action(
     action: Action,
 ) -> bool
     requires cores { length state.now.cores.items ≡ length test.now.programs }
-    requires pending { (core_of (state_of state.now) core.0).pending ≡ pending.now }
-    ensures { result ≡ true → IsEagerBy depth test.now (state_of state.now) core.0 action }
+    requires pending { (core_of (state_of_snapshot state.now) core.0).pending ≡ pending.now }
+    ensures { result ≡ true → IsEagerBy depth test.now (state_of_snapshot state.now) core.0 action }
 {
     match action {
         Action::Store(..) => pending.len() < usize::from(depth),
@@ -97,7 +97,7 @@ fn is_eager_action(
 fn is_eager_step(state: &Snapshot, test: &Test, depth: u8, core: Core) -> bool
     requires cores { length state.now.cores.items ≡ length test.now.programs }
     requires core { core.0 < length test.now.programs }
-    ensures { result ≡ true → IsEager depth test.now (state_of state.now) (Choice.Step core) }
+    ensures { result ≡ true → IsEager depth test.now (state_of_snapshot state.now) (Choice.Step core) }
 {
     let program = test.program(core);
     let processor = &state.cores[usize::from(core.0)];
@@ -112,7 +112,7 @@ fn is_eager_step(state: &Snapshot, test: &Test, depth: u8, core: Core) -> bool
 fn is_eager_drain(state: &Snapshot, test: &Test, depth: u8, core: Core) -> bool
     requires cores { length state.now.cores.items ≡ length test.now.programs }
     requires core { core.0 < length test.now.programs }
-    ensures { result ≡ true → IsEager depth test.now (state_of state.now) (Choice.Drain core) }
+    ensures { result ≡ true → IsEager depth test.now (state_of_snapshot state.now) (Choice.Drain core) }
 {
     let processor = &state.cores[usize::from(core.0)];
     if depth == 0 || processor.pending.is_empty() {
@@ -125,7 +125,7 @@ fn is_eager_drain(state: &Snapshot, test: &Test, depth: u8, core: Core) -> bool
 /// A choice that need not wait, if there is one.
 fn eager_choice(state: &Snapshot, test: &Test, depth: u8) -> Option<Choice>
     requires { length state.now.cores.items ≡ length test.now.programs }
-    ensures eager { IfSome result (λ c. IsEager depth test.now (state_of state.now) c) }
+    ensures eager { IfSome result (λ c. IsEager depth test.now (state_of_snapshot state.now) c) }
     ensures core { IfSome result (λ c. chosen c < length test.now.programs) }
 {
     for core in 0..test.cores() {
@@ -149,7 +149,7 @@ pub fn settle(
     choices: &mut Vec<Choice>,
 ) -> Result<(), NoMemory>
     requires { length state.old.cores.items ≡ length test.now.programs }
-    ensures settled { OnOk result (IsSettled depth test.now (state_of state.old) (state_of state.new) choices.old.items choices.new.items) }
+    ensures settled { OnOk result (IsSettled depth test.now (state_of_snapshot state.old) (state_of_snapshot state.new) choices.old.items choices.new.items) }
     ensures cores { OnOk result (length state.new.cores.items ≡ length test.now.programs) }
 {
     eager_choices_take_effect();

@@ -1,7 +1,7 @@
 //! Two cores exchanged: each has the other's state, and what the one has pending or chooses is the other's.
 ghost use Rattle.std.specs.Prelude.{◌≡◌, ◌<◌, length, map};
 ghost use Rattle.eager_laws.specs.Exchanged.{exchanged_core, exchanged_choice, exchanged_entry, exchanged};
-ghost use Rattle.flat_machine.specs.State.{state_of};
+ghost use Rattle.flat_machine.specs.State.{state_of_snapshot};
 
 use flat_machine::Snapshot;
 use tso_model::{Choice, Core, Entry};
@@ -32,7 +32,7 @@ fn exchange_entries(pending: &mut Vec<Entry>, pair: (u8, u8))
 pub fn exchange(state: &mut Snapshot, pair: (u8, u8))
     requires first { pair.0 < length state.old.cores.items }
     requires second { pair.1 < length state.old.cores.items }
-    ensures value { state_of state.new ≡ exchanged pair (state_of state.old) }
+    ensures value { state_of_snapshot state.new ≡ exchanged pair (state_of_snapshot state.old) }
     ensures cores { length state.new.cores.items ≡ length state.old.cores.items }
 {
     for core in 0..state.cores.len() {

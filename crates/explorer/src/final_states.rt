@@ -5,11 +5,11 @@ ghost use Rattle.tso_model.specs.FlatMachine.{start};
 ghost use Rattle.tso_model.specs.Limits.{most_depth};
 ghost use Rattle.tso_model.specs.Runs.{CoresExist};
 ghost use Rattle.tso_laws.specs.Choices.{state_after};
-ghost use Rattle.flat_machine.specs.State.{state_of};
+ghost use Rattle.flat_machine.specs.State.{state_of_snapshot};
 ghost use Rattle.eager_laws.specs.Closed.{IsCovered};
 ghost use Rattle.explorer.specs.inner.Planned.{IsPlan};
 ghost use Rattle.explorer.specs.inner.Settled.{HaveCores, AreLinked};
-ghost use Rattle.explorer.specs.inner.Collected.{IsFinalOf, AreFinalsOf, IsWhole};
+ghost use Rattle.explorer.specs.inner.Collected.{IsFinalOf, AreFinalsOf, MissesNoEnd};
 ghost use Rattle.explorer.specs.FinalStates.{AreReached, HaveEveryEnd, AreDistinct, HasMoreStates};
 ghost use Rattle.explorer.specs.FinalStates.{AreWhatTsoAllows, AreWhatSequentialConsistencyAllows};
 ghost use Rattle.flat_machine.specs.declared.snapshot.Snapshot.{Snapshot};
@@ -59,7 +59,7 @@ fn state_after(
     choices: &[Choice],
 ) -> Result<Snapshot, NoMemory>
     requires { CoresExist (length test.now.programs) choices.now }
-    ensures { IfOk result (λ s. state_of s ≡ state_after test.now depth (start test.now) choices.now) }
+    ensures { IfOk result (λ s. state_of_snapshot s ≡ state_after test.now depth (start test.now) choices.now) }
 {
     let mut state = start(alloc, test)?;
     for choice in choices {
@@ -75,7 +75,7 @@ fn final_state(alloc: Global, plan: &Plan, found: &Found, at: usize) -> Result<F
     requires at { at < length found.now.snapshots.keys }
     requires linked { AreLinked plan.now.depth plan.now.test.now plan.now.hidden.now found.now.snapshots.keys found.now.links.items }
     ensures { IfOk result (λ f. (s : Snapshot) → slice_get found.now.snapshots.keys at ≡ Some s
-        → IsFinalOf plan.now.depth plan.now.test.now plan.now.hidden.now (state_of s) f) }
+        → IsFinalOf plan.now.depth plan.now.test.now plan.now.hidden.now (state_of_snapshot s) f) }
 {
     let choices = path(alloc, &found.links, at)?;
     let last = state_after(alloc, plan.test, plan.depth, &choices)?;
@@ -121,12 +121,12 @@ fn search_all<W: Watcher>(
     requires cores { HaveCores plan.now.test.now found.old.snapshots.keys }
     requires linked { AreLinked plan.now.depth plan.now.test.now plan.now.hidden.now found.old.snapshots.keys found.old.links.items }
     requires covered { IsCovered plan.now.depth plan.now.test.now plan.now.hidden.now plan.now.alike.items
-        (map state_of found.old.snapshots.keys) (start plan.now.test.now) }
+        (map state_of_snapshot found.old.snapshots.keys) (start plan.now.test.now) }
     requires one { length found.old.snapshots.keys ≡ 1 }
     ensures cores { OnOk result (HaveCores plan.now.test.now found.new.snapshots.keys) }
     ensures linked { OnOk result (AreLinked plan.now.depth plan.now.test.now plan.now.hidden.now found.new.snapshots.keys found.new.links.items) }
     ensures whole { IfOk result (λ extent. extent ≡ Extent.Whole
-        → IsWhole plan.now.depth plan.now.test.now plan.now.hidden.now plan.now.alike.items found.new.snapshots.keys) }
+        → MissesNoEnd plan.now.depth plan.now.test.now plan.now.hidden.now plan.now.alike.items found.new.snapshots.keys) }
     ensures within { IfOk result (λ extent. extent ≡ Extent.Whole → length found.new.snapshots.keys ≤ limit) }
     ensures more { IfOk result (λ extent. extent ≡ Extent.Cut → limit < length found.new.snapshots.keys) }
 {

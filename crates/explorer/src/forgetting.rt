@@ -2,7 +2,7 @@
 ghost use Rattle.std.specs.Prelude.{◌≡◌, ◌+◌, Bool, List, length};
 ghost use Rattle.tso_model.specs.declared.instruction.Instr.{Instr};
 ghost use Rattle.eager_laws.specs.Dead.{cleared, forgotten_core, forgotten};
-ghost use Rattle.flat_machine.specs.State.{state_of, core_of_processor};
+ghost use Rattle.flat_machine.specs.State.{state_of_snapshot, core_of_processor};
 ghost use Rattle.explorer.specs.inner.Planned.{AreDead, IsPlan};
 
 use crate::plan::Plan;
@@ -34,7 +34,7 @@ fn forget_core(processor: &mut Processor, program: &[Instr], dead: &[[bool; 6]])
 pub fn forget(state: &mut Snapshot, plan: &Plan)
     requires plan { IsPlan plan.now }
     requires cores { length state.old.cores.items ≡ length plan.now.test.now.programs }
-    ensures value { state_of state.new ≡ forgotten plan.now.test.now plan.now.hidden.now (state_of state.old) }
+    ensures value { state_of_snapshot state.new ≡ forgotten plan.now.test.now plan.now.hidden.now (state_of_snapshot state.old) }
     ensures cores { length state.new.cores.items ≡ length state.old.cores.items }
 {
     for core in 0..plan.test.cores() {

@@ -2,9 +2,9 @@
 //! that are alike in one order. A choice that stalls leads nowhere new.
 ghost use Rattle.std.specs.Prelude.{◌≡◌, ◌<◌, [], IfOk, OnOk, true, false, length};
 ghost use Rattle.tso_model.specs.FlatMachine.{after_choice, chosen};
-ghost use Rattle.flat_machine.specs.State.{state_of};
+ghost use Rattle.flat_machine.specs.State.{state_of_snapshot};
 ghost use Rattle.explorer.specs.inner.Planned.{IsPlan};
-ghost use Rattle.explorer.specs.inner.Settled.{IsReached};
+ghost use Rattle.explorer.specs.inner.Settled.{IsReachedByChoice};
 
 use crate::arranging::arrange;
 use crate::eager::settle;
@@ -30,7 +30,7 @@ pub struct Reached {
 /// Errors: out of memory only.
 pub fn nowhere(alloc: Global, test: &Test) -> Result<Reached, NoMemory>
     ensures cores { IfOk result (λ r. length r.state.cores.items ≡ length test.now.programs) }
-    ensures state { IfOk result (λ r. state_of r.state ≡ Rattle.tso_model.specs.FlatMachine.start test.now) }
+    ensures state { IfOk result (λ r. state_of_snapshot r.state ≡ Rattle.tso_model.specs.FlatMachine.start test.now) }
     ensures choices { IfOk result (λ r. r.choices.items ≡ []) }
     ensures exchanges { IfOk result (λ r. r.exchanges.items ≡ []) }
 {
@@ -56,9 +56,9 @@ pub fn reach(
     requires room { length reached.old.state.cores.items ≡ length plan.now.test.now.programs }
     requires chosen { chosen choice < length plan.now.test.now.programs }
     ensures stalled { IfOk result (λ made. made ≡ false
-        → after_choice plan.now.test.now plan.now.depth (state_of snapshot.now) choice ≡ state_of snapshot.now) }
-    ensures reached { IfOk result (λ made. made ≡ true → IsReached plan.now.depth plan.now.test.now plan.now.hidden.now plan.now.alike.items
-        (state_of snapshot.now) choice reached.new.choices.items reached.new.exchanges.items (state_of reached.new.state)) }
+        → after_choice plan.now.test.now plan.now.depth (state_of_snapshot snapshot.now) choice ≡ state_of_snapshot snapshot.now) }
+    ensures reached { IfOk result (λ made. made ≡ true → IsReachedByChoice plan.now.depth plan.now.test.now plan.now.hidden.now plan.now.alike.items
+        (state_of_snapshot snapshot.now) choice reached.new.choices.items reached.new.exchanges.items (state_of_snapshot reached.new.state)) }
     ensures room { OnOk result (length reached.new.state.cores.items ≡ length plan.now.test.now.programs) }
 {
     stalls_change_nothing();

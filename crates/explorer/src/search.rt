@@ -2,10 +2,10 @@
 //! through, and where there are more than may be kept the search says so and ends there.
 ghost use Rattle.std.specs.Prelude.{◌≡◌, ℕ, ◌<◌, ◌≤◌, Bool, List, [], ◌∷◌, IfOk, OnOk, map, length, slice_get, Some};
 ghost use Rattle.tso_model.specs.FlatMachine.{chosen, start};
-ghost use Rattle.eager_laws.specs.Closed.{IsIn, IsCovered, IsExpanded, AreClosed};
+ghost use Rattle.eager_laws.specs.Closed.{IsAmongStates, IsCovered, IsExpanded, AreClosed};
 ghost use Rattle.tso_model.specs.Litmus.{Litmus};
-ghost use Rattle.flat_machine.specs.State.{state_of};
-ghost use Rattle.explorer.specs.inner.Settled.{Grows, HaveCores, IsFirst, LeadTo, IsVisited, AreVisited, AreLinked};
+ghost use Rattle.flat_machine.specs.State.{state_of_snapshot};
+ghost use Rattle.explorer.specs.inner.Settled.{Grows, HaveCores, IsFirstKept, LeadToExchanged, IsVisited, AreVisited, AreLinked};
 ghost use Rattle.explorer.specs.inner.Planned.{IsPlan};
 ghost use Rattle.flat_machine.specs.declared.snapshot.Snapshot.{Snapshot};
 ghost use Rattle.explorer.specs.declared.search.Extent.{Extent};
@@ -15,7 +15,7 @@ use crate::forgetting::forget;
 use crate::link::{Link, turns_of};
 use crate::plan::Plan;
 use crate::reached::{Reached, nowhere, reach};
-use crate::watching::{Told, Watcher, tell};
+use crate::watching::{ToldSoFar, Watcher, tell};
 use flat_machine::{Snapshot, copy};
 use indexmap::IndexSet;
 use std::alloc::Global;
@@ -39,12 +39,12 @@ pub fn keep(
 ) -> Result<(), NoMemory>
     requires from { from < length found.old.snapshots.keys }
     ensures grows { OnOk result (Grows found.old.snapshots.keys found.new.snapshots.keys) }
-    ensures among { OnOk result (IsIn (map state_of found.new.snapshots.keys) (state_of reached.now.state)) }
+    ensures among { OnOk result (IsAmongStates (map state_of_snapshot found.new.snapshots.keys) (state_of_snapshot reached.now.state)) }
     ensures cores { OnOk result ((t : Litmus) → HaveCores t found.old.snapshots.keys
         → length reached.now.state.cores.items ≡ length t.programs → HaveCores t found.new.snapshots.keys) }
     ensures linked { OnOk result ((depth : ℕ) (t : Litmus) (hidden : List (List Bool)) (s : Snapshot)
         → AreLinked depth t hidden found.old.snapshots.keys found.old.links.items → slice_get found.old.snapshots.keys from ≡ Some s
-        → LeadTo depth t hidden (state_of s) reached.now.choices.items reached.now.exchanges.items (state_of reached.now.state)
+        → LeadToExchanged depth t hidden (state_of_snapshot s) reached.now.choices.items reached.now.exchanges.items (state_of_snapshot reached.now.state)
         → AreLinked depth t hidden found.new.snapshots.keys found.new.links.items) }
 {
     if found.snapshots.contains(&reached.state) {
@@ -82,7 +82,7 @@ pub fn visit(
     ensures linked { OnOk result (AreLinked plan.now.depth plan.now.test.now plan.now.hidden.now found.new.snapshots.keys found.new.links.items) }
     ensures room { OnOk result (length reached.new.state.cores.items ≡ length plan.now.test.now.programs) }
     ensures visited { OnOk result ((s : Snapshot) → slice_get found.old.snapshots.keys from ≡ Some s
-        → IsVisited plan.now.depth plan.now.test.now plan.now.hidden.now plan.now.alike.items found.new.snapshots.keys (state_of s) choice) }
+        → IsVisited plan.now.depth plan.now.test.now plan.now.hidden.now plan.now.alike.items found.new.snapshots.keys (state_of_snapshot s) choice) }
 {
     if reach(reached, &found.snapshots[from], plan, choice)? {
         keep(alloc, found, reached, from)?;
@@ -112,7 +112,7 @@ fn visit_core(
     ensures linked { OnOk result (AreLinked plan.now.depth plan.now.test.now plan.now.hidden.now found.new.snapshots.keys found.new.links.items) }
     ensures room { OnOk result (length reached.new.state.cores.items ≡ length plan.now.test.now.programs) }
     ensures visited { OnOk result ((s : Snapshot) → slice_get found.old.snapshots.keys from ≡ Some s
-        → AreVisited plan.now.depth plan.now.test.now plan.now.hidden.now plan.now.alike.items found.new.snapshots.keys (state_of s) core) }
+        → AreVisited plan.now.depth plan.now.test.now plan.now.hidden.now plan.now.alike.items found.new.snapshots.keys (state_of_snapshot s) core) }
 {
     let step = Choice::Step(Core(core));
     visit(alloc, found, reached, plan, from, step)?;
@@ -140,7 +140,7 @@ pub fn expand(
     ensures linked { OnOk result (AreLinked plan.now.depth plan.now.test.now plan.now.hidden.now found.new.snapshots.keys found.new.links.items) }
     ensures room { OnOk result (length reached.new.state.cores.items ≡ length plan.now.test.now.programs) }
     ensures expanded { OnOk result ((s : Snapshot) → slice_get found.old.snapshots.keys from ≡ Some s
-        → IsExpanded plan.now.depth plan.now.test.now plan.now.hidden.now plan.now.alike.items (map state_of found.new.snapshots.keys) (state_of s)) }
+        → IsExpanded plan.now.depth plan.now.test.now plan.now.hidden.now plan.now.alike.items (map state_of_snapshot found.new.snapshots.keys) (state_of_snapshot s)) }
 {
     for core in 0..plan.test.cores() {
         visit_core(alloc, found, reached, plan, from, core)?;
@@ -154,8 +154,8 @@ pub fn expand(
 fn first_reached(alloc: Global, plan: &Plan) -> Result<Reached, NoMemory>
     requires { IsPlan plan.now }
     ensures cores { IfOk result (λ r. length r.state.cores.items ≡ length plan.now.test.now.programs) }
-    ensures first { IfOk result (λ r. IsFirst plan.now.depth plan.now.test.now plan.now.hidden.now
-        r.choices.items r.exchanges.items (state_of r.state)) }
+    ensures first { IfOk result (λ r. IsFirstKept plan.now.depth plan.now.test.now plan.now.hidden.now
+        r.choices.items r.exchanges.items (state_of_snapshot r.state)) }
 {
     let mut first = nowhere(alloc, plan.test)?;
     settle(&mut first.state, plan.test, plan.depth, &mut first.choices)?;
@@ -171,7 +171,7 @@ pub fn beginning(alloc: Global, plan: &Plan) -> Result<Found, NoMemory>
     ensures cores { IfOk result (λ found. HaveCores plan.now.test.now found.snapshots.keys) }
     ensures linked { IfOk result (λ found. AreLinked plan.now.depth plan.now.test.now plan.now.hidden.now found.snapshots.keys found.links.items) }
     ensures covered { IfOk result (λ found. IsCovered plan.now.depth plan.now.test.now plan.now.hidden.now plan.now.alike.items
-        (map state_of found.snapshots.keys) (start plan.now.test.now)) }
+        (map state_of_snapshot found.snapshots.keys) (start plan.now.test.now)) }
     ensures one { IfOk result (λ found. length found.snapshots.keys ≡ 1) }
 {
     let first = first_reached(alloc, plan)?;
@@ -227,17 +227,17 @@ pub fn expand_all<W: Watcher>(
     requires cores { HaveCores plan.now.test.now found.old.snapshots.keys }
     requires linked { AreLinked plan.now.depth plan.now.test.now plan.now.hidden.now found.old.snapshots.keys found.old.links.items }
     requires covered { IsCovered plan.now.depth plan.now.test.now plan.now.hidden.now plan.now.alike.items
-        (map state_of found.old.snapshots.keys) (start plan.now.test.now) }
+        (map state_of_snapshot found.old.snapshots.keys) (start plan.now.test.now) }
     requires within { length found.old.snapshots.keys ≤ limit }
     ensures cores { OnOk result (HaveCores plan.now.test.now found.new.snapshots.keys) }
     ensures linked { OnOk result (AreLinked plan.now.depth plan.now.test.now plan.now.hidden.now found.new.snapshots.keys found.new.links.items) }
     ensures closed { IfOk result (λ extent. extent ≡ Extent.Whole
-        → AreClosed plan.now.depth plan.now.test.now plan.now.hidden.now plan.now.alike.items (map state_of found.new.snapshots.keys)) }
+        → AreClosed plan.now.depth plan.now.test.now plan.now.hidden.now plan.now.alike.items (map state_of_snapshot found.new.snapshots.keys)) }
     ensures within { IfOk result (λ extent. extent ≡ Extent.Whole → length found.new.snapshots.keys ≤ limit) }
     ensures more { IfOk result (λ extent. extent ≡ Extent.Cut → limit < length found.new.snapshots.keys) }
 {
     let mut reached = nowhere(alloc, plan.test)?;
-    let mut told = Told::nothing();
+    let mut told = ToldSoFar::nothing();
     for at in 0..limit {
         if at >= found.snapshots.len() {
             break;

@@ -31,7 +31,7 @@ impl Watcher for Unwatched {
 
 /// How far a watcher has been told of a search.
 #[derive(Drop)]
-pub(crate) struct Told {
+pub(crate) struct ToldSoFar {
     /// How many of the states have been looked at.
     counted: usize,
     /// In how many of these the test has ended.
@@ -40,10 +40,10 @@ pub(crate) struct Told {
     next: usize,
 }
 
-impl Told {
+impl ToldSoFar {
     /// Nothing has been told.
-    pub(crate) fn nothing() -> Told {
-        Told {
+    pub(crate) fn nothing() -> ToldSoFar {
+        ToldSoFar {
             counted: 0,
             finals: 0,
             next: STRIDE,
@@ -52,7 +52,7 @@ impl Told {
 }
 
 /// Tells a watcher of a search, where so many states are kept that it is time.
-pub(crate) fn tell<W: Watcher>(plan: &Plan, found: &Found, told: &mut Told, watcher: &mut W)
+pub(crate) fn tell<W: Watcher>(plan: &Plan, found: &Found, told: &mut ToldSoFar, watcher: &mut W)
     requires { HaveCores plan.now.test.now found.now.snapshots.keys }
 {
     let kept = found.snapshots.len();

@@ -1,5 +1,5 @@
 -- A choice in a snapshot is the choice in its state.
-use Rattle.flat_machine.proofs.Vocabulary.{◌≡◌, ℕ, ◌<◌, ◌≤◌, zero, suc, List, [], ◌∷◌, length, map, Some, None, slice_get, slice_set, slice_index_or, Result, Ok, Err, OnOk, refl, ap, sym, ◌∙◌, arith, true, false, ◌==◌, slice_get-get_or, action_of, Litmus, CoreState, State, Effect, idle, program_of, core_of, step_of, effect_by, drain_of, effect_of, memory_after, applied, after_choice, chosen, step, drain, stalled, Instr, Action, Choice, Stall, Outcome, Committed, Buffered, Moved, Asked, Stalled, stall_count, core_of_processor, state_of, Processor, Snapshot}
+use Rattle.flat_machine.proofs.Vocabulary.{◌≡◌, ℕ, ◌<◌, ◌≤◌, zero, suc, List, [], ◌∷◌, length, map, Some, None, slice_get, slice_set, slice_index_or, Result, Ok, Err, OnOk, refl, ap, sym, ◌∙◌, arith, true, false, ◌==◌, slice_get-get_or, action_of, Litmus, CoreState, State, Effect, idle, program_of, core_of, step_of, effect_by, drain_of, effect_of, memory_after, applied, after_choice, chosen, step, drain, stalled, Instr, Action, Choice, Stall, Outcome, Committed, Buffered, Moved, Asked, Stalled, stall_count, core_of_processor, state_of_snapshot, Processor, Snapshot}
 use Rattle.tso_model.specs.declared.choice.Stall.TheVariants as stall
 
 pub on-ok : {A E : Type 0} {P Q : Type 0} (r : Result A E) → (P → Q) → OnOk r P → OnOk r Q
@@ -21,21 +21,21 @@ map-set (x ∷ xs) zero p = refl
 map-set (x ∷ xs) (suc k) p = ap (λ z. core_of_processor x ∷ z) (map-set xs k p)
 
 module _ (t : Litmus) (d : ℕ) (s : Snapshot) (k : ℕ) (p : Processor) (present : k < length s.cores.items) (p-is : p ≡ slice_index_or s.cores.items k p) where
-  pub core-at : core_of (state_of s) k ≡ core_of_processor p
+  pub core-at : core_of (state_of_snapshot s) k ≡ core_of_processor p
   core-at = map-at s.cores.items k p present ∙ ap core_of_processor (sym p-is)
 
-  pub stepping : (x : Instr) → slice_get (program_of t k) p.place ≡ Some x → effect_of t d (state_of s) (step k) ≡ effect_by d s.memory.items k (action_of x) (core_of_processor p)
+  pub stepping : (x : Instr) → slice_get (program_of t k) p.place ≡ Some x → effect_of t d (state_of_snapshot s) (step k) ≡ effect_by d s.memory.items k (action_of x) (core_of_processor p)
   stepping x at = ap (λ z. step_of d s.memory.items k (slice_get (program_of t k) z.place) z) core-at ∙ ap (λ i. step_of d s.memory.items k i (core_of_processor p)) at
 
-  pub done : slice_get (program_of t k) p.place ≡ None → effect_of t d (state_of s) (step k) ≡ stalled stall.Done (core_of_processor p)
+  pub done : slice_get (program_of t k) p.place ≡ None → effect_of t d (state_of_snapshot s) (step k) ≡ stalled stall.Done (core_of_processor p)
   done at = ap (λ z. step_of d s.memory.items k (slice_get (program_of t k) z.place) z) core-at ∙ ap (λ i. step_of d s.memory.items k i (core_of_processor p)) at
 
-  pub draining : effect_of t d (state_of s) (drain k) ≡ drain_of (core_of_processor p)
+  pub draining : effect_of t d (state_of_snapshot s) (drain k) ≡ drain_of (core_of_processor p)
   draining = ap drain_of core-at
 
-  pub acted : (c : Choice) (f : Effect) (words : List ℕ) (cores : List Processor) (q : Processor) → chosen c ≡ k → effect_of t d (state_of s) c ≡ f → core_of_processor q ≡ f.after
+  pub acted : (c : Choice) (f : Effect) (words : List ℕ) (cores : List Processor) (q : Processor) → chosen c ≡ k → effect_of t d (state_of_snapshot s) c ≡ f → core_of_processor q ≡ f.after
       → words ≡ memory_after f.commits s.memory.items → cores ≡ slice_set s.cores.items k q
-      → record { memory = words; cores = map core_of_processor cores } ≡ after_choice t d (state_of s) c
+      → record { memory = words; cores = map core_of_processor cores } ≡ after_choice t d (state_of_snapshot s) c
   acted c f words cores q e g a m n = rw (e, g, m, n, map-set s.cores.items k q, a) refl
 
 pub instr-at : (program : List Instr) (i : ℕ) (x : Instr) → i < length program → x ≡ slice_index_or program i x → slice_get program i ≡ Some x
@@ -65,7 +65,7 @@ same-at (x ∷ xs) (suc k) p q l e f = same-at xs k p q (omega (arith, l)) e f
 pub step-is : (t : Litmus) (d : ℕ) (s : Snapshot) (k : ℕ) (p q : Processor) (program : List Instr) (place : ℕ) (a : Action) (x : Instr)
     → k < length s.cores.items → p ≡ slice_index_or s.cores.items k p → q ≡ slice_index_or s.cores.items k q
     → program ≡ program_of t k → place ≡ q.place → place < length program → a ≡ action_of (slice_index_or program place x)
-    → effect_of t d (state_of s) (step k) ≡ effect_by d s.memory.items k a (core_of_processor p)
+    → effect_of t d (state_of_snapshot s) (step k) ≡ effect_by d s.memory.items k a (core_of_processor p)
 step-is t d s k p q program place a x l e f g h m b =
     let same : p ≡ q = same-at s.cores.items k p q l e f in
     let place-is : place ≡ p.place = h ∙ ap (λ z. z.place) (sym same) in

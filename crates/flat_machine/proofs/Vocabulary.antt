@@ -4,7 +4,7 @@ pub use Rattle.std.proofs.lemmas.List.{take_all}
 pub use Rattle.tso_model.specs.FlatMachine.{CoreState, State, started, start, after_choice, effect_of, memory_after, Effect, idle, program_of, core_of, step_of, effect_by, drain_of, applied, chosen, step, drain, stalled}
 pub use Rattle.tso_model.specs.Litmus.{Litmus}
 pub use Rattle.tso_model.specs.declared.instruction.Instr.{Instr}
-pub use Rattle.flat_machine.specs.State.{core_of_processor, state_of}
+pub use Rattle.flat_machine.specs.State.{core_of_processor, state_of_snapshot}
 pub use Rattle.flat_machine.specs.declared.snapshot.Processor.{Processor}
 pub use Rattle.std.proofs.Math.ListN.{length-set}
 pub use Rattle.tso_model.specs.ProgramOrder.{is_write, writes_to}

@@ -8,5 +8,5 @@ use Rattle.flat_machine.specs.declared.snapshot.Snapshot.{Snapshot}
 abbrev pub core_of_processor : Processor → CoreState
 core_of_processor c = record { place = c.place; registers = c.registers; pending = c.pending.items }
 
-abbrev pub state_of : Snapshot → State
-state_of s = record { memory = s.memory.items; cores = map core_of_processor s.cores.items }
+abbrev pub state_of_snapshot : Snapshot → State
+state_of_snapshot s = record { memory = s.memory.items; cores = map core_of_processor s.cores.items }

@@ -9,7 +9,7 @@ ghost use Rattle.tso_model.specs.Thread.{entry, fence, value_of, with_value, upd
 ghost use Rattle.tso_model.specs.FlatMachine.{effect_of, after_choice, effect_by, drain_of, memory_after, chosen, is_none_pending};
 ghost use Rattle.tso_model.specs.FlatMachine.{load_value, loaded, stored, moved, fenced, locked};
 ghost use Rattle.tso_model.specs.Runs.{stall_count};
-ghost use Rattle.flat_machine.specs.State.{state_of, core_of_processor};
+ghost use Rattle.flat_machine.specs.State.{state_of_snapshot, core_of_processor};
 
 use crate::snapshot::{Processor, Snapshot};
 use tso_model::{
@@ -190,7 +190,7 @@ pub fn has_stalled(outcome: Outcome) -> bool
 pub fn is_idle(state: &Snapshot, test: &Test, choice: Choice) -> bool
     requires cores { length state.now.cores.items ≡ length test.now.programs }
     requires chosen { chosen choice < length test.now.programs }
-    ensures { result ≡ true → (depth : ℕ) → after_choice test.now depth (state_of state.now) choice ≡ state_of state.now }
+    ensures { result ≡ true → (depth : ℕ) → after_choice test.now depth (state_of_snapshot state.now) choice ≡ state_of_snapshot state.now }
 {
     match choice {
         Choice::Step(core) => {
@@ -212,8 +212,8 @@ pub fn act(
 ) -> Result<Outcome, NoMemory>
     requires cores { length state.old.cores.items ≡ length test.now.programs }
     requires chosen { chosen choice < length test.now.programs }
-    ensures outcome { IfOk result (λ o. o ≡ (effect_of test.now depth (state_of state.old) choice).outcome) }
-    ensures after { OnOk result (state_of state.new ≡ after_choice test.now depth (state_of state.old) choice) }
+    ensures outcome { IfOk result (λ o. o ≡ (effect_of test.now depth (state_of_snapshot state.old) choice).outcome) }
+    ensures after { OnOk result (state_of_snapshot state.new ≡ after_choice test.now depth (state_of_snapshot state.old) choice) }
     ensures cores { OnOk result (length state.new.cores.items ≡ length test.now.programs) }
 {
     match choice {

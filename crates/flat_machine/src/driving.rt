@@ -1,7 +1,7 @@
 //! Runs of the flat machine, under choices that come one after the other.
 ghost use Rattle.std.specs.Prelude.{◌≡◌, IfOk, OnOk, length};
 ghost use Rattle.tso_model.specs.Runs.{run_from, CoresExist};
-ghost use Rattle.flat_machine.specs.State.{state_of};
+ghost use Rattle.flat_machine.specs.State.{state_of_snapshot};
 
 use crate::acting::{act, has_stalled};
 use crate::ending::has_ended;
@@ -21,8 +21,8 @@ pub fn drive<C: Choices>(
 ) -> Result<bool, NoMemory>
     requires cores { length state.old.cores.items ≡ length test.now.programs }
     requires chosen { CoresExist (length test.now.programs) (C.coming choices.old) }
-    ensures ended { IfOk result (λ b. b ≡ (run_from test.now depth (state_of state.old) (C.coming choices.old)).ended) }
-    ensures state { OnOk result (state_of state.new ≡ (run_from test.now depth (state_of state.old) (C.coming choices.old)).state) }
+    ensures ended { IfOk result (λ b. b ≡ (run_from test.now depth (state_of_snapshot state.old) (C.coming choices.old)).ended) }
+    ensures state { OnOk result (state_of_snapshot state.new ≡ (run_from test.now depth (state_of_snapshot state.old) (C.coming choices.old)).state) }
     ensures cores { OnOk result (length state.new.cores.items ≡ length test.now.programs) }
     ensures words { OnOk result (length state.new.memory.items ≡ length state.old.memory.items) }
 {

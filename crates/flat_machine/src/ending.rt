@@ -2,7 +2,7 @@
 ghost use Rattle.std.specs.Prelude.{◌≡◌, IfOk, OnOk, length, map};
 ghost use Rattle.tso_model.specs.FlatMachine.{registers_in};
 ghost use Rattle.tso_model.specs.Runs.{is_done, has_ended};
-ghost use Rattle.flat_machine.specs.State.{state_of, core_of_processor};
+ghost use Rattle.flat_machine.specs.State.{state_of_snapshot, core_of_processor};
 
 use crate::snapshot::{Processor, Snapshot};
 use std::alloc::Global;
@@ -18,7 +18,7 @@ fn is_done(program: &[Instr], processor: &Processor) -> bool
 /// Whether the test has ended: each core is done.
 pub fn has_ended(test: &Test, snapshot: &Snapshot) -> bool
     requires { length snapshot.now.cores.items ≡ length test.now.programs }
-    ensures { result ≡ has_ended test.now (state_of snapshot.now) }
+    ensures { result ≡ has_ended test.now (state_of_snapshot snapshot.now) }
 {
     for core in 0..test.cores() {
         if !is_done(test.program(Core(core)), &snapshot.cores[usize::from(core)]) {

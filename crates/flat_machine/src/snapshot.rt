@@ -2,7 +2,7 @@
 //! snapshots are one only where nothing in them differs.
 ghost use Rattle.std.specs.Prelude.{◌≡◌, IfOk, OnOk, length};
 ghost use Rattle.tso_model.specs.FlatMachine.{start};
-ghost use Rattle.flat_machine.specs.State.{state_of, core_of_processor};
+ghost use Rattle.flat_machine.specs.State.{state_of_snapshot, core_of_processor};
 
 use std::alloc::Global;
 use tso_model::{Core, Entry, NoMemory, Test};
@@ -26,7 +26,7 @@ pub struct Snapshot {
 ///
 /// Errors: out of memory only.
 pub fn start(alloc: Global, test: &Test) -> Result<Snapshot, NoMemory>
-    ensures value { IfOk result (λ s. state_of s ≡ start test.now) }
+    ensures value { IfOk result (λ s. state_of_snapshot s ≡ start test.now) }
     ensures cores { IfOk result (λ s. length s.cores.items ≡ length test.now.programs) }
 {
     let mut memory = Vec::new(alloc);
@@ -72,7 +72,7 @@ fn copy_core(alloc: Global, core: &Processor) -> Result<Processor, NoMemory>
 ///
 /// Errors: out of memory only.
 pub fn copy(alloc: Global, state: &Snapshot) -> Result<Snapshot, NoMemory>
-    ensures value { IfOk result (λ s. state_of s ≡ state_of state.now) }
+    ensures value { IfOk result (λ s. state_of_snapshot s ≡ state_of_snapshot state.now) }
     ensures cores { IfOk result (λ s. length s.cores.items ≡ length state.now.cores.items) }
 {
     let memory = exact(alloc, &state.memory)?;
@@ -101,7 +101,7 @@ fn overwrite_core(core: &mut Processor, other: &Processor) -> Result<(), NoMemor
 /// Errors: out of memory only.
 pub fn overwrite(state: &mut Snapshot, other: &Snapshot) -> Result<(), NoMemory>
     requires { length state.old.cores.items ≡ length other.now.cores.items }
-    ensures value { OnOk result (state_of state.new ≡ state_of other.now) }
+    ensures value { OnOk result (state_of_snapshot state.new ≡ state_of_snapshot other.now) }
     ensures cores { OnOk result (length state.new.cores.items ≡ length other.now.cores.items) }
 {
     state.memory.clear();

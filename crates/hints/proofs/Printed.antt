@@ -12,7 +12,7 @@ use Rattle.std.proofs.lemmas.Str.{IsUtf8-from_ascii}
 use Rattle.std.proofs.lemmas.Str.Ascii.{IsAscii-from_all}
 use Rattle.tso_model.specs.Names.{is_printable}
 use Rattle.hints.specs.Hint.{IsHint}
-use Rattle.hints.specs.inner.Hint.{most_words, shown_byte}
+use Rattle.hints.specs.inner.Hint.{most_hint_bytes, shown_byte}
 
 shown_is_printable : (c : ℕ) → is_printable (shown_byte c) ≡ true
 unfolding shown_byte
@@ -25,16 +25,16 @@ shown_are_printable (b ∷ bs) = and_from (is_printable (shown_byte b)) _ (shown
 printable_ascii : (c : ℕ) → is_printable c ≡ true → c < 128
 printable_ascii c h = grind (arith, nat_tests)
 
-pub words_are_text : (bytes words : List ℕ) → words ≡ map shown_byte (take most_words bytes) → IsUtf8 words
+pub words_are_text : (bytes words : List ℕ) → words ≡ map shown_byte (take most_hint_bytes bytes) → IsUtf8 words
 words_are_text bytes words is =
-    rw is (IsUtf8-from_ascii _ (IsAscii-from_all _ (All-weaker (λ c. is_printable c ≡ true) (λ c. c < 128) printable_ascii _ (AllPass-from_list_all is_printable _ (shown_are_printable (take most_words bytes))))))
+    rw is (IsUtf8-from_ascii _ (IsAscii-from_all _ (All-weaker (λ c. is_printable c ≡ true) (λ c. c < 128) printable_ascii _ (AllPass-from_list_all is_printable _ (shown_are_printable (take most_hint_bytes bytes))))))
 
-pub is_hint : (bytes words text : List ℕ) → words ≡ map shown_byte (take most_words bytes) → text ≡ codes "hint: " ++ words ++ (10 ∷ []) → IsHint text
+pub is_hint : (bytes words text : List ℕ) → words ≡ map shown_byte (take most_hint_bytes bytes) → text ≡ codes "hint: " ++ words ++ (10 ∷ []) → IsHint text
 is_hint bytes words text shown is =
-    let many : length words ≤ most_words = rw (shown, length-map (take most_words bytes) shown_byte, length-take most_words bytes) (min-le_left most_words (length bytes)) in
+    let many : length words ≤ most_hint_bytes = rw (shown, length-map (take most_hint_bytes bytes) shown_byte, length-take most_hint_bytes bytes) (min-le_left most_hint_bytes (length bytes)) in
     record {
       words = words;
       is = is;
-      printable = rw shown (shown_are_printable (take most_words bytes));
+      printable = rw shown (shown_are_printable (take most_hint_bytes bytes));
       short = rw (is, length-append (codes "hint: ") (words ++ (10 ∷ [])), length-append words (10 ∷ [])) (omega (arith, many));
     }

@@ -4,7 +4,7 @@
 ghost use Rattle.std.specs.Prelude.{◌≡◌, IfOk, map, take, string_bytes};
 ghost use Rattle.std.specs.Str.{IsUtf8};
 ghost use Rattle.hints.specs.Hint.{IsHint, longest_hint};
-ghost use Rattle.hints.specs.inner.Hint.{most_words, shown_byte};
+ghost use Rattle.hints.specs.inner.Hint.{most_hint_bytes, shown_byte};
 
 use crate::quotes::{first_bytes, is_bare};
 use crate::words::{Piece, Words};
@@ -66,7 +66,7 @@ fn string_of(alloc: Global, bytes: &[u8]) -> Result<String, AllocError>
 }
 
 fn printable_words(alloc: Global, words: &[u8]) -> Result<Vec<u8>, AllocError>
-    ensures { IfOk result (λ v. v.items ≡ map shown_byte (take most_words words.now)) }
+    ensures { IfOk result (λ v. v.items ≡ map shown_byte (take most_hint_bytes words.now)) }
 {
     words
         .iter()

@@ -1,5 +1,5 @@
 -- Each choice on either bus counts an access only where one more instruction has made its own.
-use Rattle.machine_core.proofs.Vocabulary.{◌≡◌, ◌≢◌, ◌<◌, ℕ, Bool, true, false, if◌then◌else◌, List, [], ◌∷◌, drop, length, Option, None, Some, slice_get, refl, sym, ap, ◌∙◌, subst, arith, nat_tests, Litmus, IsTest, action_of, CoreState, State, effect_by, step_of, effect_of, core_of, chosen, program_of, MemoryAccess, NoAccess, Reads, Writes, Locks, access_by, step_access, access_of, Holder, Free, HeldBy, HeldBetween, Attempt, BusEffect, acts, asks, begins, needs_bus, same_choice, completes, writes_last, as_read, effect_on, Bus, Atomic, Split, Reg, Loc, Instr, Action, Store, Load, Move, Fence, Lock, Entry, Choice, Step, Drain, HasRead, HolderFits, Unused, Caches, is_awaited, use_of, use_with, at_access, ask_by, not_through, IsIssued, locked_with}
+use Rattle.machine_core.proofs.Vocabulary.{◌≡◌, ◌≢◌, ◌<◌, ℕ, Bool, true, false, if◌then◌else◌, List, [], ◌∷◌, drop, length, Option, None, Some, slice_get, refl, sym, ap, ◌∙◌, subst, arith, nat_tests, Litmus, IsTest, action_of, CoreState, State, effect_by, step_of, effect_of, core_of, chosen, program_of, MemoryAccess, NoAccess, Reads, Writes, Locks, access_by, step_access, access_of, Holder, Free, HeldBy, HeldBetween, Attempt, BusEffect, acts, asks, begins, needs_bus, same_choice, completes, writes_last, as_read, effect_on, Bus, Atomic, Split, Reg, Loc, Instr, Action, Store, Load, Move, Fence, Lock, Entry, Choice, Step, Drain, HasRead, HolderFits, Unused, Caches, is_awaited, use_of, use_with, at_access, ask_by, not_through, HasIssuedItsStores, locked_with}
 use Rattle.machine_core.proofs.CountBounds.{effect-advances}
 use Rattle.machine_core.proofs.CountsOnBus.{AdvancesOn, advances-acts, advances-frees, advances-reads, advances-writes, advances-rests}
 use Rattle.machine_core.proofs.Accessing.{commits-at-once}
@@ -42,26 +42,26 @@ abbrev Goes : Litmus → ℕ → State → Holder → Choice → Caches → BusE
 Goes t depth state holder choice c f =
     AdvancesOn (core_of state (chosen choice)) holder f (use_with t depth (record { flat = state; holder = holder }) choice f c).how
 
-goes-acts : (t : Litmus) (depth : ℕ) (state : State) (holder : Holder) (choice : Choice) (c : Caches) → IsTest t → chosen choice < length t.programs → IsIssued (core_of state (chosen choice))
+goes-acts : (t : Litmus) (depth : ℕ) (state : State) (holder : Holder) (choice : Choice) (c : Caches) → IsTest t → chosen choice < length t.programs → HasIssuedItsStores (core_of state (chosen choice))
     → Goes t depth state holder choice c (acts (effect_of t depth state choice) holder)
 goes-acts t depth state holder choice c test h issued =
     advances-acts (core_of state (chosen choice)) holder (is_awaited holder) (effect_of t depth state choice) c (chosen choice) (access_of t depth state choice) (core_of state (chosen choice)).pending
     (effect-advances t depth state choice test h issued)
 
-goes-asks : (t : Litmus) (depth : ℕ) (state : State) (holder : Holder) (choice : Choice) (c : Caches) → IsIssued (core_of state (chosen choice))
+goes-asks : (t : Litmus) (depth : ℕ) (state : State) (holder : Holder) (choice : Choice) (c : Caches) → HasIssuedItsStores (core_of state (chosen choice))
     → Goes t depth state holder choice c (asks (core_of state (chosen choice)) choice holder)
 goes-asks t depth state Free choice c issued = advances-rests (core_of state (chosen choice)) Free _ _ issued refl (omega arith) (asks-nothing c (chosen choice) (access_of t depth state choice))
 goes-asks t depth state (HeldBy other) choice c issued = advances-rests (core_of state (chosen choice)) (HeldBy other) _ _ issued refl (omega arith) refl
 goes-asks t depth state (HeldBetween e) choice c issued = advances-rests (core_of state (chosen choice)) (HeldBetween e) _ _ issued refl (omega arith) refl
 
-goes-begins : (t : Litmus) (depth : ℕ) (state : State) (holder : Holder) (a : Attempt) (c : Caches) → IsTest t → chosen a.choice < length t.programs → IsIssued (core_of state (chosen a.choice))
+goes-begins : (t : Litmus) (depth : ℕ) (state : State) (holder : Holder) (a : Attempt) (c : Caches) → IsTest t → chosen a.choice < length t.programs → HasIssuedItsStores (core_of state (chosen a.choice))
     → Goes t depth state holder a.choice c (begins t depth state a holder)
 goes-begins t depth state holder a c test h issued =
     elim (needs_bus (access_of t depth state a.choice) a.hits) as (λ b. Goes t depth state holder a.choice c (if b then asks (core_of state (chosen a.choice)) a.choice holder else acts (effect_of t depth state a.choice) holder))
     [ true ↦ goes-asks t depth state holder a.choice c issued | false ↦ goes-acts t depth state holder a.choice c test h issued ]
 
 goes-completes : (t : Litmus) (depth : ℕ) (state : State) (choice : Choice) (c : Caches) (what : MemoryAccess) → access_of t depth state choice ≡ what → access_of t depth state choice ≢ NoAccess
-    → IsTest t → chosen choice < length t.programs → IsIssued (core_of state (chosen choice)) → Goes t depth state (HeldBy choice) choice c (completes t depth state choice what)
+    → IsTest t → chosen choice < length t.programs → HasIssuedItsStores (core_of state (chosen choice)) → Goes t depth state (HeldBy choice) choice c (completes t depth state choice what)
 goes-completes t depth state choice c NoAccess is some test h issued = absurd (some is)
 goes-completes t depth state choice c (Reads loc) is some test h issued =
     advances-frees (core_of state (chosen choice)) choice (effect_of t depth state choice) _ (commits-at-once t depth state choice some).some (effect-advances t depth state choice test h issued)
@@ -69,7 +69,7 @@ goes-completes t depth state choice c (Writes loc) is some test h issued =
     advances-frees (core_of state (chosen choice)) choice (effect_of t depth state choice) _ (commits-at-once t depth state choice some).some (effect-advances t depth state choice test h issued)
 goes-completes t depth state choice c (Locks loc) is some test h issued = advances-reads (core_of state (chosen choice)) choice _ _ _ issued refl refl
 
-goes-writes : (t : Litmus) (depth : ℕ) (state : State) (e : Entry) (c : Caches) → HasRead t depth state e → IsTest t → e.core.0 < length t.programs → IsIssued (core_of state e.core.0)
+goes-writes : (t : Litmus) (depth : ℕ) (state : State) (e : Entry) (c : Caches) → HasRead t depth state e → IsTest t → e.core.0 < length t.programs → HasIssuedItsStores (core_of state e.core.0)
     → Goes t depth state (HeldBetween e) (Step e.core) c (writes_last t depth state e)
 goes-writes t depth state e c read test h issued =
     let f = effect_of t depth (as_read state e) (Step e.core) in
@@ -80,7 +80,7 @@ goes-writes t depth state e c read test h issued =
 
 -- every choice on either bus
 pub advances-on : (bus : Bus) (t : Litmus) (depth : ℕ) (state : State) (holder : Holder) (a : Attempt) (c : Caches) → HolderFits bus t depth state holder → IsTest t → chosen a.choice < length t.programs
-    → IsIssued (core_of state (chosen a.choice)) → Goes t depth state holder a.choice c (effect_on bus t depth (record { flat = state; holder = holder }) a)
+    → HasIssuedItsStores (core_of state (chosen a.choice)) → Goes t depth state holder a.choice c (effect_on bus t depth (record { flat = state; holder = holder }) a)
 advances-on Atomic t depth state holder a c fits test h issued = goes-acts t depth state holder a.choice c test h issued
 advances-on Split t depth state Free a c fits test h issued = goes-begins t depth state Free a c test h issued
 advances-on Split t depth state (HeldBy asked) a c fits test h issued = by_choice (same_choice asked a.choice) refl
@@ -99,5 +99,5 @@ advances-on Split t depth state (HeldBetween e) a c fits test h issued = by_choi
     by_choice true q =
         let same = same-is (Step e.core) a.choice q in
         subst (λ x. Goes t depth state (HeldBetween e) x c (writes_last t depth state e)) same
-        (goes-writes t depth state e c fits test (subst (λ x. chosen x < length t.programs) (sym same) h) (subst (λ x. IsIssued (core_of state (chosen x))) (sym same) issued))
+        (goes-writes t depth state e c fits test (subst (λ x. chosen x < length t.programs) (sym same) h) (subst (λ x. HasIssuedItsStores (core_of state (chosen x))) (sym same) issued))
     by_choice false q = goes-begins t depth state (HeldBetween e) a c test h issued

@@ -1,5 +1,5 @@
 -- The hardware of a machine that goes back to the beginning of its test.
-use Rattle.machine_core.proofs.Vocabulary.{◌≡◌, ◌+◌, ℕ, zero, suc, List, [], ◌∷◌, Option, None, length, slice_index_or, map, replicate, All, refl, sym, ap, ◌∙◌, subst, arith, Litmus, started, start, unheld, Instr, IsPossibleOn, stores, table_of_rows, BusModel, cores_of, new_bus, Next, Processor, core_states, core_state, state_of, at_start, Counts, no_counts, no_statistics, caches_of, Hardware, IsCore, state_in}
+use Rattle.machine_core.proofs.Vocabulary.{◌≡◌, ◌+◌, ℕ, zero, suc, List, [], ◌∷◌, Option, None, length, slice_index_or, map, replicate, All, refl, sym, ap, ◌∙◌, subst, arith, Litmus, started, start, unheld, Instr, IsPossibleOn, stores, table_of_rows, BusModel, cores_of, new_bus, Next, Processor, core_states, core_state, state_of_cores, at_start, Counts, no_counts, no_statistics, caches_of, Hardware, IsCore, state_in}
 use Rattle.tso_model.specs.declared.choice.Bus as kind
 use Rattle.snoop_bus.specs.declared.holding.BusAction as bus_action
 use Rattle.machine_core.proofs.Overwriting.{written}
@@ -31,7 +31,7 @@ all-none [] = refl
 all-none (c ∷ cs) = ap (λ ns. no_counts ∷ ns) (all-none cs)
 
 pub begun-state : (ps : List Processor) (words : List ℕ) (t : Litmus) (next : Next) (h : Option bus_action.BusAction) → core_states 0 ps ≡ started 0 t.programs t.registers → words ≡ t.words
-    → h ≡ None → record { flat = state_of ps words; holder = held-with next h } ≡ unheld (start t)
+    → h ≡ None → record { flat = state_of_cores ps words; holder = held-with next h } ≡ unheld (start t)
 begun-state ps words t next h cores memory free = rw (cores, memory, free) refl
 
 pub begun-statistics : (old new : BusModel) (init : List ℕ) (counts : List Counts) (t : Litmus) (n : ℕ) → new ≡ new_bus (table_of_rows old.rows) (cores_of old) old.shape init → cores_of old ≡ length t.programs

@@ -1,5 +1,5 @@
 -- Which choice on a split bus is the holder's next one, and what any choice does by that.
-use Rattle.machine_core.proofs.Vocabulary.{◌≡◌, ℕ, Bool, true, false, None, Some, Result, IfOk, refl, sym, ap, ◌∙◌, subst, Litmus, State, chosen, access_of, Holder, Free, HeldBy, HeldBetween, Attempt, BusEffect, same_choice, begins, completes, writes_last, split_effect, HitFits, Entry, Choice, Step, Committed, NoMemory, Next, Complete, Write, Hardware, Answer, next_in, holder_by, state_in, HasMade, completes_in, attempt_in, SucceedsUnlessCommitting, AnswerFitsIn, split_effect_in, begins_in, writes_last_in, IsOther}
+use Rattle.machine_core.proofs.Vocabulary.{◌≡◌, ℕ, Bool, true, false, None, Some, Result, IfOk, refl, sym, ap, ◌∙◌, subst, Litmus, State, chosen, access_of, Holder, Free, HeldBy, HeldBetween, Attempt, BusEffect, same_choice, begins, completes, writes_last, split_effect, HitFits, Entry, Choice, Step, Committed, NoMemory, Next, Complete, Write, Hardware, ChoiceAnswer, next_in, holder_by, state_in, HasMade, completes_in, attempt_in, SucceedsUnlessCommitting, AnswerFitsIn, split_effect_in, begins_in, writes_last_in, IsOther}
 use Rattle.machine_core.proofs.Advancing.{same-is}
 
 module _ (t : Litmus) (depth : ℕ) (state : State) (a : Attempt) where
@@ -73,7 +73,7 @@ module _ {P : Type 0} (t : Litmus) (m : Hardware P) (choice : Choice) where
 
   -- what was made had that effect
   module _ (f g : BusEffect) (same : f ≡ g) where
-    pub made-as : {E : Type 0} (r : Result Answer E) (new : Hardware P) → IfOk r (HasMade t m new choice f) → IfOk r (HasMade t m new choice g)
+    pub made-as : {E : Type 0} (r : Result ChoiceAnswer E) (new : Hardware P) → IfOk r (HasMade t m new choice f) → IfOk r (HasMade t m new choice g)
     made-as r new made = subst (λ (h : BusEffect). IfOk r (HasMade t m new choice h)) same made
 
     pub succeeds-as : {A : Type 0} (r : Result A NoMemory) → SucceedsUnlessCommitting r f.effect → SucceedsUnlessCommitting r g.effect
@@ -82,5 +82,5 @@ module _ {P : Type 0} (t : Litmus) (m : Hardware P) (choice : Choice) where
     pub commits-as : {A : Type 0} (r : Result A NoMemory) → f.effect.outcome ≡ Committed → SucceedsUnlessCommitting r g.effect
     commits-as r commits = λ other. absurd (other (subst (λ (h : BusEffect). h.effect.outcome ≡ Committed) same commits))
 
-    pub made-at : {E : Type 0} (r : Result Answer E) (new : Hardware P) (named : Choice) → named ≡ choice → IfOk r (HasMade t m new named f) → IfOk r (HasMade t m new choice g)
+    pub made-at : {E : Type 0} (r : Result ChoiceAnswer E) (new : Hardware P) (named : Choice) → named ≡ choice → IfOk r (HasMade t m new named f) → IfOk r (HasMade t m new choice g)
     made-at r new named is made = made-as r new (subst (λ (c : Choice). IfOk r (HasMade t m new c f)) is made)

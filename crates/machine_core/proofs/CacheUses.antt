@@ -1,5 +1,5 @@
 -- What a choice has to do with the caches, from what its core did.
-use Rattle.machine_core.proofs.Vocabulary.{◌≡◌, ◌||◌, ◌==◌, ℕ, Bool, true, false, if◌then◌else◌, List, [], ◌∷◌, map, filter, Option, None, Some, is_some, slice_get, refl, sym, ap, ◌∙◌, subst, option_map, last_or, list_any, writes_to, CoreState, Reg, Loc, Update, Entry, Pending, newest_for, Access, BusModel, words_of, IsSameMachine, LoadsAt, WritesAt, Processor, CacheUse, Unused, Forwarded, Through, store_of, core_state, pending_in, lock_by, drain_by, Caches, caches_of, not_through, load_after, write_by, use_of, HasUsed, drain_with, fenced_with, locked_with}
+use Rattle.machine_core.proofs.Vocabulary.{◌≡◌, ◌||◌, ◌==◌, ℕ, Bool, true, false, if◌then◌else◌, List, [], ◌∷◌, map, filter, Option, None, Some, is_some, slice_get, refl, sym, ap, ◌∙◌, subst, option_map, last_or, list_any, writes_to, CoreState, Reg, Loc, Update, Entry, Pending, newest_for, Access, BusModel, words_of, IsSameMachine, LoadsAt, WritesAt, Processor, CacheUse, Unused, Forwarded, Through, store_of, core_state, pending_in, effect_of_lock, effect_of_drain, Caches, caches_of, not_through, load_after, write_by, use_of, HasUsed, drain_with, fenced_with, locked_with}
 
 or_true : (b : Bool) → true ≡ (b || true)
 or_true true = refl
@@ -54,7 +54,7 @@ locked-uses c pending core s loc reg word value (p ∷ ps) h = absurd (let z : �
 
 pub locks : (core : ℕ) (p : Processor) (old new : BusModel) (loc : Loc) (reg : Reg) (update : Update) (word : ℕ) (access : Access) → p.stores.items ≡ []
     → WritesAt old new core loc.0 word access → IsSameMachine old new
-    → HasUsed (use_of (caches_of old) (pending_in core p) (lock_by loc reg update core p (words_of old)).commits) new (Through access)
+    → HasUsed (use_of (caches_of old) (pending_in core p) (effect_of_lock loc reg update core p (words_of old)).commits) new (Through access)
 locks core p old new loc reg update word access h done machine =
     subst (λ u. HasUsed u new (Through access)) (sym (locked-uses (caches_of old) (pending_in core p) core (core_state core p) loc reg _ _ p.stores.items h))
     (writes old new core loc.0 word access done machine)
@@ -65,6 +65,6 @@ drained-uses c pending core s [] store h = absurd (let z : ⊥ = cc in z)
 drained-uses c pending core s (p ∷ ps) store h = let e : store ≡ p = cc in ap (λ q. write_by c core q.loc.0) (sym e)
 
 pub drains : (core : ℕ) (p : Processor) (old new : BusModel) (store : Pending) (how : CacheUse) → Some store ≡ slice_get p.stores.items 0
-    → HasUsed (write_by (caches_of old) core store.loc.0) new how → HasUsed (use_of (caches_of old) (pending_in core p) (drain_by core p (words_of old)).commits) new how
+    → HasUsed (write_by (caches_of old) core store.loc.0) new how → HasUsed (use_of (caches_of old) (pending_in core p) (effect_of_drain core p (words_of old)).commits) new how
 drains core p old new store how h used =
     subst (λ u. HasUsed u new how) (sym (drained-uses (caches_of old) (pending_in core p) core (core_state core p) p.stores.items store h)) used

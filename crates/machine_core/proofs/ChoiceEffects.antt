@@ -1,5 +1,5 @@
 -- A choice on the hardware of a machine, from what its core did.
-use Rattle.machine_core.proofs.Vocabulary.{◌≡◌, ◌<◌, ℕ, ◌++◌, None, Some, Result, Ok, Err, IfOk, length, slice_get, slice_set, slice_index_or, length-set, refl, sym, ap, ◌∙◌, subst, All, All-set, Litmus, Effect, stalled, step_of, drain_of, chosen, memory_after, program_of, core_of, MemoryAccess, NoAccess, access_of, step_access, drain_access, Free, BusEffect, acts, Core, Instr, NoMemory, Choice, Step, Drain, Outcome, words_of, cores_of, holder_of, Processor, Hardware, core_state, core_states, pending_in, step_by, drain_by, caches_of, completing_by, use_of, IsCore, HardwareFitsTest, core_in, state_in, Answer, HasUsed, HasEffect, MayAct, MayMakeBy, MayMakeIn, flat_effect_in, by_way, HasAsked, Way, Whole, Asked, HasActed, use_by, HasMade, effect_made_in}
+use Rattle.machine_core.proofs.Vocabulary.{◌≡◌, ◌<◌, ℕ, ◌++◌, None, Some, Result, Ok, Err, IfOk, length, slice_get, slice_set, slice_index_or, length-set, refl, sym, ap, ◌∙◌, subst, All, All-set, Litmus, Effect, stalled, step_of, drain_of, chosen, memory_after, program_of, core_of, MemoryAccess, NoAccess, access_of, step_access, drain_access, Free, BusEffect, acts, Core, Instr, NoMemory, Choice, Step, Drain, Outcome, words_of, cores_of, holder_of, Processor, Hardware, core_state, core_states, pending_in, step_by, effect_of_drain, caches_of, completing_by, use_of, IsCore, HardwareFitsTest, core_in, state_in, ChoiceAnswer, HasUsed, HasEffect, MayAct, MayMakeBy, MayMakeIn, flat_effect_in, by_way, HasAsked, Way, Whole, Asked, HasActed, use_by, HasMade, effect_made_in}
 use Rattle.tso_model.specs.declared.choice.Stall.TheVariants as stall
 use Rattle.machine_core.proofs.CoreLemmas.{core_states-get_or, core_states-set}
 use Rattle.machine_core.proofs.ActedLemmas.{whole-none}
@@ -23,7 +23,7 @@ effect_in-done t m core p h q g =
     ∙ ap (λ found. step_of m.config.depth (words_of m.bus) core.0 found (core_state core.0 p)) g
 
 pub effect_in-drain : {P : Type 0} (t : Litmus) (m : Hardware P) (core : Core) (p : Processor) → core.0 < length m.processors.items → p ≡ slice_index_or m.processors.items core.0 p
-    → flat_effect_in t m (Drain core) ≡ drain_by core.0 p (words_of m.bus)
+    → flat_effect_in t m (Drain core) ≡ effect_of_drain core.0 p (words_of m.bus)
 effect_in-drain t m core p h q = ap (λ s. drain_of s) (core_of-state_in m core.0 p h q)
 
 -- the access that it makes
@@ -78,7 +78,7 @@ use-made : {P : Type 0} (way : Way) (t : Litmus) (m : Hardware P) (choice : Choi
 use-made Whole t m choice may = use-acts t m choice
 use-made Asked t m choice may = use-frees t m choice (effect_made_in Asked t m choice) may.0 refl
 
-pub IfOk-Makes : {P : Type 0} (way : Way) (r : Result Answer NoMemory) (t : Litmus) (m new : Hardware P) (choice : Choice) (what : MemoryAccess) (p q : Processor) (f : Effect) → MayMakeIn way t m choice
+pub IfOk-Makes : {P : Type 0} (way : Way) (r : Result ChoiceAnswer NoMemory) (t : Litmus) (m new : Hardware P) (choice : Choice) (what : MemoryAccess) (p q : Processor) (f : Effect) → MayMakeIn way t m choice
     → flat_effect_in t m choice ≡ f → access_of t m.config.depth (state_in m).flat choice ≡ what → chosen choice < length m.processors.items → p ≡ slice_index_or m.processors.items (chosen choice) p
     → new.processors.items ≡ slice_set m.processors.items (chosen choice) q → new.next ≡ m.next
     → IfOk r (HasActed way what (chosen choice) p q m.bus new.bus m.commits new.commits f) → IfOk r (HasMade t m new choice (effect_made_in way t m choice))

@@ -1,5 +1,5 @@
 -- The machine's cores as the flat machine has them.
-use Rattle.machine_core.proofs.Vocabulary.{◌≡◌, ◌<◌, ℕ, zero, suc, ◌+◌, ◌==◌, ◌&&◌, Bool, true, false, IsTrue, if◌then◌else◌, List, [], ◌∷◌, ◌++◌, map, filter, Option, None, Some, unwrap_or, length, slice_get, slice_set, slice_index, slice_index_or, take, drop, drop-cons, add-one, append_assoc, refl, sym, ap, ◌∙◌, arith, subst, All, All-append, option_map, last_or, writes_to, is_none_pending, CoreState, stalled, started, idle, is_done, all_done, Reg, Loc, Instr, Update, Pending, newest_for, Processor, stores, store_of, core_state, core_states, lock_by, IsCore, drain_with, fenced_with, locked_with}
+use Rattle.machine_core.proofs.Vocabulary.{◌≡◌, ◌<◌, ℕ, zero, suc, ◌+◌, ◌==◌, ◌&&◌, Bool, true, false, IsTrue, if◌then◌else◌, List, [], ◌∷◌, ◌++◌, map, filter, Option, None, Some, unwrap_or, length, slice_get, slice_set, slice_index, slice_index_or, take, drop, drop-cons, add-one, append_assoc, refl, sym, ap, ◌∙◌, arith, subst, All, All-append, option_map, last_or, writes_to, is_none_pending, CoreState, stalled, started, idle, is_done, all_done, Reg, Loc, Instr, Update, Pending, newest_for, Processor, stores, store_of, core_state, core_states, effect_of_lock, IsCore, drain_with, fenced_with, locked_with}
 use Rattle.tso_model.specs.Axioms.{last_value}
 use Rattle.tso_model.specs.declared.choice.Stall.TheVariants as stall
 
@@ -49,7 +49,7 @@ locked-waits core s loc reg word value [] h = absurd (h refl)
 locked-waits core s loc reg word value (p ∷ ps) h = refl
 
 pub lock-waits : (core : ℕ) (p : Processor) (words : List ℕ) (loc : Loc) (reg : Reg) (update : Update) (b : Bool) → (p.stores.items ≡ [] → IsTrue b) → b ≡ false
-    → stalled stall.Lock (core_state core p) ≡ lock_by loc reg update core p words
+    → stalled stall.Lock (core_state core p) ≡ effect_of_lock loc reg update core p words
 lock-waits core p words loc reg update b f h = sym (locked-waits core (core_state core p) loc reg _ _ p.stores.items (holds_some b p.stores.items f h))
 
 pub drain_of-nothing : (core : ℕ) (s : CoreState) (items : List Pending) → slice_get items 0 ≡ None → drain_with s (map (store_of core) items) ≡ stalled stall.Empty s

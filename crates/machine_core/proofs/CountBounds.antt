@@ -1,5 +1,5 @@
 -- Why counting never overflows: no count is larger than the number of instructions that the cores are done with.
-use Rattle.machine_core.proofs.Vocabulary.{◌≡◌, ◌≤◌, ◌<◌, ◌+◌, ◌-◌, ◌⊎◌, inl, inr, ℕ, zero, suc, Bool, true, false, nat_lt, if◌then◌else◌, List, [], ◌∷◌, ◌++◌, length, length-append, length-set, replicate, slice_get, slice_index, slice_index_or, Option, Some, None, All, refl, sym, ap, ◌∙◌, subst, arith, list_any, All-set, most_instructions, Litmus, IsTest, action_of, entry, value_in, with_value, value_of, updated, writes_to, CoreState, State, Effect, stalled, stored, effect_by, step_of, effect_of, chosen, core_of, program_of, Reg, Core, Loc, Instr, Action, Store, Load, Move, Fence, Lock, Entry, Kind, R, W, F, LR, LW, Choice, Step, Drain, Outcome, Buffered, Stalled, Table, table_of_rows, TagSets, loaded_in, written_in, write_in, sends_in, flusher_from, tags_at, Counts, CacheUse, Unused, Forwarded, Through, Caches, not_through, load_by, write_by, load_after, use_by_kind, use_of, no_counts, with_access, with_write_back, with_forward, with_flush, at_core, flush_counted, counted, IsAtMost, IsIssued, IsAmong, IsFlusherAmong, done_by, drain_with, fenced_with, locked_with}
+use Rattle.machine_core.proofs.Vocabulary.{◌≡◌, ◌≤◌, ◌<◌, ◌+◌, ◌-◌, ◌⊎◌, inl, inr, ℕ, zero, suc, Bool, true, false, nat_lt, if◌then◌else◌, List, [], ◌∷◌, ◌++◌, length, length-append, length-set, replicate, slice_get, slice_index, slice_index_or, Option, Some, None, All, refl, sym, ap, ◌∙◌, subst, arith, list_any, All-set, most_instructions, Litmus, IsTest, action_of, entry, value_in, with_value, value_of, updated, writes_to, CoreState, State, Effect, stalled, stored, effect_by, step_of, effect_of, chosen, core_of, program_of, Reg, Core, Loc, Instr, Action, Store, Load, Move, Fence, Lock, Entry, Kind, R, W, F, LR, LW, Choice, Step, Drain, Outcome, Buffered, Stalled, Table, table_of_rows, TagSets, loaded_in, written_in, write_in, sends_in, flusher_from, tags_at, Counts, CacheUse, Unused, Forwarded, Through, Caches, not_through, load_by, write_by, load_after, use_by_kind, use_of, no_counts, with_access, with_write_back, with_forward, with_flush, counts_at_core, flush_counted, with_use_counted, IsAtMost, HasIssuedItsStores, IsAmong, IsFlusherAmong, done_by, drain_with, fenced_with, locked_with}
 use Rattle.tso_model.specs.declared.choice.Stall.TheVariants as stall
 use Rattle.protocol_tables.specs.declared.state.State as protocol
 use Rattle.protocol_tables.specs.declared.state.Snoop.{Snoop}
@@ -134,7 +134,7 @@ flush-grows n c k = record {
 
 -- the counts of all cores once those of one were changed
 All-at_core : (P Q : Counts → Type 0) (core : ℕ) (change : Counts → Counts) (cs : List Counts) → core < length cs
-    → ((c : Counts) → P c → Q c) → ((c : Counts) → P c → Q (change c)) → All P cs → All Q (at_core core change cs)
+    → ((c : Counts) → P c → Q c) → ((c : Counts) → P c → Q (change c)) → All P cs → All Q (counts_at_core core change cs)
 All-at_core P Q core change cs h stay go all =
     All-set Q cs core (change (slice_index_or cs core no_counts)) (go (slice_index_or cs core no_counts) (all core no_counts h)) (λ k d l. stay (slice_index_or cs k d) (all k d l))
 
@@ -144,12 +144,12 @@ flush-within n (Some core) cs among all =
     All-at_core (AfterAccess n) (IsAtMost (n + 1)) core.0 with_flush cs among (λ c k. k.0) (flush-grows n) all
 
 pub counted-within : (n core : ℕ) (how : CacheUse) (cs : List Counts) → core < length cs → IsFlusherAmong (length cs) how
-    → All (IsAtMost n) cs → All (IsAtMost (n + 1)) (counted core how cs)
+    → All (IsAtMost n) cs → All (IsAtMost (n + 1)) (with_use_counted core how cs)
 counted-within n core Unused cs h among all = λ k d l. IsAtMost-next n (slice_index_or cs k d) (all k d l)
 counted-within n core Forwarded cs h among all = All-at_core (IsAtMost n) (IsAtMost (n + 1)) core with_forward cs h (IsAtMost-next n) (IsAtMost-forward n) all
 counted-within n core (Through a) cs h among all =
     let change : Counts → Counts = λ c. with_write_back a.wrote_back (with_access a.kind c) in
-    flush-within n a.flushed (at_core core change cs)
+    flush-within n a.flushed (counts_at_core core change cs)
     (subst (λ size. IsAmong size a.flushed) (sym (length-set cs core (change (slice_index_or cs core no_counts)))) among)
     (All-at_core (IsAtMost n) (AfterAccess n) core change cs h (access-next n) (access-grows n a.wrote_back a.kind) all)
 
@@ -157,7 +157,7 @@ length-flush : (o : Option Core) (cs : List Counts) → length (flush_counted o 
 length-flush None cs = refl
 length-flush (Some core) cs = length-set cs core.0 _
 
-pub length-counted : (core : ℕ) (how : CacheUse) (cs : List Counts) → length (counted core how cs) ≡ length cs
+pub length-counted : (core : ℕ) (how : CacheUse) (cs : List Counts) → length (with_use_counted core how cs) ≡ length cs
 length-counted core Unused cs = refl
 length-counted core Forwarded cs = length-set cs core _
 length-counted core (Through a) cs = length-flush a.flushed _ ∙ length-set cs core _
@@ -208,14 +208,14 @@ use_of-among c pending (e ∷ es) = use_by_kind-among c pending e e.kind
 
 -- a core after an effect: it is done with no fewer instructions, and with one more where something was committed
 pub record Advances (s : CoreState) (f : Effect) : Type 0 where
-  pub issued : IsIssued f.after
+  pub issued : HasIssuedItsStores f.after
   pub done : done_by s ≤ done_by f.after
   pub more : (f.commits ≡ []) ⊎ (done_by s + 1 ≤ done_by f.after)
 
-rests : (s : CoreState) (o : Outcome) → IsIssued s → Advances s (record { outcome = o; after = s; commits = [] })
+rests : (s : CoreState) (o : Outcome) → HasIssuedItsStores s → Advances s (record { outcome = o; after = s; commits = [] })
 rests s o i = record { issued = i; done = (let z : done_by s ≤ done_by s = omega arith in z); more = inl refl }
 
-goes_on : (s : CoreState) (o : Outcome) (registers : List ℕ) (commits : List Entry) → IsIssued s → s.place < most_instructions
+goes_on : (s : CoreState) (o : Outcome) (registers : List ℕ) (commits : List Entry) → HasIssuedItsStores s → s.place < most_instructions
     → Advances s (record { outcome = o; after = record { place = s.place + 1; registers = registers; pending = s.pending }; commits = commits })
 goes_on s o registers commits i h =
     let waiting = i.pending in
@@ -225,7 +225,7 @@ goes_on s o registers commits i h =
       more = inr (let z : s.place - length s.pending + 1 ≤ s.place + 1 - length s.pending = omega arith in z);
     }
 
-buffered : (s : CoreState) (o : Outcome) (e : Entry) → IsIssued s → s.place < most_instructions
+buffered : (s : CoreState) (o : Outcome) (e : Entry) → HasIssuedItsStores s → s.place < most_instructions
     → Advances s (record { outcome = o; after = record { place = s.place + 1; registers = s.registers; pending = s.pending ++ e ∷ [] }; commits = [] })
 buffered s o e i h =
     let waiting = i.pending in
@@ -236,7 +236,7 @@ buffered s o e i h =
       more = inl refl;
     }
 
-stored-advances : (depth : ℕ) (s : CoreState) (e : Entry) → IsIssued s → s.place < most_instructions → Advances s (stored depth s e)
+stored-advances : (depth : ℕ) (s : CoreState) (e : Entry) → HasIssuedItsStores s → s.place < most_instructions → Advances s (stored depth s e)
 stored-advances zero s e i h = goes_on s _ s.registers (e ∷ []) i h
 stored-advances (suc n) s e i h =
     elim (nat_lt (length s.pending) (suc n)) as (λ b. Advances s (if b
@@ -244,11 +244,11 @@ stored-advances (suc n) s e i h =
     else stalled stall.Full s))
     [ true ↦ buffered s Buffered e i h | false ↦ rests s (Stalled stall.Full) i ]
 
-fenced-advances : (core : ℕ) (s : CoreState) (pending : List Entry) → IsIssued s → s.place < most_instructions → Advances s (fenced_with core s pending)
+fenced-advances : (core : ℕ) (s : CoreState) (pending : List Entry) → HasIssuedItsStores s → s.place < most_instructions → Advances s (fenced_with core s pending)
 fenced-advances core s [] i h = goes_on s _ s.registers _ i h
 fenced-advances core s (p ∷ ps) i h = rests s (Stalled stall.Fence) i
 
-locked-advances : (core : ℕ) (s : CoreState) (loc : Loc) (reg : Reg) (word value : ℕ) (pending : List Entry) → IsIssued s → s.place < most_instructions
+locked-advances : (core : ℕ) (s : CoreState) (loc : Loc) (reg : Reg) (word value : ℕ) (pending : List Entry) → HasIssuedItsStores s → s.place < most_instructions
     → Advances s (locked_with core s loc reg word value pending)
 locked-advances core s loc reg word value [] i h = goes_on s _ (with_value s.registers reg word) _ i h
 locked-advances core s loc reg word value (p ∷ ps) i h = rests s (Stalled stall.Lock) i
@@ -258,7 +258,7 @@ got-below [] i x h = absurd (let z : ⊥ = cc in z)
 got-below (y ∷ ys) zero x h = omega arith
 got-below (y ∷ ys) (suc i) x h = let l = got-below ys i x h in omega arith
 
-action-advances : (depth : ℕ) (memory : List ℕ) (core : ℕ) (a : Action) (s : CoreState) → IsIssued s → s.place < most_instructions
+action-advances : (depth : ℕ) (memory : List ℕ) (core : ℕ) (a : Action) (s : CoreState) → HasIssuedItsStores s → s.place < most_instructions
     → Advances s (effect_by depth memory core a s)
 action-advances depth memory core (Store loc operand) s i h = stored-advances depth s (entry core s.place W loc (value_of s.registers operand)) i h
 action-advances depth memory core (Load reg loc) s i h = goes_on s _ _ _ i h
@@ -268,13 +268,13 @@ action-advances depth memory core (Lock loc reg update) s i h =
     locked-advances core s loc reg (slice_index memory loc.0) (updated update (slice_index memory loc.0) (value_in s.registers reg)) s.pending i h
 
 step-advances : (depth : ℕ) (memory : List ℕ) (core : ℕ) (program : List Instr) (o : Option Instr) (s : CoreState) → slice_get program s.place ≡ o
-    → length program ≤ most_instructions → IsIssued s → Advances s (step_of depth memory core o s)
+    → length program ≤ most_instructions → HasIssuedItsStores s → Advances s (step_of depth memory core o s)
 step-advances depth memory core program None s got size i = rests s (Stalled stall.Done) i
 step-advances depth memory core program (Some instr) s got size i =
     let below = got-below program s.place instr got in
     action-advances depth memory core (action_of instr) s i (let z : s.place < most_instructions = omega arith in z)
 
-drain-advances : (place : ℕ) (registers : List ℕ) (pending waiting : List Entry) → pending ≡ waiting → IsIssued (record { place = place; registers = registers; pending = pending })
+drain-advances : (place : ℕ) (registers : List ℕ) (pending waiting : List Entry) → pending ≡ waiting → HasIssuedItsStores (record { place = place; registers = registers; pending = pending })
     → Advances (record { place = place; registers = registers; pending = pending }) (drain_with (record { place = place; registers = registers; pending = pending }) waiting)
 drain-advances place registers pending [] h i = rests (record { place = place; registers = registers; pending = pending }) (Stalled stall.Empty) i
 drain-advances place registers pending (p ∷ ps) h i =
@@ -287,7 +287,7 @@ drain-advances place registers pending (p ∷ ps) h i =
       more = inr (let z : place - length pending + 1 ≤ place - length ps = omega arith in z);
     }
 
-pub effect-advances : (t : Litmus) (depth : ℕ) (state : State) (choice : Choice) → IsTest t → chosen choice < length t.programs → IsIssued (core_of state (chosen choice))
+pub effect-advances : (t : Litmus) (depth : ℕ) (state : State) (choice : Choice) → IsTest t → chosen choice < length t.programs → HasIssuedItsStores (core_of state (chosen choice))
     → Advances (core_of state (chosen choice)) (effect_of t depth state choice)
 effect-advances t depth state (Step core) test h i =
     step-advances depth state.memory core.0 (program_of t core.0) _ (core_of state core.0) refl (test.programs_fit core.0 [] h).size i

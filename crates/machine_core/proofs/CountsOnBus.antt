@@ -1,5 +1,5 @@
 -- The counts after a choice on either bus.
-use Rattle.machine_core.proofs.Vocabulary.{◌≡◌, ◌≢◌, ◌≤◌, ◌<◌, ◌+◌, ◌*◌, ◌⊎◌, inl, inr, ℕ, Bool, true, false, if◌then◌else◌, List, [], ◌∷◌, length, slice_set, Option, Some, None, All, refl, sym, ap, ◌∙◌, subst, arith, list_any, sum_by, option_map, All-set, most_instructions, Litmus, writes_to, CoreState, Effect, chosen, core_of, idle, MemoryAccess, NoAccess, Reads, Writes, Locks, Holder, Free, HeldBy, HeldBetween, BusEffect, acts, BusState, Entry, Kind, R, W, F, LR, LW, Choice, Table, table_of_rows, TagSets, flusher_from, Awaited, asking, asked_for, awaiting, completed, completed_in, flusher_of, Counts, CacheUse, Unused, Forwarded, Caches, Used, not_through, load_by, use_by_kind, use_of, used_between, Statistics, counted, IsAtMost, IsIssued, IsAmong, IsFlusherAmong, IsSenderAmong, IsTallied, done_by, done_in, half_done, most_counted}
+use Rattle.machine_core.proofs.Vocabulary.{◌≡◌, ◌≢◌, ◌≤◌, ◌<◌, ◌+◌, ◌*◌, ◌⊎◌, inl, inr, ℕ, Bool, true, false, if◌then◌else◌, List, [], ◌∷◌, length, slice_set, Option, Some, None, All, refl, sym, ap, ◌∙◌, subst, arith, list_any, sum_by, option_map, All-set, most_instructions, Litmus, writes_to, CoreState, Effect, chosen, core_of, idle, MemoryAccess, NoAccess, Reads, Writes, Locks, Holder, Free, HeldBy, HeldBetween, BusEffect, acts, BusState, Entry, Kind, R, W, F, LR, LW, Choice, Table, table_of_rows, TagSets, flusher_from, Awaited, asking, asked_for, awaiting, completed, completed_in, flusher_of, Counts, CacheUse, Unused, Forwarded, Caches, Used, not_through, load_by, use_by_kind, use_of, used_between, Statistics, with_use_counted, IsAtMost, HasIssuedItsStores, IsAmong, IsFlusherAmong, IsSenderAmong, IsTallied, done_by, done_in, half_done, most_counted}
 use Rattle.std.proofs.lemmas.List.Sums.{sum_by-set, sum_by-le}
 use Rattle.protocol_tables.specs.declared.requests.Request.{Request}
 use Rattle.protocol_tables.specs.declared.requests.Request.TheVariants.{GetS, GetM}
@@ -59,12 +59,12 @@ senders true true c core what pending commits h = whole-senders c pending commit
 
 -- a core after an effect on either bus: no fewer instructions have made their accesses, and one more where an access is counted
 pub record AdvancesOn (s : CoreState) (holder : Holder) (f : BusEffect) (how : CacheUse) : Type 0 where
-  pub issued : IsIssued f.effect.after
+  pub issued : HasIssuedItsStores f.effect.after
   pub done : done_by s + half_done holder ≤ done_by f.effect.after + half_done f.holder
   pub more : (how ≡ Unused) ⊎ (done_by s + half_done holder + 1 ≤ done_by f.effect.after + half_done f.holder)
 
 -- how many instructions all cores are done with
-done-bound : (cores : List CoreState) → All IsIssued cores → sum_by done_by cores ≤ length cores * most_instructions
+done-bound : (cores : List CoreState) → All HasIssuedItsStores cores → sum_by done_by cores ≤ length cores * most_instructions
 done-bound cores all = sum_by-le done_by most_instructions cores (λ k d l. (let first = (all k d l).place in omega arith))
 
 half-bound : (holder : Holder) → half_done holder ≤ 1
@@ -82,17 +82,17 @@ few-counted t state s size tallied =
 
 -- the counts after a choice
 counts-after : (n m core : ℕ) (how : CacheUse) (cs : List Counts) → core < length cs → IsFlusherAmong (length cs) how → n ≤ m → (how ≡ Unused) ⊎ (n + 1 ≤ m)
-    → All (IsAtMost n) cs → All (IsAtMost m) (counted core how cs)
+    → All (IsAtMost n) cs → All (IsAtMost m) (with_use_counted core how cs)
 counts-after n m core how cs h among le (inl none) all =
-    subst (λ u. All (IsAtMost m) (counted core u cs)) (sym none) (λ k d l. IsAtMost-more n m _ le (all k d l))
+    subst (λ u. All (IsAtMost m) (with_use_counted core u cs)) (sym none) (λ k d l. IsAtMost-more n m _ le (all k d l))
 counts-after n m core how cs h among le (inr more) all =
-    let next : All (IsAtMost (n + 1)) (counted core how cs) = counted-within n core how cs h among all in
+    let next : All (IsAtMost (n + 1)) (with_use_counted core how cs) = counted-within n core how cs h among all in
     λ k d l. IsAtMost-more (n + 1) m _ more (next k d l)
 
 pub tallied-after : (t : Litmus) (state next : BusState) (choice : Choice) (f : BusEffect) (s : Statistics) (u : Used) → length state.flat.cores ≡ length t.programs → length s.caches.contents ≡ length t.programs
     → chosen choice < length t.programs → IsTallied t state s → AdvancesOn (core_of state.flat (chosen choice)) state.holder f u.how → SendersAmong (length s.caches.contents) u
     → next.flat.cores ≡ slice_set state.flat.cores (chosen choice) f.effect.after → next.holder ≡ f.holder
-    → IsTallied t next (record { caches = u.caches; counts = counted (chosen choice) u.how s.counts })
+    → IsTallied t next (record { caches = u.caches; counts = with_use_counted (chosen choice) u.how s.counts })
 tallied-after t state next choice f s u cores contents h tallied go among after holder =
     let i = chosen choice in
     let c = core_of state.flat i in
@@ -104,7 +104,7 @@ tallied-after t state next choice f s u cores contents h tallied go among after 
     record {
       test = tallied.test;
       cores = length-counted i u.how s.counts ∙ tallied.cores;
-      issued = rw after (All-set IsIssued state.flat.cores i f.effect.after go.issued tallied.issued);
+      issued = rw after (All-set HasIssuedItsStores state.flat.cores i f.effect.after go.issued tallied.issued);
       done = counts-after (done_in state) (done_in next) i u.how s.counts (subst (λ n. i < n) (sym tallied.cores) h)
           (subst (λ n. IsFlusherAmong n u.how) (contents ∙ sym tallied.cores) among.0) le
           (one-more (done_in state) (done_in next) (sum_by done_by state.flat.cores) (sum_by done_by (slice_set state.flat.cores i f.effect.after)) (done_by c) (done_by f.effect.after) (half_done state.holder) (half_done f.holder)
@@ -150,7 +150,7 @@ advances-frees s choice f how some go =
     by_commits (inr more) = inr (omega arith)
 
 -- a locked instruction is counted at its load part, and not at its store part
-pub advances-reads : (s : CoreState) (choice : Choice) (e : Entry) (f : BusEffect) (how : CacheUse) → IsIssued s → f.effect.after ≡ s → f.holder ≡ HeldBetween e → AdvancesOn s (HeldBy choice) f how
+pub advances-reads : (s : CoreState) (choice : Choice) (e : Entry) (f : BusEffect) (how : CacheUse) → HasIssuedItsStores s → f.effect.after ≡ s → f.holder ≡ HeldBetween e → AdvancesOn s (HeldBy choice) f how
 advances-reads s choice e f how issued after holder = record {
   issued = rw after issued;
   done = rw (after, holder) (let z : done_by s + 0 ≤ done_by s + 1 = omega arith in z);
@@ -169,7 +169,7 @@ advances-writes s e f g how unused some go after holder = record {
     by_commits (inr more) = omega arith
 
 -- a choice that asks or stalls
-pub advances-rests : (s : CoreState) (holder : Holder) (f : BusEffect) (how : CacheUse) → IsIssued s → f.effect.after ≡ s → half_done holder ≤ half_done f.holder → how ≡ Unused → AdvancesOn s holder f how
+pub advances-rests : (s : CoreState) (holder : Holder) (f : BusEffect) (how : CacheUse) → HasIssuedItsStores s → f.effect.after ≡ s → half_done holder ≤ half_done f.holder → how ≡ Unused → AdvancesOn s holder f how
 advances-rests s holder f how issued after half unused = record {
   issued = rw after issued;
   done = rw after (let z : done_by s + half_done holder ≤ done_by s + half_done f.holder = omega arith in z);

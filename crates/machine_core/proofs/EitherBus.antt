@@ -1,5 +1,5 @@
 -- A choice on the hardware of a machine, by the kind of its bus.
-use Rattle.machine_core.proofs.Vocabulary.{◌≡◌, inl, ℕ, Result, Ok, Err, IfOk, OnOk, OnErr, refl, sym, ap, ◌∙◌, Litmus, State, Holder, Free, HeldBy, HeldBetween, Attempt, BusState, effect_on, HitFits, Bus, Atomic, Split, NoMemory, Choice, HolderFits, holder_of, Hardware, IsHeldForAccess, held_as, state_in, Answer, MayMakeIn, attempt_in, effect_in, split_effect_in, HasMade, IsUndone, effect_made_in, Whole}
+use Rattle.machine_core.proofs.Vocabulary.{◌≡◌, inl, ℕ, Result, Ok, Err, IfOk, OnOk, OnErr, refl, sym, ap, ◌∙◌, Litmus, State, Holder, Free, HeldBy, HeldBetween, Attempt, BusState, effect_on, HitFits, Bus, Atomic, Split, NoMemory, Choice, HolderFits, holder_of, Hardware, IsHeldForAccess, held_as, state_in, ChoiceAnswer, MayMakeIn, attempt_in, effect_in, split_effect_in, HasMade, IsUndone, effect_made_in, Whole}
 
 -- on the atomic bus nobody holds it
 free-holder : (bus : Bus) (t : Litmus) (depth : ℕ) (state : State) (holder : Holder) → bus ≡ Atomic → HolderFits bus t depth state holder → holder ≡ Free
@@ -23,7 +23,7 @@ effect-split t m choice h = ap (λ b. effect_on b t m.config.depth (state_in m) 
 pub fits-free : (t : Litmus) (depth : ℕ) (state : State) (a : Attempt) (holder : Holder) → holder ≡ Free → HitFits t depth state a holder
 fits-free t depth state a holder free = rw free tt
 
-pub held-free : {P : Type 0} (r : Result Answer NoMemory) (t : Litmus) (m new : Hardware P) (choice : Choice) → IsHeldForAccess t m → (state_in m).holder ≡ Free
+pub held-free : {P : Type 0} (r : Result ChoiceAnswer NoMemory) (t : Litmus) (m new : Hardware P) (choice : Choice) → IsHeldForAccess t m → (state_in m).holder ≡ Free
     → OnOk r (holder_of new.bus ≡ holder_of m.bus) → IfOk r (HasMade t m new choice (effect_made_in Whole t m choice)) → OnErr r (IsUndone m new) → IsHeldForAccess t new
 held-free (Ok x) t m new choice held free same done err =
     same ∙ held ∙ ap (held_as t m.config.depth (state_in m).flat) free ∙ sym (ap (held_as t new.config.depth (state_in new).flat) (done.ok.holder ∙ free))

@@ -1,5 +1,5 @@
 -- A locked instruction made whole, from what the calls in it say.
-use Rattle.machine_core.proofs.Vocabulary.{◌≡◌, ◌++◌, ◌∷◌, inl, inr, ℕ, true, false, None, Result, List, [], map, slice_index, refl, sym, ap, ◌∙◌, subst, entry, value_in, with_value, updated, locked_access, Locks, CoreState, Effect, advanced_with, Core, Loc, NoMemory, Reg, Update, Entry, LR, Committed, Pending, Noted, Access, BusModel, words_of, IsSameMachine, IsCurrentWord, WritesAt, CompletesAt, awaited_of, MayGoOn, Processor, Through, Whole, store_of, core_state, pending_in, lock_by, both_parts, at_next, word_at, caches_of, completion_by, HasUsed, whole, MayMake, Acts, HasActed, SucceedsUnlessCommitting, Notes, locked_with}
+use Rattle.machine_core.proofs.Vocabulary.{◌≡◌, ◌++◌, ◌∷◌, inl, inr, ℕ, true, false, None, Result, List, [], map, slice_index, refl, sym, ap, ◌∙◌, subst, entry, value_in, with_value, updated, locked_access, Locks, CoreState, Effect, advanced_with, Core, Loc, NoMemory, Reg, Update, Entry, LR, Committed, Pending, Noted, Access, BusModel, words_of, IsSameMachine, IsCurrentWord, WritesAt, CompletesAt, awaited_of, MayGoOn, Processor, Through, Whole, store_of, core_state, pending_in, effect_of_lock, both_parts, at_next, word_on_bus, caches_of, completion_by, HasUsed, whole, MayMake, Acts, HasActed, SucceedsUnlessCommitting, Notes, locked_with}
 use Rattle.snoop_bus.specs.declared.access.Updated.{Updated}
 use Rattle.machine_core.proofs.CoreLemmas.{index-got}
 use Rattle.machine_core.proofs.CacheUses.{writes}
@@ -14,7 +14,7 @@ locked-made core s loc reg word value (p ∷ ps) h = absurd (let z : ⊥ = cc in
 pub acts-locks : (core : Core) (loc : Loc) (reg : Reg) (update : Update) (p q : Processor) (b b' : BusModel) (noted mid noted' : Noted) (value : ℕ) (u : Updated) → p.stores.items ≡ [] → value ≡ value_in p.registers reg
     → IsCurrentWord b loc.0 u.before → u.after ≡ updated update u.before value → WritesAt b b' core.0 loc.0 u.after u.access → IsSameMachine b b'
     → mid.entries ≡ noted.entries → noted'.entries ≡ mid.entries ++ both_parts core.0 p.place loc u.before u.after
-    → q ≡ at_next p (with_value p.registers reg u.before) → Acts (whole core) (locked_access loc (pending_in core.0 p)) (lock_by loc reg update) p q b b' noted noted' (Committed, Through u.access)
+    → q ≡ at_next p (with_value p.registers reg u.before) → Acts (whole core) (locked_access loc (pending_in core.0 p)) (effect_of_lock loc reg update) p q b b' noted noted' (Committed, Through u.access)
 acts-locks core loc reg update p q b b' noted mid noted' value u none value_is before after done machine room notes next =
     subst (λ f. HasActed Whole (locked_access loc (pending_in core.0 p)) core.0 p q b b' noted noted' f (Committed, Through u.access)) (sym effect) (record {
       outcome = refl;
@@ -31,13 +31,13 @@ acts-locks core loc reg update p q b b' noted mid noted' value u none value_is b
     written : updated update (slice_index (words_of b) loc.0) (value_in p.registers reg) ≡ u.after
     written = rw (word, ← value_is) (sym after)
 
-    effect : lock_by loc reg update core.0 p (words_of b) ≡ made core.0 (core_state core.0 p) loc reg u.before u.after
+    effect : effect_of_lock loc reg update core.0 p (words_of b) ≡ made core.0 (core_state core.0 p) loc reg u.before u.after
     effect = locked-made core.0 (core_state core.0 p) loc reg _ _ p.stores.items none
         ∙ ap (λ w. made core.0 (core_state core.0 p) loc reg w (updated update (slice_index (words_of b) loc.0) (value_in p.registers reg))) word
         ∙ ap (λ v. made core.0 (core_state core.0 p) loc reg u.before v) written
 
 -- it commits where nothing is pending, so memory may be refused then alone
-pub lock-commits : {A : Type 0} (r : Result A NoMemory) (core : ℕ) (loc : Loc) (reg : Reg) (update : Update) (p : Processor) (words : List ℕ) → p.stores.items ≡ [] → SucceedsUnlessCommitting r (lock_by loc reg update core p words)
+pub lock-commits : {A : Type 0} (r : Result A NoMemory) (core : ℕ) (loc : Loc) (reg : Reg) (update : Update) (p : Processor) (words : List ℕ) → p.stores.items ≡ [] → SucceedsUnlessCommitting r (effect_of_lock loc reg update core p words)
 lock-commits r core loc reg update p words none = λ other. absurd (other (ap (λ f. f.outcome) (locked-made core (core_state core p) loc reg _ _ p.stores.items none)))
 
 -- its access may be made whole
@@ -50,10 +50,10 @@ may-lock core loc p b none may = by_access (subst (λ items. MayMake (whole core
 
 -- its load part alone, on a split bus
 module _ (core : Core) (place : ℕ) (loc : Loc) (b b' : BusModel) (value : ℕ) (word : IsCurrentWord b loc.0 value) (read : Entry) (is : read ≡ entry core.0 place LR loc value) where
-  pub first-entry : read ≡ entry core.0 place LR loc (word_at b loc)
+  pub first-entry : read ≡ entry core.0 place LR loc (word_on_bus b loc)
   first-entry = rw (index-got (words_of b) loc.0 value word) is
 
-  pub first-noted : (noted mid noted' : Noted) → mid.entries ≡ noted.entries → noted'.entries ≡ mid.entries ++ read ∷ [] → Notes noted noted' (entry core.0 place LR loc (word_at b loc))
+  pub first-noted : (noted mid noted' : Noted) → mid.entries ≡ noted.entries → noted'.entries ≡ mid.entries ++ read ∷ [] → Notes noted noted' (entry core.0 place LR loc (word_on_bus b loc))
   first-noted noted mid noted' room notes = rw (← room, ← first-entry) notes
 
 pub first-uses : (b b' : BusModel) (core loc : ℕ) (access : Access) → CompletesAt b b' core loc access → IsSameMachine b b' → awaited_of b' ≡ None → HasUsed (completion_by (caches_of b) core loc) b' (Through access)

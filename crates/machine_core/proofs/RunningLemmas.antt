@@ -1,5 +1,5 @@
 -- What a contract sees of a machine, part by part.
-use Rattle.machine_core.proofs.Vocabulary.{◌≡◌, ◌&&◌, ℕ, Bool, true, false, not, IsTrue, List, [], ◌++◌, Result, Ok, Err, IfOk, OnOk, OnErr, sym, ap, ◌∙◌, subst, Litmus, chosen, core_of, access_of, Free, Attempt, BusState, effect_on, after_on, HitFits, NoMemory, IsPossibleOn, Hardware, IsFree, IsHeldForAccess, held_as, state_in, Answer, HasEffect, attempt_in, effect_in, Bus, Entry, Choice, attempt_of, is_awaited, used_between, use_of, Running, Statistics, statistics_with, statistics_after}
+use Rattle.machine_core.proofs.Vocabulary.{◌≡◌, ◌&&◌, ℕ, Bool, true, false, not, IsTrue, List, [], ◌++◌, Result, Ok, Err, IfOk, OnOk, OnErr, sym, ap, ◌∙◌, subst, Litmus, chosen, core_of, access_of, Free, Attempt, BusState, effect_on, after_on, HitFits, NoMemory, IsPossibleOn, Hardware, IsFree, IsHeldForAccess, held_as, state_in, ChoiceAnswer, HasEffect, attempt_in, effect_in, Bus, Entry, Choice, attempt_of, is_awaited, used_between, use_of, Running, Statistics, statistics_with, statistics_after}
 use Rattle.machine_core.proofs.Splitting.{used-same}
 
 pub Running-same : (now : Running) (t : Litmus) (bus bus' : Bus) (d d' : ℕ) (s s' : BusState) (xs xs' : List Entry) (n n' : Statistics) (f f' : Bool)
@@ -27,7 +27,7 @@ on-ok (Ok x) Q q = q
 on-ok (Err e) Q q = tt
 
 -- what a machine has come to is possible after a choice too
-pub possible-next : {P : Type 0} (r : Result Answer NoMemory) (t : Litmus) (m new : Hardware P) (choice : Choice) → IsPossibleOn m.config.bus t m.config.depth m.commits.entries (state_in m)
+pub possible-next : {P : Type 0} (r : Result ChoiceAnswer NoMemory) (t : Litmus) (m new : Hardware P) (choice : Choice) → IsPossibleOn m.config.bus t m.config.depth m.commits.entries (state_in m)
     → ((a : Attempt) → IsPossibleOn m.config.bus t m.config.depth m.commits.entries (state_in m) → HitFits t m.config.depth (state_in m).flat a (state_in m).holder
     → IsPossibleOn m.config.bus t m.config.depth (m.commits.entries ++ (effect_on m.config.bus t m.config.depth (state_in m) a).effect.commits) (after_on m.config.bus t m.config.depth (state_in m) a))
     → HitFits t m.config.depth (state_in m).flat (attempt_in t m choice) (state_in m).holder → IfOk r (λ o. HasEffect m new choice (effect_in t m choice) o.0)

@@ -1,5 +1,5 @@
 -- A choice on a split bus that isn't the holder's next one.
-use Rattle.machine_core.proofs.Vocabulary.{◌≡◌, ◌≢◌, ℕ, ◌++◌, Bool, true, false, List, [], Option, None, Some, Result, Ok, Err, IfOk, OnOk, OnErr, inr, length, slice_set, append-nil, refl, sym, ap, ◌∙◌, subst, set-get_or, Litmus, CoreState, State, Effect, stalled, after_choice, chosen, core_of, idle, MemoryAccess, NoAccess, Reads, Writes, Locks, access_of, Holder, Free, HeldBy, HeldBetween, Attempt, BusEffect, acts, asks, needs_bus, same_choice, BusState, HitFits, NoMemory, Split, Core, Loc, Entry, Choice, Outcome, HolderFits, BusModel, words_of, cores_of, holder_of, IsSameMachine, AsksFor, Locked, Unused, Next, Complete, Write, Hardware, Way, by_way, Caches, Used, caches_of, at_access, ask_by, not_through, hits_by, is_awaited, used_between, completing_by, use_of, HardwareFitsTest, IsHeldForAccess, held_as, held_for, core_in, holder_by, state_in, Answer, HasUsed, HasEffect, MayAct, attempt_in, flat_effect_in, use_by, IsOther, begins_in, HasMade, IsUndone, effect_made_in}
+use Rattle.machine_core.proofs.Vocabulary.{◌≡◌, ◌≢◌, ℕ, ◌++◌, Bool, true, false, List, [], Option, None, Some, Result, Ok, Err, IfOk, OnOk, OnErr, inr, length, slice_set, append-nil, refl, sym, ap, ◌∙◌, subst, set-get_or, Litmus, CoreState, State, Effect, stalled, after_choice, chosen, core_of, idle, MemoryAccess, NoAccess, Reads, Writes, Locks, access_of, Holder, Free, HeldBy, HeldBetween, Attempt, BusEffect, acts, asks, needs_bus, same_choice, BusState, HitFits, NoMemory, Split, Core, Loc, Entry, Choice, Outcome, HolderFits, BusModel, words_of, cores_of, holder_of, IsSameMachine, AsksFor, Locked, Unused, Next, Complete, Write, Hardware, Way, by_way, Caches, Used, caches_of, at_access, ask_by, not_through, hits_by, is_awaited, used_between, completing_by, use_of, HardwareFitsTest, IsHeldForAccess, held_as, held_for, core_in, holder_by, state_in, ChoiceAnswer, HasUsed, HasEffect, MayAct, attempt_in, flat_effect_in, use_by, IsOther, begins_in, HasMade, IsUndone, effect_made_in}
 use Rattle.std.proofs.Common.{option_map}
 use Rattle.tso_model.specs.declared.choice.Stall.TheVariants as stall
 use Rattle.tso_model.specs.declared.choice.Outcome.TheVariants.{Asked}
@@ -58,7 +58,7 @@ held-kept t depth state choice Free other fits waits = refl
 held-kept t depth state choice (HeldBy asked) other fits waits = ap (held_for (core_in asked)) (waits asked choice fits other)
 held-kept t depth state choice (HeldBetween e) other fits waits = refl
 
-pub held-next : {P : Type 0} (r : Result Answer NoMemory) (t : Litmus) (m new : Hardware P) (choice : Choice) → IsHeldForAccess t m → IsOther (state_in m).holder choice
+pub held-next : {P : Type 0} (r : Result ChoiceAnswer NoMemory) (t : Litmus) (m new : Hardware P) (choice : Choice) → IsHeldForAccess t m → IsOther (state_in m).holder choice
     → HolderFits Split t m.config.depth (state_in m).flat (state_in m).holder
     → ((a b : Choice) → access_of t m.config.depth (state_in m).flat a ≢ NoAccess → same_choice a b ≡ false
     → access_of t m.config.depth (after_choice t m.config.depth (state_in m).flat b) a ≡ access_of t m.config.depth (state_in m).flat a)

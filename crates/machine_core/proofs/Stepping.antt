@@ -1,5 +1,5 @@
 -- A step of a core, from what the call for its instruction says.
-use Rattle.machine_core.proofs.Vocabulary.{◌≡◌, ◌<◌, ℕ, Result, IfOk, List, [], ◌∷◌, length, refl, sym, ap, subst, KnownLocation, action_of, value_of, with_value, NoAccess, store_access, locked_access, Core, Loc, Instr, Reg, Action, Store, Load, Move, Fence, Lock, Update, Entry, Outcome, Moved, NoMemory, Noted, BusModel, words_of, cores_of, Unused, Processor, Way, Whole, Turn, pending_in, own_access, action_by, step_by, store_by, fence_by, lock_by, at_next, Answer, MayMake, MayAccess, whole, Acts, SucceedsUnlessCommitting}
+use Rattle.machine_core.proofs.Vocabulary.{◌≡◌, ◌<◌, ℕ, Result, IfOk, List, [], ◌∷◌, length, refl, sym, ap, subst, KnownLocation, action_of, value_of, with_value, NoAccess, store_access, locked_access, Core, Loc, Instr, Reg, Action, Store, Load, Move, Fence, Lock, Update, Entry, Outcome, Moved, NoMemory, Noted, BusModel, words_of, cores_of, Unused, Processor, Way, Whole, Turn, pending_in, own_access, action_by, step_by, effect_of_store, effect_of_fence, effect_of_lock, at_next, ChoiceAnswer, MayMake, MayAccess, whole, Acts, SucceedsUnlessCommitting}
 use Rattle.tso_model.specs.declared.action.Operand.{Operand}
 use Rattle.machine_core.proofs.ActedLemmas.{whole-by, whole-none, acts-waits}
 
@@ -36,9 +36,9 @@ module _ (turn : Turn) (instr : Instr) (p : Processor) (b : BusModel) where
   pub known-store : (loc : Loc) (operand : Operand) → action_of instr ≡ Store loc operand → KnownLocation (length (words_of b)) instr → loc.0 < length (words_of b)
   known-store loc operand e known = rw e at known
 
-  module _ {E : Type 0} (r : Result Answer E) (q : Processor) (b' : BusModel) (noted noted' : Noted) where
+  module _ {E : Type 0} (r : Result ChoiceAnswer E) (q : Processor) (b' : BusModel) (noted noted' : Noted) where
     pub acts-store : (loc : Loc) (operand : Operand) (value : ℕ) → action_of instr ≡ Store loc operand → value ≡ value_of p.registers operand
-        → IfOk r (Acts turn (store_access p.stores.depth loc) (store_by loc value) p q b b' noted noted')
+        → IfOk r (Acts turn (store_access p.stores.depth loc) (effect_of_store loc value) p q b b' noted noted')
         → IfOk r (Acts turn (own_access (action_of instr) turn.core.0 p) (step_by instr) p q b b' noted noted')
     acts-store loc operand value e v acts = rw (e, ← v) acts
 
@@ -48,17 +48,17 @@ module _ (turn : Turn) (instr : Instr) (p : Processor) (b : BusModel) where
     acts-load reg loc e acts = rw e acts
 
     pub acts-fence : action_of instr ≡ Fence → MayMake turn b (own_access (action_of instr) turn.core.0 p)
-        → IfOk r (Acts (whole turn.core) NoAccess fence_by p q b b' noted noted')
+        → IfOk r (Acts (whole turn.core) NoAccess effect_of_fence p q b b' noted noted')
         → IfOk r (Acts turn (own_access (action_of instr) turn.core.0 p) (step_by instr) p q b b' noted noted')
     acts-fence e may acts =
         let none : own_access (action_of instr) turn.core.0 p ≡ NoAccess = rw e refl in
-        rw e (subst (λ (t : Turn). IfOk r (Acts t NoAccess fence_by p q b b' noted noted')) (turn-is turn (whole-none turn b (own_access (action_of instr) turn.core.0 p) none may)) acts)
+        rw e (subst (λ (t : Turn). IfOk r (Acts t NoAccess effect_of_fence p q b b' noted noted')) (turn-is turn (whole-none turn b (own_access (action_of instr) turn.core.0 p) none may)) acts)
 
     pub acts-lock : (loc : Loc) (reg : Reg) (update : Update) → action_of instr ≡ Lock loc reg update → MayMake turn b (own_access (action_of instr) turn.core.0 p)
-        → IfOk r (Acts (whole turn.core) (locked_access loc (pending_in turn.core.0 p)) (lock_by loc reg update) p q b b' noted noted')
+        → IfOk r (Acts (whole turn.core) (locked_access loc (pending_in turn.core.0 p)) (effect_of_lock loc reg update) p q b b' noted noted')
         → IfOk r (Acts turn (own_access (action_of instr) turn.core.0 p) (step_by instr) p q b b' noted noted')
     acts-lock loc reg update e may acts = rw e
-        (subst (λ (t : Turn). IfOk r (Acts t (locked_access loc (pending_in turn.core.0 p)) (lock_by loc reg update) p q b b' noted noted'))
+        (subst (λ (t : Turn). IfOk r (Acts t (locked_access loc (pending_in turn.core.0 p)) (effect_of_lock loc reg update) p q b b' noted noted'))
         (turn-is turn (lock-whole turn b loc (pending_in turn.core.0 p) (rw e at may))) acts)
 
   pub acts-set : (reg : Reg) (operand : Operand) (value : ℕ) (q : Processor) (noted : Noted) (answer : Outcome) → action_of instr ≡ Move reg operand → value ≡ value_of p.registers operand → MayMake turn b (own_access (action_of instr) turn.core.0 p)
@@ -71,7 +71,7 @@ module _ (turn : Turn) (instr : Instr) (p : Processor) (b : BusModel) where
 
   module _ {A : Type 0} (r : Result A NoMemory) (words : List ℕ) where
     pub succeeds-store : (loc : Loc) (operand : Operand) (value : ℕ) → action_of instr ≡ Store loc operand → value ≡ value_of p.registers operand
-        → SucceedsUnlessCommitting r (store_by loc value turn.core.0 p words) → SucceedsUnlessCommitting r (step_by instr turn.core.0 p words)
+        → SucceedsUnlessCommitting r (effect_of_store loc value turn.core.0 p words) → SucceedsUnlessCommitting r (step_by instr turn.core.0 p words)
     succeeds-store loc operand value e v succeeds = rw (e, ← v) succeeds
 
     -- a load always commits

@@ -1,5 +1,5 @@
 -- The counts of a machine's hardware from choice to choice.
-use Rattle.machine_core.proofs.Vocabulary.{◌≡◌, ◌<◌, ◌+◌, ℕ, zero, suc, List, [], ◌∷◌, ◌++◌, None, length, replicate, take, All, sym, ap, ◌∙◌, subst, arith, length-map, length-replicate, Litmus, IsTest, chosen, core_of, started, idle, access_of, Free, BusState, Instr, Choice, Outcome, HolderFits, BusModel, contents_of, Counts, CacheUse, Hardware, caches_of, is_awaited, Statistics, counted, no_counts, HardwareFitsTest, IsAtMost, state_in, IsIssued, IsTallied, IsFlusherAmong, done_in, most_counted, statistics_in, HasUsed, HasEffect, attempt_in, effect_in, use_by}
+use Rattle.machine_core.proofs.Vocabulary.{◌≡◌, ◌<◌, ◌+◌, ℕ, zero, suc, List, [], ◌∷◌, ◌++◌, None, length, replicate, take, All, sym, ap, ◌∙◌, subst, arith, length-map, length-replicate, Litmus, IsTest, chosen, core_of, started, idle, access_of, Free, BusState, Instr, Choice, Outcome, HolderFits, BusModel, contents_of, Counts, CacheUse, Hardware, caches_of, is_awaited, Statistics, with_use_counted, no_counts, HardwareFitsTest, IsAtMost, state_in, HasIssuedItsStores, IsTallied, IsFlusherAmong, done_in, most_counted, statistics_in, HasUsed, HasEffect, attempt_in, effect_in, use_by}
 use Rattle.std.proofs.Math.Seq.{take-append_seam}
 use Rattle.machine_core.proofs.Advancing.{advances-on}
 use Rattle.machine_core.proofs.CoreLemmas.{length-core_states}
@@ -28,15 +28,15 @@ few-next t m counts fits tallied same = subst (All (IsAtMost most_counted)) (sym
 
 pub tallied-next : {P : Type 0} (t : Litmus) (m new : Hardware P) (choice : Choice) (o : Outcome) (how : CacheUse) (core len : ℕ) (before after rest : List Counts)
     → HardwareFitsTest t m → chosen choice < length t.programs → HolderFits m.config.bus t m.config.depth (state_in m).flat (state_in m).holder → IsTallied t (state_in m) (statistics_in m)
-    → HasEffect m new choice (effect_in t m choice) o → HasUsed (use_by t m choice (effect_in t m choice)) new.bus how → core ≡ chosen choice → before ≡ m.counts.items → after ≡ counted core how before → len ≡ length before
+    → HasEffect m new choice (effect_in t m choice) o → HasUsed (use_by t m choice (effect_in t m choice)) new.bus how → core ≡ chosen choice → before ≡ m.counts.items → after ≡ with_use_counted core how before → len ≡ length before
     → IsTallied t (state_in new) (record { caches = caches_of new.bus; counts = take len (after ++ rest) })
 tallied-next t m new choice o how core len before after rest fits h holder tallied done used is same counts size =
     let u = use_by t m choice (effect_in t m choice) in
     let items = take len (after ++ rest) in
     let whole : len ≡ length after = size ∙ sym (ap length counts ∙ length-counted core how before) in
     let written : items ≡ after = ap (λ n. take n (after ++ rest)) whole ∙ take-append_seam after rest in
-    let all : items ≡ counted (chosen choice) u.how m.counts.items =
-    written ∙ counts ∙ ap (λ i. counted i how before) is ∙ ap (λ w. counted (chosen choice) w before) used.how_is ∙ ap (counted (chosen choice) u.how) same in
+    let all : items ≡ with_use_counted (chosen choice) u.how m.counts.items =
+    written ∙ counts ∙ ap (λ i. with_use_counted i how before) is ∙ ap (λ w. with_use_counted (chosen choice) w before) used.how_is ∙ ap (with_use_counted (chosen choice) u.how) same in
     let f = effect_in t m choice in
     let go = advances-on m.config.bus t m.config.depth (state_in m).flat (state_in m).holder (attempt_in t m choice) (caches_of m.bus) holder tallied.test h
     (tallied.issued (chosen choice) idle (subst (λ n. chosen choice < n) (sym (length-cores t m fits)) h)) in
@@ -44,10 +44,10 @@ tallied-next t m new choice o how core len before after rest fits h holder talli
     (rw (length-contents t m fits) tallied.sender) in
     let next = tallied-after t (state_in m) (state_in new) choice f (statistics_in m) u (length-cores t m fits) (length-contents t m fits) h tallied go among (ap (λ s. s.cores) done.flat) done.holder in
     subst (λ cs. IsTallied t (state_in new) (record { caches = caches_of new.bus; counts = cs })) (sym all)
-    (subst (λ x. IsTallied t (state_in new) (record { caches = x; counts = counted (chosen choice) u.how m.counts.items })) (sym used.caches) next)
+    (subst (λ x. IsTallied t (state_in new) (record { caches = x; counts = with_use_counted (chosen choice) u.how m.counts.items })) (sym used.caches) next)
 
 -- at the beginning
-started-issued : (core : ℕ) (programs : List (List Instr)) (registers : List (List ℕ)) → All IsIssued (started core programs registers)
+started-issued : (core : ℕ) (programs : List (List Instr)) (registers : List (List ℕ)) → All HasIssuedItsStores (started core programs registers)
 started-issued core [] registers k d l = absurd (omega arith)
 started-issued core (p ∷ ps) registers zero d l = record { place = omega arith; pending = omega arith }
 started-issued core (p ∷ ps) registers (suc k) d l = started-issued (core + 1) ps registers k d (omega arith)
@@ -57,7 +57,7 @@ pub tallied-first : (t : Litmus) (state : BusState) (s : Statistics) → IsTest 
 tallied-first t state s test first none waits = record {
   test = test;
   cores = ap length none ∙ length-replicate (length t.programs) no_counts;
-  issued = subst (All IsIssued) (sym first) (started-issued 0 t.programs t.registers);
+  issued = subst (All HasIssuedItsStores) (sym first) (started-issued 0 t.programs t.registers);
   done = subst (All (IsAtMost (done_in state))) (sym none) (nothing-counted (done_in state) (length t.programs));
   sender = rw waits tt;
 }

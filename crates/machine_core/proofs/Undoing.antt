@@ -1,7 +1,7 @@
 -- What a choice leaves of the hardware, from what its core's action says: of one that is refused memory, nothing.
-use Rattle.machine_core.proofs.Vocabulary.{set-get_or, ◌≡◌, ℕ, None, Result, Ok, Err, IfOk, OnOk, OnErr, List, slice_index_or, slice_set, refl, ap, ◌∙◌, Effect, MemoryAccess, Noted, BusModel, holder_of, Hardware, Processor, Turn, Answer, IsUndone, Acts, AreUnchanged, by_way}
+use Rattle.machine_core.proofs.Vocabulary.{set-get_or, ◌≡◌, ℕ, None, Result, Ok, Err, IfOk, OnOk, OnErr, List, slice_index_or, slice_set, refl, ap, ◌∙◌, Effect, MemoryAccess, Noted, BusModel, holder_of, Hardware, Processor, Turn, ChoiceAnswer, IsUndone, Acts, AreUnchanged, by_way}
 
-pub acts-holder : {E : Type 0} (r : Result Answer E) (turn : Turn) (access : MemoryAccess) (does : ℕ → Processor → List ℕ → Effect) (p q : Processor) (b b' : BusModel) (noted noted' : Noted)
+pub acts-holder : {E : Type 0} (r : Result ChoiceAnswer E) (turn : Turn) (access : MemoryAccess) (does : ℕ → Processor → List ℕ → Effect) (p q : Processor) (b b' : BusModel) (noted noted' : Noted)
     → IfOk r (Acts turn access does p q b b' noted noted') → OnOk r (holder_of b' ≡ by_way turn.way (holder_of b) None)
 acts-holder (Ok x) turn what does p q b b' noted noted' acts = acts.holder
 acts-holder (Err e) turn what does p q b b' noted noted' acts = tt

@@ -3,7 +3,7 @@ pub use Rattle.std.proofs.Common.{◌≡◌, ◌<◌, ◌≤◌, ◌+◌, ℕ, z
 pub use Rattle.std.proofs.lemmas.Bool.Decides.{nat_tests}
 pub use Rattle.std.proofs.lemmas.Option.{slice_get_past, slice_get_read, slice_get_within}
 pub use Rattle.machine_core.specs.declared.processor.Processor.{Processor}
-pub use Rattle.machine_core.specs.Cores.{core_state, core_states, store_of, state_of, AreKnown}
+pub use Rattle.machine_core.specs.Cores.{core_state, core_states, store_of, state_of_cores, AreKnown}
 pub use Rattle.std.specs.Option.{option_map, IsSome}
 pub use Rattle.std.specs.List.{last_or, list_any, sum_by}
 pub use Rattle.tso_model.specs.ProgramOrder.{writes_to, same_kind}
@@ -19,9 +19,9 @@ pub use Rattle.snoop_bus.specs.Bus.{BusModel, words_of, IsSameMachine, cores_of,
 pub use Rattle.snoop_bus.specs.Accesses.{LoadsAt, WritesAt, AsksFor, CompletesAt, awaited_of, contents_of, IsCurrentWord, new_bus}
 pub use Rattle.machine_core.specs.declared.accesses.CacheUse.{CacheUse}
 pub use Rattle.machine_core.specs.declared.accesses.CacheUse.TheVariants.{Unused, Forwarded, Through}
-pub use Rattle.machine_core.specs.inner.Cores.{pending_in, lock_by, drain_by, store_by, action_by, both_parts, at_next, word_at, own_access, step_by, fence_by, at_start, entries_in}
+pub use Rattle.machine_core.specs.inner.Cores.{pending_in, effect_of_lock, effect_of_drain, effect_of_store, action_by, both_parts, at_next, word_on_bus, own_access, step_by, effect_of_fence, at_start, buffered_entries}
 pub use Rattle.machine_core.specs.Caches.{Caches, caches_of, not_through, load_after, write_by, use_of, Used, at_access, ask_by, hits_by, is_awaited, used_between, completing_by, completion_by, load_by, use_by_kind, use_with, attempt_of}
-pub use Rattle.machine_core.specs.Effects.{HasUsed, Answer, HasEffect}
+pub use Rattle.machine_core.specs.Effects.{HasUsed, ChoiceAnswer, HasEffect}
 pub use Rattle.basic_laws.proofs.WithPending.{drain_with, fenced_with, locked_with}
 pub use Rattle.tso_model.specs.MemoryAccess.{MemoryAccess, NoAccess, Writes, drain_access, store_access, Reads, load_access, locked_access, Locks, access_of, access_by, step_access}
 pub use Rattle.tso_model.specs.declared.instruction.Core.{Core}
@@ -69,8 +69,8 @@ pub use Rattle.protocol_tables.specs.Tables.{Table}
 pub use Rattle.snoop_bus.specs.Rows.{table_of_rows}
 pub use Rattle.snoop_bus.specs.CacheContents.{TagSets, loaded_in, written_in, write_in, sends_in, flusher_from, tags_at}
 pub use Rattle.machine_core.specs.declared.counts.Counts.{Counts}
-pub use Rattle.machine_core.specs.Statistics.{no_counts, with_access, with_write_back, with_forward, with_flush, at_core, flush_counted, counted, Statistics, no_statistics, statistics_with, statistics_after}
-pub use Rattle.machine_core.specs.inner.Keeping.{IsIssued, IsAmong, IsFlusherAmong, done_by, IsSenderAmong, IsTallied, done_in, half_done, most_counted, statistics_in, access_in}
+pub use Rattle.machine_core.specs.Statistics.{no_counts, with_access, with_write_back, with_forward, with_flush, counts_at_core, flush_counted, with_use_counted, Statistics, no_statistics, statistics_with, statistics_after}
+pub use Rattle.machine_core.specs.inner.Keeping.{HasIssuedItsStores, IsAmong, IsFlusherAmong, done_by, IsSenderAmong, IsTallied, done_in, half_done, most_counted, statistics_in, memory_access_in}
 pub use Rattle.tso_model.specs.Runs.{is_done, all_done}
 pub use Rattle.store_buffer.specs.inner.Stores.{stores}
 pub use Rattle.snoop_bus.specs.inner.Accesses.{MayGoOn, StandsAlone, memory_words_of}

@@ -15,7 +15,7 @@ use Rattle.tso_model.specs.declared.execution.Kind.{Kind}
 use Rattle.tso_model.specs.declared.execution.Kind.TheVariants.{R, W, F, LR, LW}
 use Rattle.tso_model.specs.declared.choice.Choice.{Choice}
 use Rattle.snoop_bus.specs.Geometry.{Geometry}
-use Rattle.snoop_bus.specs.Rows.{Rows, table_of_rows}
+use Rattle.snoop_bus.specs.Rows.{TableColumns, table_of_rows}
 use Rattle.snoop_bus.specs.CacheContents.{TagSets, Accessed, loaded, written}
 use Rattle.snoop_bus.specs.Asks.{Awaited, AskedAccess, hits, request_for, asking, completed}
 use Rattle.snoop_bus.specs.Bus.{BusModel}
@@ -27,7 +27,7 @@ use Rattle.tso_model.specs.declared.choice.Bus as kind
 -- the caches without their words: the protocol's table row by row, their shape, the lines and states in them, and what an
 -- action that holds the bus awaits
 pub record Caches : Type 0 where
-  pub rows : Rows
+  pub rows : TableColumns
   pub shape : Geometry
   pub contents : List TagSets
   pub awaited : Option Awaited

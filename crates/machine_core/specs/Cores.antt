@@ -26,5 +26,5 @@ abbrev pub core_states : ℕ → List Processor → List CoreState
 core_states core [] = []
 core_states core (p ∷ ps) = core_state core p ∷ core_states (core + 1) ps
 
-abbrev pub state_of : List Processor → List ℕ → State
-state_of processors memory = record { memory = memory; cores = core_states 0 processors }
+abbrev pub state_of_cores : List Processor → List ℕ → State
+state_of_cores processors memory = record { memory = memory; cores = core_states 0 processors }

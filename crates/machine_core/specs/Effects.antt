@@ -12,8 +12,8 @@ use Rattle.machine_core.specs.Caches.{Used, caches_of}
 use Rattle.machine_core.specs.Keeping.{state_in}
 
 -- what a choice answers: its outcome, and how it used the caches
-abbrev pub Answer : Type 0
-Answer = Outcome × CacheUse
+abbrev pub ChoiceAnswer : Type 0
+ChoiceAnswer = Outcome × CacheUse
 
 -- the caches were used so, and are as that left them
 pub record HasUsed (u : Used) (new : BusModel) (how : CacheUse) : Type 0 where

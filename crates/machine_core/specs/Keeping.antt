@@ -16,7 +16,7 @@ use Rattle.machine_core.specs.declared.hardware.Hardware.{Hardware}
 use Rattle.machine_core.specs.declared.counts.Counts.{Counts}
 use Rattle.machine_core.specs.declared.accesses.Next.{Next}
 use Rattle.machine_core.specs.declared.accesses.Next.TheVariants.{Complete, Write}
-use Rattle.machine_core.specs.Cores.{AreKnown, state_of}
+use Rattle.machine_core.specs.Cores.{AreKnown, state_of_cores}
 use Rattle.machine_core.specs.Caches.{at_access}
 use Rattle.snoop_bus.specs.Held as bus
 use Rattle.snoop_bus.specs.declared.holding.BusAction as bus_action
@@ -54,7 +54,7 @@ holder_by (Some (Write e)) = HeldBetween e
 
 -- the machine's state: its memory has the words that a program sees
 abbrev pub state_in : {P : Type 0} → Hardware P → BusState
-state_in m = record { flat = state_of m.processors.items (words_of m.bus); holder = holder_by (next_in m) }
+state_in m = record { flat = state_of_cores m.processors.items (words_of m.bus); holder = holder_by (next_in m) }
 
 -- the core that a choice names
 abbrev pub core_in : Choice → Core

@@ -9,7 +9,7 @@ use Rattle.snoop_bus.specs.Bus.{BusModel}
 use Rattle.snoop_bus.specs.Held.{holder}
 use Rattle.machine_core.specs.declared.hardware.Hardware.{Hardware}
 use Rattle.machine_core.specs.Keeping.{HardwareFitsTest, IsHeldForAccess, state_in}
-use Rattle.machine_core.specs.Effects.{Answer, HasUsed, HasEffect}
+use Rattle.machine_core.specs.Effects.{ChoiceAnswer, HasUsed, HasEffect}
 use Rattle.machine_core.specs.Split.{use_by}
 use Rattle.tso_model.specs.declared.choice.Bus as kind
 
@@ -25,13 +25,13 @@ pub record AreConsistent {P : Type 0} (on : kind.Bus) (t : Litmus) (m : Hardware
   pub holder : HolderFits on t m.config.depth (state_in m).flat (state_in m).holder
 
 -- a choice had this effect, and used the caches as a choice with this effect does
-pub record HasMade {P : Type 0} (t : Litmus) (old new : Hardware P) (choice : Choice) (f : BusEffect) (r : Answer) : Type 0 where
+pub record HasMade {P : Type 0} (t : Litmus) (old new : Hardware P) (choice : Choice) (f : BusEffect) (r : ChoiceAnswer) : Type 0 where
   pub ok : HasEffect old new choice f r.0
   pub caches : HasUsed (use_by t old choice f) new.bus r.1
 
 -- the choice had the effect that it has on the hardware as it was
 abbrev pub Makes : {P : Type 0} → (Litmus → Hardware P → Choice → BusEffect)
-    → Litmus → Hardware P → Hardware P → Choice → Answer → Type 0
+    → Litmus → Hardware P → Hardware P → Choice → ChoiceAnswer → Type 0
 Makes does t old new choice = HasMade t old new choice (does t old choice)
 
 -- no choice was made: the state, the commits and the caches are as they were

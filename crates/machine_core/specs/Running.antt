@@ -53,12 +53,12 @@ abbrev pub attempt_on : Running → Choice → Attempt
 attempt_on m choice = attempt_of m.test m.depth m.state.flat m.statistics.caches choice
 
 -- what a choice does to a machine
-abbrev pub effect_by : Running → Choice → BusEffect
-effect_by m choice = effect_on m.bus m.test m.depth m.state (attempt_on m choice)
+abbrev pub machine_effect : Running → Choice → BusEffect
+machine_effect m choice = effect_on m.bus m.test m.depth m.state (attempt_on m choice)
 
 -- what a choice has to do with the caches of a machine
-abbrev pub use_by : Running → Choice → Used
-use_by m choice = use_on m.bus m.test m.depth m.state choice m.statistics.caches
+abbrev pub machine_use : Running → Choice → Used
+machine_use m choice = use_on m.bus m.test m.depth m.state choice m.statistics.caches
 
 -- the machine after a choice: the next state on its bus, what the choice commits after the earlier commits, and what it had
 -- to do with the caches counted
@@ -68,7 +68,7 @@ machine_after m choice = record {
   bus = m.bus;
   depth = m.depth;
   state = state_after_on m.bus m.test m.depth m.state m.statistics.caches choice;
-  commits = m.commits ++ (effect_by m choice).effect.commits;
+  commits = m.commits ++ (machine_effect m choice).effect.commits;
   statistics = statistics_after m.bus m.test m.depth m.state choice m.statistics;
   failed = m.failed;
 }

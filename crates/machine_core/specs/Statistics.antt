@@ -44,20 +44,20 @@ abbrev pub with_flush : Counts → Counts
 with_flush c = counts c.hits c.misses c.upgrades c.forwards c.write_backs (c.flushes + 1)
 
 -- the counts of all cores once those of one were changed
-abbrev pub at_core : ℕ → (Counts → Counts) → List Counts → List Counts
-at_core core change cs = slice_set cs core (change (slice_index_or cs core no_counts))
+abbrev pub counts_at_core : ℕ → (Counts → Counts) → List Counts → List Counts
+counts_at_core core change cs = slice_set cs core (change (slice_index_or cs core no_counts))
 
 -- a flush counts for the core whose copy was sent to memory
 abbrev pub flush_counted : Option Core → List Counts → List Counts
 flush_counted None cs = cs
-flush_counted (Some core) cs = at_core core.0 with_flush cs
+flush_counted (Some core) cs = counts_at_core core.0 with_flush cs
 
 -- the counts of all cores once one core's use of the caches is counted: what an access was and a write-back count for
 -- the core itself
-abbrev pub counted : ℕ → CacheUse → List Counts → List Counts
-counted core Unused cs = cs
-counted core Forwarded cs = at_core core with_forward cs
-counted core (Through a) cs = flush_counted a.flushed (at_core core (λ c. with_write_back a.wrote_back (with_access a.kind c)) cs)
+abbrev pub with_use_counted : ℕ → CacheUse → List Counts → List Counts
+with_use_counted core Unused cs = cs
+with_use_counted core Forwarded cs = counts_at_core core with_forward cs
+with_use_counted core (Through a) cs = flush_counted a.flushed (counts_at_core core (λ c. with_write_back a.wrote_back (with_access a.kind c)) cs)
 
 -- how far the statistics of a run have come: the caches, and the counts of each core
 pub record Statistics : Type 0 where
@@ -65,7 +65,7 @@ pub record Statistics : Type 0 where
   pub counts : List Counts
 
 abbrev pub statistics_with : ℕ → Used → List Counts → Statistics
-statistics_with core u cs = record { caches = u.caches; counts = counted core u.how cs }
+statistics_with core u cs = record { caches = u.caches; counts = with_use_counted core u.how cs }
 
 -- the statistics after a choice
 abbrev pub statistics_after : Bus → Litmus → ℕ → BusState → Choice → Statistics → Statistics

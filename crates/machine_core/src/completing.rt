@@ -11,7 +11,7 @@ ghost use Rattle.tso_model.specs.declared.choice.Bus.TheVariants as Bus;
 ghost use Rattle.snoop_bus.specs.Bus.{words_of, cores_of, holder_of};
 ghost use Rattle.snoop_bus.specs.Held.{holder};
 ghost use Rattle.snoop_bus.specs.declared.holding.Stage.TheVariants as Stage;
-ghost use Rattle.machine_core.specs.inner.Cores.{word_at};
+ghost use Rattle.machine_core.specs.inner.Cores.{word_on_bus};
 ghost use Rattle.machine_core.specs.Caches.{caches_of, completion_by};
 ghost use Rattle.machine_core.specs.Keeping.{state_in};
 ghost use Rattle.machine_core.specs.Effects.{HasUsed};
@@ -77,8 +77,8 @@ fn read_first<P: Protocol>(
 ) -> Result<(Entry, Access), NoMemory>
     requires asked { holder_of bus.old ≡ Some (holder core loc Stage.Write) }
 
-    ensures entry { IfOk result (λ r. r.0 ≡ entry core.0 place LR loc (word_at bus.old loc)) }
-    ensures commits { OnOk result (Notes commits.old commits.new (entry core.0 place LR loc (word_at bus.old loc))) }
+    ensures entry { IfOk result (λ r. r.0 ≡ entry core.0 place LR loc (word_on_bus bus.old loc)) }
+    ensures commits { OnOk result (Notes commits.old commits.new (entry core.0 place LR loc (word_on_bus bus.old loc))) }
     ensures words { words_of bus.new ≡ words_of bus.old }
     ensures caches { IfOk result (λ r. HasUsed (completion_by (caches_of bus.old) core.0 loc.0) bus.new (CacheUse.Through r.1)) }
     ensures held { OnOk result (holder_of bus.new ≡ Some (holder core loc Stage.Locked)) }

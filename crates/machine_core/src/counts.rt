@@ -4,7 +4,7 @@
 //! (Primer, chapters 6 and 7, for hits, misses and upgrades.)
 
 ghost use Rattle.std.specs.Prelude.{◌≡◌, ◌<◌, All, IfSome, length};
-ghost use Rattle.machine_core.specs.Statistics.{counted, at_core, with_access, with_write_back, with_forward, with_flush};
+ghost use Rattle.machine_core.specs.Statistics.{with_use_counted, counts_at_core, with_access, with_write_back, with_forward, with_flush};
 ghost use Rattle.machine_core.specs.Keeping.{IsAtMost};
 ghost use Rattle.machine_core.specs.inner.Keeping.{IsFlusherAmong, most_counted};
 
@@ -48,7 +48,7 @@ pub fn tally(counts: &mut [Counts], core: Core, cache_use: CacheUse)
     requires core { core.0 < length counts.old }
     requires flusher { IsFlusherAmong (length counts.old) cache_use }
     requires few { All (IsAtMost most_counted) counts.old }
-    ensures { counts.new ≡ counted core.0 cache_use counts.old }
+    ensures { counts.new ≡ with_use_counted core.0 cache_use counts.old }
 {
     match cache_use {
         CacheUse::Unused => {}

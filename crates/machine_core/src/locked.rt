@@ -5,7 +5,7 @@ ghost use Rattle.std.specs.Prelude.{◌≡◌, ◌<◌, ◌≤◌, ◌++◌, IsO
 ghost use Rattle.tso_model.specs.Limits.{most_instructions};
 ghost use Rattle.tso_model.specs.MemoryAccess.{locked_access};
 ghost use Rattle.snoop_bus.specs.Bus.{words_of};
-ghost use Rattle.machine_core.specs.inner.Cores.{pending_in, lock_by, both_parts};
+ghost use Rattle.machine_core.specs.inner.Cores.{pending_in, effect_of_lock, both_parts};
 ghost use Rattle.machine_core.specs.inner.Effects.{MayAccess};
 ghost use Rattle.machine_core.specs.inner.Turns.{whole};
 ghost use Rattle.machine_core.specs.inner.OneCore.{Acts, SucceedsUnlessCommitting, AreUnchanged, HasSameSizes};
@@ -39,8 +39,8 @@ pub fn read_and_write<P: Protocol>(
     requires place { processor.old.place < most_instructions }
     requires access { MayAccess (whole core) bus.old locked.loc (locked_access locked.loc (pending_in core.0 processor.old)) }
 
-    ensures acts { IfOk result (Acts (whole core) (locked_access locked.loc (pending_in core.0 processor.old)) (lock_by locked.loc locked.reg locked.update) processor.old processor.new bus.old bus.new commits.old commits.new) }
-    ensures succeeds { SucceedsUnlessCommitting result (lock_by locked.loc locked.reg locked.update core.0 processor.old (words_of bus.old)) }
+    ensures acts { IfOk result (Acts (whole core) (locked_access locked.loc (pending_in core.0 processor.old)) (effect_of_lock locked.loc locked.reg locked.update) processor.old processor.new bus.old bus.new commits.old commits.new) }
+    ensures succeeds { SucceedsUnlessCommitting result (effect_of_lock locked.loc locked.reg locked.update core.0 processor.old (words_of bus.old)) }
     ensures err { OnErr result (AreUnchanged processor.old processor.new bus.old bus.new commits.old commits.new) }
     ensures sizes { HasSameSizes bus.old bus.new }
     ensures stores { processor.new.stores ≡ processor.old.stores }

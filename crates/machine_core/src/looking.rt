@@ -4,12 +4,12 @@
 ghost use Rattle.std.specs.Prelude.{◌≡◌, option_copied, option_map, slice_get, ◌<◌, length};
 ghost use Rattle.tso_model.specs.Thread.{value_in};
 ghost use Rattle.machine_core.specs.Cores.{core_state};
-ghost use Rattle.machine_core.specs.inner.Looking.{core_at, pending_at, cached_line};
+ghost use Rattle.machine_core.specs.inner.Looking.{core_numbered, pending_at, cached_line};
 ghost use Rattle.machine_core.specs.Looking.{bus_holder_of};
 ghost use Rattle.tso_model.specs.FlatMachine.{chosen};
 ghost use Rattle.tso_model.specs.MemoryAccess.{access_of};
 ghost use Rattle.snoop_bus.specs.Asks.{tag_at, awaited_by};
-ghost use Rattle.machine_core.specs.inner.Keeping.{access_in};
+ghost use Rattle.machine_core.specs.inner.Keeping.{memory_access_in};
 
 use crate::accesses::{MemoryAccess, Next};
 use crate::machine::Machine;
@@ -34,7 +34,7 @@ pub struct BusHolder {
 impl<'a, P: Protocol> Machine<'a, P> {
     /// The core of this number. `None` where the test has no such core.
     fn processor(&self, core: Core) -> Option<&Processor>
-        ensures { option_map (core_state core.0) (option_copied result) ≡ core_at self.now core.0 }
+        ensures { option_map (core_state core.0) (option_copied result) ≡ core_numbered self.now core.0 }
     {
         self.hardware.processors.get(usize::from(core.0))
     }
@@ -42,7 +42,7 @@ impl<'a, P: Protocol> Machine<'a, P> {
     /// Where a core stands in its program: the number of its next instruction, from 0. `None` where the test
     /// has no such core.
     pub fn place(&self, core: Core) -> Option<u8>
-        ensures { result ≡ option_map (λ s. s.place) (core_at self.now core.0) }
+        ensures { result ≡ option_map (λ s. s.place) (core_numbered self.now core.0) }
     {
         let processor = self.processor(core)?;
         Some(processor.place)
@@ -50,7 +50,7 @@ impl<'a, P: Protocol> Machine<'a, P> {
 
     /// The registers of a core, in the order of `Reg::ALL`. `None` where the test has no such core.
     pub fn registers(&self, core: Core) -> Option<[u32; 6]>
-        ensures { result ≡ option_map (λ s. s.registers) (core_at self.now core.0) }
+        ensures { result ≡ option_map (λ s. s.registers) (core_numbered self.now core.0) }
     {
         let processor = self.processor(core)?;
         Some(processor.registers)
@@ -58,7 +58,7 @@ impl<'a, P: Protocol> Machine<'a, P> {
 
     /// The value of a core's register. `None` where the test has no such core.
     pub fn register(&self, core: Core, reg: Reg) -> Option<u32>
-        ensures { result ≡ option_map (λ s. value_in s.registers reg) (core_at self.now core.0) }
+        ensures { result ≡ option_map (λ s. value_in s.registers reg) (core_numbered self.now core.0) }
     {
         let processor = self.processor(core)?;
         Some(processor.register(reg))
@@ -121,7 +121,7 @@ impl<'a, P: Protocol> Machine<'a, P> {
     /// The access that a choice makes, beyond its core's own pending stores.
     pub fn access(&self, choice: Choice) -> MemoryAccess
         requires { chosen choice < length self.now.test.programs }
-        ensures { access_in result ≡ access_of self.now.test self.now.depth self.now.state.flat choice }
+        ensures { memory_access_in result ≡ access_of self.now.test self.now.depth self.now.state.flat choice }
     {
         access_of(&self.hardware, self.test, choice)
     }

@@ -5,7 +5,7 @@
 ghost use Rattle.std.specs.Prelude.{◌≡◌, ◌≢◌, ◌<◌, true, false, IsTrue, IsOk, IsErr, IfOk, OnOk, OnErr, length, map};
 ghost use Rattle.tso_model.specs.FlatMachine.{chosen};
 ghost use Rattle.tso_model.specs.Together.{put_together};
-ghost use Rattle.machine_core.specs.Running.{new_machine, restarted, effect_by, use_by, machine_after, AnswerFits};
+ghost use Rattle.machine_core.specs.Running.{new_machine, restarted, machine_effect, machine_use, machine_after, AnswerFits};
 ghost use Rattle.machine_core.specs.inner.Running.{is_ended};
 ghost use Rattle.machine_core.specs.inner.Running.{IsAloneBetween, HasFailed};
 
@@ -91,7 +91,7 @@ impl<'a, P: Protocol> Machine<'a, P> {
     pub fn choose(&mut self, choice: Choice) -> Result<Outcome, NoMemory>
         requires { chosen choice < length self.old.test.programs }
 
-        ensures outcome { IfOk result (λ o. o ≡ (effect_by self.old choice).effect.outcome) }
+        ensures outcome { IfOk result (λ o. o ≡ (machine_effect self.old choice).effect.outcome) }
         ensures after { OnOk result (self.new ≡ machine_after self.old choice) }
         ensures stall { (why : Stall) → result ≡ Ok (Outcome.Stalled why) → self.new ≡ self.old }
 
@@ -102,7 +102,7 @@ impl<'a, P: Protocol> Machine<'a, P> {
         ensures alone { OnOk result (IsAloneBetween self.new) }
 
         // Only a choice that commits takes memory, and a machine that was refused it stays so.
-        ensures succeeds { self.old.failed ≡ false → (effect_by self.old choice).effect.outcome ≢ Outcome.Committed → IsOk result }
+        ensures succeeds { self.old.failed ≡ false → (machine_effect self.old choice).effect.outcome ≢ Outcome.Committed → IsOk result }
         ensures refused { OnErr result (HasFailed self.old self.new) }
         ensures stays_refused { self.old.failed ≡ true → IsErr result }
     {
@@ -118,8 +118,8 @@ impl<'a, P: Protocol> Machine<'a, P> {
     pub fn choose_telling(&mut self, choice: Choice) -> Result<(Outcome, CacheUse), NoMemory>
         requires { chosen choice < length self.old.test.programs }
 
-        ensures outcome { IfOk result (λ r. r.0 ≡ (effect_by self.old choice).effect.outcome) }
-        ensures how { IfOk result (λ r. r.1 ≡ (use_by self.old choice).how) }
+        ensures outcome { IfOk result (λ r. r.0 ≡ (machine_effect self.old choice).effect.outcome) }
+        ensures how { IfOk result (λ r. r.1 ≡ (machine_use self.old choice).how) }
         ensures after { OnOk result (self.new ≡ machine_after self.old choice) }
         ensures stall { (why : Stall) (how : CacheUse) → result ≡ Ok (Outcome.Stalled why, how) → self.new ≡ self.old }
 
@@ -130,7 +130,7 @@ impl<'a, P: Protocol> Machine<'a, P> {
         ensures alone { OnOk result (IsAloneBetween self.new) }
 
         // Only a choice that commits takes memory, and a machine that was refused it stays so.
-        ensures succeeds { self.old.failed ≡ false → (effect_by self.old choice).effect.outcome ≢ Outcome.Committed → IsOk result }
+        ensures succeeds { self.old.failed ≡ false → (machine_effect self.old choice).effect.outcome ≢ Outcome.Committed → IsOk result }
         ensures refused { OnErr result (HasFailed self.old self.new) }
         ensures stays_refused { self.old.failed ≡ true → IsErr result }
     {

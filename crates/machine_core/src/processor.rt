@@ -12,8 +12,8 @@ ghost use Rattle.tso_model.specs.MemoryAccess.{NoAccess, Reads, Writes, store_ac
 ghost use Rattle.snoop_bus.specs.Bus.{BusModel, words_of, cores_of, holder_of};
 ghost use Rattle.snoop_bus.specs.Accesses.{IsCurrentWord};
 ghost use Rattle.machine_core.specs.Cores.{AreKnown};
-ghost use Rattle.machine_core.specs.inner.Cores.{entries_in, pending_in, seen_by, at_next, own_access};
-ghost use Rattle.machine_core.specs.inner.Cores.{load_by, store_by, fence_by, step_by, drain_by};
+ghost use Rattle.machine_core.specs.inner.Cores.{buffered_entries, pending_in, seen_by, at_next, own_access};
+ghost use Rattle.machine_core.specs.inner.Cores.{effect_of_load, effect_of_store, effect_of_fence, step_by, effect_of_drain};
 ghost use Rattle.machine_core.specs.Effects.{HasUsed};
 ghost use Rattle.machine_core.specs.inner.Effects.{MayAccess, MayMake};
 ghost use Rattle.machine_core.specs.inner.Turns.{by_way, whole};
@@ -134,8 +134,8 @@ fn store<P: Protocol>(
     requires place { processor.old.place < most_instructions }
     requires access { MayAccess turn bus.old loc (store_access processor.old.stores.depth loc) }
 
-    ensures acts { IfOk result (Acts turn (store_access processor.old.stores.depth loc) (store_by loc value) processor.old processor.new bus.old bus.new commits.old commits.new) }
-    ensures succeeds { SucceedsUnlessCommitting result (store_by loc value turn.core.0 processor.old (words_of bus.old)) }
+    ensures acts { IfOk result (Acts turn (store_access processor.old.stores.depth loc) (effect_of_store loc value) processor.old processor.new bus.old bus.new commits.old commits.new) }
+    ensures succeeds { SucceedsUnlessCommitting result (effect_of_store loc value turn.core.0 processor.old (words_of bus.old)) }
     ensures err { OnErr result (AreUnchanged processor.old processor.new bus.old bus.new commits.old commits.new) }
     ensures sizes { HasSameSizes bus.old bus.new }
     ensures depth { processor.new.stores.depth ≡ processor.old.stores.depth }
@@ -156,7 +156,7 @@ fn store<P: Protocol>(
 fn buffer(processor: &mut Processor, loc: Loc, value: u32) -> Outcome
     requires place { processor.old.place < most_instructions }
     requires depth { 0 < processor.old.stores.depth }
-    ensures waits { (core : ℕ) (memory : List ℕ) → Waits core processor.new (store_by loc value core processor.old memory) result }
+    ensures waits { (core : ℕ) (memory : List ℕ) → Waits core processor.new (effect_of_store loc value core processor.old memory) result }
     ensures depth { processor.new.stores.depth ≡ processor.old.stores.depth }
     ensures stores { (n : ℕ) → loc.0 < n → AreKnown n processor.old.stores → AreKnown n processor.new.stores }
 {
@@ -183,7 +183,7 @@ fn load<P: Protocol>(
     requires place { processor.old.place < most_instructions }
     requires access { MayAccess turn bus.old loc (own_access (Action.Load reg loc) turn.core.0 processor.old) }
 
-    ensures acts { IfOk result (Acts turn (own_access (Action.Load reg loc) turn.core.0 processor.old) (load_by reg loc) processor.old processor.new bus.old bus.new commits.old commits.new) }
+    ensures acts { IfOk result (Acts turn (own_access (Action.Load reg loc) turn.core.0 processor.old) (effect_of_load reg loc) processor.old processor.new bus.old bus.new commits.old commits.new) }
     ensures err { OnErr result (AreUnchanged processor.old processor.new bus.old bus.new commits.old commits.new) }
     ensures sizes { HasSameSizes bus.old bus.new }
     ensures stores { processor.new.stores ≡ processor.old.stores }
@@ -203,11 +203,11 @@ fn see<P: Protocol>(
     loc: Loc,
     bus: &mut SnoopBus<P>,
 ) -> Result<(u32, CacheUse), NoMemory>
-    requires access { MayAccess turn bus.old loc (load_access loc (filter (writes_to loc.0) (entries_in turn.core.0 stores.now))) }
+    requires access { MayAccess turn bus.old loc (load_access loc (filter (writes_to loc.0) (buffered_entries turn.core.0 stores.now))) }
 
     ensures value { IfOk result (λ r. r.0 ≡ seen_by turn.core.0 stores.now (words_of bus.old) loc) }
     ensures words { words_of bus.new ≡ words_of bus.old }
-    ensures caches { IfOk result (λ r. HasUsed (by_way turn.way (load_after (caches_of bus.old) (entries_in turn.core.0 stores.now) turn.core.0 loc.0) (completing_by (caches_of bus.old) turn.core.0 (load_access loc (filter (writes_to loc.0) (entries_in turn.core.0 stores.now))))) bus.new r.1) }
+    ensures caches { IfOk result (λ r. HasUsed (by_way turn.way (load_after (caches_of bus.old) (buffered_entries turn.core.0 stores.now) turn.core.0 loc.0) (completing_by (caches_of bus.old) turn.core.0 (load_access loc (filter (writes_to loc.0) (buffered_entries turn.core.0 stores.now))))) bus.new r.1) }
     ensures holder { OnOk result (holder_of bus.new ≡ by_way turn.way (holder_of bus.old) None) }
     ensures cores { cores_of bus.new ≡ cores_of bus.old }
     ensures err { OnErr result (bus.new ≡ bus.old) }
@@ -256,8 +256,8 @@ fn fence(
     commits: &mut Commits,
 ) -> Result<(Outcome, CacheUse), NoMemory>
     requires { processor.old.place < most_instructions }
-    ensures acts { (bus : BusModel) → IfOk result (Acts (whole core) NoAccess fence_by processor.old processor.new bus bus commits.old commits.new) }
-    ensures succeeds { SucceedsUnlessCommitting result (fence_by core.0 processor.old []) }
+    ensures acts { (bus : BusModel) → IfOk result (Acts (whole core) NoAccess effect_of_fence processor.old processor.new bus bus commits.old commits.new) }
+    ensures succeeds { SucceedsUnlessCommitting result (effect_of_fence core.0 processor.old []) }
     ensures err { (bus : BusModel) → OnErr result (AreUnchanged processor.old processor.new bus bus commits.old commits.new) }
     ensures stores { processor.new.stores ≡ processor.old.stores }
 {
@@ -292,8 +292,8 @@ pub fn drain<P: Protocol>(
     requires free { MayMake turn bus.old (drain_access (pending_in turn.core.0 processor.old)) }
     requires stores { AreKnown (length (words_of bus.old)) processor.old.stores }
 
-    ensures acts { IfOk result (Acts turn (drain_access (pending_in turn.core.0 processor.old)) drain_by processor.old processor.new bus.old bus.new commits.old commits.new) }
-    ensures succeeds { SucceedsUnlessCommitting result (drain_by turn.core.0 processor.old (words_of bus.old)) }
+    ensures acts { IfOk result (Acts turn (drain_access (pending_in turn.core.0 processor.old)) effect_of_drain processor.old processor.new bus.old bus.new commits.old commits.new) }
+    ensures succeeds { SucceedsUnlessCommitting result (effect_of_drain turn.core.0 processor.old (words_of bus.old)) }
     ensures err { OnErr result (AreUnchanged processor.old processor.new bus.old bus.new commits.old commits.new) }
     ensures sizes { HasSameSizes bus.old bus.new }
     ensures depth { processor.new.stores.depth ≡ processor.old.stores.depth }

@@ -14,7 +14,7 @@ ghost use Rattle.machine_core.specs.Cores.{AreKnown};
 ghost use Rattle.machine_core.specs.inner.Cores.{pending_in};
 ghost use Rattle.machine_core.specs.Caches.{caches_of, hits_by, asking_by};
 ghost use Rattle.machine_core.specs.Keeping.{HardwareFitsTest, held_for, state_in};
-ghost use Rattle.machine_core.specs.inner.Keeping.{access_in};
+ghost use Rattle.machine_core.specs.inner.Keeping.{memory_access_in};
 ghost use Rattle.machine_core.specs.inner.OneCore.{SucceedsUnlessCommitting};
 ghost use Rattle.machine_core.specs.inner.Split.{split_effect_in, begins_in, IsAccessAmong, IsOther};
 ghost use Rattle.machine_core.specs.OneChoice.{AreConsistent, AreOfTest, Makes, IsUndone, KeepsHardware};
@@ -107,10 +107,10 @@ fn begin<P: Protocol>(
 /// Whether a core's access needs the bus: a read or a write that doesn't hit, and a locked instruction's.
 fn needs_bus<P: Protocol>(bus: &SnoopBus<P>, core: Core, access: MemoryAccess) -> bool
     requires { core.0 < cores_of bus.now }
-    ensures value { result ≡ needs_bus (access_in access) (hits_by (caches_of bus.now) core.0 (access_in access)) }
+    ensures value { result ≡ needs_bus (memory_access_in access) (hits_by (caches_of bus.now) core.0 (memory_access_in access)) }
 
     // Between the two parts of a locked instruction no write of another core to its location hits.
-    ensures taken { LeavesLocked bus.now core.0 (access_in access) }
+    ensures taken { LeavesLocked bus.now core.0 (memory_access_in access) }
 {
     match access {
         MemoryAccess::Nothing => false,
@@ -123,12 +123,12 @@ fn needs_bus<P: Protocol>(bus: &SnoopBus<P>, core: Core, access: MemoryAccess) -
 /// A core asks for its access.
 fn ask<P: Protocol>(bus: &mut SnoopBus<P>, core: Core, access: MemoryAccess)
     requires core { core.0 < cores_of bus.old }
-    requires known { IsAccessAmong (length (words_of bus.old)) (access_in access) }
+    requires known { IsAccessAmong (length (words_of bus.old)) (memory_access_in access) }
     requires free { IsFree bus.old }
-    requires needs { needs_bus (access_in access) (hits_by (caches_of bus.old) core.0 (access_in access)) ≡ true }
+    requires needs { needs_bus (memory_access_in access) (hits_by (caches_of bus.old) core.0 (memory_access_in access)) ≡ true }
     ensures words { words_of bus.new ≡ words_of bus.old }
-    ensures caches { caches_of bus.new ≡ (asking_by (caches_of bus.old) core.0 (access_in access)).caches }
-    ensures holder { holder_of bus.new ≡ held_for core (access_in access) }
+    ensures caches { caches_of bus.new ≡ (asking_by (caches_of bus.old) core.0 (memory_access_in access)).caches }
+    ensures holder { holder_of bus.new ≡ held_for core (memory_access_in access) }
     ensures cores { cores_of bus.new ≡ cores_of bus.old }
 {
     match access {
@@ -142,8 +142,8 @@ fn ask<P: Protocol>(bus: &mut SnoopBus<P>, core: Core, access: MemoryAccess)
 pub fn access_of<P: Protocol>(hardware: &Hardware<P>, test: &Test, choice: Choice) -> MemoryAccess
     requires core { chosen choice < length test.now.programs }
     requires fits { HardwareFitsTest test.now hardware.now }
-    ensures value { access_in result ≡ access_of test.now hardware.now.config.depth (state_in hardware.now).flat choice }
-    ensures known { IsAccessAmong (length (words_of hardware.now.bus)) (access_in result) }
+    ensures value { memory_access_in result ≡ access_of test.now hardware.now.config.depth (state_in hardware.now).flat choice }
+    ensures known { IsAccessAmong (length (words_of hardware.now.bus)) (memory_access_in result) }
 {
     match choice {
         Choice::Step(core) => {
@@ -159,8 +159,8 @@ pub fn access_of<P: Protocol>(hardware: &Hardware<P>, test: &Test, choice: Choic
 
 /// The access of a step at this instruction.
 fn step_access(processor: &Processor, instr: Instr) -> MemoryAccess
-    ensures value { (core : ℕ) → access_in result ≡ step_access processor.now.stores.depth (Some instr) (pending_in core processor.now) }
-    ensures known { (locations : ℕ) → KnownLocation locations instr → IsAccessAmong locations (access_in result) }
+    ensures value { (core : ℕ) → memory_access_in result ≡ step_access processor.now.stores.depth (Some instr) (pending_in core processor.now) }
+    ensures known { (locations : ℕ) → KnownLocation locations instr → IsAccessAmong locations (memory_access_in result) }
 {
     match instr.action() {
         Action::Store(loc, _) => store_access(processor, loc),
@@ -172,8 +172,8 @@ fn step_access(processor: &Processor, instr: Instr) -> MemoryAccess
 
 /// A plain store only waits in the buffer; without one it writes.
 fn store_access(processor: &Processor, loc: Loc) -> MemoryAccess
-    ensures value { access_in result ≡ store_access processor.now.stores.depth loc }
-    ensures known { (locations : ℕ) → loc.0 < locations → IsAccessAmong locations (access_in result) }
+    ensures value { memory_access_in result ≡ store_access processor.now.stores.depth loc }
+    ensures known { (locations : ℕ) → loc.0 < locations → IsAccessAmong locations (memory_access_in result) }
 {
     if processor.stores.are_buffered() {
         MemoryAccess::Nothing
@@ -184,8 +184,8 @@ fn store_access(processor: &Processor, loc: Loc) -> MemoryAccess
 
 /// A load reads, unless the core's own buffer answers it.
 fn load_access(processor: &Processor, loc: Loc) -> MemoryAccess
-    ensures value { (core : ℕ) → access_in result ≡ load_access loc (filter (writes_to loc.0) (pending_in core processor.now)) }
-    ensures known { (locations : ℕ) → loc.0 < locations → IsAccessAmong locations (access_in result) }
+    ensures value { (core : ℕ) → memory_access_in result ≡ load_access loc (filter (writes_to loc.0) (pending_in core processor.now)) }
+    ensures known { (locations : ℕ) → loc.0 < locations → IsAccessAmong locations (memory_access_in result) }
 {
     match processor.stores.newest_for(loc) {
         None => MemoryAccess::Read(loc),
@@ -195,8 +195,8 @@ fn load_access(processor: &Processor, loc: Loc) -> MemoryAccess
 
 /// A locked instruction waits until nothing is pending.
 fn locked_access(processor: &Processor, loc: Loc) -> MemoryAccess
-    ensures value { (core : ℕ) → access_in result ≡ locked_access loc (pending_in core processor.now) }
-    ensures known { (locations : ℕ) → loc.0 < locations → IsAccessAmong locations (access_in result) }
+    ensures value { (core : ℕ) → memory_access_in result ≡ locked_access loc (pending_in core processor.now) }
+    ensures known { (locations : ℕ) → loc.0 < locations → IsAccessAmong locations (memory_access_in result) }
 {
     if processor.stores.is_empty() {
         MemoryAccess::Lock(loc)
@@ -207,8 +207,8 @@ fn locked_access(processor: &Processor, loc: Loc) -> MemoryAccess
 
 /// A drain writes the oldest pending store.
 fn drain_access(processor: &Processor) -> MemoryAccess
-    ensures value { (core : ℕ) → access_in result ≡ drain_access (pending_in core processor.now) }
-    ensures known { (locations : ℕ) → AreKnown locations processor.now.stores → IsAccessAmong locations (access_in result) }
+    ensures value { (core : ℕ) → memory_access_in result ≡ drain_access (pending_in core processor.now) }
+    ensures known { (locations : ℕ) → AreKnown locations processor.now.stores → IsAccessAmong locations (memory_access_in result) }
 {
     match processor.stores.oldest() {
         None => MemoryAccess::Nothing,

@@ -1,29 +1,29 @@
 -- What the answer of a reader that gives its text's reading says of that text.
-use Rattle.order_builder.proofs.Vocabulary.{◌≡◌, ◌≢◌, ℕ, ◌^◌, ◌<◌, List, length, Some, None, Result, Ok, Err, All, ◌⊎◌, inl, inr, refl, subst, IfOk, IfErr, Litmus, IsTest, Entry, Execution, HasAccess, IsEntryFor, IsOrderFor, SpellsOrder, HasFault, IsLocationFor, HasLocation, All-weaker, Kind, R, W, F, LR, LW, entries_of, Gives, order_of, order_start, entries_in, lines_of, OrderFault, NoOrder, BadLine, BadCount, NoMemory}
+use Rattle.order_builder.proofs.Vocabulary.{◌≡◌, ◌≢◌, ℕ, ◌^◌, ◌<◌, List, length, Some, None, Result, Ok, Err, All, ◌⊎◌, inl, inr, refl, subst, IfOk, IfErr, Litmus, IsTest, Entry, Execution, HasAccess, IsEntryFor, IsOrderFor, SpellsOrder, HasFault, IsLocationFor, HasLocation, All-weaker, Kind, R, W, F, LR, LW, entries_of_order, Gives, order_of, order_start, entries_in, lines_of, OrderFault, NoOrder, BadLine, BadCount, NoMemory}
 use Rattle.order_builder.proofs.SpellingLaws.{spelled_from_read, read_from_spelled}
 use Rattle.order_builder.proofs.FaultLaws.{order_fault_found, order_fault_again}
 
-pub is_found : (t : Litmus) (text : List ℕ) (r : Result Execution OrderFault) → length text < 2 ^ 64 → Gives entries_of r (order_of t text) → IfOk r (λ execution. SpellsOrder t text (entries_of execution))
-is_found t text (Ok execution) small given = spelled_from_read t text (entries_of execution) small given
+pub is_found : (t : Litmus) (text : List ℕ) (r : Result Execution OrderFault) → length text < 2 ^ 64 → Gives entries_of_order r (order_of t text) → IfOk r (λ execution. SpellsOrder t text (entries_of_order execution))
+is_found t text (Ok execution) small given = spelled_from_read t text (entries_of_order execution) small given
 is_found t text (Err fault) small given = tt
 
-pub is_only : (t : Litmus) (text : List ℕ) (r : Result Execution OrderFault) → IsTest t → length text < 2 ^ 64 → Gives entries_of r (order_of t text)
-    → (order : List Entry) → SpellsOrder t text order → Gives entries_of r (Ok order)
-is_only t text r test small given order spells = subst (Gives entries_of r) (read_from_spelled t text order test small spells) given
+pub is_only : (t : Litmus) (text : List ℕ) (r : Result Execution OrderFault) → IsTest t → length text < 2 ^ 64 → Gives entries_of_order r (order_of t text)
+    → (order : List Entry) → SpellsOrder t text order → Gives entries_of_order r (Ok order)
+is_only t text r test small given order spells = subst (Gives entries_of_order r) (read_from_spelled t text order test small spells) given
 
-pub is_fault : (t : Litmus) (text : List ℕ) (r : Result Execution OrderFault) → IsTest t → Gives entries_of r (order_of t text) → IfErr r (λ fault. fault ≢ NoMemory → HasFault t text fault)
+pub is_fault : (t : Litmus) (text : List ℕ) (r : Result Execution OrderFault) → IsTest t → Gives entries_of_order r (order_of t text) → IfErr r (λ fault. fault ≢ NoMemory → HasFault t text fault)
 is_fault t text (Ok execution) test given = tt
 is_fault t text (Err NoOrder) test given = λ other. order_fault_found t text NoOrder test given
 is_fault t text (Err (BadLine number)) test given = λ other. order_fault_found t text (BadLine number) test given
 is_fault t text (Err BadCount) test given = λ other. order_fault_found t text BadCount test given
 is_fault t text (Err NoMemory) test given = λ other. absurd (other refl)
 
-pub is_only_fault : (t : Litmus) (text : List ℕ) (r : Result Execution OrderFault) → IsTest t → Gives entries_of r (order_of t text)
-    → (fault : OrderFault) → HasFault t text fault → Gives entries_of r (Err fault)
-is_only_fault t text r test given fault has = subst (Gives entries_of r) (order_fault_again t text fault test has) given
+pub is_only_fault : (t : Litmus) (text : List ℕ) (r : Result Execution OrderFault) → IsTest t → Gives entries_of_order r (order_of t text)
+    → (fault : OrderFault) → HasFault t text fault → Gives entries_of_order r (Err fault)
+is_only_fault t text r test given fault has = subst (Gives entries_of_order r) (order_fault_again t text fault test has) given
 
 pub read_after : (t : Litmus) (text rest : List ℕ) (start : ℕ) (r : Result Execution OrderFault) → Some (start, lines_of rest) ≡ order_start 0 (lines_of text)
-    → Gives entries_of r (entries_in t start 0 (lines_of rest)) → Gives entries_of r (order_of t text)
+    → Gives entries_of_order r (entries_in t start 0 (lines_of rest)) → Gives entries_of_order r (order_of t text)
 unfolding order_of
 read_after t text rest start r at given = rw (← at) given
 

@@ -1,5 +1,5 @@
 -- The lines of entries and of ends: what is printed is read, and what is read is printed so.
-use Rattle.order_builder.proofs.Vocabulary.{is_ascii_digit, ◌≡◌, ℕ, ◌-◌, ◌^◌, ◌<◌, Bool, true, false, cond, eqb, inl, inr, List, [], ◌∷◌, ◌++◌, length, take, drop, get_or, Option, Some, None, refl, sym, ap, subst, ◌∙◌, arith, codes, decimal, bytes_eq, take-append-drop, append_assoc, take_at, drop_at, All-append, All-cons, Litmus, IsTest, Entry, Kind, R, W, F, LR, LW, is_number, number_in, letters_of, printed_access, printed_entry, HasAccess, IsEntryFor, ◌>>=◌, split_once, without_prefix, kind_of, location_named, entry_at, place_in, access_in, action_in, entry_in, numeral, end_in}
+use Rattle.order_builder.proofs.Vocabulary.{is_ascii_digit, ◌≡◌, ℕ, ◌-◌, ◌^◌, ◌<◌, Bool, true, false, cond, eqb, inl, inr, List, [], ◌∷◌, ◌++◌, length, take, drop, get_or, Option, Some, None, refl, sym, ap, subst, ◌∙◌, arith, codes, decimal, bytes_eq, take-append-drop, append_assoc, take_at, drop_at, All-append, All-cons, Litmus, IsTest, Entry, Kind, R, W, F, LR, LW, is_number, number_within, letters_of, printed_access, printed_entry, HasAccess, IsEntryFor, ◌>>=◌, split_once, without_prefix, kind_of, location_named, entry_at, place_in, access_in, action_in, entry_in, numeral, end_in}
 use Rattle.order_builder.proofs.Choosing.{chosen, same_bytes, bytes_eq-same}
 use Rattle.order_builder.proofs.LineLemmas.{Lacks, split_once-at, split_once-Some}
 use Rattle.order_builder.proofs.NumberLaws.{number_again, number_found}
@@ -62,10 +62,10 @@ place_again core place c p =
 place_found : (text : List ℕ) (at : ℕ × ℕ) → place_in text ≡ Some at → (text ≡ printed_place at.0 at.1) × (at.0 < 256) × (at.1 < 256)
 unfolding place_in
 place_found text at e =
-    let a = bound (without_prefix (codes "P") text) (λ numbers. split_once 58 numbers >>= λ halves. number_in 255 halves.0 >>= λ core. number_in 255 halves.1 >>= λ place. Some (core, place)) at e in
-    let b = bound (split_once 58 a.0) (λ halves. number_in 255 halves.0 >>= λ core. number_in 255 halves.1 >>= λ place. Some (core, place)) at a.2 in
-    let c = bound (number_in 255 b.0.0) (λ core. number_in 255 b.0.1 >>= λ place. Some (core, place)) at b.2 in
-    let d = bound (number_in 255 b.0.1) (λ place. Some (c.0, place)) at c.2 in
+    let a = bound (without_prefix (codes "P") text) (λ numbers. split_once 58 numbers >>= λ halves. number_within 255 halves.0 >>= λ core. number_within 255 halves.1 >>= λ place. Some (core, place)) at e in
+    let b = bound (split_once 58 a.0) (λ halves. number_within 255 halves.0 >>= λ core. number_within 255 halves.1 >>= λ place. Some (core, place)) at a.2 in
+    let c = bound (number_within 255 b.0.0) (λ core. number_within 255 b.0.1 >>= λ place. Some (core, place)) at b.2 in
+    let d = bound (number_within 255 b.0.1) (λ place. Some (c.0, place)) at c.2 in
     let core = number_found 255 b.0.0 c.0 (omega arith) c.1 in
     let place = number_found 255 b.0.1 d.0 (omega arith) d.1 in
     let cut = split_once-Some 58 a.0 b.0.0 b.0.1 b.1 in
@@ -88,9 +88,9 @@ access_again t loc value test known small =
 access_found : (t : Litmus) (text : List ℕ) (access : ℕ × ℕ) → access_in t text ≡ Some access → (text ≡ printed_word t access.0 access.1) × (access.0 < length t.locations) × (access.1 < 2 ^ 32)
 unfolding access_in
 access_found t text access e =
-    let a = bound (split_once 61 text) (λ halves. location_named t halves.0 >>= λ loc. number_in (2 ^ 32 - 1) halves.1 >>= λ value. Some (loc, value)) access e in
-    let b = bound (location_named t a.0.0) (λ loc. number_in (2 ^ 32 - 1) a.0.1 >>= λ value. Some (loc, value)) access a.2 in
-    let c = bound (number_in (2 ^ 32 - 1) a.0.1) (λ value. Some (b.0, value)) access b.2 in
+    let a = bound (split_once 61 text) (λ halves. location_named t halves.0 >>= λ loc. number_within (2 ^ 32 - 1) halves.1 >>= λ value. Some (loc, value)) access e in
+    let b = bound (location_named t a.0.0) (λ loc. number_within (2 ^ 32 - 1) a.0.1 >>= λ value. Some (loc, value)) access a.2 in
+    let c = bound (number_within (2 ^ 32 - 1) a.0.1) (λ value. Some (b.0, value)) access b.2 in
     let loc = location_found t a.0.0 b.0 b.1 in
     let value = number_found (2 ^ 32 - 1) a.0.1 c.0 (omega arith) c.1 in
     let cut = split_once-Some 61 text a.0.0 a.0.1 a.1 in

@@ -1,5 +1,5 @@
 -- A number without leading zeros is what is printed of what its digits say.
-use Rattle.order_builder.proofs.Vocabulary.{is_ascii_digit, ◌≡◌, ℕ, zero, suc, ◌^◌, ◌<◌, ◌≤◌, true, leb, inl, inr, List, length, get_or, Some, None, refl, sym, ap, ◌∙◌, arith, rules, decimal, list_all, le-leb, leb-true, nat_tests, digits_decimal, digits_value-decimal, decimal_nonempty, first_decimal, decimal_digit, decimal-digits_value, IsNumeralModel, numerals_by_fold, decimal_from, decimal_value, number_up_to, is_number, number_in}
+use Rattle.order_builder.proofs.Vocabulary.{is_ascii_digit, ◌≡◌, ℕ, zero, suc, ◌^◌, ◌<◌, ◌≤◌, true, leb, inl, inr, List, length, get_or, Some, None, refl, sym, ap, ◌∙◌, arith, rules, decimal, list_all, le-leb, leb-true, nat_tests, digits_decimal, digits_value-decimal, decimal_nonempty, first_decimal, decimal_digit, decimal-digits_value, IsNumeralModel, numerals_by_fold, decimal_from, decimal_value, number_up_to, is_number, number_within}
 use Rattle.order_builder.proofs.Choosing.{chosen}
 
 own : IsNumeralModel (λ ds. list_all is_ascii_digit ds ≡ true) (decimal_from 0)
@@ -31,14 +31,14 @@ decimal-value text is small =
     let parts = is_number-parts text is in
     decimal-digits_value own text parts.1 parts.0 parts.2 small
 
-pub number_again : (most n : ℕ) → n ≤ most → n < 2 ^ 64 → number_in most (decimal n) ≡ Some n
-unfolding number_in number_up_to
+pub number_again : (most n : ℕ) → n ≤ most → n < 2 ^ 64 → number_within most (decimal n) ≡ Some n
+unfolding number_within number_up_to
 number_again most n fits small =
     let fits' : leb n most ≡ true = le-leb _ _ fits in
     rw (is_number-decimal n small, value-decimal n small, fits') refl
 
-pub number_found : (most : ℕ) (text : List ℕ) (n : ℕ) → most < 2 ^ 64 → number_in most text ≡ Some n → (text ≡ decimal n) × (n ≤ most)
-unfolding number_in number_up_to
+pub number_found : (most : ℕ) (text : List ℕ) (n : ℕ) → most < 2 ^ 64 → number_within most text ≡ Some n → (text ≡ decimal n) × (n ≤ most)
+unfolding number_within number_up_to
 number_found most text n small e =
     elim (chosen (is_number text) (number_up_to most text) None (Some n) e) [
       | inl is ↦

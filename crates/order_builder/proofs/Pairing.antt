@@ -1,5 +1,5 @@
 -- Where each load part is put directly before its store part, the pairs are kept.
-use Rattle.order_builder.proofs.Vocabulary.{◌≡◌, ◌≢◌, zero, suc, ◌==◌, ◌&&◌, Bool, true, false, if◌then◌else◌, List, [], ◌∷◌, Some, slice_get, refl, sym, ap, ◌∙◌, subst, same_kind, is_at, IsAdjacent, IsStorePart, put_before, put_together, Entry, Kind, R, W, F, LR, LW, IsPaired, is_answered, are_answered}
+use Rattle.order_builder.proofs.Vocabulary.{◌≡◌, ◌≢◌, zero, suc, ◌==◌, ◌&&◌, Bool, true, false, if◌then◌else◌, List, [], ◌∷◌, Some, slice_get, refl, sym, ap, ◌∙◌, subst, same_kind, is_at, IsAdjacent, IsStorePart, put_before, put_together, Entry, Kind, R, W, F, LR, LW, IsPaired, has_its_store_part, are_answered}
 use Rattle.order_builder.proofs.Together.{and_first, and_second, is_core, isn't_core, load_kind, same-core, skipped, answers, no_load_part, elsewhere}
 
 store_kind : (k : Kind) → same_kind k LW ≡ true → k ≡ LW
@@ -18,26 +18,26 @@ IsStorePart-from_test x y h =
       kind = store_kind y.kind (and_second ((y.core.0 == x.core.0) && (y.place == x.place)) (same_kind y.kind LW) h);
     }
 
-own : (x e : Entry) (es : List Entry) → e.core.0 ≡ x.core.0 → is_answered x (e ∷ es) ≡ is_at x.core.0 x.place LW e
+own : (x e : Entry) (es : List Entry) → e.core.0 ≡ x.core.0 → has_its_store_part x (e ∷ es) ≡ is_at x.core.0 x.place LW e
 own x e es h = rw (same-core e.core.0 x.core.0 h) refl
 
 -- what is put together after a load part answers it as before
-answered-put : (x e : Entry) (es : List Entry) → e.core.0 ≢ x.core.0 → is_answered x (put_before e es) ≡ is_answered x es
+answered-put : (x e : Entry) (es : List Entry) → e.core.0 ≢ x.core.0 → has_its_store_part x (put_before e es) ≡ has_its_store_part x es
 answered-put x e [] h = skipped x e [] h
 answered-put x e (y ∷ ys) h =
-    elim (is_at e.core.0 e.place LW y) as (λ b. is_answered x (if b then e ∷ (y ∷ ys) else y ∷ put_before e ys) ≡ is_answered x (y ∷ ys)) [
+    elim (is_at e.core.0 e.place LW y) as (λ b. has_its_store_part x (if b then e ∷ (y ∷ ys) else y ∷ put_before e ys) ≡ has_its_store_part x (y ∷ ys)) [
       | true ↦ skipped x e (y ∷ ys) h
       | false ↦ ap (λ b. if y.core.0 == x.core.0 then is_at x.core.0 x.place LW y else b) (answered-put x e ys h)
     ]
 
-answered-together : (x : Entry) (es : List Entry) → is_answered x es ≡ true → is_answered x (put_together es) ≡ true
+answered-together : (x : Entry) (es : List Entry) → has_its_store_part x es ≡ true → has_its_store_part x (put_together es) ≡ true
 answered-together x [] h = h
 answered-together x (e ∷ es) h = by_core (e.core.0 == x.core.0) refl (answered-together x es)
   where
     Goal : Bool → Type 0
-    Goal b = is_answered x (if b then put_before e (put_together es) else e ∷ put_together es) ≡ true
+    Goal b = has_its_store_part x (if b then put_before e (put_together es) else e ∷ put_together es) ≡ true
 
-    by_kind : (b : Bool) → e.core.0 ≢ x.core.0 → is_answered x (put_together es) ≡ true → Goal b
+    by_kind : (b : Bool) → e.core.0 ≢ x.core.0 → has_its_store_part x (put_together es) ≡ true → Goal b
     by_kind true c r = answered-put x e (put_together es) c ∙ r
     by_kind false c r = skipped x e (put_together es) c ∙ r
 
@@ -45,7 +45,7 @@ answered-together x (e ∷ es) h = by_core (e.core.0 == x.core.0) refl (answered
     own_kind true q c part = absurd (let z : true ≡ false = sym part ∙ no_load_part x e (load_kind e.kind q) in let w : ⊥ = cc in w)
     own_kind false q c part = own x e (put_together es) c ∙ part
 
-    by_core : (b : Bool) → (e.core.0 == x.core.0) ≡ b → (is_answered x es ≡ true → is_answered x (put_together es) ≡ true) → Goal (same_kind e.kind LR)
+    by_core : (b : Bool) → (e.core.0 == x.core.0) ≡ b → (has_its_store_part x es ≡ true → has_its_store_part x (put_together es) ≡ true) → Goal (same_kind e.kind LR)
     by_core true q rest = own_kind (same_kind e.kind LR) refl (is_core e.core.0 x.core.0 q) (answers x e es (is_core e.core.0 x.core.0 q) h)
     by_core false q rest =
         let c = isn't_core e.core.0 x.core.0 q in
@@ -64,18 +64,18 @@ after x y (e ∷ es) c next =
     (next.0, (let z : slice_get (put_before x (e ∷ es)) 0 ≡ Some e = rw other refl in z ∙ ap Some same), next.2)
 
 -- a load part that is put directly before its store part
-IsAdjacent-put : (x : Entry) (es : List Entry) → x.kind ≡ LR → is_answered x es ≡ true → IsAdjacent es → IsAdjacent (put_before x es)
+IsAdjacent-put : (x : Entry) (es : List Entry) → x.kind ≡ LR → has_its_store_part x es ≡ true → IsAdjacent es → IsAdjacent (put_before x es)
 IsAdjacent-put x [] k a keeps = absurd (let z : ⊥ = cc in z)
 IsAdjacent-put x (y ∷ ys) k a keeps = by_part (is_at x.core.0 x.place LW y) refl (IsAdjacent-put x ys k)
   where
     rest : IsAdjacent ys
     rest i z g l = keeps (suc i) z g l
 
-    later : (b : Bool) → (y.core.0 == x.core.0) ≡ b → is_at x.core.0 x.place LW y ≡ false → (y.core.0 ≢ x.core.0) × (is_answered x ys ≡ true)
+    later : (b : Bool) → (y.core.0 == x.core.0) ≡ b → is_at x.core.0 x.place LW y ≡ false → (y.core.0 ≢ x.core.0) × (has_its_store_part x ys ≡ true)
     later true q o = absurd (let part = answers x y ys (is_core y.core.0 x.core.0 q) a in let z : true ≡ false = sym part ∙ o in let w : ⊥ = cc in w)
     later false q o = let c = isn't_core y.core.0 x.core.0 q in (c, sym (skipped x y ys c) ∙ a)
 
-    by_part : (b : Bool) → is_at x.core.0 x.place LW y ≡ b → (is_answered x ys ≡ true → IsAdjacent ys → IsAdjacent (put_before x ys))
+    by_part : (b : Bool) → is_at x.core.0 x.place LW y ≡ b → (has_its_store_part x ys ≡ true → IsAdjacent ys → IsAdjacent (put_before x ys))
         → IsAdjacent (if b then x ∷ (y ∷ ys) else y ∷ put_before x ys)
     by_part true q go zero z g l = let s : x ≡ z = cc in (y, refl, subst (λ u. IsStorePart u y) s (IsStorePart-from_test x y q))
     by_part true q go (suc i) z g l = keeps i z g l
@@ -95,11 +95,11 @@ IsAdjacent-together : (es : List Entry) → are_answered es ≡ true → IsAdjac
 IsAdjacent-together [] h = λ i x g k. absurd (let z : ⊥ = cc in z)
 IsAdjacent-together (e ∷ es) h = by_kind (same_kind e.kind LR) refl h (IsAdjacent-together es)
   where
-    by_kind : (b : Bool) → same_kind e.kind LR ≡ b → ((if b then is_answered e es else true) && are_answered es) ≡ true → (are_answered es ≡ true → IsAdjacent (put_together es))
+    by_kind : (b : Bool) → same_kind e.kind LR ≡ b → ((if b then has_its_store_part e es else true) && are_answered es) ≡ true → (are_answered es ≡ true → IsAdjacent (put_together es))
         → IsAdjacent (if b then put_before e (put_together es) else e ∷ put_together es)
     by_kind true q a rest =
-        IsAdjacent-put e (put_together es) (load_kind e.kind q) (answered-together e es (and_first (is_answered e es) (are_answered es) a))
-        (rest (and_second (is_answered e es) (are_answered es) a))
+        IsAdjacent-put e (put_together es) (load_kind e.kind q) (answered-together e es (and_first (has_its_store_part e es) (are_answered es) a))
+        (rest (and_second (has_its_store_part e es) (are_answered es) a))
     by_kind false q a rest = IsAdjacent-after e (put_together es) q (rest a)
 
 pub IsAdjacent-paired : (es : List Entry) → IsPaired es → IsAdjacent (put_together es)

@@ -1,5 +1,5 @@
 -- What is printed of an order spells it, in the midst of other lines too.
-use Rattle.order_builder.proofs.Vocabulary.{◌≡◌, ℕ, zero, suc, ◌+◌, ◌-◌, ◌/◌, ◌%◌, ◌<◌, Bool, true, false, not, eqb, ltb, leb, inl, inr, List, [], ◌∷◌, ◌++◌, length, map, get_or, take, All, refl, sym, ap, ◌∙◌, arith, codes, decimal, digits, digits_onto, digit_glyph, list_all, strip_carriage_return, and_parts, and_from, eqb-true, nat_tests, append_assoc, append-nil, take_all, take_more, All-cons, All-nil, All-head, All-tail, All-get_or, list_all-append, Litmus, IsTest, continues_name, Entry, Kind, R, W, F, LR, LW, lines_of, letters_of, printed_access, printed_entry, printed_end, order_lines, printed_lines, printed_order, HasAccess, IsEntryFor, IsOrderFor, IsOther, IsBefore, SpellsOrder}
+use Rattle.order_builder.proofs.Vocabulary.{◌≡◌, ℕ, zero, suc, ◌+◌, ◌-◌, ◌/◌, ◌%◌, ◌<◌, Bool, true, false, not, eqb, ltb, leb, inl, inr, List, [], ◌∷◌, ◌++◌, length, map, get_or, take, All, refl, sym, ap, ◌∙◌, arith, codes, decimal, digits, digits_onto, digit_glyph, list_all, strip_carriage_return, and_parts, and_from, eqb-true, nat_tests, append_assoc, append-nil, take_all, take_more, All-cons, All-nil, All-head, All-tail, All-get_or, list_all-append, Litmus, IsTest, continues_name, Entry, Kind, R, W, F, LR, LW, lines_of, letters_of, printed_access, printed_entry, printed_end, order_lines, printed_lines, printed_order, HasAccess, IsEntryFor, IsOrderFor, IsNotOrderLine, IsLineBeforeOrder, SpellsOrder}
 use Rattle.order_builder.proofs.Choosing.{chosen}
 use Rattle.order_builder.proofs.LineLemmas.{Lacks, lines_of-line}
 use Rattle.order_builder.proofs.NameLaws.{lacks_from_all, all_of_location}
@@ -96,13 +96,13 @@ lines_of-graphic (line ∷ lines) rest are =
     ∙ lines_of-line line (printed_lines lines ++ rest) (lacks_from_all is_graphic 10 line refl are.0)
     ∙ rw (unreturned line (lacks_from_all is_graphic 13 line refl are.0)) (ap (λ (l : List (List ℕ)). line ∷ l) (lines_of-graphic lines rest are.1))
 
-lines_of-before : (lines : List (List ℕ)) (rest : List ℕ) → All IsBefore lines → lines_of (printed_lines lines ++ rest) ≡ map strip_carriage_return lines ++ lines_of rest
+lines_of-before : (lines : List (List ℕ)) (rest : List ℕ) → All IsLineBeforeOrder lines → lines_of (printed_lines lines ++ rest) ≡ map strip_carriage_return lines ++ lines_of rest
 lines_of-before [] rest are = refl
 lines_of-before (line ∷ lines) rest are =
-    let one = All-head IsBefore line lines are in
+    let one = All-head IsLineBeforeOrder line lines are in
     ap lines_of (append_assoc line (10 ∷ printed_lines lines) rest)
     ∙ lines_of-line line (printed_lines lines ++ rest) (lacks_from_all (λ b. not (eqb b 10)) 10 line refl one.whole)
-    ∙ ap (λ (l : List (List ℕ)). strip_carriage_return line ∷ l) (lines_of-before lines rest (All-tail IsBefore line lines are))
+    ∙ ap (λ (l : List (List ℕ)). strip_carriage_return line ∷ l) (lines_of-before lines rest (All-tail IsLineBeforeOrder line lines are))
 
 -- a line that loses its carriage return
 returned : (line : List ℕ) → eqb (get_or line (length line - 1) 0) 13 ≡ true → line ≡ take (length line - 1) line ++ 13 ∷ []
@@ -113,23 +113,23 @@ returned (b ∷ bs) last =
     sym (take_all (length (b ∷ bs) - 1 + 1) (b ∷ bs) (omega arith)) ∙ take_more (b ∷ bs) (length (b ∷ bs) - 1) 0 (omega arith)
     ∙ ap (λ (c : ℕ). take (length (b ∷ bs) - 1) (b ∷ bs) ++ c ∷ []) byte
 
-other_before : (line : List ℕ) → IsBefore line → IsOther (strip_carriage_return line)
+other_before : (line : List ℕ) → IsLineBeforeOrder line → IsNotOrderLine (strip_carriage_return line)
 other_before line is same =
     elim (chosen (eqb (get_or line (length line - 1) 0) 13) (take (length line - 1) line) line (codes "Order") same) [
       | inl hit ↦ is.other_returned (returned line hit.0 ∙ ap (λ (l : List ℕ). l ++ 13 ∷ []) hit.1)
       | inr miss ↦ is.other miss.1
     ]
 
-others_before : (lines : List (List ℕ)) → All IsBefore lines → All IsOther (map strip_carriage_return lines)
-others_before [] are = All-nil IsOther
+others_before : (lines : List (List ℕ)) → All IsLineBeforeOrder lines → All IsNotOrderLine (map strip_carriage_return lines)
+others_before [] are = All-nil IsNotOrderLine
 others_before (line ∷ lines) are =
-    All-cons IsOther (strip_carriage_return line) (map strip_carriage_return lines) (other_before line (All-head IsBefore line lines are)) (others_before lines (All-tail IsBefore line lines are))
+    All-cons IsNotOrderLine (strip_carriage_return line) (map strip_carriage_return lines) (other_before line (All-head IsLineBeforeOrder line lines are)) (others_before lines (All-tail IsLineBeforeOrder line lines are))
 
 graphic_first : list_all is_graphic (codes "Order") ≡ true
 unfolding is_graphic
 graphic_first = refl
 
-pub printed_spells : (t : Litmus) (order : List Entry) (front : List (List ℕ)) (rest text : List ℕ) → IsTest t → IsOrderFor t order → All IsBefore front
+pub printed_spells : (t : Litmus) (order : List Entry) (front : List (List ℕ)) (rest text : List ℕ) → IsTest t → IsOrderFor t order → All IsLineBeforeOrder front
     → text ≡ printed_lines front ++ (printed_order t order ++ rest) → SpellsOrder t text order
 printed_spells t order front rest text test are others text-is =
     let graphic : AreGraphic (order_lines t order) = (graphic_first, graphic-entries t order (length order) test are) in
@@ -144,4 +144,4 @@ printed_spells t order front rest text test are others text-is =
     }
 
 pub printed_alone : (t : Litmus) (order : List Entry) → IsTest t → IsOrderFor t order → SpellsOrder t (printed_order t order) order
-printed_alone t order test are = printed_spells t order [] [] (printed_order t order) test are (All-nil IsBefore) (sym (append-nil (printed_order t order)))
+printed_alone t order test are = printed_spells t order [] [] (printed_order t order) test are (All-nil IsLineBeforeOrder) (sym (append-nil (printed_order t order)))

@@ -1,5 +1,5 @@
 -- What a text spells is read, and what is read it spells.
-use Rattle.order_builder.proofs.Vocabulary.{◌≡◌, ℕ, suc, ◌+◌, ◌^◌, ◌<◌, true, false, eqb, ◌⊎◌, inl, inr, List, [], ◌∷◌, ◌++◌, length, map, All, Option, Some, None, Result, Ok, Err, refl, sym, ap, subst, ◌∙◌, arith, codes, decimal, bytes_eq, eqb-true, nat_tests, append_assoc, length-append, length-map, All-cons, All-nil, All-head, All-tail, Litmus, IsTest, Entry, lines_of, decimal_value, printed_entry, printed_end, order_lines, IsEntryFor, IsOrderFor, IsOther, SpellsOrder, onto, entries_in, entry_in, end_in, order_start, order_of, OrderFault, NoOrder, BadLine, BadCount}
+use Rattle.order_builder.proofs.Vocabulary.{◌≡◌, ℕ, suc, ◌+◌, ◌^◌, ◌<◌, true, false, eqb, ◌⊎◌, inl, inr, List, [], ◌∷◌, ◌++◌, length, map, All, Option, Some, None, Result, Ok, Err, refl, sym, ap, subst, ◌∙◌, arith, codes, decimal, bytes_eq, eqb-true, nat_tests, append_assoc, length-append, length-map, All-cons, All-nil, All-head, All-tail, Litmus, IsTest, Entry, lines_of, decimal_value, printed_entry, printed_end, order_lines, IsEntryFor, IsOrderFor, IsNotOrderLine, SpellsOrder, onto, entries_in, entry_in, end_in, order_start, order_of, OrderFault, NoOrder, BadLine, BadCount}
 use Rattle.order_builder.proofs.Choosing.{chosen, same_bytes, bytes_eq-same, bytes_eq-other}
 use Rattle.order_builder.proofs.NumberLaws.{is_number-decimal, value-decimal, decimal-value}
 use Rattle.order_builder.proofs.LineLemmas.{lines_of-length}
@@ -7,28 +7,28 @@ use Rattle.order_builder.proofs.EntryLaws.{entry_again, entry_found, no_end_in_e
 
 -- ---- up to the line `Order`
 
-pub start_again : (before : List (List ℕ)) (n : ℕ) (lines : List (List ℕ)) → All IsOther before → order_start n (before ++ (codes "Order" ∷ lines)) ≡ Some (n + length before + 1, lines)
+pub start_again : (before : List (List ℕ)) (n : ℕ) (lines : List (List ℕ)) → All IsNotOrderLine before → order_start n (before ++ (codes "Order" ∷ lines)) ≡ Some (n + length before + 1, lines)
 unfolding order_start
 start_again [] n lines others = ap (λ (k : ℕ). Some (k + 1, lines)) (omega arith)
 start_again (line ∷ before) n lines others =
-    let other : bytes_eq line (codes "Order") ≡ false = bytes_eq-other line (codes "Order") (All-head IsOther line before others) in
-    let rest = start_again before (n + 1) lines (All-tail IsOther line before others) in
+    let other : bytes_eq line (codes "Order") ≡ false = bytes_eq-other line (codes "Order") (All-head IsNotOrderLine line before others) in
+    let rest = start_again before (n + 1) lines (All-tail IsNotOrderLine line before others) in
     rw other (rest ∙ ap (λ (k : ℕ). Some (k, lines)) (omega arith))
 
-pub none_again : (lines : List (List ℕ)) (n : ℕ) → All IsOther lines → order_start n lines ≡ None
+pub none_again : (lines : List (List ℕ)) (n : ℕ) → All IsNotOrderLine lines → order_start n lines ≡ None
 unfolding order_start
 none_again [] n others = refl
 none_again (line ∷ lines) n others =
-    let other : bytes_eq line (codes "Order") ≡ false = bytes_eq-other line (codes "Order") (All-head IsOther line lines others) in
-    rw other (none_again lines (n + 1) (All-tail IsOther line lines others))
+    let other : bytes_eq line (codes "Order") ≡ false = bytes_eq-other line (codes "Order") (All-head IsNotOrderLine line lines others) in
+    rw other (none_again lines (n + 1) (All-tail IsNotOrderLine line lines others))
 
-differs : (line : List ℕ) → bytes_eq line (codes "Order") ≡ false → IsOther line
+differs : (line : List ℕ) → bytes_eq line (codes "Order") ≡ false → IsNotOrderLine line
 differs line apart same = let equal : bytes_eq line (codes "Order") ≡ true = rw same (bytes_eq-same (codes "Order")) in cc
 
 pub record StartsAt (lines : List (List ℕ)) (n : ℕ) (start : ℕ × List (List ℕ)) : Type 0 where
   pub before : List (List ℕ)
   pub whole : lines ≡ before ++ (codes "Order" ∷ start.1)
-  pub others : All IsOther before
+  pub others : All IsNotOrderLine before
   pub number : start.0 ≡ n + length before + 1
 
 pub start_found : (lines : List (List ℕ)) (n : ℕ) (start : ℕ × List (List ℕ)) → order_start n lines ≡ Some start → StartsAt lines n start
@@ -41,7 +41,7 @@ start_found (line ∷ lines) n start e =
           subst (StartsAt (line ∷ lines) n) same (record {
             before = [];
             whole = ap (λ (l : List ℕ). l ∷ lines) (same_bytes _ _ hit.0);
-            others = All-nil IsOther;
+            others = All-nil IsNotOrderLine;
             number = omega arith;
           })
       | inr miss ↦
@@ -49,18 +49,18 @@ start_found (line ∷ lines) n start e =
           record {
             before = line ∷ more.before;
             whole = ap (λ (l : List (List ℕ)). line ∷ l) more.whole;
-            others = All-cons IsOther line more.before (differs line miss.0) more.others;
+            others = All-cons IsNotOrderLine line more.before (differs line miss.0) more.others;
             number = let number : start.0 ≡ n + 1 + length more.before + 1 = more.number in omega (arith, number);
           }
     ]
 
-pub none_found : (lines : List (List ℕ)) (n : ℕ) → order_start n lines ≡ None → All IsOther lines
+pub none_found : (lines : List (List ℕ)) (n : ℕ) → order_start n lines ≡ None → All IsNotOrderLine lines
 unfolding order_start
-none_found [] n e = All-nil IsOther
+none_found [] n e = All-nil IsNotOrderLine
 none_found (line ∷ lines) n e =
     elim (chosen (bytes_eq line (codes "Order")) (Some (n + 1, lines)) (order_start (n + 1) lines) None e) [
       | inl hit ↦ absurd cc
-      | inr miss ↦ All-cons IsOther line lines (differs line miss.0) (none_found lines (n + 1) miss.1)
+      | inr miss ↦ All-cons IsNotOrderLine line lines (differs line miss.0) (none_found lines (n + 1) miss.1)
     ]
 
 -- ---- entries

@@ -1,5 +1,5 @@
 -- The loop that puts each load part directly before its store part.
-use Rattle.order_builder.proofs.Vocabulary.{◌≡◌, ◌≢◌, ◌<◌, ◌+◌, ℕ, zero, suc, ◌==◌, ◌&&◌, Bool, true, false, if◌then◌else◌, List, [], ◌∷◌, ◌++◌, length, take, drop, drop-cons, add-one, slice_index_or, None, Some, refl, sym, ap, ◌∙◌, arith, subst, nat_tests, same_kind, is_at, put_before, put_together, Entry, Kind, R, W, F, LR, LW, is_answered, are_answered, all_put, first_of, others_of, IsNoneOf, AreWaiting, IsBuiltSoFar}
+use Rattle.order_builder.proofs.Vocabulary.{◌≡◌, ◌≢◌, ◌<◌, ◌+◌, ℕ, zero, suc, ◌==◌, ◌&&◌, Bool, true, false, if◌then◌else◌, List, [], ◌∷◌, ◌++◌, length, take, drop, drop-cons, add-one, slice_index_or, None, Some, refl, sym, ap, ◌∙◌, arith, subst, nat_tests, same_kind, is_at, put_before, put_together, Entry, Kind, R, W, F, LR, LW, has_its_store_part, are_answered, all_put, first_of_core, others_of, IsNoneOf, AreWaiting, IsBuiltSoFar}
 use Rattle.std.proofs.Common.{append_assoc, append-nil}
 
 pub same-core : (m n : ℕ) → m ≡ n → (m == n) ≡ true
@@ -47,52 +47,52 @@ stops : (x e : Entry) (ys : List Entry) → is_at x.core.0 x.place LW e ≡ true
 stops x e ys h = rw h refl
 
 -- what answers a load part after an entry of another core answers it before that too; one of its own core is its store part
-pub skipped : (x e : Entry) (es : List Entry) → e.core.0 ≢ x.core.0 → is_answered x (e ∷ es) ≡ is_answered x es
+pub skipped : (x e : Entry) (es : List Entry) → e.core.0 ≢ x.core.0 → has_its_store_part x (e ∷ es) ≡ has_its_store_part x es
 skipped x e es h = rw (other-core e.core.0 x.core.0 h) refl
 
-pub answers : (x e : Entry) (es : List Entry) → e.core.0 ≡ x.core.0 → is_answered x (e ∷ es) ≡ true → is_at x.core.0 x.place LW e ≡ true
-answers x e es h a = (let z : is_answered x (e ∷ es) ≡ is_at x.core.0 x.place LW e = rw (same-core e.core.0 x.core.0 h) refl in sym z ∙ a)
+pub answers : (x e : Entry) (es : List Entry) → e.core.0 ≡ x.core.0 → has_its_store_part x (e ∷ es) ≡ true → is_at x.core.0 x.place LW e ≡ true
+answers x e es h a = (let z : has_its_store_part x (e ∷ es) ≡ is_at x.core.0 x.place LW e = rw (same-core e.core.0 x.core.0 h) refl in sym z ∙ a)
 
 -- an entry of a core of which none waits
 none-put : (e : Entry) (xs ys : List Entry) → IsNoneOf e.core.0 xs → all_put xs (e ∷ ys) ≡ e ∷ all_put xs ys
 none-put e [] ys h = refl
 none-put e (x ∷ xs) ys h = ap (put_before x) (none-put e xs ys h.1) ∙ passes x e (all_put xs ys) (elsewhere x e (λ s. h.0 (sym s)))
 
-none-found : (core : ℕ) (xs : List Entry) → first_of core xs ≡ None → IsNoneOf core xs
+none-found : (core : ℕ) (xs : List Entry) → first_of_core core xs ≡ None → IsNoneOf core xs
 none-found core [] h = tt
 none-found core (x ∷ xs) h = by_core (x.core.0 == core) refl (none-found core xs)
   where
-    by_core : (b : Bool) → (x.core.0 == core) ≡ b → (first_of core xs ≡ None → IsNoneOf core xs) → IsNoneOf core (x ∷ xs)
-    by_core true q rest = let z : first_of core (x ∷ xs) ≡ Some x = rw q refl in absurd (let e : Some x ≡ None = sym z ∙ h in let w : ⊥ = cc in w)
-    by_core false q rest = let z : first_of core (x ∷ xs) ≡ first_of core xs = rw q refl in (isn't_core x.core.0 core q, rest (sym z ∙ h))
+    by_core : (b : Bool) → (x.core.0 == core) ≡ b → (first_of_core core xs ≡ None → IsNoneOf core xs) → IsNoneOf core (x ∷ xs)
+    by_core true q rest = let z : first_of_core core (x ∷ xs) ≡ Some x = rw q refl in absurd (let e : Some x ≡ None = sym z ∙ h in let w : ⊥ = cc in w)
+    by_core false q rest = let z : first_of_core core (x ∷ xs) ≡ first_of_core core xs = rw q refl in (isn't_core x.core.0 core q, rest (sym z ∙ h))
 
-all-others : (core : ℕ) (xs : List Entry) → first_of core xs ≡ None → others_of core xs ≡ xs
+all-others : (core : ℕ) (xs : List Entry) → first_of_core core xs ≡ None → others_of core xs ≡ xs
 all-others core [] h = refl
 all-others core (x ∷ xs) h =
-    elim (x.core.0 == core) as (λ b. (if b then Some x else first_of core xs) ≡ None → (if b then xs else x ∷ others_of core xs) ≡ x ∷ xs)
+    elim (x.core.0 == core) as (λ b. (if b then Some x else first_of_core core xs) ≡ None → (if b then xs else x ∷ others_of core xs) ≡ x ∷ xs)
     [ true ↦ (λ g. absurd (let z : ⊥ = cc in z)) | false ↦ (λ g. ap (λ ys. x ∷ ys) (all-others core xs g)) ] h
 
-pub plain-put : (e : Entry) (xs ys : List Entry) → first_of e.core.0 xs ≡ None → all_put xs (e ∷ ys) ≡ e ∷ all_put xs ys
+pub plain-put : (e : Entry) (xs ys : List Entry) → first_of_core e.core.0 xs ≡ None → all_put xs (e ∷ ys) ≡ e ∷ all_put xs ys
 plain-put e xs ys h = none-put e xs ys (none-found e.core.0 xs h)
 
 -- what waits is a load part
-first-kind : (core : ℕ) (zs es : List Entry) (z : Entry) → AreWaiting zs es → first_of core zs ≡ Some z → z.kind ≡ LR
+first-kind : (core : ℕ) (zs es : List Entry) (z : Entry) → AreWaiting zs es → first_of_core core zs ≡ Some z → z.kind ≡ LR
 first-kind core [] es z w h = absurd (let z : ⊥ = cc in z)
 first-kind core (v ∷ vs) es z w h =
-    elim (v.core.0 == core) as (λ b. (if b then Some v else first_of core vs) ≡ Some z → z.kind ≡ LR)
+    elim (v.core.0 == core) as (λ b. (if b then Some v else first_of_core core vs) ≡ Some z → z.kind ≡ LR)
     [ true ↦ (λ g. (let s : v ≡ z = cc in ap (λ (u : Entry). u.kind) (sym s) ∙ w.0)) | false ↦ (λ g. first-kind core vs es z w.3 g) ] h
 
 -- the store part of one that waits
-pub store-put : (e x : Entry) (xs es ys : List Entry) → AreWaiting xs (e ∷ es) → first_of e.core.0 xs ≡ Some x → all_put xs (e ∷ ys) ≡ x ∷ (e ∷ all_put (others_of e.core.0 xs) ys)
+pub store-put : (e x : Entry) (xs es ys : List Entry) → AreWaiting xs (e ∷ es) → first_of_core e.core.0 xs ≡ Some x → all_put xs (e ∷ ys) ≡ x ∷ (e ∷ all_put (others_of e.core.0 xs) ys)
 store-put e x [] es ys w h = absurd (let z : ⊥ = cc in z)
 store-put e x (y ∷ xs) es ys w h = by_core (y.core.0 == e.core.0) refl (store-put e x xs es ys w.3)
   where
     Goal : Type 0
     Goal = all_put (y ∷ xs) (e ∷ ys) ≡ x ∷ (e ∷ all_put (others_of e.core.0 (y ∷ xs)) ys)
 
-    by_core : (b : Bool) → (y.core.0 == e.core.0) ≡ b → (first_of e.core.0 xs ≡ Some x → all_put xs (e ∷ ys) ≡ x ∷ (e ∷ all_put (others_of e.core.0 xs) ys)) → Goal
+    by_core : (b : Bool) → (y.core.0 == e.core.0) ≡ b → (first_of_core e.core.0 xs ≡ Some x → all_put xs (e ∷ ys) ≡ x ∷ (e ∷ all_put (others_of e.core.0 xs) ys)) → Goal
     by_core true q go =
-        let found : first_of e.core.0 (y ∷ xs) ≡ Some y = rw q refl in
+        let found : first_of_core e.core.0 (y ∷ xs) ≡ Some y = rw q refl in
         let same : y ≡ x = (let z : Some y ≡ Some x = sym found ∙ h in let s : y ≡ x = cc in s) in
         let cores : y.core.0 ≡ e.core.0 = is_core y.core.0 e.core.0 q in
         let others : others_of e.core.0 (y ∷ xs) ≡ xs = rw q refl in
@@ -100,7 +100,7 @@ store-put e x (y ∷ xs) es ys w h = by_core (y.core.0 == e.core.0) refl (store-
         let rest = none-put e xs ys (subst (λ c. IsNoneOf c xs) cores w.2) in
         ap (put_before y) rest ∙ stops y e (all_put xs ys) part ∙ ap (λ z. z ∷ (e ∷ all_put xs ys)) same ∙ ap (λ zs. x ∷ (e ∷ all_put zs ys)) (sym others)
     by_core false q go =
-        let found : first_of e.core.0 (y ∷ xs) ≡ first_of e.core.0 xs = rw q refl in
+        let found : first_of_core e.core.0 (y ∷ xs) ≡ first_of_core e.core.0 xs = rw q refl in
         let others : others_of e.core.0 (y ∷ xs) ≡ y ∷ others_of e.core.0 xs = rw q refl in
         let got = sym found ∙ h in
         let cores = isn't_core y.core.0 e.core.0 q in
@@ -120,7 +120,7 @@ none-more : (core : ℕ) (xs : List Entry) (e : Entry) → IsNoneOf core xs → 
 none-more core [] e h q = (q, tt)
 none-more core (x ∷ xs) e h q = (h.0, none-more core xs e h.1 q)
 
-pub waiting-plain : (e : Entry) (xs es : List Entry) → AreWaiting xs (e ∷ es) → first_of e.core.0 xs ≡ None → AreWaiting xs es
+pub waiting-plain : (e : Entry) (xs es : List Entry) → AreWaiting xs (e ∷ es) → first_of_core e.core.0 xs ≡ None → AreWaiting xs es
 waiting-plain e xs es w h = go xs w (none-found e.core.0 xs h)
   where
     go : (zs : List Entry) → AreWaiting zs (e ∷ es) → IsNoneOf e.core.0 zs → AreWaiting zs es
@@ -131,7 +131,7 @@ none-left : (core other : ℕ) (xs : List Entry) → IsNoneOf core xs → IsNone
 none-left core other [] n = tt
 none-left core other (x ∷ xs) n = elim (x.core.0 == other) as (λ b. IsNoneOf core (if b then xs else x ∷ others_of other xs)) [ true ↦ n.1 | false ↦ (n.0, none-left core other xs n.1) ]
 
-pub waiting-store : (e x : Entry) (xs es : List Entry) → AreWaiting xs (e ∷ es) → first_of e.core.0 xs ≡ Some x → AreWaiting (others_of e.core.0 xs) es
+pub waiting-store : (e x : Entry) (xs es : List Entry) → AreWaiting xs (e ∷ es) → first_of_core e.core.0 xs ≡ Some x → AreWaiting (others_of e.core.0 xs) es
 waiting-store e x [] es w h = tt
 waiting-store e x (y ∷ xs) es w h = by_core (y.core.0 == e.core.0) refl (waiting-store e x xs es w.3)
   where
@@ -139,18 +139,18 @@ waiting-store e x (y ∷ xs) es w h = by_core (y.core.0 == e.core.0) refl (waiti
     go [] w n = tt
     go (v ∷ zs) w n = (w.0, sym (skipped v e es (λ s. n.0 (sym s))) ∙ w.1, w.2, go zs w.3 n.1)
 
-    by_core : (b : Bool) → (y.core.0 == e.core.0) ≡ b → (first_of e.core.0 xs ≡ Some x → AreWaiting (others_of e.core.0 xs) es) → AreWaiting (others_of e.core.0 (y ∷ xs)) es
+    by_core : (b : Bool) → (y.core.0 == e.core.0) ≡ b → (first_of_core e.core.0 xs ≡ Some x → AreWaiting (others_of e.core.0 xs) es) → AreWaiting (others_of e.core.0 (y ∷ xs)) es
     by_core true q rest =
         let others : others_of e.core.0 (y ∷ xs) ≡ xs = rw q refl in
         subst (λ zs. AreWaiting zs es) (sym others) (go xs w.3 (subst (λ c. IsNoneOf c xs) (is_core y.core.0 e.core.0 q) w.2))
     by_core false q rest =
         let others : others_of e.core.0 (y ∷ xs) ≡ y ∷ others_of e.core.0 xs = rw q refl in
-        let found : first_of e.core.0 (y ∷ xs) ≡ first_of e.core.0 xs = rw q refl in
+        let found : first_of_core e.core.0 (y ∷ xs) ≡ first_of_core e.core.0 xs = rw q refl in
         let cores = isn't_core y.core.0 e.core.0 q in
         subst (λ zs. AreWaiting zs es) (sym others)
         (w.0, sym (skipped y e es (λ s. cores (sym s))) ∙ w.1, none-left y.core.0 e.core.0 xs w.2, rest (sym found ∙ h))
 
-pub waiting-load : (e : Entry) (xs es : List Entry) → e.kind ≡ LR → is_answered e es ≡ true → AreWaiting xs (e ∷ es) → AreWaiting (xs ++ e ∷ []) es
+pub waiting-load : (e : Entry) (xs es : List Entry) → e.kind ≡ LR → has_its_store_part e es ≡ true → AreWaiting xs (e ∷ es) → AreWaiting (xs ++ e ∷ []) es
 waiting-load e [] es k a w = (k, a, tt, tt)
 waiting-load e (x ∷ xs) es k a w = by_core (e.core.0 == x.core.0) refl (waiting-load e xs es k a w.3)
   where
@@ -175,14 +175,14 @@ take-got [] i x h q = absurd (omega arith)
 take-got (y ∷ ys) zero x h q = ap (λ z. z ∷ []) (sym q)
 take-got (y ∷ ys) (suc i) x h q = rw add-one (ap (λ zs. y ∷ zs) (rw add-one at (take-got ys i x (omega arith) q)))
 
-pub first-found : (core : ℕ) (xs : List Entry) (i : ℕ) (x : Entry) → i < length xs → x ≡ slice_index_or xs i x → (x.core.0 == core) ≡ true → first_of core (drop i xs) ≡ Some x
-first-found core xs i x h q e = ap (first_of core) (drop-got xs i x h q) ∙ rw e refl
+pub first-found : (core : ℕ) (xs : List Entry) (i : ℕ) (x : Entry) → i < length xs → x ≡ slice_index_or xs i x → (x.core.0 == core) ≡ true → first_of_core core (drop i xs) ≡ Some x
+first-found core xs i x h q e = ap (first_of_core core) (drop-got xs i x h q) ∙ rw e refl
 
 pub others-found : (core : ℕ) (xs : List Entry) (i : ℕ) (x : Entry) → i < length xs → x ≡ slice_index_or xs i x → (x.core.0 == core) ≡ true → others_of core (drop i xs) ≡ drop (i + 1) xs
 others-found core xs i x h q e = ap (others_of core) (drop-got xs i x h q) ∙ rw e refl
 
-pub first-passed : (core : ℕ) (xs : List Entry) (i : ℕ) (x : Entry) → i < length xs → x ≡ slice_index_or xs i x → (x.core.0 == core) ≡ false → first_of core (drop i xs) ≡ first_of core (drop (i + 1) xs)
-first-passed core xs i x h q e = ap (first_of core) (drop-got xs i x h q) ∙ rw e refl
+pub first-passed : (core : ℕ) (xs : List Entry) (i : ℕ) (x : Entry) → i < length xs → x ≡ slice_index_or xs i x → (x.core.0 == core) ≡ false → first_of_core core (drop i xs) ≡ first_of_core core (drop (i + 1) xs)
+first-passed core xs i x h q e = ap (first_of_core core) (drop-got xs i x h q) ∙ rw e refl
 
 pub others-passed : (core : ℕ) (xs : List Entry) (i : ℕ) (x : Entry) → i < length xs → x ≡ slice_index_or xs i x → (x.core.0 == core) ≡ false
     → take i xs ++ others_of core (drop i xs) ≡ take (i + 1) xs ++ others_of core (drop (i + 1) xs)
@@ -199,8 +199,8 @@ take-all : (xs : List Entry) → take (length xs) xs ≡ xs
 take-all [] = refl
 take-all (x ∷ xs) = ap (λ ys. x ∷ ys) (take-all xs)
 
-pub first-of-rest : (core : ℕ) (xs : List Entry) (i : ℕ) → i ≡ length xs → first_of core (drop i xs) ≡ None
-first-of-rest core xs i h = rw h (ap (first_of core) (drop-all xs))
+pub first-of-rest : (core : ℕ) (xs : List Entry) (i : ℕ) → i ≡ length xs → first_of_core core (drop i xs) ≡ None
+first-of-rest core xs i h = rw h (ap (first_of_core core) (drop-all xs))
 
 pub others-of-rest : (core : ℕ) (xs : List Entry) (i : ℕ) → i ≡ length xs → take i xs ++ others_of core (drop i xs) ≡ xs
 others-of-rest core xs i h = rw h (ap (λ ys. take (length xs) xs ++ others_of core ys) (drop-all xs) ∙ append-nil (take (length xs) xs) ∙ take-all xs)
@@ -215,17 +215,17 @@ pub load-step : (e : Entry) (order order' waiting waiting' left whole : List Ent
     → IsBuiltSoFar order waiting (e ∷ left) whole → IsBuiltSoFar order' waiting' left whole
 load-step e order order' waiting waiting' left whole k o w built =
     let together : put_together (e ∷ left) ≡ put_before e (put_together left) = rw k refl in
-    let answered : (is_answered e left && are_answered left) ≡ true = (let z : are_answered (e ∷ left) ≡ (is_answered e left && are_answered left) = rw k refl in sym z ∙ built.answered) in
+    let answered : (has_its_store_part e left && are_answered left) ≡ true = (let z : are_answered (e ∷ left) ≡ (has_its_store_part e left && are_answered left) = rw k refl in sym z ∙ built.answered) in
     record {
       put = rw (o, w) (ap (λ es. order ++ es) (load-put e waiting (put_together left) ∙ ap (all_put waiting) (sym together)) ∙ built.put);
-      waits = subst (λ ws. AreWaiting ws left) (sym w) (waiting-load e waiting left (load_kind e.kind k) (and_first (is_answered e left) (are_answered left) answered) built.waits);
-      answered = and_second (is_answered e left) (are_answered left) answered;
+      waits = subst (λ ws. AreWaiting ws left) (sym w) (waiting-load e waiting left (load_kind e.kind k) (and_first (has_its_store_part e left) (are_answered left) answered) built.waits);
+      answered = and_second (has_its_store_part e left) (are_answered left) answered;
     }
 
 not-load : (e : Entry) (left : List Entry) → same_kind e.kind LR ≡ false → are_answered (e ∷ left) ≡ true → are_answered left ≡ true
 not-load e left k a = (let z : are_answered (e ∷ left) ≡ are_answered left = rw k refl in sym z ∙ a)
 
-pub plain-step : (e : Entry) (order between order' waiting waiting' left whole : List Entry) → same_kind e.kind LR ≡ false → first_of e.core.0 waiting ≡ None
+pub plain-step : (e : Entry) (order between order' waiting waiting' left whole : List Entry) → same_kind e.kind LR ≡ false → first_of_core e.core.0 waiting ≡ None
     → between ≡ order → order' ≡ between ++ e ∷ [] → waiting' ≡ others_of e.core.0 waiting → IsBuiltSoFar order waiting (e ∷ left) whole → IsBuiltSoFar order' waiting' left whole
 plain-step e order between order' waiting waiting' left whole k f b o w built =
     let together : put_together (e ∷ left) ≡ e ∷ put_together left = rw k refl in
@@ -237,7 +237,7 @@ plain-step e order between order' waiting waiting' left whole k f b o w built =
       answered = not-load e left k built.answered;
     }
 
-pub store-step : (e x : Entry) (order between order' waiting waiting' left whole : List Entry) → same_kind e.kind LR ≡ false → first_of e.core.0 waiting ≡ Some x
+pub store-step : (e x : Entry) (order between order' waiting waiting' left whole : List Entry) → same_kind e.kind LR ≡ false → first_of_core e.core.0 waiting ≡ Some x
     → between ≡ order ++ x ∷ [] → order' ≡ between ++ e ∷ [] → waiting' ≡ others_of e.core.0 waiting → IsBuiltSoFar order waiting (e ∷ left) whole → IsBuiltSoFar order' waiting' left whole
 store-step e x order between order' waiting waiting' left whole k f b o w built =
     let together : put_together (e ∷ left) ≡ e ∷ put_together left = rw k refl in

@@ -4,12 +4,12 @@ pub use Rattle.std.specs.Prelude.{IfOk, IfErr, codes}
 pub use Rattle.tso_model.specs.Litmus.{Litmus, IsTest, are_distinct}
 pub use Rattle.tso_model.specs.declared.execution.Entry.{Entry}
 pub use Rattle.tso_model.specs.declared.execution.Execution.{Execution}
-pub use Rattle.order_builder.specs.Spelling.{HasAccess, IsEntryFor, IsOrderFor, SpellsOrder, HasFault, BeginsOrder, IsNoEntry, IsNoEnd, HasNoCount, IsOther, IsBefore}
+pub use Rattle.order_builder.specs.Spelling.{HasAccess, IsEntryFor, IsOrderFor, SpellsOrder, HasFault, BeginsOrder, IsNoEntry, IsNoEnd, HasNoCount, IsNotOrderLine, IsLineBeforeOrder}
 pub use Rattle.order_builder.specs.PrintedOrder.{IsLocationFor, HasLocation, printed_entry, printed_end, order_lines, letters_of, printed_access, printed_lines, printed_order, HasWord}
 pub use Rattle.std.proofs.lemmas.List.Elements.{All-weaker, All-cons, All-nil, All-head, All-tail, All-get_or, All-append, All-from_get_or}
 pub use Rattle.tso_model.specs.declared.execution.Kind.{Kind}
 pub use Rattle.tso_model.specs.declared.execution.Kind.TheVariants.{R, W, F, LR, LW}
-pub use Rattle.order_builder.specs.Reading.{entries_of, Gives}
+pub use Rattle.order_builder.specs.Reading.{entries_of_order, Gives}
 pub use Rattle.order_builder.specs.inner.Reading.{onto, ◌>>=◌, entry_at, numeral, halves_at}
 unfoldable pub use Rattle.order_builder.specs.inner.Reading.{order_of, order_start, entries_in, entry_in, end_in, location_named, split_once, without_prefix, kind_of, place_in, access_in, action_in}
 pub use Rattle.order_builder.specs.Lines.{lines_in, is_line_feed}
@@ -31,15 +31,15 @@ pub use Rattle.std.proofs.lemmas.Fmt.{digits_decimal, digits_value-decimal, deci
 pub use Rattle.std.proofs.lemmas.Str.Parse.{IsNumeralModel, numerals_by_fold}
 unfoldable pub use Rattle.decimals.specs.inner.Decimals.{number_up_to}
 pub use Rattle.order_builder.specs.Numbers.{is_number}
-unfoldable pub use Rattle.order_builder.specs.inner.Numbers.{number_in}
+unfoldable pub use Rattle.order_builder.specs.inner.Numbers.{number_within}
 pub use Rattle.std.proofs.lemmas.List.{append_assoc, append-nil, length-append, length-map, take_all, take_more, take-append-drop, take_at, drop_at, length-take, get_or-take, get_or_at, get_or_append_left, length_push, drop_more, nil_from_length}
 pub use Rattle.std.specs.Str.Lines.{strip_carriage_return}
 pub use Rattle.std.proofs.lemmas.List.Folds.{list_all-append}
 pub use Rattle.tso_model.specs.ProgramOrder.{same_kind, IsStorePart}
 pub use Rattle.tso_model.specs.ProgramEntries.{is_at}
 pub use Rattle.tso_model.specs.Together.{put_before, put_together}
-pub use Rattle.order_builder.specs.Pairs.{is_answered, are_answered, IsPaired}
-pub use Rattle.order_builder.specs.inner.Waiting.{all_put, first_of, others_of, IsNoneOf, AreWaiting, IsBuiltSoFar}
+pub use Rattle.order_builder.specs.Pairs.{has_its_store_part, are_answered, IsPaired}
+pub use Rattle.order_builder.specs.inner.Waiting.{all_put, first_of_core, others_of, IsNoneOf, AreWaiting, IsBuiltSoFar}
 pub use Rattle.std.specs.Option.{option_map}
 pub use Rattle.std.proofs.lemmas.List.Sums.{position_or_len_is, fails_before_first, count_by-le-length}
 pub use Rattle.std.proofs.lemmas.List.Splits.{slice_split_none, slice_split_at, length-slice_split}

@@ -7,13 +7,13 @@ use Rattle.tso_model.specs.declared.execution.Entry.{Entry}
 use Rattle.tso_model.specs.declared.execution.Kind.TheVariants.{LR, LW}
 
 -- whether, of these entries, the first of the load part's core is its store part
-abbrev pub is_answered : Entry → List Entry → Bool
-is_answered x [] = false
-is_answered x (e ∷ es) = if e.core.0 == x.core.0 then is_at x.core.0 x.place LW e else is_answered x es
+abbrev pub has_its_store_part : Entry → List Entry → Bool
+has_its_store_part x [] = false
+has_its_store_part x (e ∷ es) = if e.core.0 == x.core.0 then is_at x.core.0 x.place LW e else has_its_store_part x es
 
 abbrev pub are_answered : List Entry → Bool
 are_answered [] = true
-are_answered (e ∷ es) = (if same_kind e.kind LR then is_answered e es else true) && are_answered es
+are_answered (e ∷ es) = (if same_kind e.kind LR then has_its_store_part e es else true) && are_answered es
 
 -- after each load part of a locked instruction its store part comes, before any other entry of its core
 abbrev pub IsPaired : List Entry → Type 0

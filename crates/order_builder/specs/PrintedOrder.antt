@@ -20,13 +20,13 @@ printed_access t F loc value = []
 printed_access t _ loc value = codes " " ++ (slice_index_or t.locations loc [] ++ (codes "=" ++ decimal value))
 
 -- the same of an entry
-abbrev pub access_of : Litmus → Entry → List ℕ
-access_of t e = printed_access t e.kind e.loc.0 e.value
+abbrev pub printed_access_of : Litmus → Entry → List ℕ
+printed_access_of t e = printed_access t e.kind e.loc.0 e.value
 
 -- an entry: `Pc:p K x=v`, or `Pc:p F`
 abbrev pub printed_entry : Litmus → Entry → List ℕ
 printed_entry t e =
-    codes "P" ++ (decimal e.core.0 ++ (codes ":" ++ (decimal e.place ++ (codes " " ++ (letters_of e.kind ++ access_of t e)))))
+    codes "P" ++ (decimal e.core.0 ++ (codes ":" ++ (decimal e.place ++ (codes " " ++ (letters_of e.kind ++ printed_access_of t e)))))
 
 -- the last line, for so many entries
 abbrev pub printed_end : ℕ → List ℕ

@@ -19,5 +19,5 @@ Gives view (Ok x) read = read ≡ Ok (view x)
 Gives view (Err fault) read = Fails fault read
 
 -- the entries of an order, in their order
-abbrev pub entries_of : Execution → List Entry
-entries_of execution = execution.order.items
+abbrev pub entries_of_order : Execution → List Entry
+entries_of_order execution = execution.order.items

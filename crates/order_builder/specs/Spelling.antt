@@ -27,11 +27,11 @@ abbrev pub IsOrderFor : Litmus → List Entry → Type 0
 IsOrderFor t order = All (IsEntryFor t) order
 
 -- a line before an order
-abbrev pub IsOther : List ℕ → Type 0
-IsOther line = line ≢ codes "Order"
+abbrev pub IsNotOrderLine : List ℕ → Type 0
+IsNotOrderLine line = line ≢ codes "Order"
 
 -- a line that may be written before an order: also with a carriage return at its end it is not `Order`
-pub record IsBefore (line : List ℕ) : Type 0 where
+pub record IsLineBeforeOrder (line : List ℕ) : Type 0 where
   pub whole : is_line line ≡ true
   pub other : line ≢ codes "Order"
   pub other_returned : line ≢ codes "Order\r"
@@ -42,13 +42,13 @@ pub record SpellsOrder (t : Litmus) (text : List ℕ) (order : List Entry) : Typ
   pub before : List (List ℕ)
   pub after : List (List ℕ)
   pub lines : lines_of text ≡ before ++ (order_lines t order ++ after)
-  pub first : All IsOther before
+  pub first : All IsNotOrderLine before
   pub entries : IsOrderFor t order
 
 -- the lines of the text up to some entries: lines none of which is `Order`, `Order`, the entries, and then the rest
 pub record BeginsOrder (t : Litmus) (text : List ℕ) (before : List (List ℕ)) (order : List Entry) (rest : List (List ℕ)) : Type 0 where
   pub lines : lines_of text ≡ before ++ (codes "Order" ∷ (map (printed_entry t) order ++ rest))
-  pub first : All IsOther before
+  pub first : All IsNotOrderLine before
   pub entries : IsOrderFor t order
 
 -- the line is no entry: none of an order of the test is printed so
@@ -86,7 +86,7 @@ pub record HasBadCount (t : Litmus) (text : List ℕ) : Type 0 where
 
 -- the fault of a text that spells no order; out of memory says nothing of the text
 abbrev pub HasFault : Litmus → List ℕ → OrderFault → Type 0
-HasFault t text NoOrder = All IsOther (lines_of text)
+HasFault t text NoOrder = All IsNotOrderLine (lines_of text)
 HasFault t text (BadLine number) = HasBadLine t text number
 HasFault t text BadCount = HasBadCount t text
 HasFault t text NoMemory = ⊥

@@ -6,7 +6,7 @@ ghost use Rattle.tso_model.specs.ProgramOrder.{same_kind};
 ghost use Rattle.tso_model.specs.Together.{put_together};
 ghost use Rattle.tso_model.specs.declared.execution.Kind.TheVariants.{LR};
 ghost use Rattle.order_builder.specs.Pairs.{IsPaired};
-ghost use Rattle.order_builder.specs.inner.Waiting.{first_of, others_of};
+ghost use Rattle.order_builder.specs.inner.Waiting.{first_of_core, others_of};
 
 use crate::commits::Commits;
 use std::alloc::Global;
@@ -46,7 +46,7 @@ fn is_load_part(entry: Entry) -> bool
 
 /// Takes the first entry of the core, if there is one.
 fn take_of(entries: &mut Vec<Entry>, core: Core) -> Option<Entry>
-    ensures first { result ≡ first_of core.0 entries.old.items }
+    ensures first { result ≡ first_of_core core.0 entries.old.items }
     ensures others { entries.new.items ≡ others_of core.0 entries.old.items }
 {
     for i in 0..entries.len() {

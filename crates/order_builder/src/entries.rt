@@ -6,7 +6,7 @@ ghost use Rattle.std.specs.Option.{option_map};
 ghost use Rattle.order_builder.specs.inner.Reading.{kind_of, location_named, place_in, access_in, action_in, entry_in, end_in};
 
 use crate::lines::{split_once, without_prefix};
-use crate::numbers::{is_number, number_in};
+use crate::numbers::{is_number, number_within};
 use tso_model::{Core, Entry, Kind, Loc, Test};
 
 /// The entry of a test that a line is, if it is one. Its core and its place needn't be the test's.
@@ -38,8 +38,8 @@ fn place_in(text: &[u8]) -> Option<(u8, u8)>
 {
     let numbers = without_prefix(text, b"P")?;
     let (core, place) = split_once(numbers, b':')?;
-    let core = number_in(core, u64::from(u8::MAX))?;
-    let place = number_in(place, u64::from(u8::MAX))?;
+    let core = number_within(core, u64::from(u8::MAX))?;
+    let place = number_within(place, u64::from(u8::MAX))?;
     Some((core as u8, place as u8))
 }
 
@@ -91,7 +91,7 @@ fn access_in(test: &Test, text: &[u8]) -> Option<(u8, u32)>
 {
     let (name, value) = split_once(text, b'=')?;
     let loc = location_named(test, name)?;
-    let value = number_in(value, u64::from(u32::MAX))?;
+    let value = number_within(value, u64::from(u32::MAX))?;
     Some((loc, value as u32))
 }
 

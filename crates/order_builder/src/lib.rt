@@ -6,9 +6,9 @@ mod building;
 pub mod commits;
 mod entries;
 pub mod fault;
-pub mod laws;
 mod lines;
 mod numbers;
+pub mod order_texts;
 pub mod printing;
 pub mod reading;
 

@@ -3,7 +3,7 @@
 ghost use Rattle.std.specs.Prelude.{◌≡◌, ◌≤◌, ◌==◌, IfSome};
 ghost use Rattle.decimals.specs.Decimals.{decimal_value};
 ghost use Rattle.order_builder.specs.Numbers.{is_number};
-ghost use Rattle.order_builder.specs.inner.Numbers.{number_in};
+ghost use Rattle.order_builder.specs.inner.Numbers.{number_within};
 
 use decimals::{all_digits, number_up_to};
 
@@ -23,9 +23,9 @@ pub fn number_is(digits: &[u8], number: u64) -> bool
 }
 
 /// The number that a text is, if it is one and no greater than `most`.
-#[tactic(auto, unfolding(crate::specs::inner::Numbers::number_in))]
-pub fn number_in(text: &[u8], most: u64) -> Option<u64>
-    ensures value { result ≡ number_in most text.now }
+#[tactic(auto, unfolding(crate::specs::inner::Numbers::number_within))]
+pub fn number_within(text: &[u8], most: u64) -> Option<u64>
+    ensures value { result ≡ number_within most text.now }
     ensures within { IfSome result (λ number. number ≤ most) }
 {
     if is_number(text) {

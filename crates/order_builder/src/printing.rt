@@ -6,7 +6,7 @@
 //! leading zeros.
 
 ghost use Rattle.std.specs.Prelude.{◌≡◌, ◌++◌, ◌∷◌, [], map, All, IfOk, OnOk, string_bytes};
-ghost use Rattle.order_builder.specs.PrintedOrder.{letters_of, access_of, printed_entry, printed_end, printed_lines};
+ghost use Rattle.order_builder.specs.PrintedOrder.{letters_of, printed_access_of, printed_entry, printed_end, printed_lines};
 ghost use Rattle.order_builder.specs.PrintedOrder.{printed_order, HasLocation, HasWord};
 
 use std::alloc::Global;
@@ -86,7 +86,7 @@ fn write_entry(text: &mut String, test: &Test, entry: &Entry) -> Result<(), NoMe
 /// Where and what was read or written; of a fence there is nothing to write.
 fn write_access(text: &mut String, test: &Test, entry: &Entry) -> Result<(), NoMemory>
     requires { HasLocation test.now entry.now }
-    ensures text { OnOk result (string_bytes text.new ≡ string_bytes text.old ++ access_of test.now entry.now) }
+    ensures text { OnOk result (string_bytes text.new ≡ string_bytes text.old ++ printed_access_of test.now entry.now) }
     ensures word { OnOk result (HasWord entry.now) }
 {
     let value = entry.value;

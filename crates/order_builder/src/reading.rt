@@ -10,7 +10,7 @@ ghost use Rattle.tso_model.specs.declared.execution.Entry.{Entry};
 ghost use Rattle.order_builder.specs.Spelling.{SpellsOrder, HasFault};
 ghost use Rattle.order_builder.specs.declared.fault.OrderFault.{OrderFault};
 ghost use Rattle.order_builder.specs.declared.fault.OrderFault.TheVariants.{NoMemory};
-ghost use Rattle.order_builder.specs.Reading.{entries_of, Gives};
+ghost use Rattle.order_builder.specs.Reading.{entries_of_order, Gives};
 ghost use Rattle.order_builder.specs.inner.Reading.{entries_in, order_start};
 
 use crate::entries::{end_in, entry_in};
@@ -29,12 +29,12 @@ use tso_model::{Execution, Test};
 /// allocator refused a growth.
 pub fn read_order(alloc: Global, test: &Test, text: &[u8]) -> Result<Execution, OrderFault>
     // What is read is spelled so, and what is spelled so is read, unless memory runs out.
-    ensures found { IfOk result (λ execution. SpellsOrder test.now text.now (entries_of execution)) }
-    ensures only { (order : List Entry) → SpellsOrder test.now text.now order → Gives entries_of result (Ok order) }
+    ensures found { IfOk result (λ execution. SpellsOrder test.now text.now (entries_of_order execution)) }
+    ensures only { (order : List Entry) → SpellsOrder test.now text.now order → Gives entries_of_order result (Ok order) }
 
     // A fault that is answered is the text's, and the text's is answered, unless memory runs out.
     ensures fault { IfErr result (λ fault. fault ≢ NoMemory → HasFault test.now text.now fault) }
-    ensures only_fault { (fault : OrderFault) → HasFault test.now text.now fault → Gives entries_of result (Err fault) }
+    ensures only_fault { (fault : OrderFault) → HasFault test.now text.now fault → Gives entries_of_order result (Err fault) }
 {
     // A test keeps its limits, on which the names of its locations rest.
     test.know_limits();
@@ -70,7 +70,7 @@ fn read_entries(
     start: usize,
 ) -> Result<Execution, OrderFault>
     requires { start + length text.now < 2 ^ 64 }
-    ensures { Gives entries_of result (entries_in test.now start 0 (lines_of text.now)) }
+    ensures { Gives entries_of_order result (entries_in test.now start 0 (lines_of text.now)) }
 {
     let mut order = Vec::new(alloc);
     let mut rest = text;

@@ -1,5 +1,5 @@
 -- The ends of runs are what TSO allows.
-use Rattle.outcome_laws.proofs.Vocabulary.{◌≡◌, ◌<◌, ℕ, List, ap, sym, ◌∙◌, refl, most_depth, Litmus, IsTest, final_words, final_registers, run, Choice, Entry, End, IsExecution, IsReached, RunsReachExactlyTheExecutions, IsEnd, IsAllowed, IsAllowedByTso, IsAllowedSequentially, UnbufferedRunsReachExactlyTheSequentiallyConsistent, EndsAreWhatTsoAllows}
+use Rattle.outcome_laws.proofs.Vocabulary.{◌≡◌, ◌<◌, ℕ, List, ap, sym, ◌∙◌, refl, most_depth, Litmus, IsTest, final_words, final_registers, run, Choice, Entry, End, IsExecution, IsReached, RunsReachExactlyTheExecutions, IsEnd, IsAllowedAtDepth, IsAllowedByTso, IsAllowedSequentially, UnbufferedRunsReachExactlyTheSequentiallyConsistent, EndsAreWhatTsoAllows}
 
 module _ (exactly : RunsReachExactlyTheExecutions) (sequential : UnbufferedRunsReachExactlyTheSequentiallyConsistent)
     (ended : (t : Litmus) (depth : ℕ) (choices : List Choice) → IsTest t → End t depth choices → IsExecution t (run t depth choices)) where
@@ -15,13 +15,13 @@ module _ (exactly : RunsReachExactlyTheExecutions) (sequential : UnbufferedRunsR
   is-end : (t : Litmus) (d : ℕ) (r s : List (List ℕ)) (m n : List ℕ) → r ≡ s → m ≡ n → IsEnd t d r m → IsEnd t d s n
   is-end t d r s m n p q h = record { choices = h.choices; cores = h.cores; ended = h.ended; registers_are = h.registers_are ∙ p; memory_is = h.memory_is ∙ q }
 
-  to-allowed : (t : Litmus) (d : ℕ) (r : List (List ℕ)) (m : List ℕ) → IsTest t → 0 < d → IsEnd t d r m → IsAllowed t d r m
+  to-allowed : (t : Litmus) (d : ℕ) (r : List (List ℕ)) (m : List ℕ) → IsTest t → 0 < d → IsEnd t d r m → IsAllowedAtDepth t d r m
   to-allowed t d r m test p h =
       let x = ended t d h.choices test h.ended in
       let e = (exactly.by_depth t d (run t d h.choices).commits test p).0 (reached t d r m h) in
       record { order = (run t d h.choices).commits; execution = e.0; depth_needed = e.1; registers_are = sym x.registers ∙ h.registers_are; memory_is = sym x.memory ∙ h.memory_is }
 
-  from-allowed : (t : Litmus) (d : ℕ) (r : List (List ℕ)) (m : List ℕ) → IsTest t → 0 < d → IsAllowed t d r m → IsEnd t d r m
+  from-allowed : (t : Litmus) (d : ℕ) (r : List (List ℕ)) (m : List ℕ) → IsTest t → 0 < d → IsAllowedAtDepth t d r m → IsEnd t d r m
   from-allowed t d r m test p h =
       is-end t d _ r _ m h.registers_are h.memory_is (end-of t d h.order test ((exactly.by_depth t d h.order test p).1 (h.execution, h.depth_needed)))
 

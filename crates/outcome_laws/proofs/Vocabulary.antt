@@ -23,9 +23,9 @@ pub use Rattle.tso_model.specs.declared.choice.Outcome.TheVariants.{Committed, B
 pub use Rattle.tso_laws.specs.inner.Laws.{StallsChangeNothing, RunsStopWhereTheyEnd}
 pub use Rattle.std.proofs.Math.ListN.{length-set}
 pub use Rattle.tso_model.specs.declared.choice.Choice.TheVariants.{Step, Drain}
-pub use Rattle.tso_laws.specs.Counting.{instructions, stores}
+pub use Rattle.tso_laws.specs.Counting.{instructions, stores_of_all}
 pub use Rattle.tso_laws.specs.Laws.{RunsAreCounted, RunsReachExactlyTheExecutions}
-pub use Rattle.outcome_laws.specs.Outcomes.{LeadToEnd, ChoicesToAnEndAreCounted, IsSequentiallyConsistent, UnbufferedRunsReachExactlyTheSequentiallyConsistent, IsEnd, IsAllowed, IsAllowedByTso, IsAllowedSequentially, EndsAreWhatTsoAllows}
+pub use Rattle.outcome_laws.specs.Outcomes.{LeadToEnd, ChoicesToAnEndAreCounted, IsSequentiallyConsistent, UnbufferedRunsReachExactlyTheSequentiallyConsistent, IsEnd, IsAllowedAtDepth, IsAllowedByTso, IsAllowedSequentially, EndsAreWhatTsoAllows}
 pub use Rattle.tso_model.specs.Axioms.{IsTsoExecution}
 pub use Rattle.tso_model.specs.SequentialConsistency.{KeepsAllOrder}
 pub use Rattle.tso_laws.specs.EndedRuns.{End, IsExecution}

@@ -10,7 +10,7 @@ use Rattle.tso_model.specs.FlatMachine.{registers_in}
 use Rattle.tso_model.specs.Runs.{run, CoresExist}
 use Rattle.tso_model.specs.declared.choice.Choice.{Choice}
 use Rattle.tso_model.specs.declared.execution.Entry.{Entry}
-use Rattle.tso_laws.specs.Counting.{instructions, stores}
+use Rattle.tso_laws.specs.Counting.{instructions, stores_of_all}
 use Rattle.tso_laws.specs.Depth.{needed}
 use Rattle.tso_laws.specs.Reached.{IsReached}
 
@@ -32,7 +32,7 @@ pub record LeadToEnd (t : Litmus) (depth : ℕ) (choices : List Choice) (registe
   pub memory_is : (run t depth choices).state.memory ≡ memory
 
 -- the registers and the memory are the final state of a TSO execution of the test that needs no more than this depth
-pub record IsAllowed (t : Litmus) (depth : ℕ) (registers : List (List ℕ)) (memory : List ℕ) : Type 0 where
+pub record IsAllowedAtDepth (t : Litmus) (depth : ℕ) (registers : List (List ℕ)) (memory : List ℕ) : Type 0 where
   pub order : List Entry
   pub execution : IsTsoExecution t order
   pub depth_needed : needed order ≤ depth
@@ -67,7 +67,7 @@ UnbufferedRunsReachExactlyTheSequentiallyConsistent =
 -- greatest depth of all, and at depth 0 what sequential consistency allows
 pub record EndsAreWhatTsoAllows : Type 0 where
   pub by_depth : (t : Litmus) (depth : ℕ) (registers : List (List ℕ)) (memory : List ℕ)
-      → IsTest t → 0 < depth → IsEnd t depth registers memory ↔ IsAllowed t depth registers memory
+      → IsTest t → 0 < depth → IsEnd t depth registers memory ↔ IsAllowedAtDepth t depth registers memory
   pub at_the_greatest : (t : Litmus) (registers : List (List ℕ)) (memory : List ℕ)
       → IsTest t → IsEnd t most_depth registers memory ↔ IsAllowedByTso t registers memory
   pub unbuffered : (t : Litmus) (registers : List (List ℕ)) (memory : List ℕ)
@@ -76,6 +76,6 @@ pub record EndsAreWhatTsoAllows : Type 0 where
 -- all such choices of a test are as many: one for each instruction, and with store buffers one more for each plain store
 pub record ChoicesToAnEndAreCounted : Type 0 where
   pub buffered : (t : Litmus) (depth : ℕ) (choices : List Choice) (registers : List (List ℕ)) (memory : List ℕ)
-      → 0 < depth → LeadToEnd t depth choices registers memory → length choices ≡ instructions t.programs + stores t.programs
+      → 0 < depth → LeadToEnd t depth choices registers memory → length choices ≡ instructions t.programs + stores_of_all t.programs
   pub unbuffered : (t : Litmus) (choices : List Choice) (registers : List (List ℕ)) (memory : List ℕ)
       → LeadToEnd t 0 choices registers memory → length choices ≡ instructions t.programs

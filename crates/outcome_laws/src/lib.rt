@@ -6,9 +6,9 @@
 //! program order is followed by a machine that has no store buffers.
 #![tactic(auto)]
 
-pub mod laws;
+pub mod final_states;
 
-pub use laws::{
+pub use final_states::{
     choices_to_an_end_are_counted, ends_are_what_tso_allows,
     unbuffered_runs_reach_exactly_the_sequentially_consistent,
 };

@@ -1,5 +1,5 @@
 -- Of the same final states the same is printed, but for the choices.
-use Rattle.outcome_report.proofs.Vocabulary.{◌≡◌, ◌∙◌, ◌+◌, ℕ, Bool, false, not, cond, if◌then◌else◌, List, [], ◌∷◌, map, drop, length, slice_index_or, Contains, Option, Some, None, refl, sym, ap, subst, count_by, recursion_from_All, sum_by-cons, slice_get_within, get_or_from_slice_get, Litmus, IsTest, Claim, Condition, truth_of, Named, named_in, values_at, Show, Have, FinalState, Outcome, outcome_of, shown_values, ArePrinted, true_from, holds_in, AreNotShown, AreAlike, OutcomesOfTheSameValuesAreAlike, OutcomesAreOneButForChoices}
+use Rattle.outcome_report.proofs.Vocabulary.{◌≡◌, ◌∙◌, ◌+◌, ℕ, Bool, false, not, cond, if◌then◌else◌, List, [], ◌∷◌, map, drop, length, slice_index_or, Contains, Option, Some, None, refl, sym, ap, subst, count_by, recursion_from_All, sum_by-cons, slice_get_within, get_or_from_slice_get, Litmus, IsTest, Claim, Condition, truth_of, Named, names_shown, values_at, Show, Have, FinalState, Outcome, outcome_of, shown_values, ArePrinted, true_from, holds_in, AreNotShown, OutcomesAreAlike, OutcomesOfTheSameValuesAreAlike, OutcomesAreOneButForChoices}
 use Rattle.outcome_report.proofs.Members.{Member, to-member, member-place, member-map, member-each, same-lists}
 use Rattle.outcome_report.proofs.Showing.{truth-shown}
 
@@ -64,14 +64,14 @@ same-numbers n claim (o ∷ outcomes) (p ∷ again) are =
     ∙ ap (λ numbers. if truth_of p.registers p.memory claim then n ∷ numbers else numbers) rest
 
 holds-shown : (show : Show) (t : Litmus) (condition : Option Condition) (o p : Outcome) → IsTest t → t.condition ≡ condition
-    → shown_values (named_in show t) o ≡ shown_values (named_in show t) p → holds_in condition o ≡ holds_in condition p
+    → shown_values (names_shown show t) o ≡ shown_values (names_shown show t) p → holds_in condition o ≡ holds_in condition p
 holds-shown show t None o p test is values = refl
 holds-shown show t (Some c) o p test is values = ap Some (truth-shown show t c o p test is values)
 
-pub alike : (show : Show) (t : Litmus) (outcomes again : List Outcome) → IsTest t → map (shown_values (named_in show t)) outcomes ≡ map (shown_values (named_in show t)) again
-    → AreAlike t (named_in show t) outcomes again
+pub alike : (show : Show) (t : Litmus) (outcomes again : List Outcome) → IsTest t → map (shown_values (names_shown show t)) outcomes ≡ map (shown_values (names_shown show t)) again
+    → OutcomesAreAlike t (names_shown show t) outcomes again
 alike show t outcomes again test values =
-    let shown = shown_values (named_in show t) in
+    let shown = shown_values (names_shown show t) in
     record {
       values = values;
       holds = same-map shown (holds_in t.condition) outcomes again (λ o p alike. holds-shown show t t.condition o p test refl alike) values;
@@ -90,8 +90,8 @@ from-member x xs m =
 
 pub same-values-alike : OutcomesOfTheSameValuesAreAlike
 same-values-alike show t outcomes again test ascending more same =
-    let a = map (shown_values (named_in show t)) outcomes in
-    let b = map (shown_values (named_in show t)) again in
+    let a = map (shown_values (names_shown show t)) outcomes in
+    let b = map (shown_values (names_shown show t)) again in
     alike show t outcomes again test
     (same-lists a b ascending more
     (λ v m. to-member v b ((same v).0 (from-member v a m)))
@@ -99,7 +99,7 @@ same-values-alike show t outcomes again test ascending more same =
 
 pub one-but-for-choices : OutcomesAreOneButForChoices
 one-but-for-choices show t hidden finals others outcomes again test unseen same printed more =
-    let names = named_in show t in
+    let names = names_shown show t in
     let values : map (shown_values names) outcomes ≡ map (shown_values names) again =
     same-lists (map (shown_values names) outcomes) (map (shown_values names) again) printed.ascending more.ascending
     (among names hidden finals others outcomes again unseen (λ registers memory. (same registers memory).0) printed more)

@@ -2,7 +2,7 @@
 use Rattle.outcome_report.proofs.Vocabulary.{◌≡◌, ◌<◌, ◌≤◌, ◌⊎◌, ℕ, ◌+◌, zero, suc, Bool, false, List, [], ◌∷◌, ◌++◌, map, length, take, drop, Some, slice_get, slice_set, slice_index, slice_index_or, if◌then◌else◌, arith, ap, sym, ◌∙◌, subst, refl, index_of, Reg, Core, cleared, hidden_of, seen_from, seen, Named, Register, Location, shown_value, AreNotShown, IsNotHidden}
 use Rattle.std.proofs.Math.ListN.{length-set}
 use Rattle.std.specs.Prelude.{All}
-use Rattle.tso_report.specs.inner.Tally.{IsKnown}
+use Rattle.tso_report.specs.inner.Tally.{NameExists}
 
 pub lt-or : (n k : ℕ) → (k < n) ⊎ (n ≤ k)
 lt-or n k = grind arith
@@ -71,11 +71,11 @@ shows old at i d core reg a e l =
     }
 
 -- a register that is known is of a core for which there is a row
-pub core-known : (cores locations : ℕ) (names others : List Named) (j : ℕ) (d : Named) (core : Core) (reg : Reg) → All (IsKnown cores locations) names → others ≡ names → j < length others
+pub core-known : (cores locations : ℕ) (names others : List Named) (j : ℕ) (d : Named) (core : Core) (reg : Reg) → All (NameExists cores locations) names → others ≡ names → j < length others
     → slice_index_or others j d ≡ Register core reg → core.0 < cores
 core-known cores locations names others j d core reg known e l is =
     let m : j < length names = (let n = ap length e in omega (arith, n, l)) in
-    subst (IsKnown cores locations) is (subst (λ z. IsKnown cores locations (slice_index_or z j d)) (sym e) (known j d m))
+    subst (NameExists cores locations) is (subst (λ z. NameExists cores locations (slice_index_or z j d)) (sym e) (known j d m))
 
 -- a list written over one of the same length
 pub whole : {A : Type 0} (xs ys : List A) (n : ℕ) → length xs ≡ length ys → n ≡ length ys → take n (xs ++ drop (length xs) ys) ≡ xs

@@ -1,5 +1,5 @@
 -- What is kept of a list of final states: of those that look alike one.
-use Rattle.outcome_report.proofs.Vocabulary.{◌≡◌, ◌∙◌, ◌<◌, Bool, true, false, cond, List, [], ◌∷◌, map, length, drop, slice_index_or, ◌+◌, is_some, Some, Vec, Bor, All, Contains, refl, sym, ap, subst, ℕ, AllByRecursion, IsStrictlySortedBy, is_eq, match_ordering, insert_entry, is_at, lookup, keys_of, values_of, Global, Ordering, Greater, Contains-keys_from_lookup, All-from_recursion, recursion_from_All, get_or-map, length-map, drop_more, Litmus, FinalState, shown_value, Named, Outcome, outcome_of, shown_values, ArePrinted, IsOf, is_kept, kept_of, with_outcome, kept_after, AreShown}
+use Rattle.outcome_report.proofs.Vocabulary.{◌≡◌, ◌∙◌, ◌<◌, Bool, true, false, cond, List, [], ◌∷◌, map, length, drop, slice_index_or, ◌+◌, is_some, Some, Vec, Bor, All, Contains, refl, sym, ap, subst, ℕ, AllByRecursion, IsStrictlySortedBy, is_eq, match_ordering, insert_entry, is_at, lookup, keys_of, values_of, Global, Ordering, Greater, Contains-keys_from_lookup, All-from_recursion, recursion_from_All, get_or-map, length-map, drop_more, Litmus, FinalState, shown_value, Named, Outcome, outcome_of, shown_values, ArePrinted, IsOutcomeOf, is_kept, kept_of, with_outcome, kept_after, AreShown}
 use Rattle.std.specs.declared.cmp.Ordering.TheVariants.{Less, Equal}
 use Rattle.outcome_report.proofs.Inserting.{R, same-values, ascends, each-inserted, stands-still, stands-there}
 
@@ -64,14 +64,14 @@ after-there names kept (f ∷ rest) =
 -- ---- what is kept in the end
 
 abbrev Stands : Litmus → List Named → List FinalState → List ℕ × Outcome → Type 0
-Stands t names finals k = (k.0 ≡ shown_values names k.1) × IsOf t k.1 × Contains (map outcome_of finals) k.1
+Stands t names finals k = (k.0 ≡ shown_values names k.1) × IsOutcomeOf t k.1 × Contains (map outcome_of finals) k.1
 
-each-stands : (t : Litmus) (names : List Named) (finals : List FinalState) → All (λ f. IsOf t (outcome_of f)) finals
+each-stands : (t : Litmus) (names : List Named) (finals : List FinalState) → All (λ f. IsOutcomeOf t (outcome_of f)) finals
     → All (λ f. Stands t names finals (shown_values names (outcome_of f), outcome_of f)) finals
 each-stands t names finals h k d lt =
     (refl, h k d lt, (k, subst (λ n. k < n) (sym (length-map finals outcome_of)) lt, get_or-map outcome_of finals k d (outcome_of (slice_index_or finals k d)) lt))
 
-stand : (t : Litmus) (names : List Named) (finals : List FinalState) → All (λ f. IsOf t (outcome_of f)) finals → AllByRecursion (Stands t names finals) (kept_after names [] finals)
+stand : (t : Litmus) (names : List Named) (finals : List FinalState) → All (λ f. IsOutcomeOf t (outcome_of f)) finals → AllByRecursion (Stands t names finals) (kept_after names [] finals)
 stand t names finals h =
     after-each (Stands t names finals) names [] finals
     (recursion_from_All (λ f. Stands t names finals (shown_values names (outcome_of f), outcome_of f)) finals (each-stands t names finals h)) tt
@@ -89,17 +89,17 @@ pub keys-shown : (names : List Named) (kept : Kept) → AllByRecursion (λ k. k.
 keys-shown names [] h = refl
 keys-shown names (k ∷ kept) h = ap (λ v. v ∷ keys_of kept) h.0 ∙ ap (λ rest. shown_values names k.1 ∷ rest) (keys-shown names kept h.1)
 
-pub kept-shown : (t : Litmus) (names : List Named) (finals : List FinalState) → All (λ f. IsOf t (outcome_of f)) finals → AreShown t names (kept_after names [] finals)
+pub kept-shown : (t : Litmus) (names : List Named) (finals : List FinalState) → All (λ f. IsOutcomeOf t (outcome_of f)) finals → AreShown t names (kept_after names [] finals)
 kept-shown t names finals h =
     let kept = kept_after names [] finals in
-    All-from_recursion (λ k. (k.0 ≡ shown_values names k.1) × IsOf t k.1) kept
-    (weaker (Stands t names finals) (λ k. (k.0 ≡ shown_values names k.1) × IsOf t k.1) (λ k s. (s.0, s.1)) kept (stand t names finals h))
+    All-from_recursion (λ k. (k.0 ≡ shown_values names k.1) × IsOutcomeOf t k.1) kept
+    (weaker (Stands t names finals) (λ k. (k.0 ≡ shown_values names k.1) × IsOutcomeOf t k.1) (λ k s. (s.0, s.1)) kept (stand t names finals h))
 
 none-ascend : IsStrictlySortedBy R []
 unfolding IsStrictlySortedBy
 none-ascend = tt
 
-pub kept-printed : (t : Litmus) (names : List Named) (finals : List FinalState) → All (λ f. IsOf t (outcome_of f)) finals → ArePrinted names finals (values_of (kept_after names [] finals))
+pub kept-printed : (t : Litmus) (names : List Named) (finals : List FinalState) → All (λ f. IsOutcomeOf t (outcome_of f)) finals → ArePrinted names finals (values_of (kept_after names [] finals))
 kept-printed t names finals h =
     let kept = kept_after names [] finals in
     let standing = stand t names finals h in

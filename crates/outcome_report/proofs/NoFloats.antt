@@ -1,5 +1,5 @@
 -- The values that are printed have no float, so that their text is known.
-use Rattle.outcome_report.proofs.Vocabulary.{◌≡◌, ℕ, Bool, true, false, ◌||◌, List, [], ◌∷◌, Option, Some, None, codes, refl, nat_cmp, match_ordering, slice_cmp, Ordering, Greater, Members, no_members, member, put, object, has_float, members_have_float, Litmus, Condition, Named, Outcome, shown_values, is_met_in, verdict_value, key_of, value_members, with_holds, holds_in, state_value, states_value, observation_value, outcomes_value}
+use Rattle.outcome_report.proofs.Vocabulary.{◌≡◌, ℕ, Bool, true, false, ◌||◌, List, [], ◌∷◌, Option, Some, None, codes, refl, nat_cmp, match_ordering, slice_cmp, Ordering, Greater, Members, no_members, member, put, object, has_float, members_have_float, Litmus, Condition, Named, Outcome, shown_values, is_met_in, outcomes_verdict_value, key_of, value_members, with_holds, holds_in, state_value, states_value, observation_value, outcomes_value}
 use Rattle.std.specs.declared.cmp.Ordering.TheVariants.{Less, Equal}
 use Rattle.std.proofs.lemmas.Bool.{or_parts}
 use Rattle.tso_report.specs.Json.{count}
@@ -40,7 +40,7 @@ observation : (o : Option Condition) (outcomes : List Outcome) → has_float (ob
 observation None outcomes = refl
 observation (Some condition) outcomes = refl
 
-verdict : (o : Option Condition) (allowed : Bool) → has_float (verdict_value o allowed) ≡ false
+verdict : (o : Option Condition) (allowed : Bool) → has_float (outcomes_verdict_value o allowed) ≡ false
 verdict None allowed = refl
 verdict (Some condition) allowed = refl
 
@@ -49,4 +49,4 @@ outcomes_have_no_float t names depth outcomes =
     let allowed = is_met_in t.condition outcomes in
     neither (has_float (observation_value t.condition outcomes)) _ (observation t.condition outcomes)
     (neither (has_float (states_value t names outcomes)) _ (states t names outcomes)
-    (neither (has_float (verdict_value t.condition allowed)) false (verdict t.condition allowed) refl))
+    (neither (has_float (outcomes_verdict_value t.condition allowed)) false (verdict t.condition allowed) refl))

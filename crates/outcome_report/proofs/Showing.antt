@@ -1,5 +1,5 @@
 -- What the condition says of a state shows in the values that are looked at.
-use Rattle.outcome_report.proofs.Vocabulary.{◌≡◌, ◌∙◌, ◌⊎◌, inl, inr, ⊎_elim, ◌<◌, ◌≤◌, ◌+◌, ◌==◌, ◌&&◌, ◌||◌, ℕ, zero, suc, Bool, true, false, not, List, [], ◌∷◌, ◌++◌, map, drop, length, slice_index, slice_index_or, Some, refl, sym, ap, subst, arith, Litmus, Claim, TruthClaim, RegClaim, LocClaim, NotClaim, AndClaim, OrClaim, Condition, truth_of, NamesExist, index_of, Reg, Eax, Ebx, Ecx, Edx, Esi, Edi, names_register, names_location, is_looked_at, register_of, location, named_registers, named_locations, shown_value, is_added, is_shown, named_in, Show, Named, Outcome, shown_values, TruthIsShown}
+use Rattle.outcome_report.proofs.Vocabulary.{◌≡◌, ◌∙◌, ◌⊎◌, inl, inr, ⊎_elim, ◌<◌, ◌≤◌, ◌+◌, ◌==◌, ◌&&◌, ◌||◌, ℕ, zero, suc, Bool, true, false, not, List, [], ◌∷◌, ◌++◌, map, drop, length, slice_index, slice_index_or, Some, refl, sym, ap, subst, arith, Litmus, Claim, TruthClaim, RegClaim, LocClaim, NotClaim, AndClaim, OrClaim, Condition, truth_of, NamesExist, index_of, Reg, Eax, Ebx, Ecx, Edx, Esi, Edi, claim_names_register, claim_names_location, is_looked_at, named_register, named_location, named_registers, named_locations, shown_value, is_added, is_shown, names_shown, Show, Named, Outcome, shown_values, TruthIsShown}
 use Rattle.std.proofs.lemmas.Bool.Decides.{leb_tells, eqb_tells}
 use Rattle.tso_model.specs.Thread.{value_in}
 use Rattle.tso_report.specs.Report.{all_registers}
@@ -7,7 +7,7 @@ use Rattle.outcome_report.proofs.Members.{Member, member-left, member-right, mem
 
 -- ---- what the condition names is looked at
 
-core-there : (core : ℕ) (reg : Reg) → Member (register_of core reg) (map (register_of core) all_registers)
+core-there : (core : ℕ) (reg : Reg) → Member (named_register core reg) (map (named_register core) all_registers)
 unfolding all_registers
 core-there core Eax = inl refl
 core-there core Ebx = inr (inl refl)
@@ -19,24 +19,24 @@ core-there core Edi = inr (inr (inr (inr (inr (inl refl)))))
 at-or-after : (m n : ℕ) → (n ≤ m) ⊎ (m < n)
 at-or-after m n = ⊎_elim (λ is. inl is.1) (λ is. inr is.1) (leb_tells n m)
 
-register-there : (core count c : ℕ) (reg : Reg) → core ≤ c → c < core + count → Member (register_of c reg) (named_registers core count)
+register-there : (core count c : ℕ) (reg : Reg) → core ≤ c → c < core + count → Member (named_register c reg) (named_registers core count)
 register-there core zero c reg low high = absurd (omega (arith, low, high))
 register-there core (suc count) c reg low high = by_place (at-or-after core c) (register-there (core + 1) count c reg)
   where
-    by_place : (c ≤ core) ⊎ (core < c) → (core + 1 ≤ c → c < core + 1 + count → Member (register_of c reg) (named_registers (core + 1) count)) → Member (register_of c reg) (named_registers core (suc count))
+    by_place : (c ≤ core) ⊎ (core < c) → (core + 1 ≤ c → c < core + 1 + count → Member (named_register c reg) (named_registers (core + 1) count)) → Member (named_register c reg) (named_registers core (suc count))
     by_place (inl here) further =
         let same : core ≡ c = omega (arith, low, here) in
-        member-left (register_of c reg) (map (register_of core) all_registers) (named_registers (core + 1) count)
-        (subst (λ k. Member (register_of c reg) (map (register_of k) all_registers)) (sym same) (core-there c reg))
+        member-left (named_register c reg) (map (named_register core) all_registers) (named_registers (core + 1) count)
+        (subst (λ k. Member (named_register c reg) (map (named_register k) all_registers)) (sym same) (core-there c reg))
     by_place (inr later) further =
-        member-right (register_of c reg) (map (register_of core) all_registers) (named_registers (core + 1) count) (further (omega (arith, later)) (omega (arith, high)))
+        member-right (named_register c reg) (map (named_register core) all_registers) (named_registers (core + 1) count) (further (omega (arith, later)) (omega (arith, high)))
 
-location-there : (loc count l : ℕ) → loc ≤ l → l < loc + count → Member (location l) (named_locations loc count)
+location-there : (loc count l : ℕ) → loc ≤ l → l < loc + count → Member (named_location l) (named_locations loc count)
 location-there loc zero l low high = absurd (omega (arith, low, high))
 location-there loc (suc count) l low high = by_place (at-or-after loc l) (location-there (loc + 1) count l)
   where
-    by_place : (l ≤ loc) ⊎ (loc < l) → (loc + 1 ≤ l → l < loc + 1 + count → Member (location l) (named_locations (loc + 1) count)) → Member (location l) (named_locations loc (suc count))
-    by_place (inl here) further = let same : l ≡ loc = omega (arith, low, here) in inl (ap location same)
+    by_place : (l ≤ loc) ⊎ (loc < l) → (loc + 1 ≤ l → l < loc + 1 + count → Member (named_location l) (named_locations (loc + 1) count)) → Member (named_location l) (named_locations loc (suc count))
+    by_place (inl here) further = let same : l ≡ loc = omega (arith, low, here) in inl (ap named_location same)
     by_place (inr later) further = inr (further (omega (arith, later)) (omega (arith, high)))
 
 -- two functions with the same values along a list have the same at each member
@@ -59,11 +59,11 @@ or-right false b h = h
 
 abbrev SameRegisters : Outcome → Outcome → ℕ → Claim → Type 0
 SameRegisters o p cores claim =
-    (core : ℕ) (reg : Reg) → core < cores → names_register claim core reg ≡ true
+    (core : ℕ) (reg : Reg) → core < cores → claim_names_register claim core reg ≡ true
     → value_in (slice_index_or o.registers core []) reg ≡ value_in (slice_index_or p.registers core []) reg
 
 abbrev SameWords : Outcome → Outcome → ℕ → Claim → Type 0
-SameWords o p locations claim = (loc : ℕ) → loc < locations → names_location claim loc ≡ true → slice_index o.memory loc ≡ slice_index p.memory loc
+SameWords o p locations claim = (loc : ℕ) → loc < locations → claim_names_location claim loc ≡ true → slice_index o.memory loc ≡ slice_index p.memory loc
 
 same-truth : (o p : Outcome) (cores locations : ℕ) (claim : Claim) → NamesExist cores locations claim → SameRegisters o p cores claim → SameWords o p locations claim
     → truth_of o.registers o.memory claim ≡ truth_of p.registers p.memory claim
@@ -74,24 +74,24 @@ same-truth o p cores locations (LocClaim loc value) exist registers words = ap (
 same-truth o p cores locations (NotClaim inner) exist registers words = ap not (same-truth o p cores locations inner exist registers words)
 same-truth o p cores locations (AndClaim left right) exist registers words =
     ap (λ b. b && truth_of o.registers o.memory right)
-    (same-truth o p cores locations left exist.0 (λ core reg lt named. registers core reg lt (or-left (names_register left core reg) (names_register right core reg) named))
-    (λ loc lt named. words loc lt (or-left (names_location left loc) (names_location right loc) named)))
+    (same-truth o p cores locations left exist.0 (λ core reg lt named. registers core reg lt (or-left (claim_names_register left core reg) (claim_names_register right core reg) named))
+    (λ loc lt named. words loc lt (or-left (claim_names_location left loc) (claim_names_location right loc) named)))
     ∙ ap (λ b. truth_of p.registers p.memory left && b)
-    (same-truth o p cores locations right exist.1 (λ core reg lt named. registers core reg lt (or-right (names_register left core reg) (names_register right core reg) named))
-    (λ loc lt named. words loc lt (or-right (names_location left loc) (names_location right loc) named)))
+    (same-truth o p cores locations right exist.1 (λ core reg lt named. registers core reg lt (or-right (claim_names_register left core reg) (claim_names_register right core reg) named))
+    (λ loc lt named. words loc lt (or-right (claim_names_location left loc) (claim_names_location right loc) named)))
 same-truth o p cores locations (OrClaim left right) exist registers words =
     ap (λ b. b || truth_of o.registers o.memory right)
-    (same-truth o p cores locations left exist.0 (λ core reg lt named. registers core reg lt (or-left (names_register left core reg) (names_register right core reg) named))
-    (λ loc lt named. words loc lt (or-left (names_location left loc) (names_location right loc) named)))
+    (same-truth o p cores locations left exist.0 (λ core reg lt named. registers core reg lt (or-left (claim_names_register left core reg) (claim_names_register right core reg) named))
+    (λ loc lt named. words loc lt (or-left (claim_names_location left loc) (claim_names_location right loc) named)))
     ∙ ap (λ b. truth_of p.registers p.memory left || b)
-    (same-truth o p cores locations right exist.1 (λ core reg lt named. registers core reg lt (or-right (names_register left core reg) (names_register right core reg) named))
-    (λ loc lt named. words loc lt (or-right (names_location left loc) (names_location right loc) named)))
+    (same-truth o p cores locations right exist.1 (λ core reg lt named. registers core reg lt (or-right (claim_names_register left core reg) (claim_names_register right core reg) named))
+    (λ loc lt named. words loc lt (or-right (claim_names_location left loc) (claim_names_location right loc) named)))
 
-looked-same : (show : Show) (t : Litmus) (condition : Condition) (o p : Outcome) (n : Named) → t.condition ≡ Some condition → shown_values (named_in show t) o ≡ shown_values (named_in show t) p
+looked-same : (show : Show) (t : Litmus) (condition : Condition) (o p : Outcome) (n : Named) → t.condition ≡ Some condition → shown_values (names_shown show t) o ≡ shown_values (names_shown show t) p
     → is_looked_at (Some condition) n ≡ true → Member n (named_registers 0 (length t.programs) ++ named_locations 0 (length t.locations))
     → shown_value o.registers o.memory n ≡ shown_value p.registers p.memory n
 looked-same show t condition o p n is alike looked there =
-    same-at (shown_value o.registers o.memory) (shown_value p.registers p.memory) (named_in show t) n alike
+    same-at (shown_value o.registers o.memory) (shown_value p.registers p.memory) (names_shown show t) n alike
     (member-filter (is_shown show t) n (named_registers 0 (length t.programs) ++ named_locations 0 (length t.locations))
     (or-left (is_looked_at t.condition n) (is_added show t n) (ap (λ c. is_looked_at c n) is ∙ looked)) there)
 
@@ -100,7 +100,7 @@ truth-shown show t condition o p test is alike =
     let cores = length t.programs in
     let locations = length t.locations in
     same-truth o p cores locations condition.claim (test.condition_fits condition is).names_known
-    (λ core reg lt named. looked-same show t condition o p (register_of core reg) is alike named
-    (member-left (register_of core reg) (named_registers 0 cores) (named_locations 0 locations) (register-there 0 cores core reg (omega arith) (omega (arith, lt)))))
-    (λ loc lt named. looked-same show t condition o p (location loc) is alike named
-    (member-right (location loc) (named_registers 0 cores) (named_locations 0 locations) (location-there 0 locations loc (omega arith) (omega (arith, lt)))))
+    (λ core reg lt named. looked-same show t condition o p (named_register core reg) is alike named
+    (member-left (named_register core reg) (named_registers 0 cores) (named_locations 0 locations) (register-there 0 cores core reg (omega arith) (omega (arith, lt)))))
+    (λ loc lt named. looked-same show t condition o p (named_location loc) is alike named
+    (member-right (named_location loc) (named_registers 0 cores) (named_locations 0 locations) (location-there 0 locations loc (omega arith) (omega (arith, lt)))))

@@ -1,5 +1,5 @@
 -- Every register is hidden at first, and those that aren't shown stay so.
-use Rattle.outcome_report.proofs.Vocabulary.{◌≡◌, ◌≢◌, ◌∙◌, ◌<◌, ◌⊎◌, inl, inr, ℕ, zero, suc, Bool, true, false, List, [], ◌∷◌, ◌++◌, length, filter, cond, Some, slice_get, slice_set, slice_index_or, arith, ap, sym, subst, refl, Litmus, index_of, Reg, Eax, Ebx, Ecx, Edx, Esi, Edi, Core, none_hidden, hidden_of, Named, Register, register_of, is_shown, named_in, Show, IsHidden}
+use Rattle.outcome_report.proofs.Vocabulary.{◌≡◌, ◌≢◌, ◌∙◌, ◌<◌, ◌⊎◌, inl, inr, ℕ, zero, suc, Bool, true, false, List, [], ◌∷◌, ◌++◌, length, filter, cond, Some, slice_get, slice_set, slice_index_or, arith, ap, sym, subst, refl, Litmus, index_of, Reg, Eax, Ebx, Ecx, Edx, Esi, Edi, Core, none_hidden, hidden_of, Named, Register, named_register, is_shown, names_shown, Show, IsHidden}
 use Rattle.outcome_report.proofs.Hiding.{row-at}
 
 -- ---- one register more is shown
@@ -102,9 +102,9 @@ passes {X} p (y ∷ ys) i x at = by (p y) refl i at (λ j. passes p ys j x)
     by true is (suc i) at further = further i at
     by false isnt i at further = further i at
 
-pub unnamed : (show : Show) (t : Litmus) (names : List Named) (core : ℕ) (reg : Reg) → names ≡ named_in show t → is_shown show t (register_of core reg) ≡ false
-    → (j : ℕ) (n : Named) → slice_get names j ≡ Some n → n ≡ register_of core reg → ⊥
+pub unnamed : (show : Show) (t : Litmus) (names : List Named) (core : ℕ) (reg : Reg) → names ≡ names_shown show t → is_shown show t (named_register core reg) ≡ false
+    → (j : ℕ) (n : Named) → slice_get names j ≡ Some n → n ≡ named_register core reg → ⊥
 unnamed show t names core reg list not_shown j n at is =
     let shown : is_shown show t n ≡ true = passes (is_shown show t) _ j n (subst (λ z. slice_get z j ≡ Some n) list at) in
-    let same : is_shown show t (register_of core reg) ≡ true = ap (λ z. is_shown show t z) (sym is) ∙ shown in
+    let same : is_shown show t (named_register core reg) ≡ true = ap (λ z. is_shown show t z) (sym is) ∙ shown in
     let z : ⊥ = cc in z

@@ -1,5 +1,5 @@
 -- In how many states a claim is true: one state after the other, and no more than there are.
-use Rattle.outcome_report.proofs.Vocabulary.{◌≡◌, ◌∙◌, ℕ, suc, ◌+◌, ◌-◌, Bool, true, false, not, cond, List, [], ◌∷◌, length, Vec, Bor, Some, refl, sym, ap, subst, arith, count_by, values_of, Global, sum_by-cons, All-head, All-tail, All-nil, All-cons, Litmus, IsTest, IsCondition, Claim, NamesExist, truth_of, claim_of, condition_of, FinalState, Named, Outcome, outcome_of, shown_values, held_in, failed_in, IsOf, kept_of, outcomes_at, AreShown, AllHave}
+use Rattle.outcome_report.proofs.Vocabulary.{◌≡◌, ◌∙◌, ℕ, suc, ◌+◌, ◌-◌, Bool, true, false, not, cond, List, [], ◌∷◌, length, Vec, Bor, Some, refl, sym, ap, subst, arith, count_by, values_of, Global, sum_by-cons, All-head, All-tail, All-nil, All-cons, Litmus, IsTest, IsCondition, Claim, NamesExist, truth_of, claim_of, condition_of, FinalState, Named, Outcome, outcome_of, shown_values, held_in, failed_in, IsOutcomeOf, kept_of, outcomes_at, AreShown, AllHave}
 use Rattle.tso_model.specs.declared.condition.Cond.{Cond}
 
 abbrev pub Entries : Type 0
@@ -89,7 +89,7 @@ all-counted claim held rest es none counts =
 
 -- ---- what the test's condition names is there
 
-pub has-names : (t : Litmus) (c : Cond) (o : Outcome) → IsTest t → Some (condition_of c) ≡ t.condition → IsOf t o → NamesExist (length o.registers) (length o.memory) (claim_of c.prop)
+pub has-names : (t : Litmus) (c : Cond) (o : Outcome) → IsTest t → Some (condition_of c) ≡ t.condition → IsOutcomeOf t o → NamesExist (length o.registers) (length o.memory) (claim_of c.prop)
 has-names t c o test is whole =
     let fits : IsCondition (length t.programs) (length t.locations) (condition_of c) =
     test.condition_fits (condition_of c) (sym is) in
@@ -99,12 +99,12 @@ has-names t c o test is whole =
 pub all-have : (t : Litmus) (names : List Named) (c : Cond) (kept : List (List ℕ × Outcome)) → IsTest t → Some (condition_of c) ≡ t.condition → AreShown t names kept → AllHave (claim_of c.prop) (values_of kept)
 all-have t names c [] test is shown = All-nil (λ o. NamesExist (length o.registers) (length o.memory) (claim_of c.prop))
 all-have t names c (k ∷ kept) test is shown =
-    let Is : List ℕ × Outcome → Type 0 = λ x. (x.0 ≡ shown_values names x.1) × IsOf t x.1 in
+    let Is : List ℕ × Outcome → Type 0 = λ x. (x.0 ≡ shown_values names x.1) × IsOutcomeOf t x.1 in
     All-cons (λ o. NamesExist (length o.registers) (length o.memory) (claim_of c.prop)) k.1 (values_of kept)
     (has-names t c k.1 test is (All-head Is k kept shown).1) (all-have t names c kept test is (All-tail Is k kept shown))
 
 -- the names that the condition has are there in one state
-pub names-there : (t : Litmus) (c : Cond) (f : FinalState) (registers : List (List ℕ)) (memory : List ℕ) → IsTest t → Some (condition_of c) ≡ t.condition → IsOf t (outcome_of f)
+pub names-there : (t : Litmus) (c : Cond) (f : FinalState) (registers : List (List ℕ)) (memory : List ℕ) → IsTest t → Some (condition_of c) ≡ t.condition → IsOutcomeOf t (outcome_of f)
     → registers ≡ f.registers.items → memory ≡ f.memory.items → NamesExist (length registers) (length memory) (claim_of c.prop)
 names-there t c f registers memory test is whole are_registers are_words =
     subst (λ r. NamesExist (length r) (length memory) (claim_of c.prop)) (sym are_registers)

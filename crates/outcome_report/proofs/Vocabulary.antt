@@ -15,10 +15,10 @@ pub use Rattle.std.proofs.lemmas.List.Elements.{All-from_recursion, recursion_fr
 pub use Rattle.std.proofs.lemmas.List.{get_or-map, length-map, drop_more, map-append, length-append}
 pub use Rattle.tso_model.specs.Litmus.{Litmus, IsTest, IsCondition}
 pub use Rattle.explorer.specs.declared.final_states.FinalState.{FinalState}
-pub use Rattle.tso_report.specs.Tally.{shown_value, names_register, names_location, is_looked_at, register_of, location, named_registers, named_locations}
+pub use Rattle.tso_report.specs.Tally.{shown_value, claim_names_register, claim_names_location, is_looked_at, named_register, named_location, named_registers, named_locations}
 pub use Rattle.tso_report.specs.declared.named.Named.{Named}
 pub use Rattle.outcome_report.specs.Outcomes.{Outcome, outcome_of, shown_values, ArePrinted, held_in, failed_in, true_from, true_in, printed_numbers, state_line, by_line, outcome_lines, outcomes_line, condition_lines, outcomes_text, is_met_in}
-pub use Rattle.outcome_report.specs.inner.Shown.{IsOf, is_kept, kept_of, with_outcome, kept_after, AreShown, outcomes_at, AllHave}
+pub use Rattle.outcome_report.specs.inner.Shown.{IsOutcomeOf, is_kept, kept_of, with_outcome, kept_after, AreShown, outcomes_at, AllHave}
 pub use Rattle.std.specs.Prelude.{count_by}
 pub use Rattle.std.proofs.lemmas.List.Sums.{sum_by-cons}
 pub use Rattle.tso_model.specs.Condition.{Claim, NamesExist, truth_of, claim_of, condition_of, Condition, TruthClaim, RegClaim, LocClaim, NotClaim, AndClaim, OrClaim}
@@ -27,16 +27,16 @@ pub use Rattle.serde_json.specs.View.{view, items_of, members_view}
 pub use Rattle.outcome_report.specs.OutcomesJson.{holds_in, state_value, states_value, key_of, value_members, with_holds, observation_value, outcomes_value}
 pub use Rattle.outcome_report.specs.inner.Written.{kept_lines, kept_values}
 pub use Rattle.serde_json.specs.Written.{has_float, members_have_float}
-pub use Rattle.outcome_report.specs.Verdict.{verdict_value, is_as_claimed}
+pub use Rattle.outcome_report.specs.Verdict.{outcomes_verdict_value, is_as_claimed}
 pub use Rattle.std.proofs.lemmas.Option.{slice_get-get_or, slice_get_within, get_or_from_slice_get}
 pub use Rattle.explorer.specs.FinalStates.{AreReached, Have}
 pub use Rattle.outcome_report.specs.Printed.{outcomes_in, PrintsOutcomes}
 pub use Rattle.tso_model.specs.Registers.{index_of}
 pub use Rattle.tso_model.specs.declared.register.Reg.{Reg}
 pub use Rattle.tso_model.specs.declared.register.Reg.TheVariants.{Eax, Ebx, Ecx, Edx, Esi, Edi}
-pub use Rattle.shown_values.specs.Shown.{is_added, is_shown, named_in, values_at}
+pub use Rattle.shown_values.specs.Shown.{is_added, is_shown, names_shown, values_at}
 pub use Rattle.shown_values.specs.declared.show.Show.{Show}
-pub use Rattle.outcome_report.specs.Laws.{TruthIsShown, AreAlike, OutcomesOfTheSameValuesAreAlike, OutcomesAreOneButForChoices}
+pub use Rattle.outcome_report.specs.Laws.{TruthIsShown, OutcomesAreAlike, OutcomesOfTheSameValuesAreAlike, OutcomesAreOneButForChoices}
 pub use Rattle.outcome_report.specs.Hidden.{AreNotShown, IsHidden}
 pub use Rattle.tso_model.specs.declared.instruction.Core.{Core}
 pub use Rattle.eager_laws.specs.Dead.{cleared, hidden_of, seen_from, seen, none_hidden}

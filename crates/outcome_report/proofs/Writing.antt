@@ -1,11 +1,11 @@
 -- What is written of the states that are kept.
-use Rattle.outcome_report.proofs.Vocabulary.{◌≡◌, ◌∙◌, ℕ, List, [], ◌∷◌, ◌++◌, map, length, Vec, Bor, refl, sym, ap, subst, append_assoc, append-nil, values_of, Global, length-map, map-append, All-head, All-tail, array, view, items_of, Litmus, FinalState, shown_value, Named, Outcome, outcome_of, shown_values, state_line, by_line, outcome_lines, outcomes_line, condition_lines, outcomes_text, holds_in, state_value, states_value, IsOf, kept_of, AreShown, kept_lines, kept_values}
+use Rattle.outcome_report.proofs.Vocabulary.{◌≡◌, ◌∙◌, ℕ, List, [], ◌∷◌, ◌++◌, map, length, Vec, Bor, refl, sym, ap, subst, append_assoc, append-nil, values_of, Global, length-map, map-append, All-head, All-tail, array, view, items_of, Litmus, FinalState, shown_value, Named, Outcome, outcome_of, shown_values, state_line, by_line, outcome_lines, outcomes_line, condition_lines, outcomes_text, holds_in, state_value, states_value, IsOutcomeOf, kept_of, AreShown, kept_lines, kept_values}
 use Rattle.serde_json.specs.declared.value.Value.{Value}
 use Rattle.tso_report.specs.Report.{test_line}
 use Rattle.outcome_report.proofs.Truths.{Entries, as-many}
 
 abbrev Is : Litmus → List Named → List ℕ × Outcome → Type 0
-Is t names k = (k.0 ≡ shown_values names k.1) × IsOf t k.1
+Is t names k = (k.0 ≡ shown_values names k.1) × IsOutcomeOf t k.1
 
 -- ---- as if the values weren't kept beside the states
 
@@ -56,7 +56,7 @@ as-named t names done all rest es v s values steps are_values made =
     ap length (are_values ∙ shown) ∙ length-map names (shown_value o.registers o.memory)
 
 pub is-whole : (t : Litmus) (names : List Named) (done : List Value) (all rest es : Entries) (v : Vec ℕ Global) (s : Bor FinalState)
-    → all ≡ (v, s) ∷ rest → Made t names done all es → IsOf t (outcome_of s.now)
+    → all ≡ (v, s) ∷ rest → Made t names done all es → IsOutcomeOf t (outcome_of s.now)
 is-whole t names done all rest es v s steps made =
     (All-head (Is t names) (v.items, outcome_of s.now) (kept_of rest) (subst (λ entries. AreShown t names (kept_of entries)) steps made.1)).1
 

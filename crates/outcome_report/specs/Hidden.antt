@@ -4,7 +4,7 @@ use Rattle.tso_model.specs.Litmus.{Litmus}
 use Rattle.tso_model.specs.Registers.{index_of}
 use Rattle.tso_model.specs.declared.register.Reg.{Reg}
 use Rattle.eager_laws.specs.Dead.{seen, hidden_of}
-use Rattle.tso_report.specs.Tally.{register_of}
+use Rattle.tso_report.specs.Tally.{named_register}
 use Rattle.tso_report.specs.declared.named.Named.{Named}
 use Rattle.shown_values.specs.Shown.{is_shown, values_at}
 use Rattle.shown_values.specs.declared.show.Show.{Show}
@@ -22,4 +22,4 @@ IsHidden hidden core reg = slice_index_or (hidden_of hidden core) (index_of reg)
 -- every register that isn't shown is: a search need not tell states apart by it
 abbrev pub AreAllNotShown : Show → Litmus → List (List Bool) → Type 0
 AreAllNotShown show t hidden =
-    (core : ℕ) (reg : Reg) → core < length t.programs → is_shown show t (register_of core reg) ≡ false → IsHidden hidden core reg
+    (core : ℕ) (reg : Reg) → core < length t.programs → is_shown show t (named_register core reg) ≡ false → IsHidden hidden core reg

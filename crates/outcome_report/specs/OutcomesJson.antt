@@ -15,7 +15,7 @@ use Rattle.tso_report.specs.Json.{count}
 use Rattle.tso_report.specs.Tally.{frequency}
 use Rattle.tso_report.specs.declared.named.Named.{Named}
 use Rattle.tso_report.specs.declared.named.Named.TheVariants.{Register, Location}
-use Rattle.outcome_report.specs.Verdict.{verdict_value}
+use Rattle.outcome_report.specs.Verdict.{outcomes_verdict_value}
 use Rattle.outcome_report.specs.Outcomes.{Outcome, shown_values, held_in, failed_in, is_met_in}
 
 -- `c:EAX`, or `x`
@@ -67,11 +67,11 @@ outcomes_value t names depth outcomes =
     (member (codes "observation") (observation_value t.condition outcomes)
     (member (codes "states") (states_value t names outcomes)
     (member (codes "test") (string t.name)
-    (member (codes "verdict") (verdict_value t.condition (is_met_in t.condition outcomes)) no_members)))))
+    (member (codes "verdict") (outcomes_verdict_value t.condition (is_met_in t.condition outcomes)) no_members)))))
 
 -- a search that met its limit
-abbrev pub unfinished_value : Litmus → ℕ → Data
-unfinished_value t limit =
+abbrev pub unfinished_outcomes_value : Litmus → ℕ → Data
+unfinished_outcomes_value t limit =
     object (member (codes "test") (string t.name)
     (member (codes "unfinished") (object (member (codes "states") (count limit) no_members)) no_members))
 
@@ -79,5 +79,5 @@ unfinished_value t limit =
 abbrev pub outcomes_json : Litmus → List Named → ℕ → List Outcome → List ℕ
 outcomes_json t names depth outcomes = line (compact_text (outcomes_value t names depth outcomes))
 
-abbrev pub unfinished_json : Litmus → ℕ → List ℕ
-unfinished_json t limit = line (compact_text (unfinished_value t limit))
+abbrev pub unfinished_outcomes_json : Litmus → ℕ → List ℕ
+unfinished_outcomes_json t limit = line (compact_text (unfinished_outcomes_value t limit))

@@ -4,8 +4,8 @@ use Rattle.tso_model.specs.Litmus.{Litmus}
 use Rattle.explorer.specs.declared.final_states.FinalState.{FinalState}
 use Rattle.tso_report.specs.declared.named.Named.{Named}
 use Rattle.outcome_report.specs.Verdict.{is_as_claimed}
-use Rattle.outcome_report.specs.Outcomes.{Outcome, ArePrinted, is_met_in, outcomes_text, unfinished_line}
-use Rattle.outcome_report.specs.OutcomesJson.{outcomes_json, unfinished_json}
+use Rattle.outcome_report.specs.Outcomes.{Outcome, ArePrinted, is_met_in, outcomes_text, unfinished_outcomes_line}
+use Rattle.outcome_report.specs.OutcomesJson.{outcomes_json, unfinished_outcomes_json}
 
 -- of a search that ended
 abbrev pub outcomes_in : Bool → Litmus → List Named → ℕ → List Outcome → List ℕ
@@ -14,8 +14,8 @@ outcomes_in true t names depth outcomes = outcomes_json t names depth outcomes
 
 -- of a search that met its limit
 abbrev pub unfinished_search_in : Bool → Litmus → ℕ → List ℕ
-unfinished_search_in false t limit = unfinished_line limit
-unfinished_search_in true t limit = unfinished_json t limit
+unfinished_search_in false t limit = unfinished_outcomes_line limit
+unfinished_search_in true t limit = unfinished_outcomes_json t limit
 
 -- what was printed are these final states by the values at these names, those that look alike once; and it was told whether the condition
 -- is as it claims

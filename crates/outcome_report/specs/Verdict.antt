@@ -34,6 +34,6 @@ verdict_line None allowed = []
 verdict_line (Some c) allowed = codes "Verdict " ++ line (verdict_word (is_well c.quantifier allowed))
 
 -- `Ok` or `No`; `null` without a condition
-abbrev pub verdict_value : Option Condition → Bool → Data
-verdict_value None allowed = null
-verdict_value (Some c) allowed = string (verdict_word (is_well c.quantifier allowed))
+abbrev pub outcomes_verdict_value : Option Condition → Bool → Data
+outcomes_verdict_value None allowed = null
+outcomes_verdict_value (Some c) allowed = string (verdict_word (is_well c.quantifier allowed))

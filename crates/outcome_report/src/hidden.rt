@@ -9,7 +9,7 @@ ghost use Rattle.tso_model.specs.declared.register.Reg.{Reg};
 ghost use Rattle.tso_report.specs.declared.named.Named.{Named};
 ghost use Rattle.shown_values.specs.Shown as shown;
 
-use shown_values::{Show, named_in};
+use shown_values::{Show, names_shown};
 use std::alloc::Global;
 use tso_model::{NoMemory, Test};
 use tso_report::named::Named;
@@ -33,10 +33,10 @@ fn reveal(hidden: &mut [[bool; 6]], named: Named)
 ///
 /// Errors: out of memory only.
 pub fn hidden_registers(alloc: Global, test: &Test, show: Show) -> Result<Vec<[bool; 6]>, NoMemory>
-    ensures not_shown { IfOk result (λ hidden. AreNotShown (shown.named_in show test.now) hidden.items) }
+    ensures not_shown { IfOk result (λ hidden. AreNotShown (shown.names_shown show test.now) hidden.items) }
     ensures all { IfOk result (λ hidden. AreAllNotShown show test.now hidden.items) }
 {
-    let names = named_in(alloc, test, show)?;
+    let names = names_shown(alloc, test, show)?;
     let mut hidden = Vec::new(alloc);
     for _core in 0..test.cores() {
         hidden.push([true; 6])?;

@@ -6,16 +6,16 @@ ghost use Rattle.std.specs.Map.{values_of};
 ghost use Rattle.serde_json.specs.Data.{object};
 ghost use Rattle.serde_json.specs.View.{view, members_view};
 ghost use Rattle.explorer.specs.declared.final_states.FinalState.{FinalState};
-ghost use Rattle.tso_report.specs.inner.Tally.{IsKnown};
+ghost use Rattle.tso_report.specs.inner.Tally.{NameExists};
 ghost use Rattle.outcome_report.specs.Outcomes.{outcome_of};
 ghost use Rattle.outcome_report.specs.OutcomesJson.{key_of, value_members, state_value, states_value, observed_value, holds_in};
-ghost use Rattle.outcome_report.specs.OutcomesJson.{observation_value, outcomes_value, unfinished_value, outcomes_json, unfinished_json};
-ghost use Rattle.outcome_report.specs.inner.Shown.{AreOf, IsOf, kept_of, AreShown};
+ghost use Rattle.outcome_report.specs.OutcomesJson.{observation_value, outcomes_value, unfinished_outcomes_value, outcomes_json, unfinished_outcomes_json};
+ghost use Rattle.outcome_report.specs.inner.Shown.{AreNamesOf, IsOutcomeOf, kept_of, AreShown};
 ghost use Rattle.outcome_report.specs.inner.Written.{put_holds};
 
 use crate::counting::counts_of;
 use crate::outcomes::Outcomes;
-use crate::verdict::{is_met_in, verdict_value};
+use crate::verdict::{is_met_in, outcomes_verdict_value};
 use explorer::FinalState;
 use scheduler::choices_text;
 use serde_json::{Map, Value, json, put};
@@ -36,7 +36,7 @@ pub fn outcomes_json(
     names: &[Named],
     outcomes: &Outcomes,
 ) -> Result<String, NoMemory>
-    requires names { AreOf test.now names.now }
+    requires names { AreNamesOf test.now names.now }
     requires shown { AreShown test.now names.now (kept_of outcomes.now.entries) }
     ensures { IfOk result (λ text. string_bytes text ≡ outcomes_json test.now names.now depth (values_of (kept_of outcomes.now.entries))) }
 {
@@ -47,15 +47,19 @@ pub fn outcomes_json(
 /// The line of a search that met its limit, as JSON: the test, and how many states that is.
 ///
 /// Errors: out of memory only.
-pub fn unfinished_json(alloc: Global, test: &Test, limit: usize) -> Result<String, NoMemory>
-    ensures { IfOk result (λ text. string_bytes text ≡ unfinished_json test.now limit) }
+pub fn unfinished_outcomes_json(
+    alloc: Global,
+    test: &Test,
+    limit: usize,
+) -> Result<String, NoMemory>
+    ensures { IfOk result (λ text. string_bytes text ≡ unfinished_outcomes_json test.now limit) }
 {
-    let value = unfinished_value(alloc, test, limit)?;
+    let value = unfinished_outcomes_value(alloc, test, limit)?;
     line_of(alloc, &value)
 }
 
-fn unfinished_value(alloc: Global, test: &Test, limit: usize) -> Result<Value, NoMemory>
-    ensures { IfOk result (λ value. view value ≡ unfinished_value test.now limit) }
+fn unfinished_outcomes_value(alloc: Global, test: &Test, limit: usize) -> Result<Value, NoMemory>
+    ensures { IfOk result (λ value. view value ≡ unfinished_outcomes_value test.now limit) }
 {
     let name = Value::try_from_str(alloc, test.name())?;
     let mut members = Map::new(alloc);
@@ -76,7 +80,7 @@ fn outcomes_value(
     names: &[Named],
     outcomes: &Outcomes,
 ) -> Result<Value, NoMemory>
-    requires names { AreOf test.now names.now }
+    requires names { AreNamesOf test.now names.now }
     requires shown { AreShown test.now names.now (kept_of outcomes.now.entries) }
     ensures { IfOk result (λ value. view value ≡ outcomes_value test.now names.now depth (values_of (kept_of outcomes.now.entries))) }
 {
@@ -104,7 +108,7 @@ fn outcomes_value(
         &mut members,
         alloc,
         "verdict",
-        verdict_value(alloc, test, is_met_in(test, names, outcomes))?,
+        outcomes_verdict_value(alloc, test, is_met_in(test, names, outcomes))?,
     )?;
     Ok(Value::Object(members))
 }
@@ -140,7 +144,7 @@ fn states_value(
     names: &[Named],
     outcomes: &Outcomes,
 ) -> Result<Value, NoMemory>
-    requires names { AreOf test.now names.now }
+    requires names { AreNamesOf test.now names.now }
     requires shown { AreShown test.now names.now (kept_of outcomes.now.entries) }
     ensures { IfOk result (λ value. view value ≡ states_value test.now names.now (values_of (kept_of outcomes.now.entries))) }
 {
@@ -158,9 +162,9 @@ fn state_value(
     values: &[u32],
     state: &FinalState,
 ) -> Result<Value, NoMemory>
-    requires names { AreOf test.now names.now }
+    requires names { AreNamesOf test.now names.now }
     requires values { length values.now ≡ length names.now }
-    requires state { IsOf test.now (outcome_of state.now) }
+    requires state { IsOutcomeOf test.now (outcome_of state.now) }
     ensures { IfOk result (λ value. view value
         ≡ state_value test.now names.now values.now state.now.choices.items (holds_in test.now.condition (outcome_of state.now))) }
 {
@@ -184,7 +188,7 @@ fn put_holds(
     test: &Test,
     state: &FinalState,
 ) -> Result<(), NoMemory>
-    requires { IsOf test.now (outcome_of state.now) }
+    requires { IsOutcomeOf test.now (outcome_of state.now) }
     ensures { OnOk result (members_view members.new.entries
         ≡ put_holds (holds_in test.now.condition (outcome_of state.now)) (members_view members.old.entries)) }
 {
@@ -201,7 +205,7 @@ fn values_value(
     names: &[Named],
     values: &[u32],
 ) -> Result<Value, NoMemory>
-    requires known { All (IsKnown (length test.now.programs) (length test.now.locations)) names.now }
+    requires known { All (NameExists (length test.now.programs) (length test.now.locations)) names.now }
     requires values { length values.now ≡ length names.now }
     ensures { IfOk result (λ value. view value ≡ object (value_members test.now names.now values.now)) }
 {
@@ -215,7 +219,7 @@ fn values_value(
 
 /// `c:EAX`, or `x`.
 fn key_of(alloc: Global, test: &Test, named: Named) -> Result<String, NoMemory>
-    requires { IsKnown (length test.now.programs) (length test.now.locations) named }
+    requires { NameExists (length test.now.programs) (length test.now.locations) named }
     ensures { IfOk result (λ key. string_bytes key ≡ key_of test.now named) }
 {
     let mut key = String::new(alloc);

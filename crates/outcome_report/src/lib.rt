@@ -5,10 +5,10 @@
 //! state look different is known before a search.
 #![tactic(auto)]
 
+pub mod alike_outcomes;
 mod counting;
 pub mod hidden;
 mod json;
-pub mod laws;
 mod outcomes;
 pub mod report;
 mod text;

@@ -3,7 +3,7 @@
 
 ghost use Rattle.std.specs.Prelude.{◌≡◌, [], IfOk, OnOk, All};
 ghost use Rattle.outcome_report.specs.Outcomes.{outcome_of};
-ghost use Rattle.outcome_report.specs.inner.Shown.{AreOf, IsOf, kept_of, with_outcome, kept_after};
+ghost use Rattle.outcome_report.specs.inner.Shown.{AreNamesOf, IsOutcomeOf, kept_of, with_outcome, kept_after};
 
 use explorer::FinalState;
 use std::alloc::Global;
@@ -23,8 +23,8 @@ pub fn outcomes_of<'a>(
     names: &[Named],
     finals: &'a [FinalState],
 ) -> Result<Outcomes<'a>, NoMemory>
-    requires names { AreOf test.now names.now }
-    requires finals { All (λ f. IsOf test.now (outcome_of f)) finals.now }
+    requires names { AreNamesOf test.now names.now }
+    requires finals { All (λ f. IsOutcomeOf test.now (outcome_of f)) finals.now }
     ensures { IfOk result (λ outcomes. kept_of outcomes.entries ≡ kept_after names.now [] finals.now) }
 {
     let mut outcomes = BTreeMap::new(alloc);

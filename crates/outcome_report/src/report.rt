@@ -6,14 +6,14 @@ ghost use Rattle.std.specs.Map.{values_of};
 ghost use Rattle.explorer.specs.FinalStates.{AreReached};
 ghost use Rattle.shown_values.specs.Shown as shown;
 ghost use Rattle.outcome_report.specs.Printed.{PrintsOutcomes, outcomes_in, unfinished_search_in};
-ghost use Rattle.outcome_report.specs.inner.Shown.{AreOf, AreShown, kept_of};
+ghost use Rattle.outcome_report.specs.inner.Shown.{AreNamesOf, AreShown, kept_of};
 
-use crate::json::{outcomes_json, unfinished_json};
+use crate::json::{outcomes_json, unfinished_outcomes_json};
 use crate::outcomes::{Outcomes, outcomes_of};
 use crate::text::{outcomes_text, unfinished_text};
 use crate::verdict::{is_as_claimed, is_met_in};
 use explorer::FinalState;
-use shown_values::{Show, named_in};
+use shown_values::{Show, names_shown};
 use std::alloc::Global;
 use tso_laws::ended_runs_are_executions;
 use tso_model::{NoMemory, Test};
@@ -44,12 +44,12 @@ pub fn outcomes_report(
     json: bool,
 ) -> Result<Printed, NoMemory>
     requires { AreReached test.now depth finals.now }
-    ensures { IfOk result (λ printed. PrintsOutcomes test.now (shown.named_in show test.now) depth json finals.now
+    ensures { IfOk result (λ printed. PrintsOutcomes test.now (shown.names_shown show test.now) depth json finals.now
         (string_bytes printed.text) printed.is_as_claimed) }
 {
     ended_runs_are_executions();
     test.know_limits();
-    let names = named_in(alloc, test, show)?;
+    let names = names_shown(alloc, test, show)?;
     let outcomes = outcomes_of(alloc, test, &names, finals)?;
     Ok(Printed {
         text: text_of(alloc, test, depth, &names, &outcomes, json)?,
@@ -65,7 +65,7 @@ fn text_of(
     outcomes: &Outcomes,
     json: bool,
 ) -> Result<String, NoMemory>
-    requires names { AreOf test.now names.now }
+    requires names { AreNamesOf test.now names.now }
     requires shown { AreShown test.now names.now (kept_of outcomes.now.entries) }
     ensures { IfOk result (λ text. string_bytes text ≡ outcomes_in json test.now names.now depth (values_of (kept_of outcomes.now.entries))) }
 {
@@ -89,7 +89,7 @@ pub fn unfinished_report(
     ensures { IfOk result (λ text. string_bytes text ≡ unfinished_search_in json test.now limit) }
 {
     if json {
-        unfinished_json(alloc, test, limit)
+        unfinished_outcomes_json(alloc, test, limit)
     } else {
         unfinished_text(alloc, limit)
     }

@@ -7,8 +7,8 @@ ghost use Rattle.tso_model.specs.Condition.{claim_of};
 ghost use Rattle.std.specs.Map.{values_of};
 ghost use Rattle.outcome_report.specs.Outcomes.{outcomes_line, state_line, by_line, observation_line};
 ghost use Rattle.outcome_report.specs.Outcomes.{printed_numbers, true_in, true_line, condition_lines};
-ghost use Rattle.outcome_report.specs.Outcomes.{outcomes_text, unfinished_line};
-ghost use Rattle.outcome_report.specs.inner.Shown.{AreOf, AllHave, kept_of, AreShown};
+ghost use Rattle.outcome_report.specs.Outcomes.{outcomes_text, unfinished_outcomes_line};
+ghost use Rattle.outcome_report.specs.inner.Shown.{AreNamesOf, AllHave, kept_of, AreShown};
 ghost use Rattle.outcome_report.specs.inner.Written.{kept_lines};
 
 use crate::counting::counts_of;
@@ -34,7 +34,7 @@ pub fn outcomes_text(
     names: &[Named],
     outcomes: &Outcomes,
 ) -> Result<String, NoMemory>
-    requires names { AreOf test.now names.now }
+    requires names { AreNamesOf test.now names.now }
     requires shown { AreShown test.now names.now (kept_of outcomes.now.entries) }
     ensures { IfOk result (λ text. string_bytes text ≡ outcomes_text test.now names.now depth (values_of (kept_of outcomes.now.entries))) }
 {
@@ -50,7 +50,7 @@ pub fn outcomes_text(
 ///
 /// Errors: out of memory only.
 pub fn unfinished_text(alloc: Global, limit: usize) -> Result<String, NoMemory>
-    ensures { IfOk result (λ text. string_bytes text ≡ unfinished_line limit) }
+    ensures { IfOk result (λ text. string_bytes text ≡ unfinished_outcomes_line limit) }
 {
     let mut text = String::new(alloc);
     write!(text, "Unfinished states={limit}\n")?;
@@ -72,7 +72,7 @@ fn write_states(
     names: &[Named],
     outcomes: &Outcomes,
 ) -> Result<(), NoMemory>
-    requires { AreOf test.now names.now }
+    requires { AreNamesOf test.now names.now }
     ensures { OnOk result (string_bytes text.new ≡ string_bytes text.old ++ kept_lines test.now names.now (kept_of outcomes.now.entries)) }
 {
     for (values, state) in outcomes.iter() {
@@ -89,7 +89,7 @@ fn write_state(
     names: &[Named],
     values: &[u32],
 ) -> Result<(), NoMemory>
-    requires { AreOf test.now names.now }
+    requires { AreNamesOf test.now names.now }
     ensures { OnOk result (string_bytes text.new ≡ string_bytes text.old ++ state_line test.now names.now values.now) }
 {
     text.push_str("State")?;

@@ -85,8 +85,8 @@ pub fn write_verdict(text: &mut String, test: &Test, allowed: bool) -> Result<()
 /// `Ok` or `No`, or `null` where the test has no condition.
 ///
 /// Errors: out of memory only.
-pub fn verdict_value(alloc: Global, test: &Test, allowed: bool) -> Result<Value, NoMemory>
-    ensures { IfOk result (λ value. view value ≡ spec.verdict_value test.now.condition allowed) }
+pub fn outcomes_verdict_value(alloc: Global, test: &Test, allowed: bool) -> Result<Value, NoMemory>
+    ensures { IfOk result (λ value. view value ≡ spec.outcomes_verdict_value test.now.condition allowed) }
 {
     match test.cond() {
         None => Ok(Value::Null),

@@ -19,7 +19,7 @@ use Rattle.tso_cli.specs.Hints.{IsTold}
 use Rattle.commands.specs.declared.answer.Status.{Status}
 use Rattle.page_exports.specs.declared.question.Numbers.{Numbers}
 use Rattle.page_exports.specs.declared.question.Question.{Question}
-use Rattle.page_exports.specs.declared.Told.{Told}
+use Rattle.page_exports.specs.declared.AnswerLengths.{AnswerLengths}
 use Rattle.tso_model.specs.declared.choice.Bus.TheVariants as buses
 use Rattle.protocol_tables.specs.declared.kind.ProtocolKind.TheVariants as kinds
 use Rattle.refutation_laws.specs.declared.model.Model.TheVariants as models
@@ -49,12 +49,12 @@ show_number shows.Registers = 1
 show_number shows.All = 2
 
 -- the number of a status is the command's exit status
-abbrev pub number_of : Status → ℕ
-number_of statuses.Good = 0
-number_of statuses.Refused = 1
-number_of statuses.Unended = 3
-number_of statuses.Invalid = 4
-number_of statuses.NotAsClaimed = 4
+abbrev pub number_of_status : Status → ℕ
+number_of_status statuses.Good = 0
+number_of_status statuses.Refused = 1
+number_of_status statuses.Unended = 3
+number_of_status statuses.Invalid = 4
+number_of_status statuses.NotAsClaimed = 4
 
 -- a machine is the one that the numbers ask for
 abbrev pub IsMachineOf : Numbers → ProtocolKind → Configuration → Type 0
@@ -78,9 +78,9 @@ Asks a (settings.Why plan json assert) =
     (a.command ≡ 8) × (model_number plan.model ≡ a.model) × (plan.cases ≡ a.cases) × (json ≡ a.json) × (assert ≡ a.assert)
 
 -- the question that the numbers ask: a command's, or for the last step of a trace
-abbrev pub AsksFor : Numbers → Question → Type 0
-AsksFor a (questions.Command settings) = Asks a settings
-AsksFor a (questions.Step kind config) = (a.command ≡ 7) × IsMachineOf a kind config
+abbrev pub AsksQuestion : Numbers → Question → Type 0
+AsksQuestion a (questions.Command settings) = Asks a settings
+AsksQuestion a (questions.Step kind config) = (a.command ≡ 7) × IsMachineOf a kind config
 
 -- a machine that there is
 abbrev pub IsMachineAsked : Numbers → Type 0
@@ -113,26 +113,26 @@ pub record IsCommandAnswer (settings : Settings) (input out : List ℕ) (status 
   pub headline : Headline settings (Some input) out
 
 -- the answer to a question about an input
-abbrev pub IsAnswerTo : Question → List ℕ → List ℕ → Status → Type 0
-IsAnswerTo (questions.Command settings) input out status = IsCommandAnswer settings input out status
-IsAnswerTo (questions.Step kind config) input out status = IsStepAnswer kind config input out status
+abbrev pub IsAnswerToQuestion : Question → List ℕ → List ℕ → Status → Type 0
+IsAnswerToQuestion (questions.Command settings) input out status = IsCommandAnswer settings input out status
+IsAnswerToQuestion (questions.Step kind config) input out status = IsStepAnswer kind config input out status
 
 -- these bytes are the answer to the question, with its exit status, and the others are the hint beside such an answer
 pub record Answers (question : Question) (input out hint : List ℕ) (number : ℕ) : Type 0 where
   pub status : Status
-  pub numbered : number_of status ≡ number
-  pub answer : IsAnswerTo question input out status
+  pub numbered : number_of_status status ≡ number
+  pub answer : IsAnswerToQuestion question input out status
   pub told : IsTold (settings_of question) status hint
 
 -- the numbers ask a question, and these bytes answer it
 pub record AnswersAsked (a : Numbers) (input out hint : List ℕ) (number : ℕ) : Type 0 where
   pub question : Question
-  pub asked : AsksFor a question
+  pub asked : AsksQuestion a question
   pub answers : Answers question input out hint number
 
 -- what is told of an answer to the question and of the hint beside it is how long they are, and that they stand at the start of
 -- these rooms, where it says so
-pub record TellsOf (question : Question) (input room hint_room : List ℕ) (told : Told) : Type 0 where
+pub record TellsOf (question : Question) (input room hint_room : List ℕ) (told : AnswerLengths) : Type 0 where
   pub out : List ℕ
   pub hint : List ℕ
   pub answers : Answers question input out hint told.status
@@ -142,7 +142,7 @@ pub record TellsOf (question : Question) (input room hint_room : List ℕ) (told
   pub hint_stands : told.is_whole ≡ true → take told.hint_length hint_room ≡ hint
 
 -- the numbers ask a question, and this is told of an answer to it
-pub record TellsOfAsked (a : Numbers) (input room hint_room : List ℕ) (told : Told) : Type 0 where
+pub record TellsOfAsked (a : Numbers) (input room hint_room : List ℕ) (told : AnswerLengths) : Type 0 where
   pub question : Question
-  pub asked : AsksFor a question
+  pub asked : AsksQuestion a question
   pub tells : TellsOf question input room hint_room told

@@ -4,10 +4,10 @@
 
 ghost use Rattle.std.specs.Prelude.{◌≡◌, ◌≢◌, ◌<◌, ◌⊎◌, ◌↔◌, true, false, take, length, string_bytes, IfOk};
 ghost use Rattle.command_line.specs.Limits.{HasDepth};
-ghost use Rattle.page_exports.specs.Questions.{AnswersAsked, IsAnswerTo, IsCommandAnswer, IsAskable, TellsOf, TellsOfAsked};
+ghost use Rattle.page_exports.specs.Questions.{AnswersAsked, IsAnswerToQuestion, IsCommandAnswer, IsAskable, TellsOf, TellsOfAsked};
 ghost use Rattle.page_exports.specs.inner.Questions.{HasDepthFor};
 
-mod laws;
+mod page_answers;
 mod question;
 
 pub use question::Numbers;
@@ -25,7 +25,7 @@ pub const NO_MEMORY: u8 = 5;
 /// How an answer came out.
 #[repr(C)]
 #[derive(Clone, Copy)]
-pub struct Told {
+pub struct AnswerLengths {
     /// How many bytes the answer has.
     pub length: usize,
     /// How many bytes the hint beside it has; often none.
@@ -52,7 +52,7 @@ pub extern "C" fn page_answer(
     input: &[u8],
     output: &mut [u8],
     hint_output: &mut [u8],
-    told: &mut Told,
+    told: &mut AnswerLengths,
 )
     ensures answered { told.new.is_whole ≡ true → AnswersAsked asked.now input.now (take told.new.length output.new)
         (take told.new.hint_length hint_output.new) told.new.status }
@@ -71,11 +71,11 @@ pub extern "C" fn page_answer(
     };
 }
 
-fn nothing(status: u8) -> Told
+fn nothing(status: u8) -> AnswerLengths
     ensures whole { result.is_whole ≡ false }
     ensures status { result.status ≡ status }
 {
-    Told {
+    AnswerLengths {
         length: 0,
         hint_length: 0,
         status,
@@ -88,7 +88,7 @@ fn nothing(status: u8) -> Told
 /// Errors: out of memory only.
 fn answer_of(alloc: Global, question: &Question, input: &[u8]) -> Result<Answer, NoMemory>
     requires { HasDepthFor question.now }
-    ensures { IfOk result (λ a. IsAnswerTo question.now input.now (string_bytes a.text) a.status) }
+    ensures { IfOk result (λ a. IsAnswerToQuestion question.now input.now (string_bytes a.text) a.status) }
 {
     match question {
         Question::Command(settings) => command_answer(alloc, settings, input),
@@ -115,7 +115,7 @@ fn told_of(
     input: &[u8],
     output: &mut [u8],
     hint_output: &mut [u8],
-) -> Result<Told, NoMemory>
+) -> Result<AnswerLengths, NoMemory>
     requires { HasDepthFor question.now }
     ensures tells { IfOk result (TellsOf question.now input.now output.new hint_output.new) }
     ensures command { IfOk result (λ t. t.status ≢ 2) }
@@ -127,7 +127,7 @@ fn told_of(
     let (text, hint) = (answer.text.as_bytes(), hint.as_bytes());
     let has_text = put(text, output);
     let has_hint = put(hint, hint_output);
-    Ok(Told {
+    Ok(AnswerLengths {
         length: text.len(),
         hint_length: hint.len(),
         status: status_number(answer.status),

@@ -5,9 +5,9 @@ ghost use Rattle.std.specs.Prelude.{◌≡◌, ◌≢◌, ◌<◌, ◌≤◌, �
 ghost use Rattle.tso_model.specs.Limits.{most_depth};
 ghost use Rattle.snoop_bus.specs.Geometry.{geometry, IsShapeWithinLimits};
 ghost use Rattle.command_line.specs.Limits.{HasDepth};
-ghost use Rattle.page_exports.specs.Questions.{AsksFor, IsAskable, Asks, IsCommandAskable, settings_of};
+ghost use Rattle.page_exports.specs.Questions.{AsksQuestion, IsAskable, Asks, IsCommandAskable, settings_of};
 ghost use Rattle.page_exports.specs.inner.Questions.{HasDepthFor};
-ghost use Rattle.page_exports.specs.Questions.{kind_number, bus_number, model_number, show_number, number_of};
+ghost use Rattle.page_exports.specs.Questions.{kind_number, bus_number, model_number, show_number, number_of_status};
 
 use command_line::{ReasonPlan, SearchPlan, Show};
 use machine_core::Config;
@@ -87,7 +87,7 @@ impl Question {
 
 /// What the numbers ask for; `None` where one of them is outside its limits.
 pub fn question_of(asked: &Numbers) -> Option<Question>
-    ensures asks { IfSome result (AsksFor asked.now) }
+    ensures asks { IfSome result (AsksQuestion asked.now) }
     ensures depth { IfSome result HasDepthFor }
     ensures valid { IsSome result ↔ IsAskable asked.now }
 {
@@ -162,7 +162,7 @@ fn command_of(asked: &Numbers) -> Option<Settings>
 
 /// The number of a status: the command's exit status.
 pub fn status_number(status: Status) -> u8
-    ensures value { result ≡ number_of status }
+    ensures value { result ≡ number_of_status status }
     ensures command { result ≢ 2 }
 {
     match status {

@@ -1,5 +1,5 @@
 -- What a verdict means, that both commands print one, and that the status says the same.
-use Rattle.printed_laws.proofs.Vocabulary.{◌≡◌, ◌∙◌, ◌<◌, ◌==◌, ℕ, Bool, true, false, not, List, [], map, Contains, Some, refl, sym, ap, subst, eqb-true, arith, Litmus, IsTest, Claim, Condition, truth_of, final_words, final_registers, Entry, Model, Tso, Sequential, EndsAreWhatTsoAllows, SpellsTest, named_in, values_at, truth_asked, is_met, is_well, is_as_claimed, verdict_word, Outcome, shown_values, held_in, failed_in, is_met_in, TruthIsShown, Search, parts_of, made-of, shown_after, AreExactly, PrintsAllOutcomes, HeadlineOfOutcomes, all, IsSoEverywhere, IsSoSomewhere, PrintsVerdict, IsAsClaimed, IsNotAsClaimed, VerdictMeans, VerdictsAgree, StatusTells}
+use Rattle.printed_laws.proofs.Vocabulary.{◌≡◌, ◌∙◌, ◌<◌, ◌==◌, ℕ, Bool, true, false, not, List, [], map, Contains, Some, refl, sym, ap, subst, eqb-true, arith, Litmus, IsTest, Claim, Condition, truth_of, final_words, final_registers, Entry, Model, Tso, Sequential, EndsAreWhatTsoAllows, SpellsTest, names_shown, values_at, truth_asked, is_met, is_well, is_as_claimed, verdict_word, Outcome, shown_values, held_in, failed_in, is_met_in, TruthIsShown, Search, parts_of, made-of, shown_after, AreExactly, PrintsAllOutcomes, HeadlineOfOutcomes, all, IsSoEverywhere, IsSoSomewhere, PrintsVerdict, IsAsClaimed, IsNotAsClaimed, VerdictMeans, VerdictsAgree, StatusTells}
 use Rattle.tso_model.specs.declared.condition.Quantifier.{Quantifier}
 use Rattle.tso_model.specs.declared.condition.Quantifier.TheVariants.{Exists, NotExists, Forall}
 use Rattle.refutation_laws.specs.Models.{IsExecutionOf, depth_of}
@@ -113,7 +113,7 @@ printed-is : (t : Litmus) (condition : Condition) (s : Search) (json verdict : B
 printed-is t condition s json verdict out is p says =
     one-verdict json _ verdict out
     (subst (EndsIn (verdict_tail json (is_well condition.quantifier (is_met_in (Some condition) p.outcomes)))) (sym p.printed)
-    (outcomes-end json t (named_in s.show t) condition s.depth p.outcomes is))
+    (outcomes-end json t (names_shown s.show t) condition s.depth p.outcomes is))
     (ends-so json verdict out says)
 
 -- ---- of an input
@@ -141,7 +141,7 @@ no-is = means false IsNotAsClaimed (λ t condition s json out laws shown test is
 
 -- the states of a text are those of the model's executions
 exactly-of : (model : Model) (t : Litmus) (s : Search) (json : Bool) (out : List ℕ) → s.depth ≡ depth_of model → (p : PrintsAllOutcomes t s json out)
-    → AreExactly t (named_in s.show t) p.outcomes (IsExecutionOf model t)
+    → AreExactly t (names_shown s.show t) p.outcomes (IsExecutionOf model t)
 exactly-of Tso t s json out depth p = p.tso depth
 exactly-of Sequential t s json out depth p = p.sequential depth
 
@@ -150,7 +150,7 @@ module _ (model : Model) (t : Litmus) (condition : Condition) (s : Search) (json
   abbrev met : Bool
   met = is_met condition.quantifier (held_in condition.claim p.outcomes) (failed_in condition.claim p.outcomes)
 
-  truth-after-is : (o : Outcome) (order : List Entry) → shown_after t (named_in s.show t) order ≡ shown_values (named_in s.show t) o
+  truth-after-is : (o : Outcome) (order : List Entry) → shown_after t (names_shown s.show t) order ≡ shown_values (names_shown s.show t) o
       → truth_of (final_registers t order) (final_words t order) condition.claim ≡ truth_in condition.claim o
   truth-after-is o order same =
       shown s.show t condition (record { registers = final_registers t order; memory = final_words t order; choices = [] }) o test is same
@@ -158,14 +158,14 @@ module _ (model : Model) (t : Litmus) (condition : Condition) (s : Search) (json
   -- where no execution has it, no state has
   unmet-if-never : ((order : List Entry) → IsExecutionOf model t order → ¬ IsSoIn (Some condition) (final_registers t order) (final_words t order)) → met ≡ false
   unmet-if-never none = nowhere-unmet condition.quantifier condition.claim p.outcomes (λ there.
-      let made = (exactly-of model t s json out depth p (shown_values (named_in s.show t) there.0)).0 (mapped (shown_values (named_in s.show t)) p.outcomes there.0 there.1) in
+      let made = (exactly-of model t s json out depth p (shown_values (names_shown s.show t) there.0)).0 (mapped (shown_values (names_shown s.show t)) p.outcomes there.0 there.1) in
       none made.0 made.1 (truth-after-is there.0 made.0 made.2 ∙ there.2))
 
   -- where an execution has it, a state has
   met-if-so : (order : List Entry) → IsExecutionOf model t order → IsSoIn (Some condition) (final_registers t order) (final_words t order) → met ≡ true
   met-if-so order execution so =
-      let has = (exactly-of model t s json out depth p (shown_after t (named_in s.show t) order)).1 (order, execution, refl) in
-      let made = made-of (shown_values (named_in s.show t)) p.outcomes (shown_after t (named_in s.show t) order) has in
+      let has = (exactly-of model t s json out depth p (shown_after t (names_shown s.show t) order)).1 (order, execution, refl) in
+      let made = made-of (shown_values (names_shown s.show t)) p.outcomes (shown_after t (names_shown s.show t) order) has in
       there-met condition.quantifier condition.claim p.outcomes (made.0, made.1, sym (truth-after-is made.0 order (sym made.2)) ∙ so)
 
 reason-is : (t : Litmus) (condition : Condition) (s : Search) (e : Explanation) (json again verdict other_verdict : Bool) (out other : List ℕ) → TruthIsShown → IsTest t
@@ -209,7 +209,7 @@ outcomes-status : (t : Litmus) (condition : Condition) (s : Search) (json assert
     → IsOutcomesAnswer t s json assert out status → PrintsVerdict json (verdict_word verdict) out → status ≡ status_of_verdict assert verdict
 outcomes-status t condition s json assert verdict _ _ is (found outcomes are) says =
     let claimed = ap (λ c. is_as_claimed c (is_met_in c outcomes)) is in
-    ap (status_of_verdict assert) (claimed ∙ one-verdict json _ verdict _ (outcomes-end json t (named_in s.show t) condition s.depth outcomes is) (ends-so json verdict _ says))
+    ap (status_of_verdict assert) (claimed ∙ one-verdict json _ verdict _ (outcomes-end json t (names_shown s.show t) condition s.depth outcomes is) (ends-so json verdict _ says))
 outcomes-status t condition s json assert verdict _ _ is (too_many more) says = absurd (outcomes.none-unfinished json verdict t s.states (ends-so json verdict _ says))
 
 why-status : (t : Litmus) (condition : Condition) (e : Explanation) (json assert verdict : Bool) (out : List ℕ) (status : Status) → t.condition ≡ Some condition

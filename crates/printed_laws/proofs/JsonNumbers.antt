@@ -1,5 +1,5 @@
 -- The JSON value of a run has numbers and nests no deeper than a reader goes, so that its text can be read back.
-use Rattle.printed_laws.proofs.Vocabulary.{ℕ, suc, ◌-◌, ◌^◌, ◌<◌, ◌≤◌, Bool, inl, inr, List, [], ◌∷◌, map, All, Option, Some, None, arith, All-head, All-tail, nat_cmp, match_ordering, slice_cmp, Ordering, Less, Equal, Greater, max_depth, depth, items_depth, members_depth, HasNumbers, ItemsHaveNumbers, MembersHaveNumbers, IsNumber-decimal, string, Members, no_members, member, put, items_of, outline, items_outline, members_outline, Litmus, Condition, IsWord, AreRegisters, Bus, Atomic, Split, Eax, Ebx, Ecx, Edx, Esi, Edi, Entry, printed_entry, ProtocolKind, IsLineSize, Configuration, IsConfigurationWithinLimits, IsAtMost, Counts, Shown, count, counts_value, condition_value, with_bus, machine_members, machine_value, memory_members, registers_value, run_value}
+use Rattle.printed_laws.proofs.Vocabulary.{ℕ, suc, ◌-◌, ◌^◌, ◌<◌, ◌≤◌, Bool, inl, inr, List, [], ◌∷◌, map, All, Option, Some, None, arith, All-head, All-tail, nat_cmp, match_ordering, slice_cmp, Ordering, Less, Equal, Greater, max_depth, depth, items_depth, members_depth, HasNumbers, ItemsHaveNumbers, MembersHaveNumbers, IsNumber-decimal, string, Members, no_members, member, put, items_of, outline, items_outline, members_outline, Litmus, Condition, IsWord, AreRegisters, Bus, Atomic, Split, Eax, Ebx, Ecx, Edx, Esi, Edi, Entry, printed_entry, ProtocolKind, IsLineSize, Configuration, IsConfigurationWithinLimits, IsAtMost, Counts, ShownRun, count, counts_value, condition_value, with_bus, configuration_members, machine_value, memory_members, registers_value, run_value}
 use Rattle.tso_report.specs.Limits.{IsSmall}
 use Rattle.printed_laws.proofs.Lines.{value-small}
 
@@ -49,7 +49,7 @@ line-small words (inr (inr e)) = omega (arith, e)
 machine-numbers : (kind : ProtocolKind) (c : Configuration) → IsConfigurationWithinLimits c → HasNumbers (outline (machine_value kind c))
 machine-numbers kind c within = by_bus c.bus
   where
-    members : MembersHaveNumbers (members_outline (machine_members kind c))
+    members : MembersHaveNumbers (members_outline (configuration_members kind c))
     members = (
       IsNumber-decimal c.depth (omega (arith, within.0)),
       (
@@ -61,14 +61,14 @@ machine-numbers kind c within = by_bus c.bus
       ),
     )
 
-    by_bus : (bus : Bus) → MembersHaveNumbers (members_outline (with_bus bus (machine_members kind c)))
+    by_bus : (bus : Bus) → MembersHaveNumbers (members_outline (with_bus bus (configuration_members kind c)))
     by_bus Atomic = members
     by_bus Split = (tt, members)
 
 machine-depth : (kind : ProtocolKind) (c : Configuration) → depth (outline (machine_value kind c)) ≤ 1
 machine-depth kind c = by_bus c.bus
   where
-    by_bus : (bus : Bus) → suc (members_depth (members_outline (with_bus bus (machine_members kind c)))) ≤ 1
+    by_bus : (bus : Bus) → suc (members_depth (members_outline (with_bus bus (configuration_members kind c)))) ≤ 1
     by_bus Atomic = omega arith
     by_bus Split = omega arith
 
@@ -138,7 +138,7 @@ registers-depth (r ∷ rs) = omega (arith, registers-depth rs)
 
 -- ---- the whole value
 
-pub run-numbers : (t : Litmus) (kind : ProtocolKind) (c : Configuration) (s : Shown) → IsConfigurationWithinLimits c → IsSmall t s → HasNumbers (outline (run_value t kind c s))
+pub run-numbers : (t : Litmus) (kind : ProtocolKind) (c : Configuration) (s : ShownRun) → IsConfigurationWithinLimits c → IsSmall t s → HasNumbers (outline (run_value t kind c s))
 run-numbers t kind c s within p = (
   cache-numbers s.counts p.counts,
   (
@@ -147,6 +147,6 @@ run-numbers t kind c s within p = (
   ),
 )
 
-pub run-depth : (t : Litmus) (kind : ProtocolKind) (c : Configuration) (s : Shown) → depth (outline (run_value t kind c s)) ≤ max_depth
+pub run-depth : (t : Litmus) (kind : ProtocolKind) (c : Configuration) (s : ShownRun) → depth (outline (run_value t kind c s)) ≤ max_depth
 run-depth t kind c s =
     omega (arith, cache-depth s.counts, condition-depth t.condition s.holds, machine-depth kind c, memory-depth t.locations s.memory, order-depth t s.order, registers-depth s.registers)

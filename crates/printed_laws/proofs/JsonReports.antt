@@ -1,5 +1,5 @@
 -- The JSON object of a run that ended tells the run.
-use Rattle.printed_laws.proofs.Vocabulary.{length, arith, subst, ◌++◌, ◌≡◌, ℕ, ◌-◌, ◌^◌, Bool, true, List, [], ◌∷◌, map, All, Option, Some, None, is_some, refl, sym, ap, ◌∙◌, decimal, decimal_injective, append_cancel_right, All-head, All-tail, string, items_of, outline, items_outline, compact_text, Litmus, IsTest, Condition, AreRegisters, value_in, Reg, Eax, Ebx, Ecx, Edx, Esi, Edi, Entry, printed_entry, printed_end, printed_lines, printed_order, IsOrderFor, SpellsOrder, ProtocolKind, Configuration, IsConfigurationWithinLimits, ReportsAreShort, Shown, FitsTest, IsAtMost, Counts, codes, length-append, length-map, all_registers, head, register_lines, memory_line, condition_line, choices_line, cache_lines, counts_value, condition_value, registers_value, run_value, ReportsTellTheirRuns}
+use Rattle.printed_laws.proofs.Vocabulary.{length, arith, subst, ◌++◌, ◌≡◌, ℕ, ◌-◌, ◌^◌, Bool, true, List, [], ◌∷◌, map, All, Option, Some, None, is_some, refl, sym, ap, ◌∙◌, decimal, decimal_injective, append_cancel_right, All-head, All-tail, string, items_of, outline, items_outline, compact_text, Litmus, IsTest, Condition, AreRegisters, value_in, Reg, Eax, Ebx, Ecx, Edx, Esi, Edi, Entry, printed_entry, printed_end, printed_lines, printed_order, IsOrderFor, SpellsOrder, ProtocolKind, Configuration, IsConfigurationWithinLimits, ReportsAreShort, ShownRun, RunFitsTest, IsAtMost, Counts, codes, length-append, length-map, all_registers, head, register_lines, memory_line, condition_line, choices_line, cache_lines, counts_value, condition_value, registers_value, run_value, ReportsTellTheirRuns}
 use Rattle.json.specs.Json as json
 use Rattle.printed_laws.proofs.Reports.{OrderIsSpelledOnce}
 use Rattle.printed_laws.proofs.Lines.{value-small, same-registers}
@@ -59,7 +59,7 @@ printed-alike t xs ys same =
     λ i. printed_lines (codes "Order" ∷ (same i ++ (printed_end (count i) ∷ [])))
 
 -- its lines are no more than those of a report
-order-told : OrderIsSpelledOnce → PrintedOrderIsSpelled → ReportsAreShort → (t : Litmus) (kind : ProtocolKind) (c : Configuration) (s o : Shown) → IsTest t → IsConfigurationWithinLimits c → FitsTest t s → FitsTest t o
+order-told : OrderIsSpelledOnce → PrintedOrderIsSpelled → ReportsAreShort → (t : Litmus) (kind : ProtocolKind) (c : Configuration) (s o : ShownRun) → IsTest t → IsConfigurationWithinLimits c → RunFitsTest t s → RunFitsTest t o
     → items_outline (items_of (map (λ e. string (printed_entry t e)) s.order)) ≡ items_outline (items_of (map (λ e. string (printed_entry t e)) o.order)) → s.order ≡ o.order
 order-told once spelled short t kind c s o test within p q same =
     let alike = printed-alike t s.order o.order (entries-told t s.order o.order same) in

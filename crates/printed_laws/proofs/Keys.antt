@@ -1,5 +1,5 @@
 -- The keys of what is shown differ: a register's has a colon, behind its core's number, and no location's name has one.
-use Rattle.printed_laws.proofs.Vocabulary.{◌≡◌, ◌≢◌, ◌∙◌, ℕ, zero, suc, ◌+◌, ◌^◌, ◌<◌, Bool, true, false, not, cond, ◌&&◌, ◌||◌, List, [], ◌∷◌, ◌++◌, map, length, slice_index_or, refl, sym, ap, subst, eq-eqb, arith, codes, decimal, bytes_eq, AllByRecursion, list_all, and_parts, and_from, append_assoc, length-append, map-append, list_any-append, bytes_eq-Decides, Litmus, IsTest, are_distinct, is_among, is_name, is_location_name, continues_name, all_registers, register_of, named_registers, named_locations, Named, is_shown, named_in, Show, key_of}
+use Rattle.printed_laws.proofs.Vocabulary.{◌≡◌, ◌≢◌, ◌∙◌, ℕ, zero, suc, ◌+◌, ◌^◌, ◌<◌, Bool, true, false, not, cond, ◌&&◌, ◌||◌, List, [], ◌∷◌, ◌++◌, map, length, slice_index_or, refl, sym, ap, subst, eq-eqb, arith, codes, decimal, bytes_eq, AllByRecursion, list_all, and_parts, and_from, append_assoc, length-append, map-append, list_any-append, bytes_eq-Decides, Litmus, IsTest, are_distinct, is_among, is_name, is_location_name, continues_name, all_registers, named_register, named_registers, named_locations, Named, is_shown, names_shown, Show, key_of}
 use Rattle.std.proofs.Common.{filter}
 use Rattle.printed_laws.proofs.Cutting.{number-cut}
 
@@ -68,11 +68,11 @@ distinct-front front (n ∷ names) = rw (among-front front n names, distinct-fro
 abbrev six_ends : List (List ℕ)
 six_ends = codes ":EAX" ∷ codes ":EBX" ∷ codes ":ECX" ∷ codes ":EDX" ∷ codes ":ESI" ∷ codes ":EDI" ∷ []
 
-core-keys : (t : Litmus) (core : ℕ) → map (key_of t) (map (register_of core) all_registers) ≡ map (λ n. decimal core ++ n) six_ends
+core-keys : (t : Litmus) (core : ℕ) → map (key_of t) (map (named_register core) all_registers) ≡ map (λ n. decimal core ++ n) six_ends
 unfolding all_registers
 core-keys t core = refl
 
-core-distinct : (t : Litmus) (core : ℕ) → are_distinct (map (key_of t) (map (register_of core) all_registers)) ≡ true
+core-distinct : (t : Litmus) (core : ℕ) → are_distinct (map (key_of t) (map (named_register core) all_registers)) ≡ true
 core-distinct t core = ap are_distinct (core-keys t core) ∙ distinct-front (decimal core) six_ends
 
 -- a name that has a colon behind the number of this core
@@ -89,7 +89,7 @@ other-core core other end name small small' apart (rest, is) = by (bytes_eq (dec
         absurd (apart (sym (number-cut other core (58 ∷ end) (58 ∷ rest) small' small refl refl same).0))
 
 module _ (t : Litmus) (core : ℕ) (small : core < 2 ^ 64) (name : List ℕ) (of_core : IsOfCore core name) where
-  apart-from-core : (other : ℕ) → other < 2 ^ 64 → core ≢ other → NotAmong (map (key_of t) (map (register_of other) all_registers)) name
+  apart-from-core : (other : ℕ) → other < 2 ^ 64 → core ≢ other → NotAmong (map (key_of t) (map (named_register other) all_registers)) name
   unfolding all_registers
   apart-from-core other less apart =
       let each : (end : List ℕ) → bytes_eq (decimal other ++ 58 ∷ end) name ≡ false = λ end. other-core core other end name small less apart of_core in
@@ -98,8 +98,8 @@ module _ (t : Litmus) (core : ℕ) (small : core < 2 ^ 64) (name : List ℕ) (of
   apart-from-later : (other count : ℕ) → core < other → other + count < 2 ^ 64 → NotAmong (map (key_of t) (named_registers other count)) name
   apart-from-later other zero later less = refl
   apart-from-later other (suc count) later less =
-      ap (is_among name) (map-append (key_of t) (map (register_of other) all_registers) (named_registers (other + 1) count))
-      ∙ list_any-append (λ n. bytes_eq n name) (map (key_of t) (map (register_of other) all_registers)) (map (key_of t) (named_registers (other + 1) count))
+      ap (is_among name) (map-append (key_of t) (map (named_register other) all_registers) (named_registers (other + 1) count))
+      ∙ list_any-append (λ n. bytes_eq n name) (map (key_of t) (map (named_register other) all_registers)) (map (key_of t) (named_registers (other + 1) count))
       ∙ ap (λ (b : Bool). b || is_among name (map (key_of t) (named_registers (other + 1) count))) (apart-from-core other (omega (arith, less)) (λ e. omega (arith, e, later)))
       ∙ apart-from-later (other + 1) count (omega (arith, later)) (omega (arith, less))
 
@@ -107,13 +107,13 @@ module _ (t : Litmus) (core : ℕ) (small : core < 2 ^ 64) (name : List ℕ) (of
 cores-distinct : (t : Litmus) (core count : ℕ) → core + count < 2 ^ 64 → are_distinct (map (key_of t) (named_registers core count)) ≡ true
 cores-distinct t core zero less = refl
 cores-distinct t core (suc count) less =
-    let block = map (key_of t) (map (register_of core) all_registers) in
+    let block = map (key_of t) (map (named_register core) all_registers) in
     let later = map (key_of t) (named_registers (core + 1) count) in
     let each : (end : List ℕ) → NotAmong later (decimal core ++ 58 ∷ end) = λ end.
     apart-from-later t core (omega (arith, less)) (decimal core ++ 58 ∷ end) (end, refl) (core + 1) count (omega arith) (omega (arith, less)) in
     let apart : AllByRecursion (NotAmong later) (map (λ n. decimal core ++ n) six_ends) =
     (each (codes "EAX"), (each (codes "EBX"), (each (codes "ECX"), (each (codes "EDX"), (each (codes "ESI"), (each (codes "EDI"), tt)))))) in
-    ap are_distinct (map-append (key_of t) (map (register_of core) all_registers) (named_registers (core + 1) count))
+    ap are_distinct (map-append (key_of t) (map (named_register core) all_registers) (named_registers (core + 1) count))
     ∙ distinct-both block later (core-distinct t core) (cores-distinct t (core + 1) count (omega (arith, less)))
     (subst (AllByRecursion (NotAmong later)) (sym (core-keys t core)) apart)
 
@@ -149,8 +149,8 @@ no-core t names core (suc count) all =
     let each : (end : List ℕ) → NotAmong names (decimal core ++ 58 ∷ end) = λ end. no-location names core end all in
     let block : AllByRecursion (NotAmong names) (map (λ n. decimal core ++ n) six_ends) =
     (each (codes "EAX"), (each (codes "EBX"), (each (codes "ECX"), (each (codes "EDX"), (each (codes "ESI"), (each (codes "EDI"), tt)))))) in
-    subst (AllByRecursion (NotAmong names)) (sym (map-append (key_of t) (map (register_of core) all_registers) (named_registers (core + 1) count)))
-    (both-all (NotAmong names) (map (key_of t) (map (register_of core) all_registers)) (map (key_of t) (named_registers (core + 1) count))
+    subst (AllByRecursion (NotAmong names)) (sym (map-append (key_of t) (map (named_register core) all_registers) (named_registers (core + 1) count)))
+    (both-all (NotAmong names) (map (key_of t) (map (named_register core) all_registers)) (map (key_of t) (named_registers (core + 1) count))
     (subst (AllByRecursion (NotAmong names)) (sym (core-keys t core)) block) (no-core t names (core + 1) count all))
 
 place-of : (front : List (List ℕ)) (name : List ℕ) (names : List (List ℕ)) → slice_index_or (front ++ name ∷ names) (length front) [] ≡ name
@@ -180,5 +180,5 @@ keys-differ p t test =
     (subst (λ names. AllByRecursion (NotAmong names) (map (key_of t) (named_registers 0 cores))) (sym are) (no-core t t.locations 0 cores test.locations_spelled)) in
     distinct-kept (key_of t) p (named_registers 0 cores ++ named_locations 0 (length t.locations)) whole
 
-pub keys-distinct : (show : Show) (t : Litmus) → IsTest t → are_distinct (map (key_of t) (named_in show t)) ≡ true
+pub keys-distinct : (show : Show) (t : Litmus) → IsTest t → are_distinct (map (key_of t) (names_shown show t)) ≡ true
 keys-distinct show t test = keys-differ (is_shown show t) t test

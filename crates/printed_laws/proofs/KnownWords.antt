@@ -1,5 +1,5 @@
 -- The values that the answers of a refutation tell are words, and a fence has none.
-use Rattle.printed_laws.proofs.Vocabulary.{◌≡◌, ◌∙◌, ℕ, zero, suc, ◌+◌, Bool, true, false, cond, List, [], ◌∷◌, map, All, Option, Some, None, IfSome, slice_index, slice_index_or, refl, ap, arith, filter, All-nil, All-cons, All-head, All-tail, All-append, All-map, Litmus, IsTest, ConstantIsWord, IsWord, AreRegisters, index_of, action_of, entry, is_read, Reg, Loc, Instr, Operand, Number, Held, Update, Exchange, Add, Action, Store, Load, Move, Fence, Lock, Entry, Kind, R, W, F, LR, LW, Known, events_of, same_event, Source, known_in, known_operand, known_update, word_given, write_with, writes_by, left_by, writes_of, left_of, first_registers, writes_from, value_among, returned_from, returned, known_writes, all_known, value_read, register_at_end, words_at_end, can_be_last, value_known, same-bare, IsValueFor}
+use Rattle.printed_laws.proofs.Vocabulary.{◌≡◌, ◌∙◌, ℕ, zero, suc, ◌+◌, Bool, true, false, cond, List, [], ◌∷◌, map, All, Option, Some, None, IfSome, slice_index, slice_index_or, refl, ap, arith, filter, All-nil, All-cons, All-head, All-tail, All-append, All-map, Litmus, IsTest, ConstantIsWord, IsWord, AreRegisters, index_of, action_of, entry, is_read, Reg, Loc, Instr, Operand, Number, Held, Update, Exchange, Add, Action, Store, Load, Move, Fence, Lock, Entry, Kind, R, W, F, LR, LW, Known, events_of, same_event, Source, known_in, known_operand, known_update, word_given, write_with, writes_by, registers_left_by, writes_of, left_of, known_first_registers, writes_from, value_among, returned_from, returned, known_writes, all_known, value_read, register_at_end, words_at_end, can_be_last, value_known, same-bare, IsValueFor}
 use Rattle.std.specs.Prelude.{slice_set}
 use Rattle.tso_model.specs.declared.instruction.Instr.TheVariants as instr
 
@@ -28,7 +28,7 @@ known-set [] i o all word = all
 known-set (p ∷ os) zero o all word = All-cons MayBeWord o os word (All-tail MayBeWord p os all)
 known-set (p ∷ os) (suc i) o all word = All-cons MayBeWord p (slice_set os i o) (All-head MayBeWord p os all) (known-set os i o (All-tail MayBeWord p os all) word)
 
-known-first : (registers : List (List ℕ)) (core : ℕ) → All AreRegisters registers → All MayBeWord (first_registers registers core)
+known-first : (registers : List (List ℕ)) (core : ℕ) → All AreRegisters registers → All MayBeWord (known_first_registers registers core)
 known-first [] core all = All-nil MayBeWord
 known-first (r ∷ rs) zero all = All-map MayBeWord (λ v. Some v) r (All-head AreRegisters r rs all).words
 known-first (r ∷ rs) (suc core) all = known-first rs core (All-tail AreRegisters r rs all)
@@ -95,7 +95,7 @@ module _ (given : Entry → Option ℕ) (gives : GivesWords given) where
   by-words core place (Lock loc reg update) os o all fits =
       with-word core place LW loc (known_update update o (known_in os reg)) (λ e. let no : ⊥ = cc in no) (update-word update o (known_in os reg) (known-at os (index_of reg) all))
 
-  left-words : (a : Action) (os : List (Option ℕ)) (o : Option ℕ) → All MayBeWord os → MayBeWord o → ActionFits a → All MayBeWord (left_by a os o)
+  left-words : (a : Action) (os : List (Option ℕ)) (o : Option ℕ) → All MayBeWord os → MayBeWord o → ActionFits a → All MayBeWord (registers_left_by a os o)
   left-words (Store loc operand) os o all word fits = all
   left-words (Load reg loc) os o all word fits = known-set os (index_of reg) o all word
   left-words (Move reg operand) os o all word fits = known-set os (index_of reg) (known_operand os operand) all (operand-word os operand all fits)
@@ -107,21 +107,21 @@ module _ (given : Entry → Option ℕ) (gives : GivesWords given) where
   of-words core place (i ∷ p) os fits all =
       let here = action-fits i (All-head ConstantIsWord i p fits) in
       let word = word_given given core place (action_of i) in
-      All-append IsWriteOfWord (writes_by core place (action_of i) os word) (writes_of given core (place + 1) p (left_by (action_of i) os word)) (by-words core place (action_of i) os word all here)
-      (of-words core (place + 1) p (left_by (action_of i) os word) (All-tail ConstantIsWord i p fits) (left-words (action_of i) os word all (word-given core place (action_of i)) here))
+      All-append IsWriteOfWord (writes_by core place (action_of i) os word) (writes_of given core (place + 1) p (registers_left_by (action_of i) os word)) (by-words core place (action_of i) os word all here)
+      (of-words core (place + 1) p (registers_left_by (action_of i) os word) (All-tail ConstantIsWord i p fits) (left-words (action_of i) os word all (word-given core place (action_of i)) here))
 
   left-of-words : (core place : ℕ) (p : List Instr) (os : List (Option ℕ)) → All ConstantIsWord p → All MayBeWord os → All MayBeWord (left_of given core place p os)
   left-of-words core place [] os fits all = all
   left-of-words core place (i ∷ p) os fits all =
       let here = action-fits i (All-head ConstantIsWord i p fits) in
       let word = word_given given core place (action_of i) in
-      left-of-words core (place + 1) p (left_by (action_of i) os word) (All-tail ConstantIsWord i p fits) (left-words (action_of i) os word all (word-given core place (action_of i)) here)
+      left-of-words core (place + 1) p (registers_left_by (action_of i) os word) (All-tail ConstantIsWord i p fits) (left-words (action_of i) os word all (word-given core place (action_of i)) here)
 
   from-words : (core : ℕ) (ps : List (List Instr)) (registers : List (List ℕ)) → All (λ p. All ConstantIsWord p) ps → All AreRegisters registers → All IsWriteOfWord (writes_from given core ps registers)
   from-words core [] registers fits are = All-nil IsWriteOfWord
   from-words core (p ∷ ps) registers fits are =
-      All-append IsWriteOfWord (writes_of given core 0 p (first_registers registers core)) (writes_from given (core + 1) ps registers)
-      (of-words core 0 p (first_registers registers core) (All-head (λ (q : List Instr). All ConstantIsWord q) p ps fits) (known-first registers core are))
+      All-append IsWriteOfWord (writes_of given core 0 p (known_first_registers registers core)) (writes_from given (core + 1) ps registers)
+      (of-words core 0 p (known_first_registers registers core) (All-head (λ (q : List Instr). All ConstantIsWord q) p ps fits) (known-first registers core are))
       (from-words (core + 1) ps registers (All-tail (λ (q : List Instr). All ConstantIsWord q) p ps fits) are)
 
   program-left : (core n : ℕ) (ps : List (List Instr)) (os : List (Option ℕ)) → All (λ p. All ConstantIsWord p) ps → All MayBeWord os → All MayBeWord (left_of given core 0 (slice_index_or ps n []) os)
@@ -187,8 +187,8 @@ module _ (t : Litmus) (test : IsTest t) (k : Known) where
 
   pub register-word : (core : ℕ) (reg : Reg) → MayBeWord (register_at_end t k core reg)
   register-word core reg =
-      known-at (left_of (value_read t k) core 0 (slice_index_or t.programs core []) (first_registers t.registers core)) (index_of reg)
-      (program-left (value_read t k) read-word core core t.programs (first_registers t.registers core) test.values.constants (known-first t.registers core test.values.registers))
+      known-at (left_of (value_read t k) core 0 (slice_index_or t.programs core []) (known_first_registers t.registers core)) (index_of reg)
+      (program-left (value_read t k) read-word core core t.programs (known_first_registers t.registers core) test.values.constants (known-first t.registers core test.values.registers))
 
   values-words : (ws : List Entry) → All MayBeWord (map (value_among (all_known t k)) ws)
   values-words [] = All-nil MayBeWord

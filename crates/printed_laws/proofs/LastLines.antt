@@ -1,5 +1,5 @@
 -- The verdict that stands at the end of what `outcomes` and `why` print.
-use Rattle.printed_laws.proofs.Vocabulary.{◌≡◌, ◌∙◌, ℕ, Bool, true, false, List, [], ◌∷◌, ◌++◌, length, Some, refl, sym, ap, subst, codes, flat_map, decimal, append_assoc, escape_byte, Data, string, array, object, no_members, member, items_of, compact_text, Litmus, Condition, line, test_line, count, frequency, Named, is_well, verdict_word, verdict_line, verdict_value, Outcome, held_in, failed_in, true_in, is_met_in, printed_numbers, outcomes_line, outcome_lines, observation_line, true_line, condition_lines, unfinished_line, states_value, observed_value, unfinished_json, outcomes_in, unfinished_search_in, EndsInNumbers}
+use Rattle.printed_laws.proofs.Vocabulary.{◌≡◌, ◌∙◌, ℕ, Bool, true, false, List, [], ◌∷◌, ◌++◌, length, Some, refl, sym, ap, subst, codes, flat_map, decimal, append_assoc, escape_byte, Data, string, array, object, no_members, member, items_of, compact_text, Litmus, Condition, line, test_line, count, frequency, Named, is_well, verdict_word, verdict_line, outcomes_verdict_value, Outcome, held_in, failed_in, true_in, is_met_in, printed_numbers, outcomes_line, outcome_lines, observation_line, true_line, condition_lines, unfinished_outcomes_line, states_value, observed_value, unfinished_outcomes_json, outcomes_in, unfinished_search_in, EndsInNumbers}
 use Rattle.printed_laws.proofs.OutcomeLines.{digits-in-line, both-in-line}
 use Rattle.printed_laws.proofs.Digits.{all-digits}
 use Rattle.printed_laws.proofs.Words.{object_value, object-text, of-condition}
@@ -86,7 +86,7 @@ outcomes-end true t names condition depth outcomes is =
 
 -- a search that met its limit prints none
 unfinished-text : (t : Litmus) (limit : ℕ)
-    → unfinished_json t limit ≡ line (codes "{\"test\":" ++ (compact_text (string t.name) ++ (codes ",\"unfinished\":" ++ (((codes "{\"states\":" ++ decimal limit) ++ codes "}") ++ codes "}"))))
+    → unfinished_outcomes_json t limit ≡ line (codes "{\"test\":" ++ (compact_text (string t.name) ++ (codes ",\"unfinished\":" ++ (((codes "{\"states\":" ++ decimal limit) ++ codes "}") ++ codes "}"))))
 unfolding escape_byte
 unfinished-text t limit = refl
 
@@ -101,5 +101,5 @@ pub none-unfinished : (json verdict : Bool) (t : Litmus) (limit : ℕ) → EndsI
 none-unfinished false verdict t limit e =
     no-verdict-line verdict (codes "Unfinished states=" ++ decimal limit) (both-in-line (codes "Unfinished states=") (decimal limit) refl (digits-in-line (decimal limit) (all-digits limit))) e
 none-unfinished true verdict t limit e =
-    no-verdict-member verdict (unfinished_json t limit)
+    no-verdict-member verdict (unfinished_outcomes_json t limit)
     (subst (EndsIn (codes "}}\n")) (sym (unfinished-text t limit)) (nested (codes "{\"test\":") (compact_text (string t.name)) (codes ",\"unfinished\":") (codes "{\"states\":" ++ decimal limit))) e

@@ -1,5 +1,5 @@
 -- The JSON value of a machine tells its cores and its memory.
-use Rattle.printed_laws.proofs.Vocabulary.{◌≡◌, ◌∙◌, ℕ, zero, suc, ◌+◌, ◌/◌, ◌==◌, ◌<◌, Bool, true, false, if◌then◌else◌, Option, Some, None, IfSome, List, [], ◌∷◌, ◌++◌, map, length, get_or, take, drop, All, refl, sym, ap, subst, arith, codes, option_map, decimal, decimal_injective, All-head, All-tail, Data, array, items_of, outline, items_outline, Litmus, IsTest, CoreState, core_of, chosen, IsWord, index_of, CoresExist, value_in, Choice, Entry, Reg, Eax, Ebx, Ecx, Edx, Esi, Edi, table_of, Transient, IsD, ImD, SmD, bus_holder_of, BusHolder, Configuration, Running, new_machine, machine_after, count, registers_value, memory_value, names_in_line, line_name, store_text, transient_name, line_state, IsTraced, LineState, traced-first, traced-next, texts, words_in, copy_json, copies_in, sets_json, words_in_line, kept_words, bus_json, core_with, core_json, cores_json, machine_json, bare_store}
+use Rattle.printed_laws.proofs.Vocabulary.{◌≡◌, ◌∙◌, ℕ, zero, suc, ◌+◌, ◌/◌, ◌==◌, ◌<◌, Bool, true, false, if◌then◌else◌, Option, Some, None, IfSome, List, [], ◌∷◌, ◌++◌, map, length, get_or, take, drop, All, refl, sym, ap, subst, arith, codes, option_map, decimal, decimal_injective, All-head, All-tail, Data, array, items_of, outline, items_outline, Litmus, IsTest, CoreState, core_of, chosen, IsWord, index_of, CoresExist, value_in, Choice, Entry, Reg, Eax, Ebx, Ecx, Edx, Esi, Edi, table_of, Transient, IsD, ImD, SmD, bus_holder_of, BusHolder, Configuration, Running, new_machine, machine_after, count, registers_value, memory_value, names_in_line, line_name, store_text, transient_name, line_state, IsTraced, LineState, traced-first, traced-next, array_of_texts, words_per_line, copy_json, cached_lines_in, sets_json, words_in_line, words_on_bus, bus_json, core_with, core_json, cores_json, machine_json, bare_store}
 use Rattle.std.proofs.lemmas.List.{append-nil}
 use Rattle.json.specs.Json as json
 use Rattle.snoop_bus.specs.declared.looking.CachedLine.{CachedLine}
@@ -35,7 +35,7 @@ stores-told t (x ∷ xs) (y ∷ ys) test p q same =
 
 -- a core's value, with the lines of its cache
 abbrev core-value : Litmus → Data → CoreState → Data
-core-value t lines s = core_with (texts (map (store_text t) s.pending)) lines s.place (registers_value s.registers)
+core-value t lines s = core_with (array_of_texts (map (store_text t) s.pending)) lines s.place (registers_value s.registers)
 
 record CoresAlike (s u : CoreState) : Type 0 where
   place : s.place ≡ u.place
@@ -96,14 +96,14 @@ set-there : (m : Running) (core : ℕ) (copies : List CachedLine) → set_in (it
 set-there m core [] = refl
 set-there m core (c ∷ cs) =
     let state = state-again (line_state m core c.line) in
-    let words = digits-there (take (length (names_in_line m.test.locations (words_in m) c.line)) c.words) in
+    let words = digits-there (take (length (names_in_line m.test.locations (words_per_line m) c.line)) c.words) in
     let further = set-there m core cs in
-    λ i. (line_name m.test (words_in m) c.line, state i, words i) ∷ further i
+    λ i. (line_name m.test (words_per_line m) c.line, state i, words i) ∷ further i
 
 sets-there : (m : Running) (core set count : ℕ) → sets_in (items_outline (items_of (sets_json m core set count))) ≡ copies_shown m core set count
 sets-there m core set zero = refl
 sets-there m core set (suc rest) =
-    let first = set-there m core (copies_in m core set) in
+    let first = set-there m core (cached_lines_in m core set) in
     let further = sets-there m core (set + 1) rest in
     λ i. first i ∷ further i
 
@@ -136,8 +136,8 @@ bus-told m n (Some h) None p q same = uneven (ap is_object same)
 bus-told m n (Some h) (Some k) p q same =
     let choice = choice-cut h.choice k.choice [] [] (core-small m.test 1 h.choice p) (core-small m.test 1 k.choice q) (ap (λ (j : json.Json). text_at 0 j ++ []) same) in
     let state = transient-told h.transient k.transient (option-told (option_map transient_name h.transient) (option_map transient_name k.transient) (ap (value_at 3) same)) in
-    let line : line_name m.test (words_in m) (h.loc.0 / words_in m) ≡ line_name n.test (words_in n) (k.loc.0 / words_in n) = ap (text_at 2) same in
-    let kept = λ (x : Running) (b : BusHolder). kept_words b.transient (words_in_line (words_in x) x.state.flat.memory (b.loc.0 / words_in x)) in
+    let line : line_name m.test (words_per_line m) (h.loc.0 / words_per_line m) ≡ line_name n.test (words_per_line n) (k.loc.0 / words_per_line n) = ap (text_at 2) same in
+    let kept = λ (x : Running) (b : BusHolder). words_on_bus b.transient (words_in_line (words_per_line x) x.state.flat.memory (b.loc.0 / words_per_line x)) in
     let words : map decimal (kept m h) ≡ map decimal (kept n k) =
     sym (digits-there (kept m h)) ∙ (ap (λ (j : json.Json). digits_in (items_in (value_at 4 j))) same ∙ digits-there (kept n k)) in
     λ i. Some (choice.0 i, line i, state i, words i)

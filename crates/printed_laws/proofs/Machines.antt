@@ -1,5 +1,5 @@
 -- Reports, their JSON objects and the lines of sweeps tell the test's name, the protocol and the configuration.
-use Rattle.printed_laws.proofs.Vocabulary.{◌≡◌, ℕ, true, false, List, [], ◌∷◌, ◌++◌, get_or, refl, sym, ap, ◌∙◌, arith, codes, decimal, decimal_injective, append_cancel_right, object, outline, compact_text, Bus, Atomic, Split, printed_order, Litmus, protocol_name, ProtocolKind, Configuration, IsConfigurationWithinLimits, Shown, register_lines, memory_line, condition_line, choices_line, cache_lines, with_bus, machine_members, machine_value, run_value, RunCounts, state_lines, ended_in, runs_in, observation, tally_text, ReportsTellTheirMachines, SweepsTellTheirMachines}
+use Rattle.printed_laws.proofs.Vocabulary.{◌≡◌, ℕ, true, false, List, [], ◌∷◌, ◌++◌, get_or, refl, sym, ap, ◌∙◌, arith, codes, decimal, decimal_injective, append_cancel_right, object, outline, compact_text, Bus, Atomic, Split, printed_order, Litmus, protocol_name, ProtocolKind, Configuration, IsConfigurationWithinLimits, ShownRun, register_lines, memory_line, condition_line, choices_line, cache_lines, with_bus, configuration_members, machine_value, run_value, RunCounts, counted_state_lines, ended_in, runs_in, observation, tally_text, ReportsTellTheirMachines, SweepsTellTheirMachines}
 use Rattle.json.specs.Json as json
 use Rattle.scheduler.specs.Plan.{Plan}
 use Rattle.printed_laws.proofs.Cutting.{next-cut}
@@ -11,7 +11,7 @@ use Rattle.printed_laws.proofs.Sweeps.{sweep-flat}
 -- ---- a report
 
 -- the lines after the first two
-abbrev after-head : Litmus → Shown → List ℕ
+abbrev after-head : Litmus → ShownRun → List ℕ
 after-head t s =
     printed_order t s.order ++ (register_lines 0 s.registers ++ (memory_line t s.memory
     ++ (condition_line t s.holds ++ (choices_line s.used s.stalled s.unused ++ cache_lines 0 s.counts))))
@@ -30,7 +30,7 @@ named-told kind other_kind e = (protocol-cut kind other_kind [] [] (ap (λ (l : 
 
 -- the members without the bus
 members-told : (kind other_kind : ProtocolKind) (c d : Configuration) → IsConfigurationWithinLimits c → IsConfigurationWithinLimits d → c.bus ≡ d.bus
-    → outline (object (machine_members kind c)) ≡ outline (object (machine_members other_kind d)) → (kind ≡ other_kind) × (c ≡ d)
+    → outline (object (configuration_members kind c)) ≡ outline (object (configuration_members other_kind d)) → (kind ≡ other_kind) × (c ≡ d)
 members-told kind other_kind c d p q bus same = (
   named-told kind other_kind (ap (text_at 1) same),
   same-configuration c d (decimal_injective c.depth d.depth (omega (arith, p.0)) (omega (arith, q.0)) (ap (text_at 0) same))
@@ -49,7 +49,7 @@ machine-told : (kind other_kind : ProtocolKind) (c d : Configuration) → IsConf
 machine-told kind other_kind c d p q same = by_bus c.bus d.bus refl refl same
   where
     by_bus : (a b : Bus) → c.bus ≡ a → d.bus ≡ b
-        → outline (object (with_bus a (machine_members kind c))) ≡ outline (object (with_bus b (machine_members other_kind d))) → (kind ≡ other_kind) × (c ≡ d)
+        → outline (object (with_bus a (configuration_members kind c))) ≡ outline (object (with_bus b (configuration_members other_kind d))) → (kind ≡ other_kind) × (c ≡ d)
     by_bus Atomic Atomic is is' same = members-told kind other_kind c d p q (is ∙ sym is') same
     by_bus Split Split is is' same = members-told kind other_kind c d p q (is ∙ sym is') (ap more_members same)
     by_bus Atomic Split is is' same = let byte : 100 ≡ 98 = ap (λ (j : json.Json). get_or (first_key (members_in j)) 0 0) same in absurd (omega (arith, byte))
@@ -68,7 +68,7 @@ object-names t u kind other_kind c d s o test test' p q fits fits' e =
 
 -- the lines after the third
 abbrev after-sweep : Litmus → RunCounts → List ℕ
-after-sweep t r = state_lines t r.states ++ observation t.name t.condition r.held r.failed
+after-sweep t r = counted_state_lines t r.states ++ observation t.name t.condition r.held r.failed
 
 same-plan : (a b : Plan) → a.from ≡ b.from → a.seeds ≡ b.seeds → a.length ≡ b.length → a ≡ b
 same-plan a b from seeds length = λ i. record { from = from i; seeds = seeds i; length = length i }

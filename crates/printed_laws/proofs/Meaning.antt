@@ -1,5 +1,5 @@
 -- What the word of a condition means: for each end of the machine's runs, and for each execution.
-use Rattle.printed_laws.proofs.Vocabulary.{◌≡◌, ◌∙◌, ◌<◌, ◌+◌, ◌==◌, ℕ, zero, suc, Bool, true, false, not, cond, List, [], ◌∷◌, map, length, get_or, Contains, Some, refl, sym, ap, subst, eqb-true, arith, codes, count_by, list_all, All-contains, sum_by-cons, Litmus, IsTest, Claim, Condition, truth_of, final_words, final_registers, registers_in, run, IsEnd, EndsAreWhatTsoAllows, SpellsTest, frequency, Named, named_in, values_at, Outcome, shown_values, held_in, failed_in, TruthIsShown, parts_of, Leads, made-of, Search, shown_after, PrintsAllOutcomes, HeadlineOfOutcomes, all, too_many, PrintsWord, IsSoEverywhere, IsSoSomewhere, IsSoNowhere, IsAlwaysSo, IsSometimesSo, WordMeans}
+use Rattle.printed_laws.proofs.Vocabulary.{◌≡◌, ◌∙◌, ◌<◌, ◌+◌, ◌==◌, ℕ, zero, suc, Bool, true, false, not, cond, List, [], ◌∷◌, map, length, get_or, Contains, Some, refl, sym, ap, subst, eqb-true, arith, codes, count_by, list_all, All-contains, sum_by-cons, Litmus, IsTest, Claim, Condition, truth_of, final_words, final_registers, registers_in, run, IsEnd, EndsAreWhatTsoAllows, SpellsTest, frequency, Named, names_shown, values_at, Outcome, shown_values, held_in, failed_in, TruthIsShown, parts_of, Leads, made-of, Search, shown_after, PrintsAllOutcomes, HeadlineOfOutcomes, all, too_many, PrintsWord, IsSoEverywhere, IsSoSomewhere, IsSoNowhere, IsAlwaysSo, IsSometimesSo, WordMeans}
 use Rattle.printed_laws.proofs.Digits.{is_no_space}
 use Rattle.printed_laws.proofs.Words.{is_unquoted, word-is, word-isnt}
 
@@ -74,7 +74,7 @@ mapped f (y ∷ ys) x (suc i, small, is) =
 module _ (t : Litmus) (condition : Condition) (s : Search) (json : Bool) (out : List ℕ) (laws : EndsAreWhatTsoAllows) (shown : TruthIsShown) (test : IsTest t)
     (is : t.condition ≡ Some condition) (p : PrintsAllOutcomes t s json out) where
   abbrev names : List Named
-  names = named_in s.show t
+  names = names_shown s.show t
 
   -- the proposition's truth in a printed state is that in each state with its values
   pub same-truth : (o : Outcome) (registers : List (List ℕ)) (memory : List ℕ) → shown_values names o ≡ values_at names registers memory
@@ -150,7 +150,7 @@ means word Meant plain tells within laws shown search json assert input out t co
     by : HeadlineOfOutcomes t search json out → Meant t search.depth condition.claim
     by (all p) =
         tells t condition search json out laws shown (within (parts_of input).test t spelled) is p
-        (word-is json t (named_in search.show t) condition search.depth p.outcomes word is plain.spaceless plain.unquoted (subst (PrintsWord json word) p.printed says))
+        (word-is json t (names_shown search.show t) condition search.depth p.outcomes word is plain.spaceless plain.unquoted (subst (PrintsWord json word) p.printed says))
     by (too_many more printed) = absurd (word-isnt json t search.states word (subst (PrintsWord json word) printed says))
 
 pub not-true : (b : Bool) → not b ≡ false → b ≡ true

@@ -1,5 +1,5 @@
 -- The lines of `outcomes` tell the states, and in which the condition's proposition is true.
-use Rattle.printed_laws.proofs.Vocabulary.{◌≡◌, ◌∙◌, ℕ, ◌^◌, ◌<◌, ◌==◌, Bool, true, false, not, List, [], ◌∷◌, ◌++◌, map, drop, length, get_or, All, Option, Some, None, refl, sym, ap, subst, arith, codes, decimal, list_all, is_ascii_digit, and_parts, and_from, nat_tests, append_assoc, append_cancel_left, All-head, All-tail, list_all-append, Litmus, is_printable, Condition, Choice, Drain, printed_choice, printed_after, printed_choices, line, test_line, printed_values, Named, named_in, Outcome, shown_values, outcomes_line, outcome_lines, condition_lines, IsStateAt, alike, OutcomesTellTheirStates, OutcomesTellTheirTests}
+use Rattle.printed_laws.proofs.Vocabulary.{◌≡◌, ◌∙◌, ℕ, ◌^◌, ◌<◌, ◌==◌, Bool, true, false, not, List, [], ◌∷◌, ◌++◌, map, drop, length, get_or, All, Option, Some, None, refl, sym, ap, subst, arith, codes, decimal, list_all, is_ascii_digit, and_parts, and_from, nat_tests, append_assoc, append_cancel_left, All-head, All-tail, list_all-append, Litmus, is_printable, Condition, Choice, Drain, printed_choice, printed_after, printed_choices, line, test_line, printed_values, Named, names_shown, Outcome, shown_values, outcomes_line, outcome_lines, condition_lines, IsStateAt, alike, OutcomesTellTheirStates, OutcomesTellTheirTests}
 use Rattle.tso_model.specs.declared.choice.Choice.TheVariants.{Step}
 use Rattle.printed_laws.proofs.Cutting.{run-cut, next-cut}
 use Rattle.printed_laws.proofs.Heads.{printable-name}
@@ -89,7 +89,7 @@ first-cut depth other_depth states other_states rest other p p' q q' e =
 
 pub lines-tell : OutcomesTellTheirStates false
 lines-tell show t depth other_depth xs ys test p p' fit fit' e =
-    let names = named_in show t in
+    let names = names_shown show t in
     let said = λ (outcomes : List Outcome). condition_lines t.name t.condition outcomes in
     let named = append_cancel_left (test_line t) _ _ e in
     let first = first-cut depth other_depth (length xs) (length ys) (outcome_lines t names xs ++ said xs) (outcome_lines t names ys ++ said ys) p p' fit.few fit'.few named in

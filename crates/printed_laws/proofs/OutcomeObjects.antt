@@ -1,5 +1,5 @@
 -- The JSON object of `outcomes` tells the states, and in which the condition's proposition is true.
-use Rattle.printed_laws.proofs.Vocabulary.{◌≡◌, ◌∙◌, ℕ, ◌^◌, ◌<◌, ◌≤◌, Bool, true, not, List, [], ◌∷◌, ◌++◌, map, length, All, Option, Some, None, refl, sym, ap, arith, codes, count_by-le-length, decimal_injective, append_cancel_right, length-map, All-head, All-tail, max_depth, items_depth, members_depth, HasNumbers, ItemsHaveNumbers, MembersHaveNumbers, IsNumber-decimal, object, Members, no_members, member, items_of, outline, items_outline, members_outline, compact_text, Litmus, IsTest, Condition, truth_of, IsWord, Named, memory_members, named_in, Show, verdict_value, Outcome, shown_values, held_in, failed_in, is_met_in, key_of, value_members, with_holds, holds_in, state_value, observation_value, outcomes_value, IsStateAt, OutcomesFit, OutcomesTellTheirStates, OutcomesTellTheirTests, alike}
+use Rattle.printed_laws.proofs.Vocabulary.{◌≡◌, ◌∙◌, ℕ, ◌^◌, ◌<◌, ◌≤◌, Bool, true, not, List, [], ◌∷◌, ◌++◌, map, length, All, Option, Some, None, refl, sym, ap, arith, codes, count_by-le-length, decimal_injective, append_cancel_right, length-map, All-head, All-tail, max_depth, items_depth, members_depth, HasNumbers, ItemsHaveNumbers, MembersHaveNumbers, IsNumber-decimal, object, Members, no_members, member, items_of, outline, items_outline, members_outline, compact_text, Litmus, IsTest, Condition, truth_of, IsWord, Named, memory_members, names_shown, Show, outcomes_verdict_value, Outcome, shown_values, held_in, failed_in, is_met_in, key_of, value_members, with_holds, holds_in, state_value, observation_value, outcomes_value, IsStateAt, OutcomesFit, OutcomesTellTheirStates, OutcomesTellTheirTests, alike}
 use Rattle.json.specs.Json as json
 use Rattle.json.specs.Tree.{depth as depth_of}
 use Rattle.printed_laws.proofs.JsonTexts.{value-told, members_in, items_in, value_at, text_at, first_item, more_items, has_item, uneven}
@@ -75,11 +75,11 @@ observation-depth : (condition : Option Condition) (xs : List Outcome) → depth
 observation-depth None xs = omega arith
 observation-depth (Some c) xs = omega arith
 
-verdict-numbers : (condition : Option Condition) (met : Bool) → HasNumbers (outline (verdict_value condition met))
+verdict-numbers : (condition : Option Condition) (met : Bool) → HasNumbers (outline (outcomes_verdict_value condition met))
 verdict-numbers None met = tt
 verdict-numbers (Some c) met = tt
 
-verdict-depth : (condition : Option Condition) (met : Bool) → depth_of (outline (verdict_value condition met)) ≤ 0
+verdict-depth : (condition : Option Condition) (met : Bool) → depth_of (outline (outcomes_verdict_value condition met)) ≤ 0
 verdict-depth None met = omega arith
 verdict-depth (Some c) met = omega arith
 
@@ -99,7 +99,7 @@ as-memory t (n ∷ names) (v ∷ values) = rw (as-memory t names values) refl
 
 module _ (show : Show) (t : Litmus) (test : IsTest t) where
   abbrev names : List Named
-  names = named_in show t
+  names = names_shown show t
 
   values-told : (xs ys : List ℕ) → IsStateAt names xs → IsStateAt names ys
       → members_outline (value_members t names xs) ≡ members_outline (value_members t names ys) → xs ≡ ys
@@ -146,7 +146,7 @@ same-outline t u names others_names depth other_depth xs ys p p' fit fit' e =
 
 pub objects-tell : OutcomesTellTheirStates true
 objects-tell show t depth other_depth xs ys test p p' fit fit' e =
-    let shown = named_in show t in
+    let shown = names_shown show t in
     let same = same-outline t t shown shown depth other_depth xs ys p p' fit fit' e in
     let first = decimal_injective depth other_depth p p' (ap (text_at 0) same) in
     let states = states-told show t test xs ys fit.states fit'.states (ap (λ (j : json.Json). items_in (value_at 2 j)) same) in

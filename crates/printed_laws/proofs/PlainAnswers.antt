@@ -1,5 +1,5 @@
 -- Whether nodes close a case is a matter of the events in its answers: the values that these are written with don't count.
-use Rattle.printed_laws.proofs.Vocabulary.{◌≡◌, ◌==◌, ℕ, zero, suc, ◌&&◌, ◌||◌, Bool, true, false, not, cond, List, [], ◌∷◌, ◌++◌, map, length, Option, Some, None, slice_index, slice_index_or, refl, sym, ap, ◌∙◌, filter, list_any, list_all, option_map, Litmus, Claim, TruthClaim, RegClaim, LocClaim, NotClaim, AndClaim, OrClaim, writes_to, Reg, Entry, Known, bare, events_of, same_event, is_event, with_source, with_pair, is_write_of, reads_from, comes_before, is_overwritten, from_reads, relates, on_location, global_in, is_edge, is_cycle, are_parts, left_of, known_in, first_registers, writes_from, value_among, returned_from, returned, known_writes, all_known, value_read, register_at_end, can_be_last, words_at_end, can_be, allows, Node, ReadsFrom, ComesFirst, OnLocation, Globally, Between, FalseClaim, sources_of, is_node, branches, close, Source, Model, Relation, Po, PoLoc, PoGhb, Mfence, Implied, Rf, Rfe, Co, Fr, Reply, Reads, First, with_reply}
+use Rattle.printed_laws.proofs.Vocabulary.{◌≡◌, ◌==◌, ℕ, zero, suc, ◌&&◌, ◌||◌, Bool, true, false, not, cond, List, [], ◌∷◌, ◌++◌, map, length, Option, Some, None, slice_index, slice_index_or, refl, sym, ap, ◌∙◌, filter, list_any, list_all, option_map, Litmus, Claim, TruthClaim, RegClaim, LocClaim, NotClaim, AndClaim, OrClaim, writes_to, Reg, Entry, Known, bare, events_of, same_event, is_event, with_source, with_pair, is_write_of, reads_from, comes_before, is_overwritten, from_reads, relates, on_location, global_in, is_edge, is_cycle, are_parts, left_of, known_in, known_first_registers, writes_from, value_among, returned_from, returned, known_writes, all_known, value_read, register_at_end, can_be_last, words_at_end, can_be, allows, Node, ReadsFrom, ComesFirst, OnLocation, Globally, Between, FalseClaim, sources_of, is_node, branches, close, Source, Model, Relation, Po, PoLoc, PoGhb, Mfence, Implied, Rf, Rfe, Co, Fr, Reply, Reads, First, with_reply}
 use mathlib.Core.Path.{fun_ext, ap₂}
 use Rattle.refutation_laws.specs.declared.known.Pair.{Pair}
 
@@ -92,7 +92,7 @@ module _ (t : Litmus) where
 
   register-same : (k : Known) (core : ℕ) (reg : Reg) → register_at_end t (plain k) core reg ≡ register_at_end t k core reg
   register-same k core reg =
-      ap (λ (given : Entry → Option ℕ). known_in (left_of given core 0 (slice_index_or t.programs core []) (first_registers t.registers core)) reg) (value-same k)
+      ap (λ (given : Entry → Option ℕ). known_in (left_of given core 0 (slice_index_or t.programs core []) (known_first_registers t.registers core)) reg) (value-same k)
 
   last-same : (k : Known) (loc : ℕ) → can_be_last t (plain k) loc ≡ can_be_last t k loc
   last-same k loc = fun_ext (λ w. ap (λ (p : Entry → Bool). writes_to loc w && not (list_any p (events_of t))) (fun_ext (λ v. comes-same k w v)))

@@ -1,9 +1,9 @@
 -- What is printed of runs tells them apart.
-use Rattle.printed_laws.proofs.Vocabulary.{◌≡◌, ℕ, ◌+◌, ◌≤◌, Bool, true, false, cond, List, length, get_or, refl, sym, ap, ◌∙◌, arith, escape_byte, Litmus, IsTest, Run, ProtocolKind, Configuration, IsConfigurationWithinLimits, Shown, FitsTest, shown_under, EndedRunsFit, ChoicesAreCounted, report_in, unfinished_in, run_under, PrintedRunsAreTold, ReportsTellTheirRuns, UnfinishedRunsAreTold}
+use Rattle.printed_laws.proofs.Vocabulary.{◌≡◌, ℕ, ◌+◌, ◌≤◌, Bool, true, false, cond, List, length, get_or, refl, sym, ap, ◌∙◌, arith, escape_byte, Litmus, IsTest, Run, ProtocolKind, Configuration, IsConfigurationWithinLimits, ShownRun, RunFitsTest, shown_under, EndedRunsFit, ChoicesAreCounted, report_in, unfinished_in, run_under, PrintedRunsAreTold, ReportsTellTheirRuns, UnfinishedRunsAreTold}
 
 -- ---- a report is no text of a run that didn't end
 
-no-report : (json : Bool) (t : Litmus) (kind : ProtocolKind) (c : Configuration) (s : Shown) (used stalled : ℕ) → report_in json t kind c s ≡ unfinished_in json used stalled → ⊥
+no-report : (json : Bool) (t : Litmus) (kind : ProtocolKind) (c : Configuration) (s : ShownRun) (used stalled : ℕ) → report_in json t kind c s ≡ unfinished_in json used stalled → ⊥
 unfolding escape_byte
 no-report false t kind c s used stalled same = let first : 84 ≡ 85 = ap (λ (l : List ℕ). get_or l 0 0) same in absurd (omega (arith, first))
 no-report true t kind c s used stalled same = let third : 99 ≡ 117 = ap (λ (l : List ℕ). get_or l 2 0) same in absurd (omega (arith, third))
@@ -18,15 +18,15 @@ abbrev AreFew : ℕ → Run → Type 0
 AreFew n r = (r.used + r.unused ≡ n) × (r.stalled ≤ r.used)
 
 -- what two runs leave, where each ended or not
-record AreAlike (r o : Run) (s u : Shown) : Type 0 where
+record AreAlike (r o : Run) (s u : ShownRun) : Type 0 where
   ended : r.ended ≡ o.ended
   shown : r.ended ≡ true → s ≡ u
   used : r.ended ≡ false → r.used ≡ o.used
   stalled : r.ended ≡ false → r.stalled ≡ o.stalled
 
-alike : (t : Litmus) (kind : ProtocolKind) (c : Configuration) (json : Bool) (r o : Run) (s u : Shown) (m n : ℕ)
+alike : (t : Litmus) (kind : ProtocolKind) (c : Configuration) (json : Bool) (r o : Run) (s u : ShownRun) (m n : ℕ)
     → ((json : Bool) → ReportsTellTheirRuns json) → ((json : Bool) → UnfinishedRunsAreTold json) → IsTest t → IsConfigurationWithinLimits c
-    → (r.ended ≡ true → FitsTest t s) → (o.ended ≡ true → FitsTest t u) → AreFew m r → AreFew n o → m ≤ 100000 → n ≤ 100000
+    → (r.ended ≡ true → RunFitsTest t s) → (o.ended ≡ true → RunFitsTest t u) → AreFew m r → AreFew n o → m ≤ 100000 → n ≤ 100000
     → (b d : Bool) → r.ended ≡ b → o.ended ≡ d → cond b (report_in json t kind c s) (unfinished_in json r.used r.stalled) ≡ cond d (report_in json t kind c u) (unfinished_in json o.used o.stalled)
     → AreAlike r o s u
 alike t kind c json r o s u m n reports lines test within p q few few' small small' true true e d same = record {

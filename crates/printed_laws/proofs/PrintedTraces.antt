@@ -1,8 +1,8 @@
 -- What `trace` prints tells the run and its steps.
-use Rattle.printed_laws.proofs.Vocabulary.{◌≡◌, ◌∙◌, ℕ, ◌+◌, ◌^◌, ◌<◌, ◌≤◌, Bool, true, false, cond, List, [], ◌∷◌, ◌++◌, length, get_or, refl, sym, ap, arith, codes, append_cancel_left, append_cancel_right, max_depth, print, escape_byte, json_tokens, depth, members_depth, HasNumbers, MembersHaveNumbers, IsNumber-decimal, Data, Members, put, outline, members_outline, compact_text, print-outline, Litmus, IsTest, Run, CoresExist, Choice, ProtocolKind, Configuration, IsConfigurationWithinLimits, Shown, head, body, run_members, run_value, unfinished_members, unfinished_value, json_report, json_unfinished, trace_text, trace_under, programs_value, proposition_value, trace_json, report_in, unfinished_in, run_under, counts_under, FitsTest, shown_under, EndedRunsFit, ChoicesAreCounted, PrintedRunsAreTold, ReportsTellTheirMachines, told_by_line, told_by_object, TraceValuesTellTheirSteps, PrintedTracesAreTold, PrintedTracesNameTheSame}
+use Rattle.printed_laws.proofs.Vocabulary.{◌≡◌, ◌∙◌, ℕ, ◌+◌, ◌^◌, ◌<◌, ◌≤◌, Bool, true, false, cond, List, [], ◌∷◌, ◌++◌, length, get_or, refl, sym, ap, arith, codes, append_cancel_left, append_cancel_right, max_depth, print, escape_byte, json_tokens, depth, members_depth, HasNumbers, MembersHaveNumbers, IsNumber-decimal, Data, Members, put, outline, members_outline, compact_text, print-outline, Litmus, IsTest, Run, CoresExist, Choice, ProtocolKind, Configuration, IsConfigurationWithinLimits, ShownRun, head, body, run_members, run_value, unfinished_members, unfinished_run_value, json_report, json_unfinished, trace_text, trace_under, programs_value, proposition_value, trace_json, report_in, unfinished_in, run_under, counts_under, RunFitsTest, shown_under, EndedRunsFit, ChoicesAreCounted, PrintedRunsAreTold, ReportsTellTheirMachines, told_by_line, told_by_object, TraceValuesTellTheirSteps, PrintedTracesAreTold, PrintedTracesNameTheSame}
 use Rattle.json.specs.Json as json
 use Rattle.trace_json.specs.TracedRun.{with_trace, ended_value, unended_value, json_ended, json_unended}
-use Rattle.commands.specs.Lines.{unfinished_line}
+use Rattle.commands.specs.Lines.{unfinished_run_line}
 use Rattle.commands.specs.Trace.{ending_text}
 use Rattle.printed_laws.proofs.Heads.{head-cut}
 use Rattle.printed_laws.proofs.JsonNumbers.{run-numbers, run-depth}
@@ -15,13 +15,13 @@ use Rattle.printed_laws.proofs.TraceRuns.{same-steps, choices-told, trace-told}
 -- ---- lines
 
 -- what is behind the trace, of a run that ended or didn't
-abbrev Ending : Bool → Litmus → Shown → Run → List ℕ
-Ending b t s r = cond b (body t s) (unfinished_line r.used r.stalled)
+abbrev Ending : Bool → Litmus → ShownRun → Run → List ℕ
+Ending b t s r = cond b (body t s) (unfinished_run_line r.used r.stalled)
 
-abbrev Report : Bool → Bool → Litmus → ProtocolKind → Configuration → Shown → Run → List ℕ
+abbrev Report : Bool → Bool → Litmus → ProtocolKind → Configuration → ShownRun → Run → List ℕ
 Report json b t kind c s r = cond b (report_in json t kind c s) (unfinished_in json r.used r.stalled)
 
-ending-told : (t : Litmus) (kind : ProtocolKind) (c : Configuration) (s u : Shown) (r o : Run) (b d : Bool) → Ending b t s r ≡ Ending d t u o → Report false b t kind c s r ≡ Report false d t kind c u o
+ending-told : (t : Litmus) (kind : ProtocolKind) (c : Configuration) (s u : ShownRun) (r o : Run) (b d : Bool) → Ending b t s r ≡ Ending d t u o → Report false b t kind c s r ≡ Report false d t kind c u o
 ending-told t kind c s u r o true true same = ap (λ (l : List ℕ). head t kind c ++ l) same
 ending-told t kind c s u r o false false same = same
 ending-told t kind c s u r o true false same = let first : 79 ≡ 85 = ap (λ (l : List ℕ). get_or l 0 0) same in absurd (omega (arith, first))
@@ -71,10 +71,10 @@ module _ (t : Litmus) (kind : ProtocolKind) (c : Configuration) (test : IsTest t
       (put-depth 127 (codes "proposition") (proposition_value t) traced (omega (arith, proposition))
       (put-depth 127 (codes "trace") (trace_json t kind c choices) ms (omega (arith, deep)) flat))
 
-  ended-numbers : (choices : List Choice) (s : Shown) → IsConfigurationWithinLimits c → CoresExist (length t.programs) choices → FitsTest t s → HasNumbers (outline (ended_value t kind c choices s))
+  ended-numbers : (choices : List Choice) (s : ShownRun) → IsConfigurationWithinLimits c → CoresExist (length t.programs) choices → RunFitsTest t s → HasNumbers (outline (ended_value t kind c choices s))
   ended-numbers choices s within exist fits = members-numbers choices (run_members t kind c s) exist (run-numbers t kind c s within fits.small)
 
-  ended-depth : (choices : List Choice) (s : Shown) → CoresExist (length t.programs) choices → depth (outline (ended_value t kind c choices s)) ≤ max_depth
+  ended-depth : (choices : List Choice) (s : ShownRun) → CoresExist (length t.programs) choices → depth (outline (ended_value t kind c choices s)) ≤ max_depth
   ended-depth choices s exist =
       let run = run-depth t kind c s in
       let all = members-depth choices (run_members t kind c s) exist (omega (arith, run)) in
@@ -108,8 +108,8 @@ unfinished_in_object j = json.object (json.member (codes "unfinished") (value_at
 same-text : (d e : Data) → outline d ≡ outline e → compact_text d ++ 10 ∷ [] ≡ compact_text e ++ 10 ∷ []
 same-text d e same = ap (λ (l : List ℕ). l ++ 10 ∷ []) (sym (print-outline d) ∙ (ap (λ (j : json.Json). print (json_tokens j)) same ∙ print-outline e))
 
-ended-told : (t u : Litmus) (kind other_kind : ProtocolKind) (c d : Configuration) (xs ys : List Choice) (s o : Shown) → IsTest t → IsTest u → IsConfigurationWithinLimits c → IsConfigurationWithinLimits d
-    → CoresExist (length t.programs) xs → CoresExist (length u.programs) ys → FitsTest t s → FitsTest u o → json_ended t kind c xs s ≡ json_ended u other_kind d ys o
+ended-told : (t u : Litmus) (kind other_kind : ProtocolKind) (c d : Configuration) (xs ys : List Choice) (s o : ShownRun) → IsTest t → IsTest u → IsConfigurationWithinLimits c → IsConfigurationWithinLimits d
+    → CoresExist (length t.programs) xs → CoresExist (length u.programs) ys → RunFitsTest t s → RunFitsTest u o → json_ended t kind c xs s ≡ json_ended u other_kind d ys o
     → (json_report t kind c s ≡ json_report u other_kind d o) × (outline (trace_json t kind c xs) ≡ outline (trace_json u other_kind d ys))
 ended-told t u kind other_kind c d xs ys s o test test' within within' exist exist' fits fits' e =
     let a = ended_value t kind c xs s in
@@ -126,24 +126,24 @@ unended-told t kind c xs ys r o test exist exist' used stalled used' stalled' e 
     let b = unended_value t kind c ys o.used o.stalled in
     let same = value-told a b (unended-numbers t kind c test xs r.used r.stalled exist used stalled) (unended-numbers t kind c test ys o.used o.stalled exist' used' stalled')
     (unended-depth t kind c test xs r.used r.stalled exist) (unended-depth t kind c test ys o.used o.stalled exist') (append_cancel_right (compact_text a) (compact_text b) (10 ∷ []) e) in
-    (same-text (unfinished_value r.used r.stalled) (unfinished_value o.used o.stalled) (ap unfinished_in_object same), ap (value_at 2) same)
+    (same-text (unfinished_run_value r.used r.stalled) (unfinished_run_value o.used o.stalled) (ap unfinished_in_object same), ap (value_at 2) same)
 
 -- the first key of a run that ended is `cache`, and of one that didn't `programs`
-apart : (t : Litmus) (kind : ProtocolKind) (c : Configuration) (xs ys : List Choice) (s : Shown) (used stalled : ℕ) → json_ended t kind c xs s ≡ json_unended t kind c ys used stalled → ⊥
+apart : (t : Litmus) (kind : ProtocolKind) (c : Configuration) (xs ys : List Choice) (s : ShownRun) (used stalled : ℕ) → json_ended t kind c xs s ≡ json_unended t kind c ys used stalled → ⊥
 unfolding escape_byte
 apart t kind c xs ys s used stalled same = let third : 99 ≡ 112 = ap (λ (l : List ℕ). get_or l 2 0) same in absurd (omega (arith, third))
 
 -- a run of so many choices: what is shown of it fits the test, where it ended, and each choice was used or is left over
-record IsFit (t : Litmus) (n : ℕ) (b : Bool) (s : Shown) (r : Run) : Type 0 where
-  fits : b ≡ true → FitsTest t s
+record IsFit (t : Litmus) (n : ℕ) (b : Bool) (s : ShownRun) (r : Run) : Type 0 where
+  fits : b ≡ true → RunFitsTest t s
   all : r.used + r.unused ≡ n
   stalls : r.stalled ≤ r.used
   few : n ≤ 100000
 
-abbrev Object : Bool → Litmus → ProtocolKind → Configuration → List Choice → Shown → Run → List ℕ
+abbrev Object : Bool → Litmus → ProtocolKind → Configuration → List Choice → ShownRun → Run → List ℕ
 Object b t kind c xs s r = cond b (json_ended t kind c xs s) (json_unended t kind c xs r.used r.stalled)
 
-object-told : (t : Litmus) (kind : ProtocolKind) (c : Configuration) (xs ys : List Choice) (s u : Shown) (r o : Run) (m n : ℕ) → IsTest t → IsConfigurationWithinLimits c
+object-told : (t : Litmus) (kind : ProtocolKind) (c : Configuration) (xs ys : List Choice) (s u : ShownRun) (r o : Run) (m n : ℕ) → IsTest t → IsConfigurationWithinLimits c
     → CoresExist (length t.programs) xs → CoresExist (length t.programs) ys → (b d : Bool) → IsFit t m b s r → IsFit t n d u o → Object b t kind c xs s r ≡ Object d t kind c ys u o
     → (Report true b t kind c s r ≡ Report true d t kind c u o) × (outline (trace_json t kind c xs) ≡ outline (trace_json t kind c ys))
 object-told t kind c xs ys s u r o m n test within exist exist' true true p q e = ended-told t t kind kind c c xs ys s u test test within within exist exist' (p.fits refl) (q.fits refl) e

@@ -1,5 +1,5 @@
 -- The answers of a refutation, as they are read from its steps.
-use Rattle.printed_laws.proofs.Vocabulary.{◌≡◌, ◌&&◌, Bool, true, false, not, cond, List, [], ◌∷◌, ◌++◌, map, Option, Some, None, refl, sym, ap, ◌∙◌, ◌⊎◌, inl, inr, filter, list_any, option_map, and_parts, and_from, or_right, Litmus, Entry, Each, each-map, Known, bare, same_event, Node, ReadsFrom, ComesFirst, OnLocation, Globally, Between, FalseClaim, sources_of, same-bare, itself, Reply, Reads, First, replies, Branch, write_in, answer_at, is_source, groups, entry_in, replies_in, ReadCase, same_source, same_reply}
+use Rattle.printed_laws.proofs.Vocabulary.{◌≡◌, ◌&&◌, Bool, true, false, not, cond, List, [], ◌∷◌, ◌++◌, map, Option, Some, None, refl, sym, ap, ◌∙◌, ◌⊎◌, inl, inr, filter, list_any, option_map, and_parts, and_from, or_right, Litmus, Entry, Each, each-map, Known, bare, same_event, Node, ReadsFrom, ComesFirst, OnLocation, Globally, Between, FalseClaim, sources_of, same-bare, itself, Reply, Reads, First, replies, Branch, write_of_answer, answer_at, is_source, groups, entry_of_event, replies_in, ReadCase, same_source, same_reply}
 use mathlib.Core.Path.{fun_ext, ap₂}
 use Rattle.printed_laws.proofs.PlainAnswers.{plain-reply}
 
@@ -130,7 +130,7 @@ one-read t k (Reads r (Some w)) = refl
 one-read t k (First w v) = refl
 
 writes-read : (t : Litmus) (k : Known) (r : Entry) (all : List Reply) → Each (Answers (ReadsFrom r)) all
-    → map (λ w. Reads (bare r) (option_map entry_in w)) (map (write_in t k) all) ≡ map plain-reply all
+    → map (λ w. Reads (bare r) (option_map entry_of_event w)) (map (write_of_answer t k) all) ≡ map plain-reply all
 writes-read t k r [] each = refl
 writes-read t k r (Reads q None ∷ all) each = ap₂ (λ e (rs : List Reply). Reads (bare e) None ∷ rs) (sym each.0) (writes-read t k r all each.1)
 writes-read t k r (Reads q (Some w) ∷ all) each = ap₂ (λ e (rs : List Reply). Reads (bare e) (Some (bare w)) ∷ rs) (sym each.0) (writes-read t k r all each.1)
@@ -140,7 +140,7 @@ pub several-read : (t : Litmus) (n : Node) (k : Known) (r : Reply) (all : List R
     → replies_in (answer_at t k r all) ≡ map plain-reply all
 several-read t n k (First w v) all source answers each = absurd (let no : ⊥ = cc in no)
 several-read t (ReadsFrom r) k (Reads e w) all source answers each =
-    ap (λ (x : Entry). map (λ o. Reads (bare x) (option_map entry_in o)) (map (write_in t k) all)) answers ∙ writes-read t k r all each
+    ap (λ (x : Entry). map (λ o. Reads (bare x) (option_map entry_of_event o)) (map (write_of_answer t k) all)) answers ∙ writes-read t k r all each
 several-read t (ComesFirst x y) k (Reads e w) all source answers each = absurd answers
 several-read t (OnLocation cycle) k (Reads e w) all source answers each = absurd answers
 several-read t (Globally cycle) k (Reads e w) all source answers each = absurd answers

@@ -1,5 +1,5 @@
 -- The cases of one question, as they are read from its steps: each answer has a case, and its part closes it.
-use Rattle.printed_laws.proofs.Vocabulary.{◌≡◌, ℕ, ◌+◌, ◌||◌, Bool, true, false, cond, List, [], ◌∷◌, ◌++◌, map, refl, sym, ap, ◌∙◌, subst, append-nil, filter, list_any, flat_map, and_parts, and_from, or_right, Litmus, Claim, Each, each-append, each-map, Known, Node, ReadsFrom, ComesFirst, OnLocation, Globally, Between, FalseClaim, is_node, branches, close, Model, Reply, Step, Case, So, Endcases, is_false, replies, with_reply, Part, Branch, is_closed, is_source, is_false_source, are_alike, groups, closed_case, answer_of_case, answer_of_branch, case_steps, so_steps, rest_steps, leaf_in, replies_in, ReadCase, ReadPart, Closed, Cases, same_reply, nodes_with, nodes_of, cases_with, parts_from, parts_in}
+use Rattle.printed_laws.proofs.Vocabulary.{◌≡◌, ℕ, ◌+◌, ◌||◌, Bool, true, false, cond, List, [], ◌∷◌, ◌++◌, map, refl, sym, ap, ◌∙◌, subst, append-nil, filter, list_any, flat_map, and_parts, and_from, or_right, Litmus, Claim, Each, each-append, each-map, Known, Node, ReadsFrom, ComesFirst, OnLocation, Globally, Between, FalseClaim, is_node, branches, close, Model, Reply, ReasonStep, Case, So, Endcases, is_false, replies, with_reply, Part, Branch, is_closed, is_source, is_false_source, are_alike, groups, closed_case, answer_of_case, answer_of_branch, case_steps, so_steps, rest_steps, leaf_in, replies_in, ReadCase, ReadPart, Closed, Cases, same_reply, nodes_with, nodes_of, cases_with, parts_before, parts_in}
 use Rattle.std.proofs.Common.{append_assoc}
 use Rattle.refutation_laws.proofs.Composing.{side-by-side}
 use Rattle.printed_laws.proofs.PlainAnswers.{plain-reply, reply-alike, close-alike}
@@ -13,7 +13,7 @@ module _ (model : Model) (t : Litmus) (claim : Claim) where
 
   -- ---- parts
 
-  pub record PartReads (k : Known) (steps ss : List Step) : Type 0 where
+  pub record PartReads (k : Known) (steps ss : List ReasonStep) : Type 0 where
     pub part : ReadPart
     pub is : parts_in t (steps ++ ss) ≡ part ∷ parts_in t ss
     pub closes : Closes k (nodes_of t part)
@@ -21,7 +21,7 @@ module _ (model : Model) (t : Litmus) (claim : Claim) where
   -- the part of a node that may stand where these answers are given
   pub record Whole (k : Known) (p : Part) : Type 0 where
     pub node : is_node model t claim k p.root ≡ true
-    pub reads : (depth : ℕ) (ss : List Step) → PartReads k (p.steps depth k) ss
+    pub reads : (depth : ℕ) (ss : List ReasonStep) → PartReads k (p.steps depth k) ss
 
   false-is : (n : Node) → is_false n ≡ true → n ≡ FalseClaim
   false-is (ReadsFrom r) is = absurd (let no : ⊥ = cc in no)
@@ -77,7 +77,7 @@ module _ (model : Model) (t : Litmus) (claim : Claim) where
 
     -- ---- lines
 
-    pub record CasesRead (groups : List (List Branch)) (steps ss : List Step) : Type 0 where
+    pub record CasesRead (groups : List (List Branch)) (steps ss : List ReasonStep) : Type 0 where
       pub cases : List ReadCase
       pub is : parts_in t (steps ++ ss) ≡ Cases cases ∷ parts_in t ss
       pub closes : Each CaseCloses cases
@@ -105,7 +105,7 @@ module _ (model : Model) (t : Litmus) (claim : Claim) where
     own-close nodes (b ∷ bs) reads closes = (case-closes nodes b reads.0 closes.0, own-close nodes bs reads.1 closes.1)
 
     -- the cases of these branches, which have one part, before further ones
-    with-these : (nodes : List Node) (bs : List Branch) (groups : List (List Branch)) (tail steps ss : List Step) → Each BranchReads bs
+    with-these : (nodes : List Node) (bs : List Branch) (groups : List (List Branch)) (tail steps ss : List ReasonStep) → Each BranchReads bs
         → Each (λ (b : Branch). Closes b.known nodes) bs → (old : CasesRead groups tail ss)
         → parts_in t (steps ++ ss) ≡ Cases (map (case-of nodes) bs ++ old.cases) ∷ parts_in t ss → CasesRead (bs ∷ groups) steps ss
     with-these nodes bs groups tail steps ss reads closes old line = record {
@@ -120,37 +120,37 @@ module _ (model : Model) (t : Litmus) (claim : Claim) where
     one-case : (nodes : List Node) (b : Branch) → cases_with nodes (answer_of_branch t b) ≡ case-of nodes b ∷ []
     one-case nodes b = ap (map (λ (r : Reply). record { reply = r; nodes = nodes })) (one-read t b.known b.reply)
 
-    case-before : (depth : ℕ) (b : Branch) (groups : List (List Branch)) (tail ss : List Step) → BranchReads b → CasesRead groups tail ss
+    case-before : (depth : ℕ) (b : Branch) (groups : List (List Branch)) (tail ss : List ReasonStep) → BranchReads b → CasesRead groups tail ss
         → CasesRead ((b ∷ []) ∷ groups) (case_steps t depth b ++ tail) ss
     case-before depth b groups tail ss reads old =
         let below = b.part.steps (depth + 1) b.known in
         let r = reads.part.reads (depth + 1) (tail ++ ss) in
         with-these (nodes_of t r.part) (b ∷ []) groups tail (case_steps t depth b ++ tail) ss (reads, tt) (r.closes, tt) old
-        (ap (parts_from t (Case depth (answer_of_branch t b))) (ap (parts_in t) (append_assoc below tail ss) ∙ (r.is ∙ ap (λ (ps : List ReadPart). r.part ∷ ps) old.is))
+        (ap (parts_before t (Case depth (answer_of_branch t b))) (ap (parts_in t) (append_assoc below tail ss) ∙ (r.is ∙ ap (λ (ps : List ReadPart). r.part ∷ ps) old.is))
         ∙ ap (λ (cs : List ReadCase). Cases (cs ++ old.cases) ∷ parts_in t ss) (one-case (nodes_of t r.part) b))
 
-    joined : (b : Branch) (bs : List Branch) (steps ss : List Step) → CasesRead ((b ∷ []) ∷ (bs ∷ [])) steps ss → CasesRead ((b ∷ bs) ∷ []) steps ss
+    joined : (b : Branch) (bs : List Branch) (steps ss : List ReasonStep) → CasesRead ((b ∷ []) ∷ (bs ∷ [])) steps ss → CasesRead ((b ∷ bs) ∷ []) steps ss
     joined b bs steps ss old = record { cases = old.cases; is = old.is; closes = old.closes; given = ((old.given.0.0, old.given.1.0), tt) }
 
-    many-read : (depth : ℕ) (bs : List Branch) (ss : List Step) → Each BranchReads bs → CasesRead (bs ∷ []) (flat_map (case_steps t depth) bs ++ (Endcases depth ∷ [])) ss
+    many-read : (depth : ℕ) (bs : List Branch) (ss : List ReasonStep) → Each BranchReads bs → CasesRead (bs ∷ []) (flat_map (case_steps t depth) bs ++ (Endcases depth ∷ [])) ss
     many-read depth [] ss reads = record { cases = []; is = refl; closes = tt; given = (tt, tt) }
     many-read depth (b ∷ bs) ss reads =
         let later = flat_map (case_steps t depth) bs in
         joined b bs (flat_map (case_steps t depth) (b ∷ bs) ++ (Endcases depth ∷ [])) ss
-        (subst (λ (steps : List Step). CasesRead ((b ∷ []) ∷ (bs ∷ [])) steps ss) (sym (append_assoc (case_steps t depth b) later (Endcases depth ∷ [])))
+        (subst (λ (steps : List ReasonStep). CasesRead ((b ∷ []) ∷ (bs ∷ [])) steps ss) (sym (append_assoc (case_steps t depth b) later (Endcases depth ∷ [])))
         (case-before depth b (bs ∷ []) (later ++ (Endcases depth ∷ [])) ss reads.0 (many-read depth bs ss reads.1)))
 
-    so-read : (depth : ℕ) (b : Branch) (ss : List Step) → BranchReads b → CasesRead ((b ∷ []) ∷ []) (so_steps t depth b) ss
+    so-read : (depth : ℕ) (b : Branch) (ss : List ReasonStep) → BranchReads b → CasesRead ((b ∷ []) ∷ []) (so_steps t depth b) ss
     so-read depth b ss reads =
         let r = reads.part.reads depth ss in
         record {
           cases = case-of (nodes_of t r.part) b ∷ [];
-          is = ap (parts_from t (So depth (answer_of_branch t b))) r.is ∙ ap (λ (cs : List ReadCase). Cases cs ∷ parts_in t ss) (one-case (nodes_of t r.part) b);
+          is = ap (parts_before t (So depth (answer_of_branch t b))) r.is ∙ ap (λ (cs : List ReadCase). Cases cs ∷ parts_in t ss) (one-case (nodes_of t r.part) b);
           closes = (case-closes (nodes_of t r.part) b reads r.closes, tt);
           given = (own-given (nodes_of t r.part) (b ∷ []) [], tt);
         }
 
-    pub rest-read : (depth : ℕ) (bs : List Branch) (ss : List Step) → Each BranchReads bs → CasesRead (bs ∷ []) (rest_steps t depth bs) ss
+    pub rest-read : (depth : ℕ) (bs : List Branch) (ss : List ReasonStep) → Each BranchReads bs → CasesRead (bs ∷ []) (rest_steps t depth bs) ss
     rest-read depth [] ss reads = many-read depth [] ss reads
     rest-read depth (b ∷ []) ss reads = so-read depth b ss reads.0
     rest-read depth (b ∷ (c ∷ bs)) ss reads = many-read depth (b ∷ (c ∷ bs)) ss reads
@@ -189,24 +189,24 @@ module _ (model : Model) (t : Litmus) (claim : Claim) where
           alike-close b others reads.1 alike.1,
         )
 
-    closed-read : (depth : ℕ) (b : Branch) (others : List Branch) (groups : List (List Branch)) (tail ss : List Step) → GroupReads (b ∷ others) → CasesRead groups tail ss
+    closed-read : (depth : ℕ) (b : Branch) (others : List Branch) (groups : List (List Branch)) (tail ss : List ReasonStep) → GroupReads (b ∷ others) → CasesRead groups tail ss
         → CasesRead ((b ∷ others) ∷ groups) (closed_case model t claim depth k (b ∷ others) ++ tail) ss
     closed-read depth b others groups tail ss reads old =
         let a = answer_of_case t k b others in
         let l = leaf-line t model claim (depth + 1) b.known (map (λ (c : Branch). c.known) (b ∷ others)) b.part.root reads.1 in
         with-these (plain-node b.part.root ∷ []) (b ∷ others) groups tail (closed_case model t claim depth k (b ∷ others) ++ tail) ss reads.0
         (leaf-closes t model claim b.known b.part.root reads.1 reads.0.0.part.node, alike-close b others reads.0.1 reads.2) old
-        (ap (λ (ls : List Step). parts_from t (Case depth a) (parts_in t ((ls ++ tail) ++ ss))) l.line
-        ∙ (ap (λ (ps : List ReadPart). parts_from t (Case depth a) (Closed (leaf_in l.closing) ∷ ps)) old.is
+        (ap (λ (ls : List ReasonStep). parts_before t (Case depth a) (parts_in t ((ls ++ tail) ++ ss))) l.line
+        ∙ (ap (λ (ps : List ReadPart). parts_before t (Case depth a) (Closed (leaf_in l.closing) ∷ ps)) old.is
         ∙ (ap (λ (m : Node). Cases (cases_with (m ∷ []) a ++ old.cases) ∷ parts_in t ss) l.leaf
         ∙ ap (λ (cs : List ReadCase). Cases (cs ++ old.cases) ∷ parts_in t ss) (group-cases (plain-node b.part.root ∷ []) b others reads))))
 
-    pub groups-read : (depth : ℕ) (groups others : List (List Branch)) (tail ss : List Step) → Each GroupReads groups → CasesRead others tail ss
+    pub groups-read : (depth : ℕ) (groups others : List (List Branch)) (tail ss : List ReasonStep) → Each GroupReads groups → CasesRead others tail ss
         → CasesRead (groups ++ others) (flat_map (closed_case model t claim depth k) groups ++ tail) ss
     groups-read depth [] others tail ss reads old = old
     groups-read depth ([] ∷ groups) others tail ss reads old = absurd reads.0
     groups-read depth ((b ∷ bs) ∷ groups) others tail ss reads old =
-        subst (λ (steps : List Step). CasesRead (((b ∷ bs) ∷ groups) ++ others) steps ss)
+        subst (λ (steps : List ReasonStep). CasesRead (((b ∷ bs) ∷ groups) ++ others) steps ss)
         (sym (append_assoc (closed_case model t claim depth k (b ∷ bs)) (flat_map (closed_case model t claim depth k) groups) tail))
         (closed-read depth b bs (groups ++ others) (flat_map (closed_case model t claim depth k) groups ++ tail) ss reads.0 (groups-read depth groups others tail ss reads.1 old))
 

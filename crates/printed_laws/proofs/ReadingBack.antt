@@ -1,9 +1,9 @@
 -- What is read back from the steps of a refutation refutes: each question has a part for each of its answers, and each part closes
 -- the case of its answer.
-use Rattle.printed_laws.proofs.Vocabulary.{◌≡◌, ℕ, ◌==◌, Bool, true, false, not, cond, List, [], ◌∷◌, ◌++◌, map, length, drop, Option, refl, sym, ap, ◌∙◌, subst, ◌⊎◌, inl, inr, append-nil, filter, flat_map, and_parts, and_from, Litmus, Claim, is_write, Entry, length-map, Each, each-left, each-right, Known, bare, nothing, same_event, is_event, with_source, Node, ReadsFrom, ComesFirst, OnLocation, Globally, Between, FalseClaim, sources_of, is_node, branches, close, Model, same-bare, bare-same, Reply, Reads, First, Step, is_leaf, leaf_steps, replies, with_reply, Part, Branch, branches_with, is_closed, groups, rest_steps, question_steps, grown, question_of, ReadCase, Closed, Cases, nodes_with, nodes_of, parts_in, tree_of, StepsOfRefutationsRefute}
+use Rattle.printed_laws.proofs.Vocabulary.{◌≡◌, ℕ, ◌==◌, Bool, true, false, not, cond, List, [], ◌∷◌, ◌++◌, map, length, drop, Option, refl, sym, ap, ◌∙◌, subst, ◌⊎◌, inl, inr, append-nil, filter, flat_map, and_parts, and_from, Litmus, Claim, is_write, Entry, length-map, Each, each-left, each-right, Known, bare, nothing, same_event, is_event, with_source, Node, ReadsFrom, ComesFirst, OnLocation, Globally, Between, FalseClaim, sources_of, is_node, branches, close, Model, same-bare, bare-same, Reply, Reads, First, ReasonStep, is_leaf, leaf_steps, replies, with_reply, Part, Branch, branches_with, is_closed, groups, rest_steps, question_steps, grown, question_answered, ReadCase, Closed, Cases, nodes_with, nodes_of, parts_in, tree_of, StepsOfRefutationsRefute}
 use mathlib.Core.Path.{ap₂}
 use Rattle.relational_model.proofs.KindFacts.{number-same, same-number}
-use Rattle.reason_report.specs.Steps.{parts_of}
+use Rattle.reason_report.specs.Steps.{parts_of_nodes}
 use Rattle.printed_laws.proofs.PlainAnswers.{plain-reply}
 use Rattle.printed_laws.proofs.CaseGroups.{all-grouped}
 use Rattle.printed_laws.proofs.ReadAnswers.{each-mapped, each-filter, kept, both-kept, Answers, replies-answer, IsGiven, given-alike}
@@ -42,12 +42,12 @@ module _ (model : Model) (t : Litmus) (claim : Claim) where
   branches-are k (Between r v w) = refl
   branches-are k FalseClaim = refl
 
-  asks-source : (r : Entry) (q : Reply) → Answers (ReadsFrom r) q → question_of (plain-reply q) ≡ ReadsFrom (bare r)
+  asks-source : (r : Entry) (q : Reply) → Answers (ReadsFrom r) q → question_answered (plain-reply q) ≡ ReadsFrom (bare r)
   asks-source r (Reads e w) answers = ap (λ (x : Entry). ReadsFrom (bare x)) answers
   asks-source r (First x y) answers = absurd answers
 
   asks-first : (w v : Entry) (q : Reply) → Answers (ComesFirst w v) q
-      → (question_of (plain-reply q) ≡ ComesFirst (bare w) (bare v)) ⊎ (question_of (plain-reply q) ≡ ComesFirst (bare v) (bare w))
+      → (question_answered (plain-reply q) ≡ ComesFirst (bare w) (bare v)) ⊎ (question_answered (plain-reply q) ≡ ComesFirst (bare v) (bare w))
   asks-first w v (Reads e o) answers = absurd answers
   asks-first w v (First x y) (inl answers) = inl (ap₂ (λ (a b : Entry). ComesFirst (bare a) (bare b)) answers.0 answers.1)
   asks-first w v (First x y) (inr answers) = inr (ap₂ (λ (a b : Entry). ComesFirst (bare a) (bare b)) answers.0 answers.1)
@@ -56,7 +56,7 @@ module _ (model : Model) (t : Litmus) (claim : Claim) where
       → Each (IsGiven cs) (replies t n) → Closes k (nodes_of t (Cases cs))
   question-closes k (ReadsFrom r) leaf is [] each given = absurd (let first = given.0 in let no : ⊥ = cc in no)
   question-closes k (ReadsFrom r) leaf is (c ∷ cs) each given =
-      subst (λ (q : Node). Closes k (q ∷ flat_map (nodes_with (c ∷ cs)) (replies t q))) (sym (ap question_of each.0.is ∙ asks-source r each.0.reply each.0.answers))
+      subst (λ (q : Node). Closes k (q ∷ flat_map (nodes_with (c ∷ cs)) (replies t q))) (sym (ap question_answered each.0.is ∙ asks-source r each.0.reply each.0.answers))
       (asked-closes model t claim k (ReadsFrom r) (c ∷ cs) each (ReadsFrom (bare r)) is (branches-are k (ReadsFrom (bare r))) (plainly (sources_of t r) given))
     where
       plainly : (ws : List (Option Entry)) → Each (IsGiven (c ∷ cs)) (map (Reads r) ws) → Each (IsGiven (c ∷ cs)) (map (Reads (bare r)) ws)
@@ -71,13 +71,13 @@ module _ (model : Model) (t : Litmus) (claim : Claim) where
       other : IsGiven (c ∷ cs) (First (bare v) (bare w))
       other = given-alike (c ∷ cs) (First v w) (First (bare v) (bare w)) refl given.1.0
 
-      by : (question_of (plain-reply each.0.reply) ≡ ComesFirst (bare w) (bare v)) ⊎ (question_of (plain-reply each.0.reply) ≡ ComesFirst (bare v) (bare w))
+      by : (question_answered (plain-reply each.0.reply) ≡ ComesFirst (bare w) (bare v)) ⊎ (question_answered (plain-reply each.0.reply) ≡ ComesFirst (bare v) (bare w))
           → Closes k (nodes_of t (Cases (c ∷ cs)))
       by (inl asks) =
-          subst (λ (q : Node). Closes k (q ∷ flat_map (nodes_with (c ∷ cs)) (replies t q))) (sym (ap question_of each.0.is ∙ asks))
+          subst (λ (q : Node). Closes k (q ∷ flat_map (nodes_with (c ∷ cs)) (replies t q))) (sym (ap question_answered each.0.is ∙ asks))
           (asked-closes model t claim k (ComesFirst w v) (c ∷ cs) each (ComesFirst (bare w) (bare v)) is refl (one, (other, tt)))
       by (inr asks) =
-          subst (λ (q : Node). Closes k (q ∷ flat_map (nodes_with (c ∷ cs)) (replies t q))) (sym (ap question_of each.0.is ∙ asks))
+          subst (λ (q : Node). Closes k (q ∷ flat_map (nodes_with (c ∷ cs)) (replies t q))) (sym (ap question_answered each.0.is ∙ asks))
           (asked-closes model t claim k (ComesFirst w v) (c ∷ cs) each (ComesFirst (bare v) (bare w)) (turned-node k w v is) refl (other, (one, tt)))
   question-closes k (OnLocation cycle) leaf is cs each given = absurd (let no : ⊥ = cc in no)
   question-closes k (Globally cycle) leaf is cs each given = absurd (let no : ⊥ = cc in no)
@@ -85,7 +85,7 @@ module _ (model : Model) (t : Litmus) (claim : Claim) where
   question-closes k FalseClaim leaf is cs each given = absurd (let no : ⊥ = cc in no)
 
   question-reads : (k : Known) (n : Node) → is_leaf n ≡ false → is_node model t claim k n ≡ true → (bs : List Branch) → Each (BranchReads model t claim k n) bs
-      → map (λ (b : Branch). b.reply) bs ≡ replies t n → (depth : ℕ) (ss : List Step) → PartReads model t claim k (question_steps model t claim depth k bs) ss
+      → map (λ (b : Branch). b.reply) bs ≡ replies t n → (depth : ℕ) (ss : List ReasonStep) → PartReads model t claim k (question_steps model t claim depth k bs) ss
   question-reads k n leaf is bs reads are depth ss =
       let closed = filter is_closed bs in
       let open' = filter (λ (b : Branch). not (is_closed b)) bs in
@@ -128,13 +128,13 @@ module _ (model : Model) (t : Litmus) (claim : Claim) where
   branch-replies k (r ∷ rs) ks [] are = absurd are
   branch-replies k (r ∷ rs) ks (p ∷ ps) are = ap (λ (qs : List Reply). r ∷ qs) (branch-replies k rs ks ps are.1)
 
-  leaf-reads : (k : Known) (n : Node) → is_leaf n ≡ true → is_node model t claim k n ≡ true → (depth : ℕ) (ss : List Step)
+  leaf-reads : (k : Known) (n : Node) → is_leaf n ≡ true → is_node model t claim k n ≡ true → (depth : ℕ) (ss : List ReasonStep)
       → PartReads model t claim k (leaf_steps model t claim depth k (k ∷ []) n) ss
   leaf-reads k n leaf is depth ss =
       let l = leaf-line t model claim depth k (k ∷ []) n leaf in
       record {
         part = Closed (plain-node n);
-        is = ap (λ (ls : List Step). parts_in t (ls ++ ss)) l.line ∙ ap (λ (m : Node). Closed m ∷ parts_in t ss) l.leaf;
+        is = ap (λ (ls : List ReasonStep). parts_in t (ls ++ ss)) l.line ∙ ap (λ (m : Node). Closed m ∷ parts_in t ss) l.leaf;
         closes = leaf-closes t model claim k n leaf is;
       }
 
@@ -148,19 +148,19 @@ module _ (model : Model) (t : Litmus) (claim : Claim) where
       size : length (map (with_reply k) (replies t n)) ≡ length (replies t n)
       size = length-map (replies t n) (with_reply k)
 
-      by : (b : Bool) → is_leaf n ≡ b → (depth : ℕ) (ss : List Step)
+      by : (b : Bool) → is_leaf n ≡ b → (depth : ℕ) (ss : List ReasonStep)
           → PartReads model t claim k (cond b (leaf_steps model t claim depth k (k ∷ []) n) (question_steps model t claim depth k (branches_with k (replies t n) ps))) ss
       by true leaf depth ss = leaf-reads k n leaf is depth ss
       by false leaf depth ss =
           question-reads k n leaf is (branches_with k (replies t n) ps) (branches-read k n (replies t n) ks ps (replies-answer t n) now) (branch-replies k (replies t n) ks ps now) depth ss
 
-  parts-read : (ks : List Known) (ns : List Node) → close model t claim ks ns ≡ true → AreWhole ks (parts_of model t claim ns)
+  parts-read : (ks : List Known) (ns : List Node) → close model t claim ks ns ≡ true → AreWhole ks (parts_of_nodes model t claim ns)
   parts-read [] [] is = tt
   parts-read [] (n ∷ ns) is = absurd (let no : ⊥ = cc in no)
   parts-read (k ∷ ks) [] is = absurd (let no : ⊥ = cc in no)
   parts-read (k ∷ ks) (n ∷ ns) is =
       let parts = and_parts (is_node model t claim k n) (close model t claim (branches t k n ++ ks) ns) is in
-      grown-reads k n ks (parts_of model t claim ns) parts.0 (parts-read (branches t k n ++ ks) ns parts.1)
+      grown-reads k n ks (parts_of_nodes model t claim ns) parts.0 (parts-read (branches t k n ++ ks) ns parts.1)
 
   whole-reads : (ps : List Part) → AreWhole (nothing ∷ []) ps → Closes nothing (tree_of t (flat_map (λ (p : Part). p.steps 0 nothing) ps))
   whole-reads [] are = absurd are
@@ -170,4 +170,4 @@ module _ (model : Model) (t : Litmus) (claim : Claim) where
   whole-reads (p ∷ (q ∷ ps)) are = absurd are.1
 
 pub steps-refute : StepsOfRefutationsRefute
-steps-refute model t claim nodes is = whole-reads model t claim (parts_of model t claim nodes) (parts-read model t claim (nothing ∷ []) nodes is)
+steps-refute model t claim nodes is = whole-reads model t claim (parts_of_nodes model t claim nodes) (parts-read model t claim (nothing ∷ []) nodes is)

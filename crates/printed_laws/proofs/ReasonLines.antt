@@ -1,6 +1,6 @@
 -- The lines of a reason tell its steps.
-use Rattle.printed_laws.proofs.Vocabulary.{◌≡◌, ◌∙◌, ℕ, zero, suc, ◌==◌, Bool, true, false, if◌then◌else◌, List, [], ◌∷◌, ◌++◌, map, length, get_or, All, Option, Some, None, refl, sym, ap, codes, decimal, list_all, flat_map, is_ascii_digit, and_parts, append_assoc, append_cancel_left, length-replicate, All-head, All-tail, Litmus, IsTest, Condition, is_printable, is_test_name, line, test_line, on_location, global_in, Model, Tso, Sequential, Event, Closing, Uniproc, Cycle, Amid, False, Step, Case, So, Leaf, Endcases, leaves_in, verdict_line, model_name, asked_line, event_text, cycle_text, answer_text, place_text, closing_text, blanks, step_line, never_line, told_closing, told_step, ClosingFits, ReasonsTellTheirTests, ReasonsTellTheirSteps}
-use Rattle.printed_laws.specs.Reasons.{StepFits}
+use Rattle.printed_laws.proofs.Vocabulary.{◌≡◌, ◌∙◌, ℕ, zero, suc, ◌==◌, Bool, true, false, if◌then◌else◌, List, [], ◌∷◌, ◌++◌, map, length, get_or, All, Option, Some, None, refl, sym, ap, codes, decimal, list_all, flat_map, is_ascii_digit, and_parts, append_assoc, append_cancel_left, length-replicate, All-head, All-tail, Litmus, IsTest, Condition, is_printable, is_test_name, line, test_line, on_location, global_in, Model, Tso, Sequential, Event, Closing, Uniproc, Cycle, Amid, False, ReasonStep, Case, So, Leaf, Endcases, leaves_in, verdict_line, model_name, asked_line, event_text, cycle_text, answer_text, place_text, closing_text, blanks, reason_step_line, never_line, told_closing, told_reason_step, ClosingFits, ReasonsTellTheirTests, ReasonsTellTheirSteps}
+use Rattle.printed_laws.specs.Reasons.{ReasonStepFits}
 use Rattle.printed_laws.proofs.Cutting.{run-cut}
 use Rattle.printed_laws.proofs.Digits.{all-digits}
 use Rattle.printed_laws.proofs.TraceWords.{read-cut, apart}
@@ -51,14 +51,14 @@ closing-cut model t (False xs) (Amid r v w) rest other test p q e = apart 70 66 
 
 -- ---- steps
 
-abbrev depth_of : Step → ℕ
+abbrev depth_of : ReasonStep → ℕ
 depth_of (Case depth answer) = depth
 depth_of (So depth answer) = depth
 depth_of (Leaf depth closing) = depth
 depth_of (Endcases depth) = depth
 
 -- a step's line behind its blanks, and what follows it
-abbrev body : Litmus → Step → List ℕ → List ℕ
+abbrev body : Litmus → ReasonStep → List ℕ → List ℕ
 body t (Case depth answer) after = codes "Case " ++ (answer_text t answer ++ 10 ∷ after)
 body t (So depth answer) after = codes "So " ++ (answer_text t answer ++ 10 ∷ after)
 body t (Leaf depth closing) after = closing_text t closing ++ 10 ∷ after
@@ -70,7 +70,7 @@ answer-flat front head answer after = simp append_assoc
 leaf-flat : (front closing after : List ℕ) → (front ++ line closing) ++ after ≡ front ++ (closing ++ 10 ∷ after)
 leaf-flat front closing after = simp append_assoc
 
-step-split : (t : Litmus) (s : Step) (after : List ℕ) → step_line t s ++ after ≡ blanks (depth_of s) ++ body t s after
+step-split : (t : Litmus) (s : ReasonStep) (after : List ℕ) → reason_step_line t s ++ after ≡ blanks (depth_of s) ++ body t s after
 step-split t (Case depth answer) after = answer-flat (blanks depth) (codes "Case ") (answer_text t answer) after
 step-split t (So depth answer) after = answer-flat (blanks depth) (codes "So ") (answer_text t answer) after
 step-split t (Leaf depth closing) after = leaf-flat (blanks depth) (closing_text t closing) after
@@ -80,7 +80,7 @@ abbrev is_blank : ℕ → Bool
 is_blank b = b == 32
 
 -- the first byte behind the blanks
-abbrev first_byte : Step → ℕ
+abbrev first_byte : ReasonStep → ℕ
 first_byte (Case depth answer) = 67
 first_byte (So depth answer) = 83
 first_byte (Leaf depth (Uniproc edges)) = 85
@@ -89,7 +89,7 @@ first_byte (Leaf depth (Amid r v w)) = 66
 first_byte (Leaf depth (False places)) = 70
 first_byte (Endcases depth) = 69
 
-body-begins : (t : Litmus) (s : Step) (after : List ℕ) → (more : List ℕ) × (body t s after ≡ first_byte s ∷ more)
+body-begins : (t : Litmus) (s : ReasonStep) (after : List ℕ) → (more : List ℕ) × (body t s after ≡ first_byte s ∷ more)
 body-begins t (Case depth answer) after = (_, refl)
 body-begins t (So depth answer) after = (_, refl)
 body-begins t (Leaf depth (Uniproc edges)) after = (_, refl)
@@ -98,7 +98,7 @@ body-begins t (Leaf depth (Amid r v w)) after = (_, refl)
 body-begins t (Leaf depth (False places)) after = (_, refl)
 body-begins t (Endcases depth) after = (_, refl)
 
-no-blank : (s : Step) → is_blank (first_byte s) ≡ false
+no-blank : (s : ReasonStep) → is_blank (first_byte s) ≡ false
 no-blank (Case depth answer) = refl
 no-blank (So depth answer) = refl
 no-blank (Leaf depth (Uniproc edges)) = refl
@@ -107,7 +107,7 @@ no-blank (Leaf depth (Amid r v w)) = refl
 no-blank (Leaf depth (False places)) = refl
 no-blank (Endcases depth) = refl
 
-no-verdict : (s : Step) → (first_byte s == 86) ≡ false
+no-verdict : (s : ReasonStep) → (first_byte s == 86) ≡ false
 no-verdict (Case depth answer) = refl
 no-verdict (So depth answer) = refl
 no-verdict (Leaf depth (Uniproc edges)) = refl
@@ -125,8 +125,8 @@ blanks-cut m n x y xs ys p q e =
     let cut = run-cut is_blank (blanks m) (blanks n) (x ∷ xs) (y ∷ ys) (all-blank m) (all-blank n) p q e in
     (sym (length-replicate m 32) ∙ (ap (λ (l : List ℕ). length l) cut.0 ∙ length-replicate n 32), cut.1)
 
-body-cut : (model : Model) (t : Litmus) (a b : Step) (rest other : List ℕ) → IsTest t → StepFits model t a → StepFits model t b → depth_of a ≡ depth_of b
-    → body t a rest ≡ body t b other → (told_step a ≡ told_step b) × (rest ≡ other)
+body-cut : (model : Model) (t : Litmus) (a b : ReasonStep) (rest other : List ℕ) → IsTest t → ReasonStepFits model t a → ReasonStepFits model t b → depth_of a ≡ depth_of b
+    → body t a rest ≡ body t b other → (told_reason_step a ≡ told_reason_step b) × (rest ≡ other)
 body-cut model t (Case m a) (Case n b) rest other test p q same e =
     let cut = answer-cut t a b rest other test p q (append_cancel_left (codes "Case ") (answer_text t a ++ 10 ∷ rest) (answer_text t b ++ 10 ∷ other) e) in
     ((λ i. Case (same i) (cut.0 i)), cut.1)
@@ -168,8 +168,8 @@ body-cut model t (Endcases m) (Leaf n (Cycle es)) rest other test p q same e = a
 body-cut model t (Endcases m) (Leaf n (Amid r v w)) rest other test p q same e = apart 69 66 _ _ refl e
 body-cut model t (Endcases m) (Leaf n (False ps)) rest other test p q same e = apart 69 70 _ _ refl e
 
-step-cut : (model : Model) (t : Litmus) (a b : Step) (rest other : List ℕ) → IsTest t → StepFits model t a → StepFits model t b
-    → step_line t a ++ rest ≡ step_line t b ++ other → (told_step a ≡ told_step b) × (rest ≡ other)
+step-cut : (model : Model) (t : Litmus) (a b : ReasonStep) (rest other : List ℕ) → IsTest t → ReasonStepFits model t a → ReasonStepFits model t b
+    → reason_step_line t a ++ rest ≡ reason_step_line t b ++ other → (told_reason_step a ≡ told_reason_step b) × (rest ≡ other)
 step-cut model t a b rest other test p q e =
     let flat = sym (step-split t a rest) ∙ (e ∙ step-split t b other) in
     let x = body-begins t a rest in
@@ -184,28 +184,28 @@ step-cut model t a b rest other test p q e =
 abbrev NoStep : List ℕ → Type 0
 NoStep text = get_or text 0 86 ≡ 86
 
-no-step : {A : Type 0} (t : Litmus) (s : Step) (ss : List Step) (end other : List ℕ) → NoStep other → flat_map (step_line t) (s ∷ ss) ++ end ≡ other → A
+no-step : {A : Type 0} (t : Litmus) (s : ReasonStep) (ss : List ReasonStep) (end other : List ℕ) → NoStep other → flat_map (reason_step_line t) (s ∷ ss) ++ end ≡ other → A
 no-step {A} t s ss end other ends e =
-    let after = flat_map (step_line t) ss ++ end in
+    let after = flat_map (reason_step_line t) ss ++ end in
     let x = body-begins t s after in
     by_depth (depth_of s) (first_byte s) x.0 (no-verdict s)
-    (ap (λ (l : List ℕ). blanks (depth_of s) ++ l) (sym x.1) ∙ (sym (step-split t s after) ∙ (sym (append_assoc (step_line t s) (flat_map (step_line t) ss) end) ∙ e)))
+    (ap (λ (l : List ℕ). blanks (depth_of s) ++ l) (sym x.1) ∙ (sym (step-split t s after) ∙ (sym (append_assoc (reason_step_line t s) (flat_map (reason_step_line t) ss) end) ∙ e)))
   where
     by_depth : (n b : ℕ) (more : List ℕ) → (b == 86) ≡ false → blanks n ++ b ∷ more ≡ other → A
     by_depth zero b more differ same = apart b 86 [] [] differ (ap (λ (n : ℕ). n ∷ []) (ap (λ (l : List ℕ). get_or l 0 86) same ∙ ends))
     by_depth (suc n) b more differ same = apart 32 86 [] [] refl (ap (λ (n : ℕ). n ∷ []) (ap (λ (l : List ℕ). get_or l 0 86) same ∙ ends))
 
-lines-cut : (model : Model) (t : Litmus) (xs ys : List Step) (end other : List ℕ) → IsTest t → All (StepFits model t) xs → All (StepFits model t) ys → NoStep end → NoStep other
-    → flat_map (step_line t) xs ++ end ≡ flat_map (step_line t) ys ++ other → map told_step xs ≡ map told_step ys
+lines-cut : (model : Model) (t : Litmus) (xs ys : List ReasonStep) (end other : List ℕ) → IsTest t → All (ReasonStepFits model t) xs → All (ReasonStepFits model t) ys → NoStep end → NoStep other
+    → flat_map (reason_step_line t) xs ++ end ≡ flat_map (reason_step_line t) ys ++ other → map told_reason_step xs ≡ map told_reason_step ys
 lines-cut model t [] [] end other test p q ends ends' e = refl
 lines-cut model t [] (y ∷ ys) end other test p q ends ends' e = no-step t y ys other end ends (sym e)
 lines-cut model t (x ∷ xs) [] end other test p q ends ends' e = no-step t x xs end other ends' e
 lines-cut model t (x ∷ xs) (y ∷ ys) end other test p q ends ends' e =
-    let more = flat_map (step_line t) xs ++ end in
-    let more' = flat_map (step_line t) ys ++ other in
-    let flat = sym (append_assoc (step_line t x) (flat_map (step_line t) xs) end) ∙ (e ∙ append_assoc (step_line t y) (flat_map (step_line t) ys) other) in
-    let first = step-cut model t x y more more' test (All-head (StepFits model t) x xs p) (All-head (StepFits model t) y ys q) flat in
-    let further = lines-cut model t xs ys end other test (All-tail (StepFits model t) x xs p) (All-tail (StepFits model t) y ys q) ends ends' first.1 in
+    let more = flat_map (reason_step_line t) xs ++ end in
+    let more' = flat_map (reason_step_line t) ys ++ other in
+    let flat = sym (append_assoc (reason_step_line t x) (flat_map (reason_step_line t) xs) end) ∙ (e ∙ append_assoc (reason_step_line t y) (flat_map (reason_step_line t) ys) other) in
+    let first = step-cut model t x y more more' test (All-head (ReasonStepFits model t) x xs p) (All-head (ReasonStepFits model t) y ys q) flat in
+    let further = lines-cut model t xs ys end other test (All-tail (ReasonStepFits model t) x xs p) (All-tail (ReasonStepFits model t) y ys q) ends ends' first.1 in
     λ i. first.0 i ∷ further i
 
 verdict-no-step : (c : Option Condition) → NoStep (verdict_line c false)
@@ -235,8 +235,8 @@ never-cut model other_model m n rest other e =
 pub lines-tell : ReasonsTellTheirSteps
 lines-tell model t xs ys test p q e =
     let end = verdict_line t.condition false in
-    let lines = λ (ss : List Step). flat_map (step_line t) ss ++ end in
-    let after = λ (ss : List Step). asked_line t.condition ++ lines ss in
+    let lines = λ (ss : List ReasonStep). flat_map (reason_step_line t) ss ++ end in
+    let after = λ (ss : List ReasonStep). asked_line t.condition ++ lines ss in
     let named = append_cancel_left (test_line t) (never_line model (leaves_in xs) ++ after xs) (never_line model (leaves_in ys) ++ after ys) e in
     let begun = never-cut model model (leaves_in xs) (leaves_in ys) (after xs) (after ys) named in
     lines-cut model t xs ys end end test p q (verdict-no-step t.condition) (verdict-no-step t.condition) (append_cancel_left (asked_line t.condition) (lines xs) (lines ys) begun.1)
@@ -252,7 +252,7 @@ test-flat name rest = simp append_assoc
 
 pub lines-name : ReasonsTellTheirTests
 lines-name model other t u xs ys test test' e =
-    let after = λ (m : Model) (l : Litmus) (ss : List Step). never_line m (leaves_in ss) ++ (asked_line l.condition ++ (flat_map (step_line l) ss ++ verdict_line l.condition false)) in
+    let after = λ (m : Model) (l : Litmus) (ss : List ReasonStep). never_line m (leaves_in ss) ++ (asked_line l.condition ++ (flat_map (reason_step_line l) ss ++ verdict_line l.condition false)) in
     let flat = sym (test-flat t.name (after model t xs)) ∙ (e ∙ test-flat u.name (after other u ys)) in
     let begun = append_cancel_left (codes "Test ") (t.name ++ 10 ∷ after model t xs) (u.name ++ 10 ∷ after other u ys) flat in
     let name = run-cut is_printable t.name u.name (10 ∷ after model t xs) (10 ∷ after other u ys) (printable-name t.name test.name_spelled) (printable-name u.name test'.name_spelled) refl refl begun in

@@ -1,5 +1,5 @@
 -- The parts of a line of a reason: answers, cycles and places. What each begins a text with is told by the text.
-use Rattle.printed_laws.proofs.Vocabulary.{◌≡◌, ◌∙◌, ℕ, ◌^◌, ◌<◌, ◌==◌, true, false, List, [], ◌∷◌, ◌++◌, map, length, get_or, All, Option, Some, None, IfSome, refl, sym, ap, arith, codes, option_map, decimal, list_all, flat_map, is_ascii_digit, and_parts, and_from, nat_tests, decimal_nonempty, append_assoc, append_cancel_left, All-head, All-tail, Litmus, IsTest, continues_name, IsWord, name_of, Core, Reg, all_of_location, Named, Register, Location, key_of, Relation, Place, Event, Edge, Answer, From, Before, event_text, relation_text, hop_text, cycle_text, source_text, or_text, sources_text, answer_text, bar_text, words_text, place_text, told_event, told_edge, told_answer, EventFits, LeadFrom, CycleFits, AnswerFits, IsNamed, PlaceFits}
+use Rattle.printed_laws.proofs.Vocabulary.{◌≡◌, ◌∙◌, ℕ, ◌^◌, ◌<◌, ◌==◌, true, false, List, [], ◌∷◌, ◌++◌, map, length, get_or, All, Option, Some, None, IfSome, refl, sym, ap, arith, codes, option_map, decimal, list_all, flat_map, is_ascii_digit, and_parts, and_from, nat_tests, decimal_nonempty, append_assoc, append_cancel_left, All-head, All-tail, Litmus, IsTest, continues_name, IsWord, name_of, Core, Reg, all_of_location, Named, Register, Location, key_of, Relation, Place, Event, Edge, Answer, From, Before, event_text, relation_text, hop_text, cycle_text, source_text, or_text, sources_text, answer_text, bar_text, words_text, place_text, told_event, told_edge, told_answer, EventFits, LeadFrom, CycleFits, CaseFits, IsNamed, PlaceFits}
 use Rattle.printed_laws.proofs.Cutting.{Stops, run-cut, number-cut, next-cut}
 use Rattle.printed_laws.proofs.Digits.{all-digits}
 use Rattle.printed_laws.proofs.TraceWords.{ends-stop, register-cut, same-core, same-loc, apart, location-cut}
@@ -76,7 +76,7 @@ from-flat read sources rest = simp append_assoc
 before-flat : (first second rest : List ℕ) → (first ++ (codes " before " ++ second)) ++ 10 ∷ rest ≡ first ++ (codes " before " ++ (second ++ 10 ∷ rest))
 before-flat first second rest = simp append_assoc
 
-pub answer-cut : (t : Litmus) (a b : Answer) (rest other : List ℕ) → IsTest t → AnswerFits t a → AnswerFits t b
+pub answer-cut : (t : Litmus) (a b : Answer) (rest other : List ℕ) → IsTest t → CaseFits t a → CaseFits t b
     → answer_text t a ++ 10 ∷ rest ≡ answer_text t b ++ 10 ∷ other → (told_answer a ≡ told_answer b) × (rest ≡ other)
 answer-cut t (From r ws) (From s vs) rest other test p q e =
     let x = sources_text t ws ++ 10 ∷ rest in

@@ -1,8 +1,8 @@
 -- The JSON value of a reason tells its steps.
-use Rattle.printed_laws.proofs.Vocabulary.{◌≡◌, ◌∙◌, ℕ, ◌^◌, ◌<◌, ◌≤◌, ◌==◌, if◌then◌else◌, false, List, [], ◌∷◌, ◌++◌, map, get_or, All, Option, Some, None, IfSome, refl, sym, ap, arith, codes, option_map, decimal_injective, append_cancel_right, All-head, All-tail, max_depth, items_depth, members_depth, HasNumbers, ItemsHaveNumbers, MembersHaveNumbers, IsNumber-decimal, string, array, items_of, outline, items_outline, members_outline, compact_text, Litmus, IsTest, Condition, IsWord, count, key_of, on_location, global_in, Model, Relation, Place, Event, Edge, Answer, From, Before, Uniproc, Cycle, Amid, False, Step, Case, So, Leaf, Endcases, leaves_in, event_text, relation_text, source_text, verdict_value, asked_value, edge_value, answer_value, place_members, step_value, never_value_of, told_event, told_edge, told_answer, told_by_value, depth_in, EventFits, LeadFrom, CycleFits, AnswerFits, PlaceFits, AreCounted, ReasonValuesTellTheirSteps}
+use Rattle.printed_laws.proofs.Vocabulary.{◌≡◌, ◌∙◌, ℕ, ◌^◌, ◌<◌, ◌≤◌, ◌==◌, if◌then◌else◌, false, List, [], ◌∷◌, ◌++◌, map, get_or, All, Option, Some, None, IfSome, refl, sym, ap, arith, codes, option_map, decimal_injective, append_cancel_right, All-head, All-tail, max_depth, items_depth, members_depth, HasNumbers, ItemsHaveNumbers, MembersHaveNumbers, IsNumber-decimal, string, array, items_of, outline, items_outline, members_outline, compact_text, Litmus, IsTest, Condition, IsWord, count, key_of, on_location, global_in, Model, Relation, Place, Event, Edge, Answer, From, Before, Uniproc, Cycle, Amid, False, ReasonStep, Case, So, Leaf, Endcases, leaves_in, event_text, relation_text, source_text, outcomes_verdict_value, asked_value, edge_value, answer_value, place_members, step_value, never_value_of, told_event, told_edge, told_answer, told_by_value, depth_in, EventFits, LeadFrom, CycleFits, CaseFits, PlaceFits, AreCounted, ReasonValuesTellTheirSteps}
 use Rattle.json.specs.Json as json
 use Rattle.json.specs.Tree.{depth as depth_of}
-use Rattle.printed_laws.specs.Reasons.{StepFits}
+use Rattle.printed_laws.specs.Reasons.{ReasonStepFits}
 use Rattle.printed_laws.proofs.JsonTexts.{value-told, members_in, items_in, text_in, value_at, text_at, first_item, more_items, has_item, uneven}
 use Rattle.printed_laws.proofs.ReasonWords.{event-cut, AreTold, uniproc-told, global-told, relation-cut}
 use Rattle.printed_laws.proofs.ReasonParts.{source-cut}
@@ -40,7 +40,7 @@ abbrev second_key : json.Members → ℕ
 second_key (json.member k j (json.member l h ms)) = get_or l 1 0
 second_key _ = 0
 
-answer-told : (t : Litmus) (step : List ℕ) (m n : ℕ) (a b : Answer) → IsTest t → AnswerFits t a → AnswerFits t b
+answer-told : (t : Litmus) (step : List ℕ) (m n : ℕ) (a b : Answer) → IsTest t → CaseFits t a → CaseFits t b
     → outline (answer_value t step m a) ≡ outline (answer_value t step n b) → told_answer a ≡ told_answer b
 answer-told t step m n (From r ws) (From s vs) test p q same =
     let read = event-same t r s test p.0 q.0 (ap (text_at 2) same) in
@@ -96,7 +96,7 @@ kind_by first second =
 abbrev kind_in : json.Json → ℕ
 kind_in j = kind_by (get_or (word_in (members_in j)) 0 0) (get_or (word_in (members_in j)) 1 0)
 
-abbrev kind_of : Step → ℕ
+abbrev kind_of : ReasonStep → ℕ
 kind_of (Case depth answer) = 1
 kind_of (So depth answer) = 2
 kind_of (Leaf depth (Uniproc es)) = 3
@@ -105,7 +105,7 @@ kind_of (Leaf depth (Amid r v w)) = 5
 kind_of (Leaf depth (False places)) = 6
 kind_of (Endcases depth) = 7
 
-kind-there : (t : Litmus) (s : Step) → kind_in (outline (step_value t s)) ≡ kind_of s
+kind-there : (t : Litmus) (s : ReasonStep) → kind_in (outline (step_value t s)) ≡ kind_of s
 kind-there t (Case depth (From r ws)) = refl
 kind-there t (Case depth (Before w v)) = refl
 kind-there t (So depth (From r ws)) = refl
@@ -123,7 +123,7 @@ answer-depth t step m n (From r ws) (Before w v) p q same = decimal_injective m 
 answer-depth t step m n (Before w v) (From r ws) p q same = decimal_injective m n p q (ap (text_at 0) same)
 answer-depth t step m n (Before a b) (Before w v) p q same = decimal_injective m n p q (ap (text_at 0) same)
 
-same-kind : (model : Model) (t : Litmus) (a b : Step) → IsTest t → StepFits model t a → StepFits model t b → depth_in a < 2 ^ 64 → depth_in b < 2 ^ 64 → kind_of a ≡ kind_of b
+same-kind : (model : Model) (t : Litmus) (a b : ReasonStep) → IsTest t → ReasonStepFits model t a → ReasonStepFits model t b → depth_in a < 2 ^ 64 → depth_in b < 2 ^ 64 → kind_of a ≡ kind_of b
     → outline (step_value t a) ≡ outline (step_value t b) → told_by_value a ≡ told_by_value b
 same-kind model t (Case m a) (Case n b) test p q c d kind same =
     let depth = answer-depth t (codes "case") m n a b c d same in
@@ -194,24 +194,24 @@ same-kind model t (Endcases m) (Leaf n (Cycle fs)) test p q c d kind same = absu
 same-kind model t (Endcases m) (Leaf n (Amid r v w)) test p q c d kind same = absurd (omega (arith, kind))
 same-kind model t (Endcases m) (Leaf n (False ys)) test p q c d kind same = absurd (omega (arith, kind))
 
-step-told : (model : Model) (t : Litmus) (a b : Step) → IsTest t → StepFits model t a → StepFits model t b → depth_in a < 2 ^ 64 → depth_in b < 2 ^ 64
+step-told : (model : Model) (t : Litmus) (a b : ReasonStep) → IsTest t → ReasonStepFits model t a → ReasonStepFits model t b → depth_in a < 2 ^ 64 → depth_in b < 2 ^ 64
     → outline (step_value t a) ≡ outline (step_value t b) → told_by_value a ≡ told_by_value b
 step-told model t a b test p q c d same = same-kind model t a b test p q c d (sym (kind-there t a) ∙ (ap kind_in same ∙ kind-there t b)) same
 
-abbrev steps_in : Litmus → List Step → json.Items
+abbrev steps_in : Litmus → List ReasonStep → json.Items
 steps_in t ss = items_outline (items_of (map (step_value t) ss))
 
-abbrev IsShallow : Step → Type 0
+abbrev IsShallow : ReasonStep → Type 0
 IsShallow s = depth_in s < 2 ^ 64
 
-steps-told : (model : Model) (t : Litmus) (xs ys : List Step) → IsTest t → All (StepFits model t) xs → All (StepFits model t) ys → All IsShallow xs → All IsShallow ys
+steps-told : (model : Model) (t : Litmus) (xs ys : List ReasonStep) → IsTest t → All (ReasonStepFits model t) xs → All (ReasonStepFits model t) ys → All IsShallow xs → All IsShallow ys
     → steps_in t xs ≡ steps_in t ys → map told_by_value xs ≡ map told_by_value ys
 steps-told model t [] [] test p q c d same = refl
 steps-told model t [] (y ∷ ys) test p q c d same = uneven (sym (ap has_item same))
 steps-told model t (x ∷ xs) [] test p q c d same = uneven (ap has_item same)
 steps-told model t (x ∷ xs) (y ∷ ys) test p q c d same =
-    let first = step-told model t x y test (All-head (StepFits model t) x xs p) (All-head (StepFits model t) y ys q) (All-head IsShallow x xs c) (All-head IsShallow y ys d) (ap first_item same) in
-    let further = steps-told model t xs ys test (All-tail (StepFits model t) x xs p) (All-tail (StepFits model t) y ys q) (All-tail IsShallow x xs c) (All-tail IsShallow y ys d) (ap more_items same) in
+    let first = step-told model t x y test (All-head (ReasonStepFits model t) x xs p) (All-head (ReasonStepFits model t) y ys q) (All-head IsShallow x xs c) (All-head IsShallow y ys d) (ap first_item same) in
+    let further = steps-told model t xs ys test (All-tail (ReasonStepFits model t) x xs p) (All-tail (ReasonStepFits model t) y ys q) (All-tail IsShallow x xs c) (All-tail IsShallow y ys d) (ap more_items same) in
     λ i. first i ∷ further i
 
 -- ---- its text is read back
@@ -252,7 +252,7 @@ places-depth t (p ∷ ps) =
     let words = words-depth p.values in
     put-depth 1 (key_of t p.named) (array (items_of (map count p.values))) (place_members t ps) (omega (arith, words)) (places-depth t ps)
 
-step-numbers : (model : Model) (t : Litmus) (s : Step) → StepFits model t s → depth_in s < 2 ^ 64 → HasNumbers (outline (step_value t s))
+step-numbers : (model : Model) (t : Litmus) (s : ReasonStep) → ReasonStepFits model t s → depth_in s < 2 ^ 64 → HasNumbers (outline (step_value t s))
 step-numbers model t (Case m (From r ws)) p c = (IsNumber-decimal m c, (sources-numbers t ws, (tt, (tt, tt))))
 step-numbers model t (Case m (Before w v)) p c = (IsNumber-decimal m c, (tt, (tt, (tt, tt))))
 step-numbers model t (So m (From r ws)) p c = (IsNumber-decimal m c, (sources-numbers t ws, (tt, (tt, tt))))
@@ -263,7 +263,7 @@ step-numbers model t (Leaf m (Amid r v w)) p c = (tt, (IsNumber-decimal m c, (tt
 step-numbers model t (Leaf m (False ps)) p c = (IsNumber-decimal m c, (places-numbers t ps p, (tt, tt)))
 step-numbers model t (Endcases m) p c = (IsNumber-decimal m c, (tt, tt))
 
-step-depth : (t : Litmus) (s : Step) → depth_of (outline (step_value t s)) ≤ 3
+step-depth : (t : Litmus) (s : ReasonStep) → depth_of (outline (step_value t s)) ≤ 3
 step-depth t (Case m (From r ws)) = omega (arith, sources-depth t ws)
 step-depth t (Case m (Before w v)) = omega arith
 step-depth t (So m (From r ws)) = omega (arith, sources-depth t ws)
@@ -274,12 +274,12 @@ step-depth t (Leaf m (Amid r v w)) = omega arith
 step-depth t (Leaf m (False ps)) = omega (arith, places-depth t ps)
 step-depth t (Endcases m) = omega arith
 
-steps-numbers : (model : Model) (t : Litmus) (ss : List Step) → All (StepFits model t) ss → All IsShallow ss → ItemsHaveNumbers (steps_in t ss)
+steps-numbers : (model : Model) (t : Litmus) (ss : List ReasonStep) → All (ReasonStepFits model t) ss → All IsShallow ss → ItemsHaveNumbers (steps_in t ss)
 steps-numbers model t [] p c = tt
 steps-numbers model t (s ∷ ss) p c =
-    (step-numbers model t s (All-head (StepFits model t) s ss p) (All-head IsShallow s ss c), steps-numbers model t ss (All-tail (StepFits model t) s ss p) (All-tail IsShallow s ss c))
+    (step-numbers model t s (All-head (ReasonStepFits model t) s ss p) (All-head IsShallow s ss c), steps-numbers model t ss (All-tail (ReasonStepFits model t) s ss p) (All-tail IsShallow s ss c))
 
-steps-depth : (t : Litmus) (ss : List Step) → items_depth (steps_in t ss) ≤ 3
+steps-depth : (t : Litmus) (ss : List ReasonStep) → items_depth (steps_in t ss) ≤ 3
 steps-depth t [] = omega arith
 steps-depth t (s ∷ ss) = omega (arith, step-depth t s, steps-depth t ss)
 
@@ -291,19 +291,19 @@ asked-depth : (c : Option Condition) → depth_of (outline (asked_value c)) ≤ 
 asked-depth None = omega arith
 asked-depth (Some c) = omega arith
 
-verdict-numbers : (c : Option Condition) → HasNumbers (outline (verdict_value c false))
+verdict-numbers : (c : Option Condition) → HasNumbers (outline (outcomes_verdict_value c false))
 verdict-numbers None = tt
 verdict-numbers (Some c) = tt
 
-verdict-depth : (c : Option Condition) → depth_of (outline (verdict_value c false)) ≤ 0
+verdict-depth : (c : Option Condition) → depth_of (outline (outcomes_verdict_value c false)) ≤ 0
 verdict-depth None = omega arith
 verdict-depth (Some c) = omega arith
 
-whole-numbers : (model : Model) (t : Litmus) (ss : List Step) → All (StepFits model t) ss → AreCounted ss → HasNumbers (outline (never_value_of model t ss))
+whole-numbers : (model : Model) (t : Litmus) (ss : List ReasonStep) → All (ReasonStepFits model t) ss → AreCounted ss → HasNumbers (outline (never_value_of model t ss))
 whole-numbers model t ss p c =
     (tt, (asked-numbers t.condition, (IsNumber-decimal (leaves_in ss) c.few, (tt, (steps-numbers model t ss p c.depths, (tt, (verdict-numbers t.condition, tt)))))))
 
-whole-depth : (model : Model) (t : Litmus) (ss : List Step) → depth_of (outline (never_value_of model t ss)) ≤ max_depth
+whole-depth : (model : Model) (t : Litmus) (ss : List ReasonStep) → depth_of (outline (never_value_of model t ss)) ≤ max_depth
 whole-depth model t ss = omega (arith, asked-depth t.condition, steps-depth t ss, verdict-depth t.condition)
 
 pub values-tell : ReasonValuesTellTheirSteps

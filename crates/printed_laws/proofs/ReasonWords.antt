@@ -1,5 +1,5 @@
 -- The words of a reason: events, relations and places. What each begins a text with is told by the text.
-use Rattle.printed_laws.proofs.Vocabulary.{◌≡◌, ◌∙◌, ℕ, ◌^◌, ◌<◌, ◌==◌, ◌&&◌, Bool, true, false, not, if◌then◌else◌, List, [], ◌∷◌, ◌++◌, length, get_or, Option, Some, None, IfSome, inl, inr, refl, sym, ap, subst, arith, codes, decimal, list_all, nat_tests, append_assoc, append_cancel_left, Litmus, IsTest, continues_name, IsWord, Entry, Kind, R, W, F, LR, LW, letters_of, printed_access, HasAccess, on_location, global_in, Model, Tso, Sequential, Relation, Po, PoLoc, PoGhb, Mfence, Implied, Rf, Rfe, Co, Fr, Event, location_text, entry_text, event_text, relation_text, told_event, IsValueFor, EventFits, IsOneOf}
+use Rattle.printed_laws.proofs.Vocabulary.{◌≡◌, ◌∙◌, ℕ, ◌^◌, ◌<◌, ◌==◌, ◌&&◌, Bool, true, false, not, if◌then◌else◌, List, [], ◌∷◌, ◌++◌, length, get_or, Option, Some, None, IfSome, inl, inr, refl, sym, ap, subst, arith, codes, decimal, list_all, nat_tests, append_assoc, append_cancel_left, Litmus, IsTest, continues_name, IsWord, Entry, Kind, R, W, F, LR, LW, letters_of, printed_access, HasAccess, on_location, global_in, Model, Tso, Sequential, Relation, Po, PoLoc, PoGhb, Mfence, Implied, Rf, Rfe, Co, Fr, Event, location_text, entry_text, event_text, relation_text, told_event, IsValueFor, EventFits, IsRelationAmong}
 use Rattle.printed_laws.proofs.Cutting.{BeginsWithout, run-cut, next-cut}
 use Rattle.printed_laws.proofs.TraceWords.{Ends, word-cut, same-core, same-loc, apart, location-cut, value-cut}
 
@@ -196,19 +196,19 @@ read_relation po rf text =
 -- relations that are told apart by their names
 pub record AreTold (relations : List Relation) : Type 0 where
   pub read : List ℕ → Option Relation
-  pub again : (r : Option Relation) → IsOneOf relations r → read (relation_text r) ≡ r
+  pub again : (r : Option Relation) → IsRelationAmong relations r → read (relation_text r) ≡ r
 
 read-as : (read : List ℕ → Option Relation) (r : Option Relation) (x : Relation) → read (relation_text (Some x)) ≡ Some x → r ≡ Some x → read (relation_text r) ≡ r
 read-as read r x again same = subst (λ (s : Option Relation). read (relation_text s) ≡ s) (sym same) again
 
-uniproc-again : (r : Option Relation) → IsOneOf on_location r → read_relation PoLoc Rf (relation_text r) ≡ r
+uniproc-again : (r : Option Relation) → IsRelationAmong on_location r → read_relation PoLoc Rf (relation_text r) ≡ r
 uniproc-again r (inl is) = read-as (read_relation PoLoc Rf) r PoLoc refl is
 uniproc-again r (inr (inl is)) = read-as (read_relation PoLoc Rf) r Rf refl is
 uniproc-again r (inr (inr (inl is))) = read-as (read_relation PoLoc Rf) r Co refl is
 uniproc-again r (inr (inr (inr (inl is)))) = read-as (read_relation PoLoc Rf) r Fr refl is
 uniproc-again r (inr (inr (inr (inr none)))) = absurd none
 
-tso-again : (r : Option Relation) → IsOneOf (global_in Tso) r → read_relation PoGhb Rfe (relation_text r) ≡ r
+tso-again : (r : Option Relation) → IsRelationAmong (global_in Tso) r → read_relation PoGhb Rfe (relation_text r) ≡ r
 tso-again r (inl is) = read-as (read_relation PoGhb Rfe) r PoGhb refl is
 tso-again r (inr (inl is)) = read-as (read_relation PoGhb Rfe) r Mfence refl is
 tso-again r (inr (inr (inl is))) = read-as (read_relation PoGhb Rfe) r Implied refl is
@@ -217,7 +217,7 @@ tso-again r (inr (inr (inr (inr (inl is))))) = read-as (read_relation PoGhb Rfe)
 tso-again r (inr (inr (inr (inr (inr (inl is)))))) = read-as (read_relation PoGhb Rfe) r Fr refl is
 tso-again r (inr (inr (inr (inr (inr (inr none)))))) = absurd none
 
-sequential-again : (r : Option Relation) → IsOneOf (global_in Sequential) r → read_relation Po Rf (relation_text r) ≡ r
+sequential-again : (r : Option Relation) → IsRelationAmong (global_in Sequential) r → read_relation Po Rf (relation_text r) ≡ r
 sequential-again r (inl is) = read-as (read_relation Po Rf) r Po refl is
 sequential-again r (inr (inl is)) = read-as (read_relation Po Rf) r Rf refl is
 sequential-again r (inr (inr (inl is))) = read-as (read_relation Po Rf) r Co refl is
@@ -231,7 +231,7 @@ pub global-told : (model : Model) → AreTold (global_in model)
 global-told Tso = record { read = read_relation PoGhb Rfe; again = tso-again }
 global-told Sequential = record { read = read_relation Po Rf; again = sequential-again }
 
-pub relation-cut : (relations : List Relation) (a b : Option Relation) (rest other : List ℕ) → AreTold relations → IsOneOf relations a → IsOneOf relations b → Ends rest → Ends other
+pub relation-cut : (relations : List Relation) (a b : Option Relation) (rest other : List ℕ) → AreTold relations → IsRelationAmong relations a → IsRelationAmong relations b → Ends rest → Ends other
     → relation_text a ++ rest ≡ relation_text b ++ other → (a ≡ b) × (rest ≡ other)
 relation-cut relations a b rest other told p q ends ends' e =
     let cut = run-cut continues_name (relation_text a) (relation_text b) rest other (relation-plain a) (relation-plain b) ends ends' e in

@@ -1,7 +1,7 @@
 -- The steps of a refutation fit its test.
-use Rattle.printed_laws.proofs.Vocabulary.{◌≡◌, ℕ, zero, suc, ◌+◌, ◌≤◌, ◌||◌, Bool, true, false, not, cond, List, [], ◌∷◌, ◌++◌, map, length, drop, All, Option, Some, None, IfSome, inl, inr, refl, ap, subst, arith, filter, list_any, list_all, flat_map, and_parts, length-map, All-nil, All-cons, All-head, All-tail, All-append, All-map, All-filter, All-weaker, Litmus, IsTest, Claim, IsWord, writes_to, Reg, Entry, all_registers, looked_at, is_looked_at, register_of, named_registers, named_locations, Named, Register, Location, Known, nothing, events_of, is_event, with_source, relates, on_location, global_in, is_edge, is_cycle, leads_back, first_of, Node, ReadsFrom, ComesFirst, OnLocation, Globally, Between, FalseClaim, sources_of, is_node, branches, close, asked, Model, Relation, words_at, known_among, unseen, suffices, place_in, places_in, Reply, Reads, First, Event, Step, Case, So, Endcases, event_at, edges_back, edges_of, is_leaf, leaf_steps, replies, with_reply, Part, Branch, branches_with, is_closed, write_in, answer_at, are_alike, groups, known_of_case, closed_case, case_steps, so_steps, rest_steps, question_steps, grown, steps_of, EventFits, IsOneOf, LeadFrom, CycleFits, AnswerFits, IsNamed, PlaceFits, StepsOfRefutationsFit, PrintedRefutationsTellTheirSteps}
-use Rattle.reason_report.specs.Steps.{parts_of}
-use Rattle.printed_laws.specs.Reasons.{StepFits}
+use Rattle.printed_laws.proofs.Vocabulary.{◌≡◌, ℕ, zero, suc, ◌+◌, ◌≤◌, ◌||◌, Bool, true, false, not, cond, List, [], ◌∷◌, ◌++◌, map, length, drop, All, Option, Some, None, IfSome, inl, inr, refl, ap, subst, arith, filter, list_any, list_all, flat_map, and_parts, length-map, All-nil, All-cons, All-head, All-tail, All-append, All-map, All-filter, All-weaker, Litmus, IsTest, Claim, IsWord, writes_to, Reg, Entry, all_registers, looked_at, is_looked_at, named_register, named_registers, named_locations, Named, Register, Location, Known, nothing, events_of, is_event, with_source, relates, on_location, global_in, is_edge, is_cycle, leads_back, first_that_relates, Node, ReadsFrom, ComesFirst, OnLocation, Globally, Between, FalseClaim, sources_of, is_node, branches, close, asked_claim, Model, Relation, words_at, known_among, unseen, suffices, place_with_values, places_in, Reply, Reads, First, Event, ReasonStep, Case, So, Endcases, event_at, edges_back, edges_of, is_leaf, leaf_steps, replies, with_reply, Part, Branch, branches_with, is_closed, write_of_answer, answer_at, are_alike, groups, known_of_case, closed_case, case_steps, so_steps, rest_steps, question_steps, grown, steps_of, EventFits, IsRelationAmong, LeadFrom, CycleFits, CaseFits, IsNamed, PlaceFits, StepsOfRefutationsFit, PrintedRefutationsTellTheirSteps}
+use Rattle.reason_report.specs.Steps.{parts_of_nodes}
+use Rattle.printed_laws.specs.Reasons.{ReasonStepFits}
 use Rattle.printed_laws.proofs.KnownWords.{MayBeWord, either, value-fits, register-word, location-words}
 use Rattle.printed_laws.proofs.ReasonLines.{lines-tell}
 use Rattle.printed_laws.proofs.EventsFit.{IsEventFor, events-fit, event-fits}
@@ -15,11 +15,11 @@ all-flat {A} P f (x ∷ xs) all = All-append P (f x) (flat_map f xs) (All-head (
 cores-named : (t : Litmus) (core count : ℕ) → core + count ≤ 256 → All (IsNamed t) (named_registers core count)
 cores-named t core zero room = All-nil (IsNamed t)
 cores-named t core (suc count) room =
-    All-append (IsNamed t) (map (register_of core) all_registers) (named_registers (core + 1) count) (six all_registers) (cores-named t (core + 1) count (omega (arith, room)))
+    All-append (IsNamed t) (map (named_register core) all_registers) (named_registers (core + 1) count) (six all_registers) (cores-named t (core + 1) count (omega (arith, room)))
   where
-    six : (regs : List Reg) → All (IsNamed t) (map (register_of core) regs)
+    six : (regs : List Reg) → All (IsNamed t) (map (named_register core) regs)
     six [] = All-nil (IsNamed t)
-    six (reg ∷ regs) = All-cons (IsNamed t) (register_of core reg) (map (register_of core) regs) (omega (arith, room)) (six regs)
+    six (reg ∷ regs) = All-cons (IsNamed t) (named_register core reg) (map (named_register core) regs) (omega (arith, room)) (six regs)
 
 locations-named : (t : Litmus) (loc count : ℕ) → loc + count ≤ length t.locations → All (IsNamed t) (named_locations loc count)
 locations-named t loc zero room = All-nil (IsNamed t)
@@ -55,25 +55,25 @@ module _ (t : Litmus) (test : IsTest t) where
   all-there [] named = All-nil MayBeWord
   all-there (k ∷ ks) named = All-append MayBeWord (words_at t k named) (flat_map (λ j. words_at t j named) ks) (there-words k named) (all-there ks named)
 
-  place-fits : (ks : List Known) (named : Named) → IsNamed t named → PlaceFits t (place_in t ks named)
+  place-fits : (ks : List Known) (named : Named) → IsNamed t named → PlaceFits t (place_with_values t ks named)
   place-fits ks named is = record { named = is; values = unseen-words [] _ (known-words (flat_map (λ k. words_at t k named) ks) (all-there ks named)) }
 
   places-fit : (claim : Claim) (k : Known) (ks : List Known) → All (PlaceFits t) (places_in t claim k ks)
   places-fit claim k ks =
       let names = filter (suffices t claim k) (looked_at t) in
-      All-map (PlaceFits t) (place_in t ks) names
-      (All-weaker (IsNamed t) (λ (n : Named). PlaceFits t (place_in t ks n)) (place-fits ks) names (All-filter (suffices t claim k) (IsNamed t) (looked_at t) (looked-named t test)))
+      All-map (PlaceFits t) (place_with_values t ks) names
+      (All-weaker (IsNamed t) (λ (n : Named). PlaceFits t (place_with_values t ks n)) (place-fits ks) names (All-filter (suffices t claim k) (IsNamed t) (looked_at t) (looked-named t test)))
 
   -- ---- events and edges
 
   at-fits : (k : Known) (e : Entry) → IsEventFor t e → EventFits t (event_at t k e)
   at-fits k e fits = record { entry = fits; value = value-fits t test k e }
 
-  one-of : (k : Known) (relations : List Relation) (x y : Entry) → is_edge t k relations x y ≡ true → IsOneOf relations (first_of t k relations x y)
+  one-of : (k : Known) (relations : List Relation) (x y : Entry) → is_edge t k relations x y ≡ true → IsRelationAmong relations (first_that_relates t k relations x y)
   one-of k [] x y is = absurd (let no : ⊥ = cc in no)
   one-of k (r ∷ rs) x y is = by (relates t k r x y) is (one-of k rs x y)
     where
-      by : (b : Bool) → (b || is_edge t k rs x y) ≡ true → (is_edge t k rs x y ≡ true → IsOneOf rs (first_of t k rs x y)) → IsOneOf (r ∷ rs) (cond b (Some r) (first_of t k rs x y))
+      by : (b : Bool) → (b || is_edge t k rs x y) ≡ true → (is_edge t k rs x y ≡ true → IsRelationAmong rs (first_that_relates t k rs x y)) → IsRelationAmong (r ∷ rs) (cond b (Some r) (first_that_relates t k rs x y))
       by true is later = inl refl
       by false is later = inr (later is)
 
@@ -106,10 +106,10 @@ module _ (t : Litmus) (test : IsTest t) where
   -- ---- leaves
 
   module _ (model : Model) (claim : Claim) where
-    one-step : (s : Step) → StepFits model t s → All (StepFits model t) (s ∷ [])
-    one-step s fits = All-cons (StepFits model t) s [] fits (All-nil (StepFits model t))
+    one-step : (s : ReasonStep) → ReasonStepFits model t s → All (ReasonStepFits model t) (s ∷ [])
+    one-step s fits = All-cons (ReasonStepFits model t) s [] fits (All-nil (ReasonStepFits model t))
 
-    leaf-fits : (k : Known) (n : Node) → is_node model t claim k n ≡ true → (depth : ℕ) (ks : List Known) → All (StepFits model t) (leaf_steps model t claim depth k ks n)
+    leaf-fits : (k : Known) (n : Node) → is_node model t claim k n ≡ true → (depth : ℕ) (ks : List Known) → All (ReasonStepFits model t) (leaf_steps model t claim depth k ks n)
     leaf-fits k (OnLocation cycle) is depth ks = one-step _ (cycle-fits k on_location cycle is)
     leaf-fits k (Globally cycle) is depth ks = one-step _ (cycle-fits k (global_in model) cycle is)
     leaf-fits k (Between r v w) is depth ks =
@@ -120,8 +120,8 @@ module _ (t : Litmus) (test : IsTest t) where
           at-fits k w (All-head (IsEventFor t) w [] (All-tail (IsEventFor t) v (w ∷ []) (All-tail (IsEventFor t) r (v ∷ (w ∷ [])) all))),
         )
     leaf-fits k FalseClaim is depth ks = one-step _ (places-fit claim k ks)
-    leaf-fits k (ReadsFrom r) is depth ks = All-nil (StepFits model t)
-    leaf-fits k (ComesFirst w v) is depth ks = All-nil (StepFits model t)
+    leaf-fits k (ReadsFrom r) is depth ks = All-nil (ReasonStepFits model t)
+    leaf-fits k (ComesFirst w v) is depth ks = All-nil (ReasonStepFits model t)
 
     -- ---- answers
 
@@ -129,14 +129,14 @@ module _ (t : Litmus) (test : IsTest t) where
     ReplyFits (Reads r w) = IsEventFor t r × IfSome w (IsEventFor t)
     ReplyFits (First w v) = IsEventFor t w × IsEventFor t v
 
-    write-fits : (k : Known) (r : Reply) → ReplyFits r → IfSome (write_in t k r) (EventFits t)
+    write-fits : (k : Known) (r : Reply) → ReplyFits r → IfSome (write_of_answer t k r) (EventFits t)
     write-fits k (Reads r None) fits = tt
     write-fits k (Reads r (Some w)) fits = at-fits k w fits.1
     write-fits k (First w v) fits = tt
 
-    answer-fits : (k : Known) (r : Reply) (all : List Reply) → ReplyFits r → All ReplyFits all → AnswerFits t (answer_at t k r all)
+    answer-fits : (k : Known) (r : Reply) (all : List Reply) → ReplyFits r → All ReplyFits all → CaseFits t (answer_at t k r all)
     answer-fits k (Reads r w) all fits each =
-        (at-fits k r fits.0, All-map (λ (o : Option Event). IfSome o (EventFits t)) (write_in t k) all (All-weaker ReplyFits (λ (s : Reply). IfSome (write_in t k s) (EventFits t)) (write-fits k) all each))
+        (at-fits k r fits.0, All-map (λ (o : Option Event). IfSome o (EventFits t)) (write_of_answer t k) all (All-weaker ReplyFits (λ (s : Reply). IfSome (write_of_answer t k s) (EventFits t)) (write-fits k) all each))
     answer-fits k (First w v) all fits each = (at-fits k w fits.0, at-fits k v fits.1)
 
     sources-fit : (r : Entry) (ws : List Entry) → IsEventFor t r → All (IsEventFor t) ws → All ReplyFits (map (Reads r) (map (λ w. Some w) ws))
@@ -163,7 +163,7 @@ module _ (t : Litmus) (test : IsTest t) where
     -- the part of a node that may stand where these answers are given
     record PartFits (k : Known) (p : Part) : Type 0 where
       node : is_node model t claim k p.root ≡ true
-      steps : (depth : ℕ) → All (StepFits model t) (p.steps depth k)
+      steps : (depth : ℕ) → All (ReasonStepFits model t) (p.steps depth k)
 
     abbrev AreParts : List Known → List Part → Type 0
     AreParts [] [] = Unit {0}
@@ -198,40 +198,40 @@ module _ (t : Litmus) (test : IsTest t) where
         (All-cons (All BranchFits) (b ∷ filter (are_alike t claim b) bs) (groups t claim (before ++ (b ∷ [])) bs)
         (All-cons BranchFits b (filter (are_alike t claim b) bs) (All-head BranchFits b bs all) (All-filter (are_alike t claim b) BranchFits bs later)) more)
 
-    closed-fits : (depth : ℕ) (k : Known) (bs : List Branch) → All BranchFits bs → All (StepFits model t) (closed_case model t claim depth k bs)
-    closed-fits depth k [] all = All-nil (StepFits model t)
+    closed-fits : (depth : ℕ) (k : Known) (bs : List Branch) → All BranchFits bs → All (ReasonStepFits model t) (closed_case model t claim depth k bs)
+    closed-fits depth k [] all = All-nil (ReasonStepFits model t)
     closed-fits depth k (b ∷ bs) all =
         let first = All-head BranchFits b bs all in
         let given = All-map ReplyFits (λ (c : Branch). c.reply) (b ∷ bs) (All-weaker BranchFits (λ (c : Branch). ReplyFits c.reply) (λ c fits. fits.reply) (b ∷ bs) all) in
-        All-cons (StepFits model t) (Case depth _) (leaf_steps model t claim (depth + 1) b.known (map (λ (c : Branch). c.known) (b ∷ bs)) b.part.root)
+        All-cons (ReasonStepFits model t) (Case depth _) (leaf_steps model t claim (depth + 1) b.known (map (λ (c : Branch). c.known) (b ∷ bs)) b.part.root)
         (answer-fits (known_of_case k (b ∷ bs)) b.reply (map (λ (c : Branch). c.reply) (b ∷ bs)) first.reply given)
         (leaf-fits b.known b.part.root first.part.node (depth + 1) (map (λ (c : Branch). c.known) (b ∷ bs)))
 
-    answered : (b : Branch) → BranchFits b → AnswerFits t (answer_at t b.known b.reply (b.reply ∷ []))
+    answered : (b : Branch) → BranchFits b → CaseFits t (answer_at t b.known b.reply (b.reply ∷ []))
     answered b fits = answer-fits b.known b.reply (b.reply ∷ []) fits.reply (All-cons ReplyFits b.reply [] fits.reply (All-nil ReplyFits))
 
-    case-fits : (depth : ℕ) (b : Branch) → BranchFits b → All (StepFits model t) (case_steps t depth b)
-    case-fits depth b fits = All-cons (StepFits model t) (Case depth _) (b.part.steps (depth + 1) b.known) (answered b fits) (fits.part.steps (depth + 1))
+    case-fits : (depth : ℕ) (b : Branch) → BranchFits b → All (ReasonStepFits model t) (case_steps t depth b)
+    case-fits depth b fits = All-cons (ReasonStepFits model t) (Case depth _) (b.part.steps (depth + 1) b.known) (answered b fits) (fits.part.steps (depth + 1))
 
-    so-fits : (depth : ℕ) (b : Branch) → BranchFits b → All (StepFits model t) (so_steps t depth b)
-    so-fits depth b fits = All-cons (StepFits model t) (So depth _) (b.part.steps depth b.known) (answered b fits) (fits.part.steps depth)
+    so-fits : (depth : ℕ) (b : Branch) → BranchFits b → All (ReasonStepFits model t) (so_steps t depth b)
+    so-fits depth b fits = All-cons (ReasonStepFits model t) (So depth _) (b.part.steps depth b.known) (answered b fits) (fits.part.steps depth)
 
-    cases-fit : (depth : ℕ) (bs : List Branch) → All BranchFits bs → All (StepFits model t) (flat_map (case_steps t depth) bs ++ (Endcases depth ∷ []))
+    cases-fit : (depth : ℕ) (bs : List Branch) → All BranchFits bs → All (ReasonStepFits model t) (flat_map (case_steps t depth) bs ++ (Endcases depth ∷ []))
     cases-fit depth bs all =
-        All-append (StepFits model t) (flat_map (case_steps t depth) bs) (Endcases depth ∷ [])
-        (all-flat (StepFits model t) (case_steps t depth) bs (All-weaker BranchFits (λ (b : Branch). All (StepFits model t) (case_steps t depth b)) (case-fits depth) bs all)) (one-step (Endcases depth) tt)
+        All-append (ReasonStepFits model t) (flat_map (case_steps t depth) bs) (Endcases depth ∷ [])
+        (all-flat (ReasonStepFits model t) (case_steps t depth) bs (All-weaker BranchFits (λ (b : Branch). All (ReasonStepFits model t) (case_steps t depth b)) (case-fits depth) bs all)) (one-step (Endcases depth) tt)
 
-    rest-fits : (depth : ℕ) (bs : List Branch) → All BranchFits bs → All (StepFits model t) (rest_steps t depth bs)
+    rest-fits : (depth : ℕ) (bs : List Branch) → All BranchFits bs → All (ReasonStepFits model t) (rest_steps t depth bs)
     rest-fits depth [] all = cases-fit depth [] all
     rest-fits depth (b ∷ []) all = so-fits depth b (All-head BranchFits b [] all)
     rest-fits depth (b ∷ (c ∷ bs)) all = cases-fit depth (b ∷ (c ∷ bs)) all
 
-    question-fits : (depth : ℕ) (k : Known) (bs : List Branch) → All BranchFits bs → All (StepFits model t) (question_steps model t claim depth k bs)
+    question-fits : (depth : ℕ) (k : Known) (bs : List Branch) → All BranchFits bs → All (ReasonStepFits model t) (question_steps model t claim depth k bs)
     question-fits depth k bs all =
         let made = groups t claim [] (filter is_closed bs) in
-        All-append (StepFits model t) (flat_map (closed_case model t claim depth k) made) (rest_steps t depth (filter (λ b. not (is_closed b)) bs))
-        (all-flat (StepFits model t) (closed_case model t claim depth k) made
-        (All-weaker (All BranchFits) (λ (g : List Branch). All (StepFits model t) (closed_case model t claim depth k g)) (closed-fits depth k) made (groups-fit [] (filter is_closed bs) (All-filter is_closed BranchFits bs all))))
+        All-append (ReasonStepFits model t) (flat_map (closed_case model t claim depth k) made) (rest_steps t depth (filter (λ b. not (is_closed b)) bs))
+        (all-flat (ReasonStepFits model t) (closed_case model t claim depth k) made
+        (All-weaker (All BranchFits) (λ (g : List Branch). All (ReasonStepFits model t) (closed_case model t claim depth k g)) (closed-fits depth k) made (groups-fit [] (filter is_closed bs) (All-filter is_closed BranchFits bs all))))
         (rest-fits depth (filter (λ b. not (is_closed b)) bs) (All-filter (λ (b : Branch). not (is_closed b)) BranchFits bs all))
 
     -- ---- a refutation
@@ -254,28 +254,28 @@ module _ (t : Litmus) (test : IsTest t) where
         let size : length (map (with_reply k) (replies t n)) ≡ length (replies t n) = length-map (replies t n) (with_reply k) in (
           record {
             node = is;
-            steps = λ depth. either (All (StepFits model t)) (is_leaf n) (leaf_steps model t claim depth k (k ∷ []) n) (question_steps model t claim depth k (branches_with k (replies t n) ps))
+            steps = λ depth. either (All (ReasonStepFits model t)) (is_leaf n) (leaf_steps model t claim depth k (k ∷ []) n) (question_steps model t claim depth k (branches_with k (replies t n) ps))
                 (leaf-fits k n is depth (k ∷ [])) (question-fits depth k (branches_with k (replies t n) ps) (branches-fit k (replies t n) ks ps (replies-fit k n is) now));
           },
           subst (λ (m : ℕ). AreParts ks (drop m ps)) size (dropped (map (with_reply k) (replies t n)) ks ps now),
         )
 
-    parts-fit : (ks : List Known) (ns : List Node) → close model t claim ks ns ≡ true → AreParts ks (parts_of model t claim ns)
+    parts-fit : (ks : List Known) (ns : List Node) → close model t claim ks ns ≡ true → AreParts ks (parts_of_nodes model t claim ns)
     parts-fit [] [] is = tt
     parts-fit [] (n ∷ ns) is = absurd (let no : ⊥ = cc in no)
     parts-fit (k ∷ ks) [] is = absurd (let no : ⊥ = cc in no)
     parts-fit (k ∷ ks) (n ∷ ns) is =
         let parts = and_parts (is_node model t claim k n) (close model t claim (branches t k n ++ ks) ns) is in
-        grown-fits k n ks (parts_of model t claim ns) parts.0 (parts-fit (branches t k n ++ ks) ns parts.1)
+        grown-fits k n ks (parts_of_nodes model t claim ns) parts.0 (parts-fit (branches t k n ++ ks) ns parts.1)
 
-    whole-fits : (ps : List Part) → AreParts (nothing ∷ []) ps → All (StepFits model t) (flat_map (λ (p : Part). p.steps 0 nothing) ps)
+    whole-fits : (ps : List Part) → AreParts (nothing ∷ []) ps → All (ReasonStepFits model t) (flat_map (λ (p : Part). p.steps 0 nothing) ps)
     whole-fits [] are = absurd are
-    whole-fits (p ∷ []) are = All-append (StepFits model t) (p.steps 0 nothing) [] (are.0.steps 0) (All-nil (StepFits model t))
+    whole-fits (p ∷ []) are = All-append (ReasonStepFits model t) (p.steps 0 nothing) [] (are.0.steps 0) (All-nil (ReasonStepFits model t))
     whole-fits (p ∷ (q ∷ ps)) are = absurd are.1
 
 pub steps-fit : StepsOfRefutationsFit
-steps-fit model t nodes test is = whole-fits t test model (asked t.condition) (parts_of model t (asked t.condition) nodes) (parts-fit t test model (asked t.condition) (nothing ∷ []) nodes is)
+steps-fit model t nodes test is = whole-fits t test model (asked_claim t.condition) (parts_of_nodes model t (asked_claim t.condition) nodes) (parts-fit t test model (asked_claim t.condition) (nothing ∷ []) nodes is)
 
 pub refutations-tell : PrintedRefutationsTellTheirSteps
 refutations-tell model t nodes others test is is' e =
-    lines-tell model t (steps_of model t (asked t.condition) nodes) (steps_of model t (asked t.condition) others) test (steps-fit model t nodes test is) (steps-fit model t others test is') e
+    lines-tell model t (steps_of model t (asked_claim t.condition) nodes) (steps_of model t (asked_claim t.condition) others) test (steps-fit model t nodes test is) (steps-fit model t others test is') e

@@ -1,5 +1,5 @@
 -- The lines of a report tell its run.
-use Rattle.printed_laws.proofs.Vocabulary.{◌≡◌, ℕ, ◌^◌, ◌<◌, false, List, [], ◌∷◌, ◌++◌, length, refl, sym, ap, subst, ◌∙◌, arith, codes, append_assoc, append_cancel_left, Litmus, IsTest, Entry, printed_order, SpellsOrder, ProtocolKind, Configuration, IsConfigurationWithinLimits, ReportSpellsItsOrder, ReportsAreShort, Shown, line, head, report, register_lines, printed_words, memory_line, printed_verdict, condition_line, choices_line, cache_lines, FitsTest, ReportsTellTheirRuns}
+use Rattle.printed_laws.proofs.Vocabulary.{◌≡◌, ℕ, ◌^◌, ◌<◌, false, List, [], ◌∷◌, ◌++◌, length, refl, sym, ap, subst, ◌∙◌, arith, codes, append_assoc, append_cancel_left, Litmus, IsTest, Entry, printed_order, SpellsOrder, ProtocolKind, Configuration, IsConfigurationWithinLimits, ReportSpellsItsOrder, ReportsAreShort, ShownRun, line, head, report, register_lines, printed_words, memory_line, printed_verdict, condition_line, choices_line, cache_lines, RunFitsTest, ReportsTellTheirRuns}
 use Rattle.printed_laws.proofs.Cutting.{same-cut}
 use Rattle.printed_laws.proofs.Lines.{register-lines-cut, words-cut, verdict-cut}
 use Rattle.printed_laws.proofs.Counted.{Choices, AreFewChoices, choices-cut, caches-told}
@@ -9,7 +9,7 @@ abbrev pub OrderIsSpelledOnce : Type 0
 OrderIsSpelledOnce =
     (t : Litmus) (text : List ℕ) (order other : List Entry) → IsTest t → length text < 2 ^ 64 → SpellsOrder t text order → SpellsOrder t text other → order ≡ other
 
-order-told : OrderIsSpelledOnce → ReportSpellsItsOrder → ReportsAreShort → (t : Litmus) (kind : ProtocolKind) (c : Configuration) (s o : Shown) → IsTest t → IsConfigurationWithinLimits c → FitsTest t s → FitsTest t o
+order-told : OrderIsSpelledOnce → ReportSpellsItsOrder → ReportsAreShort → (t : Litmus) (kind : ProtocolKind) (c : Configuration) (s o : ShownRun) → IsTest t → IsConfigurationWithinLimits c → RunFitsTest t s → RunFitsTest t o
     → report t kind c s ≡ report t kind c o → s.order ≡ o.order
 order-told once spells short t kind c s o test within p q e =
     let size = short t kind c o test within q.small in
@@ -24,18 +24,18 @@ memory-flat words rest = simp append_assoc
 condition-flat : (verdict rest : List ℕ) → (codes "Condition " ++ line verdict) ++ rest ≡ codes "Condition " ++ (verdict ++ 10 ∷ rest)
 condition-flat verdict rest = simp append_assoc
 
-abbrev choices-in : Shown → Choices
+abbrev choices-in : ShownRun → Choices
 choices-in s = record { used = s.used; stalled = s.stalled; unused = s.unused }
 
-are-few : (t : Litmus) (s : Shown) → FitsTest t s → AreFewChoices (choices-in s)
+are-few : (t : Litmus) (s : ShownRun) → RunFitsTest t s → AreFewChoices (choices-in s)
 are-few t s p = record { used = p.small.used; stalled = p.small.stalled; unused = p.small.unused }
 
 pub lines-tell : OrderIsSpelledOnce → ReportSpellsItsOrder → ReportsAreShort → ReportsTellTheirRuns false
 lines-tell once spells short t kind c s o test within p q e =
-    let choices = λ (r : Shown). choices_line r.used r.stalled r.unused ++ cache_lines 0 r.counts in
-    let verdict = λ (r : Shown). condition_line t r.holds ++ choices r in
-    let memory = λ (r : Shown). memory_line t r.memory ++ verdict r in
-    let registers = λ (r : Shown). register_lines 0 r.registers ++ memory r in
+    let choices = λ (r : ShownRun). choices_line r.used r.stalled r.unused ++ cache_lines 0 r.counts in
+    let verdict = λ (r : ShownRun). condition_line t r.holds ++ choices r in
+    let memory = λ (r : ShownRun). memory_line t r.memory ++ verdict r in
+    let registers = λ (r : ShownRun). register_lines 0 r.registers ++ memory r in
     let order = order-told once spells short t kind c s o test within p q e in
     let from_order = append_cancel_left (head t kind c) (printed_order t s.order ++ registers s) (printed_order t o.order ++ registers o) e in
     let from_registers = same-cut (printed_order t s.order) (printed_order t o.order) (registers s) (registers o) (ap (printed_order t) order) from_order in

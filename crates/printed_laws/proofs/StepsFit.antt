@@ -1,9 +1,9 @@
 -- Each step of a trace fits its test.
-use Rattle.printed_laws.proofs.Vocabulary.{◌≡◌, ◌∙◌, ℕ, zero, suc, ◌+◌, ◌<◌, ◌≤◌, ◌==◌, Bool, true, false, if◌then◌else◌, List, [], ◌∷◌, ◌++◌, length, drop, All, Option, Some, None, IfSome, slice_get, subst, arith, length-replicate, All-nil, All-cons, All-head, All-tail, All-append, All-drop, All-weaker, Litmus, IsTest, IsWord, index_of, action_of, core_of, chosen, program_of, access_of, has_ended, CoresExist, Bus, Atomic, Split, Choice, Drain, Committed, Buffered, Moved, Asked, Stalled, Core, Instr, Action, Store, Load, Move, Fence, Lock, Entry, HasWord, IsEntryFor, Table, table_of, ProtocolKind, Awaited, is_awaited, Configuration, IsConfigurationWithinLimits, Running, new_machine, machine_after, IsAt, AreStoresKnown, moved_by, moved_at, moved_from, buffer_if_changed, sent_on, placed, line_states, core_states, lines_of, states_of, number_of, change_of, changes_in, step_of, steps_from, trace_under, IsTraced, LineRequest, StateChange, access-known, traced-first, step-known, traced-next, StepFits}
+use Rattle.printed_laws.proofs.Vocabulary.{◌≡◌, ◌∙◌, ℕ, zero, suc, ◌+◌, ◌<◌, ◌≤◌, ◌==◌, Bool, true, false, if◌then◌else◌, List, [], ◌∷◌, ◌++◌, length, drop, All, Option, Some, None, IfSome, slice_get, subst, arith, length-replicate, All-nil, All-cons, All-head, All-tail, All-append, All-drop, All-weaker, Litmus, IsTest, IsWord, index_of, action_of, core_of, chosen, program_of, access_of, has_ended, CoresExist, Bus, Atomic, Split, Choice, Drain, Committed, Buffered, Moved, Asked, Stalled, Core, Instr, Action, Store, Load, Move, Fence, Lock, Entry, HasWord, IsEntryFor, Table, table_of, ProtocolKind, Awaited, is_awaited, Configuration, IsConfigurationWithinLimits, Running, new_machine, machine_after, IsAt, AreStoresKnown, moved_by, moved_at, moved_from, buffer_if_changed, sent_on, placed, line_states, placed_states_from, number_of_lines, states_of, number_of_state, change_of, changes_in, trace_step_of, steps_from, trace_under, IsTraced, LineRequest, StateChange, access-known, traced-first, step-known, traced-next, TraceStepFits}
 use Rattle.tso_model.specs.declared.choice.Choice.TheVariants.{Step}
 use Rattle.tso_model.specs.declared.choice.Outcome.{Outcome}
 use Rattle.machine_core.specs.Statistics.{no_counts}
-use Rattle.machine_core.specs.Running.{attempt_on, effect_by, use_by}
+use Rattle.machine_core.specs.Running.{attempt_on, machine_effect, machine_use}
 use Rattle.machine_core.specs.declared.accesses.CacheUse.{CacheUse}
 use Rattle.machine_core.specs.declared.accesses.CacheUse.TheVariants.{Unused, Forwarded, Through}
 use Rattle.machine_core.specs.inner.Keeping.{IsAmong, IsFlusherAmong, IsSenderAmong}
@@ -36,7 +36,7 @@ fits-first table c t test = record {
 stores-known : (m : Running) → MachineFits m → AreStoresKnown m.test m.state.flat
 stores-known m f core = All-weaker (PendingFits m.test) (IsAt m.test) (λ e p. p.known) (core_of m.state.flat core).pending (f.cores core).pending
 
-bus-fits : (m : Running) (choice : Choice) → chosen choice < 256 → MachineFits m → BusFits m.test (effect_by m choice)
+bus-fits : (m : Running) (choice : Choice) → chosen choice < 256 → MachineFits m → BusFits m.test (machine_effect m choice)
 bus-fits m choice small f =
     effect-fits m.test m.bus m.depth m.state (attempt_on m choice) f.test small f.memory f.cores f.holder (λ c. access-known m.test m.depth m.state.flat c f.test (stores-known m f))
 
@@ -45,10 +45,10 @@ fits-next m choice small f =
     let made = bus-fits m choice small f in
     record {
       test = f.test;
-      memory = memory-fits m.test (effect_by m choice).effect.commits m.state.flat.memory made.effect.commits f.memory;
-      cores = cores-fit m.test m.state.flat (chosen choice) (effect_by m choice).effect f.cores made.effect.after;
+      memory = memory-fits m.test (machine_effect m choice).effect.commits m.state.flat.memory made.effect.commits f.memory;
+      cores = cores-fit m.test m.state.flat (chosen choice) (machine_effect m choice).effect f.cores made.effect.after;
       holder = made.holder;
-      counts = length-counted (chosen choice) (use_by m choice).how m.statistics.counts ∙ f.counts;
+      counts = length-counted (chosen choice) (machine_use m choice).how m.statistics.counts ∙ f.counts;
       sound = sound-after m choice f.sound;
     }
 
@@ -103,13 +103,13 @@ line-cores : (m : Running) (core line count : ℕ) → core < 256 → All IsOfCo
 line-cores m core line zero small = All-nil IsOfCore
 line-cores m core line (suc count) small = All-cons IsOfCore (placed m core line) (line_states m core (line + 1) count) small (line-cores m core (line + 1) count small)
 
-core-cores : (m : Running) (core count : ℕ) → core + count ≤ 256 → All IsOfCore (core_states m core count)
+core-cores : (m : Running) (core count : ℕ) → core + count ≤ 256 → All IsOfCore (placed_states_from m core count)
 core-cores m core zero few = All-nil IsOfCore
 core-cores m core (suc count) few =
-    All-append IsOfCore (line_states m core 0 (lines_of m)) (core_states m (core + 1) count) (line-cores m core 0 (lines_of m) (omega (arith, few))) (core-cores m (core + 1) count (omega (arith, few)))
+    All-append IsOfCore (line_states m core 0 (number_of_lines m)) (placed_states_from m (core + 1) count) (line-cores m core 0 (number_of_lines m) (omega (arith, few))) (core-cores m (core + 1) count (omega (arith, few)))
 
 change-cores : (b a : PlacedState) → IsOfCore b → All IsChangeOfCore (change_of b a)
-change-cores b a small = by_test (number_of b.state == number_of a.state)
+change-cores b a small = by_test (number_of_state b.state == number_of_state a.state)
   where
     by_test : (same : Bool) → All IsChangeOfCore (if same then [] else record { core = b.core; line = b.line; before = b.state; after = a.state } ∷ [])
     by_test true = All-nil IsChangeOfCore
@@ -124,8 +124,8 @@ changes-cores (b ∷ bs) (a ∷ rest) all =
 -- ---- a step
 
 pub step-fits : (t : Litmus) (c : Configuration) (m : Running) (choice : Choice) → IsTest t → IsConfigurationWithinLimits c → IsTraced t c m → chosen choice < length t.programs → MachineFits m
-    → StepFits t c.shape.words (step_of m choice)
-unfolding step_of
+    → TraceStepFits t c.shape.words (trace_step_of m choice)
+unfolding trace_step_of
 step-fits t c m choice test within traced exists f =
     let few = test.cores in
     let small : chosen choice < 256 = omega (arith, few, exists) in
@@ -136,23 +136,23 @@ step-fits t c m choice test within traced exists f =
     let pending = (core_of end.state.flat (chosen choice)).pending in
     let is = next.cores (chosen choice) in
     let after : All (IsEntryFor m.test) pending = All-weaker (PendingFits m.test) (IsEntryFor m.test) (pending-entry m.test) pending is.pending in
-    let entries : All (IsEntryFor m.test) ((effect_by m choice).effect.commits ++ drop (length waited) pending) =
-    All-append (IsEntryFor m.test) (effect_by m choice).effect.commits (drop (length waited) pending) made.effect.commits (All-drop (IsEntryFor m.test) (length waited) pending after) in
+    let entries : All (IsEntryFor m.test) ((machine_effect m choice).effect.commits ++ drop (length waited) pending) =
+    All-append (IsEntryFor m.test) (machine_effect m choice).effect.commits (drop (length waited) pending) made.effect.commits (All-drop (IsEntryFor m.test) (length waited) pending after) in
     let size = length m.statistics.caches.contents in
     let few_here = f.test.cores in
     let counted = f.counts in
     let counted_next = next.counts in
     let sized = f.sound.size in
     let sized_next = next.sound.size in
-    let how = senders (is_awaited m.state.holder) (is_awaited (effect_by m choice).holder) m.statistics.caches (chosen choice) (access_of m.test m.depth m.state.flat choice) waited
-    (effect_by m choice).effect.commits f.sound.sender in
+    let how = senders (is_awaited m.state.holder) (is_awaited (machine_effect m choice).holder) m.statistics.caches (chosen choice) (access_of m.test m.depth m.state.flat choice) waited
+    (machine_effect m choice).effect.commits f.sound.sender in
     let same : length end.statistics.caches.contents ≡ size = omega (arith, counted, counted_next, sized, sized_next) in
     let awaited : IsSenderAmong size end.statistics.caches.awaited = subst (λ n. IsSenderAmong n end.statistics.caches.awaited) same next.sound.sender in
-    let flushed = sent-among size m.bus (effect_by m choice).effect.outcome _ (use_by m choice).how end.statistics.caches.awaited how.0 awaited in
+    let flushed = sent-among size m.bus (machine_effect m choice).effect.outcome _ (machine_use m choice).how end.statistics.caches.awaited how.0 awaited in
     record {
       known = step-known t c m choice test traced within.1.line_size;
       chosen_core = small;
-      entries = subst (λ u. All (IsEntryFor u) ((effect_by m choice).effect.commits ++ drop (length waited) pending)) traced.test entries;
+      entries = subst (λ u. All (IsEntryFor u) ((machine_effect m choice).effect.commits ++ drop (length waited) pending)) traced.test entries;
       moved = moved-word m.test (core_of m.state.flat (chosen choice)).place choice (core_of end.state.flat (chosen choice)).registers is.registers;
       flushed = small-core size _ (omega (arith, counted, sized, few_here)) flushed;
       changes = changes-cores (states_of m) (states_of end) (core-cores m 0 (length m.test.programs) (omega (arith, few_here)));
@@ -160,8 +160,8 @@ step-fits t c m choice test within traced exists f =
     }
 
 steps-fit : (t : Litmus) (c : Configuration) (m : Running) (choices : List Choice) → IsTest t → IsConfigurationWithinLimits c → IsTraced t c m → CoresExist (length t.programs) choices → MachineFits m
-    → All (StepFits t c.shape.words) (steps_from m choices)
-steps-fit t c m [] test within traced exist f = All-nil (StepFits t c.shape.words)
+    → All (TraceStepFits t c.shape.words) (steps_from m choices)
+steps-fit t c m [] test within traced exist f = All-nil (TraceStepFits t c.shape.words)
 steps-fit t c m (choice ∷ choices) test within traced exist f =
     let few = test.cores in
     let here = exist.0 in
@@ -169,13 +169,13 @@ steps-fit t c m (choice ∷ choices) test within traced exist f =
     by_end (has_ended m.test m.state.flat) (step-fits t c m choice test within traced exist.0 f)
     (steps-fit t c (machine_after m choice) choices test within (traced-next t c m choice test traced) exist.1 (fits-next m choice small f))
   where
-    by_end : (ended : Bool) → StepFits t c.shape.words (step_of m choice) → All (StepFits t c.shape.words) (steps_from (machine_after m choice) choices)
-        → All (StepFits t c.shape.words) (if ended then [] else step_of m choice ∷ steps_from (machine_after m choice) choices)
-    by_end true first further = All-nil (StepFits t c.shape.words)
-    by_end false first further = All-cons (StepFits t c.shape.words) (step_of m choice) (steps_from (machine_after m choice) choices) first further
+    by_end : (ended : Bool) → TraceStepFits t c.shape.words (trace_step_of m choice) → All (TraceStepFits t c.shape.words) (steps_from (machine_after m choice) choices)
+        → All (TraceStepFits t c.shape.words) (if ended then [] else trace_step_of m choice ∷ steps_from (machine_after m choice) choices)
+    by_end true first further = All-nil (TraceStepFits t c.shape.words)
+    by_end false first further = All-cons (TraceStepFits t c.shape.words) (trace_step_of m choice) (steps_from (machine_after m choice) choices) first further
 
 pub traces-fit : (t : Litmus) (kind : ProtocolKind) (c : Configuration) (choices : List Choice) → IsTest t → IsConfigurationWithinLimits c → CoresExist (length t.programs) choices
-    → All (StepFits t c.shape.words) (trace_under t kind c choices)
+    → All (TraceStepFits t c.shape.words) (trace_under t kind c choices)
 traces-fit t kind c choices test within exist =
     let m = new_machine (table_of kind) c t in
     steps-fit t c m choices test within (traced-first (table_of kind) c t) exist (fits-first (table_of kind) c t test)

@@ -1,5 +1,5 @@
 -- The lines of a sweep tell what was counted.
-use Rattle.printed_laws.proofs.Vocabulary.{◌≡◌, ℕ, ◌+◌, ◌^◌, ◌<◌, ◌==◌, Bool, true, false, cond, List, [], ◌∷◌, ◌++◌, length, get_or, All, Option, Some, None, is_some, refl, sym, ap, ◌∙◌, arith, codes, sum, decimal, append_assoc, append_cancel_left, All-head, All-tail, sum_by-cons, Litmus, Condition, IsWord, name_of, Named, Register, Location, line, head, RunCounts, looked_at, ended_in, printed_value, printed_values, state_lines, sweep_line, frequency, observed_line, observation, tally_text, IsStateOf, SweepsTellTheirCounts}
+use Rattle.printed_laws.proofs.Vocabulary.{◌≡◌, ℕ, ◌+◌, ◌^◌, ◌<◌, ◌==◌, Bool, true, false, cond, List, [], ◌∷◌, ◌++◌, length, get_or, All, Option, Some, None, is_some, refl, sym, ap, ◌∙◌, arith, codes, sum, decimal, append_assoc, append_cancel_left, All-head, All-tail, sum_by-cons, Litmus, Condition, IsWord, name_of, Named, Register, Location, line, head, RunCounts, looked_at, ended_in, printed_value, printed_values, counted_state_lines, sweep_line, frequency, observed_line, observation, tally_text, IsStateOf, SweepsTellTheirCounts}
 use Rattle.std.specs.Prelude.{slice_index_or}
 use Rattle.std.specs.Map.{values_of}
 use Rattle.printed_laws.proofs.Cutting.{Stops, next-cut}
@@ -60,15 +60,15 @@ same-state a b values count = λ i. (values i, count i)
 
 states-cut : (t : Litmus) (xs ys : List (List ℕ × ℕ)) (rest other : List ℕ) → All (λ state. IsStateOf t state.0) xs → All (λ state. IsStateOf t state.0) ys
     → sum (values_of xs) < 2 ^ 64 → sum (values_of ys) < 2 ^ 64 → NoState rest → NoState other
-    → state_lines t xs ++ rest ≡ state_lines t ys ++ other → (xs ≡ ys) × (rest ≡ other)
+    → counted_state_lines t xs ++ rest ≡ counted_state_lines t ys ++ other → (xs ≡ ys) × (rest ≡ other)
 states-cut t [] [] rest other p q m n stops stops' e = (refl, e)
 states-cut t [] (y ∷ ys) rest other p q m n stops stops' e = absurd (stops (ap (λ (l : List ℕ). get_or l 0 0) e))
 states-cut t (x ∷ xs) [] rest other p q m n stops stops' e = absurd (stops' (ap (λ (l : List ℕ). get_or l 0 0) (sym e)))
 states-cut t (x ∷ xs) (y ∷ ys) rest other p q m n stops stops' e =
     let a = printed_values t (looked_at t) x.0 in
     let b = printed_values t (looked_at t) y.0 in
-    let more = state_lines t xs in
-    let more' = state_lines t ys in
+    let more = counted_state_lines t xs in
+    let more' = counted_state_lines t ys in
     let flat = sym (state-flat (decimal x.1) a more rest) ∙ (e ∙ state-flat (decimal y.1) b more' other) in
     let px = All-head (λ (state : List ℕ × ℕ). IsStateOf t state.0) x xs p in
     let py = All-head (λ (state : List ℕ × ℕ). IsStateOf t state.0) y ys q in
@@ -157,7 +157,7 @@ verdicts-told name (Some c) h f h' f' ended ended' p q m n e =
 pub counts-told : SweepsTellTheirCounts
 counts-told t kind c plan a b p q e =
     let seen = λ (r : RunCounts). observation t.name t.condition r.held r.failed in
-    let states = λ (r : RunCounts). state_lines t r.states ++ seen r in
+    let states = λ (r : RunCounts). counted_state_lines t r.states ++ seen r in
     let tallied = append_cancel_left (head t kind c) (tally_text t a plan.from plan.length) (tally_text t b plan.from plan.length) e in
     let first = sweep-line-cut (ended_in a) a.unfinished (ended_in b) b.unfinished plan.from plan.length (states a) (states b) p.few q.few tallied in
     let few = p.few in

@@ -1,11 +1,11 @@
 -- The lines of a trace tell its steps.
-use Rattle.printed_laws.proofs.Vocabulary.{◌≡◌, ◌∙◌, ℕ, ◌+◌, ◌^◌, ◌<◌, ◌==◌, List, [], ◌∷◌, ◌++◌, map, length, get_or, All, Option, Some, None, IfSome, if◌then◌else◌, refl, sym, ap, arith, codes, option_map, decimal, is_ascii_digit, append_assoc, append_cancel_left, length-map, All-head, All-tail, All-cons, All-nil, Litmus, IsTest, continues_name, chosen, Choice, Drain, Stall, Done, Full, Empty, Committed, Buffered, Moved, Asked, Stalled, Entry, printed_choice, HasWord, all_of_location, IsAt, IsLine, outcome_name, entries_text, moved_text, forwarded_text, access_text, request_text, flush_text, write_back_text, changes_text, store_text, later_stores, stores_text, buffer_text, step_lines, StateChange, bare_store, told_by_line, StepFits, TracesTellTheirSteps}
+use Rattle.printed_laws.proofs.Vocabulary.{◌≡◌, ◌∙◌, ℕ, ◌+◌, ◌^◌, ◌<◌, ◌==◌, List, [], ◌∷◌, ◌++◌, map, length, get_or, All, Option, Some, None, IfSome, if◌then◌else◌, refl, sym, ap, arith, codes, option_map, decimal, is_ascii_digit, append_assoc, append_cancel_left, length-map, All-head, All-tail, All-cons, All-nil, Litmus, IsTest, continues_name, chosen, Choice, Drain, Stall, Done, Full, Empty, Committed, Buffered, Moved, Asked, Stalled, Entry, printed_choice, HasWord, all_of_location, IsAt, IsLine, outcome_name, entries_text, moved_text, forwarded_text, access_text, request_text, flush_text, write_back_text, changes_text, store_text, later_stores, stores_text, buffer_text, step_lines, StateChange, bare_store, told_by_line, TraceStepFits, TracesTellTheirSteps}
 use Rattle.tso_model.specs.declared.choice.Choice.TheVariants.{Step}
 use Rattle.tso_model.specs.declared.choice.Stall.TheVariants.{Fence, Lock, Bus}
 use Rattle.tso_model.specs.declared.choice.Outcome.{Outcome}
 use Rattle.protocol_tables.specs.PrintedTable.{line}
-use Rattle.trace_report.specs.Lines.{step_line}
-use Rattle.trace_report.specs.Shown.{Shown}
+use Rattle.trace_report.specs.Lines.{trace_step_line}
+use Rattle.trace_report.specs.Shown.{ShownStep}
 use Rattle.printed_laws.proofs.Cutting.{run-cut}
 use Rattle.printed_laws.proofs.Digits.{all-digits}
 use Rattle.printed_laws.proofs.TraceWords.{Ends, read-cut, core_in, choice-cut, apart, same-loc, value-cut}
@@ -136,66 +136,66 @@ line-flat number choice outcome entries moved forwarded access request flush wri
 
 -- the parts of a line from each on
 module _ (t : Litmus) (words : ℕ) where
-  abbrev from_buffer : Shown → List ℕ → List ℕ
+  abbrev from_buffer : ShownStep → List ℕ → List ℕ
   from_buffer s after = buffer_text t (chosen s.choice) s.buffer ++ 10 ∷ after
 
-  abbrev from_changes : Shown → List ℕ → List ℕ
+  abbrev from_changes : ShownStep → List ℕ → List ℕ
   from_changes s after = changes_text t words s.changes ++ from_buffer s after
 
-  abbrev from_write_back : Shown → List ℕ → List ℕ
+  abbrev from_write_back : ShownStep → List ℕ → List ℕ
   from_write_back s after = write_back_text t words s.wrote_back ++ from_changes s after
 
-  abbrev from_flush : Shown → List ℕ → List ℕ
+  abbrev from_flush : ShownStep → List ℕ → List ℕ
   from_flush s after = flush_text s.flushed ++ from_write_back s after
 
-  abbrev from_request : Shown → List ℕ → List ℕ
+  abbrev from_request : ShownStep → List ℕ → List ℕ
   from_request s after = request_text t words s.request ++ from_flush s after
 
-  abbrev from_access : Shown → List ℕ → List ℕ
+  abbrev from_access : ShownStep → List ℕ → List ℕ
   from_access s after = access_text s.access ++ from_request s after
 
-  abbrev from_forwarded : Shown → List ℕ → List ℕ
+  abbrev from_forwarded : ShownStep → List ℕ → List ℕ
   from_forwarded s after = forwarded_text s.forwarded ++ from_access s after
 
-  abbrev from_moved : Shown → List ℕ → List ℕ
+  abbrev from_moved : ShownStep → List ℕ → List ℕ
   from_moved s after = moved_text s.moved ++ from_forwarded s after
 
-  abbrev from_entries : Shown → List ℕ → List ℕ
+  abbrev from_entries : ShownStep → List ℕ → List ℕ
   from_entries s after = entries_text t s.entries ++ from_moved s after
 
-  abbrev from_outcome : Shown → List ℕ → List ℕ
+  abbrev from_outcome : ShownStep → List ℕ → List ℕ
   from_outcome s after = outcome_name s.outcome ++ from_entries s after
 
-  abbrev from_choice : Shown → List ℕ → List ℕ
+  abbrev from_choice : ShownStep → List ℕ → List ℕ
   from_choice s after = printed_choice s.choice ++ (codes " " ++ from_outcome s after)
 
-  line-split : (number : ℕ) (s : Shown) (after : List ℕ) → step_line t words number s ++ after ≡ decimal number ++ (codes " " ++ from_choice s after)
+  line-split : (number : ℕ) (s : ShownStep) (after : List ℕ) → trace_step_line t words number s ++ after ≡ decimal number ++ (codes " " ++ from_choice s after)
   line-split number s after =
       line-flat (decimal number) (printed_choice s.choice) (outcome_name s.outcome) (entries_text t s.entries) (moved_text s.moved) (forwarded_text s.forwarded) (access_text s.access)
       (request_text t words s.request) (flush_text s.flushed) (write_back_text t words s.wrote_back) (changes_text t words s.changes) (buffer_text t (chosen s.choice) s.buffer) after
 
-  follows-9 : (s : Shown) (after : List ℕ) → Follows 9 (from_buffer s after)
+  follows-9 : (s : ShownStep) (after : List ℕ) → Follows 9 (from_buffer s after)
   follows-9 s after = buffer-follows t (chosen s.choice) s.buffer (10 ∷ after) (ending-follows after)
 
-  follows-8 : (s : Shown) (after : List ℕ) → Follows 8 (from_changes s after)
+  follows-8 : (s : ShownStep) (after : List ℕ) → Follows 8 (from_changes s after)
   follows-8 s after = changes-follow t words s.changes (from_buffer s after) (follows-9 s after)
 
-  follows-7 : (s : Shown) (after : List ℕ) → Follows 7 (from_write_back s after)
+  follows-7 : (s : ShownStep) (after : List ℕ) → Follows 7 (from_write_back s after)
   follows-7 s after = write-back-follows t words s.wrote_back (from_changes s after) (follows-8 s after)
 
-  follows-6 : (s : Shown) (after : List ℕ) → Follows 6 (from_flush s after)
+  follows-6 : (s : ShownStep) (after : List ℕ) → Follows 6 (from_flush s after)
   follows-6 s after = flush-follows s.flushed (from_write_back s after) (follows-7 s after)
 
-  follows-5 : (s : Shown) (after : List ℕ) → Follows 5 (from_request s after)
+  follows-5 : (s : ShownStep) (after : List ℕ) → Follows 5 (from_request s after)
   follows-5 s after = request-follows t words s.request (from_flush s after) (follows-6 s after)
 
-  follows-4 : (s : Shown) (after : List ℕ) → Follows 4 (from_access s after)
+  follows-4 : (s : ShownStep) (after : List ℕ) → Follows 4 (from_access s after)
   follows-4 s after = access-follows s.access (from_request s after) (follows-5 s after)
 
-  follows-3 : (s : Shown) (after : List ℕ) → Follows 3 (from_forwarded s after)
+  follows-3 : (s : ShownStep) (after : List ℕ) → Follows 3 (from_forwarded s after)
   follows-3 s after = forwarded-follows s.forwarded (from_access s after) (follows-4 s after)
 
-  follows-2 : (s : Shown) (after : List ℕ) → Follows 2 (from_moved s after)
+  follows-2 : (s : ShownStep) (after : List ℕ) → Follows 2 (from_moved s after)
   follows-2 s after = moved-follows s.moved (from_forwarded s after) (follows-3 s after)
 
   pub core-small : (choice : Choice) → chosen choice < 256 → core_in choice < 2 ^ 64
@@ -206,11 +206,11 @@ module _ (t : Litmus) (words : ℕ) where
   stores-fit None at word = tt
   stores-fit (Some stores) at word = both (IsAt t) HasWord stores at word
 
-  pub changes-fit : (s : Shown) → StepFits t words s → All (ChangeFits t words) s.changes
+  pub changes-fit : (s : ShownStep) → TraceStepFits t words s → All (ChangeFits t words) s.changes
   changes-fit s p = both (λ (c : StateChange). c.core.0 < 256) (λ (c : StateChange). IsLine t words c.line) s.changes p.changes p.known.changes
 
-  step-cut : (number : ℕ) (a b : Shown) (rest other : List ℕ) → IsTest t → StepFits t words a → StepFits t words b
-      → step_line t words number a ++ rest ≡ step_line t words number b ++ other → (told_by_line a ≡ told_by_line b) × (rest ≡ other)
+  step-cut : (number : ℕ) (a b : ShownStep) (rest other : List ℕ) → IsTest t → TraceStepFits t words a → TraceStepFits t words b
+      → trace_step_line t words number a ++ rest ≡ trace_step_line t words number b ++ other → (told_by_line a ≡ told_by_line b) × (rest ≡ other)
   step-cut number a b rest other test p q e =
       let flat = sym (line-split number a rest) ∙ (e ∙ line-split number b other) in
       let numbered = append_cancel_left (decimal number) (codes " " ++ from_choice a rest) (codes " " ++ from_choice b other) flat in
@@ -248,17 +248,17 @@ module _ (t : Litmus) (words : ℕ) where
   -- ---- the lines
 
   -- a line begins with a number, and the last line with a letter
-  no-line : {A : Type 0} (number : ℕ) (s : Shown) (rest other : List ℕ) → step_line t words number s ++ rest ≡ 69 ∷ other → A
+  no-line : {A : Type 0} (number : ℕ) (s : ShownStep) (rest other : List ℕ) → trace_step_line t words number s ++ rest ≡ 69 ∷ other → A
   no-line number s rest other e =
       let flat = sym (line-split number s rest) ∙ e in
       let cut = run-cut is_ascii_digit (decimal number) [] (codes " " ++ from_choice s rest) (69 ∷ other) (all-digits number) refl refl refl flat in
       apart 32 69 (from_choice s rest) other refl cut.1
 
-  lines-split : (number : ℕ) (s : Shown) (ss : List Shown) (rest : List ℕ)
-      → step_lines t words number (s ∷ ss) ++ rest ≡ step_line t words number s ++ (step_lines t words (number + 1) ss ++ rest)
-  lines-split number s ss rest = append_assoc (step_line t words number s) (step_lines t words (number + 1) ss) rest
+  lines-split : (number : ℕ) (s : ShownStep) (ss : List ShownStep) (rest : List ℕ)
+      → step_lines t words number (s ∷ ss) ++ rest ≡ trace_step_line t words number s ++ (step_lines t words (number + 1) ss ++ rest)
+  lines-split number s ss rest = append_assoc (trace_step_line t words number s) (step_lines t words (number + 1) ss) rest
 
-  lines-cut : (number : ℕ) (xs ys : List Shown) (rest other : List ℕ) → IsTest t → All (StepFits t words) xs → All (StepFits t words) ys
+  lines-cut : (number : ℕ) (xs ys : List ShownStep) (rest other : List ℕ) → IsTest t → All (TraceStepFits t words) xs → All (TraceStepFits t words) ys
       → step_lines t words number xs ++ 69 ∷ rest ≡ step_lines t words number ys ++ 69 ∷ other
       → (map told_by_line xs ≡ map told_by_line ys) × (rest ≡ other)
   lines-cut number [] [] rest other test p q e = (refl, append_cancel_left (69 ∷ []) rest other e)
@@ -266,8 +266,8 @@ module _ (t : Litmus) (words : ℕ) where
   lines-cut number (x ∷ xs) [] rest other test p q e = no-line number x (step_lines t words (number + 1) xs ++ 69 ∷ rest) other (sym (lines-split number x xs (69 ∷ rest)) ∙ e)
   lines-cut number (x ∷ xs) (y ∷ ys) rest other test p q e =
       let first = step-cut number x y (step_lines t words (number + 1) xs ++ 69 ∷ rest) (step_lines t words (number + 1) ys ++ 69 ∷ other) test
-      (All-head (StepFits t words) x xs p) (All-head (StepFits t words) y ys q) (sym (lines-split number x xs (69 ∷ rest)) ∙ (e ∙ lines-split number y ys (69 ∷ other))) in
-      let further = lines-cut (number + 1) xs ys rest other test (All-tail (StepFits t words) x xs p) (All-tail (StepFits t words) y ys q) first.1 in
+      (All-head (TraceStepFits t words) x xs p) (All-head (TraceStepFits t words) y ys q) (sym (lines-split number x xs (69 ∷ rest)) ∙ (e ∙ lines-split number y ys (69 ∷ other))) in
+      let further = lines-cut (number + 1) xs ys rest other test (All-tail (TraceStepFits t words) x xs p) (All-tail (TraceStepFits t words) y ys q) first.1 in
       ((λ i. first.0 i ∷ further.0 i), further.1)
 
 trace-flat : (lines count rest : List ℕ) → (line (codes "Trace") ++ (lines ++ (codes "Endtrace " ++ line count))) ++ rest
@@ -281,7 +281,7 @@ lines-tell t words xs ys rest other test p q e =
     let flat = sym (trace-flat (lines xs) (decimal (length xs)) rest) ∙ (e ∙ trace-flat (lines ys) (decimal (length ys)) other) in
     let cut = lines-cut t words 1 xs ys (ending (length xs) rest) (ending (length ys) other) test p q
     (append_cancel_left (codes "Trace\n") (lines xs ++ 69 ∷ ending (length xs) rest) (lines ys ++ 69 ∷ ending (length ys) other) flat) in
-    let count : length xs ≡ length ys = sym (length-map xs told_by_line) ∙ (ap (λ (l : List Shown). length l) cut.0 ∙ length-map ys told_by_line) in
+    let count : length xs ≡ length ys = sym (length-map xs told_by_line) ∙ (ap (λ (l : List ShownStep). length l) cut.0 ∙ length-map ys told_by_line) in
     let same = cut.1 ∙ ap (λ (n : ℕ). ending n other) (sym count) in
     (cut.0, append_cancel_left (codes "ndtrace " ++ (decimal (length xs) ++ 10 ∷ [])) rest other (sym (ends-flat (decimal (length xs)) rest) ∙ (same ∙ ends-flat (decimal (length xs)) other)))
   where

@@ -1,5 +1,5 @@
 -- The JSON value of a trace has numbers and nests no deeper than a reader goes, so that its text can be read back.
-use Rattle.printed_laws.proofs.Vocabulary.{ℕ, zero, suc, ◌+◌, ◌*◌, ◌/◌, ◌^◌, ◌<◌, ◌≤◌, Bool, true, false, nat_lt, if◌then◌else◌, List, [], ◌∷◌, map, length, take, slice_index, All, Option, Some, None, IfSome, arith, range_with_len, nat_cmp, match_ordering, slice_cmp, Ordering, Less, Equal, Greater, All-nil, All-cons, All-head, All-tail, All-drop, All-take, depth, items_depth, members_depth, HasNumbers, ItemsHaveNumbers, MembersHaveNumbers, IsNumber-decimal, Data, Members, no_members, member, put, items_of, outline, items_outline, members_outline, Litmus, IsTest, Condition, IsWord, index_of, value_in, core_of, chosen, MemoryAccess, NoAccess, Writes, Locks, access_of, Holder, Free, HeldBy, HeldBetween, has_ended, CoresExist, Reg, Eax, Ebx, Ecx, Edx, Esi, Edi, Choice, Awaited, table_of, ProtocolKind, Transient, at_access, Configuration, bus_holder, bus_holder_as, bus_holder_of, Running, new_machine, machine_after, BusHolder, count, registers_value, names_in_line, store_text, transient_name, step_of, words_in, copy_json, sets_json, core_json, cores_json, words_in_line, kept_words, bus_json, machine_json, own_word, own_words_from, own_words, is_newer_in, instruction_text, program_value, programs_value, proposition_text, proposition_value, sourced_by, step_to, steps_json, trace_json, IsReadable}
+use Rattle.printed_laws.proofs.Vocabulary.{ℕ, zero, suc, ◌+◌, ◌*◌, ◌/◌, ◌^◌, ◌<◌, ◌≤◌, Bool, true, false, nat_lt, if◌then◌else◌, List, [], ◌∷◌, map, length, take, slice_index, All, Option, Some, None, IfSome, arith, range_with_len, nat_cmp, match_ordering, slice_cmp, Ordering, Less, Equal, Greater, All-nil, All-cons, All-head, All-tail, All-drop, All-take, depth, items_depth, members_depth, HasNumbers, ItemsHaveNumbers, MembersHaveNumbers, IsNumber-decimal, Data, Members, no_members, member, put, items_of, outline, items_outline, members_outline, Litmus, IsTest, Condition, IsWord, index_of, value_in, core_of, chosen, MemoryAccess, NoAccess, Writes, Locks, access_of, Holder, Free, HeldBy, HeldBetween, has_ended, CoresExist, Reg, Eax, Ebx, Ecx, Edx, Esi, Edi, Choice, Awaited, table_of, ProtocolKind, Transient, at_access, Configuration, bus_holder, bus_holder_as, bus_holder_of, Running, new_machine, machine_after, BusHolder, count, registers_value, names_in_line, store_text, transient_name, trace_step_of, words_per_line, copy_json, sets_json, core_json, cores_json, words_in_line, words_on_bus, bus_json, machine_json, own_word, own_words_from, own_words, is_newer_in, instruction_text, program_value, programs_value, proposition_text, proposition_value, sourced_by, step_to, steps_json, trace_json, IsReadable}
 use Rattle.std.specs.Prelude.{option_map, slice_index_or}
 use Rattle.tso_model.specs.MemoryAccess.{Reads}
 use Rattle.snoop_bus.specs.Accesses.{with_words}
@@ -78,29 +78,29 @@ line-words words seen line (k ∷ ks) all = All-cons IsWord (offset_of words see
     inside false = omega arith
 
 module _ (m : Running) (memory : All IsWord m.state.flat.memory) where
-  copy-numbers : (core : ℕ) (tag : ℕ × State) → HasNumbers (outline (copy_json m core (with_words (words_in m) m.state.flat.memory tag)))
+  copy-numbers : (core : ℕ) (tag : ℕ × State) → HasNumbers (outline (copy_json m core (with_words (words_per_line m) m.state.flat.memory tag)))
   copy-numbers core tag = (
     tt,
     (
       tt,
       (
-        counts-numbers _ (All-take IsWord (length (names_in_line m.test.locations (words_in m) tag.0)) (line_of_words (words_in m) m.state.flat.memory tag.0)
-            (line-words (words_in m) m.state.flat.memory tag.0 (range_with_len 0 most_words) memory)),
+        counts-numbers _ (All-take IsWord (length (names_in_line m.test.locations (words_per_line m) tag.0)) (line_of_words (words_per_line m) m.state.flat.memory tag.0)
+            (line-words (words_per_line m) m.state.flat.memory tag.0 (range_with_len 0 most_words) memory)),
         tt,
       ),
     ),
   )
 
-  copy-depth : (core : ℕ) (tag : ℕ × State) → depth (outline (copy_json m core (with_words (words_in m) m.state.flat.memory tag))) ≤ 2
+  copy-depth : (core : ℕ) (tag : ℕ × State) → depth (outline (copy_json m core (with_words (words_per_line m) m.state.flat.memory tag))) ≤ 2
   copy-depth core tag =
-      let c = with_words (words_in m) m.state.flat.memory tag in
-      omega (arith, counts-depth (take (length (names_in_line m.test.locations (words_in m) c.line)) c.words))
+      let c = with_words (words_per_line m) m.state.flat.memory tag in
+      omega (arith, counts-depth (take (length (names_in_line m.test.locations (words_per_line m) c.line)) c.words))
 
-  copies-numbers : (core : ℕ) (tags : List (ℕ × State)) → ItemsHaveNumbers (items_outline (items_of (map (copy_json m core) (map (with_words (words_in m) m.state.flat.memory) tags))))
+  copies-numbers : (core : ℕ) (tags : List (ℕ × State)) → ItemsHaveNumbers (items_outline (items_of (map (copy_json m core) (map (with_words (words_per_line m) m.state.flat.memory) tags))))
   copies-numbers core [] = tt
   copies-numbers core (tag ∷ tags) = (copy-numbers core tag, copies-numbers core tags)
 
-  copies-depth : (core : ℕ) (tags : List (ℕ × State)) → items_depth (items_outline (items_of (map (copy_json m core) (map (with_words (words_in m) m.state.flat.memory) tags)))) ≤ 2
+  copies-depth : (core : ℕ) (tags : List (ℕ × State)) → items_depth (items_outline (items_of (map (copy_json m core) (map (with_words (words_per_line m) m.state.flat.memory) tags)))) ≤ 2
   copies-depth core [] = omega arith
   copies-depth core (tag ∷ tags) = omega (arith, copy-depth core tag, copies-depth core tags)
 
@@ -154,7 +154,7 @@ holder-small t m (HeldBy choice) awaited fits = at (access_of m.test m.depth m.s
     at (Writes loc) = fits
     at (Locks loc) = fits
 
-kept-words : (o : Option Transient) (words : List ℕ) → All IsWord words → All IsWord (kept_words o words)
+kept-words : (o : Option Transient) (words : List ℕ) → All IsWord words → All IsWord (words_on_bus o words)
 kept-words None words all = All-nil IsWord
 kept-words (Some transient) words all = all
 
@@ -169,8 +169,8 @@ bus-numbers m (Some h) memory small = (
       (
         text-numbers (option_map transient_name h.transient),
         (
-          counts-numbers _ (kept-words h.transient _ (All-drop IsWord (h.loc.0 / words_in m * words_in m) (take (h.loc.0 / words_in m * words_in m + words_in m) m.state.flat.memory)
-              (All-take IsWord (h.loc.0 / words_in m * words_in m + words_in m) m.state.flat.memory memory))),
+          counts-numbers _ (kept-words h.transient _ (All-drop IsWord (h.loc.0 / words_per_line m * words_per_line m) (take (h.loc.0 / words_per_line m * words_per_line m + words_per_line m) m.state.flat.memory)
+              (All-take IsWord (h.loc.0 / words_per_line m * words_per_line m + words_per_line m) m.state.flat.memory memory))),
           tt,
         ),
       ),
@@ -181,7 +181,7 @@ bus-numbers m (Some h) memory small = (
 bus-depth : (m : Running) (h : Option BusHolder) → depth (outline (bus_json m h)) ≤ 2
 bus-depth m None = omega arith
 bus-depth m (Some h) =
-    omega (arith, text-depth (option_map transient_name h.transient), counts-depth (kept_words h.transient (words_in_line (words_in m) m.state.flat.memory (h.loc.0 / words_in m))))
+    omega (arith, text-depth (option_map transient_name h.transient), counts-depth (words_on_bus h.transient (words_in_line (words_per_line m) m.state.flat.memory (h.loc.0 / words_per_line m))))
 
 -- ---- the machine
 
@@ -219,8 +219,8 @@ step-readable m choice own f words =
     let next = machine_after m choice in
     let after = machine-readable next own f words in
     record {
-      numbers = step-numbers next.test (words_in next) (step_of m choice) (sourced_by m choice).supplied (machine_json next own) after.numbers;
-      depth = step-depth next.test (words_in next) (step_of m choice) (sourced_by m choice).supplied (machine_json next own) 7 (omega arith) after.depth;
+      numbers = step-numbers next.test (words_per_line next) (trace_step_of m choice) (sourced_by m choice).supplied (machine_json next own) after.numbers;
+      depth = step-depth next.test (words_per_line next) (trace_step_of m choice) (sourced_by m choice).supplied (machine_json next own) 7 (omega arith) after.depth;
     }
 
 -- each item is readable

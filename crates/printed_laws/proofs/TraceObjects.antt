@@ -1,12 +1,12 @@
 -- The object of a step tells the step: each member is read as the part of a line that has the same words.
-use Rattle.printed_laws.proofs.Vocabulary.{◌≡◌, ◌∙◌, ℕ, ◌+◌, ◌<◌, ◌≤◌, ◌==◌, if◌then◌else◌, List, [], ◌∷◌, ◌++◌, map, get_or, Option, Some, None, IfSome, refl, sym, ap, arith, codes, option_map, max_depth, items_depth, HasNumbers, ItemsHaveNumbers, Data, string, items_of, outline, items_outline, Litmus, IsTest, Stall, Done, Full, Empty, Committed, Buffered, Moved, Asked, Stalled, Entry, Core, printed_choice, printed_entry, AccessKind, stall_name, line_name, access_name, printed_move, printed_request, printed_core, printed_change, entries_text, moved_text, access_text, request_text, flush_text, write_back_text, changes_text, LineRequest, StateChange, text_or_null, outcome_word, stall_in, step_json, told_by_object, StepFits, SourceFits, ObjectsTellTheirSteps}
+use Rattle.printed_laws.proofs.Vocabulary.{◌≡◌, ◌∙◌, ℕ, ◌+◌, ◌<◌, ◌≤◌, ◌==◌, if◌then◌else◌, List, [], ◌∷◌, ◌++◌, map, get_or, Option, Some, None, IfSome, refl, sym, ap, arith, codes, option_map, max_depth, items_depth, HasNumbers, ItemsHaveNumbers, Data, string, items_of, outline, items_outline, Litmus, IsTest, Stall, Done, Full, Empty, Committed, Buffered, Moved, Asked, Stalled, Entry, Core, printed_choice, printed_entry, AccessKind, stall_name, line_name, access_name, printed_move, printed_request, printed_core, printed_change, entries_text, moved_text, access_text, request_text, flush_text, write_back_text, changes_text, LineRequest, StateChange, text_or_null, outcome_word, stall_in, step_json, told_by_object, TraceStepFits, SourceFits, ObjectsTellTheirSteps}
 use Rattle.json.specs.Json as json
 use Rattle.json.specs.Tree.{depth as depth_of}
 use Rattle.tso_model.specs.declared.choice.Stall.TheVariants.{Fence, Lock, Bus}
 use Rattle.tso_model.specs.declared.choice.Outcome.{Outcome}
-use Rattle.trace_report.specs.Shown.{Shown}
+use Rattle.trace_report.specs.Shown.{ShownStep}
 use Rattle.trace_report.specs.declared.step.Moved as move
-use Rattle.trace_json.specs.Supplied.{source_text}
+use Rattle.trace_json.specs.Supplied.{supplier_text}
 use Rattle.trace_json.specs.declared.supplied.Source.{Source}
 use Rattle.trace_json.specs.declared.supplied.Source.TheVariants.{Buffer, Cache, Other, Bus as OnBus, Memory}
 use Rattle.printed_laws.proofs.JsonTexts.{value-told, items_in, text_in, truth_in, value_at, text_at}
@@ -133,7 +133,7 @@ outcome-told a b word stall = sym (outcome-there a) ∙ ((λ i. outcome_from (wo
 
 -- ---- the object
 
-pub step-told : (t : Litmus) (words : ℕ) (a b : Shown) (u v : Option Source) (after other : Data) → IsTest t → StepFits t words a → StepFits t words b
+pub step-told : (t : Litmus) (words : ℕ) (a b : ShownStep) (u v : Option Source) (after other : Data) → IsTest t → TraceStepFits t words a → TraceStepFits t words b
     → outline (step_json t words a u after) ≡ outline (step_json t words b v other) → (told_by_object a ≡ told_by_object b) × (outline after ≡ outline other)
 step-told t words a b u v after other test p q same =
     let texts = λ (n : ℕ) (x y : Option (List ℕ)) (e : outline (text_or_null x) ≡ outline (text_or_null y)). option-told x y e in
@@ -208,7 +208,7 @@ pub words-depth : (xs : List (List ℕ)) → items_depth (items_outline (items_o
 words-depth [] = omega arith
 words-depth (x ∷ xs) = omega (arith, words-depth xs)
 
-pub step-numbers : (t : Litmus) (words : ℕ) (s : Shown) (u : Option Source) (after : Data) → HasNumbers (outline after) → HasNumbers (outline (step_json t words s u after))
+pub step-numbers : (t : Litmus) (words : ℕ) (s : ShownStep) (u : Option Source) (after : Data) → HasNumbers (outline after) → HasNumbers (outline (step_json t words s u after))
 step-numbers t words s u after numbers = (
   text-numbers (option_map access_name s.access),
   (
@@ -230,7 +230,7 @@ step-numbers t words s u after numbers = (
                   (
                     words-numbers (map (printed_change t words) s.changes),
                     (
-                      text-numbers (option_map source_text u),
+                      text-numbers (option_map supplier_text u),
                       (text-numbers (option_map (printed_request t words) s.request), (text-numbers (option_map (line_name t words) s.wrote_back), tt)),
                     ),
                   ),
@@ -244,7 +244,7 @@ step-numbers t words s u after numbers = (
   ),
 )
 
-pub step-depth : (t : Litmus) (words : ℕ) (s : Shown) (u : Option Source) (after : Data) (levels : ℕ) → 0 < levels → depth_of (outline after) ≤ levels
+pub step-depth : (t : Litmus) (words : ℕ) (s : ShownStep) (u : Option Source) (after : Data) (levels : ℕ) → 0 < levels → depth_of (outline after) ≤ levels
     → depth_of (outline (step_json t words s u after)) ≤ levels + 1
 step-depth t words s u after levels some deep =
     omega (
@@ -257,7 +257,7 @@ step-depth t words s u after levels some deep =
       text-depth (option_map printed_move s.moved),
       text-depth (option_map stall_name (stall_in s.outcome)),
       words-depth (map (printed_change t words) s.changes),
-      text-depth (option_map source_text u),
+      text-depth (option_map supplier_text u),
       text-depth (option_map (printed_request t words) s.request),
       text-depth (option_map (line_name t words) s.wrote_back),
     )
@@ -270,14 +270,14 @@ read_source text =
     let third = get_or text 2 0 in
     if third == 102 then Buffer else if third == 99 then Cache else if third == 115 then OnBus else Memory
 
-plain-told : (a b : Source) → read_source (source_text a) ≡ a → read_source (source_text b) ≡ b → source_text a ≡ source_text b → a ≡ b
+plain-told : (a b : Source) → read_source (supplier_text a) ≡ a → read_source (supplier_text b) ≡ b → supplier_text a ≡ supplier_text b → a ≡ b
 plain-told a b again again' same = sym again ∙ (ap read_source same ∙ again')
 
 -- a core's name begins with P, and no other with it
-first-told : (a b : Source) → source_text a ≡ source_text b → get_or (source_text a) 0 0 ≡ get_or (source_text b) 0 0
+first-told : (a b : Source) → supplier_text a ≡ supplier_text b → get_or (supplier_text a) 0 0 ≡ get_or (supplier_text b) 0 0
 first-told a b same = ap (λ (l : List ℕ). get_or l 0 0) same
 
-source-told : (a b : Source) → SourceFits a → SourceFits b → source_text a ≡ source_text b → a ≡ b
+source-told : (a b : Source) → SourceFits a → SourceFits b → supplier_text a ≡ supplier_text b → a ≡ b
 source-told (Other i) (Other j) p q same =
     let cut = flush-cut (Some i) (Some j) [] [] p q (nothing-follows 7 (omega arith)) (nothing-follows 7 (omega arith))
     (alone (flush_text (Some i)) (flush_text (Some j)) (ap (λ (l : List ℕ). codes " flush " ++ l) same)) in
@@ -311,7 +311,7 @@ source-told Memory Cache p q same = plain-told Memory Cache refl refl same
 source-told Memory OnBus p q same = plain-told Memory OnBus refl refl same
 source-told Memory Memory p q same = refl
 
-supplied-told : (u v : Option Source) → IfSome u SourceFits → IfSome v SourceFits → option_map source_text u ≡ option_map source_text v → u ≡ v
+supplied-told : (u v : Option Source) → IfSome u SourceFits → IfSome v SourceFits → option_map supplier_text u ≡ option_map supplier_text v → u ≡ v
 supplied-told None None p q same = refl
 supplied-told None (Some b) p q same = let z : ⊥ = cc in absurd z
 supplied-told (Some a) None p q same = let z : ⊥ = cc in absurd z
@@ -329,4 +329,4 @@ objects-tell t words a b u v after other test p q f g readable readable' e =
     let y = step_json t words b v other in
     let same = value-told x y (step-numbers t words a u after readable.numbers) (step-numbers t words b v other readable'.numbers) (omega (arith, deep)) (omega (arith, deep')) e in
     let told = step-told t words a b u v after other test p q same in
-    (told.0, (supplied-told u v f g (option-told (option_map source_text u) (option_map source_text v) (ap (value_at 10) same)), told.1))
+    (told.0, (supplied-told u v f g (option-told (option_map supplier_text u) (option_map supplier_text v) (ap (value_at 10) same)), told.1))

@@ -1,6 +1,6 @@
 -- The parts of a step's line, each after a space: what each begins a text with is told by the text. A part may be missing; which one
 -- stands there is told by its first letters, or behind a core's number by the byte after it.
-use Rattle.printed_laws.proofs.Vocabulary.{◌≡◌, ◌∙◌, ℕ, ◌+◌, ◌*◌, ◌/◌, ◌<◌, ◌≤◌, ◌==◌, Bool, true, false, ◌||◌, if◌then◌else◌, List, [], ◌∷◌, ◌++◌, length, take, drop, get_or, All, Option, Some, None, IfSome, refl, sym, ap, arith, codes, decimal, list_all, is_ascii_digit, and_parts, append_assoc, append_cancel_left, drop_more, get_or-take, length-take, All-head, All-tail, Litmus, IsTest, continues_name, IsWord, name_of, Eax, Ebx, Ecx, Edx, Esi, Edi, Reg, Core, Entry, letters_of, printed_access, printed_entry, IsEntryFor, IsOrderFor, IsD, ImD, SmD, AccessKind, IsLine, access_name, request_name, state_name, after_plus, joined, line_name, entries_text, moved_text, forwarded_text, access_text, request_text, flush_text, write_back_text, changes_text, LineRequest, LineState, StateChange}
+use Rattle.printed_laws.proofs.Vocabulary.{◌≡◌, ◌∙◌, ℕ, ◌+◌, ◌*◌, ◌/◌, ◌<◌, ◌≤◌, ◌==◌, Bool, true, false, ◌||◌, if◌then◌else◌, List, [], ◌∷◌, ◌++◌, length, take, drop, get_or, All, Option, Some, None, IfSome, refl, sym, ap, arith, codes, decimal, list_all, is_ascii_digit, and_parts, append_assoc, append_cancel_left, drop_more, get_or-take, length-take, All-head, All-tail, Litmus, IsTest, continues_name, IsWord, name_of, Eax, Ebx, Ecx, Edx, Esi, Edi, Reg, Core, Entry, letters_of, printed_access, printed_entry, IsEntryFor, IsOrderFor, IsD, ImD, SmD, AccessKind, IsLine, access_name, request_name, state_name, after_plus, joined_by_plus, line_name, entries_text, moved_text, forwarded_text, access_text, request_text, flush_text, write_back_text, changes_text, LineRequest, LineState, StateChange}
 use Rattle.std.proofs.Math.Nat.{mul-div_cancel}
 use Rattle.protocol_tables.specs.declared.requests.Request.{Request}
 use Rattle.protocol_tables.specs.declared.requests.Request.TheVariants.{GetS, GetM}
@@ -178,7 +178,7 @@ line-begins t words number known =
     let stop = number * words + words in
     let within : number * words < stop = omega (arith, some) in
     let room : number * words < length (take stop t.locations) = omega (arith, some, begins, length-take stop t.locations) in
-    ap joined (drop_more (take stop t.locations) (number * words) [] room
+    ap joined_by_plus (drop_more (take stop t.locations) (number * words) [] room
     ∙ ap (λ name. name ∷ drop (number * words + 1) (take stop t.locations)) (get_or-take stop t.locations (number * words) [] within))
 
 others-end : (names : List (List ℕ)) (rest : List ℕ) → Ends rest → Ends (after_plus names ++ rest)

@@ -1,18 +1,18 @@
 -- The steps of two traces of a test are the same where their choices are, and the JSON value of a trace tells its steps.
-use Rattle.printed_laws.proofs.Vocabulary.{◌≡◌, ◌∙◌, ℕ, Bool, true, false, if◌then◌else◌, List, [], ◌∷◌, map, length, refl, sym, ap, subst, arith, Data, items_of, outline, items_outline, Litmus, IsTest, has_ended, CoresExist, Choice, table_of, ProtocolKind, Configuration, IsConfigurationWithinLimits, Running, new_machine, machine_after, step_of, steps_from, trace_under, IsTraced, traced-first, traced-next, words_in, machine_json, step_json, own_words, Sourced, sourced_by, step_to, steps_json, trace_json, told_by_object, StepFits}
+use Rattle.printed_laws.proofs.Vocabulary.{◌≡◌, ◌∙◌, ℕ, Bool, true, false, if◌then◌else◌, List, [], ◌∷◌, map, length, refl, sym, ap, subst, arith, Data, items_of, outline, items_outline, Litmus, IsTest, has_ended, CoresExist, Choice, table_of, ProtocolKind, Configuration, IsConfigurationWithinLimits, Running, new_machine, machine_after, trace_step_of, steps_from, trace_under, IsTraced, traced-first, traced-next, words_per_line, machine_json, step_json, own_words, Sourced, sourced_by, step_to, steps_json, trace_json, told_by_object, TraceStepFits}
 use Rattle.json.specs.Json as json
-use Rattle.trace_report.specs.Shown.{Shown}
+use Rattle.trace_report.specs.Shown.{ShownStep}
 use Rattle.printed_laws.proofs.JsonTexts.{value_at, items_in, first_item, more_items, has_item, uneven}
 use Rattle.printed_laws.proofs.StepsFit.{MachineFits, fits-first, fits-next, step-fits}
 use Rattle.printed_laws.proofs.TraceObjects.{step-told}
 
 -- ---- the choices of steps make them again
 
-abbrev pub choices_of : List Shown → List Choice
+abbrev pub choices_of : List ShownStep → List Choice
 choices_of steps = map (λ s. s.choice) steps
 
-chosen-is : (m : Running) (choice : Choice) → (step_of m choice).choice ≡ choice
-unfolding step_of
+chosen-is : (m : Running) (choice : Choice) → (trace_step_of m choice).choice ≡ choice
+unfolding trace_step_of
 chosen-is m choice = refl
 
 again : (m : Running) (choices : List Choice) → steps_from m (choices_of (steps_from m choices)) ≡ steps_from m choices
@@ -20,13 +20,13 @@ again m [] = refl
 again m (choice ∷ choices) = by_end (has_ended m.test m.state.flat) refl (again (machine_after m choice) choices)
   where
     by_end : (ended : Bool) → has_ended m.test m.state.flat ≡ ended → steps_from (machine_after m choice) (choices_of (steps_from (machine_after m choice) choices)) ≡ steps_from (machine_after m choice) choices
-        → steps_from m (choices_of (if ended then [] else step_of m choice ∷ steps_from (machine_after m choice) choices)) ≡ (if ended then [] else step_of m choice ∷ steps_from (machine_after m choice) choices)
+        → steps_from m (choices_of (if ended then [] else trace_step_of m choice ∷ steps_from (machine_after m choice) choices)) ≡ (if ended then [] else trace_step_of m choice ∷ steps_from (machine_after m choice) choices)
     by_end true is further = refl
     by_end false is further =
         let next = machine_after m choice in
         let later = choices_of (steps_from next choices) in
         ap (λ (c : Choice). steps_from m (c ∷ later)) (chosen-is m choice)
-        ∙ (ap (λ (b : Bool). if b then [] else step_of m choice ∷ steps_from next later) is ∙ ap (λ (ss : List Shown). step_of m choice ∷ ss) further)
+        ∙ (ap (λ (b : Bool). if b then [] else trace_step_of m choice ∷ steps_from next later) is ∙ ap (λ (ss : List ShownStep). trace_step_of m choice ∷ ss) further)
 
 pub same-steps : (t : Litmus) (kind : ProtocolKind) (c : Configuration) (choices other : List Choice) → choices_of (trace_under t kind c choices) ≡ choices_of (trace_under t kind c other)
     → trace_under t kind c choices ≡ trace_under t kind c other
@@ -35,10 +35,10 @@ same-steps t kind c choices other same =
     sym (again m choices) ∙ (ap (steps_from m) same ∙ again m other)
 
 -- a view of a step that tells its choice
-pub choices-told : (view : Shown → Shown) → ((s : Shown) → (view s).choice ≡ s.choice) → (xs ys : List Shown) → map view xs ≡ map view ys → choices_of xs ≡ choices_of ys
+pub choices-told : (view : ShownStep → ShownStep) → ((s : ShownStep) → (view s).choice ≡ s.choice) → (xs ys : List ShownStep) → map view xs ≡ map view ys → choices_of xs ≡ choices_of ys
 choices-told view keeps xs ys same = sym (kept xs) ∙ (ap choices_of same ∙ kept ys)
   where
-    kept : (ss : List Shown) → choices_of (map view ss) ≡ choices_of ss
+    kept : (ss : List ShownStep) → choices_of (map view ss) ≡ choices_of ss
     kept [] = refl
     kept (s ∷ ss) = λ i. keeps s i ∷ kept ss i
 
@@ -47,7 +47,7 @@ choices-told view keeps xs ys same = sym (kept xs) ∙ (ap choices_of same ∙ k
 -- a step with the machine after it, by the test and the configuration
 as-step : (t : Litmus) (c : Configuration) (s : Sourced) (next : Running) (own : List ℕ) → IsTraced t c next → step_to s next own ≡ step_json t c.shape.words s.step s.supplied (machine_json next own)
 as-step t c s next own traced =
-    ap (λ (u : Litmus). step_json u (words_in next) s.step s.supplied (machine_json next own)) traced.test
+    ap (λ (u : Litmus). step_json u (words_per_line next) s.step s.supplied (machine_json next own)) traced.test
     ∙ ap (λ (x : Configuration). step_json t x.shape.words s.step s.supplied (machine_json next own)) traced.config
 
 -- a machine on which choices of the test's cores are made
@@ -73,23 +73,23 @@ module _ (t : Litmus) (c d : Configuration) (test : IsTest t) (words : d.shape.w
   Value m own choices = items_outline (items_of (steps_json m own choices))
 
   first-told : (m n : Running) (x y : Choice) (xs ys : List Choice) (own other : List ℕ) → Makes t c m (x ∷ xs) → Makes t d n (y ∷ ys)
-      → outline (step_to (sourced_by m x) (machine_after m x) own) ≡ outline (step_to (sourced_by n y) (machine_after n y) other) → told_by_object (step_of m x) ≡ told_by_object (step_of n y)
+      → outline (step_to (sourced_by m x) (machine_after m x) own) ≡ outline (step_to (sourced_by n y) (machine_after n y) other) → told_by_object (trace_step_of m x) ≡ told_by_object (trace_step_of n y)
   first-told m n x y xs ys own other f g same =
       let after = machine_json (machine_after m x) own in
       let after' = machine_json (machine_after n y) other in
       let a = as-step t c (sourced_by m x) (machine_after m x) own (makes-next c m x xs f).traced in
-      let b = as-step t d (sourced_by n y) (machine_after n y) other (makes-next d n y ys g).traced ∙ ap (λ (k : ℕ). step_json t k (step_of n y) (sourced_by n y).supplied after') words in
-      let fits = subst (λ (k : ℕ). StepFits t k (step_of n y)) words (step-fits t d n y test g.within g.traced g.exist.0 g.fits) in
-      (step-told t c.shape.words (step_of m x) (step_of n y) (sourced_by m x).supplied (sourced_by n y).supplied after after' test (step-fits t c m x test f.within f.traced f.exist.0 f.fits) fits (sym (ap outline a) ∙ (same ∙ ap outline b))).0
+      let b = as-step t d (sourced_by n y) (machine_after n y) other (makes-next d n y ys g).traced ∙ ap (λ (k : ℕ). step_json t k (trace_step_of n y) (sourced_by n y).supplied after') words in
+      let fits = subst (λ (k : ℕ). TraceStepFits t k (trace_step_of n y)) words (step-fits t d n y test g.within g.traced g.exist.0 g.fits) in
+      (step-told t c.shape.words (trace_step_of m x) (trace_step_of n y) (sourced_by m x).supplied (sourced_by n y).supplied after after' test (step-fits t c m x test f.within f.traced f.exist.0 f.fits) fits (sym (ap outline a) ∙ (same ∙ ap outline b))).0
 
   abbrev Items : Bool → Data → List Data → json.Items
   Items ended d ds = items_outline (items_of (if ended then [] else d ∷ ds))
 
-  abbrev Told : Bool → Shown → List Shown → List Shown
+  abbrev Told : Bool → ShownStep → List ShownStep → List ShownStep
   Told ended s ss = map told_by_object (if ended then [] else s ∷ ss)
 
   -- of two machines, each of which has ended or goes on
-  either : (a b : Bool) (d e : Data) (ds es : List Data) (s u : Shown) (ss us : List Shown) → (outline d ≡ outline e → told_by_object s ≡ told_by_object u)
+  either : (a b : Bool) (d e : Data) (ds es : List Data) (s u : ShownStep) (ss us : List ShownStep) → (outline d ≡ outline e → told_by_object s ≡ told_by_object u)
       → (items_outline (items_of ds) ≡ items_outline (items_of es) → map told_by_object ss ≡ map told_by_object us) → Items a d ds ≡ Items b e es → Told a s ss ≡ Told b u us
   either true true d e ds es s u ss us first further same = refl
   either true false d e ds es s u ss us first further same = uneven (sym (ap has_item same))
@@ -97,7 +97,7 @@ module _ (t : Litmus) (c d : Configuration) (test : IsTest t) (words : d.shape.w
   either false false d e ds es s u ss us first further same = λ i. first (ap first_item same) i ∷ further (ap more_items same) i
 
   -- nothing, and a machine that has ended or goes on
-  nothing : (b : Bool) (e : Data) (es : List Data) (u : Shown) (us : List Shown) → json.no_items ≡ Items b e es → [] ≡ Told b u us
+  nothing : (b : Bool) (e : Data) (es : List Data) (u : ShownStep) (us : List ShownStep) → json.no_items ≡ Items b e es → [] ≡ Told b u us
   nothing true e es u us same = refl
   nothing false e es u us same = uneven (sym (ap has_item same))
 
@@ -106,15 +106,15 @@ module _ (t : Litmus) (c d : Configuration) (test : IsTest t) (words : d.shape.w
   steps-told m n own other [] [] f g same = refl
   steps-told m n own other [] (y ∷ ys) f g same =
       let next = machine_after n y in
-      nothing (has_ended n.test n.state.flat) (step_to (sourced_by n y) next (own_words next other)) (steps_json next (own_words next other) ys) (step_of n y) (steps_from next ys) same
+      nothing (has_ended n.test n.state.flat) (step_to (sourced_by n y) next (own_words next other)) (steps_json next (own_words next other) ys) (trace_step_of n y) (steps_from next ys) same
   steps-told m n own other (x ∷ xs) [] f g same =
       let next = machine_after m x in
-      sym (nothing (has_ended m.test m.state.flat) (step_to (sourced_by m x) next (own_words next own)) (steps_json next (own_words next own) xs) (step_of m x) (steps_from next xs) (sym same))
+      sym (nothing (has_ended m.test m.state.flat) (step_to (sourced_by m x) next (own_words next own)) (steps_json next (own_words next own) xs) (trace_step_of m x) (steps_from next xs) (sym same))
   steps-told m n own other (x ∷ xs) (y ∷ ys) f g same =
       let p = machine_after m x in
       let q = machine_after n y in
       either (has_ended m.test m.state.flat) (has_ended n.test n.state.flat) (step_to (sourced_by m x) p (own_words p own)) (step_to (sourced_by n y) q (own_words q other))
-      (steps_json p (own_words p own) xs) (steps_json q (own_words q other) ys) (step_of m x) (step_of n y) (steps_from p xs) (steps_from q ys)
+      (steps_json p (own_words p own) xs) (steps_json q (own_words q other) ys) (trace_step_of m x) (trace_step_of n y) (steps_from p xs) (steps_from q ys)
       (first-told m n x y xs ys (own_words p own) (own_words q other) f g)
       (steps-told p q (own_words p own) (own_words q other) xs ys (makes-next c m x xs f) (makes-next d n y ys g)) same
 

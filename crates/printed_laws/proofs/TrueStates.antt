@@ -1,5 +1,5 @@
 -- `True` has the numbers of the states in which a claim is true, and no others.
-use Rattle.printed_laws.proofs.Vocabulary.{◌≡◌, ◌∙◌, ◌⊎◌, inl, inr, ◌<◌, ◌≤◌, ◌+◌, ◌↔◌, ℕ, zero, suc, Bool, true, false, cond, List, [], ◌∷◌, length, Contains, Some, refl, sym, ap, subst, arith, Litmus, IsTest, Claim, Condition, truth_of, named_in, values_at, Outcome, shown_values, true_from, true_in, holds_in, TruthIsShown, Search, PrintsAllOutcomes, EndsInNumbers, NumbersOfTrueStates, TrueNamesTrueStates, HoldsTellsTrueStates}
+use Rattle.printed_laws.proofs.Vocabulary.{◌≡◌, ◌∙◌, ◌⊎◌, inl, inr, ◌<◌, ◌≤◌, ◌+◌, ◌↔◌, ℕ, zero, suc, Bool, true, false, cond, List, [], ◌∷◌, length, Contains, Some, refl, sym, ap, subst, arith, Litmus, IsTest, Claim, Condition, truth_of, names_shown, values_at, Outcome, shown_values, true_from, true_in, holds_in, TruthIsShown, Search, PrintsAllOutcomes, EndsInNumbers, NumbersOfTrueStates, TrueNamesTrueStates, HoldsTellsTrueStates}
 use Rattle.std.specs.List.{slice_get}
 use Rattle.std.proofs.lemmas.Option.{slice_get_within, get_or_from_slice_get}
 use Rattle.outcome_report.proofs.Members.{Member, to-member, member-place}
@@ -65,7 +65,7 @@ one-is-named claim n (p ∷ rest) (suc i) o stands so =
 pub true-names : TruthIsShown → TrueNamesTrueStates
 true-names shown t search out condition test is said =
     let claim = condition.claim in
-    let names = named_in search.show t in
+    let names = names_shown search.show t in
     let same : (o : Outcome) (registers : List (List ℕ)) (memory : List ℕ) → values_at names registers memory ≡ shown_values names o
     → truth_of registers memory claim ≡ truth_in claim o =
     λ o registers memory alike. shown search.show t condition (record { registers = registers; memory = memory; choices = [] }) o test is alike in

@@ -1,5 +1,5 @@
 -- The word that is printed of a condition is that of its counts.
-use Rattle.printed_laws.proofs.Vocabulary.{◌≡◌, ◌∙◌, ℕ, ◌==◌, Bool, true, false, not, cond, List, [], ◌∷◌, ◌++◌, length, get_or, Some, refl, sym, ap, subst, arith, codes, decimal, list_all, append_assoc, append_cancel_left, append_cancel_right, escape, escape_byte, Data, string, object, no_members, member, compact_text, Litmus, Condition, line, test_line, count, frequency, Named, is_well, verdict_word, verdict_value, Outcome, outcomes_line, outcome_lines, condition_lines, unfinished_line, held_in, failed_in, true_in, is_met_in, printed_numbers, states_value, observed_value, observation_value, unfinished_json, outcomes_in, unfinished_search_in, EndsInWord, HasWordInObject, PrintsWord, is_ascii_digit}
+use Rattle.printed_laws.proofs.Vocabulary.{◌≡◌, ◌∙◌, ℕ, ◌==◌, Bool, true, false, not, cond, List, [], ◌∷◌, ◌++◌, length, get_or, Some, refl, sym, ap, subst, arith, codes, decimal, list_all, append_assoc, append_cancel_left, append_cancel_right, escape, escape_byte, Data, string, object, no_members, member, compact_text, Litmus, Condition, line, test_line, count, frequency, Named, is_well, verdict_word, outcomes_verdict_value, Outcome, outcomes_line, outcome_lines, condition_lines, unfinished_outcomes_line, held_in, failed_in, true_in, is_met_in, printed_numbers, states_value, observed_value, observation_value, unfinished_outcomes_json, outcomes_in, unfinished_search_in, EndsInWord, HasWordInObject, PrintsWord, is_ascii_digit}
 use Rattle.printed_laws.proofs.Cutting.{Stops, run-cut}
 use Rattle.printed_laws.proofs.Digits.{all-digits, is_no_space, number-no-space, both-no-space, last-cut}
 use Rattle.printed_laws.proofs.OutcomeLines.{is_in_line, digits-in-line, both-in-line}
@@ -80,7 +80,7 @@ in-lines t names condition depth outcomes word plain says =
     (sym (with-feed front (frequency h f) (decimal h) (decimal f)) ∙ (ap (λ (l : List ℕ). l ++ 10 ∷ []) first.0 ∙ with-feed says.front word (decimal says.held) (decimal says.failed)))
 
 -- a search that met its limit has one line
-no-word : (limit : ℕ) (word : List ℕ) → EndsInWord word (unfinished_line limit) → ⊥
+no-word : (limit : ℕ) (word : List ℕ) → EndsInWord word (unfinished_outcomes_line limit) → ⊥
 no-word limit word says =
     let before = (says.front ++ (codes " " ++ (word ++ (codes " " ++ (decimal says.held ++ (codes " " ++ decimal says.failed)))))) ++ 10 ∷ (codes "True" ++ printed_numbers says.numbers) in
     let verdict = codes "Verdict " ++ verdict_word says.as_claimed in
@@ -120,13 +120,13 @@ object_value t names condition depth outcomes =
     (member (codes "observation") (observation_value (Some condition) outcomes)
     (member (codes "states") (states_value t names outcomes)
     (member (codes "test") (string t.name)
-    (member (codes "verdict") (verdict_value (Some condition) (is_met_in (Some condition) outcomes)) no_members)))))
+    (member (codes "verdict") (outcomes_verdict_value (Some condition) (is_met_in (Some condition) outcomes)) no_members)))))
 
 pub object-text : (t : Litmus) (names : List Named) (condition : Condition) (depth : ℕ) (outcomes : List Outcome)
     → line (compact_text (object_value t names condition depth outcomes))
     ≡ line (codes "{\"depth\":" ++ (decimal depth ++ (codes ",\"observation\":" ++ (compact_text (observed_value (held_in condition.claim outcomes) (failed_in condition.claim outcomes))
     ++ (codes ",\"states\":" ++ (compact_text (states_value t names outcomes) ++ (codes ",\"test\":" ++ (compact_text (string t.name)
-    ++ (codes ",\"verdict\":" ++ (compact_text (verdict_value (Some condition) (is_met_in (Some condition) outcomes)) ++ codes "}"))))))))))
+    ++ (codes ",\"verdict\":" ++ (compact_text (outcomes_verdict_value (Some condition) (is_met_in (Some condition) outcomes)) ++ codes "}"))))))))))
 unfolding escape_byte
 object-text t names condition depth outcomes = refl
 
@@ -160,18 +160,18 @@ in-object : (t : Litmus) (names : List Named) (condition : Condition) (depth : �
 in-object t names condition depth outcomes word plain says =
     let h = held_in condition.claim outcomes in
     let f = failed_in condition.claim outcomes in
-    let verdict = compact_text (verdict_value (Some condition) (is_met_in (Some condition) outcomes)) in
+    let verdict = compact_text (outcomes_verdict_value (Some condition) (is_met_in (Some condition) outcomes)) in
     let flat = object-text t names condition depth outcomes
     ∙ ap (λ (l : List ℕ). line (codes "{\"depth\":" ++ (decimal depth ++ (codes ",\"observation\":" ++ (l ++ (codes ",\"states\":" ++ (compact_text (states_value t names outcomes)
     ++ (codes ",\"test\":" ++ (compact_text (string t.name) ++ (codes ",\"verdict\":" ++ (verdict ++ codes "}"))))))))))) (observed-text h f)
     ∙ object-flat (decimal depth) (decimal f) (decimal h) (frequency h f) (compact_text (states_value t names outcomes)) (compact_text (string t.name)) verdict in
     same-word depth says.depth f says.failed h says.held (frequency h f) word _ _ (frequency-unquoted h f) plain (sym flat ∙ says.text)
 
-third-byte : (t : Litmus) (limit : ℕ) → get_or (unfinished_json t limit) 2 0 ≡ 116
+third-byte : (t : Litmus) (limit : ℕ) → get_or (unfinished_outcomes_json t limit) 2 0 ≡ 116
 unfolding escape_byte
 third-byte t limit = refl
 
-no-word-in-object : (t : Litmus) (limit : ℕ) (word : List ℕ) → HasWordInObject word (unfinished_json t limit) → ⊥
+no-word-in-object : (t : Litmus) (limit : ℕ) (word : List ℕ) → HasWordInObject word (unfinished_outcomes_json t limit) → ⊥
 no-word-in-object t limit word says = omega (arith, sym (third-byte t limit) ∙ ap (λ (l : List ℕ). get_or l 2 0) says.text)
 
 -- ---- either form
@@ -181,7 +181,7 @@ pub of-condition : (t : Litmus) (names : List Named) (condition : Condition) (de
     → outcomes_in true t names depth outcomes ≡ line (compact_text (object_value t names condition depth outcomes))
 of-condition t names condition depth outcomes is =
     ap (λ c. line (compact_text (object (member (codes "depth") (count depth) (member (codes "observation") (observation_value c outcomes)
-    (member (codes "states") (states_value t names outcomes) (member (codes "test") (string t.name) (member (codes "verdict") (verdict_value c (is_met_in c outcomes)) no_members)))))))) is
+    (member (codes "states") (states_value t names outcomes) (member (codes "test") (string t.name) (member (codes "verdict") (outcomes_verdict_value c (is_met_in c outcomes)) no_members)))))))) is
 
 pub word-is : (json : Bool) (t : Litmus) (names : List Named) (condition : Condition) (depth : ℕ) (outcomes : List Outcome) (word : List ℕ) → t.condition ≡ Some condition
     → list_all is_no_space word ≡ true → list_all is_unquoted word ≡ true

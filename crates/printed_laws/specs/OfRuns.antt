@@ -11,7 +11,7 @@ use Rattle.simulator.specs.Runs.{run_under, AnswersFit}
 
 -- two runs leave the same to be printed: both ended, and the same is shown of them, or neither did, and both used as many
 -- choices, of which as many stalled
-pub record LeaveTheSame (t : Litmus) (kind : ProtocolKind) (c : Configuration) (choices other : List Choice) : Type 0 where
+pub record RunsLeaveTheSame (t : Litmus) (kind : ProtocolKind) (c : Configuration) (choices other : List Choice) : Type 0 where
   pub ended : (run_under t kind c choices).ended ≡ (run_under t kind c other).ended
   pub shown : (run_under t kind c choices).ended ≡ true → shown_under t kind c choices ≡ shown_under t kind c other
   pub used : (run_under t kind c choices).ended ≡ false → (run_under t kind c choices).used ≡ (run_under t kind c other).used
@@ -23,4 +23,4 @@ PrintedRunsAreTold =
     (t : Litmus) (kind : ProtocolKind) (c : Configuration) (json : Bool) (choices other : List Choice)
     → IsTest t → IsConfigurationWithinLimits c → length choices ≤ most_choices → length other ≤ most_choices
     → AnswersFit t kind c choices → AnswersFit t kind c other
-    → text_under t kind c json choices ≡ text_under t kind c json other → LeaveTheSame t kind c choices other
+    → text_under t kind c json choices ≡ text_under t kind c json other → RunsLeaveTheSame t kind c choices other

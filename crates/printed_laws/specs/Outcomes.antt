@@ -3,11 +3,11 @@ use Rattle.std.specs.Prelude.{ℕ, ◌≡◌, ◌<◌, ◌^◌, Bool, List, map,
 use Rattle.tso_model.specs.Litmus.{Litmus, IsTest}
 use Rattle.scheduler.specs.Printed.{printed_choices}
 use Rattle.tso_report.specs.declared.named.Named.{Named}
-use Rattle.shown_values.specs.Shown.{named_in}
+use Rattle.shown_values.specs.Shown.{names_shown}
 use Rattle.shown_values.specs.declared.show.Show.{Show}
 use Rattle.outcome_report.specs.Outcomes.{Outcome, shown_values}
 use Rattle.outcome_report.specs.Printed.{outcomes_in}
-use Rattle.outcome_report.specs.Laws.{AreAlike}
+use Rattle.outcome_report.specs.Laws.{OutcomesAreAlike}
 use Rattle.commands.specs.Outcomes.{AreAllOutcomes}
 use Rattle.tso_cli.specs.Fitting.{IsStateAt}
 
@@ -18,16 +18,16 @@ pub record OutcomesFit (names : List Named) (outcomes : List Outcome) : Type 0 w
 
 -- the same values in the same order, the same counts, the same states in which the proposition is true, and the same choices
 pub record ShowTheSame (t : Litmus) (names : List Named) (outcomes others : List Outcome) : Type 0 where
-  pub alike : AreAlike t names outcomes others
+  pub alike : OutcomesAreAlike t names outcomes others
   pub choices : map (λ o. printed_choices o.choices) outcomes ≡ map (λ o. printed_choices o.choices) others
 
 -- of the states of a search: the values of each, the choices that lead there, the counts, and in which the proposition is true
 abbrev pub OutcomesTellTheirStates : Bool → Type 0
 OutcomesTellTheirStates json =
     (show : Show) (t : Litmus) (depth other_depth : ℕ) (outcomes others : List Outcome)
-    → IsTest t → depth < 2 ^ 64 → other_depth < 2 ^ 64 → OutcomesFit (named_in show t) outcomes → OutcomesFit (named_in show t) others
-    → outcomes_in json t (named_in show t) depth outcomes ≡ outcomes_in json t (named_in show t) other_depth others
-    → (depth ≡ other_depth) × ShowTheSame t (named_in show t) outcomes others
+    → IsTest t → depth < 2 ^ 64 → other_depth < 2 ^ 64 → OutcomesFit (names_shown show t) outcomes → OutcomesFit (names_shown show t) others
+    → outcomes_in json t (names_shown show t) depth outcomes ≡ outcomes_in json t (names_shown show t) other_depth others
+    → (depth ≡ other_depth) × ShowTheSame t (names_shown show t) outcomes others
 
 -- also of another test, and where something else is shown: which test it was, by its name, and the depth
 abbrev pub OutcomesTellTheirTests : Bool → Type 0

@@ -7,42 +7,42 @@ use Rattle.tso_model.specs.Litmus.{Litmus, IsTest}
 use Rattle.tso_model.specs.Condition.{Claim}
 use Rattle.tso_model.specs.declared.execution.Entry.{Entry}
 use Rattle.refutation_laws.specs.Known.{bare, same_event}
-use Rattle.refutation_laws.specs.Refutations.{Node, ReadsFrom, ComesFirst, OnLocation, Globally, Between, FalseClaim, asked, refutes}
+use Rattle.refutation_laws.specs.Refutations.{Node, ReadsFrom, ComesFirst, OnLocation, Globally, Between, FalseClaim, asked_claim, refutes}
 use Rattle.refutation_laws.specs.declared.model.Model.{Model}
 use Rattle.reason_report.specs.declared.replies.Reply.{Reply}
 use Rattle.reason_report.specs.declared.replies.Reply.TheVariants.{Reads, First}
 use Rattle.reason_report.specs.declared.steps.Event.{Event}
 use Rattle.reason_report.specs.declared.steps.Edge.{Edge}
-use Rattle.reason_report.specs.Steps.{Answer, From, Before, Closing, Uniproc, Cycle, Amid, False, Step, Case, So, Leaf, Endcases, replies, steps_of}
+use Rattle.reason_report.specs.Steps.{Answer, From, Before, Closing, Uniproc, Cycle, Amid, False, ReasonStep, Case, So, Leaf, Endcases, replies, steps_of}
 use Rattle.reason_report.specs.ReasonText.{never_lines, never_text}
 use Rattle.reason_report.specs.ReasonJson as json
-use Rattle.printed_laws.specs.Reasons.{StepFits, AreCounted}
+use Rattle.printed_laws.specs.Reasons.{ReasonStepFits, AreCounted}
 
 -- ---- one line
 
-abbrev pub entry_in : Event → Entry
-entry_in e = bare e.entry
+abbrev pub entry_of_event : Event → Entry
+entry_of_event e = bare e.entry
 
 -- from where an edge leads
 abbrev pub source_in : Edge → Entry
-source_in e = entry_in e.source
+source_in e = entry_of_event e.source
 
 -- why a case is closed
 abbrev pub leaf_in : Closing → Node
 leaf_in (Uniproc edges) = OnLocation (map source_in edges)
 leaf_in (Cycle edges) = Globally (map source_in edges)
-leaf_in (Amid r v w) = Between (entry_in r) (entry_in v) (entry_in w)
+leaf_in (Amid r v w) = Between (entry_of_event r) (entry_of_event v) (entry_of_event w)
 leaf_in (False places) = FalseClaim
 
 -- the answers that a line gives, one or several
 abbrev pub replies_in : Answer → List Reply
-replies_in (From r ws) = map (λ w. Reads (entry_in r) (option_map entry_in w)) ws
-replies_in (Before w v) = First (entry_in w) (entry_in v) ∷ []
+replies_in (From r ws) = map (λ w. Reads (entry_of_event r) (option_map entry_of_event w)) ws
+replies_in (Before w v) = First (entry_of_event w) (entry_of_event v) ∷ []
 
 -- the question that an answer answers
-abbrev pub question_of : Reply → Node
-question_of (Reads r w) = ReadsFrom r
-question_of (First w v) = ComesFirst w v
+abbrev pub question_answered : Reply → Node
+question_answered (Reads r w) = ReadsFrom r
+question_answered (First w v) = ComesFirst w v
 
 -- ---- the lines of a part
 
@@ -75,7 +75,7 @@ nodes_with (c ∷ cs) r = if same_reply c.reply r then c.nodes else nodes_with c
 abbrev pub nodes_of : Litmus → ReadPart → List Node
 nodes_of t (Closed n) = n ∷ []
 nodes_of t (Cases []) = []
-nodes_of t (Cases (c ∷ cs)) = question_of c.reply ∷ flat_map (nodes_with (c ∷ cs)) (replies t (question_of c.reply))
+nodes_of t (Cases (c ∷ cs)) = question_answered c.reply ∷ flat_map (nodes_with (c ∷ cs)) (replies t (question_answered c.reply))
 
 -- these answers, each with this part
 abbrev pub cases_with : List Node → Answer → List ReadCase
@@ -84,18 +84,18 @@ cases_with nodes a = map (λ r. record { reply = r; nodes = nodes }) (replies_in
 -- ---- all lines
 
 -- the parts that begin at a line, where these begin at the next one
-abbrev pub parts_from : Litmus → Step → List ReadPart → List ReadPart
-parts_from t (Leaf depth closing) ps = Closed (leaf_in closing) ∷ ps
-parts_from t (Endcases depth) ps = Cases [] ∷ ps
-parts_from t (So depth a) (p ∷ ps) = Cases (cases_with (nodes_of t p) a) ∷ ps
-parts_from t (Case depth a) (p ∷ (Cases cs ∷ ps)) = Cases (cases_with (nodes_of t p) a ++ cs) ∷ ps
-parts_from t _ _ = []
+abbrev pub parts_before : Litmus → ReasonStep → List ReadPart → List ReadPart
+parts_before t (Leaf depth closing) ps = Closed (leaf_in closing) ∷ ps
+parts_before t (Endcases depth) ps = Cases [] ∷ ps
+parts_before t (So depth a) (p ∷ ps) = Cases (cases_with (nodes_of t p) a) ∷ ps
+parts_before t (Case depth a) (p ∷ (Cases cs ∷ ps)) = Cases (cases_with (nodes_of t p) a ++ cs) ∷ ps
+parts_before t _ _ = []
 
-abbrev pub parts_in : Litmus → List Step → List ReadPart
+abbrev pub parts_in : Litmus → List ReasonStep → List ReadPart
 parts_in t [] = []
-parts_in t (s ∷ ss) = parts_from t s (parts_in t ss)
+parts_in t (s ∷ ss) = parts_before t s (parts_in t ss)
 
-abbrev pub tree_of : Litmus → List Step → List Node
+abbrev pub tree_of : Litmus → List ReasonStep → List Node
 tree_of t steps = flat_map (nodes_of t) (parts_in t steps)
 
 -- ---- laws
@@ -109,27 +109,27 @@ StepsOfRefutationsRefute =
 -- lines tell one tree, whichever steps are read from them
 abbrev pub LinesTellTheirTree : Type 0
 LinesTellTheirTree =
-    (model : Model) (t : Litmus) (steps others : List Step)
-    → IsTest t → All (StepFits model t) steps → All (StepFits model t) others
+    (model : Model) (t : Litmus) (steps others : List ReasonStep)
+    → IsTest t → All (ReasonStepFits model t) steps → All (ReasonStepFits model t) others
     → never_lines model t steps ≡ never_lines model t others → tree_of t steps ≡ tree_of t others
 
 -- so whatever steps are read from what is printed of a refutation: the tree that they tell refutes what the test asks
 abbrev pub PrintedTreesRefute : Type 0
 PrintedTreesRefute =
-    (model : Model) (t : Litmus) (nodes : List Node) (steps : List Step)
-    → IsTest t → refutes model t (asked t.condition) nodes ≡ true → All (StepFits model t) steps
-    → never_lines model t steps ≡ never_text model t nodes → refutes model t (asked t.condition) (tree_of t steps) ≡ true
+    (model : Model) (t : Litmus) (nodes : List Node) (steps : List ReasonStep)
+    → IsTest t → refutes model t (asked_claim t.condition) nodes ≡ true → All (ReasonStepFits model t) steps
+    → never_lines model t steps ≡ never_text model t nodes → refutes model t (asked_claim t.condition) (tree_of t steps) ≡ true
 
 -- the same of the JSON value
 abbrev pub ValuesTellTheirTree : Type 0
 ValuesTellTheirTree =
-    (model : Model) (t : Litmus) (steps others : List Step)
-    → IsTest t → All (StepFits model t) steps → All (StepFits model t) others → AreCounted steps → AreCounted others
-    → json.never_line model t steps ≡ json.never_line model t others → tree_of t steps ≡ tree_of t others
+    (model : Model) (t : Litmus) (steps others : List ReasonStep)
+    → IsTest t → All (ReasonStepFits model t) steps → All (ReasonStepFits model t) others → AreCounted steps → AreCounted others
+    → json.never_json_line model t steps ≡ json.never_json_line model t others → tree_of t steps ≡ tree_of t others
 
 abbrev pub PrintedValuesRefute : Type 0
 PrintedValuesRefute =
-    (model : Model) (t : Litmus) (nodes : List Node) (steps : List Step)
-    → IsTest t → refutes model t (asked t.condition) nodes ≡ true → AreCounted (steps_of model t (asked t.condition) nodes)
-    → All (StepFits model t) steps → AreCounted steps
-    → json.never_line model t steps ≡ json.never_json model t nodes → refutes model t (asked t.condition) (tree_of t steps) ≡ true
+    (model : Model) (t : Litmus) (nodes : List Node) (steps : List ReasonStep)
+    → IsTest t → refutes model t (asked_claim t.condition) nodes ≡ true → AreCounted (steps_of model t (asked_claim t.condition) nodes)
+    → All (ReasonStepFits model t) steps → AreCounted steps
+    → json.never_json_line model t steps ≡ json.never_json model t nodes → refutes model t (asked_claim t.condition) (tree_of t steps) ≡ true

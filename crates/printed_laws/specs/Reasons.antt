@@ -10,13 +10,13 @@ use Rattle.tso_report.specs.declared.named.Named.{Named}
 use Rattle.tso_report.specs.declared.named.Named.TheVariants.{Register, Location}
 use Rattle.refutation_laws.specs.Known.{bare}
 use Rattle.refutation_laws.specs.Edges.{on_location, global_in}
-use Rattle.refutation_laws.specs.Refutations.{Node, asked, refutes}
+use Rattle.refutation_laws.specs.Refutations.{Node, asked_claim, refutes}
 use Rattle.refutation_laws.specs.declared.model.Model.{Model}
 use Rattle.refutation_laws.specs.declared.model.Relation.{Relation}
 use Rattle.reason_report.specs.Places.{Place}
 use Rattle.reason_report.specs.declared.steps.Event.{Event}
 use Rattle.reason_report.specs.declared.steps.Edge.{Edge}
-use Rattle.reason_report.specs.Steps.{Answer, From, Before, Closing, Uniproc, Cycle, Amid, False, Step, Case, So, Leaf, Endcases, leaves_in, steps_of}
+use Rattle.reason_report.specs.Steps.{Answer, From, Before, Closing, Uniproc, Cycle, Amid, False, ReasonStep, Case, So, Leaf, Endcases, leaves_in, steps_of}
 use Rattle.reason_report.specs.ReasonText.{never_text, never_lines}
 use Rattle.reason_report.specs.ReasonJson as json
 
@@ -39,11 +39,11 @@ told_closing (Cycle edges) = Cycle (map told_edge edges)
 told_closing (Amid r v w) = Amid (told_event r) (told_event v) (told_event w)
 told_closing (False places) = False places
 
-abbrev pub told_step : Step → Step
-told_step (Case depth answer) = Case depth (told_answer answer)
-told_step (So depth answer) = So depth (told_answer answer)
-told_step (Leaf depth closing) = Leaf depth (told_closing closing)
-told_step (Endcases depth) = Endcases depth
+abbrev pub told_reason_step : ReasonStep → ReasonStep
+told_reason_step (Case depth answer) = Case depth (told_answer answer)
+told_reason_step (So depth answer) = So depth (told_answer answer)
+told_reason_step (Leaf depth closing) = Leaf depth (told_closing closing)
+told_reason_step (Endcases depth) = Endcases depth
 
 -- ---- steps that fit a test
 
@@ -57,23 +57,23 @@ pub record EventFits (t : Litmus) (e : Event) : Type 0 where
   pub entry : IsEntryFor t (bare e.entry)
   pub value : IsValueFor e.entry.kind e.value
 
-abbrev pub IsOneOf : List Relation → Option Relation → Type 0
-IsOneOf [] r = ⊥
-IsOneOf (x ∷ xs) r = (r ≡ Some x) ⊎ IsOneOf xs r
+abbrev pub IsRelationAmong : List Relation → Option Relation → Type 0
+IsRelationAmong [] r = ⊥
+IsRelationAmong (x ∷ xs) r = (r ≡ Some x) ⊎ IsRelationAmong xs r
 
 -- edges of these relations, of which the first leads from this event, and each other one from where the one before it leads to
 abbrev pub LeadFrom : Litmus → List Relation → Event → List Edge → Type 0
 LeadFrom t relations source [] = Unit {0}
 LeadFrom t relations source (e ∷ es) =
-    (e.source ≡ source) × IsOneOf relations e.relation × EventFits t e.target × LeadFrom t relations e.target es
+    (e.source ≡ source) × IsRelationAmong relations e.relation × EventFits t e.target × LeadFrom t relations e.target es
 
 abbrev pub CycleFits : Litmus → List Relation → List Edge → Type 0
 CycleFits t relations [] = Unit {0}
 CycleFits t relations (e ∷ es) = EventFits t e.source × LeadFrom t relations e.source (e ∷ es)
 
-abbrev pub AnswerFits : Litmus → Answer → Type 0
-AnswerFits t (From r ws) = EventFits t r × All (λ w. IfSome w (EventFits t)) ws
-AnswerFits t (Before w v) = EventFits t w × EventFits t v
+abbrev pub CaseFits : Litmus → Answer → Type 0
+CaseFits t (From r ws) = EventFits t r × All (λ w. IfSome w (EventFits t)) ws
+CaseFits t (Before w v) = EventFits t w × EventFits t v
 
 -- a register of a core by its number, or a location of the test
 abbrev pub IsNamed : Litmus → Named → Type 0
@@ -91,45 +91,45 @@ ClosingFits model t (Amid r v w) = EventFits t r × EventFits t v × EventFits t
 ClosingFits model t (False places) = All (PlaceFits t) places
 
 -- what a step names is the test's, its values are words, and its edges are of relations of the model
-abbrev pub StepFits : Model → Litmus → Step → Type 0
-StepFits model t (Case depth answer) = AnswerFits t answer
-StepFits model t (So depth answer) = AnswerFits t answer
-StepFits model t (Leaf depth closing) = ClosingFits model t closing
-StepFits model t (Endcases depth) = Unit {0}
+abbrev pub ReasonStepFits : Model → Litmus → ReasonStep → Type 0
+ReasonStepFits model t (Case depth answer) = CaseFits t answer
+ReasonStepFits model t (So depth answer) = CaseFits t answer
+ReasonStepFits model t (Leaf depth closing) = ClosingFits model t closing
+ReasonStepFits model t (Endcases depth) = Unit {0}
 
 -- ---- laws
 
 -- what is printed tells the test's name and the model, of any steps
 abbrev pub ReasonsTellTheirTests : Type 0
 ReasonsTellTheirTests =
-    (model other : Model) (t u : Litmus) (steps others : List Step)
+    (model other : Model) (t u : Litmus) (steps others : List ReasonStep)
     → IsTest t → IsTest u → never_lines model t steps ≡ never_lines other u others → (t.name ≡ u.name) × (model ≡ other)
 
 -- the lines tell the steps: how many there are, and what each shows
 abbrev pub ReasonsTellTheirSteps : Type 0
 ReasonsTellTheirSteps =
-    (model : Model) (t : Litmus) (steps others : List Step)
-    → IsTest t → All (StepFits model t) steps → All (StepFits model t) others
-    → never_lines model t steps ≡ never_lines model t others → map told_step steps ≡ map told_step others
+    (model : Model) (t : Litmus) (steps others : List ReasonStep)
+    → IsTest t → All (ReasonStepFits model t) steps → All (ReasonStepFits model t) others
+    → never_lines model t steps ≡ never_lines model t others → map told_reason_step steps ≡ map told_reason_step others
 
 -- the steps of a tree that refutes what the test asks fit the test
 abbrev pub StepsOfRefutationsFit : Type 0
 StepsOfRefutationsFit =
     (model : Model) (t : Litmus) (nodes : List Node)
-    → IsTest t → refutes model t (asked t.condition) nodes ≡ true → All (StepFits model t) (steps_of model t (asked t.condition) nodes)
+    → IsTest t → refutes model t (asked_claim t.condition) nodes ≡ true → All (ReasonStepFits model t) (steps_of model t (asked_claim t.condition) nodes)
 
 -- so where the same lines are printed of two trees that refute what the test asks, they show the same steps
 abbrev pub PrintedRefutationsTellTheirSteps : Type 0
 PrintedRefutationsTellTheirSteps =
     (model : Model) (t : Litmus) (nodes others : List Node)
-    → IsTest t → refutes model t (asked t.condition) nodes ≡ true → refutes model t (asked t.condition) others ≡ true
+    → IsTest t → refutes model t (asked_claim t.condition) nodes ≡ true → refutes model t (asked_claim t.condition) others ≡ true
     → never_text model t nodes ≡ never_text model t others
-    → map told_step (steps_of model t (asked t.condition) nodes) ≡ map told_step (steps_of model t (asked t.condition) others)
+    → map told_reason_step (steps_of model t (asked_claim t.condition) nodes) ≡ map told_reason_step (steps_of model t (asked_claim t.condition) others)
 
 -- ---- the same as JSON
 
 -- what the JSON value tells of a step: the same, but where a proposition is false not which places say so
-abbrev pub told_by_value : Step → Step
+abbrev pub told_by_value : ReasonStep → ReasonStep
 told_by_value (Case depth answer) = Case depth (told_answer answer)
 told_by_value (So depth answer) = So depth (told_answer answer)
 told_by_value (Leaf depth (Uniproc edges)) = Leaf depth (Uniproc (map told_edge edges))
@@ -138,20 +138,20 @@ told_by_value (Leaf depth (Amid r v w)) = Leaf depth (Amid (told_event r) (told_
 told_by_value (Leaf depth (False places)) = Leaf depth (False [])
 told_by_value (Endcases depth) = Endcases depth
 
-abbrev pub depth_in : Step → ℕ
+abbrev pub depth_in : ReasonStep → ℕ
 depth_in (Case depth answer) = depth
 depth_in (So depth answer) = depth
 depth_in (Leaf depth closing) = depth
 depth_in (Endcases depth) = depth
 
 -- steps that a JSON value holds: there are fewer than 2^64, and none is deeper
-pub record AreCounted (steps : List Step) : Type 0 where
+pub record AreCounted (steps : List ReasonStep) : Type 0 where
   pub few : leaves_in steps < 2 ^ 64
   pub depths : All (λ s. depth_in s < 2 ^ 64) steps
 
 -- the JSON value tells the steps
 abbrev pub ReasonValuesTellTheirSteps : Type 0
 ReasonValuesTellTheirSteps =
-    (model : Model) (t : Litmus) (steps others : List Step)
-    → IsTest t → All (StepFits model t) steps → All (StepFits model t) others → AreCounted steps → AreCounted others
-    → json.never_line model t steps ≡ json.never_line model t others → map told_by_value steps ≡ map told_by_value others
+    (model : Model) (t : Litmus) (steps others : List ReasonStep)
+    → IsTest t → All (ReasonStepFits model t) steps → All (ReasonStepFits model t) others → AreCounted steps → AreCounted others
+    → json.never_json_line model t steps ≡ json.never_json_line model t others → map told_by_value steps ≡ map told_by_value others

@@ -4,18 +4,18 @@ use Rattle.std.specs.Prelude.{ℕ, ◌≡◌, ◌<◌, ◌^◌, Bool}
 use Rattle.tso_model.specs.Litmus.{Litmus, IsTest}
 use Rattle.protocol_tables.specs.declared.kind.ProtocolKind.{ProtocolKind}
 use Rattle.machine_core.specs.Configuration.{Configuration, IsConfigurationWithinLimits}
-use Rattle.tso_report.specs.Shown.{Shown}
+use Rattle.tso_report.specs.Shown.{ShownRun}
 use Rattle.tso_report.specs.Tally.{RunCounts, runs_in}
 use Rattle.scheduler.specs.Plan.{Plan, IsPlanWithinLimits as IsPlan}
 use Rattle.commands.specs.RunTexts.{report_in, unfinished_in}
 use Rattle.commands.specs.Sweep.{sweep_lines}
-use Rattle.tso_cli.specs.Fitting.{FitsTest, CountsFitTest}
+use Rattle.tso_cli.specs.Fitting.{RunFitsTest, CountsFitTest}
 
 -- of runs that ended: the order, the registers, the memory, the verdict, and all counts
 abbrev pub ReportsTellTheirRuns : Bool → Type 0
 ReportsTellTheirRuns json =
-    (t : Litmus) (kind : ProtocolKind) (c : Configuration) (s other : Shown)
-    → IsTest t → IsConfigurationWithinLimits c → FitsTest t s → FitsTest t other
+    (t : Litmus) (kind : ProtocolKind) (c : Configuration) (s other : ShownRun)
+    → IsTest t → IsConfigurationWithinLimits c → RunFitsTest t s → RunFitsTest t other
     → report_in json t kind c s ≡ report_in json t kind c other → s ≡ other
 
 -- of runs that didn't end: how many choices were used, and how many of them stalled
@@ -42,8 +42,8 @@ pub record NameTheSame (t u : Litmus) (kind other_kind : ProtocolKind) (c d : Co
 -- of runs that ended, also of other tests and on other machines: which test, protocol and configuration it was
 abbrev pub ReportsTellTheirMachines : Bool → Type 0
 ReportsTellTheirMachines json =
-    (t u : Litmus) (kind other_kind : ProtocolKind) (c d : Configuration) (s other : Shown)
-    → IsTest t → IsTest u → IsConfigurationWithinLimits c → IsConfigurationWithinLimits d → FitsTest t s → FitsTest u other
+    (t u : Litmus) (kind other_kind : ProtocolKind) (c d : Configuration) (s other : ShownRun)
+    → IsTest t → IsTest u → IsConfigurationWithinLimits c → IsConfigurationWithinLimits d → RunFitsTest t s → RunFitsTest u other
     → report_in json t kind c s ≡ report_in json u other_kind d other → NameTheSame t u kind other_kind c d
 
 -- of a sweep the same, and the first seed, the number of seeds and the choices of each

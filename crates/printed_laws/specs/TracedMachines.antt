@@ -22,30 +22,30 @@ use Rattle.trace_report.specs.Lines.{names_in_line, line_name}
 use Rattle.trace_report.specs.StepLaws.{after_choices}
 use Rattle.trace_report.specs.Steps.{line_state}
 use Rattle.trace_report.specs.declared.step.LineState.{LineState}
-use Rattle.trace_json.specs.MachineJson.{words_in, copies_in, words_in_line, kept_words, machine_json}
+use Rattle.trace_json.specs.MachineJson.{words_per_line, cached_lines_in, words_in_line, words_on_bus, machine_json}
 use Rattle.printed_laws.specs.Traces.{bare_store}
 
 -- a copy of a line, as it is shown: the names of the line's locations, what it is in, and the words of these locations in digits
 abbrev pub copy_shown : Running → ℕ → CachedLine → List ℕ × LineState × List (List ℕ)
 copy_shown m core copy = (
-  line_name m.test (words_in m) copy.line,
+  line_name m.test (words_per_line m) copy.line,
   line_state m core copy.line,
-  map decimal (take (length (names_in_line m.test.locations (words_in m) copy.line)) copy.words),
+  map decimal (take (length (names_in_line m.test.locations (words_per_line m) copy.line)) copy.words),
 )
 
 -- the copies in a core's sets from this number on, so many, in each set the most recently used first
 abbrev pub copies_shown : Running → ℕ → ℕ → ℕ → List (List (List ℕ × LineState × List (List ℕ)))
 copies_shown m core set zero = []
-copies_shown m core set (suc rest) = map (copy_shown m core) (copies_in m core set) ∷ copies_shown m core (set + 1) rest
+copies_shown m core set (suc rest) = map (copy_shown m core) (cached_lines_in m core set) ∷ copies_shown m core (set + 1) rest
 
 -- who holds the bus, as it is shown: its next choice, the names of its line, what that is in while its words are awaited, and the
 -- words that the bus keeps then, in digits
 abbrev pub holder_shown : Running → BusHolder → Choice × List ℕ × Option Transient × List (List ℕ)
 holder_shown m h = (
   h.choice,
-  line_name m.test (words_in m) (h.loc.0 / words_in m),
+  line_name m.test (words_per_line m) (h.loc.0 / words_per_line m),
   h.transient,
-  map decimal (kept_words h.transient (words_in_line (words_in m) m.state.flat.memory (h.loc.0 / words_in m))),
+  map decimal (words_on_bus h.transient (words_in_line (words_per_line m) m.state.flat.memory (h.loc.0 / words_per_line m))),
 )
 
 -- two machines of the test, whose memories have these words, show the same: who holds the bus; each core's place, registers, pending

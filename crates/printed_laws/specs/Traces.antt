@@ -16,9 +16,9 @@ use Rattle.order_builder.specs.PrintedOrder.{HasWord}
 use Rattle.order_builder.specs.Spelling.{IsOrderFor}
 use Rattle.protocol_tables.specs.declared.kind.ProtocolKind.{ProtocolKind}
 use Rattle.machine_core.specs.Configuration.{Configuration, IsConfigurationWithinLimits}
-use Rattle.trace_report.specs.Known.{IsKnown}
+use Rattle.trace_report.specs.Known.{StepNamesExist}
 use Rattle.trace_report.specs.Lines.{trace_text}
-use Rattle.trace_report.specs.Shown.{Shown}
+use Rattle.trace_report.specs.Shown.{ShownStep}
 use Rattle.trace_report.specs.Steps.{trace_under}
 use Rattle.trace_json.specs.StepJson.{step_json}
 use Rattle.trace_json.specs.TraceJson.{trace_json}
@@ -26,7 +26,7 @@ use Rattle.trace_json.specs.declared.supplied.Source.{Source}
 use Rattle.trace_json.specs.declared.supplied.Source.TheVariants.{Buffer, Cache, Other, Bus, Memory}
 use Rattle.commands.specs.Trace.{traced_in}
 use Rattle.simulator.specs.Runs.{run_under, AnswersFit}
-use Rattle.printed_laws.specs.OfRuns.{LeaveTheSame}
+use Rattle.printed_laws.specs.OfRuns.{RunsLeaveTheSame}
 use Rattle.printed_laws.specs.Telling.{NameTheSame}
 
 -- ---- what is told of a step
@@ -36,7 +36,7 @@ abbrev pub bare_store : Entry → Entry
 bare_store e = record { core = record { 0 = 0 }; place = 0; kind = W; loc = e.loc; value = e.value }
 
 -- what a step's line tells: all of the step, and of its pending stores that
-abbrev pub told_by_line : Shown → Shown
+abbrev pub told_by_line : ShownStep → ShownStep
 told_by_line s = record {
   choice = s.choice;
   outcome = s.outcome;
@@ -52,7 +52,7 @@ told_by_line s = record {
 }
 
 -- what the members of its JSON object tell: all but its pending stores, which stand in the machine after it
-abbrev pub told_by_object : Shown → Shown
+abbrev pub told_by_object : ShownStep → ShownStep
 told_by_object s = record {
   choice = s.choice;
   outcome = s.outcome;
@@ -69,8 +69,8 @@ told_by_object s = record {
 
 -- a step of this test on caches whose lines have so many words: what it names is the test's, and its numbers are those of cores,
 -- places and words
-pub record StepFits (t : Litmus) (words : ℕ) (s : Shown) : Type 0 where
-  pub known : IsKnown t words s
+pub record TraceStepFits (t : Litmus) (words : ℕ) (s : ShownStep) : Type 0 where
+  pub known : StepNamesExist t words s
   pub chosen_core : chosen s.choice < 256
   pub entries : IsOrderFor t s.entries
   pub moved : IfSome s.moved (λ m. IsWord m.value)
@@ -96,8 +96,8 @@ pub record IsReadable (levels : ℕ) (d : Data) : Type 0 where
 -- the text of a trace tells its steps, whatever is behind it: how many there are, and what each line tells
 abbrev pub TracesTellTheirSteps : Type 0
 TracesTellTheirSteps =
-    (t : Litmus) (words : ℕ) (steps others : List Shown) (rest other_rest : List ℕ)
-    → IsTest t → All (StepFits t words) steps → All (StepFits t words) others
+    (t : Litmus) (words : ℕ) (steps others : List ShownStep) (rest other_rest : List ℕ)
+    → IsTest t → All (TraceStepFits t words) steps → All (TraceStepFits t words) others
     → trace_text t words steps ++ rest ≡ trace_text t words others ++ other_rest
     → (map told_by_line steps ≡ map told_by_line others) × (rest ≡ other_rest)
 
@@ -105,8 +105,8 @@ TracesTellTheirSteps =
 -- are spelled
 abbrev pub ObjectsTellTheirSteps : Type 0
 ObjectsTellTheirSteps =
-    (t : Litmus) (words : ℕ) (s other : Shown) (supplied other_supplied : Option Source) (after other_after : Data)
-    → IsTest t → StepFits t words s → StepFits t words other → IfSome supplied SourceFits → IfSome other_supplied SourceFits
+    (t : Litmus) (words : ℕ) (s other : ShownStep) (supplied other_supplied : Option Source) (after other_after : Data)
+    → IsTest t → TraceStepFits t words s → TraceStepFits t words other → IfSome supplied SourceFits → IfSome other_supplied SourceFits
     → IsReadable 100 after → IsReadable 100 other_after
     → compact_text (step_json t words s supplied after) ≡ compact_text (step_json t words other other_supplied other_after)
     → (told_by_object s ≡ told_by_object other) × ((supplied ≡ other_supplied) × (outline after ≡ outline other_after))
@@ -127,7 +127,7 @@ abbrev pub TracedStepsFit : Type 0
 TracedStepsFit =
     (t : Litmus) (kind : ProtocolKind) (c : Configuration) (choices : List Choice)
     → IsTest t → IsConfigurationWithinLimits c → CoresExist (length t.programs) choices
-    → All (StepFits t c.shape.words) (trace_under t kind c choices)
+    → All (TraceStepFits t c.shape.words) (trace_under t kind c choices)
 
 -- choices of the test's cores, no more than a text of choices may have, that caches answer as they may
 pub record IsTraceable (t : Litmus) (kind : ProtocolKind) (c : Configuration) (choices : List Choice) : Type 0 where
@@ -137,7 +137,7 @@ pub record IsTraceable (t : Litmus) (kind : ProtocolKind) (c : Configuration) (c
 
 -- two runs left the same, by the same steps
 pub record TakeTheSameSteps (t : Litmus) (kind : ProtocolKind) (c : Configuration) (choices other : List Choice) : Type 0 where
-  pub run : LeaveTheSame t kind c choices other
+  pub run : RunsLeaveTheSame t kind c choices other
   pub steps : trace_under t kind c choices ≡ trace_under t kind c other
 
 -- runs of which `trace` prints the same, under whatever choices

@@ -9,7 +9,7 @@ use Rattle.refutation_laws.specs.Models.{depth_of}
 use Rattle.litmus_reader.specs.Spelling.{SpellsTest}
 use Rattle.tso_report.specs.Report.{line}
 use Rattle.tso_report.specs.declared.named.Named.{Named}
-use Rattle.shown_values.specs.Shown.{named_in, values_at}
+use Rattle.shown_values.specs.Shown.{names_shown, values_at}
 use Rattle.outcome_report.specs.Verdict.{verdict_word}
 use Rattle.outcome_report.specs.Outcomes.{Outcome, shown_values, printed_numbers}
 use Rattle.outcome_report.specs.OutcomesJson.{holds_in}
@@ -101,7 +101,7 @@ pub record NumbersOfTrueStates (claim : Claim) (names : List Named) (outcomes : 
 pub record NamesTrueStates (t : Litmus) (search : Search) (claim : Claim) (outcomes : List Outcome) (out : List ℕ) : Type 0 where
   pub numbers : List ℕ
   pub last : EndsInNumbers numbers out
-  pub states : NumbersOfTrueStates claim (named_in search.show t) outcomes numbers
+  pub states : NumbersOfTrueStates claim (names_shown search.show t) outcomes numbers
 
 -- where states are printed as lines, so it is of a test with a condition
 abbrev pub TrueNamesTrueStates : Type 0
@@ -114,5 +114,5 @@ abbrev pub HoldsTellsTrueStates : Type 0
 HoldsTellsTrueStates =
     (t : Litmus) (search : Search) (out : List ℕ) (condition : Condition) → IsTest t → t.condition ≡ Some condition
     → (said : PrintsAllOutcomes t search true out) (o : Outcome) (registers : List (List ℕ)) (memory : List ℕ) → Contains said.outcomes o
-    → values_at (named_in search.show t) registers memory ≡ shown_values (named_in search.show t) o
+    → values_at (names_shown search.show t) registers memory ≡ shown_values (names_shown search.show t) o
     → holds_in t.condition o ≡ Some (truth_of registers memory condition.claim)

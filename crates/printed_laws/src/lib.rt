@@ -15,7 +15,7 @@ pub mod outcomes;
 pub mod printed_reasons;
 pub mod traces;
 
-use order_builder::laws::{order_is_spelled_once, printed_order_is_spelled};
+use order_builder::order_texts::{order_is_spelled_once, printed_order_is_spelled};
 pub use outcomes::{
     both_commands_print_one_verdict, outcomes_tell_their_states, outcomes_tell_their_tests,
     printed_states_fit_their_test, statuses_tell_the_verdict, true_names_the_true_states,
@@ -30,8 +30,8 @@ pub use traces::{
     printed_traces_are_told, printed_traces_tell_their_machines, traced_steps_fit_their_test,
     traces_tell_their_steps, values_of_machines_tell_them,
 };
-use tso_cli::laws::runs_fit_their_tests;
-use tso_report::laws::{report_spells_its_order, reports_are_short};
+use tso_cli::answers::runs_fit_their_tests;
+use tso_report::report_texts::{report_spells_its_order, reports_are_short};
 
 /// The report of a run that ended tells its order, its registers and memory, the condition's verdict, the counts of choices
 /// and those of each core's cache, and so does the JSON object of such a run.

@@ -6,7 +6,7 @@ ghost use Rattle.printed_laws.specs.TracedMachines.{MachinesAreTold};
 ghost use Rattle.printed_laws.specs.Traces.{TracedStepsFit, PrintedTracesAreTold, PrintedTracesNameTheSame};
 
 use crate::{printed_runs_are_told, reports_tell_their_machines};
-use tso_cli::laws::runs_fit_their_tests;
+use tso_cli::answers::runs_fit_their_tests;
 
 /// The lines of a trace tell its steps, the object of a step tells the step and where the word was found that it read, and the
 /// JSON value of a trace its steps: the choice and its outcome, with the reason of a stall; the entries; the register and its

@@ -6,7 +6,7 @@ use Rattle.std.proofs.lemmas.List.Elements.{All-from_recursion, recursion_from_A
 use Rattle.scheduler.specs.Printed.{printed_after, printed_choices}
 use Rattle.tso_report.specs.Report.{line, test_line}
 use Rattle.tso_report.specs.declared.named.Named.{Named}
-use Rattle.shown_values.specs.Shown.{named_in}
+use Rattle.shown_values.specs.Shown.{names_shown}
 use Rattle.shown_values.specs.declared.show.Show.{Show}
 use Rattle.outcome_report.specs.Outcomes.{Outcome, shown_values, outcomes_line, state_line, by_line, outcome_lines, outcomes_text, condition_lines}
 use Rattle.tso_cli.specs.Revisited.{IsRevisited, AreRevisited}
@@ -84,7 +84,7 @@ module _ (kind : ProtocolKind) (c : Configuration) (json : Bool) (test : List �
 pub lines-again : (kind : ProtocolKind) (c : Configuration) (show : Show) (json : Bool) (test out : List ℕ) → AreRevisited kind c show json false test out → LinesAreRunAgain kind c show json test out
 lines-again kind c show json test out r =
     let t = r.t in
-    let names = named_in show t in
+    let names = names_shown show t in
     let stand = subst (λ (text : List ℕ). AllByRecursion (λ o. HasPart text (both_lines t names o)) r.outcomes) (sym r.printed) (all-stand t names c.depth r.outcomes) in
     record {
       t = t;

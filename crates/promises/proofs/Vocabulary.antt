@@ -12,8 +12,8 @@ pub use Rattle.eager_laws.specs.Dead.{seen, AreAlike}
 pub use Rattle.explorer.specs.FinalStates.{AreWhat, AreAmong, AreReached, HaveEveryEnd}
 pub use Rattle.std.proofs.lemmas.List.{append_assoc, length-append}
 pub use Rattle.tso_model.specs.declared.choice.Choice.TheVariants.{Step, Drain}
-pub use Rattle.outcome_laws.specs.Outcomes.{EndsAreWhatTsoAllows, IsAllowed, IsAllowedByTso, IsAllowedSequentially}
+pub use Rattle.outcome_laws.specs.Outcomes.{EndsAreWhatTsoAllows, IsAllowedAtDepth, IsAllowedByTso, IsAllowedSequentially}
 pub use Rattle.tso_model.specs.Condition.{Claim, truth_of}
 pub use Rattle.tso_model.specs.declared.execution.Entry.{Entry}
 pub use Rattle.tso_model.specs.FlatMachine.{chosen, core_of, effect_of, registers_in}
-pub use Rattle.trace_report.specs.Shown.{Shown}
+pub use Rattle.trace_report.specs.Shown.{ShownStep}

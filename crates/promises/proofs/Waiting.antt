@@ -8,7 +8,7 @@ use Rattle.tso_model.specs.declared.choice.Bus.{Bus}
 use Rattle.tso_model.specs.declared.choice.Outcome.TheVariants.{Stalled}
 use Rattle.tso_model.specs.declared.choice.Stall.TheVariants as stall
 use Rattle.machine_core.specs.Caches.{Caches, would_hit, hits_by}
-use Rattle.machine_core.specs.Running.{Running, attempt_on, effect_by}
+use Rattle.machine_core.specs.Running.{Running, attempt_on, machine_effect}
 use Rattle.promises.specs.Locked.{HitsAlone, OwnCoreAloneHits}
 use Rattle.promises.specs.inner.Waiting.{IsAtLine, OthersWaitForTheLine}
 

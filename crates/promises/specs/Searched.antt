@@ -5,14 +5,14 @@ use Rattle.litmus_reader.specs.Spelling.{SpellsTest}
 use Rattle.scheduler.specs.Printed.{printed_choices}
 use Rattle.protocol_tables.specs.declared.kind.ProtocolKind.{ProtocolKind}
 use Rattle.machine_core.specs.Configuration.{Configuration}
-use Rattle.tso_report.specs.Shown.{Shown}
+use Rattle.tso_report.specs.Shown.{ShownRun}
 use Rattle.tso_report.specs.Report.{line}
 use Rattle.tso_report.specs.declared.named.Named.{Named}
-use Rattle.shown_values.specs.Shown.{named_in, values_at}
+use Rattle.shown_values.specs.Shown.{names_shown, values_at}
 use Rattle.shown_values.specs.declared.show.Show.{Show}
 use Rattle.outcome_report.specs.Outcomes.{Outcome, state_line, outcomes_text}
 use Rattle.command_line.specs.declared.settings.Settings.TheVariants as settings
-use Rattle.commands.specs.Dividing.{joined}
+use Rattle.commands.specs.Dividing.{joined_parts}
 use Rattle.commands.specs.RunTexts.{report_in}
 use Rattle.commands.specs.declared.answer.Status.{Status}
 use Rattle.commands.specs.declared.answer.Status.TheVariants.{Good}
@@ -28,7 +28,7 @@ line_by (b ∷ bs) = codes "By " ++ line (b ∷ bs)
 -- line, and the next line is `By` with the choices that were given
 pub record StandsAbove (t : Litmus) (names : List Named) (kind : ProtocolKind) (c : Configuration) (json : Bool) (out choices answer : List ℕ)
     : Type 0 where
-  pub shown : Shown
+  pub shown : ShownRun
   pub printed : answer ≡ report_in json t kind c shown
   pub lines : HasPart out (state_line t names (values_at names shown.registers shown.memory) ++ line_by choices)
   pub stalled : shown.stalled ≡ 0
@@ -37,7 +37,7 @@ pub record StandsAbove (t : Litmus) (names : List Named) (kind : ProtocolKind) (
 -- whatever `run` answers to these choices, put after the test and a dividing line, is such a report, and a success
 abbrev pub IsRunAgain : ProtocolKind → Configuration → Bool → Litmus → List Named → List ℕ → List ℕ → List ℕ → Type 0
 IsRunAgain kind c json t names test out choices =
-    (answer : List ℕ) (status : Status) → IsAnswer (settings.Run kind c json) (Some (joined test choices)) answer status
+    (answer : List ℕ) (status : Status) → IsAnswer (settings.Run kind c json) (Some (joined_parts test choices)) answer status
     → StandsAbove t names kind c json out choices answer × (status ≡ Good)
 
 -- so it is with each state of the given test whose lines the text has
@@ -45,5 +45,5 @@ pub record LinesAreRunAgain (kind : ProtocolKind) (c : Configuration) (show : Sh
   pub t : Litmus
   pub spelled : SpellsTest test t
   pub outcomes : List Outcome
-  pub text : out ≡ outcomes_text t (named_in show t) c.depth outcomes
-  pub each : All (λ o. IsRunAgain kind c json t (named_in show t) test out (printed_choices o.choices)) outcomes
+  pub text : out ≡ outcomes_text t (names_shown show t) c.depth outcomes
+  pub each : All (λ o. IsRunAgain kind c json t (names_shown show t) test out (printed_choices o.choices)) outcomes

@@ -2,10 +2,10 @@
 //! (x86-TSO, section 3.)
 
 ghost use Rattle.std.specs.Prelude.{◌↔◌, ◌∷◌, ◌≡◌, ◌≤◌, ◌⊎◌, List, None, Some, [], slice_get, ℕ};
-ghost use Rattle.abstract_machine.specs.Ended.{EndsWith, IsReachedFreely, registers_of};
+ghost use Rattle.abstract_machine.specs.Ended.{EndsWith, IsReachedFreely, registers_of_threads};
 ghost use Rattle.abstract_machine.specs.Machine.{HardwareThread, HasRead, HasWritten, Machine, NotLocked};
 ghost use Rattle.abstract_machine.specs.OneStep.{CanGoOn, IsBlocked, KeepsBuffer, Unlocks};
-ghost use Rattle.abstract_machine.specs.Steps.{StandsAt, Step};
+ghost use Rattle.abstract_machine.specs.Steps.{StandsAt, ThreadStep};
 ghost use Rattle.tso_laws.specs.Counting.{most_stores};
 ghost use Rattle.tso_laws.specs.Reached.{IsReached};
 ghost use Rattle.tso_model.specs.FinalState.{final_registers, final_words};
@@ -27,13 +27,13 @@ use abstract_machine::{
 /// A step of a blocked thread gives nothing, or a fence; memory, the lock and what its buffer has stay as they were.
 pub fn a_blocked_thread_changes_neither_memory_nor_the_lock()
     ensures given { (t : Litmus) (m : Machine) (p : ℕ) (h : HardwareThread) (es : List Entry) (o : Machine) → IsBlocked m p
-        → Step t m p h es o → (es ≡ []) ⊎ (es ≡ fence p h.place ∷ []) }
+        → ThreadStep t m p h es o → (es ≡ []) ⊎ (es ≡ fence p h.place ∷ []) }
     ensures memory { (t : Litmus) (m : Machine) (p : ℕ) (h : HardwareThread) (es : List Entry) (o : Machine) → IsBlocked m p
-        → Step t m p h es o → o.memory ≡ m.memory }
+        → ThreadStep t m p h es o → o.memory ≡ m.memory }
     ensures buffer { (t : Litmus) (m : Machine) (p : ℕ) (h : HardwareThread) (es : List Entry) (o : Machine) → IsBlocked m p
-        → Step t m p h es o → (after : HardwareThread) → slice_get o.threads p ≡ Some after → KeepsBuffer h.buffer after.buffer }
+        → ThreadStep t m p h es o → (after : HardwareThread) → slice_get o.threads p ≡ Some after → KeepsBuffer h.buffer after.buffer }
     ensures lock { (t : Litmus) (m : Machine) (p : ℕ) (h : HardwareThread) (es : List Entry) (o : Machine) → IsBlocked m p
-        → Step t m p h es o → o.lock ≡ m.lock }
+        → ThreadStep t m p h es o → o.lock ≡ m.lock }
 {
     blocked_threads_read_and_flush_nothing();
 }
@@ -42,11 +42,11 @@ pub fn a_blocked_thread_changes_neither_memory_nor_the_lock()
 /// step takes it.
 pub fn a_held_lock_stays_until_its_holder_frees_it()
     ensures held { (t : Litmus) (m : Machine) (p : ℕ) (h : HardwareThread) (es : List Entry) (o : Machine) (q : ℕ)
-        → Step t m p h es o → m.lock ≡ Some q → (o.lock ≡ Some q) ⊎ Unlocks m p h o }
-    ensures free { (t : Litmus) (m : Machine) (p : ℕ) (h : HardwareThread) (es : List Entry) (o : Machine) → Step t m p h es o
+        → ThreadStep t m p h es o → m.lock ≡ Some q → (o.lock ≡ Some q) ⊎ Unlocks m p h o }
+    ensures free { (t : Litmus) (m : Machine) (p : ℕ) (h : HardwareThread) (es : List Entry) (o : Machine) → ThreadStep t m p h es o
         → m.lock ≡ None → (o.lock ≡ None) ⊎ (o.lock ≡ Some p) }
     ensures ends { (t : Litmus) (m : Machine) (p : ℕ) (h : HardwareThread) (es : List Entry) (o : Machine) (after : HardwareThread)
-        → Step t m p h es o → h.progress ≡ HasWritten → slice_get o.threads p ≡ Some after → after.progress ≡ NotLocked
+        → ThreadStep t m p h es o → h.progress ≡ HasWritten → slice_get o.threads p ≡ Some after → after.progress ≡ NotLocked
         → Unlocks m p h o }
 {
     only_the_holder_unlocks();
@@ -65,7 +65,7 @@ pub fn a_run_leaves_the_final_state_of_its_order()
     ensures memory { (t : Litmus) (order : List Entry) (m : Machine) → IsTest t → EndsWith t order m
         → m.memory ≡ final_words t order }
     ensures registers { (t : Litmus) (order : List Entry) (m : Machine) → IsTest t → EndsWith t order m
-        → registers_of m ≡ final_registers t order }
+        → registers_of_threads m ≡ final_registers t order }
     ensures deep_enough { (t : Litmus) (depth : ℕ) (order : List Entry) → IsTest t → most_stores t.programs ≤ depth
         → IsReached t depth order ↔ IsReachedFreely t order }
     ensures at_the_greatest { (t : Litmus) (order : List Entry) → IsTest t → IsReached t 32 order ↔ IsReachedFreely t order }
@@ -85,7 +85,7 @@ pub fn a_thread_stores_at_any_time()
         → StandsAt t p h NotLocked (Move reg operand) → CanGoOn t m p h }
     ensures locked_instruction { (t : Litmus) (m : Machine) (p : ℕ) (h : HardwareThread) (loc : Loc) (reg : Reg) (update : Update)
         → StandsAt t p h NotLocked (Lock loc reg update) → m.lock ≡ None
-        → (o : Machine) × Step t m p h [] o × (o.memory ≡ m.memory) × (o.lock ≡ Some p) }
+        → (o : Machine) × ThreadStep t m p h [] o × (o.memory ≡ m.memory) × (o.lock ≡ Some p) }
 {
     stores_and_moves_are_made_at_any_time();
     locked_instructions_begin_whatever_the_buffer_has();

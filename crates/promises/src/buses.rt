@@ -39,7 +39,7 @@ ghost use Rattle.tso_model.specs.declared.instruction.Core.{Core};
 ghost use Rattle.tso_model.specs.declared.instruction.Loc.{Loc};
 
 use bus_laws::{accesses_are_what_is_counted, hits_are_told_beforehand};
-use snoop_bus::laws::halves_leave_what_whole_accesses_do;
+use snoop_bus::whole_accesses::halves_leave_what_whole_accesses_do;
 use split_laws::{atomic_runs_are_flat_runs, what_holds_so_far_on_either_bus};
 
 /// A load and a write access are hits exactly where `would_hit` says so, whole and in halves.

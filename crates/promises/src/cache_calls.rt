@@ -5,7 +5,7 @@ ghost use Rattle.cache_set.specs.Contents.{copy_of};
 ghost use Rattle.cache_set.specs.Limits.{most_words};
 ghost use Rattle.cache_set.specs.inner.Contents.{ChangesLine, IsCacheSet};
 ghost use Rattle.cache_set.specs.inner.Copy.{with_word};
-ghost use Rattle.snoop_bus.specs.Accesses.{IsCurrentWord, WritesAt, completion_of, contents_of, line_of, write_of};
+ghost use Rattle.snoop_bus.specs.Accesses.{IsCurrentWord, WritesAt, completion_of, contents_of, line_of_location, write_of};
 ghost use Rattle.snoop_bus.specs.Bus.{IsCoherent, IsFree, IsSameMachine, cores_of, holder_of, words_of};
 ghost use Rattle.snoop_bus.specs.Held.{holder};
 ghost use Rattle.snoop_bus.specs.inner.Accesses.{IsClean, IsOutOfMemory, MayGoOn};
@@ -125,7 +125,7 @@ pub fn the_holder_is_told<P: Protocol>(bus: &SnoopBus<P>) -> Option<BusAction>
 /// The words of a line that no core has changed are in memory.
 pub fn a_clean_line_is_in_memory<P: Protocol>(bus: &SnoopBus<P>, loc: Loc) -> u32
     requires { loc.0 < length (words_of bus.now) }
-    ensures clean { IsFree bus.now → IsClean (contents_of bus.now) (line_of bus.now loc.0) → IsCurrentWord bus.now loc.0 result }
+    ensures clean { IsFree bus.now → IsClean (contents_of bus.now) (line_of_location bus.now loc.0) → IsCurrentWord bus.now loc.0 result }
 {
     bus.memory_word(loc)
 }

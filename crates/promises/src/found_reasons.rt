@@ -7,7 +7,7 @@ ghost use Rattle.tso_model.specs.FinalState.{final_registers, final_words};
 ghost use Rattle.tso_model.specs.declared.execution.Entry.{Entry};
 ghost use Rattle.refutation_laws.specs.Known.{Known, nothing};
 ghost use Rattle.refutation_laws.specs.Models.{IsExecutionOf, IsMet};
-ghost use Rattle.refutation_laws.specs.Refutations.{Node, asked};
+ghost use Rattle.refutation_laws.specs.Refutations.{Node, asked_claim};
 ghost use Rattle.refutation_laws.specs.declared.model.Model.{Model};
 ghost use Rattle.reasons.specs.Reasons.{HasMoreCases, leaves_of, open_after};
 
@@ -15,7 +15,7 @@ ghost use Rattle.reasons.specs.Reasons.{HasMoreCases, leaves_of, open_after};
 /// stands, with more leaves than the limit.
 pub fn more_cases_are_part_of_a_tree()
     ensures { (model : Model) (t : Litmus) (limit : ℕ) → HasMoreCases model t limit
-        → (nodes : List Node) × (cases : List Known) × (open_after model t (asked t.condition) (nothing ∷ []) nodes ≡ Some cases)
+        → (nodes : List Node) × (cases : List Known) × (open_after model t (asked_claim t.condition) (nothing ∷ []) nodes ≡ Some cases)
         × (limit < leaves_of nodes) }
 {}
 

@@ -3,7 +3,7 @@
 ghost use Rattle.std.specs.Prelude.{◌<◌, ◌↔◌, ◌≡◌, Bool, List, Some, length, slice_get, ℕ};
 ghost use Rattle.explorer.specs.FinalStates.{AreWhatSequentialConsistencyAllows, AreWhatTsoAllows, HasMoreStates, Have, IsReachable};
 ghost use Rattle.explorer.specs.declared.final_states.FinalState.{FinalState};
-ghost use Rattle.outcome_laws.specs.Outcomes.{IsAllowed, IsAllowedByTso, IsAllowedSequentially, IsEnd};
+ghost use Rattle.outcome_laws.specs.Outcomes.{IsAllowedAtDepth, IsAllowedByTso, IsAllowedSequentially, IsEnd};
 ghost use Rattle.tso_laws.specs.Choices.{state_after};
 ghost use Rattle.tso_model.specs.FlatMachine.{State, start};
 ghost use Rattle.tso_model.specs.Litmus.{IsTest, Litmus};
@@ -28,7 +28,7 @@ pub fn what_was_found_is_allowed()
 /// At a depth of 1 or more runs end with what TSO allows at it.
 pub fn ends_are_what_is_allowed_at_each_depth()
     ensures by_depth { (t : Litmus) (depth : ℕ) (registers : List (List ℕ)) (memory : List ℕ) → IsTest t → 0 < depth
-        → IsEnd t depth registers memory ↔ IsAllowed t depth registers memory }
+        → IsEnd t depth registers memory ↔ IsAllowedAtDepth t depth registers memory }
 {
     ends_are_what_tso_allows();
 }

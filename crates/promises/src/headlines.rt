@@ -25,7 +25,7 @@ ghost use Rattle.protocol_tables.specs.declared.kind.ProtocolKind.{ProtocolKind}
 ghost use Rattle.scheduler.specs.Grammar.{SpellsChoices};
 ghost use Rattle.scheduler.specs.Limits.{most_choices};
 ghost use Rattle.scheduler.specs.Printed.{printed_choices};
-ghost use Rattle.shown_values.specs.Shown.{named_in, values_at};
+ghost use Rattle.shown_values.specs.Shown.{names_shown, values_at};
 ghost use Rattle.shown_values.specs.declared.show.Show.{Show};
 ghost use Rattle.simulator.specs.Runs.{AnswersFit, run_under};
 ghost use Rattle.sweeper.specs.Counting.{SweepAnswersFit, sweep_counts};
@@ -45,12 +45,12 @@ ghost use Rattle.tso_model.specs.SequentialConsistency.{KeepsAllOrder};
 ghost use Rattle.tso_model.specs.declared.choice.Bus.TheVariants.{Atomic};
 ghost use Rattle.tso_model.specs.declared.choice.Choice.{Choice};
 ghost use Rattle.tso_report.specs.Limits.{IsSmall};
-ghost use Rattle.tso_report.specs.Shown.{IsOf, Shown};
-ghost use Rattle.tso_report.specs.Tally.{Ascend, count_of, ended_in, looked_at, runs_in, state_line, with_values};
+ghost use Rattle.tso_report.specs.Shown.{IsRunOf, ShownRun};
+ghost use Rattle.tso_report.specs.Tally.{Ascend, count_of_runs, ended_in, looked_at, runs_in, counted_state_line, with_values};
 ghost use Rattle.tso_report.specs.declared.named.Named.{Named};
 
-use tso_cli::laws::runs_fit_their_tests;
-use tso_report::laws::one_more_run_is_counted;
+use tso_cli::answers::runs_fit_their_tests;
+use tso_report::report_texts::one_more_run_is_counted;
 
 /// Each first part that spells a test is answered of this test, and every other is refused.
 pub fn a_test_or_its_refusal_is_answered()
@@ -82,19 +82,19 @@ pub fn a_sweep_prints_executions()
         → IfSome (seeded_order t run_of plan (plan.from + n)) KeepsAllOrder }
     ensures lines { (t : Litmus) (kind : ProtocolKind) (c : Configuration) (plan : Plan) (run_of : List Choice → Run)
         (out : List ℕ) (said : PrintsSweep t kind c plan run_of out)
-        → All (λ state. HasPart out (state_line t state)) said.counts.states }
+        → All (λ state. HasPart out (counted_state_line t state)) said.counts.states }
 {}
 
 /// What `outcomes` prints is all that can be reached, and at depth 32 and 0 exactly what is allowed, by the values that are shown.
 pub fn outcomes_prints_what_is_allowed()
     ensures printed { (t : Litmus) (s : Search) (json : Bool) (out : List ℕ) (said : PrintsAllOutcomes t s json out)
-        → out ≡ outcomes_in json t (named_in s.show t) s.depth said.outcomes }
+        → out ≡ outcomes_in json t (names_shown s.show t) s.depth said.outcomes }
     ensures all { (t : Litmus) (s : Search) (json : Bool) (out : List ℕ) (said : PrintsAllOutcomes t s json out)
-        → AreAllOutcomes t (named_in s.show t) s.depth said.outcomes }
+        → AreAllOutcomes t (names_shown s.show t) s.depth said.outcomes }
     ensures tso { (t : Litmus) (s : Search) (json : Bool) (out : List ℕ) (said : PrintsAllOutcomes t s json out)
-        → s.depth ≡ most_depth → AreExactly t (named_in s.show t) said.outcomes (IsTsoExecution t) }
+        → s.depth ≡ most_depth → AreExactly t (names_shown s.show t) said.outcomes (IsTsoExecution t) }
     ensures sequential { (t : Litmus) (s : Search) (json : Bool) (out : List ℕ) (said : PrintsAllOutcomes t s json out)
-        → s.depth ≡ 0 → AreExactly t (named_in s.show t) said.outcomes (IsSequentiallyConsistent t) }
+        → s.depth ≡ 0 → AreExactly t (names_shown s.show t) said.outcomes (IsSequentiallyConsistent t) }
     ensures spelled { (t : Litmus) (s : Search) (json : Bool) (out : List ℕ) (said : PrintsAllOutcomes t s json out)
         → All (λ o. SpellsChoices (length t.programs) (printed_choices o.choices) o.choices) said.outcomes }
 {}
@@ -109,10 +109,10 @@ pub fn a_table_is_printed()
 /// Choices of a printed state end there when they are run.
 pub fn printed_choices_end_in_printed_states()
     ensures printed_states { (kind : ProtocolKind) (c : Configuration) (show : Show) (json told : Bool) (test out : List ℕ)
-        (said : AreRevisited kind c show json told test out) → out ≡ outcomes_in told said.t (named_in show said.t) c.depth said.outcomes }
+        (said : AreRevisited kind c show json told test out) → out ≡ outcomes_in told said.t (names_shown show said.t) c.depth said.outcomes }
     ensures each { (kind : ProtocolKind) (c : Configuration) (show : Show) (json told : Bool) (test out : List ℕ)
         (said : AreRevisited kind c show json told test out)
-        → All (IsRevisited kind c json test said.t (named_in show said.t)) said.outcomes }
+        → All (IsRevisited kind c json test said.t (names_shown show said.t)) said.outcomes }
     ensures printed { (t : Litmus) (names : List Named) (kind : ProtocolKind) (c : Configuration) (json : Bool) (values out : List ℕ)
         (said : ReportsValues t names kind c json values out) → out ≡ report_in json t kind c said.shown }
     ensures values_are { (t : Litmus) (names : List Named) (kind : ProtocolKind) (c : Configuration) (json : Bool) (values out : List ℕ)
@@ -127,7 +127,7 @@ pub fn printed_choices_end_in_printed_states()
 pub fn runs_fit_their_test()
     ensures of_test { (t : Litmus) (kind : ProtocolKind) (c : Configuration) (choices : List Choice) → IsTest t
         → length choices ≤ most_choices → AnswersFit t kind c choices → (run_under t kind c choices).ended ≡ true
-        → IsOf t (shown_under t kind c choices) }
+        → IsRunOf t (shown_under t kind c choices) }
     ensures small { (t : Litmus) (kind : ProtocolKind) (c : Configuration) (choices : List Choice) → IsTest t
         → length choices ≤ most_choices → AnswersFit t kind c choices → (run_under t kind c choices).ended ≡ true
         → IsSmall t (shown_under t kind c choices) }
@@ -146,7 +146,7 @@ pub fn runs_fit_their_test()
 pub fn a_counted_state_is_of_the_test()
     ensures each { (t : Litmus) (values : List ℕ) → IsStateOf t values → length values ≡ length (looked_at t) }
     ensures words { (t : Litmus) (values : List ℕ) → IsStateOf t values → All IsWord values }
-    ensures verdict { (t : Litmus) (s : Shown) → IsOf t s → is_some s.holds ≡ is_some t.condition }
+    ensures verdict { (t : Litmus) (s : ShownRun) → IsRunOf t s → is_some s.holds ≡ is_some t.condition }
 {}
 
 /// A text that is put before a dividing line ends in a line feed and has no such line.
@@ -180,9 +180,9 @@ pub fn an_order_is_reported()
 /// One more run is counted in its own state alone, and the states stay in order.
 pub fn one_more_run_is_counted_once()
     ensures own { (values : List ℕ) (states : List (List ℕ × ℕ))
-        → count_of values (with_values values states) ≡ count_of values states + 1 }
+        → count_of_runs values (with_values values states) ≡ count_of_runs values states + 1 }
     ensures others { (values other : List ℕ) (states : List (List ℕ × ℕ)) → other ≢ values
-        → count_of other (with_values values states) ≡ count_of other states }
+        → count_of_runs other (with_values values states) ≡ count_of_runs other states }
     ensures order { (values : List ℕ) (states : List (List ℕ × ℕ)) → Ascend states → Ascend (with_values values states) }
 {
     one_more_run_is_counted();

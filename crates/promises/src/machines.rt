@@ -3,7 +3,7 @@
 
 ghost use Rattle.std.specs.Prelude.{◌≡◌, ◌≢◌, ◌<◌, true, false, Ok, OnOk, OnErr, length};
 ghost use Rattle.tso_model.specs.FlatMachine.{chosen};
-ghost use Rattle.machine_core.specs.Running.{effect_by};
+ghost use Rattle.machine_core.specs.Running.{machine_effect};
 ghost use Rattle.promises.specs.Locked.{OwnCoreAloneHits};
 
 use machine_core::{Choice, Machine, Outcome, Stall};
@@ -17,7 +17,7 @@ pub fn what_commits_nothing_is_answered<P: Protocol>(
 ) -> bool
     requires core { chosen choice < length machine.old.test.programs }
     requires whole { machine.old.failed ≡ false }
-    requires nothing { (effect_by machine.old choice).effect.outcome ≢ Outcome.Committed }
+    requires nothing { (machine_effect machine.old choice).effect.outcome ≢ Outcome.Committed }
     ensures { result ≡ true }
 {
     machine.choose(choice).is_ok()

@@ -7,19 +7,19 @@ ghost use Rattle.command_line.specs.Search.{Search};
 ghost use Rattle.command_line.specs.declared.settings.Settings.{Settings};
 ghost use Rattle.commands.specs.Answers.{IsCheckAnswer};
 ghost use Rattle.commands.specs.CheckLines.{valid_line};
-ghost use Rattle.commands.specs.Dividing.{IsJoinable, joined, parts_of};
+ghost use Rattle.commands.specs.Dividing.{IsJoinable, joined_parts, parts_of};
 ghost use Rattle.commands.specs.RunTexts.{report_in};
 ghost use Rattle.commands.specs.Witness.{HasEndedWith, IsEndingAlong};
 ghost use Rattle.commands.specs.declared.answer.Status.{Status};
 ghost use Rattle.commands.specs.declared.answer.Status.TheVariants.{Good};
 ghost use Rattle.machine_core.specs.Configuration.{Configuration};
-ghost use Rattle.outcome_report.specs.Laws.{AreAlike};
+ghost use Rattle.outcome_report.specs.Laws.{OutcomesAreAlike};
 ghost use Rattle.outcome_report.specs.Outcomes.{Outcome, failed_in, held_in, shown_values, true_in};
 ghost use Rattle.outcome_report.specs.OutcomesJson.{holds_in};
 ghost use Rattle.outcome_report.specs.Printed.{outcomes_in};
 ghost use Rattle.protocol_tables.specs.declared.kind.ProtocolKind.{ProtocolKind};
 ghost use Rattle.scheduler.specs.Grammar.{SpellsChoices};
-ghost use Rattle.shown_values.specs.Shown.{named_in};
+ghost use Rattle.shown_values.specs.Shown.{names_shown};
 ghost use Rattle.simulator.specs.Simulation.{IsEndingOf};
 ghost use Rattle.simulator.specs.declared.simulation.Ending.{Ending};
 ghost use Rattle.std.specs.Option.{ForSome};
@@ -40,8 +40,9 @@ ghost use Rattle.tso_report.specs.Json.{json_report};
 ghost use Rattle.tso_report.specs.Report.{head};
 ghost use Rattle.tso_report.specs.declared.named.Named.{Named};
 
+use tso_cli::answers::inputs_have_one_answer;
 use tso_cli::headline_laws::headlines_leave_one_text;
-use tso_cli::laws::{inputs_have_one_answer, led_simulations_end, printed_runs_are_valid};
+use tso_cli::round_trips::{led_simulations_end, printed_runs_are_valid};
 
 /// Two reports of one run show the same order, registers, memory and verdict of one test.
 pub fn two_reports_show_one_execution()
@@ -82,20 +83,20 @@ pub fn two_objects_tell_one_execution()
 /// Two texts of `outcomes` show states of one test that are alike.
 pub fn two_texts_show_the_same_states()
     ensures first { (s : Search) (json : Bool) (out other : List ℕ) (said : ShowTheSameStates s json out other)
-        → out ≡ outcomes_in json said.t (named_in s.show said.t) s.depth said.outcomes }
+        → out ≡ outcomes_in json said.t (names_shown s.show said.t) s.depth said.outcomes }
     ensures second { (s : Search) (json : Bool) (out other : List ℕ) (said : ShowTheSameStates s json out other)
-        → other ≡ outcomes_in json said.t (named_in s.show said.t) s.depth said.others }
+        → other ≡ outcomes_in json said.t (names_shown s.show said.t) s.depth said.others }
     ensures alike { (s : Search) (json : Bool) (out other : List ℕ) (said : ShowTheSameStates s json out other)
-        → AreAlike said.t (named_in s.show said.t) said.outcomes said.others }
-    ensures values { (t : Litmus) (names : List Named) (outcomes others : List Outcome) → AreAlike t names outcomes others
+        → OutcomesAreAlike said.t (names_shown s.show said.t) said.outcomes said.others }
+    ensures values { (t : Litmus) (names : List Named) (outcomes others : List Outcome) → OutcomesAreAlike t names outcomes others
         → map (shown_values names) outcomes ≡ map (shown_values names) others }
-    ensures holds { (t : Litmus) (names : List Named) (outcomes others : List Outcome) → AreAlike t names outcomes others
+    ensures holds { (t : Litmus) (names : List Named) (outcomes others : List Outcome) → OutcomesAreAlike t names outcomes others
         → map (holds_in t.condition) outcomes ≡ map (holds_in t.condition) others }
-    ensures held { (t : Litmus) (names : List Named) (outcomes others : List Outcome) → AreAlike t names outcomes others
+    ensures held { (t : Litmus) (names : List Named) (outcomes others : List Outcome) → OutcomesAreAlike t names outcomes others
         → ForSome t.condition (λ c. held_in c.claim outcomes ≡ held_in c.claim others) }
-    ensures failed { (t : Litmus) (names : List Named) (outcomes others : List Outcome) → AreAlike t names outcomes others
+    ensures failed { (t : Litmus) (names : List Named) (outcomes others : List Outcome) → OutcomesAreAlike t names outcomes others
         → ForSome t.condition (λ c. failed_in c.claim outcomes ≡ failed_in c.claim others) }
-    ensures numbers { (t : Litmus) (names : List Named) (outcomes others : List Outcome) → AreAlike t names outcomes others
+    ensures numbers { (t : Litmus) (names : List Named) (outcomes others : List Outcome) → OutcomesAreAlike t names outcomes others
         → ForSome t.condition (λ c. true_in c.claim outcomes ≡ true_in c.claim others) }
 {}
 
@@ -165,7 +166,7 @@ pub fn led_runs_end_with_their_order()
     ensures inputs { (kind : ProtocolKind) (c : Configuration) (input out answer : List ℕ) (status : Status)
         → IsWithinLimits (Settings.Run kind c false) → IsJoinable (parts_of input).test
         → IsAnswer (Settings.Run kind c false) (Some input) out Good
-        → IsAnswer Settings.Check (Some (joined (parts_of input).test out)) answer status
+        → IsAnswer Settings.Check (Some (joined_parts (parts_of input).test out)) answer status
         → (answer ≡ valid_line) × (status ≡ Good) }
 {
     led_simulations_end();

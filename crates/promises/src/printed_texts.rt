@@ -7,10 +7,10 @@ ghost use Rattle.machine_core.specs.Configuration.{Configuration, IsConfiguratio
 ghost use Rattle.protocol_tables.specs.declared.kind.ProtocolKind.{ProtocolKind};
 ghost use Rattle.scheduler.specs.Limits.{most_choices};
 ghost use Rattle.simulator.specs.Runs.{AnswersFit, run_under};
-ghost use Rattle.tso_cli.specs.Fitting.{FitsTest, shown_under};
+ghost use Rattle.tso_cli.specs.Fitting.{RunFitsTest, shown_under};
 ghost use Rattle.tso_model.specs.Litmus.{IsTest, Litmus};
 ghost use Rattle.tso_model.specs.declared.choice.Choice.{Choice};
-ghost use Rattle.tso_report.specs.Shown.{Shown};
+ghost use Rattle.tso_report.specs.Shown.{ShownRun};
 
 use printed_laws::{printed_runs_are_told, reports_tell_their_machines};
 
@@ -42,23 +42,23 @@ pub fn two_runs_are_told_apart()
 
 /// Two reports, or two objects, that are the same name the same test, protocol and configuration.
 pub fn a_report_names_its_machine()
-    ensures line_test { (t u : Litmus) (kind other_kind : ProtocolKind) (c d : Configuration) (s other : Shown) → IsTest t
-        → IsTest u → IsConfigurationWithinLimits c → IsConfigurationWithinLimits d → FitsTest t s → FitsTest u other
+    ensures line_test { (t u : Litmus) (kind other_kind : ProtocolKind) (c d : Configuration) (s other : ShownRun) → IsTest t
+        → IsTest u → IsConfigurationWithinLimits c → IsConfigurationWithinLimits d → RunFitsTest t s → RunFitsTest u other
         → report_in false t kind c s ≡ report_in false u other_kind d other → t.name ≡ u.name }
-    ensures line_protocol { (t u : Litmus) (kind other_kind : ProtocolKind) (c d : Configuration) (s other : Shown) → IsTest t
-        → IsTest u → IsConfigurationWithinLimits c → IsConfigurationWithinLimits d → FitsTest t s → FitsTest u other
+    ensures line_protocol { (t u : Litmus) (kind other_kind : ProtocolKind) (c d : Configuration) (s other : ShownRun) → IsTest t
+        → IsTest u → IsConfigurationWithinLimits c → IsConfigurationWithinLimits d → RunFitsTest t s → RunFitsTest u other
         → report_in false t kind c s ≡ report_in false u other_kind d other → kind ≡ other_kind }
-    ensures line_configuration { (t u : Litmus) (kind other_kind : ProtocolKind) (c d : Configuration) (s other : Shown) → IsTest t
-        → IsTest u → IsConfigurationWithinLimits c → IsConfigurationWithinLimits d → FitsTest t s → FitsTest u other
+    ensures line_configuration { (t u : Litmus) (kind other_kind : ProtocolKind) (c d : Configuration) (s other : ShownRun) → IsTest t
+        → IsTest u → IsConfigurationWithinLimits c → IsConfigurationWithinLimits d → RunFitsTest t s → RunFitsTest u other
         → report_in false t kind c s ≡ report_in false u other_kind d other → c ≡ d }
-    ensures json_test { (t u : Litmus) (kind other_kind : ProtocolKind) (c d : Configuration) (s other : Shown) → IsTest t
-        → IsTest u → IsConfigurationWithinLimits c → IsConfigurationWithinLimits d → FitsTest t s → FitsTest u other
+    ensures json_test { (t u : Litmus) (kind other_kind : ProtocolKind) (c d : Configuration) (s other : ShownRun) → IsTest t
+        → IsTest u → IsConfigurationWithinLimits c → IsConfigurationWithinLimits d → RunFitsTest t s → RunFitsTest u other
         → report_in true t kind c s ≡ report_in true u other_kind d other → t.name ≡ u.name }
-    ensures json_protocol { (t u : Litmus) (kind other_kind : ProtocolKind) (c d : Configuration) (s other : Shown) → IsTest t
-        → IsTest u → IsConfigurationWithinLimits c → IsConfigurationWithinLimits d → FitsTest t s → FitsTest u other
+    ensures json_protocol { (t u : Litmus) (kind other_kind : ProtocolKind) (c d : Configuration) (s other : ShownRun) → IsTest t
+        → IsTest u → IsConfigurationWithinLimits c → IsConfigurationWithinLimits d → RunFitsTest t s → RunFitsTest u other
         → report_in true t kind c s ≡ report_in true u other_kind d other → kind ≡ other_kind }
-    ensures json_configuration { (t u : Litmus) (kind other_kind : ProtocolKind) (c d : Configuration) (s other : Shown) → IsTest t
-        → IsTest u → IsConfigurationWithinLimits c → IsConfigurationWithinLimits d → FitsTest t s → FitsTest u other
+    ensures json_configuration { (t u : Litmus) (kind other_kind : ProtocolKind) (c d : Configuration) (s other : ShownRun) → IsTest t
+        → IsTest u → IsConfigurationWithinLimits c → IsConfigurationWithinLimits d → RunFitsTest t s → RunFitsTest u other
         → report_in true t kind c s ≡ report_in true u other_kind d other → c ≡ d }
 {
     reports_tell_their_machines();

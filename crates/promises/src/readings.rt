@@ -8,7 +8,7 @@ ghost use Rattle.litmus_reader.specs.Refusals.{IsFault};
 ghost use Rattle.litmus_reader.specs.Spelling.{SpellsTest, IsRefused};
 ghost use Rattle.litmus_cells.specs.declared.fault.Fault.{Fault as FaultFound};
 ghost use Rattle.litmus_reader.specs.declared.fault.TextFault.{TextFault as TextRefused};
-ghost use Rattle.order_builder.specs.Reading.{entries_of, Gives};
+ghost use Rattle.order_builder.specs.Reading.{entries_of_order, Gives};
 ghost use Rattle.order_builder.specs.Spelling.{SpellsOrder, HasFault};
 ghost use Rattle.order_builder.specs.declared.fault.OrderFault.{OrderFault as OrderRefused};
 ghost use Rattle.scheduler.specs.Grammar.{SpellsChoices};
@@ -74,9 +74,9 @@ pub fn choices_are_drawn(
 /// An order is read exactly where a text spells it, and refused exactly for the fault that the text has.
 pub fn an_order_is_read(alloc: Global, test: &Test, text: &[u8]) -> Result<Execution, OrderFault>
     ensures found { IfOk result (λ execution. SpellsOrder test.now text.now execution.order.items) }
-    ensures only { (order : List Entry) → SpellsOrder test.now text.now order → Gives entries_of result (Ok order) }
+    ensures only { (order : List Entry) → SpellsOrder test.now text.now order → Gives entries_of_order result (Ok order) }
     ensures fault { IfErr result (λ fault. fault ≢ OrderFault.NoMemory → HasFault test.now text.now fault) }
-    ensures only_fault { (fault : OrderRefused) → HasFault test.now text.now fault → Gives entries_of result (Err fault) }
+    ensures only_fault { (fault : OrderRefused) → HasFault test.now text.now fault → Gives entries_of_order result (Err fault) }
 {
     read_order(alloc, test, text)
 }

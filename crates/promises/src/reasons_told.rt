@@ -13,7 +13,7 @@ ghost use Rattle.tso_laws.specs.EndedRuns.{End};
 ghost use Rattle.relational_model.specs.Candidates.{Candidate};
 ghost use Rattle.relational_model.specs.CandidatesOfOrders.{IsCandidateOf};
 ghost use Rattle.refutation_laws.specs.Models.{IsExecutionOf, depth_of};
-ghost use Rattle.refutation_laws.specs.Refutations.{Node, asked, refutes};
+ghost use Rattle.refutation_laws.specs.Refutations.{Node, asked_claim, refutes};
 ghost use Rattle.refutation_laws.specs.declared.model.Model.{Model};
 ghost use Rattle.scheduler.specs.Grammar.{SpellsChoices};
 ghost use Rattle.scheduler.specs.Printed.{printed_choices};
@@ -37,7 +37,7 @@ use tso_cli::headline_laws::headlines_leave_one_text;
 /// A printed refutation is that of a tree that refutes.
 pub fn a_printed_refutation_refutes()
     ensures { (t : Litmus) (model : Model) (json : Bool) (out : List ℕ) → PrintsRefutation t model json out
-        → (nodes : List Node) × (out ≡ refutation_in json model t nodes) × (refutes model t (asked t.condition) nodes ≡ true) }
+        → (nodes : List Node) × (out ≡ refutation_in json model t nodes) × (refutes model t (asked_claim t.condition) nodes ≡ true) }
 {}
 
 /// Where a refutation is printed, what is asked is so at the end of no execution of the model, and of no run.

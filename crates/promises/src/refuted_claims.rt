@@ -8,8 +8,8 @@ ghost use Rattle.refutation_laws.specs.Agreement.{Agrees};
 ghost use Rattle.refutation_laws.specs.Edges.{is_edge, relates};
 ghost use Rattle.refutation_laws.specs.Known.{Known, bare};
 ghost use Rattle.refutation_laws.specs.Models.{IsAllowedBy, IsExecutionOf, depth_of};
-ghost use Rattle.refutation_laws.specs.Refutations.{Node, asked, refutes};
-ghost use Rattle.refutation_laws.specs.Shown.{first_of, value_known};
+ghost use Rattle.refutation_laws.specs.Refutations.{Node, asked_claim, refutes};
+ghost use Rattle.refutation_laws.specs.Shown.{first_that_relates, value_known};
 ghost use Rattle.refutation_laws.specs.Values.{can_be, register_at_end, words_at_end};
 ghost use Rattle.refutation_laws.specs.declared.model.Model.{Model};
 ghost use Rattle.refutation_laws.specs.declared.model.Model.TheVariants.{Sequential, Tso};
@@ -69,18 +69,18 @@ pub fn no_run_meets_a_refuted_claim()
 /// A refutation of a test's question says that no execution makes the claim of `exists` or `~exists` true, that each makes that of
 /// `forall` true, and without a condition that there is none.
 pub fn a_refuted_question_is_answered()
-    ensures names { (t : Litmus) → IsTest t → NamesExist (length t.programs) (length t.words) (asked t.condition) }
+    ensures names { (t : Litmus) → IsTest t → NamesExist (length t.programs) (length t.words) (asked_claim t.condition) }
     ensures exists { (model : Model) (t : Litmus) (claim : Claim) (nodes : List Node) (order : List Entry)
-        → IsTest t → t.condition ≡ Some (record { quantifier = Exists; claim = claim }) → refutes model t (asked t.condition) nodes ≡ true
+        → IsTest t → t.condition ≡ Some (record { quantifier = Exists; claim = claim }) → refutes model t (asked_claim t.condition) nodes ≡ true
         → IsExecutionOf model t order → truth_of (final_registers t order) (final_words t order) claim ≡ false }
     ensures not_exists { (model : Model) (t : Litmus) (claim : Claim) (nodes : List Node) (order : List Entry)
-        → IsTest t → t.condition ≡ Some (record { quantifier = NotExists; claim = claim }) → refutes model t (asked t.condition) nodes ≡ true
+        → IsTest t → t.condition ≡ Some (record { quantifier = NotExists; claim = claim }) → refutes model t (asked_claim t.condition) nodes ≡ true
         → IsExecutionOf model t order → truth_of (final_registers t order) (final_words t order) claim ≡ false }
     ensures forall { (model : Model) (t : Litmus) (claim : Claim) (nodes : List Node) (order : List Entry)
-        → IsTest t → t.condition ≡ Some (record { quantifier = Forall; claim = claim }) → refutes model t (asked t.condition) nodes ≡ true
+        → IsTest t → t.condition ≡ Some (record { quantifier = Forall; claim = claim }) → refutes model t (asked_claim t.condition) nodes ≡ true
         → IsExecutionOf model t order → truth_of (final_registers t order) (final_words t order) claim ≡ true }
     ensures unasked { (model : Model) (t : Litmus) (nodes : List Node) (order : List Entry)
-        → IsTest t → t.condition ≡ None → refutes model t (asked t.condition) nodes ≡ true → IsExecutionOf model t order → ⊥ }
+        → IsTest t → t.condition ≡ None → refutes model t (asked_claim t.condition) nodes ≡ true → IsExecutionOf model t order → ⊥ }
 {
     refuted_questions_are_answered();
 }
@@ -119,9 +119,9 @@ pub fn what_a_branch_knows_is_so()
 /// An edge has a relation of its own, and a relation that is found makes an edge.
 pub fn an_edge_has_its_relation()
     ensures edge { (t : Litmus) (k : Known) (relations : List Relation) (x y : Entry)
-        → is_edge t k relations x y ≡ true → (r : Relation) × (first_of t k relations x y ≡ Some r) }
+        → is_edge t k relations x y ≡ true → (r : Relation) × (first_that_relates t k relations x y ≡ Some r) }
     ensures holds { (t : Litmus) (k : Known) (relations : List Relation) (x y : Entry) (r : Relation)
-        → first_of t k relations x y ≡ Some r → (relates t k r x y ≡ true) × (is_edge t k relations x y ≡ true) }
+        → first_that_relates t k relations x y ≡ Some r → (relates t k r x y ≡ true) × (is_edge t k relations x y ≡ true) }
 {
     edges_have_relations();
 }

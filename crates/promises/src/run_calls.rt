@@ -14,7 +14,7 @@ ghost use Rattle.simulator.specs.Simulation.{FitsEnding, HasCounts, IsEndingOf};
 ghost use Rattle.trace_json.specs.TracedRun.{most_steps};
 ghost use Rattle.tso_model.specs.Runs.{CoresExist};
 ghost use Rattle.tso_model.specs.Together.{put_together};
-ghost use Rattle.tso_report.specs.Shown.{IsOf, shown};
+ghost use Rattle.tso_report.specs.Shown.{IsRunOf, shown_run};
 ghost use Rattle.tso_report.specs.Tally.{runs_in};
 ghost use Rattle.tso_report.specs.inner.Tally.{with_run};
 
@@ -79,7 +79,7 @@ pub fn a_table_is_that_of_its_protocol(
     kind: ProtocolKind,
 ) -> Result<String, NoMemory>
     ensures table { IfOk result (λ text. string_bytes text ≡ printed_table (protocol_name kind) (table_of kind)) }
-    ensures shown { IfOk result (λ text. string_bytes text ≡ by_kind kind
+    ensures shown_run { IfOk result (λ text. string_bytes text ≡ by_kind kind
         (printed_table (⟦<Msi as Protocol>⟧.called record {}) (⟦<Msi as Protocol>⟧.table record {}))
         (printed_table (⟦<Mesi as Protocol>⟧.called record {}) (⟦<Mesi as Protocol>⟧.table record {}))
         (printed_table (⟦<Moesi as Protocol>⟧.called record {}) (⟦<Moesi as Protocol>⟧.table record {}))
@@ -96,7 +96,7 @@ pub fn reported_values_are_words(
     config: Config,
     run: &Run,
 ) -> Result<String, NoMemory>
-    requires { IsOf test.now (shown run.now) }
+    requires { IsRunOf test.now (shown_run run.now) }
     ensures words { OnOk result (All HasWord run.now.left.execution.order.items) }
 {
     report_text(alloc, test, protocol, config, run)
@@ -104,11 +104,11 @@ pub fn reported_values_are_words(
 
 /// A run is counted once, or nothing has changed.
 pub fn a_run_is_counted(tally: &mut Tally<'_>, run: &Run) -> Result<(), NoMemory>
-    requires registers { length (shown run.now).registers ≡ length tally.old.test.programs }
-    requires memory { length (shown run.now).memory ≡ length tally.old.test.locations }
-    requires verdict { is_some (shown run.now).holds ≡ is_some tally.old.test.condition }
+    requires registers { length (shown_run run.now).registers ≡ length tally.old.test.programs }
+    requires memory { length (shown_run run.now).memory ≡ length tally.old.test.locations }
+    requires verdict { is_some (shown_run run.now).holds ≡ is_some tally.old.test.condition }
     requires room { runs_in tally.old.counts < 2 ^ 32 - 1 }
-    ensures counts { OnOk result (tally.new.counts ≡ with_run tally.old.test (shown run.now) tally.old.counts) }
+    ensures counts { OnOk result (tally.new.counts ≡ with_run tally.old.test (shown_run run.now) tally.old.counts) }
     ensures test { tally.new.test ≡ tally.old.test }
     ensures refused { OnErr result (tally.new ≡ tally.old) }
 {

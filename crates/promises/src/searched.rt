@@ -5,13 +5,13 @@ ghost use Rattle.std.specs.Prelude.{◌≡◌, ◌<◌, ◌≤◌, ℕ, All, Boo
 ghost use Rattle.tso_model.specs.Condition.{Condition};
 ghost use Rattle.tso_model.specs.declared.choice.Bus.TheVariants.{Atomic};
 ghost use Rattle.tso_model.specs.declared.register.Reg.{Reg};
-ghost use Rattle.outcome_laws.specs.Outcomes.{IsAllowed};
+ghost use Rattle.outcome_laws.specs.Outcomes.{IsAllowedAtDepth};
 ghost use Rattle.explorer.specs.FinalStates.{AreDistinct, AreReached, AreWhat, HaveEveryEnd, HasMoreStates};
 ghost use Rattle.explorer.specs.declared.search.Extent.{Extent};
 ghost use Rattle.protocol_tables.specs.declared.kind.ProtocolKind.{ProtocolKind};
 ghost use Rattle.machine_core.specs.Configuration.{Configuration};
-ghost use Rattle.tso_report.specs.Tally.{names_register, register_of};
-ghost use Rattle.tso_report.specs.inner.Tally.{IsKnown};
+ghost use Rattle.tso_report.specs.Tally.{claim_names_register, named_register};
+ghost use Rattle.tso_report.specs.inner.Tally.{NameExists};
 ghost use Rattle.shown_values.specs.Shown as shown;
 ghost use Rattle.shown_values.specs.Shown.{is_shown};
 ghost use Rattle.outcome_report.specs.Hidden.{IsHidden};
@@ -27,10 +27,11 @@ ghost use Rattle.promises.specs.Searched.{LinesAreRunAgain};
 use explorer::{Exploration, ExploreFault, Met, Watcher, explore, explore_watched};
 use outcome_laws::ends_are_what_tso_allows;
 use outcome_report::hidden_registers;
-use shown_values::{Show, named_in};
+use shown_values::{Show, names_shown};
 use std::alloc::Global;
+use tso_cli::answers::answers_meet_the_headline;
 use tso_cli::headline_laws::headlines_leave_one_text;
-use tso_cli::laws::{answers_meet_the_headline, searches_reach_their_states};
+use tso_cli::round_trips::searches_reach_their_states;
 use tso_model::{NoMemory, Test};
 use tso_report::named::Named;
 
@@ -43,7 +44,7 @@ pub fn a_search_finds_what_needs_no_more(
     limit: usize,
     hidden: &[[bool; 6]],
 ) -> Result<Exploration, ExploreFault>
-    ensures { IfOk result (λ x. 0 < depth → AreWhat (IsAllowed test.now depth) hidden.now x.final_states.items) }
+    ensures { IfOk result (λ x. 0 < depth → AreWhat (IsAllowedAtDepth test.now depth) hidden.now x.final_states.items) }
 {
     ends_are_what_tso_allows();
     test.know_limits();
@@ -76,7 +77,7 @@ pub fn what_nobody_looks_at_is_hidden(
     test: &Test,
 ) -> Result<Vec<[bool; 6]>, NoMemory>
     ensures unnamed { IfOk result (λ hidden. (c : Condition) (core : ℕ) (reg : Reg) → test.now.condition ≡ Some c
-        → core < length test.now.programs → names_register c.claim core reg ≡ false → IsHidden hidden.items core reg) }
+        → core < length test.now.programs → claim_names_register c.claim core reg ≡ false → IsHidden hidden.items core reg) }
     ensures without { IfOk result (λ hidden. (core : ℕ) (reg : Reg) → test.now.condition ≡ None
         → core < length test.now.programs → IsHidden hidden.items core reg) }
 {
@@ -89,10 +90,10 @@ pub fn what_is_shown_is_of_the_test(
     test: &Test,
     show: Show,
 ) -> Result<Vec<Named>, NoMemory>
-    ensures list { IfOk result (λ list. list.items ≡ shown.named_in show test.now) }
-    ensures known { IfOk result (λ list. All (IsKnown (length test.now.programs) (length test.now.locations)) list.items) }
+    ensures list { IfOk result (λ list. list.items ≡ shown.names_shown show test.now) }
+    ensures known { IfOk result (λ list. All (NameExists (length test.now.programs) (length test.now.locations)) list.items) }
 {
-    named_in(alloc, test, show)
+    names_shown(alloc, test, show)
 }
 
 /// However much is shown, a register that isn't shown is hidden.
@@ -102,7 +103,7 @@ pub fn what_is_not_shown_is_hidden(
     show: Show,
 ) -> Result<Vec<[bool; 6]>, NoMemory>
     ensures { IfOk result (λ hidden. (core : ℕ) (reg : Reg) → core < length test.now.programs
-        → is_shown show test.now (register_of core reg) ≡ false → IsHidden hidden.items core reg) }
+        → is_shown show test.now (named_register core reg) ≡ false → IsHidden hidden.items core reg) }
 {
     hidden_registers(alloc, test, show)
 }

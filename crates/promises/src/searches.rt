@@ -9,14 +9,14 @@ ghost use Rattle.outcome_laws.specs.Outcomes.{IsAllowedByTso, IsAllowedSequentia
 ghost use Rattle.tso_model.specs.FlatMachine.{State};
 ghost use Rattle.tso_model.specs.declared.choice.Choice.{Choice};
 ghost use Rattle.eager_laws.specs.Dead as dead;
-ghost use Rattle.explorer.specs.Settled.{LeadsTo, LeadsBy};
+ghost use Rattle.explorer.specs.Settled.{LeadsToForgotten, LeadsBy};
 ghost use Rattle.explorer.specs.FinalStates.{AreDistinct, AreWhatTsoAllows, AreWhatSequentialConsistencyAllows, AreAmong, Have};
 ghost use Rattle.outcome_report.specs.Hidden.{AreNotShown};
 ghost use Rattle.explorer.specs.declared.final_states.FinalState.{FinalState};
 ghost use Rattle.protocol_tables.specs.declared.kind.ProtocolKind.{ProtocolKind};
 ghost use Rattle.machine_core.specs.Configuration.{Configuration};
 ghost use Rattle.outcome_report.specs.Outcomes.{Outcome, ArePrinted, shown_values};
-ghost use Rattle.outcome_report.specs.Laws.{AreAlike};
+ghost use Rattle.outcome_report.specs.Laws.{OutcomesAreAlike};
 ghost use Rattle.command_line.specs.Limits.{IsWithinLimits};
 ghost use Rattle.command_line.specs.Search.{Search};
 ghost use Rattle.command_line.specs.declared.settings.Settings.{Settings};
@@ -25,14 +25,15 @@ ghost use Rattle.tso_cli.specs.OneText.{ShowTheSameStates};
 ghost use Rattle.commands.specs.Dividing.{parts_of, IsJoinable};
 ghost use Rattle.tso_cli.specs.Revisited.{AreRevisited};
 ghost use Rattle.commands.specs.declared.answer.Status.{Status};
-ghost use Rattle.shown_values.specs.Shown.{named_in};
+ghost use Rattle.shown_values.specs.Shown.{names_shown};
 ghost use Rattle.shown_values.specs.declared.show.Show.{Show};
 
 use eager_laws::dead_registers_change_nothing;
 use explorer::{Exploration, ExploreFault, explore};
-use outcome_report::laws::{outcomes_are_one_but_for_choices, truth_is_shown};
+use outcome_report::alike_outcomes::{outcomes_are_one_but_for_choices, truth_is_shown};
 use std::alloc::Global;
-use tso_cli::laws::{inputs_have_one_answer, searches_reach_their_states};
+use tso_cli::answers::inputs_have_one_answer;
+use tso_cli::round_trips::searches_reach_their_states;
 use tso_model::Test;
 
 /// With buffers of 32 stores a search finds what TSO allows, without buffers what sequential consistency allows, each once, but
@@ -66,7 +67,7 @@ pub fn where_no_register_is_hidden_they_are_exactly_those()
 /// Choices that lead to a state which a search keeps lead to one that differs from it in dead registers alone.
 pub fn what_is_kept_is_reached_but_for_dead_registers()
     ensures { (depth : ℕ) (t : Litmus) (hidden : List (List Bool)) (state kept : State) (choices : List Choice)
-        → LeadsTo depth t hidden state choices kept → (last : State) × LeadsBy depth t state choices last × dead.AreAlike t hidden kept last }
+        → LeadsToForgotten depth t hidden state choices kept → (last : State) × LeadsBy depth t state choices last × dead.AreAlike t hidden kept last }
 {
     dead_registers_change_nothing();
 }
@@ -74,7 +75,7 @@ pub fn what_is_kept_is_reached_but_for_dead_registers()
 /// Of two states that look alike the condition's proposition is true in both, or in none.
 pub fn states_that_look_alike_have_one_truth()
     ensures { (show : Show) (t : Litmus) (condition : Condition) (o p : Outcome) → IsTest t → t.condition ≡ Some condition
-        → shown_values (named_in show t) o ≡ shown_values (named_in show t) p
+        → shown_values (names_shown show t) o ≡ shown_values (names_shown show t) p
         → truth_of o.registers o.memory condition.claim ≡ truth_of p.registers p.memory condition.claim }
 {
     truth_is_shown();
@@ -83,10 +84,10 @@ pub fn states_that_look_alike_have_one_truth()
 /// Of final states that are the same but for registers that no value shows the same is printed, but for the choices.
 pub fn the_same_states_are_printed_alike()
     ensures { (show : Show) (t : Litmus) (hidden : List (List Bool)) (finals others : List FinalState) (outcomes again : List Outcome)
-        → IsTest t → AreNotShown (named_in show t) hidden
+        → IsTest t → AreNotShown (names_shown show t) hidden
         → ((registers : List (List ℕ)) (memory : List ℕ) → Have hidden finals registers memory ↔ Have hidden others registers memory)
-        → ArePrinted (named_in show t) finals outcomes → ArePrinted (named_in show t) others again
-        → AreAlike t (named_in show t) outcomes again }
+        → ArePrinted (names_shown show t) finals outcomes → ArePrinted (names_shown show t) others again
+        → OutcomesAreAlike t (names_shown show t) outcomes again }
 {
     outcomes_are_one_but_for_choices();
 }

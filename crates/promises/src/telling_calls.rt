@@ -2,9 +2,9 @@
 
 ghost use Rattle.std.specs.Prelude.{◌<◌, ◌≡◌, IfOk, OnOk, length};
 ghost use Rattle.machine_core.specs.Running.{AnswerFits};
-ghost use Rattle.trace_report.specs.Shown.{shown};
+ghost use Rattle.trace_report.specs.Shown.{shown_step};
 ghost use Rattle.trace_report.specs.Stalls.{stalled_step};
-ghost use Rattle.trace_report.specs.Told.{IsTold};
+ghost use Rattle.trace_report.specs.Told.{IsTracedInStates};
 ghost use Rattle.tso_model.specs.FlatMachine.{chosen};
 
 use machine_core::{Choice, Config, Machine};
@@ -24,9 +24,9 @@ pub fn a_told_stall_tells_nothing_else<P: Protocol>(
     choice: Choice,
 ) -> Result<Step, NoMemory>
     requires core { chosen choice < length test.now.programs }
-    requires told { IsTold test.now config machine.old states.old.items }
+    requires told { IsTracedInStates test.now config machine.old states.old.items }
     ensures stall { (why : Stall)
-        → IfOk result (λ step. step.outcome ≡ Outcome.Stalled why → shown step ≡ stalled_step choice why) }
+        → IfOk result (λ step. step.outcome ≡ Outcome.Stalled why → shown_step step ≡ stalled_step choice why) }
     ensures answer { OnOk result (AnswerFits machine.old choice) }
 {
     tell(alloc, machine, states, test, config, choice)

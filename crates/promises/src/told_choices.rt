@@ -6,7 +6,7 @@ ghost use Rattle.scheduler.specs.Refusals.{IsRefusedAsChoices};
 ghost use Rattle.scheduler.specs.declared.fault.ChoiceFault.{ChoiceFault};
 ghost use Rattle.tso_model.specs.declared.choice.Choice.{Choice};
 
-use scheduler::laws::texts_are_decided;
+use scheduler::choice_texts::texts_are_decided;
 
 /// Each text spells one list of choices or gets one refusal, and never both.
 pub fn each_text_of_choices_is_decided()

@@ -16,20 +16,20 @@ ghost use Rattle.tso_model.specs.declared.choice.Choice.{Choice};
 ghost use Rattle.tso_model.specs.declared.choice.Outcome.TheVariants.{Moved, Stalled};
 ghost use Rattle.tso_model.specs.declared.choice.Stall.{Stall};
 ghost use Rattle.trace_report.specs.Lines.{stall_name};
-ghost use Rattle.trace_report.specs.StepLaws.{GaveWay, IsWordOfStallOn, KeepsWays, after_choices, with_buffer, with_moved, with_seen};
-ghost use Rattle.trace_report.specs.Steps.{step_of};
+ghost use Rattle.trace_report.specs.StepLaws.{GaveWay, IsWordOfStallOn, KeepsWays, after_choices, pending_told, with_moved, with_seen};
+ghost use Rattle.trace_report.specs.Steps.{trace_step_of};
 ghost use Rattle.trace_report.specs.TraceLaws.{KeepsNoCopyInI};
 
-use trace_report::laws::steps_are_told;
+use trace_report::told_runs::steps_are_told;
 
 /// The register and the pending stores that a step tells are those of its core, on the atomic bus of the flat machine's.
 pub fn a_step_tells_its_core()
-    ensures moved { (m : Running) (choice : Choice) → (step_of m choice).outcome ≡ Moved
+    ensures moved { (m : Running) (choice : Choice) → (trace_step_of m choice).outcome ≡ Moved
         → (core_of (machine_after m choice).state.flat (chosen choice)).registers
-        ≡ with_moved (step_of m choice).moved (core_of m.state.flat (chosen choice)).registers }
-    ensures unmoved { (m : Running) (choice : Choice) → (step_of m choice).outcome ≢ Moved → (step_of m choice).moved ≡ None }
+        ≡ with_moved (trace_step_of m choice).moved (core_of m.state.flat (chosen choice)).registers }
+    ensures unmoved { (m : Running) (choice : Choice) → (trace_step_of m choice).outcome ≢ Moved → (trace_step_of m choice).moved ≡ None }
     ensures pending { (m : Running) (choice : Choice) → (core_of (machine_after m choice).state.flat (chosen choice)).pending
-        ≡ with_buffer (step_of m choice).buffer (core_of m.state.flat (chosen choice)).pending }
+        ≡ pending_told (trace_step_of m choice).buffer (core_of m.state.flat (chosen choice)).pending }
     ensures flat { (m : Running) (choice : Choice) → m.bus ≡ Atomic
         → (machine_after m choice).state.flat ≡ after_choice m.test m.depth m.state.flat choice }
 {
@@ -38,7 +38,7 @@ pub fn a_step_tells_its_core()
 
 /// The word of a stall is its reason.
 pub fn a_stall_tells_its_reason()
-    ensures reason { (m : Running) (choice : Choice) (why : Stall) → (step_of m choice).outcome ≡ Stalled why
+    ensures reason { (m : Running) (choice : Choice) (why : Stall) → (trace_step_of m choice).outcome ≡ Stalled why
         → IsWordOfStallOn m choice (stall_name why) }
 {
     steps_are_told();
@@ -50,12 +50,12 @@ pub fn a_step_tells_the_caches()
         → core ≢ chosen choice
         → sets_of (machine_after (after_choices (new_machine table c t) choices) choice).statistics.caches.contents core
         ≡ with_seen (table_in (after_choices (new_machine table c t) choices))
-        (step_of (after_choices (new_machine table c t) choices) choice).request
+        (trace_step_of (after_choices (new_machine table c t) choices) choice).request
         (sets_of (after_choices (new_machine table c t) choices).statistics.caches.contents core) }
     ensures gave_way { (table : Table) (c : Configuration) (t : Litmus) (choices : List Choice) (choice : Choice) (line : ℕ)
         → IsTest t → 0 < c.shape.words → KeepsNoCopyInI table → chosen choice < length t.programs
         → KeepsWays (after_choices (new_machine table c t) choices) (chosen choice)
-        → (step_of (after_choices (new_machine table c t) choices) choice).wrote_back ≡ Some line
+        → (trace_step_of (after_choices (new_machine table c t) choices) choice).wrote_back ≡ Some line
         → GaveWay (after_choices (new_machine table c t) choices) choice line }
 {
     steps_are_told();

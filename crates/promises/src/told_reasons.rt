@@ -2,13 +2,13 @@
 
 ghost use Rattle.std.specs.Prelude.{◌≡◌, ◌<◌, ℕ, All, List, map, true};
 ghost use Rattle.printed_laws.specs.ReadBack.{tree_of};
-ghost use Rattle.printed_laws.specs.Reasons.{StepFits, depth_in, told_by_value, told_edge, told_event, told_step};
-ghost use Rattle.reason_report.specs.ReasonJson.{never_json, never_line};
+ghost use Rattle.printed_laws.specs.Reasons.{ReasonStepFits, depth_in, told_by_value, told_edge, told_event, told_reason_step};
+ghost use Rattle.reason_report.specs.ReasonJson.{never_json, never_json_line};
 ghost use Rattle.reason_report.specs.ReasonText.{never_lines, never_text};
-ghost use Rattle.reason_report.specs.Steps.{Step, leaves_in, steps_of};
+ghost use Rattle.reason_report.specs.Steps.{ReasonStep, leaves_in, steps_of};
 ghost use Rattle.reason_report.specs.declared.steps.Edge.{Edge};
 ghost use Rattle.reason_report.specs.declared.steps.Event.{Event};
-ghost use Rattle.refutation_laws.specs.Refutations.{Node, asked, refutes};
+ghost use Rattle.refutation_laws.specs.Refutations.{Node, asked_claim, refutes};
 ghost use Rattle.refutation_laws.specs.declared.model.Model.{Model};
 ghost use Rattle.tso_model.specs.Condition.{Claim};
 ghost use Rattle.tso_model.specs.Litmus.{IsTest, Litmus};
@@ -21,24 +21,24 @@ use printed_laws::{
 /// Lines that are the same tell the same steps, and so they do of trees that refute, whose steps fit the test; so do JSON values, but
 /// not the places of a false proposition. The lines also tell the test's name and the model.
 pub fn reasons_are_told_apart()
-    ensures steps { (model : Model) (t : Litmus) (steps others : List Step)
-        → IsTest t → All (StepFits model t) steps → All (StepFits model t) others
-        → never_lines model t steps ≡ never_lines model t others → map told_step steps ≡ map told_step others }
+    ensures steps { (model : Model) (t : Litmus) (steps others : List ReasonStep)
+        → IsTest t → All (ReasonStepFits model t) steps → All (ReasonStepFits model t) others
+        → never_lines model t steps ≡ never_lines model t others → map told_reason_step steps ≡ map told_reason_step others }
     ensures trees { (model : Model) (t : Litmus) (nodes others : List Node)
-        → IsTest t → refutes model t (asked t.condition) nodes ≡ true → refutes model t (asked t.condition) others ≡ true
+        → IsTest t → refutes model t (asked_claim t.condition) nodes ≡ true → refutes model t (asked_claim t.condition) others ≡ true
         → never_text model t nodes ≡ never_text model t others
-        → map told_step (steps_of model t (asked t.condition) nodes) ≡ map told_step (steps_of model t (asked t.condition) others) }
+        → map told_reason_step (steps_of model t (asked_claim t.condition) nodes) ≡ map told_reason_step (steps_of model t (asked_claim t.condition) others) }
     ensures fit { (model : Model) (t : Litmus) (nodes : List Node)
-        → IsTest t → refutes model t (asked t.condition) nodes ≡ true
-        → All (StepFits model t) (steps_of model t (asked t.condition) nodes) }
-    ensures values { (model : Model) (t : Litmus) (steps others : List Step)
-        → IsTest t → All (StepFits model t) steps → All (StepFits model t) others
+        → IsTest t → refutes model t (asked_claim t.condition) nodes ≡ true
+        → All (ReasonStepFits model t) (steps_of model t (asked_claim t.condition) nodes) }
+    ensures values { (model : Model) (t : Litmus) (steps others : List ReasonStep)
+        → IsTest t → All (ReasonStepFits model t) steps → All (ReasonStepFits model t) others
         → leaves_in steps < 18446744073709551616 → leaves_in others < 18446744073709551616
         → All (λ s. depth_in s < 18446744073709551616) steps → All (λ s. depth_in s < 18446744073709551616) others
-        → never_line model t steps ≡ never_line model t others → map told_by_value steps ≡ map told_by_value others }
-    ensures tests { (model other : Model) (t u : Litmus) (steps others : List Step)
+        → never_json_line model t steps ≡ never_json_line model t others → map told_by_value steps ≡ map told_by_value others }
+    ensures tests { (model other : Model) (t u : Litmus) (steps others : List ReasonStep)
         → IsTest t → IsTest u → never_lines model t steps ≡ never_lines other u others → t.name ≡ u.name }
-    ensures models { (model other : Model) (t u : Litmus) (steps others : List Step)
+    ensures models { (model other : Model) (t u : Litmus) (steps others : List ReasonStep)
         → IsTest t → IsTest u → never_lines model t steps ≡ never_lines other u others → model ≡ other }
 {
     reasons_tell_their_steps();
@@ -52,23 +52,23 @@ pub fn reasons_are_told_apart()
 pub fn a_tree_is_read_back()
     ensures steps { (model : Model) (t : Litmus) (claim : Claim) (nodes : List Node) → refutes model t claim nodes ≡ true
         → refutes model t claim (tree_of t (steps_of model t claim nodes)) ≡ true }
-    ensures lines { (model : Model) (t : Litmus) (steps others : List Step)
-        → IsTest t → All (StepFits model t) steps → All (StepFits model t) others
+    ensures lines { (model : Model) (t : Litmus) (steps others : List ReasonStep)
+        → IsTest t → All (ReasonStepFits model t) steps → All (ReasonStepFits model t) others
         → never_lines model t steps ≡ never_lines model t others → tree_of t steps ≡ tree_of t others }
-    ensures printed { (model : Model) (t : Litmus) (nodes : List Node) (steps : List Step)
-        → IsTest t → refutes model t (asked t.condition) nodes ≡ true → All (StepFits model t) steps
-        → never_lines model t steps ≡ never_text model t nodes → refutes model t (asked t.condition) (tree_of t steps) ≡ true }
-    ensures values { (model : Model) (t : Litmus) (steps others : List Step)
-        → IsTest t → All (StepFits model t) steps → All (StepFits model t) others
+    ensures printed { (model : Model) (t : Litmus) (nodes : List Node) (steps : List ReasonStep)
+        → IsTest t → refutes model t (asked_claim t.condition) nodes ≡ true → All (ReasonStepFits model t) steps
+        → never_lines model t steps ≡ never_text model t nodes → refutes model t (asked_claim t.condition) (tree_of t steps) ≡ true }
+    ensures values { (model : Model) (t : Litmus) (steps others : List ReasonStep)
+        → IsTest t → All (ReasonStepFits model t) steps → All (ReasonStepFits model t) others
         → leaves_in steps < 18446744073709551616 → leaves_in others < 18446744073709551616
         → All (λ s. depth_in s < 18446744073709551616) steps → All (λ s. depth_in s < 18446744073709551616) others
-        → never_line model t steps ≡ never_line model t others → tree_of t steps ≡ tree_of t others }
-    ensures printed_values { (model : Model) (t : Litmus) (nodes : List Node) (steps : List Step)
-        → IsTest t → refutes model t (asked t.condition) nodes ≡ true → All (StepFits model t) steps
+        → never_json_line model t steps ≡ never_json_line model t others → tree_of t steps ≡ tree_of t others }
+    ensures printed_values { (model : Model) (t : Litmus) (nodes : List Node) (steps : List ReasonStep)
+        → IsTest t → refutes model t (asked_claim t.condition) nodes ≡ true → All (ReasonStepFits model t) steps
         → leaves_in steps < 18446744073709551616 → All (λ s. depth_in s < 18446744073709551616) steps
-        → leaves_in (steps_of model t (asked t.condition) nodes) < 18446744073709551616
-        → All (λ s. depth_in s < 18446744073709551616) (steps_of model t (asked t.condition) nodes)
-        → never_line model t steps ≡ never_json model t nodes → refutes model t (asked t.condition) (tree_of t steps) ≡ true }
+        → leaves_in (steps_of model t (asked_claim t.condition) nodes) < 18446744073709551616
+        → All (λ s. depth_in s < 18446744073709551616) (steps_of model t (asked_claim t.condition) nodes)
+        → never_json_line model t steps ≡ never_json model t nodes → refutes model t (asked_claim t.condition) (tree_of t steps) ≡ true }
 {
     printed_trees_refute();
 }

@@ -6,20 +6,20 @@ ghost use Rattle.protocol_tables.specs.Tables.{table_of};
 ghost use Rattle.protocol_tables.specs.declared.kind.ProtocolKind.{ProtocolKind};
 ghost use Rattle.protocol_tables.specs.declared.requests.Request.{Request};
 ghost use Rattle.protocol_tables.specs.declared.state.State.{State};
-ghost use Rattle.snoop_bus.specs.Requests.{asked};
+ghost use Rattle.snoop_bus.specs.Requests.{snoop_column};
 ghost use Rattle.trace_json.specs.OwnWords.{own_words};
 ghost use Rattle.trace_json.specs.Supplied.{found_at, supplies};
 ghost use Rattle.trace_json.specs.SupplyLaws.{NobodySupplies, copy_on};
 ghost use Rattle.trace_json.specs.declared.supplied.Source.TheVariants.{Bus, Cache, Memory, Other};
 ghost use Rattle.tso_model.specs.declared.instruction.Core.{Core};
 
-use trace_json::laws::sources_are_told;
+use trace_json::memory_words::sources_are_told;
 
 /// A core that is told is another one of the test, whose copy supplies the line in each protocol's table; where memory is told
 /// nobody supplies it, and the words that a trace tells of memory are those that are seen.
 pub fn words_are_found_where_it_is_told()
     ensures tables { (kind : ProtocolKind) (request : Request) (state : State)
-        → (asked (table_of kind) request state).supplies ≡ supplies (Some state) }
+        → (snoop_column (table_of kind) request state).supplies ≡ supplies (Some state) }
     ensures own { (m : Running) (core line : ℕ) → found_at m core line ≡ Cache → is_some (copy_on m core line) ≡ true }
     ensures absent { (m : Running) (core line : ℕ) → found_at m core line ≡ Bus → copy_on m core line ≡ None }
     ensures awaited { (m : Running) (core line : ℕ) → found_at m core line ≡ Bus → is_some m.statistics.caches.awaited ≡ true }

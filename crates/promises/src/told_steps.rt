@@ -9,14 +9,14 @@ ghost use Rattle.protocol_tables.specs.declared.kind.ProtocolKind.{ProtocolKind}
 ghost use Rattle.protocol_tables.specs.declared.state.State.{State};
 ghost use Rattle.protocol_tables.specs.declared.state.State.TheVariants.{I};
 ghost use Rattle.snoop_bus.specs.declared.access.AccessKind.{AccessKind};
-ghost use Rattle.trace_report.specs.Steps.{states_of, step_of, trace_of};
-ghost use Rattle.trace_report.specs.TraceLaws.{ChangesOne, KeepsNoCopyInI, TellsRun, count_of, run_traced, steps_that, tells_access, tells_flush, tells_forward, tells_write_back, with_changes};
+ghost use Rattle.trace_report.specs.Steps.{states_of, trace_step_of, trace_of};
+ghost use Rattle.trace_report.specs.TraceLaws.{ChangesOne, KeepsNoCopyInI, TellsRun, count_of_accesses, run_traced, steps_that, tells_access, tells_flush, tells_forward, tells_write_back, with_changes};
 ghost use Rattle.tso_model.specs.Litmus.{IsTest, Litmus};
 ghost use Rattle.tso_model.specs.Runs.{CoresExist, run};
 ghost use Rattle.tso_model.specs.declared.choice.Bus.TheVariants.{Atomic};
 ghost use Rattle.tso_model.specs.declared.choice.Choice.{Choice};
 
-use trace_report::laws::{
+use trace_report::told_runs::{
     accesses_are_told, changes_lead_from_states_to_states, traces_tell_their_runs,
 };
 
@@ -33,8 +33,8 @@ pub fn a_trace_tells_its_run()
 /// Changes lead from states to states, and each is one.
 pub fn told_changes_lead_on()
     ensures lead { (m : Running) (choice : Choice)
-        → with_changes (step_of m choice).changes (states_of m) ≡ states_of (machine_after m choice) }
-    ensures real { (m : Running) (choice : Choice) → All (ChangesOne (states_of m)) (step_of m choice).changes }
+        → with_changes (trace_step_of m choice).changes (states_of m) ≡ states_of (machine_after m choice) }
+    ensures real { (m : Running) (choice : Choice) → All (ChangesOne (states_of m)) (trace_step_of m choice).changes }
 {
     changes_lead_from_states_to_states();
 }
@@ -44,7 +44,7 @@ pub fn told_accesses_are_counted()
     ensures accesses { (table : Table) (c : Configuration) (t : Litmus) (choices : List Choice) (core : ℕ)
         → CoresExist (length t.programs) choices → (kind : AccessKind) → steps_that (tells_access kind core)
         (trace_of table c t choices)
-        ≡ count_of kind (slice_index_or (counts_of c.bus table c.shape t c.depth choices) core no_counts) }
+        ≡ count_of_accesses kind (slice_index_or (counts_of c.bus table c.shape t c.depth choices) core no_counts) }
     ensures forwards { (table : Table) (c : Configuration) (t : Litmus) (choices : List Choice) (core : ℕ)
         → CoresExist (length t.programs) choices → steps_that (tells_forward core)
         (trace_of table c t choices) ≡ (slice_index_or (counts_of c.bus table c.shape t c.depth choices) core no_counts).forwards }

@@ -10,7 +10,7 @@ ghost use Rattle.std.specs.List.{list_all};
 ghost use Rattle.tso_model.specs.Litmus.{Litmus};
 ghost use Rattle.tso_model.specs.Names.{is_printable};
 
-use litmus_reader::laws::texts_are_decided;
+use litmus_reader::test_texts::texts_are_decided;
 
 /// A hint begins with its word, is printable and short.
 pub fn a_hint_is_one_printable_line()

@@ -16,7 +16,7 @@ ghost use Rattle.outcome_report.specs.Verdict.{verdict_word};
 ghost use Rattle.printed_laws.specs.Observed.{truth_after};
 ghost use Rattle.printed_laws.specs.Verdicts.{IsAsClaimed, IsNotAsClaimed, NamesTrueStates, NumbersOfTrueStates};
 ghost use Rattle.printed_laws.specs.Verdicts.{EndsInNumbers, EndsInVerdict, EndsInVerdictMember, PrintsVerdict, StatusTells, VerdictMeans, VerdictsAgree};
-ghost use Rattle.shown_values.specs.Shown.{named_in, values_at};
+ghost use Rattle.shown_values.specs.Shown.{names_shown, values_at};
 ghost use Rattle.tso_cli.specs.OutcomesHeadline.{PrintsAllOutcomes};
 ghost use Rattle.tso_model.specs.Axioms.{IsTsoExecution};
 ghost use Rattle.tso_model.specs.Condition.{Claim, Condition, truth_of};
@@ -109,7 +109,7 @@ pub fn the_true_states_are_named()
         → (said : PrintsAllOutcomes t search false out) → NamesTrueStates t search condition.claim said.outcomes out }
     ensures json { (t : Litmus) (search : Search) (out : List ℕ) (condition : Condition) → IsTest t → t.condition ≡ Some condition
         → (said : PrintsAllOutcomes t search true out) (o : Outcome) (registers : List (List ℕ)) (memory : List ℕ) → Contains said.outcomes o
-        → values_at (named_in search.show t) registers memory ≡ shown_values (named_in search.show t) o
+        → values_at (names_shown search.show t) registers memory ≡ shown_values (names_shown search.show t) o
         → holds_in t.condition o ≡ Some (truth_of registers memory condition.claim) }
 {
     true_names_the_true_states();
@@ -123,7 +123,7 @@ pub fn numbers_name_the_true_states()
     ensures named { (t : Litmus) (search : Search) (claim : Claim) (outcomes : List Outcome) (out : List ℕ)
         (said : NamesTrueStates t search claim outcomes out)
         (i : ℕ) (o : Outcome) (registers : List (List ℕ)) (memory : List ℕ) → slice_get outcomes i ≡ Some o
-        → values_at (named_in search.show t) registers memory ≡ shown_values (named_in search.show t) o
+        → values_at (names_shown search.show t) registers memory ≡ shown_values (names_shown search.show t) o
         → Contains said.numbers (i + 1) ↔ (truth_of registers memory claim ≡ true) }
     ensures within { (t : Litmus) (search : Search) (claim : Claim) (outcomes : List Outcome) (out : List ℕ)
         (said : NamesTrueStates t search claim outcomes out) (n : ℕ) → Contains said.numbers n → (0 < n) × (n ≤ length outcomes) }

@@ -4,7 +4,7 @@ ghost use Rattle.std.specs.Prelude.{◌<◌, ◌≡◌, ◌≤◌, ◌^◌, Bool
 ghost use Rattle.explorer.specs.FinalStates.{HasMoreStates};
 ghost use Rattle.command_line.specs.Search.{Search};
 ghost use Rattle.outcome_report.specs.Hidden.{AreNotShown};
-ghost use Rattle.outcome_report.specs.Laws.{AreAlike};
+ghost use Rattle.outcome_report.specs.Laws.{OutcomesAreAlike};
 ghost use Rattle.outcome_report.specs.Outcomes.{Outcome};
 ghost use Rattle.outcome_report.specs.Printed.{outcomes_in, unfinished_search_in};
 ghost use Rattle.outcome_laws.specs.Outcomes.{IsSequentiallyConsistent};
@@ -12,7 +12,7 @@ ghost use Rattle.printed_laws.specs.Observed.{IsSoEverywhere, IsSoSomewhere, Wor
 ghost use Rattle.printed_laws.specs.Outcomes.{OutcomesFit, ShowTheSame};
 ghost use Rattle.scheduler.specs.Printed.{printed_choices};
 ghost use Rattle.shown_values.specs.Shown as shown;
-ghost use Rattle.shown_values.specs.Shown.{named_in};
+ghost use Rattle.shown_values.specs.Shown.{names_shown};
 ghost use Rattle.tso_cli.specs.OneSearch.{ShowOneSearch, ShowsNoState, without_choices};
 ghost use Rattle.tso_laws.specs.Depth.{needed};
 ghost use Rattle.tso_model.specs.Axioms.{IsTsoExecution};
@@ -69,13 +69,13 @@ pub fn what_is_so_somewhere()
 /// of one name.
 pub fn what_is_printed_alike_is_the_same()
     ensures lines { (show : Show) (t : Litmus) (depth other_depth : ℕ) (outcomes others : List Outcome)
-        → IsTest t → depth < 2 ^ 64 → other_depth < 2 ^ 64 → OutcomesFit (named_in show t) outcomes → OutcomesFit (named_in show t) others
-        → outcomes_in false t (named_in show t) depth outcomes ≡ outcomes_in false t (named_in show t) other_depth others
-        → (depth ≡ other_depth) × ShowTheSame t (named_in show t) outcomes others }
+        → IsTest t → depth < 2 ^ 64 → other_depth < 2 ^ 64 → OutcomesFit (names_shown show t) outcomes → OutcomesFit (names_shown show t) others
+        → outcomes_in false t (names_shown show t) depth outcomes ≡ outcomes_in false t (names_shown show t) other_depth others
+        → (depth ≡ other_depth) × ShowTheSame t (names_shown show t) outcomes others }
     ensures object { (show : Show) (t : Litmus) (depth other_depth : ℕ) (outcomes others : List Outcome)
-        → IsTest t → depth < 2 ^ 64 → other_depth < 2 ^ 64 → OutcomesFit (named_in show t) outcomes → OutcomesFit (named_in show t) others
-        → outcomes_in true t (named_in show t) depth outcomes ≡ outcomes_in true t (named_in show t) other_depth others
-        → (depth ≡ other_depth) × ShowTheSame t (named_in show t) outcomes others }
+        → IsTest t → depth < 2 ^ 64 → other_depth < 2 ^ 64 → OutcomesFit (names_shown show t) outcomes → OutcomesFit (names_shown show t) others
+        → outcomes_in true t (names_shown show t) depth outcomes ≡ outcomes_in true t (names_shown show t) other_depth others
+        → (depth ≡ other_depth) × ShowTheSame t (names_shown show t) outcomes others }
     ensures lines_name { (t u : Litmus) (names others_names : List Named) (depth other_depth : ℕ) (outcomes others : List Outcome)
         → IsTest t → IsTest u → depth < 2 ^ 64 → other_depth < 2 ^ 64 → OutcomesFit names outcomes → OutcomesFit others_names others
         → outcomes_in false t names depth outcomes ≡ outcomes_in false u others_names other_depth others
@@ -93,7 +93,7 @@ pub fn what_is_printed_alike_is_the_same()
 /// choices.
 pub fn what_shows_the_same()
     ensures alike { (t : Litmus) (names : List Named) (outcomes others : List Outcome)
-        → ShowTheSame t names outcomes others → AreAlike t names outcomes others }
+        → ShowTheSame t names outcomes others → OutcomesAreAlike t names outcomes others }
     ensures choices { (t : Litmus) (names : List Named) (outcomes others : List Outcome) → ShowTheSame t names outcomes others
         → map (λ o. printed_choices o.choices) outcomes ≡ map (λ o. printed_choices o.choices) others }
 {}
@@ -102,15 +102,15 @@ pub fn what_shows_the_same()
 /// more than may be kept.
 pub fn texts_of_one_search()
     ensures first { (t : Litmus) (s : Search) (json again : Bool) (out other : List ℕ) (said : ShowOneSearch t s json again out other)
-        → out ≡ outcomes_in json t (named_in s.show t) s.depth said.outcomes }
+        → out ≡ outcomes_in json t (names_shown s.show t) s.depth said.outcomes }
     ensures second { (t : Litmus) (s : Search) (json again : Bool) (out other : List ℕ) (said : ShowOneSearch t s json again out other)
-        → other ≡ outcomes_in again t (named_in s.show t) s.depth said.others }
+        → other ≡ outcomes_in again t (names_shown s.show t) s.depth said.others }
     ensures alike { (t : Litmus) (s : Search) (json again : Bool) (out other : List ℕ) (said : ShowOneSearch t s json again out other)
-        → AreAlike t (named_in s.show t) said.outcomes said.others }
+        → OutcomesAreAlike t (names_shown s.show t) said.outcomes said.others }
     ensures but_for_choices { (t : Litmus) (s : Search) (json again : Bool) (out other : List ℕ)
         (said : ShowOneSearch t s json again out other) → (form : Bool)
-        → outcomes_in form t (named_in s.show t) s.depth (map without_choices said.outcomes)
-        ≡ outcomes_in form t (named_in s.show t) s.depth (map without_choices said.others) }
+        → outcomes_in form t (names_shown s.show t) s.depth (map without_choices said.outcomes)
+        ≡ outcomes_in form t (names_shown s.show t) s.depth (map without_choices said.others) }
     ensures more { (t : Litmus) (s : Search) (json : Bool) (out : List ℕ) → ShowsNoState t s json out → HasMoreStates t s.depth s.states }
     ensures unfinished { (t : Litmus) (s : Search) (json : Bool) (out : List ℕ) → ShowsNoState t s json out
         → out ≡ unfinished_search_in json t s.states }
@@ -122,7 +122,7 @@ pub fn what_is_hidden_is_not_shown(
     test: &Test,
     show: Show,
 ) -> Result<Vec<[bool; 6]>, NoMemory>
-    ensures not_shown { IfOk result (λ hidden. AreNotShown (shown.named_in show test.now) hidden.items) }
+    ensures not_shown { IfOk result (λ hidden. AreNotShown (shown.names_shown show test.now) hidden.items) }
 {
     hidden_registers(alloc, test, show)
 }

@@ -1,5 +1,5 @@
 -- The parts of a refutation's nodes, one by one.
-use Rattle.reason_report.proofs.Vocabulary.{filter, Bool, true, false, cond, ℕ, suc, zero, ◌+◌, ◌≡◌, ◌≤◌, ◌<◌, List, [], ◌∷◌, ◌++◌, length, drop, map, get_or, slice_index, refl, sym, ap, ◌∙◌, arith, subst, ◌⊎◌, inl, inr, ◌≢◌, set, length-set, get_or-set_same, get_or-set_other, append_assoc, drop_all, at_drop_more, Litmus, Known, asked, Model, node_of, Part, grown, replies, branches_with, Reply, Refutation, parts_at, first_part, parts_of, branch_in, AreNext, IsNext, AreBelow, IsReady}
+use Rattle.reason_report.proofs.Vocabulary.{filter, Bool, true, false, cond, ℕ, suc, zero, ◌+◌, ◌≡◌, ◌≤◌, ◌<◌, List, [], ◌∷◌, ◌++◌, length, drop, map, get_or, slice_index, refl, sym, ap, ◌∙◌, arith, subst, ◌⊎◌, inl, inr, ◌≢◌, set, length-set, get_or-set_same, get_or-set_other, append_assoc, drop_all, at_drop_more, Litmus, Known, asked_claim, Model, node_of, Part, grown, replies, branches_with, Reply, Refutation, parts_of_nodes_from, first_part, parts_of_refutation, branch_in, AreNext, IsNextPart, AreBelow, IsLayoutReady}
 use Rattle.refutations.specs.declared.tree.Node.{Node}
 use Rattle.reason_report.specs.Steps as spec
 use Rattle.reason_report.specs.declared.replies.Branch.{Branch}
@@ -17,24 +17,24 @@ cut-at (x ∷ xs) (suc i) d w = cut-at xs i d (omega (arith, w))
 module _ (model : Model) (t : Litmus) (nodes : List Node) where
   -- a node has its part before those that come after it
   pub cut-part : (i j : ℕ) → i < length nodes → j ≡ i + 1
-      → parts_at model t nodes i ≡ grown model t (asked t.condition) (first_part (parts_at model t nodes i)).root (parts_at model t nodes j)
+      → parts_of_nodes_from model t nodes i ≡ grown model t (asked_claim t.condition) (first_part (parts_of_nodes_from model t nodes i)).root (parts_of_nodes_from model t nodes j)
   cut-part i j h e =
       let x : (n : Node) × (drop i nodes ≡ n ∷ drop (suc i) nodes) = cut nodes i h in
       let s : suc i ≡ j = omega (arith, e) in
-      let whole : parts_at model t nodes i ≡ grown model t (asked t.condition) (node_of x.0) (parts_at model t nodes j) =
-      ap (λ ns. spec.parts_of model t (asked t.condition) (map node_of ns)) x.1
-      ∙ ap (λ k. grown model t (asked t.condition) (node_of x.0) (parts_at model t nodes k)) s in
-      whole ∙ ap (λ r. grown model t (asked t.condition) r (parts_at model t nodes j)) (sym (ap (λ ps. (first_part ps).root) whole))
+      let whole : parts_of_nodes_from model t nodes i ≡ grown model t (asked_claim t.condition) (node_of x.0) (parts_of_nodes_from model t nodes j) =
+      ap (λ ns. spec.parts_of_nodes model t (asked_claim t.condition) (map node_of ns)) x.1
+      ∙ ap (λ k. grown model t (asked_claim t.condition) (node_of x.0) (parts_of_nodes_from model t nodes k)) s in
+      whole ∙ ap (λ r. grown model t (asked_claim t.condition) r (parts_of_nodes_from model t nodes j)) (sym (ap (λ ps. (first_part ps).root) whole))
 
-  pub node-is : (i : ℕ) (n : Node) → i < length nodes → n ≡ get_or nodes i n → node_of n ≡ (first_part (parts_at model t nodes i)).root
+  pub node-is : (i : ℕ) (n : Node) → i < length nodes → n ≡ get_or nodes i n → node_of n ≡ (first_part (parts_of_nodes_from model t nodes i)).root
   node-is i n h is =
       ap node_of is
-      ∙ sym (at_drop_more (λ ns. (first_part (spec.parts_of model t (asked t.condition) (map node_of ns))).root) nodes i n h)
+      ∙ sym (at_drop_more (λ ns. (first_part (spec.parts_of_nodes model t (asked_claim t.condition) (map node_of ns))).root) nodes i n h)
 
-  pub none-left : (i : ℕ) → length nodes ≤ i → parts_at model t nodes i ≡ []
-  none-left i h = ap (λ ns. spec.parts_of model t (asked t.condition) (map node_of ns)) (drop_all i nodes h)
+  pub none-left : (i : ℕ) → length nodes ≤ i → parts_of_nodes_from model t nodes i ≡ []
+  none-left i h = ap (λ ns. spec.parts_of_nodes model t (asked_claim t.condition) (map node_of ns)) (drop_all i nodes h)
 
-  pub next-started : (next : List ℕ) (from : ℕ) → length next ≡ length nodes → from ≡ length nodes → AreNext (parts_at model t nodes) from next
+  pub next-started : (next : List ℕ) (from : ℕ) → length next ≡ length nodes → from ≡ length nodes → AreNext (parts_of_nodes_from model t nodes) from next
   next-started next from e is = record {
     each = λ i h k. absurd (omega (arith, h, k, e, is));
     none = none-left (length next) (omega (arith, e));
@@ -46,33 +46,33 @@ module _ (model : Model) (t : Litmus) (nodes : List Node) where
   split (suc i) zero h = absurd (omega (arith, h))
   split (suc i) (suc x) h = elim (split i x (omega (arith, h))) [ inl e ↦ inl (ap (λ n. suc n) e) | inr k ↦ inr (omega (arith, k)) ]
 
-  pub next-extended : (i j : ℕ) → i < length nodes → j ≡ i + 1 → (next : List ℕ) → length next ≡ length nodes → AreNext (parts_at model t nodes) j next
-      → (count : ℕ) → count ≡ length (replies t (first_part (parts_at model t nodes i)).root) → (after : ℕ) → j ≤ after → after ≤ length next
-      → parts_at model t nodes after ≡ drop count (parts_at model t nodes j) → AreNext (parts_at model t nodes) i (set next i after)
+  pub next-extended : (i j : ℕ) → i < length nodes → j ≡ i + 1 → (next : List ℕ) → length next ≡ length nodes → AreNext (parts_of_nodes_from model t nodes) j next
+      → (count : ℕ) → count ≡ length (replies t (first_part (parts_of_nodes_from model t nodes i)).root) → (after : ℕ) → j ≤ after → after ≤ length next
+      → parts_of_nodes_from model t nodes after ≡ drop count (parts_of_nodes_from model t nodes j) → AreNext (parts_of_nodes_from model t nodes) i (set next i after)
   next-extended i j within more next size are count counted after beyond fits rest = record {
     each = λ x h k. elim (split i x h) [ inl e ↦ at-once x e | inr above ↦ later x above (omega (arith, k, length-set next i after)) ];
-    none = ap (parts_at model t nodes) (length-set next i after) ∙ are.none;
+    none = ap (parts_of_nodes_from model t nodes) (length-set next i after) ∙ are.none;
   }
     where
-      at-once : (x : ℕ) → x ≡ i → IsNext (parts_at model t nodes) (length (set next i after)) x (slice_index (set next i after) x)
+      at-once : (x : ℕ) → x ≡ i → IsNextPart (parts_of_nodes_from model t nodes) (length (set next i after)) x (slice_index (set next i after) x)
       at-once x e =
-          subst (λ y. IsNext (parts_at model t nodes) (length (set next i after)) y (slice_index (set next i after) y)) (sym e)
+          subst (λ y. IsNextPart (parts_of_nodes_from model t nodes) (length (set next i after)) y (slice_index (set next i after) y)) (sym e)
           (let here : i < length next = omega (arith, within, size) in
           let same : get_or (set next i after) i 0 ≡ after = rw get_or-set_same in
-          subst (λ y. IsNext (parts_at model t nodes) (length (set next i after)) i y) (sym same)
+          subst (λ y. IsNextPart (parts_of_nodes_from model t nodes) (length (set next i after)) i y) (sym same)
           (record {
             beyond = omega (arith, beyond, more);
             within = omega (arith, fits, length-set next i after);
-            rest = rest ∙ (ap (λ n. drop n (parts_at model t nodes j)) counted ∙ sym (ap (λ (ps : List Part). drop 1 ps) (cut-part i j within more)));
+            rest = rest ∙ (ap (λ n. drop n (parts_of_nodes_from model t nodes j)) counted ∙ sym (ap (λ (ps : List Part). drop 1 ps) (cut-part i j within more)));
           }))
 
-      later : (x : ℕ) → i < x → x < length next → IsNext (parts_at model t nodes) (length (set next i after)) x (slice_index (set next i after) x)
+      later : (x : ℕ) → i < x → x < length next → IsNextPart (parts_of_nodes_from model t nodes) (length (set next i after)) x (slice_index (set next i after) x)
       later x above below =
-          let old : IsNext (parts_at model t nodes) (length next) x (slice_index next x) = are.each x (omega (arith, above, more)) below in
+          let old : IsNextPart (parts_of_nodes_from model t nodes) (length next) x (slice_index next x) = are.each x (omega (arith, above, more)) below in
           let ne : x ≢ i = omega (arith, above) in
           let same : get_or (set next i after) x 0 ≡ get_or next x 0 = rw get_or-set_other in
-          subst (λ n. IsNext (parts_at model t nodes) n x (slice_index (set next i after) x)) (sym (length-set next i after))
-          (subst (λ y. IsNext (parts_at model t nodes) (length next) x y) (sym same) old)
+          subst (λ n. IsNextPart (parts_of_nodes_from model t nodes) n x (slice_index (set next i after) x)) (sym (length-set next i after))
+          (subst (λ y. IsNextPart (parts_of_nodes_from model t nodes) (length next) x y) (sym same) old)
 
 -- ---- branches
 
@@ -99,26 +99,26 @@ below-at n bs i d b w is h = subst (λ (c : Branch). c.at < n) (sym is) (below-g
 abbrev added : ℕ → Reply → Branch
 added from r = record { reply = r; at = from }
 
-module _ (tree : Refutation) (ready : IsReady tree) where
+module _ (tree : Refutation) (ready : IsLayoutReady tree) where
   pub branch-added : (from : ℕ) → from < length tree.nodes.now → (answers : List Reply) (i j : ℕ) (d : Reply) → i < length answers → j ≡ i + 1
       → (n : ℕ) → n ≡ slice_index tree.next.now from → (old news : List Branch) → news ≡ old ++ (added from (get_or answers i d) ∷ [])
       → (k : Known) (whole : List spec.Branch)
-      → map (branch_in tree k) old ++ branches_with k (drop i answers) (parts_of tree from) ≡ whole
-      → map (branch_in tree k) news ++ branches_with k (drop j answers) (parts_of tree n) ≡ whole
+      → map (branch_in tree k) old ++ branches_with k (drop i answers) (parts_of_refutation tree from) ≡ whole
+      → map (branch_in tree k) news ++ branches_with k (drop j answers) (parts_of_refutation tree n) ≡ whole
   branch-added from within answers i j d inside more n goes old news made k whole so =
-      ap (λ bs. map (branch_in tree k) bs ++ branches_with k (drop j answers) (parts_of tree n)) made
-      ∙ (ap (λ bs. bs ++ branches_with k (drop j answers) (parts_of tree n)) (map-push (branch_in tree k) old (added from (get_or answers i d)))
-      ∙ (append_assoc (map (branch_in tree k) old) (branch_in tree k (added from (get_or answers i d)) ∷ []) (branches_with k (drop j answers) (parts_of tree n))
+      ap (λ bs. map (branch_in tree k) bs ++ branches_with k (drop j answers) (parts_of_refutation tree n)) made
+      ∙ (ap (λ bs. bs ++ branches_with k (drop j answers) (parts_of_refutation tree n)) (map-push (branch_in tree k) old (added from (get_or answers i d)))
+      ∙ (append_assoc (map (branch_in tree k) old) (branch_in tree k (added from (get_or answers i d)) ∷ []) (branches_with k (drop j answers) (parts_of_refutation tree n))
       ∙ (ap (λ bs. map (branch_in tree k) old ++ bs)
-      (sym (ap (λ rs. branches_with k rs (parts_of tree from)) here ∙ ap (λ ps. branches_with k (get_or answers i d ∷ drop j answers) ps) cons)) ∙ so)))
+      (sym (ap (λ rs. branches_with k rs (parts_of_refutation tree from)) here ∙ ap (λ ps. branches_with k (get_or answers i d ∷ drop j answers) ps) cons)) ∙ so)))
     where
-      one : IsNext (parts_of tree) (length tree.next.now) from (slice_index tree.next.now from)
+      one : IsNextPart (parts_of_refutation tree) (length tree.next.now) from (slice_index tree.next.now from)
       one = ready.next.each from (omega arith) (omega (arith, within, ready.count))
 
-      cons : parts_of tree from ≡ first_part (parts_of tree from) ∷ parts_of tree n
+      cons : parts_of_refutation tree from ≡ first_part (parts_of_refutation tree from) ∷ parts_of_refutation tree n
       cons =
-          shape (parts_of tree from) _ _ (cut-part tree.model tree.test.now tree.nodes.now from (from + 1) within refl)
-          ∙ ap (λ ps. first_part (parts_of tree from) ∷ ps) (sym one.rest ∙ ap (parts_of tree) (sym goes))
+          shape (parts_of_refutation tree from) _ _ (cut-part tree.model tree.test.now tree.nodes.now from (from + 1) within refl)
+          ∙ ap (λ ps. first_part (parts_of_refutation tree from) ∷ ps) (sym one.rest ∙ ap (parts_of_refutation tree) (sym goes))
 
       one-on : suc i ≡ j
       one-on = omega (arith, more)
@@ -126,7 +126,7 @@ module _ (tree : Refutation) (ready : IsReady tree) where
       here : drop i answers ≡ get_or answers i d ∷ drop j answers
       here = cut-at answers i d inside ∙ ap (λ m. get_or answers i d ∷ drop m answers) one-on
 
-  pub no-more : (from : ℕ) → length tree.nodes.now ≤ from → (answers : List Reply) (k : Known) → branches_with k answers (parts_of tree from) ≡ []
+  pub no-more : (from : ℕ) → length tree.nodes.now ≤ from → (answers : List Reply) (k : Known) → branches_with k answers (parts_of_refutation tree from) ≡ []
   no-more from all answers k = ap (branches_with k answers) (none-left tree.model tree.test.now tree.nodes.now from all) ∙ none answers
     where
       none : (rs : List Reply) → branches_with k rs [] ≡ []

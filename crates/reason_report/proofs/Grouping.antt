@@ -1,29 +1,29 @@
 -- Cases that a leaf closes at once: those that one line closes together, and the groups that they make.
-use Rattle.reason_report.proofs.Vocabulary.{ℕ, suc, zero, ◌+◌, ◌-◌, ◌&&◌, ◌≡◌, ◌≤◌, ◌<◌, Bool, true, false, not, cond, List, [], ◌∷◌, ◌++◌, length, take, drop, get_or, map, refl, sym, ap, ◌∙◌, arith, subst, append_assoc, take_all, drop_all, length-drop, filter, flat_map, list_any, list_all, Litmus, Claim, Known, asked, known_of, Named, looked_at, suffices, name_the_same, Branch, are_alike, groups, is_false_source, known_of_case, closed_case, step_of, Reply, Refutation, Closed, IsClosed, AreClosed, closed_branch, same_truths, alike, known_alike, rest_of}
+use Rattle.reason_report.proofs.Vocabulary.{ℕ, suc, zero, ◌+◌, ◌-◌, ◌&&◌, ◌≡◌, ◌≤◌, ◌<◌, Bool, true, false, not, cond, List, [], ◌∷◌, ◌++◌, length, take, drop, get_or, map, refl, sym, ap, ◌∙◌, arith, subst, append_assoc, take_all, drop_all, length-drop, filter, flat_map, list_any, list_all, Litmus, Claim, Known, asked_claim, known_of, Named, looked_at, suffices, name_the_same, Branch, are_alike, groups, is_false_source, known_of_case, closed_case, reason_step_of, Reply, Refutation, Closed, IsClosed, BranchesAreClosed, closed_branch, same_truths, alike, known_alike, rest_of}
 use Rattle.reason_report.specs.Steps as spec
 use Rattle.reason_report.specs.declared.steps.Step as declared
 
 -- ---- lists
 
-pub closed-drop : (tree : Refutation) (i : ℕ) (cs : List Closed) → AreClosed tree cs → AreClosed tree (drop i cs)
+pub closed-drop : (tree : Refutation) (i : ℕ) (cs : List Closed) → BranchesAreClosed tree cs → BranchesAreClosed tree (drop i cs)
 closed-drop tree zero cs h = h
 closed-drop tree (suc i) [] h = tt
 closed-drop tree (suc i) (c ∷ cs) h = closed-drop tree i cs h.1
 
-pub closed-take : (tree : Refutation) (i : ℕ) (cs : List Closed) → AreClosed tree cs → AreClosed tree (take i cs)
+pub closed-take : (tree : Refutation) (i : ℕ) (cs : List Closed) → BranchesAreClosed tree cs → BranchesAreClosed tree (take i cs)
 closed-take tree zero cs h = tt
 closed-take tree (suc i) [] h = tt
 closed-take tree (suc i) (c ∷ cs) h = (h.0, closed-take tree i cs h.1)
 
-closed-get : (tree : Refutation) (cs : List Closed) (i : ℕ) (d : Closed) → i < length cs → AreClosed tree cs → IsClosed tree (get_or cs i d)
+closed-get : (tree : Refutation) (cs : List Closed) (i : ℕ) (d : Closed) → i < length cs → BranchesAreClosed tree cs → IsClosed tree (get_or cs i d)
 closed-get tree [] i d w h = absurd (omega (arith, w))
 closed-get tree (c ∷ cs) zero d w h = h.0
 closed-get tree (c ∷ cs) (suc i) d w h = closed-get tree cs i d (omega (arith, w)) h.1
 
-pub closed-at : (tree : Refutation) (cs : List Closed) (i : ℕ) (c : Closed) → i < length cs → c ≡ get_or cs i c → AreClosed tree cs → IsClosed tree c
+pub closed-at : (tree : Refutation) (cs : List Closed) (i : ℕ) (c : Closed) → i < length cs → c ≡ get_or cs i c → BranchesAreClosed tree cs → IsClosed tree c
 closed-at tree cs i c w is h = subst (IsClosed tree) (sym is) (closed-get tree cs i c w h)
 
-pub closed-push : (tree : Refutation) (cs : List Closed) (c : Closed) → AreClosed tree cs → IsClosed tree c → AreClosed tree (cs ++ (c ∷ []))
+pub closed-push : (tree : Refutation) (cs : List Closed) (c : Closed) → BranchesAreClosed tree cs → IsClosed tree c → BranchesAreClosed tree (cs ++ (c ∷ []))
 closed-push tree [] c h k = (k, tt)
 closed-push tree (d ∷ cs) c h k = (h.0, closed-push tree cs c h.1 k)
 
@@ -66,10 +66,10 @@ module _ (tree : Refutation) (looked : tree.places.now ≡ looked_at tree.test.n
   t = tree.test.now
 
   abbrev claim : Claim
-  claim = asked tree.test.now.condition
+  claim = asked_claim tree.test.now.condition
 
   pub alike-is : (a b : Closed) → IsClosed tree a → IsClosed tree b
-      → alike a.leaf b.leaf ≡ are_alike tree.test.now (asked tree.test.now.condition) (closed_branch tree a) (closed_branch tree b)
+      → alike a.leaf b.leaf ≡ are_alike tree.test.now (asked_claim tree.test.now.condition) (closed_branch tree a) (closed_branch tree b)
   alike-is a b ha hb =
       and3 a.leaf.shares b.leaf.shares (same_truths a.leaf.named.items b.leaf.named.items) (name_the_same t claim (known_of a.leaf.given.answers) (known_of b.leaf.given.answers))
       (λ x y. ap (λ ps. same_truths ps b.leaf.named.items) (ha.leaf.named x)
@@ -80,32 +80,32 @@ module _ (tree : Refutation) (looked : tree.places.now ≡ looked_at tree.test.n
       ∙ (ap (λ x. x && b.leaf.shares && name_the_same t claim (known_of a.leaf.given.answers) (known_of b.leaf.given.answers)) ha.shares
       ∙ ap (λ y. is_false_source (closed_branch tree a) && y && name_the_same t claim (known_of a.leaf.given.answers) (known_of b.leaf.given.answers)) hb.shares)
 
-  pub any-is : (a : Closed) → IsClosed tree a → (bs : List Closed) → AreClosed tree bs
+  pub any-is : (a : Closed) → IsClosed tree a → (bs : List Closed) → BranchesAreClosed tree bs
       → list_any (λ (c : Closed). alike a.leaf c.leaf) bs
-      ≡ list_any (are_alike tree.test.now (asked tree.test.now.condition) (closed_branch tree a)) (map (closed_branch tree) bs)
+      ≡ list_any (are_alike tree.test.now (asked_claim tree.test.now.condition) (closed_branch tree a)) (map (closed_branch tree) bs)
   any-is a ha [] hb = refl
   any-is a ha (b ∷ bs) hb = cc (alike-is a b ha hb.0, any-is a ha bs hb.1)
 
-  pub filter-is : (a : Closed) → IsClosed tree a → (bs : List Closed) → AreClosed tree bs
+  pub filter-is : (a : Closed) → IsClosed tree a → (bs : List Closed) → BranchesAreClosed tree bs
       → map (closed_branch tree) (filter (λ (c : Closed). alike a.leaf c.leaf) bs)
-      ≡ filter (are_alike tree.test.now (asked tree.test.now.condition) (closed_branch tree a)) (map (closed_branch tree) bs)
+      ≡ filter (are_alike tree.test.now (asked_claim tree.test.now.condition) (closed_branch tree a)) (map (closed_branch tree) bs)
   filter-is a ha [] hb = refl
   filter-is a ha (b ∷ bs) hb = by-case (alike a.leaf b.leaf) (filter-is a ha bs hb.1) ∙ ap (λ (x : Bool). cond x (closed_branch tree b ∷ rest) rest) (alike-is a b ha hb.0)
     where
       rest : List Branch
-      rest = filter (are_alike tree.test.now (asked tree.test.now.condition) (closed_branch tree a)) (map (closed_branch tree) bs)
+      rest = filter (are_alike tree.test.now (asked_claim tree.test.now.condition) (closed_branch tree a)) (map (closed_branch tree) bs)
 
       by-case : (x : Bool)
           → map (closed_branch tree) (filter (λ (c : Closed). alike a.leaf c.leaf) bs)
-          ≡ filter (are_alike tree.test.now (asked tree.test.now.condition) (closed_branch tree a)) (map (closed_branch tree) bs)
+          ≡ filter (are_alike tree.test.now (asked_claim tree.test.now.condition) (closed_branch tree a)) (map (closed_branch tree) bs)
           → map (closed_branch tree) (cond x (b ∷ filter (λ (c : Closed). alike a.leaf c.leaf) bs) (filter (λ (c : Closed). alike a.leaf c.leaf) bs))
-          ≡ cond x (closed_branch tree b ∷ filter (are_alike tree.test.now (asked tree.test.now.condition) (closed_branch tree a)) (map (closed_branch tree) bs))
-          (filter (are_alike tree.test.now (asked tree.test.now.condition) (closed_branch tree a)) (map (closed_branch tree) bs))
+          ≡ cond x (closed_branch tree b ∷ filter (are_alike tree.test.now (asked_claim tree.test.now.condition) (closed_branch tree a)) (map (closed_branch tree) bs))
+          (filter (are_alike tree.test.now (asked_claim tree.test.now.condition) (closed_branch tree a)) (map (closed_branch tree) bs))
       by-case true e = ap (λ zs. closed_branch tree b ∷ zs) e
       by-case false e = e
 
   -- what is given in a group, and its answers
-  pub known-is : (a : Closed) → IsClosed tree a → (bs : List Closed) → AreClosed tree bs
+  pub known-is : (a : Closed) → IsClosed tree a → (bs : List Closed) → BranchesAreClosed tree bs
       → known_alike a.leaf bs ≡ map (λ (b : Branch). b.known) (closed_branch tree a ∷ rest_of tree a bs)
   unfolding rest_of
   known-is a ha bs hb =
@@ -113,7 +113,7 @@ module _ (tree : Refutation) (looked : tree.places.now ≡ looked_at tree.test.n
       (sym (map-twice (closed_branch tree) (λ (b : Branch). b.known) (filter (λ (c : Closed). alike a.leaf c.leaf) bs))
       ∙ ap (map (λ (b : Branch). b.known)) (filter-is a ha bs hb))
 
-  pub replies-is : (a : Closed) → IsClosed tree a → (bs : List Closed) → AreClosed tree bs
+  pub replies-is : (a : Closed) → IsClosed tree a → (bs : List Closed) → BranchesAreClosed tree bs
       → map (λ (c : Closed). c.reply) (a ∷ filter (λ (c : Closed). alike a.leaf c.leaf) bs)
       ≡ map (λ (b : Branch). b.reply) (closed_branch tree a ∷ rest_of tree a bs)
   unfolding rest_of
@@ -124,7 +124,7 @@ module _ (tree : Refutation) (looked : tree.places.now ≡ looked_at tree.test.n
 
   -- ---- groups
 
-  module _ (cs : List Closed) (all : AreClosed tree cs) (i j : ℕ) (w : i < length cs) (next : j ≡ i + 1) (a : Closed) (is : a ≡ get_or cs i a) where
+  module _ (cs : List Closed) (all : BranchesAreClosed tree cs) (i j : ℕ) (w : i < length cs) (next : j ≡ i + 1) (a : Closed) (is : a ≡ get_or cs i a) where
     one-on : suc i ≡ j
     one-on = omega (arith, next)
 
@@ -137,17 +137,17 @@ module _ (tree : Refutation) (looked : tree.places.now ≡ looked_at tree.test.n
         ∙ ap (map (closed_branch tree)) (ap (λ x. take i cs ++ (x ∷ [])) is ∙ (sym (take-at cs i a w) ∙ ap (λ n. take n cs) one-on))
 
     some : list_any (λ (c : Closed). alike a.leaf c.leaf) (take i cs)
-        ≡ list_any (are_alike tree.test.now (asked tree.test.now.condition) (closed_branch tree a)) (map (closed_branch tree) (take i cs))
+        ≡ list_any (are_alike tree.test.now (asked_claim tree.test.now.condition) (closed_branch tree a)) (map (closed_branch tree) (take i cs))
     some = any-is a (closed-at tree cs i a w is all) (take i cs) (closed-take tree i cs all)
 
     abbrev rest : List (List Branch)
-    rest = groups tree.test.now (asked tree.test.now.condition) (map (closed_branch tree) (take j cs)) (map (closed_branch tree) (drop j cs))
+    rest = groups tree.test.now (asked_claim tree.test.now.condition) (map (closed_branch tree) (take j cs)) (map (closed_branch tree) (drop j cs))
 
     abbrev group : List Branch
-    group = closed_branch tree a ∷ filter (are_alike tree.test.now (asked tree.test.now.condition) (closed_branch tree a)) (map (closed_branch tree) (drop j cs))
+    group = closed_branch tree a ∷ filter (are_alike tree.test.now (asked_claim tree.test.now.condition) (closed_branch tree a)) (map (closed_branch tree) (drop j cs))
 
     step : (front : List Closed) → front ≡ take i cs → (b : Bool) → b ≡ list_any (λ (c : Closed). alike a.leaf c.leaf) front
-        → groups tree.test.now (asked tree.test.now.condition) (map (closed_branch tree) (take i cs)) (map (closed_branch tree) (drop i cs))
+        → groups tree.test.now (asked_claim tree.test.now.condition) (map (closed_branch tree) (take i cs)) (map (closed_branch tree) (drop i cs))
         ≡ cond b rest (group ∷ rest)
     step front same b e =
         ap (λ ds. groups t claim (map (closed_branch tree) (take i cs)) (map (closed_branch tree) ds)) here
@@ -156,14 +156,14 @@ module _ (tree : Refutation) (looked : tree.places.now ≡ looked_at tree.test.n
         ∙ ap (λ (x : Bool). cond x rest (group ∷ rest)) (sym (e ∙ (ap (list_any (λ (c : Closed). alike a.leaf c.leaf)) same ∙ some))))
 
     pub skipped : (front : List Closed) → front ≡ take i cs → (b : Bool) → b ≡ list_any (λ (c : Closed). alike a.leaf c.leaf) front → b ≡ true
-        → groups tree.test.now (asked tree.test.now.condition) (map (closed_branch tree) (take i cs)) (map (closed_branch tree) (drop i cs))
-        ≡ groups tree.test.now (asked tree.test.now.condition) (map (closed_branch tree) (take j cs)) (map (closed_branch tree) (drop j cs))
+        → groups tree.test.now (asked_claim tree.test.now.condition) (map (closed_branch tree) (take i cs)) (map (closed_branch tree) (drop i cs))
+        ≡ groups tree.test.now (asked_claim tree.test.now.condition) (map (closed_branch tree) (take j cs)) (map (closed_branch tree) (drop j cs))
     skipped front same b e h = step front same b e ∙ ap (λ (x : Bool). cond x rest (group ∷ rest)) h
 
     pub grouped : (front : List Closed) → front ≡ take i cs → (b : Bool) → b ≡ list_any (λ (c : Closed). alike a.leaf c.leaf) front → b ≡ false
-        → groups tree.test.now (asked tree.test.now.condition) (map (closed_branch tree) (take i cs)) (map (closed_branch tree) (drop i cs))
+        → groups tree.test.now (asked_claim tree.test.now.condition) (map (closed_branch tree) (take i cs)) (map (closed_branch tree) (drop i cs))
         ≡ (closed_branch tree a ∷ rest_of tree a (drop j cs))
-        ∷ groups tree.test.now (asked tree.test.now.condition) (map (closed_branch tree) (take j cs)) (map (closed_branch tree) (drop j cs))
+        ∷ groups tree.test.now (asked_claim tree.test.now.condition) (map (closed_branch tree) (take j cs)) (map (closed_branch tree) (drop j cs))
     unfolding rest_of
     grouped front same b e h = step front same b e ∙ ap (λ (x : Bool). cond x rest (group ∷ rest)) h
 
@@ -186,13 +186,13 @@ module _ (t : Litmus) (k known : Known) (b : Branch) (bs : List Branch) (replies
 
 -- ---- lines
 
-pub case-added : (old mid : List declared.Step) (s : declared.Step) (x : spec.Step) (xs ys new : List spec.Step) → mid ≡ old ++ (s ∷ [])
-    → step_of s ≡ x → xs ≡ ys → new ≡ map step_of mid ++ xs → new ≡ map step_of old ++ (x ∷ ys)
+pub case-added : (old mid : List declared.Step) (s : declared.Step) (x : spec.ReasonStep) (xs ys new : List spec.ReasonStep) → mid ≡ old ++ (s ∷ [])
+    → reason_step_of s ≡ x → xs ≡ ys → new ≡ map reason_step_of mid ++ xs → new ≡ map reason_step_of old ++ (x ∷ ys)
 case-added old mid s x xs ys new more is same so =
     so
-    ∙ (ap (λ ss. map step_of ss ++ xs) more
-    ∙ (ap (λ ss. ss ++ xs) (map-push step_of old s)
-    ∙ (append_assoc (map step_of old) (step_of s ∷ []) xs ∙ (ap (λ z. map step_of old ++ (z ∷ xs)) is ∙ ap (λ zs. map step_of old ++ (x ∷ zs)) same))))
+    ∙ (ap (λ ss. map reason_step_of ss ++ xs) more
+    ∙ (ap (λ ss. ss ++ xs) (map-push reason_step_of old s)
+    ∙ (append_assoc (map reason_step_of old) (reason_step_of s ∷ []) xs ∙ (ap (λ z. map reason_step_of old ++ (z ∷ xs)) is ∙ ap (λ zs. map reason_step_of old ++ (x ∷ zs)) same))))
 
 pub none-more : {X Y : Type 0} (f : X → List Y) (old new whole : List Y) (xs ys : List X) → new ≡ old → xs ≡ ys → old ++ flat_map f xs ≡ whole
     → new ++ flat_map f ys ≡ whole

@@ -1,5 +1,5 @@
 -- Tasks and the parts that they are for.
-use Rattle.reason_report.proofs.Vocabulary.{ℕ, suc, zero, ◌+◌, ◌-◌, ◌<◌, ◌==◌, get_or, Option, Some, None, ◌≡◌, ◌≤◌, Bool, true, false, not, cond, List, [], ◌∷◌, ◌++◌, length, drop, map, refl, sym, ap, ◌∙◌, arith, subst, append_assoc, append-nil, drop_all, filter, replicate, flat_map, Litmus, Claim, Known, Model, Part, Branch, Step, is_leaf, is_closed, branches_with, with_reply, so_steps, case_steps, rest_steps, closed_case, groups, leaf_steps, grown, Reply, step_of, first_part, Task, Passed, Case, So, Endcases, task_of, tasks_of, branch_task, branch_tasks, end_of, as_branch, emit, depth_of, AreWithin, spec_wanted, with_wanted, ended_by}
+use Rattle.reason_report.proofs.Vocabulary.{ℕ, suc, zero, ◌+◌, ◌-◌, ◌<◌, ◌==◌, get_or, Option, Some, None, ◌≡◌, ◌≤◌, Bool, true, false, not, cond, List, [], ◌∷◌, ◌++◌, length, drop, map, refl, sym, ap, ◌∙◌, arith, subst, append_assoc, append-nil, drop_all, filter, replicate, flat_map, Litmus, Claim, Known, Model, Part, Branch, ReasonStep, is_leaf, is_closed, branches_with, with_reply, so_steps, case_steps, rest_steps, closed_case, groups, leaf_steps, grown, Reply, reason_step_of, first_part, Task, Passed, Case, So, Endcases, task_of, tasks_of, branch_task, branch_tasks, end_of, as_branch, emit, task_depth, TasksAreWithin, spec_wanted, with_wanted, ended_by}
 use Rattle.std.proofs.lemmas.Bool.Decides.{nat_tests}
 use Rattle.refutation_laws.specs.Refutations as refutations
 use Rattle.reason_report.specs.Steps as spec
@@ -27,22 +27,22 @@ popped old new a e = ap tasks_of e ∙ tasks-push new a
 
 -- ---- how deep
 
-pub within-more : (n m : ℕ) → n ≤ m → (ts : List Task) → AreWithin n ts → AreWithin m ts
+pub within-more : (n m : ℕ) → n ≤ m → (ts : List Task) → TasksAreWithin n ts → TasksAreWithin m ts
 within-more n m le [] w = tt
 within-more n m le (t ∷ ts) w = (omega (arith, le, w.0), within-more n m le ts w.1)
 
-pub within-passed : (n m : ℕ) (ts : List Task) → AreWithin m ts → AreWithin m (replicate n Passed ++ ts)
+pub within-passed : (n m : ℕ) (ts : List Task) → TasksAreWithin m ts → TasksAreWithin m (replicate n Passed ++ ts)
 within-passed zero m ts w = w
 within-passed (suc n) m ts w = (omega arith, within-passed n m ts w)
 
 within-branch : (single : Bool) (d m : ℕ) → d + 1 ≤ m → (b : Branch) (c : Bool)
-    → depth_of (cond c Passed (cond single (So d b.reply b.known) (Case d b.reply b.known))) ≤ m
+    → task_depth (cond c Passed (cond single (So d b.reply b.known) (Case d b.reply b.known))) ≤ m
 within-branch single d m le b true = omega arith
 within-branch true d m le b false = omega (arith, le)
 within-branch false d m le b false = le
 
-pub within-branches : (single : Bool) (d m : ℕ) → d + 1 ≤ m → (bs : List Branch) (ts : List Task) → AreWithin m ts
-    → AreWithin m (branch_tasks single d bs ++ ts)
+pub within-branches : (single : Bool) (d m : ℕ) → d + 1 ≤ m → (bs : List Branch) (ts : List Task) → TasksAreWithin m ts
+    → TasksAreWithin m (branch_tasks single d bs ++ ts)
 within-branches true d m le [] ts w = w
 within-branches false d m le [] ts w = (omega (arith, le), w)
 within-branches single d m le (b ∷ bs) ts w = (within-branch single d m le b (is_closed b), within-branches single d m le bs ts w)
@@ -60,7 +60,7 @@ pass-emits t (suc n) (p ∷ ps) ts = pass-emits t n ps ts
 
 -- ---- the branches of a question
 
-abbrev open-steps : Litmus → Bool → ℕ → List Branch → List Step
+abbrev open-steps : Litmus → Bool → ℕ → List Branch → List ReasonStep
 open-steps t true d bs = flat_map (so_steps t d) bs
 open-steps t false d bs = flat_map (case_steps t d) bs ++ (spec.Endcases d ∷ [])
 
@@ -96,7 +96,7 @@ branch-emits t single d k (r ∷ rs) (p ∷ ps) ts = by-case single (is_closed b
         ap (λ xs. case_steps t d (as_branch r (with_reply k r) p) ++ xs) ih
         ∙ joined (case_steps t d (as_branch r (with_reply k r) p)) (flat_map (case_steps t d) (filter (λ c. not (is_closed c)) (branches_with k rs ps))) (spec.Endcases d ∷ []) (emit t ts (drop (length rs) ps))
       where
-        joined : (a f e rest : List Step) → a ++ ((f ++ e) ++ rest) ≡ ((a ++ f) ++ e) ++ rest
+        joined : (a f e rest : List ReasonStep) → a ++ ((f ++ e) ++ rest) ≡ ((a ++ f) ++ e) ++ rest
         joined a f e rest = simp append_assoc
 
 rest-is : (t : Litmus) (d : ℕ) (bs : List Branch) → rest_steps t d bs ≡ open-steps t (length bs == 1) d bs
@@ -118,7 +118,7 @@ no-replies t (refutations.Between r v w) h = refl
 no-replies t refutations.FalseClaim h = refl
 
 module _ (model : Model) (t : Litmus) (claim : Claim) (whole ps : List Part) (n : refutations.Node) (is : whole ≡ grown model t claim n ps) (d : ℕ) (k : Known)
-    (before after : List Step) (ts : List Task) where
+    (before after : List ReasonStep) (ts : List Task) where
   pub leaf-laid : is_leaf n ≡ true → after ≡ before ++ leaf_steps model t claim d k (k ∷ []) n
       → after ++ emit t ts ps ≡ before ++ ((first_part whole).steps d k ++ emit t ts (drop 1 whole))
   leaf-laid h e =
@@ -144,7 +144,7 @@ module _ (model : Model) (t : Litmus) (claim : Claim) (whole ps : List Part) (n 
       ∙ (append_assoc before closed (emit t news ps) ∙ ap (λ xs. before ++ xs) (ap (λ xs. closed ++ xs) emitted ∙ (sym (append_assoc closed (rest_steps t d (filter (λ b. not (is_closed b)) bs)) (emit t ts (drop (length (spec.replies t n)) ps)))
       ∙ (ap (λ xs. xs ++ emit t ts (drop (length (spec.replies t n)) ps)) (sym shown) ∙ ap (λ qs. (first_part whole).steps d k ++ emit t ts qs) (sym left)))))
     where
-      closed : List Step
+      closed : List ReasonStep
       closed = flat_map (closed_case model t claim d k) (groups t claim [] (filter is_closed bs))
 
       left : drop 1 whole ≡ drop (length (spec.replies t n)) ps
@@ -178,32 +178,32 @@ map-push f [] x = refl
 map-push f (y ∷ xs) x = ap (λ zs. f y ∷ zs) (map-push f xs x)
 
 -- a line that is added stands before what comes
-pushed : (before after : List steps.Step) (s : steps.Step) (rest : List Step) → after ≡ before ++ (s ∷ [])
-    → map step_of after ++ rest ≡ map step_of before ++ (step_of s ∷ rest)
+pushed : (before after : List steps.Step) (s : steps.Step) (rest : List ReasonStep) → after ≡ before ++ (s ∷ [])
+    → map reason_step_of after ++ rest ≡ map reason_step_of before ++ (reason_step_of s ∷ rest)
 pushed before after s rest e =
-    ap (λ ss. map step_of ss ++ rest) e
-    ∙ (ap (λ ss. ss ++ rest) (map-push step_of before s) ∙ append_assoc (map step_of before) (step_of s ∷ []) rest)
+    ap (λ ss. map reason_step_of ss ++ rest) e
+    ∙ (ap (λ ss. ss ++ rest) (map-push reason_step_of before s) ∙ append_assoc (map reason_step_of before) (reason_step_of s ∷ []) rest)
 
-pub next-ended : (t : Litmus) (ps : List Part) (whole : List Step) (before after : List steps.Step) (old new : List declared.Task) (a : declared.Task) (d : ℕ)
+pub next-ended : (t : Litmus) (ps : List Part) (whole : List ReasonStep) (before after : List steps.Step) (old new : List declared.Task) (a : declared.Task) (d : ℕ)
     → old ≡ new ++ (a ∷ []) → a ≡ code.Endcases d → after ≡ before ++ (step.Endcases d ∷ [])
-    → map step_of before ++ emit t (tasks_of old) ps ≡ whole → map step_of after ++ emit t (tasks_of new) ps ≡ whole
+    → map reason_step_of before ++ emit t (tasks_of old) ps ≡ whole → map reason_step_of after ++ emit t (tasks_of new) ps ≡ whole
 next-ended t ps whole before after old new a d left is more so =
     pushed before after (step.Endcases d) (emit t (tasks_of new) ps) more
-    ∙ (ap (λ ts. map step_of before ++ emit t ts ps) (sym (popped old new a left ∙ ap (λ b. task_of b ∷ tasks_of new) is)) ∙ so)
+    ∙ (ap (λ ts. map reason_step_of before ++ emit t ts ps) (sym (popped old new a left ∙ ap (λ b. task_of b ∷ tasks_of new) is)) ∙ so)
 
-pub next-within : (most : ℕ) (old new : List declared.Task) (a : declared.Task) → old ≡ new ++ (a ∷ []) → AreWithin most (tasks_of old)
-    → (depth_of (task_of a) ≤ most) × AreWithin most (tasks_of new)
-next-within most old new a left w = subst (AreWithin most) (popped old new a left) w
+pub next-within : (most : ℕ) (old new : List declared.Task) (a : declared.Task) → old ≡ new ++ (a ∷ []) → TasksAreWithin most (tasks_of old)
+    → (task_depth (task_of a) ≤ most) × TasksAreWithin most (tasks_of new)
+next-within most old new a left w = subst (TasksAreWithin most) (popped old new a left) w
 
-pub next-part : (t : Litmus) (ps : List Part) (whole before : List Step) (old new : List declared.Task) (a : declared.Task) (w : Wanted)
+pub next-part : (t : Litmus) (ps : List Part) (whole before : List ReasonStep) (old new : List declared.Task) (a : declared.Task) (w : Wanted)
     → old ≡ new ++ (a ∷ []) → a ≡ code.Part w → before ++ emit t (tasks_of old) ps ≡ whole → before ++ emit t (spec_wanted w ∷ tasks_of new) ps ≡ whole
 next-part t ps whole before old new a w left is so =
     ap (λ ts. before ++ emit t ts ps) (sym (popped old new a left ∙ ap (λ b. task_of b ∷ tasks_of new) is)) ∙ so
 
 pub part-within : (most : ℕ) (old new : List declared.Task) (a : declared.Task) (w : Wanted) → old ≡ new ++ (a ∷ []) → a ≡ code.Part w
-    → AreWithin most (tasks_of old) → (depth_of (spec_wanted w) ≤ most) × AreWithin most (tasks_of new)
+    → TasksAreWithin most (tasks_of old) → (task_depth (spec_wanted w) ≤ most) × TasksAreWithin most (tasks_of new)
 part-within most old new a w left is h =
-    subst (λ (b : declared.Task). (depth_of (task_of b) ≤ most) × AreWithin most (tasks_of new)) is (next-within most old new a left h)
+    subst (λ (b : declared.Task). (task_depth (task_of b) ≤ most) × TasksAreWithin most (tasks_of new)) is (next-within most old new a left h)
 
 ends : (t : Litmus) (a : Task) (ts : List Task) → emit t (a ∷ ts) [] ≡ ended_by a ++ emit t ts []
 ends t Passed ts = refl
@@ -211,14 +211,14 @@ ends t (Case d r k) ts = refl
 ends t (So d r k) ts = refl
 ends t (Endcases d) ts = refl
 
-pub all-ended : (t : Litmus) (whole before after : List Step) (old new : List declared.Task) (a : declared.Task) → old ≡ new ++ (a ∷ [])
+pub all-ended : (t : Litmus) (whole before after : List ReasonStep) (old new : List declared.Task) (a : declared.Task) → old ≡ new ++ (a ∷ [])
     → after ≡ before ++ ended_by (task_of a) → before ++ emit t (tasks_of old) [] ≡ whole → after ++ emit t (tasks_of new) [] ≡ whole
 all-ended t whole before after old new a left more so =
     ap (λ xs. xs ++ emit t (tasks_of new) []) more
     ∙ (append_assoc before (ended_by (task_of a)) (emit t (tasks_of new) [])
     ∙ (ap (λ xs. before ++ xs) (sym (ap (λ ts. emit t ts []) (popped old new a left) ∙ ends t (task_of a) (tasks_of new))) ∙ so))
 
-pub wanted-within : (most : ℕ) (w : Option Wanted) (ts : List Task) → AreWithin most (with_wanted w ts) → AreWithin most ts
+pub wanted-within : (most : ℕ) (w : Option Wanted) (ts : List Task) → TasksAreWithin most (with_wanted w ts) → TasksAreWithin most ts
 wanted-within most None ts h = h
 wanted-within most (Some w) ts h = h.1
 
@@ -228,19 +228,19 @@ shape (q ∷ qs) p ps e = refl
 
 module _ (t : Litmus) (whole : List Part) (p : Part) (ps : List Part) (is : whole ≡ p ∷ ps) (d : ℕ) (reply : Reply) (k : Known) (ts : List Task)
     (before after : List steps.Step) (s : steps.Step) (more : after ≡ before ++ (s ∷ [])) where
-  pub case-laid : step_of s ≡ spec.Case d (spec.answer_at t k reply (reply ∷ []))
-      → map step_of after ++ ((first_part whole).steps (d + 1) k ++ emit t ts (drop 1 whole)) ≡ map step_of before ++ emit t (Case d reply k ∷ ts) whole
+  pub case-laid : reason_step_of s ≡ spec.Case d (spec.answer_at t k reply (reply ∷ []))
+      → map reason_step_of after ++ ((first_part whole).steps (d + 1) k ++ emit t ts (drop 1 whole)) ≡ map reason_step_of before ++ emit t (Case d reply k ∷ ts) whole
   case-laid line =
       pushed before after s ((first_part whole).steps (d + 1) k ++ emit t ts (drop 1 whole)) more
-      ∙ (ap (λ x. map step_of before ++ (x ∷ ((first_part whole).steps (d + 1) k ++ emit t ts (drop 1 whole)))) line
-      ∙ ap (λ w. map step_of before ++ emit t (Case d reply k ∷ ts) w) (sym (shape whole p ps is)))
+      ∙ (ap (λ x. map reason_step_of before ++ (x ∷ ((first_part whole).steps (d + 1) k ++ emit t ts (drop 1 whole)))) line
+      ∙ ap (λ w. map reason_step_of before ++ emit t (Case d reply k ∷ ts) w) (sym (shape whole p ps is)))
 
-  pub so-laid : step_of s ≡ spec.So d (spec.answer_at t k reply (reply ∷ []))
-      → map step_of after ++ ((first_part whole).steps d k ++ emit t ts (drop 1 whole)) ≡ map step_of before ++ emit t (So d reply k ∷ ts) whole
+  pub so-laid : reason_step_of s ≡ spec.So d (spec.answer_at t k reply (reply ∷ []))
+      → map reason_step_of after ++ ((first_part whole).steps d k ++ emit t ts (drop 1 whole)) ≡ map reason_step_of before ++ emit t (So d reply k ∷ ts) whole
   so-laid line =
       pushed before after s ((first_part whole).steps d k ++ emit t ts (drop 1 whole)) more
-      ∙ (ap (λ x. map step_of before ++ (x ∷ ((first_part whole).steps d k ++ emit t ts (drop 1 whole)))) line
-      ∙ ap (λ w. map step_of before ++ emit t (So d reply k ∷ ts) w) (sym (shape whole p ps is)))
+      ∙ (ap (λ x. map reason_step_of before ++ (x ∷ ((first_part whole).steps d k ++ emit t ts (drop 1 whole)))) line
+      ∙ ap (λ w. map reason_step_of before ++ emit t (So d reply k ∷ ts) w) (sym (shape whole p ps is)))
 
 -- ---- the tasks of a question
 

@@ -1,5 +1,5 @@
 -- From one part to the next.
-use Rattle.reason_report.proofs.Vocabulary.{ℕ, suc, zero, ◌+◌, ◌≡◌, ◌≤◌, ◌<◌, List, [], ◌∷◌, length, drop, slice_index, refl, sym, ap, ◌∙◌, arith, Part, AreNext, IsNext}
+use Rattle.reason_report.proofs.Vocabulary.{ℕ, suc, zero, ◌+◌, ◌≡◌, ◌≤◌, ◌<◌, List, [], ◌∷◌, length, drop, slice_index, refl, sym, ap, ◌∙◌, arith, Part, AreNext, IsNextPart}
 
 drop-once : {X : Type 0} (xs : List X) (j : ℕ) → drop 1 (drop j xs) ≡ drop (suc j) xs
 drop-once xs zero = refl
@@ -15,7 +15,7 @@ At parts next first after j = (first ≤ after) × (after ≤ length next) × (p
 pub moved : (parts : ℕ → List Part) (next : List ℕ) (first after j m : ℕ) → AreNext parts first next → after < length next → m ≡ j + 1
     → At parts next first after j → At parts next first (slice_index next after) m
 moved parts next first after j m are below e at =
-    let one : IsNext parts (length next) after (slice_index next after) = are.each after at.0 below in
+    let one : IsNextPart parts (length next) after (slice_index next after) = are.each after at.0 below in
     (omega (arith, at.0, one.beyond), one.within, one.rest ∙ (ap (λ (ps : List Part). drop 1 ps) at.2 ∙ one-more (parts first) j m e))
 
 pub stayed : (parts : ℕ → List Part) (next : List ℕ) (first after j m : ℕ) → AreNext parts first next → length next ≤ after → m ≡ j + 1

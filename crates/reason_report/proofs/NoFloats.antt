@@ -1,5 +1,5 @@
 -- The values that are printed have no float, so that their text is known.
-use Rattle.reason_report.proofs.Vocabulary.{filter, writes_to, Choice, Entry, printed_entry, Named, looked_at, value_members, verdict_value, Reading, reading_value, coherence_members_by, shown_value, with_coherence, ◌≡◌, ◌+◌, ℕ, Bool, true, false, ◌||◌, List, [], ◌∷◌, map, Option, Some, None, refl, Data, string, array, Members, no_members, member, put, items_of, has_float, items_have_float, members_have_float, Litmus, Condition, Model, count, key_of, Place, Answer, From, Before, Closing, Uniproc, Cycle, Amid, False, Step, Leaf, source_text, edge_value, edges_value, answer_value, place_members, closing_value, step_value, asked_value, never_value_of}
+use Rattle.reason_report.proofs.Vocabulary.{filter, writes_to, Choice, Entry, printed_entry, Named, looked_at, value_members, outcomes_verdict_value, Reading, reading_value, coherence_members_by, shown_allowed_value, with_coherence, ◌≡◌, ◌+◌, ℕ, Bool, true, false, ◌||◌, List, [], ◌∷◌, map, Option, Some, None, refl, Data, string, array, Members, no_members, member, put, items_of, has_float, items_have_float, members_have_float, Litmus, Condition, Model, count, key_of, Place, Answer, From, Before, Closing, Uniproc, Cycle, Amid, False, ReasonStep, Leaf, source_text, edge_value, edges_value, answer_value, place_members, closing_value, step_value, asked_value, never_value_of}
 use Rattle.std.specs.Ordering.{nat_cmp, match_ordering}
 use Rattle.std.specs.Cmp.Lexicographic.{slice_cmp}
 use Rattle.std.specs.declared.cmp.Ordering.{Ordering}
@@ -48,7 +48,7 @@ closing t depth (Cycle es) = neither (has_float (edges_value t es)) false (edges
 closing t depth (Amid r v w) = refl
 closing t depth (False ps) = neither (members_have_float (place_members t ps)) false (places t ps) refl
 
-step : (t : Litmus) (s : Step) → has_float (step_value t s) ≡ false
+step : (t : Litmus) (s : ReasonStep) → has_float (step_value t s) ≡ false
 step t (Case depth a) = answer t _ depth a
 step t (So depth a) = answer t _ depth a
 step t (Leaf depth c) = closing t depth c
@@ -58,15 +58,15 @@ asked : (o : Option Condition) → has_float (asked_value o) ≡ false
 asked None = refl
 asked (Some c) = refl
 
-verdict : (o : Option Condition) (allowed : Bool) → has_float (verdict_value o allowed) ≡ false
+verdict : (o : Option Condition) (allowed : Bool) → has_float (outcomes_verdict_value o allowed) ≡ false
 verdict None allowed = refl
 verdict (Some c) allowed = refl
 
-pub never_has_no_float : (model : Model) (t : Litmus) (steps : List Step) → has_float (never_value_of model t steps) ≡ false
+pub never_has_no_float : (model : Model) (t : Litmus) (steps : List ReasonStep) → has_float (never_value_of model t steps) ≡ false
 never_has_no_float model t steps =
     neither (has_float (asked_value t.condition)) _ (asked t.condition)
     (neither (items_have_float (items_of (map (step_value t) steps))) _ (each (step_value t) (step t) steps)
-    (neither (has_float (verdict_value t.condition false)) false (verdict t.condition false) refl))
+    (neither (has_float (outcomes_verdict_value t.condition false)) false (verdict t.condition false) refl))
 
 with-writes : (t : Litmus) (name : List ℕ) (ws : List Entry) (ms : Members) → members_have_float ms ≡ false → members_have_float (with_coherence t name ws ms) ≡ false
 with-writes t name [] ms h = h
@@ -84,10 +84,10 @@ named t (n ∷ ns) [] = refl
 named t (n ∷ ns) (v ∷ vs) = one_more (key_of t n) (count v) (value_members t ns vs) refl (named t ns vs)
 
 pub shown_has_no_float : (model : Model) (t : Litmus) (order : List Entry) (xs : List Reading) (vs : List ℕ) (choices : List Choice)
-    → has_float (shown_value model t order xs vs choices) ≡ false
+    → has_float (shown_allowed_value model t order xs vs choices) ≡ false
 shown_has_no_float model t order xs vs choices =
     neither (has_float (asked_value t.condition)) _ (asked t.condition)
     (neither (members_have_float (coherence_members_by t order 0 t.locations)) _ (writes t order 0 t.locations)
     (neither (items_have_float (items_of (map (reading_value t) xs))) _ (each (reading_value t) (λ x. refl) xs)
     (neither (members_have_float (value_members t (looked_at t) vs)) _ (named t (looked_at t) vs)
-    (neither (has_float (verdict_value t.condition true)) false (verdict t.condition true) refl))))
+    (neither (has_float (outcomes_verdict_value t.condition true)) false (verdict t.condition true) refl))))

@@ -1,5 +1,5 @@
 -- What is shown of an execution is its candidate.
-use Rattle.reason_report.proofs.Vocabulary.{ℕ, suc, zero, ◌+◌, ◌||◌, ◌≡◌, ◌≤◌, ◌<◌, Bool, true, false, cond, List, [], ◌∷◌, ◌++◌, length, drop, get_or, map, Option, Some, None, refl, sym, ap, ◌∙◌, arith, subst, append_assoc, All, filter, slice_get, codes, flat_map, list_any, at_drop_more, append-nil, drop_all, Data, Members, no_members, member, put, object, array, string, items_of, Litmus, is_read, writes_to, is_before, made, final_words, final_registers, words_from, registers_from, Instr, Choice, Entry, IsIn, IsCandidateOf, LeaveTheSame, last_in, IsExecutionOf, Model, value_members, printed_entry, line, test_line, looked_at, verdict_line, verdict_value, model_name, asked_line, from_line, reads_of, coherence_lines, coherence_line, allowed_text, asked_value, from_value, coherence_members, with_coherence, allowed_value, Reading, Named, IsKnown, allowed_in, ShowsExecution, last_or, ReadsIt, AreIn, AreReadings, IsShown, reading_of, reading_line, reading_value, coherence_by, coherence_members_by}
+use Rattle.reason_report.proofs.Vocabulary.{ℕ, suc, zero, ◌+◌, ◌||◌, ◌≡◌, ◌≤◌, ◌<◌, Bool, true, false, cond, List, [], ◌∷◌, ◌++◌, length, drop, get_or, map, Option, Some, None, refl, sym, ap, ◌∙◌, arith, subst, append_assoc, All, filter, slice_get, codes, flat_map, list_any, at_drop_more, append-nil, drop_all, Data, Members, no_members, member, put, object, array, string, items_of, Litmus, is_read, writes_to, is_before, made, final_words, final_registers, words_from, registers_from, Instr, Choice, Entry, IsIn, IsCandidateOf, LeaveTheSame, last_in, IsExecutionOf, Model, value_members, printed_entry, line, test_line, looked_at, verdict_line, outcomes_verdict_value, model_name, asked_line, from_line, reads_of, coherence_lines, coherence_line, allowed_text, asked_value, from_value, coherence_members, with_coherence, allowed_value, Reading, Named, NameExists, allowed_in, ShowsExecution, last_or, ReadsIt, AreIn, AreReadings, IsShown, read_with_source, reading_line, reading_value, coherence_by, coherence_members_by}
 use Rattle.tso_model.specs.Axioms.{counting, IsTsoExecution}
 use Rattle.relational_model.specs.Candidates.{Candidate, words_left}
 use Rattle.refutation_laws.specs.declared.model.Model.TheVariants.{Tso, Sequential}
@@ -75,25 +75,25 @@ pub in-at : (order es : List Entry) (i : ℕ) (e : Entry) → i < length es → 
 in-at order es i e w is h = subst (IsIn order) (sym is) (in-get order es i e w h)
 
 module _ (t : Litmus) (order : List Entry) (c : Candidate) (of : IsCandidateOf t order c) where
-  readings-are : (es : List Entry) (xs : List Reading) → AreReadings order (filter is_read es) xs → xs ≡ map (reading_of c) (filter is_read es)
+  readings-are : (es : List Entry) (xs : List Reading) → AreReadings order (filter is_read es) xs → xs ≡ map (read_with_source c) (filter is_read es)
   readings-are [] [] h = refl
   readings-are [] (x ∷ xs) h = absurd h
   readings-are (e ∷ es) xs h = by-case (λ zs. readings-are es zs) (is_read e) refl xs h
     where
-      by-case : ((zs : List Reading) → AreReadings order (filter is_read es) zs → zs ≡ map (reading_of c) (filter is_read es))
+      by-case : ((zs : List Reading) → AreReadings order (filter is_read es) zs → zs ≡ map (read_with_source c) (filter is_read es))
           → (b : Bool) → is_read e ≡ b → (ys : List Reading) → AreReadings order (cond b (e ∷ filter is_read es) (filter is_read es)) ys
-          → ys ≡ map (reading_of c) (cond b (e ∷ filter is_read es) (filter is_read es))
+          → ys ≡ map (read_with_source c) (cond b (e ∷ filter is_read es) (filter is_read es))
       by-case ih false is ys k = ih ys k
       by-case ih true is [] k = absurd k
       by-case ih true is (y ∷ ys) k =
           let source : y.write ≡ c.source e = k.1.source ∙ sym (of.sources k.1.front e k.1.back k.1.place is) in
           ap (λ (r : Entry). paired r y.write ∷ ys) k.0
-          ∙ (ap (λ (w : Option Entry). paired e w ∷ ys) source ∙ ap (λ zs. reading_of c e ∷ zs) (ih ys k.2))
+          ∙ (ap (λ (w : Option Entry). paired e w ∷ ys) source ∙ ap (λ zs. read_with_source c e ∷ zs) (ih ys k.2))
 
   pub shown-is : LeaveTheSame t order c → (xs : List Reading) → AreReadings order (filter is_read (made t order)) xs → (vs : List ℕ)
       → vs ≡ map (shown_value (final_registers t order) (final_words t order)) (looked_at t) → IsShown t order xs vs c
   shown-is same xs are vs is = record {
-    readings = readings-are (made t order) xs are ∙ ap (λ es. map (reading_of c) (filter is_read es)) (sym of.events);
+    readings = readings-are (made t order) xs are ∙ ap (λ es. map (read_with_source c) (filter is_read es)) (sym of.events);
     coherence = of.coherence;
     values = is ∙ sym (ap (λ rs. values_in t rs (words_left t c)) same.registers ∙ ap (values_in t (final_registers t order)) same.memory);
   }
@@ -101,11 +101,11 @@ module _ (t : Litmus) (order : List Entry) (c : Candidate) (of : IsCandidateOf t
 -- ---- as it is printed
 
 module _ (t : Litmus) (order : List Entry) (c : Candidate) (same : (loc : ℕ) → c.coherence loc ≡ filter (writes_to loc) order) where
-  pub reads-lines : (rs : List Entry) → flat_map (reading_line t) (map (reading_of c) rs) ≡ flat_map (from_line t c) rs
+  pub reads-lines : (rs : List Entry) → flat_map (reading_line t) (map (read_with_source c) rs) ≡ flat_map (from_line t c) rs
   reads-lines [] = refl
   reads-lines (r ∷ rs) = ap (λ bytes. from_line t c r ++ bytes) (reads-lines rs)
 
-  pub reads-values : (rs : List Entry) → map (reading_value t) (map (reading_of c) rs) ≡ map (from_value t c) rs
+  pub reads-values : (rs : List Entry) → map (reading_value t) (map (read_with_source c) rs) ≡ map (from_value t c) rs
   reads-values [] = refl
   reads-values (r ∷ rs) = ap (λ vs. from_value t c r ∷ vs) (reads-values rs)
 
@@ -138,7 +138,7 @@ value-with model t choices d m v =
     (member (codes "sources") (array (items_of d))
     (member (codes "test") (string t.name)
     (member (codes "values") (object (value_members t (looked_at t) v))
-    (member (codes "verdict") (verdict_value t.condition true) no_members)))))))))
+    (member (codes "verdict") (outcomes_verdict_value t.condition true) no_members)))))))))
 
 joined : (a b p c d e f g h : List ℕ) → a ++ (b ++ p) ++ c ++ d ++ e ++ f ++ g ++ h ≡ a ++ (b ++ (p ++ (c ++ (d ++ (e ++ (f ++ (g ++ h)))))))
 joined a b p c d e f g h = simp append_assoc
@@ -159,7 +159,7 @@ module _ (model : Model) (t : Litmus) (order : List Entry) (xs : List Reading) (
       ∙ (ap (λ q. lines-with model t choices (flat_map (from_line t c) (reads_of t c)) q vs) (locations-lines t order c shown.coherence t.locations 0)
       ∙ ap (λ v. lines-with model t choices (flat_map (from_line t c) (reads_of t c)) (coherence_lines t c 0 t.locations) v) shown.values))))
 
-  pub value-is : inner.shown_value model t order xs vs choices ≡ allowed_value model t c choices
+  pub value-is : inner.shown_allowed_value model t order xs vs choices ≡ allowed_value model t c choices
   value-is =
       ap (λ (d : List Data). value-with model t choices d (coherence_members_by t order 0 t.locations) vs) (ap (map (reading_value t)) shown.readings ∙ reads-values t order c shown.coherence (reads_of t c))
       ∙ (ap (λ (m : Members). value-with model t choices (map (from_value t c) (reads_of t c)) m vs) (locations-members t order c shown.coherence t.locations 0)
@@ -265,11 +265,11 @@ location-written e0 e1 e2 e3 e4 name ws h1 h2 h3 h4 =
     together : (a b c d e : List ℕ) → (((a ++ b) ++ c) ++ d) ++ e ≡ a ++ (b ++ (c ++ (d ++ e)))
     together a b c d e = simp append_assoc
 
-pub known-moved : (a b cores locations : ℕ) (ns names : List Named) → cores ≡ a → locations ≡ b → names ≡ ns → All (IsKnown a b) ns
-    → All (IsKnown cores locations) names
+pub known-moved : (a b cores locations : ℕ) (ns names : List Named) → cores ≡ a → locations ≡ b → names ≡ ns → All (NameExists a b) ns
+    → All (NameExists cores locations) names
 known-moved a b cores locations ns names ea eb en h =
-    subst (λ (x : ℕ). All (IsKnown x locations) names) (sym ea)
-    (subst (λ (y : ℕ). All (IsKnown a y) names) (sym eb) (subst (All (IsKnown a b)) (sym en) h))
+    subst (λ (x : ℕ). All (NameExists x locations) names) (sym ea)
+    (subst (λ (y : ℕ). All (NameExists a y) names) (sym eb) (subst (All (NameExists a b)) (sym en) h))
 
 pub shows : (json : Bool) (model : Model) (t : Litmus) (order : List Entry) (choices : List Choice) (c : Candidate) → IsCandidateOf t order c → LeaveTheSame t order c
     → (entries : List Entry) → entries ≡ made t order → (xs ys : List Reading) → AreReadings order (filter is_read entries) xs → ys ≡ xs

@@ -4,32 +4,32 @@ pub use Rattle.std.proofs.Common.{Bool, true, false, cond, ℕ, suc, zero, ◌+�
 pub use Rattle.std.proofs.lemmas.List.{drop_all, at_drop_more, take_all, length-drop, drop_more, append-nil}
 pub use Rattle.tso_model.specs.Litmus.{Litmus}
 pub use Rattle.refutation_laws.specs.Known.{Known, nothing}
-pub use Rattle.refutation_laws.specs.Refutations.{asked, sources_of}
+pub use Rattle.refutation_laws.specs.Refutations.{asked_claim, sources_of}
 pub use Rattle.refutation_laws.specs.declared.model.Model.{Model}
 pub use Rattle.refutations.specs.Trees.{node_of}
-pub use Rattle.reason_report.specs.Steps.{Part, grown, replies, branches_with, Branch, are_alike, groups, is_false_source, known_of_case, closed_case, Step, is_leaf, is_closed, with_reply, so_steps, case_steps, rest_steps, leaf_steps, Answer, From, Before, Closing, Uniproc, Cycle, Amid, False, Leaf, write_in}
+pub use Rattle.reason_report.specs.Steps.{Part, grown, replies, branches_with, Branch, are_alike, groups, is_false_source, known_of_case, closed_case, ReasonStep, is_leaf, is_closed, with_reply, so_steps, case_steps, rest_steps, leaf_steps, Answer, From, Before, Closing, Uniproc, Cycle, Amid, False, Leaf, write_of_answer}
 pub use Rattle.reason_report.specs.declared.replies.Reply.{Reply}
 pub use Rattle.reason_report.specs.declared.parts.Refutation.{Refutation}
-pub use Rattle.reason_report.specs.inner.Parts.{parts_at, first_part, parts_of, branch_in, AreNext, IsNext, AreBelow, IsReady, root_at}
+pub use Rattle.reason_report.specs.inner.Parts.{parts_of_nodes_from, first_part, parts_of_refutation, branch_in, AreNext, IsNextPart, AreBelow, IsLayoutReady, root_at}
 pub use Rattle.std.specs.List.{flat_map, list_any, list_all}
 pub use Rattle.tso_model.specs.Condition.{Claim, Condition}
 pub use Rattle.refutations.specs.inner.Trees.{known_of, relations_of}
 pub use Rattle.tso_report.specs.declared.named.Named.{Named}
 pub use Rattle.tso_report.specs.Tally.{looked_at}
-pub use Rattle.reason_report.specs.Places.{suffices, name_the_same, Place, place_in, words_at, distinct, unseen, known_among}
-pub use Rattle.reason_report.specs.Views.{step_of, place_of}
+pub use Rattle.reason_report.specs.Places.{suffices, name_the_same, Place, place_with_values, words_at, distinct, unseen, known_among}
+pub use Rattle.reason_report.specs.Views.{reason_step_of, place_of}
 pub use Rattle.reason_report.specs.declared.closed.Closed.{Closed}
-pub use Rattle.reason_report.specs.inner.Closed.{IsClosed, AreClosed, closed_branch, same_truths, alike, known_alike}
+pub use Rattle.reason_report.specs.inner.Closed.{IsClosed, BranchesAreClosed, closed_branch, same_truths, alike, known_alike}
 unfoldable pub use Rattle.reason_report.specs.inner.Closed.{rest_of}
-pub use Rattle.reason_report.specs.inner.Tasks.{Task, Passed, Case, So, Endcases, task_of, tasks_of, branch_task, branch_tasks, end_of, as_branch, emit, depth_of, AreWithin, spec_wanted, with_wanted, ended_by}
+pub use Rattle.reason_report.specs.inner.Tasks.{Task, Passed, Case, So, Endcases, task_of, tasks_of, branch_task, branch_tasks, end_of, as_branch, emit, task_depth, TasksAreWithin, spec_wanted, with_wanted, ended_by}
 pub use Rattle.tso_model.specs.ProgramOrder.{writes_to, is_read, is_before}
 pub use Rattle.tso_model.specs.declared.choice.Choice.{Choice}
 pub use Rattle.tso_model.specs.declared.execution.Entry.{Entry}
 pub use Rattle.order_builder.specs.PrintedOrder.{printed_entry}
 pub use Rattle.outcome_report.specs.OutcomesJson.{value_members, key_of}
-pub use Rattle.outcome_report.specs.Verdict.{verdict_value, verdict_line}
+pub use Rattle.outcome_report.specs.Verdict.{outcomes_verdict_value, verdict_line}
 pub use Rattle.reason_report.specs.declared.readings.Reading.{Reading}
-pub use Rattle.reason_report.specs.inner.Shown.{reading_value, coherence_members_by, shown_value, last_or, ReadsIt, AreIn, AreReadings, IsShown, reading_of, reading_line, coherence_by}
+pub use Rattle.reason_report.specs.inner.Shown.{reading_value, coherence_members_by, shown_allowed_value, last_or, ReadsIt, AreIn, AreReadings, IsShown, read_with_source, reading_line, coherence_by}
 pub use Rattle.reason_report.specs.ReasonJson.{with_coherence, edge_value, edges_value, answer_value, place_members, closing_value, step_value, asked_value, never_value_of, from_value, coherence_members, allowed_value}
 pub use Rattle.serde_json.specs.Data.{Data, string, array, Members, no_members, member, put, object}
 pub use Rattle.serde_json.specs.View.{items_of, view, members_view}
@@ -43,6 +43,6 @@ pub use Rattle.relational_model.specs.Events.{IsIn}
 pub use Rattle.relational_model.specs.CandidatesOfOrders.{IsCandidateOf, LeaveTheSame, last_in}
 pub use Rattle.refutation_laws.specs.Models.{IsExecutionOf}
 pub use Rattle.tso_report.specs.Report.{line, test_line}
-pub use Rattle.tso_report.specs.inner.Tally.{IsKnown}
+pub use Rattle.tso_report.specs.inner.Tally.{NameExists}
 pub use Rattle.reason_report.specs.Printed.{allowed_in, ShowsExecution}
 pub use Rattle.std.proofs.lemmas.Result.{IfOk-weaker, on_ok_weaker}

@@ -7,7 +7,7 @@ use Rattle.tso_model.specs.Litmus.{Litmus}
 use Rattle.tso_model.specs.Condition.{Claim, TruthClaim, RegClaim, LocClaim, NotClaim, AndClaim, OrClaim}
 use Rattle.refutation_laws.specs.Known.{Known}
 use Rattle.refutation_laws.specs.Values.{allows, register_at_end, words_at_end}
-use Rattle.tso_report.specs.Tally.{looked_at, names_register, names_location}
+use Rattle.tso_report.specs.Tally.{looked_at, claim_names_register, claim_names_location}
 use Rattle.tso_report.specs.declared.named.Named.{Named}
 use Rattle.tso_report.specs.declared.named.Named.TheVariants.{Register, Location}
 
@@ -15,8 +15,8 @@ use Rattle.tso_report.specs.declared.named.Named.TheVariants.{Register, Location
 
 -- whether the claim names this register or location
 abbrev pub is_named : Claim → Named → Bool
-is_named claim (Register core reg) = names_register claim core.0 reg
-is_named claim (Location loc) = names_location claim loc.0
+is_named claim (Register core reg) = claim_names_register claim core.0 reg
+is_named claim (Location loc) = claim_names_location claim loc.0
 
 -- Of a claim that can't have this truth, whether the place tells it. A false `/\` is told by its first false part, a false `\/` by
 -- all its parts together; under `~` it is the other way round.
@@ -75,9 +75,9 @@ pub record Place : Type 0 where
   pub named : Named
   pub values : List ℕ
 
-abbrev pub place_in : Litmus → List Known → Named → Place
-place_in t ks named = record { named = named; values = distinct (known_among (flat_map (λ k. words_at t k named) ks)) }
+abbrev pub place_with_values : Litmus → List Known → Named → Place
+place_with_values t ks named = record { named = named; values = distinct (known_among (flat_map (λ k. words_at t k named) ks)) }
 
 -- the places that are named for cases which name the same, as `k` does, in the order of a `State` line
 abbrev pub places_in : Litmus → Claim → Known → List Known → List Place
-places_in t claim k ks = map (place_in t ks) (filter (suffices t claim k) (looked_at t))
+places_in t claim k ks = map (place_with_values t ks) (filter (suffices t claim k) (looked_at t))

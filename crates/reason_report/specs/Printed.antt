@@ -7,8 +7,8 @@ use Rattle.relational_model.specs.Candidates.{Candidate}
 use Rattle.relational_model.specs.CandidatesOfOrders.{IsCandidateOf}
 use Rattle.refutation_laws.specs.Refutations.{Node}
 use Rattle.refutation_laws.specs.declared.model.Model.{Model}
-use Rattle.reason_report.specs.ReasonText.{never_text, allowed_text, unfinished_line}
-use Rattle.reason_report.specs.ReasonJson.{never_json, allowed_json, unfinished_json}
+use Rattle.reason_report.specs.ReasonText.{never_text, allowed_text, unfinished_reason_line}
+use Rattle.reason_report.specs.ReasonJson.{never_json, allowed_json, unfinished_reason_json}
 
 -- of a refutation of what the test asks
 abbrev pub refutation_in : Bool → Model → Litmus → List Node → List ℕ
@@ -22,8 +22,8 @@ allowed_in true model t c choices = allowed_json model t c choices
 
 -- of a search that met its limit
 abbrev pub unfinished_cases_in : Bool → Litmus → ℕ → List ℕ
-unfinished_cases_in false t limit = unfinished_line limit
-unfinished_cases_in true t limit = unfinished_json t limit
+unfinished_cases_in false t limit = unfinished_reason_line limit
+unfinished_cases_in true t limit = unfinished_reason_json t limit
 
 -- what was printed is the candidate of this order, and these choices
 pub record ShowsExecution (json : Bool) (model : Model) (t : Litmus) (order : List Entry) (choices : List Choice) (out : List ℕ) : Type 0 where

@@ -9,19 +9,19 @@ use Rattle.tso_model.specs.Condition.{Condition}
 use Rattle.tso_model.specs.declared.choice.Choice.{Choice}
 use Rattle.tso_model.specs.declared.execution.Entry.{Entry}
 use Rattle.relational_model.specs.Candidates.{Candidate}
-use Rattle.refutation_laws.specs.Refutations.{Node, asked}
+use Rattle.refutation_laws.specs.Refutations.{Node, asked_claim}
 use Rattle.refutation_laws.specs.declared.model.Model.{Model}
 use Rattle.scheduler.specs.Printed.{printed_choices}
 use Rattle.order_builder.specs.PrintedOrder.{printed_entry}
 use Rattle.tso_report.specs.Report.{line, printed_quantifier}
 use Rattle.tso_report.specs.Json.{count}
 use Rattle.tso_report.specs.Tally.{looked_at}
-use Rattle.outcome_report.specs.Verdict.{verdict_value}
+use Rattle.outcome_report.specs.Verdict.{outcomes_verdict_value}
 use Rattle.outcome_report.specs.OutcomesJson.{key_of, value_members}
 use Rattle.reason_report.specs.Places.{Place}
 use Rattle.reason_report.specs.declared.steps.Event.{Event}
 use Rattle.reason_report.specs.declared.steps.Edge.{Edge}
-use Rattle.reason_report.specs.Steps.{Answer, From, Before, Closing, Uniproc, Cycle, Amid, False, Step, Case, So, Leaf}
+use Rattle.reason_report.specs.Steps.{Answer, From, Before, Closing, Uniproc, Cycle, Amid, False, ReasonStep, Case, So, Leaf}
 use Rattle.reason_report.specs.Steps.{Endcases, steps_of, leaves_in}
 use Rattle.reason_report.specs.ReasonText.{model_name, truth_asked, event_text, relation_text}
 use Rattle.reason_report.specs.ReasonText.{source_text, read_source, reads_of, values_left}
@@ -87,7 +87,7 @@ closing_value t depth (False places) =
     (member (codes "places") (object (place_members t places))
     (member (codes "step") (string (codes "false")) no_members)))
 
-abbrev pub step_value : Litmus → Step → Data
+abbrev pub step_value : Litmus → ReasonStep → Data
 step_value t (Case depth answer) = answer_value t (codes "case") depth answer
 step_value t (So depth answer) = answer_value t (codes "so") depth answer
 step_value t (Leaf depth closing) = closing_value t depth closing
@@ -97,15 +97,15 @@ step_value t (Endcases depth) =
 -- ---- what can't be
 
 -- the steps of a refutation of what the test asks
-abbrev pub never_value_of : Model → Litmus → List Step → Data
+abbrev pub never_value_of : Model → Litmus → List ReasonStep → Data
 never_value_of model t steps =
     object (member (codes "answer") (string (codes "never"))
-    (member (codes "asked") (asked_value t.condition)
+    (member (codes "asked_claim") (asked_value t.condition)
     (member (codes "leaves") (count (leaves_in steps))
     (member (codes "model") (string (model_name model))
     (member (codes "steps") (array (items_of (map (step_value t) steps)))
     (member (codes "test") (string t.name)
-    (member (codes "verdict") (verdict_value t.condition false) no_members)))))))
+    (member (codes "verdict") (outcomes_verdict_value t.condition false) no_members)))))))
 
 -- ---- what can be
 abbrev pub from_value : Litmus → Candidate → Entry → Data
@@ -126,30 +126,30 @@ coherence_members t c loc (name ∷ names) = with_coherence t name (c.coherence 
 abbrev pub allowed_value : Model → Litmus → Candidate → List Choice → Data
 allowed_value model t c choices =
     object (member (codes "answer") (string (codes "allowed"))
-    (member (codes "asked") (asked_value t.condition)
+    (member (codes "asked_claim") (asked_value t.condition)
     (member (codes "choices") (string (printed_choices choices))
     (member (codes "coherence") (object (coherence_members t c 0 t.locations))
     (member (codes "model") (string (model_name model))
     (member (codes "sources") (array (items_of (map (from_value t c) (reads_of t c))))
     (member (codes "test") (string t.name)
     (member (codes "values") (object (value_members t (looked_at t) (values_left t c)))
-    (member (codes "verdict") (verdict_value t.condition true) no_members)))))))))
+    (member (codes "verdict") (outcomes_verdict_value t.condition true) no_members)))))))))
 
 -- ---- too many cases
-abbrev pub unfinished_value : Litmus → ℕ → Data
-unfinished_value t limit =
+abbrev pub unfinished_reason_value : Litmus → ℕ → Data
+unfinished_reason_value t limit =
     object (member (codes "test") (string t.name)
     (member (codes "unfinished") (object (member (codes "cases") (count limit) no_members)) no_members))
 
 -- ---- what is printed: the compact text of the value, on one line
-abbrev pub never_line : Model → Litmus → List Step → List ℕ
-never_line model t steps = line (compact_text (never_value_of model t steps))
+abbrev pub never_json_line : Model → Litmus → List ReasonStep → List ℕ
+never_json_line model t steps = line (compact_text (never_value_of model t steps))
 
 abbrev pub never_json : Model → Litmus → List Node → List ℕ
-never_json model t nodes = never_line model t (steps_of model t (asked t.condition) nodes)
+never_json model t nodes = never_json_line model t (steps_of model t (asked_claim t.condition) nodes)
 
 abbrev pub allowed_json : Model → Litmus → Candidate → List Choice → List ℕ
 allowed_json model t c choices = line (compact_text (allowed_value model t c choices))
 
-abbrev pub unfinished_json : Litmus → ℕ → List ℕ
-unfinished_json t limit = line (compact_text (unfinished_value t limit))
+abbrev pub unfinished_reason_json : Litmus → ℕ → List ℕ
+unfinished_reason_json t limit = line (compact_text (unfinished_reason_value t limit))

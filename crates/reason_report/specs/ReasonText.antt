@@ -14,7 +14,7 @@ use Rattle.tso_model.specs.declared.execution.Entry.{Entry}
 use Rattle.tso_model.specs.declared.execution.Kind.{Kind}
 use Rattle.tso_model.specs.declared.execution.Kind.TheVariants.{F}
 use Rattle.relational_model.specs.Candidates.{Candidate, events, registers_left, words_left}
-use Rattle.refutation_laws.specs.Refutations.{Node, asked}
+use Rattle.refutation_laws.specs.Refutations.{Node, asked_claim}
 use Rattle.refutation_laws.specs.declared.model.Model.{Model}
 use Rattle.refutation_laws.specs.declared.model.Model.TheVariants.{Tso, Sequential}
 use Rattle.refutation_laws.specs.declared.model.Relation.{Relation}
@@ -29,7 +29,7 @@ use Rattle.outcome_report.specs.OutcomesJson.{key_of}
 use Rattle.reason_report.specs.Places.{Place}
 use Rattle.reason_report.specs.declared.steps.Event.{Event}
 use Rattle.reason_report.specs.declared.steps.Edge.{Edge}
-use Rattle.reason_report.specs.Steps.{Answer, From, Before, Closing, Uniproc, Cycle, Amid, False, Step, Case, So, Leaf}
+use Rattle.reason_report.specs.Steps.{Answer, From, Before, Closing, Uniproc, Cycle, Amid, False, ReasonStep, Case, So, Leaf}
 use Rattle.reason_report.specs.Steps.{Endcases, steps_of, leaves_in}
 
 -- ---- what is asked
@@ -132,11 +132,11 @@ closing_text t (False places) = codes "False" ++ flat_map (place_text t) places
 abbrev pub blanks : ℕ → List ℕ
 blanks depth = replicate depth 32
 
-abbrev pub step_line : Litmus → Step → List ℕ
-step_line t (Case depth answer) = blanks depth ++ (codes "Case " ++ line (answer_text t answer))
-step_line t (So depth answer) = blanks depth ++ (codes "So " ++ line (answer_text t answer))
-step_line t (Leaf depth closing) = blanks depth ++ line (closing_text t closing)
-step_line t (Endcases depth) = blanks depth ++ line (codes "Endcases")
+abbrev pub reason_step_line : Litmus → ReasonStep → List ℕ
+reason_step_line t (Case depth answer) = blanks depth ++ (codes "Case " ++ line (answer_text t answer))
+reason_step_line t (So depth answer) = blanks depth ++ (codes "So " ++ line (answer_text t answer))
+reason_step_line t (Leaf depth closing) = blanks depth ++ line (closing_text t closing)
+reason_step_line t (Endcases depth) = blanks depth ++ line (codes "Endcases")
 
 -- ---- what can't be
 
@@ -144,14 +144,14 @@ step_line t (Endcases depth) = blanks depth ++ line (codes "Endcases")
 abbrev pub never_line : Model → ℕ → List ℕ
 never_line model leaves = codes "Never " ++ (model_name model ++ (codes " leaves=" ++ line (decimal leaves)))
 
-abbrev pub never_lines : Model → Litmus → List Step → List ℕ
+abbrev pub never_lines : Model → Litmus → List ReasonStep → List ℕ
 never_lines model t steps =
-    test_line t ++ (never_line model (leaves_in steps) ++ (asked_line t.condition ++ (flat_map (step_line t) steps
+    test_line t ++ (never_line model (leaves_in steps) ++ (asked_line t.condition ++ (flat_map (reason_step_line t) steps
     ++ verdict_line t.condition false)))
 
 -- the text of a refutation of what the test asks
 abbrev pub never_text : Model → Litmus → List Node → List ℕ
-never_text model t nodes = never_lines model t (steps_of model t (asked t.condition) nodes)
+never_text model t nodes = never_lines model t (steps_of model t (asked_claim t.condition) nodes)
 
 -- ---- what can be
 
@@ -192,5 +192,5 @@ allowed_text model t c choices =
 -- ---- too many cases
 
 -- `Unfinished cases=N`: the search met its limit, and all that is printed is this line
-abbrev pub unfinished_line : ℕ → List ℕ
-unfinished_line limit = codes "Unfinished cases=" ++ line (decimal limit)
+abbrev pub unfinished_reason_line : ℕ → List ℕ
+unfinished_reason_line limit = codes "Unfinished cases=" ++ line (decimal limit)

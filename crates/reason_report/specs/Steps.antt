@@ -9,7 +9,7 @@ use Rattle.tso_model.specs.Condition.{Claim}
 use Rattle.tso_model.specs.declared.execution.Entry.{Entry}
 use Rattle.refutation_laws.specs.Known.{Known, nothing, with_source, with_pair}
 use Rattle.refutation_laws.specs.Edges.{on_location, global_in}
-use Rattle.refutation_laws.specs.Shown.{first_of, value_known}
+use Rattle.refutation_laws.specs.Shown.{first_that_relates, value_known}
 use Rattle.refutation_laws.specs.Refutations.{Node, ReadsFrom, ComesFirst, OnLocation, Globally, Between, FalseClaim, sources_of}
 use Rattle.refutation_laws.specs.declared.model.Model.{Model}
 use Rattle.refutation_laws.specs.declared.model.Relation.{Relation}
@@ -39,15 +39,15 @@ pub data Closing : Type 0 where
   -- the proposition is false by what stands in these places
   False : (places : List Place) → Closing
 
-pub data Step : Type 0 where
+pub data ReasonStep : Type 0 where
   -- an answer to a question; its part follows, one step deeper
-  Case : (depth : ℕ) → Answer → Step
+  Case : (depth : ℕ) → Answer → ReasonStep
   -- the one answer that is left: what follows at the same depth is its part
-  So : (depth : ℕ) → Answer → Step
+  So : (depth : ℕ) → Answer → ReasonStep
   -- the case is closed
-  Leaf : (depth : ℕ) → Closing → Step
+  Leaf : (depth : ℕ) → Closing → ReasonStep
   -- the cases of a question end here, and none is left
-  Endcases : (depth : ℕ) → Step
+  Endcases : (depth : ℕ) → ReasonStep
 
 -- ---- leaves
 
@@ -55,7 +55,7 @@ abbrev pub event_at : Litmus → Known → Entry → Event
 event_at t k e = record { entry = e; value = value_known t k e }
 
 abbrev pub edge_at : Litmus → Known → List Relation → Entry → Entry → Edge
-edge_at t k relations x y = record { source = event_at t k x; relation = first_of t k relations x y; target = event_at t k y }
+edge_at t k relations x y = record { source = event_at t k x; relation = first_that_relates t k relations x y; target = event_at t k y }
 
 -- from x to the next event, and so on, and from the last one to the first
 abbrev pub edges_back : Litmus → Known → List Relation → Entry → Entry → List Entry → List Edge
@@ -76,7 +76,7 @@ is_false FalseClaim = true
 is_false _ = false
 
 -- the line of a leaf, which closes the case of k, and with it others which name the same places; a question closes none
-abbrev pub leaf_steps : Model → Litmus → Claim → ℕ → Known → List Known → Node → List Step
+abbrev pub leaf_steps : Model → Litmus → Claim → ℕ → Known → List Known → Node → List ReasonStep
 leaf_steps model t claim depth k ks (OnLocation cycle) = Leaf depth (Uniproc (edges_of t k on_location cycle)) ∷ []
 leaf_steps model t claim depth k ks (Globally cycle) = Leaf depth (Cycle (edges_of t k (global_in model) cycle)) ∷ []
 leaf_steps model t claim depth k ks (Between r v w) = Leaf depth (Amid (event_at t k r) (event_at t k v) (event_at t k w)) ∷ []
@@ -100,7 +100,7 @@ with_reply k (First w v) = with_pair k w v
 -- a node with all below it, and its steps, where it stands so deep and these answers are given
 pub record Part : Type 0 where
   pub root : Node
-  pub steps : ℕ → Known → List Step
+  pub steps : ℕ → Known → List ReasonStep
 
 -- a branch of a question: the answer, all that are given then, and its part
 pub record Branch : Type 0 where
@@ -120,14 +120,14 @@ is_closed b = is_leaf b.part.root
 
 -- ---- cases
 
-abbrev pub write_in : Litmus → Known → Reply → Option Event
-write_in t k (Reads r None) = None
-write_in t k (Reads r (Some w)) = Some (event_at t k w)
-write_in t k (First w v) = None
+abbrev pub write_of_answer : Litmus → Known → Reply → Option Event
+write_of_answer t k (Reads r None) = None
+write_of_answer t k (Reads r (Some w)) = Some (event_at t k w)
+write_of_answer t k (First w v) = None
 
 -- what is printed of one answer, or of several to which source a read has
 abbrev pub answer_at : Litmus → Known → Reply → List Reply → Answer
-answer_at t k (Reads r w) all = From (event_at t k r) (map (write_in t k) all)
+answer_at t k (Reads r w) all = From (event_at t k r) (map (write_of_answer t k) all)
 answer_at t k (First w v) all = Before (event_at t k w) (event_at t k v)
 
 abbrev pub is_source : Reply → Bool
@@ -160,7 +160,7 @@ abbrev pub answer_of_case : Litmus → Known → Branch → List Branch → Answ
 answer_of_case t k b bs = answer_at t (known_of_case k (b ∷ bs)) b.reply (map (λ (c : Branch). c.reply) (b ∷ bs))
 
 -- a case that a leaf closes
-abbrev pub closed_case : Model → Litmus → Claim → ℕ → Known → List Branch → List Step
+abbrev pub closed_case : Model → Litmus → Claim → ℕ → Known → List Branch → List ReasonStep
 closed_case model t claim depth k [] = []
 closed_case model t claim depth k (b ∷ bs) =
     Case depth (answer_of_case t k b bs) ∷ leaf_steps model t claim (depth + 1) b.known (map (λ (c : Branch). c.known) (b ∷ bs)) b.part.root
@@ -170,25 +170,25 @@ abbrev pub answer_of_branch : Litmus → Branch → Answer
 answer_of_branch t b = answer_at t b.known b.reply (b.reply ∷ [])
 
 -- one with a part of its own; the only one that is left
-abbrev pub case_steps : Litmus → ℕ → Branch → List Step
+abbrev pub case_steps : Litmus → ℕ → Branch → List ReasonStep
 case_steps t depth b = Case depth (answer_of_branch t b) ∷ b.part.steps (depth + 1) b.known
 
-abbrev pub so_steps : Litmus → ℕ → Branch → List Step
+abbrev pub so_steps : Litmus → ℕ → Branch → List ReasonStep
 so_steps t depth b = So depth (answer_of_branch t b) ∷ b.part.steps depth b.known
 
 -- what comes after the cases that are closed at once
-abbrev pub rest_steps : Litmus → ℕ → List Branch → List Step
+abbrev pub rest_steps : Litmus → ℕ → List Branch → List ReasonStep
 rest_steps t depth (b ∷ []) = so_steps t depth b
 rest_steps t depth bs = flat_map (case_steps t depth) bs ++ (Endcases depth ∷ [])
 
-abbrev pub question_steps : Model → Litmus → Claim → ℕ → Known → List Branch → List Step
+abbrev pub question_steps : Model → Litmus → Claim → ℕ → Known → List Branch → List ReasonStep
 question_steps model t claim depth k bs =
     flat_map (closed_case model t claim depth k) (groups t claim [] (filter is_closed bs))
     ++ rest_steps t depth (filter (λ b. not (is_closed b)) bs)
 
 -- ---- a refutation
 
-abbrev pub node_steps : Model → Litmus → Claim → Node → List Part → ℕ → Known → List Step
+abbrev pub node_steps : Model → Litmus → Claim → Node → List Part → ℕ → Known → List ReasonStep
 node_steps model t claim n parts depth k =
     if is_leaf n then leaf_steps model t claim depth k (k ∷ []) n else question_steps model t claim depth k (branches_with k (replies t n) parts)
 
@@ -197,19 +197,19 @@ abbrev pub grown : Model → Litmus → Claim → Node → List Part → List Pa
 grown model t claim n parts = record { root = n; steps = node_steps model t claim n parts } ∷ drop (length (replies t n)) parts
 
 -- the parts of nodes that stand as in a refutation
-abbrev pub parts_of : Model → Litmus → Claim → List Node → List Part
-parts_of model t claim [] = []
-parts_of model t claim (n ∷ ns) = grown model t claim n (parts_of model t claim ns)
+abbrev pub parts_of_nodes : Model → Litmus → Claim → List Node → List Part
+parts_of_nodes model t claim [] = []
+parts_of_nodes model t claim (n ∷ ns) = grown model t claim n (parts_of_nodes model t claim ns)
 
 -- the steps of a refutation, which is one part
-abbrev pub steps_of : Model → Litmus → Claim → List Node → List Step
-steps_of model t claim nodes = flat_map (λ (p : Part). p.steps 0 nothing) (parts_of model t claim nodes)
+abbrev pub steps_of : Model → Litmus → Claim → List Node → List ReasonStep
+steps_of model t claim nodes = flat_map (λ (p : Part). p.steps 0 nothing) (parts_of_nodes model t claim nodes)
 
-abbrev pub leaves_of : Step → ℕ
-leaves_of (Leaf depth closing) = 1
-leaves_of _ = 0
+abbrev pub leaves_in_step : ReasonStep → ℕ
+leaves_in_step (Leaf depth closing) = 1
+leaves_in_step _ = 0
 
 -- how many lines close a case
-abbrev pub leaves_in : List Step → ℕ
+abbrev pub leaves_in : List ReasonStep → ℕ
 leaves_in [] = 0
-leaves_in (s ∷ ss) = leaves_of s + leaves_in ss
+leaves_in (s ∷ ss) = leaves_in_step s + leaves_in ss

@@ -23,8 +23,8 @@ closing_of (closing.Cycle edges) = spec.Cycle edges.items
 closing_of (closing.Between r v w) = spec.Amid r v w
 closing_of (closing.False ps) = spec.False (map place_of ps.items)
 
-abbrev pub step_of : Step → spec.Step
-step_of (step.Case depth a) = spec.Case depth (answer_of a)
-step_of (step.So depth a) = spec.So depth (answer_of a)
-step_of (step.Leaf depth c) = spec.Leaf depth (closing_of c)
-step_of (step.Endcases depth) = spec.Endcases depth
+abbrev pub reason_step_of : Step → spec.ReasonStep
+reason_step_of (step.Case depth a) = spec.Case depth (answer_of a)
+reason_step_of (step.So depth a) = spec.So depth (answer_of a)
+reason_step_of (step.Leaf depth c) = spec.Leaf depth (closing_of c)
+reason_step_of (step.Endcases depth) = spec.Endcases depth

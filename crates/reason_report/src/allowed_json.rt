@@ -10,7 +10,7 @@ ghost use Rattle.tso_report.specs.Tally.{looked_at};
 ghost use Rattle.outcome_report.specs.OutcomesJson.{value_members};
 ghost use Rattle.reason_report.specs.ReasonJson as spec;
 ghost use Rattle.reason_report.specs.ReasonText as text;
-ghost use Rattle.reason_report.specs.inner.Shown.{IsShown, reading_value, coherence_members_by, shown_value};
+ghost use Rattle.reason_report.specs.inner.Shown.{IsShown, reading_value, coherence_members_by, shown_allowed_value};
 ghost use Rattle.reason_report.specs.inner.Shown.{with_answer, with_candidate, with_end};
 
 use crate::allowed_text::{has_write, write_entry, write_read_source};
@@ -18,7 +18,7 @@ use crate::as_json::put_text;
 use crate::as_text::key_text;
 use crate::asked::{asked_value, model_name};
 use crate::readings::Reading;
-use outcome_report::verdict::verdict_value;
+use outcome_report::verdict::outcomes_verdict_value;
 use refutation_laws::Model;
 use refutations::events::writes_to;
 use scheduler::choices_text;
@@ -62,7 +62,7 @@ fn allowed_value(
 ) -> Result<Value, NoMemory>
     requires names { names.now ≡ looked_at test.now }
     requires values { length values.now ≡ length names.now }
-    ensures { IfOk result (λ value. view value ≡ shown_value model test.now order.now readings.now values.now choices.now) }
+    ensures { IfOk result (λ value. view value ≡ shown_allowed_value model test.now order.now readings.now values.now choices.now) }
 {
     let mut members = Map::new(alloc);
     put_answer(&mut members, alloc, test, model)?;
@@ -84,7 +84,12 @@ fn put_answer(
     put(members, alloc, "asked", asked_value(alloc, test)?)?;
     put_text(members, alloc, "model", model_name(model))?;
     put_text(members, alloc, "test", test.name())?;
-    put(members, alloc, "verdict", verdict_value(alloc, test, true)?)?;
+    put(
+        members,
+        alloc,
+        "verdict",
+        outcomes_verdict_value(alloc, test, true)?,
+    )?;
     Ok(())
 }
 

@@ -6,7 +6,7 @@ ghost use Rattle.tso_model.specs.declared.execution.Entry as declared;
 ghost use Rattle.tso_model.specs.ProgramOrder as program_order;
 ghost use Rattle.relational_model.specs.Candidates.{Candidate};
 ghost use Rattle.order_builder.specs.PrintedOrder.{printed_entry};
-ghost use Rattle.tso_report.specs.inner.Tally.{IsKnown};
+ghost use Rattle.tso_report.specs.inner.Tally.{NameExists};
 ghost use Rattle.tso_report.specs.Tally.{looked_at};
 ghost use Rattle.outcome_report.specs.Outcomes.{by_line, state_line};
 ghost use Rattle.reason_report.specs.ReasonText as spec;
@@ -41,7 +41,7 @@ pub fn allowed_text(
     values: &[u32],
     choices: &[Choice],
 ) -> Result<String, NoMemory>
-    requires known { All (IsKnown (length test.now.programs) (length test.now.locations)) names.now }
+    requires known { All (NameExists (length test.now.programs) (length test.now.locations)) names.now }
     requires names { names.now ≡ looked_at test.now }
     ensures { IfOk result (λ text. (c : Candidate) → IsShown test.now order.now readings.now values.now c
         → string_bytes text ≡ spec.allowed_text model test.now c choices.now) }
@@ -178,7 +178,7 @@ fn write_state(
     names: &[Named],
     values: &[u32],
 ) -> Result<(), NoMemory>
-    requires known { All (IsKnown (length test.now.programs) (length test.now.locations)) names.now }
+    requires known { All (NameExists (length test.now.programs) (length test.now.locations)) names.now }
     requires names { names.now ≡ looked_at test.now }
     ensures { OnOk result (string_bytes text.new ≡ string_bytes text.old ++ state_line test.now (looked_at test.now) values.now) }
 {

@@ -9,12 +9,12 @@ ghost use Rattle.tso_report.specs.Json.{count};
 ghost use Rattle.reason_report.specs.ReasonText as text;
 ghost use Rattle.reason_report.specs.ReasonJson as spec;
 ghost use Rattle.reason_report.specs.Steps as steps;
-ghost use Rattle.reason_report.specs.Views.{answer_of, place_of, closing_of, step_of};
+ghost use Rattle.reason_report.specs.Views.{answer_of, place_of, closing_of, reason_step_of};
 
 use crate::as_text::{key_text, relation_text, write_event, write_source};
 use crate::asked::{asked_value, model_name};
 use crate::steps::{Answer, Closing, Edge, Event, Place, Step, leaves_in};
-use outcome_report::verdict::verdict_value;
+use outcome_report::verdict::outcomes_verdict_value;
 use refutation_laws::Model;
 use serde_json::{Map, Value, put};
 use std::alloc::Global;
@@ -30,7 +30,7 @@ pub fn never_json(
     model: Model,
     steps: &[Step],
 ) -> Result<String, NoMemory>
-    ensures { IfOk result (λ line. string_bytes line ≡ spec.never_line model test.now (map step_of steps.now)) }
+    ensures { IfOk result (λ line. string_bytes line ≡ spec.never_json_line model test.now (map reason_step_of steps.now)) }
 {
     let value = never_value(alloc, test, model, steps)?;
     line_of(alloc, &value)
@@ -39,15 +39,15 @@ pub fn never_json(
 /// The line of a search that met its limit, as JSON: the test, and how many cases that is.
 ///
 /// Errors: out of memory only.
-pub fn unfinished_json(alloc: Global, test: &Test, limit: u32) -> Result<String, NoMemory>
-    ensures { IfOk result (λ line. string_bytes line ≡ spec.unfinished_json test.now limit) }
+pub fn unfinished_reason_json(alloc: Global, test: &Test, limit: u32) -> Result<String, NoMemory>
+    ensures { IfOk result (λ line. string_bytes line ≡ spec.unfinished_reason_json test.now limit) }
 {
-    let value = unfinished_value(alloc, test, limit)?;
+    let value = unfinished_reason_value(alloc, test, limit)?;
     line_of(alloc, &value)
 }
 
-fn unfinished_value(alloc: Global, test: &Test, limit: u32) -> Result<Value, NoMemory>
-    ensures { IfOk result (λ value. view value ≡ spec.unfinished_value test.now limit) }
+fn unfinished_reason_value(alloc: Global, test: &Test, limit: u32) -> Result<Value, NoMemory>
+    ensures { IfOk result (λ value. view value ≡ spec.unfinished_reason_value test.now limit) }
 {
     let mut members = Map::new(alloc);
     put_unfinished(&mut members, alloc, test, limit)?;
@@ -61,7 +61,7 @@ fn put_unfinished(
     limit: u32,
 ) -> Result<(), NoMemory>
     requires { members.old.entries ≡ [] }
-    ensures { OnOk result (object (members_view members.new.entries) ≡ spec.unfinished_value test.now limit) }
+    ensures { OnOk result (object (members_view members.new.entries) ≡ spec.unfinished_reason_value test.now limit) }
 {
     let cases = cases_value(alloc, limit)?;
     put(members, alloc, "unfinished", cases)?;
@@ -78,7 +78,7 @@ fn cases_value(alloc: Global, limit: u32) -> Result<Value, NoMemory>
 }
 
 fn never_value(alloc: Global, test: &Test, model: Model, steps: &[Step]) -> Result<Value, NoMemory>
-    ensures { IfOk result (λ value. view value ≡ spec.never_value_of model test.now (map step_of steps.now)) }
+    ensures { IfOk result (λ value. view value ≡ spec.never_value_of model test.now (map reason_step_of steps.now)) }
 {
     let mut members = Map::new(alloc);
     put_never(&mut members, alloc, test, model, steps)?;
@@ -93,7 +93,7 @@ fn put_never(
     steps: &[Step],
 ) -> Result<(), NoMemory>
     requires { members.old.entries ≡ [] }
-    ensures { OnOk result (object (members_view members.new.entries) ≡ spec.never_value_of model test.now (map step_of steps.now)) }
+    ensures { OnOk result (object (members_view members.new.entries) ≡ spec.never_value_of model test.now (map reason_step_of steps.now)) }
 {
     put_text(members, alloc, "answer", "never")?;
     put(members, alloc, "asked", asked_value(alloc, test)?)?;
@@ -105,13 +105,13 @@ fn put_never(
         members,
         alloc,
         "verdict",
-        verdict_value(alloc, test, false)?,
+        outcomes_verdict_value(alloc, test, false)?,
     )?;
     Ok(())
 }
 
 fn steps_value(alloc: Global, test: &Test, steps: &[Step]) -> Result<Value, NoMemory>
-    ensures { IfOk result (λ value. view value ≡ array (items_of (map (spec.step_value test.now) (map step_of steps.now)))) }
+    ensures { IfOk result (λ value. view value ≡ array (items_of (map (spec.step_value test.now) (map reason_step_of steps.now)))) }
 {
     let mut values = Vec::new(alloc);
     for step in steps {
@@ -121,7 +121,7 @@ fn steps_value(alloc: Global, test: &Test, steps: &[Step]) -> Result<Value, NoMe
 }
 
 fn step_value(alloc: Global, test: &Test, step: &Step) -> Result<Value, NoMemory>
-    ensures { IfOk result (λ value. view value ≡ spec.step_value test.now (step_of step.now)) }
+    ensures { IfOk result (λ value. view value ≡ spec.step_value test.now (reason_step_of step.now)) }
 {
     let mut members = Map::new(alloc);
     put_step(&mut members, alloc, test, step)?;
@@ -135,7 +135,7 @@ fn put_step(
     step: &Step,
 ) -> Result<(), NoMemory>
     requires { members.old.entries ≡ [] }
-    ensures { OnOk result (object (members_view members.new.entries) ≡ spec.step_value test.now (step_of step.now)) }
+    ensures { OnOk result (object (members_view members.new.entries) ≡ spec.step_value test.now (reason_step_of step.now)) }
 {
     match step {
         Step::Case(depth, answer) => put_answer(members, alloc, test, "case", *depth, answer),

@@ -5,7 +5,7 @@ ghost use Rattle.std.specs.List.{flat_map};
 ghost use Rattle.outcome_report.specs.OutcomesJson.{key_of};
 ghost use Rattle.reason_report.specs.ReasonText as spec;
 ghost use Rattle.reason_report.specs.inner.Views.{known_access};
-ghost use Rattle.reason_report.specs.Views.{answer_of, place_of, closing_of, step_of};
+ghost use Rattle.reason_report.specs.Views.{answer_of, place_of, closing_of, reason_step_of};
 ghost use Rattle.reason_report.specs.inner.Views.{value_text};
 
 use crate::asked::{model_name, write_asked};
@@ -28,7 +28,7 @@ pub fn never_text(
     model: Model,
     steps: &[Step],
 ) -> Result<String, NoMemory>
-    ensures { IfOk result (λ text. string_bytes text ≡ spec.never_lines model test.now (map step_of steps.now)) }
+    ensures { IfOk result (λ text. string_bytes text ≡ spec.never_lines model test.now (map reason_step_of steps.now)) }
 {
     let mut text = String::new(alloc);
     write_test(&mut text, test)?;
@@ -43,7 +43,7 @@ pub fn never_text(
 ///
 /// Errors: out of memory only.
 pub fn unfinished_text(alloc: Global, limit: u32) -> Result<String, NoMemory>
-    ensures { IfOk result (λ text. string_bytes text ≡ spec.unfinished_line limit) }
+    ensures { IfOk result (λ text. string_bytes text ≡ spec.unfinished_reason_line limit) }
 {
     let mut text = String::new(alloc);
     write!(text, "Unfinished cases={limit}\n")?;
@@ -60,7 +60,7 @@ fn write_never(text: &mut String, model: Model, leaves: usize) -> Result<(), NoM
 }
 
 fn write_steps(text: &mut String, test: &Test, steps: &[Step]) -> Result<(), NoMemory>
-    ensures { OnOk result (string_bytes text.new ≡ string_bytes text.old ++ flat_map (spec.step_line test.now) (map step_of steps.now)) }
+    ensures { OnOk result (string_bytes text.new ≡ string_bytes text.old ++ flat_map (spec.reason_step_line test.now) (map reason_step_of steps.now)) }
 {
     for step in steps {
         write_step(text, test, step)?;
@@ -69,7 +69,7 @@ fn write_steps(text: &mut String, test: &Test, steps: &[Step]) -> Result<(), NoM
 }
 
 fn write_step(text: &mut String, test: &Test, step: &Step) -> Result<(), NoMemory>
-    ensures { OnOk result (string_bytes text.new ≡ string_bytes text.old ++ spec.step_line test.now (step_of step.now)) }
+    ensures { OnOk result (string_bytes text.new ≡ string_bytes text.old ++ spec.reason_step_line test.now (reason_step_of step.now)) }
 {
     match step {
         Step::Case(depth, answer) => write_answered(text, test, *depth, "Case ", answer),

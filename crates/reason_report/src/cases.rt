@@ -2,13 +2,13 @@
 
 ghost use Rattle.std.specs.Prelude.{◌≡◌, ◌<◌, ◌-◌, ◌^◌, ◌∷◌, ◌++◌, [], IfOk, OnOk, map, filter};
 ghost use Rattle.std.specs.List.{flat_map};
-ghost use Rattle.refutation_laws.specs.Refutations.{asked};
+ghost use Rattle.refutation_laws.specs.Refutations.{asked_claim};
 ghost use Rattle.refutations.specs.inner.Trees.{known_of};
 ghost use Rattle.reason_report.specs.Steps as spec;
-ghost use Rattle.reason_report.specs.Views.{answer_of, step_of};
+ghost use Rattle.reason_report.specs.Views.{answer_of, reason_step_of};
 ghost use Rattle.reason_report.specs.declared.closed.Closed as declared;
-ghost use Rattle.reason_report.specs.inner.Parts.{IsReady, root_at};
-ghost use Rattle.reason_report.specs.inner.Closed.{IsGiven, IsLeaf, IsClosed, AreClosed, closed_branch, alike, known_alike, rest_of};
+ghost use Rattle.reason_report.specs.inner.Parts.{IsLayoutReady, root_at};
+ghost use Rattle.reason_report.specs.inner.Closed.{IsGiven, IsLeaf, IsClosed, BranchesAreClosed, closed_branch, alike, known_alike, rest_of};
 
 use crate::closed::{Closed, Given, Leaf, are_alike, is_alike_to_some};
 use crate::closing::{answer_at, why_closed};
@@ -29,11 +29,11 @@ pub fn add_leaf(
     leaf: &Leaf,
     others: &[Closed],
 ) -> Result<(), NoMemory>
-    requires tree { IsReady tree }
+    requires tree { IsLayoutReady tree }
     requires leaf { IsLeaf tree leaf.now }
-    requires others { AreClosed tree others.now }
-    ensures { OnOk result (map step_of steps.new.items ≡ map step_of steps.old.items
-        ++ spec.leaf_steps tree.entry.model tree.entry.test.now (asked tree.entry.test.now.condition) depth (known_of leaf.now.given.answers)
+    requires others { BranchesAreClosed tree others.now }
+    ensures { OnOk result (map reason_step_of steps.new.items ≡ map reason_step_of steps.old.items
+        ++ spec.leaf_steps tree.entry.model tree.entry.test.now (asked_claim tree.entry.test.now.condition) depth (known_of leaf.now.given.answers)
         (known_alike leaf.now others.now) (root_at tree.entry leaf.now.at)) }
 {
     if let Some(closing) = why_closed(alloc, tree, leaf, others)? {
@@ -66,10 +66,10 @@ fn case_answer(
     first: &Closed,
     others: &[Closed],
 ) -> Result<Answer, NoMemory>
-    requires tree { IsReady tree }
+    requires tree { IsLayoutReady tree }
     requires question { IsGiven tree.test.now question.now }
     requires first { IsClosed tree first.now }
-    requires others { AreClosed tree others.now }
+    requires others { BranchesAreClosed tree others.now }
     ensures { IfOk result (λ answer. answer_of answer ≡ spec.answer_of_case tree.entry.test.now (known_of question.now.answers)
         (closed_branch tree.entry first.now) (rest_of tree.entry first.now others.now)) }
 {
@@ -93,13 +93,13 @@ fn add_case(
     first: &Closed,
     others: &[Closed],
 ) -> Result<(), NoMemory>
-    requires tree { IsReady tree }
+    requires tree { IsLayoutReady tree }
     requires depth { depth < 2 ^ 64 - 1 }
     requires question { IsGiven tree.test.now question.now }
     requires first { IsClosed tree first.now }
-    requires others { AreClosed tree others.now }
-    ensures { OnOk result (map step_of steps.new.items ≡ map step_of steps.old.items
-        ++ spec.closed_case tree.entry.model tree.entry.test.now (asked tree.entry.test.now.condition) depth (known_of question.now.answers)
+    requires others { BranchesAreClosed tree others.now }
+    ensures { OnOk result (map reason_step_of steps.new.items ≡ map reason_step_of steps.old.items
+        ++ spec.closed_case tree.entry.model tree.entry.test.now (asked_claim tree.entry.test.now.condition) depth (known_of question.now.answers)
         (closed_branch tree.entry first.now ∷ rest_of tree.entry first.now others.now)) }
 {
     let answer = case_answer(alloc, tree, question, first, others)?;
@@ -118,13 +118,13 @@ pub fn add_closed(
     question: &Given,
     closed: &[Closed],
 ) -> Result<(), NoMemory>
-    requires tree { IsReady tree }
+    requires tree { IsLayoutReady tree }
     requires depth { depth < 2 ^ 64 - 1 }
     requires question { IsGiven tree.test.now question.now }
-    requires closed { AreClosed tree closed.now }
-    ensures { OnOk result (map step_of steps.new.items ≡ map step_of steps.old.items
-        ++ flat_map (spec.closed_case tree.entry.model tree.entry.test.now (asked tree.entry.test.now.condition) depth (known_of question.now.answers))
-        (spec.groups tree.entry.test.now (asked tree.entry.test.now.condition) [] (map (closed_branch tree.entry) closed.now))) }
+    requires closed { BranchesAreClosed tree closed.now }
+    ensures { OnOk result (map reason_step_of steps.new.items ≡ map reason_step_of steps.old.items
+        ++ flat_map (spec.closed_case tree.entry.model tree.entry.test.now (asked_claim tree.entry.test.now.condition) depth (known_of question.now.answers))
+        (spec.groups tree.entry.test.now (asked_claim tree.entry.test.now.condition) [] (map (closed_branch tree.entry) closed.now))) }
 {
     for at in 0..closed.len() {
         let first = &closed[at];

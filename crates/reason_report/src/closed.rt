@@ -5,9 +5,9 @@ ghost use Rattle.std.specs.List.{list_any};
 ghost use Rattle.refutations.specs.Trees.{node_of};
 ghost use Rattle.refutations.specs.inner.Trees.{known_of};
 ghost use Rattle.reason_report.specs.Steps as spec;
-ghost use Rattle.reason_report.specs.inner.Parts.{AreBelow, IsReady, branch_in};
+ghost use Rattle.reason_report.specs.inner.Parts.{AreBelow, IsLayoutReady, branch_in};
 ghost use Rattle.reason_report.specs.declared.closed.Closed as declared;
-ghost use Rattle.reason_report.specs.inner.Closed.{IsGiven, IsClosed, AreClosed, closed_branch, same_truths, alike};
+ghost use Rattle.reason_report.specs.inner.Closed.{IsGiven, IsClosed, BranchesAreClosed, closed_branch, same_truths, alike};
 
 use crate::parts::{Refutation, node_at};
 use crate::places::named_among;
@@ -46,7 +46,7 @@ pub struct Closed {
 ///
 /// Errors: out of memory only.
 pub fn give(alloc: Global, tree: Refutation<'_>, answers: Answers) -> Result<Given, NoMemory>
-    requires { IsReady tree }
+    requires { IsLayoutReady tree }
     ensures answers { IfOk result (λ given. known_of given.answers ≡ known_of answers) }
     ensures facts { IfOk result (λ given. IsGiven tree.entry.test.now given) }
 {
@@ -91,7 +91,7 @@ fn close(
     question: &Given,
     branch: Branch,
 ) -> Result<Closed, NoMemory>
-    requires tree { IsReady tree }
+    requires tree { IsLayoutReady tree }
     requires within { branch.at < length tree.nodes.now }
     ensures closed { IfOk result (λ closed. IsClosed tree.entry closed) }
     ensures branch { IfOk result (λ closed. closed_branch tree.entry closed
@@ -133,9 +133,9 @@ pub fn closed_among(
     question: &Given,
     branches: &[Branch],
 ) -> Result<Vec<Closed>, NoMemory>
-    requires tree { IsReady tree }
+    requires tree { IsLayoutReady tree }
     requires within { AreBelow (length tree.nodes.now) branches.now }
-    ensures closed { IfOk result (λ all. AreClosed tree.entry all.items) }
+    ensures closed { IfOk result (λ all. BranchesAreClosed tree.entry all.items) }
     ensures branches { IfOk result (λ all. map (closed_branch tree.entry) all.items
         ≡ filter spec.is_closed (map (branch_in tree.entry (known_of question.now.answers)) branches.now)) }
 {

@@ -2,15 +2,15 @@
 
 ghost use Rattle.std.specs.Prelude.{ℕ, ◌≡◌, IfOk, map, length};
 ghost use Rattle.std.specs.List.{flat_map};
-ghost use Rattle.refutation_laws.specs.Refutations.{asked};
+ghost use Rattle.refutation_laws.specs.Refutations.{asked_claim};
 ghost use Rattle.refutations.specs.inner.Trees.{known_of, relations_of};
-ghost use Rattle.tso_report.specs.inner.Tally.{IsKnown};
+ghost use Rattle.tso_report.specs.inner.Tally.{NameExists};
 ghost use Rattle.reason_report.specs.Places as places;
 ghost use Rattle.reason_report.specs.Steps as spec;
 ghost use Rattle.reason_report.specs.Views.{answer_of, place_of};
 ghost use Rattle.reason_report.specs.inner.Views.{leaf_of};
-ghost use Rattle.reason_report.specs.inner.Parts.{IsReady, root_at};
-ghost use Rattle.reason_report.specs.inner.Closed.{IsGiven, IsLeaf, AreClosed, known_alike};
+ghost use Rattle.reason_report.specs.inner.Parts.{IsLayoutReady, root_at};
+ghost use Rattle.reason_report.specs.inner.Closed.{IsGiven, IsLeaf, BranchesAreClosed, known_alike};
 
 use crate::closed::{Closed, Given, Leaf, are_alike};
 use crate::leaves::{edges_of, event_at};
@@ -33,7 +33,7 @@ pub fn answer_at(
     reply: Reply,
     all: &[Reply],
 ) -> Result<Answer, NoMemory>
-    requires tree { IsReady tree }
+    requires tree { IsLayoutReady tree }
     requires given { IsGiven tree.test.now given.now }
     ensures { IfOk result (λ answer. answer_of answer ≡ spec.answer_at tree.entry.test.now (known_of given.now.answers) reply all.now) }
 {
@@ -49,7 +49,7 @@ pub fn answer_at(
 }
 
 fn shown(tree: Refutation<'_>, given: &Given, e: &Entry) -> Event
-    requires tree { IsReady tree }
+    requires tree { IsLayoutReady tree }
     requires given { IsGiven tree.test.now given.now }
     ensures { result ≡ spec.event_at tree.entry.test.now (known_of given.now.answers) e.now }
 {
@@ -62,21 +62,21 @@ fn writes_in(
     given: &Given,
     all: &[Reply],
 ) -> Result<Vec<Option<Event>>, NoMemory>
-    requires tree { IsReady tree }
+    requires tree { IsLayoutReady tree }
     requires given { IsGiven tree.test.now given.now }
-    ensures { IfOk result (λ writes. writes.items ≡ map (spec.write_in tree.entry.test.now (known_of given.now.answers)) all.now) }
+    ensures { IfOk result (λ writes. writes.items ≡ map (spec.write_of_answer tree.entry.test.now (known_of given.now.answers)) all.now) }
 {
     let mut writes = Vec::new(alloc);
     for reply in all {
-        writes.push(write_in(tree, given, *reply))?;
+        writes.push(write_of_answer(tree, given, *reply))?;
     }
     Ok(writes)
 }
 
-fn write_in(tree: Refutation<'_>, given: &Given, reply: Reply) -> Option<Event>
-    requires tree { IsReady tree }
+fn write_of_answer(tree: Refutation<'_>, given: &Given, reply: Reply) -> Option<Event>
+    requires tree { IsLayoutReady tree }
     requires given { IsGiven tree.test.now given.now }
-    ensures { result ≡ spec.write_in tree.entry.test.now (known_of given.now.answers) reply }
+    ensures { result ≡ spec.write_of_answer tree.entry.test.now (known_of given.now.answers) reply }
 {
     match reply {
         Reply::Reads(_, Some(write)) => Some(shown(tree, given, &write)),
@@ -94,10 +94,10 @@ fn words_in(
     others: &[Closed],
     place: Named,
 ) -> Result<Vec<Option<u32>>, NoMemory>
-    requires tree { IsReady tree }
+    requires tree { IsLayoutReady tree }
     requires given { IsGiven tree.test.now leaf.now.given }
-    requires others { AreClosed tree others.now }
-    requires place { IsKnown (length tree.test.now.programs) (length tree.test.now.locations) place }
+    requires others { BranchesAreClosed tree others.now }
+    requires place { NameExists (length tree.test.now.programs) (length tree.test.now.locations) place }
     ensures { IfOk result (λ words. words.items
         ≡ flat_map (λ k. places.words_at tree.entry.test.now k place) (known_alike leaf.now others.now)) }
 {
@@ -117,9 +117,9 @@ fn words_of(
     given: &Given,
     place: Named,
 ) -> Result<Vec<Option<u32>>, NoMemory>
-    requires tree { IsReady tree }
+    requires tree { IsLayoutReady tree }
     requires given { IsGiven tree.test.now given.now }
-    requires place { IsKnown (length tree.test.now.programs) (length tree.test.now.locations) place }
+    requires place { NameExists (length tree.test.now.programs) (length tree.test.now.locations) place }
     ensures { IfOk result (λ words. words.items ≡ places.words_at tree.entry.test.now (known_of given.now.answers) place) }
 {
     words_at(
@@ -138,10 +138,10 @@ fn is_named(
     given: &Given,
     place: Named,
 ) -> Result<bool, NoMemory>
-    requires tree { IsReady tree }
+    requires tree { IsLayoutReady tree }
     requires given { IsGiven tree.test.now given.now }
-    requires place { IsKnown (length tree.test.now.programs) (length tree.test.now.locations) place }
-    ensures { IfOk result (λ b. b ≡ places.suffices tree.entry.test.now (asked tree.entry.test.now.condition) (known_of given.now.answers) place) }
+    requires place { NameExists (length tree.test.now.programs) (length tree.test.now.locations) place }
+    ensures { IfOk result (λ b. b ≡ places.suffices tree.entry.test.now (asked_claim tree.entry.test.now.condition) (known_of given.now.answers) place) }
 {
     suffices(
         alloc,
@@ -160,11 +160,11 @@ fn place_in(
     others: &[Closed],
     named: Named,
 ) -> Result<Place, NoMemory>
-    requires tree { IsReady tree }
+    requires tree { IsLayoutReady tree }
     requires given { IsGiven tree.test.now leaf.now.given }
-    requires others { AreClosed tree others.now }
-    requires place { IsKnown (length tree.test.now.programs) (length tree.test.now.locations) named }
-    ensures { IfOk result (λ place. place_of place ≡ places.place_in tree.entry.test.now (known_alike leaf.now others.now) named) }
+    requires others { BranchesAreClosed tree others.now }
+    requires place { NameExists (length tree.test.now.programs) (length tree.test.now.locations) named }
+    ensures { IfOk result (λ place. place_of place ≡ places.place_with_values tree.entry.test.now (known_alike leaf.now others.now) named) }
 {
     let words = words_in(alloc, tree, leaf, others, named)?;
     Ok(Place {
@@ -182,11 +182,11 @@ fn places_in(
     leaf: &Leaf,
     others: &[Closed],
 ) -> Result<Vec<Place>, NoMemory>
-    requires tree { IsReady tree }
+    requires tree { IsLayoutReady tree }
     requires given { IsGiven tree.test.now leaf.now.given }
-    requires others { AreClosed tree others.now }
+    requires others { BranchesAreClosed tree others.now }
     ensures { IfOk result (λ all. map place_of all.items
-        ≡ places.places_in tree.entry.test.now (asked tree.entry.test.now.condition) (known_of leaf.now.given.answers) (known_alike leaf.now others.now)) }
+        ≡ places.places_in tree.entry.test.now (asked_claim tree.entry.test.now.condition) (known_of leaf.now.given.answers) (known_alike leaf.now others.now)) }
 {
     let mut all = Vec::new(alloc);
     for named in tree.places {
@@ -204,7 +204,7 @@ fn edges(
     acyclic: Acyclic,
     cycle: &[Entry],
 ) -> Result<Vec<Edge>, NoMemory>
-    requires tree { IsReady tree }
+    requires tree { IsLayoutReady tree }
     requires given { IsGiven tree.test.now given.now }
     ensures { IfOk result (λ edges. edges.items
         ≡ spec.edges_of tree.entry.test.now (known_of given.now.answers) (relations_of acyclic) cycle.now) }
@@ -229,11 +229,11 @@ pub fn why_closed(
     leaf: &Leaf,
     others: &[Closed],
 ) -> Result<Option<Closing>, NoMemory>
-    requires tree { IsReady tree }
+    requires tree { IsLayoutReady tree }
     requires leaf { IsLeaf tree leaf.now }
-    requires others { AreClosed tree others.now }
+    requires others { BranchesAreClosed tree others.now }
     ensures { IfOk result (λ closing. (depth : ℕ) → leaf_of depth closing
-        ≡ spec.leaf_steps tree.entry.model tree.entry.test.now (asked tree.entry.test.now.condition) depth (known_of leaf.now.given.answers)
+        ≡ spec.leaf_steps tree.entry.model tree.entry.test.now (asked_claim tree.entry.test.now.condition) depth (known_of leaf.now.given.answers)
         (known_alike leaf.now others.now) (root_at tree.entry leaf.now.at)) }
 {
     let given = &leaf.given;

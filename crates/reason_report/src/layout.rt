@@ -3,15 +3,15 @@
 ghost use Rattle.std.specs.Prelude.{ℕ, ◌≡◌, ◌≤◌, ◌<◌, ◌+◌, ◌∷◌, ◌++◌, List, [], false, IfOk, OnOk, map, filter, length, drop, replicate, not};
 ghost use Rattle.tso_model.specs.Litmus.{Litmus};
 ghost use Rattle.refutation_laws.specs.Known.{Known};
-ghost use Rattle.refutation_laws.specs.Refutations.{asked};
+ghost use Rattle.refutation_laws.specs.Refutations.{asked_claim};
 ghost use Rattle.refutations.specs.Trees.{node_of};
 ghost use Rattle.refutations.specs.inner.Trees.{known_of};
 ghost use Rattle.reason_report.specs.Steps as spec;
 ghost use Rattle.reason_report.specs.Views as views;
-ghost use Rattle.reason_report.specs.Views.{step_of};
-ghost use Rattle.reason_report.specs.inner.Parts.{AreBelow, IsReady, first_part, root_at, parts_of, branch_in};
+ghost use Rattle.reason_report.specs.Views.{reason_step_of};
+ghost use Rattle.reason_report.specs.inner.Parts.{AreBelow, IsLayoutReady, first_part, root_at, parts_of_refutation, branch_in};
 ghost use Rattle.reason_report.specs.inner.Closed.{IsGiven};
-ghost use Rattle.reason_report.specs.inner.Tasks.{AreWithin, IsUsed, Passed, spec_wanted, task_of, with_wanted, ended_by, tasks_of, branch_task, branch_tasks, emit};
+ghost use Rattle.reason_report.specs.inner.Tasks.{TasksAreWithin, IsUsed, Passed, spec_wanted, task_of, with_wanted, ended_by, tasks_of, branch_task, branch_tasks, emit};
 
 use crate::cases::{add_closed, add_leaf};
 use crate::closed::{Given, Leaf, closed_among, give, is_leaf};
@@ -54,7 +54,7 @@ pub fn steps_of(
     model: Model,
     nodes: &[Node],
 ) -> Result<Vec<Step>, NoMemory>
-    ensures { IfOk result (λ steps. map step_of steps.items ≡ spec.steps_of model test.now (asked test.now.condition) (map node_of nodes.now)) }
+    ensures { IfOk result (λ steps. map reason_step_of steps.items ≡ spec.steps_of model test.now (asked_claim test.now.condition) (map node_of nodes.now)) }
 {
     let events = make_events(alloc, test)?;
     let next = next_parts(alloc, test, &events, nodes)?;
@@ -73,9 +73,9 @@ pub fn steps_of(
 }
 
 fn lay_out(alloc: Global, tree: Refutation<'_>) -> Result<Vec<Step>, NoMemory>
-    requires { IsReady tree }
-    ensures { IfOk result (λ steps. map step_of steps.items
-        ≡ spec.steps_of tree.entry.model tree.entry.test.now (asked tree.entry.test.now.condition) (map node_of tree.entry.nodes.now)) }
+    requires { IsLayoutReady tree }
+    ensures { IfOk result (λ steps. map reason_step_of steps.items
+        ≡ spec.steps_of tree.entry.model tree.entry.test.now (asked_claim tree.entry.test.now.condition) (map node_of tree.entry.nodes.now)) }
 {
     let mut steps = Vec::new(alloc);
     let mut tasks = Vec::new(alloc);
@@ -91,10 +91,10 @@ fn lay_out(alloc: Global, tree: Refutation<'_>) -> Result<Vec<Step>, NoMemory>
 ///
 /// Errors: out of memory only.
 fn next_wanted(steps: &mut Vec<Step>, tasks: &mut Vec<Task>) -> Result<Option<Wanted>, NoMemory>
-    ensures left { IfOk result (λ wanted. (t : Litmus) (parts : List spec.Part) → map step_of steps.new.items
-        ++ emit t (with_wanted wanted (tasks_of tasks.new.items)) parts ≡ map step_of steps.old.items ++ emit t (tasks_of tasks.old.items) parts) }
-    ensures within { IfOk result (λ wanted. (most : ℕ) → AreWithin most (tasks_of tasks.old.items)
-        → AreWithin most (with_wanted wanted (tasks_of tasks.new.items))) }
+    ensures left { IfOk result (λ wanted. (t : Litmus) (parts : List spec.Part) → map reason_step_of steps.new.items
+        ++ emit t (with_wanted wanted (tasks_of tasks.new.items)) parts ≡ map reason_step_of steps.old.items ++ emit t (tasks_of tasks.old.items) parts) }
+    ensures within { IfOk result (λ wanted. (most : ℕ) → TasksAreWithin most (tasks_of tasks.old.items)
+        → TasksAreWithin most (with_wanted wanted (tasks_of tasks.new.items))) }
     ensures none { IfOk result (λ wanted. IsUsed wanted (tasks_of tasks.new.items)) }
 {
     while let Some(task) = tasks.pop() {
@@ -110,7 +110,7 @@ fn next_wanted(steps: &mut Vec<Step>, tasks: &mut Vec<Task>) -> Result<Option<Wa
 ///
 /// Errors: out of memory only.
 fn end_all(steps: &mut Vec<Step>, tasks: &mut Vec<Task>) -> Result<(), NoMemory>
-    ensures { OnOk result ((t : Litmus) → map step_of steps.new.items ≡ map step_of steps.old.items ++ emit t (tasks_of tasks.old.items) []) }
+    ensures { OnOk result ((t : Litmus) → map reason_step_of steps.new.items ≡ map reason_step_of steps.old.items ++ emit t (tasks_of tasks.old.items) []) }
 {
     while let Some(task) = tasks.pop() {
         end(steps, task)?;
@@ -122,7 +122,7 @@ fn end_all(steps: &mut Vec<Step>, tasks: &mut Vec<Task>) -> Result<(), NoMemory>
 ///
 /// Errors: out of memory only.
 fn end(steps: &mut Vec<Step>, task: Task) -> Result<(), NoMemory>
-    ensures { OnOk result (map step_of steps.new.items ≡ map step_of steps.old.items ++ ended_by (task_of task)) }
+    ensures { OnOk result (map reason_step_of steps.new.items ≡ map reason_step_of steps.old.items ++ ended_by (task_of task)) }
 {
     if let Task::Endcases(depth) = task {
         steps.push(Step::Endcases(depth))?;
@@ -141,13 +141,13 @@ fn lay_part(
     at: usize,
     wanted: Option<Wanted>,
 ) -> Result<(), NoMemory>
-    requires tree { IsReady tree }
+    requires tree { IsLayoutReady tree }
     requires at { at < length tree.nodes.now }
     requires used { IsUsed wanted (tasks_of tasks.old.items) }
-    requires within { AreWithin at (with_wanted wanted (tasks_of tasks.old.items)) }
-    ensures left { OnOk result (map step_of steps.new.items ++ emit tree.entry.test.now (tasks_of tasks.new.items) (parts_of tree.entry (at + 1))
-        ≡ map step_of steps.old.items ++ emit tree.entry.test.now (with_wanted wanted (tasks_of tasks.old.items)) (parts_of tree.entry at)) }
-    ensures within { OnOk result (AreWithin (at + 1) (tasks_of tasks.new.items)) }
+    requires within { TasksAreWithin at (with_wanted wanted (tasks_of tasks.old.items)) }
+    ensures left { OnOk result (map reason_step_of steps.new.items ++ emit tree.entry.test.now (tasks_of tasks.new.items) (parts_of_refutation tree.entry (at + 1))
+        ≡ map reason_step_of steps.old.items ++ emit tree.entry.test.now (with_wanted wanted (tasks_of tasks.old.items)) (parts_of_refutation tree.entry at)) }
+    ensures within { OnOk result (TasksAreWithin (at + 1) (tasks_of tasks.new.items)) }
 {
     match wanted {
         None => {
@@ -182,7 +182,7 @@ fn answer_of(
     given: &Given,
     reply: Reply,
 ) -> Result<Answer, NoMemory>
-    requires tree { IsReady tree }
+    requires tree { IsLayoutReady tree }
     requires given { IsGiven tree.test.now given.now }
     ensures { IfOk result (λ answer. views.answer_of answer
         ≡ spec.answer_at tree.entry.test.now (known_of given.now.answers) reply (reply ∷ [])) }
@@ -215,15 +215,15 @@ fn lay_node(
     depth: usize,
     given: Given,
 ) -> Result<(), NoMemory>
-    requires tree { IsReady tree }
+    requires tree { IsLayoutReady tree }
     requires at { at < length tree.nodes.now }
     requires depth { depth ≤ at }
     requires given { IsGiven tree.test.now given }
-    requires within { AreWithin at (tasks_of tasks.old.items) }
-    ensures left { OnOk result (map step_of steps.new.items ++ emit tree.entry.test.now (tasks_of tasks.new.items) (parts_of tree.entry (at + 1))
-        ≡ map step_of steps.old.items ++ ((first_part (parts_of tree.entry at)).steps depth (known_of given.answers)
-        ++ emit tree.entry.test.now (tasks_of tasks.old.items) (drop 1 (parts_of tree.entry at)))) }
-    ensures within { OnOk result (AreWithin (at + 1) (tasks_of tasks.new.items)) }
+    requires within { TasksAreWithin at (tasks_of tasks.old.items) }
+    ensures left { OnOk result (map reason_step_of steps.new.items ++ emit tree.entry.test.now (tasks_of tasks.new.items) (parts_of_refutation tree.entry (at + 1))
+        ≡ map reason_step_of steps.old.items ++ ((first_part (parts_of_refutation tree.entry at)).steps depth (known_of given.answers)
+        ++ emit tree.entry.test.now (tasks_of tasks.old.items) (drop 1 (parts_of_refutation tree.entry at)))) }
+    ensures within { OnOk result (TasksAreWithin (at + 1) (tasks_of tasks.new.items)) }
 {
     if is_leaf(node_at(tree.nodes, at)) {
         let leaf = Leaf {
@@ -247,16 +247,16 @@ fn lay_question(
     depth: usize,
     given: &Given,
 ) -> Result<(), NoMemory>
-    requires tree { IsReady tree }
+    requires tree { IsLayoutReady tree }
     requires at { at < length tree.nodes.now }
     requires depth { depth ≤ at }
     requires given { IsGiven tree.test.now given.now }
-    requires within { AreWithin at (tasks_of tasks.old.items) }
+    requires within { TasksAreWithin at (tasks_of tasks.old.items) }
     requires question { spec.is_leaf (root_at tree at) ≡ false }
-    ensures left { OnOk result (map step_of steps.new.items ++ emit tree.entry.test.now (tasks_of tasks.new.items) (parts_of tree.entry (at + 1))
-        ≡ map step_of steps.old.items ++ ((first_part (parts_of tree.entry at)).steps depth (known_of given.now.answers)
-        ++ emit tree.entry.test.now (tasks_of tasks.old.items) (drop 1 (parts_of tree.entry at)))) }
-    ensures within { OnOk result (AreWithin (at + 1) (tasks_of tasks.new.items)) }
+    ensures left { OnOk result (map reason_step_of steps.new.items ++ emit tree.entry.test.now (tasks_of tasks.new.items) (parts_of_refutation tree.entry (at + 1))
+        ≡ map reason_step_of steps.old.items ++ ((first_part (parts_of_refutation tree.entry at)).steps depth (known_of given.now.answers)
+        ++ emit tree.entry.test.now (tasks_of tasks.old.items) (drop 1 (parts_of_refutation tree.entry at)))) }
+    ensures within { OnOk result (TasksAreWithin (at + 1) (tasks_of tasks.new.items)) }
 {
     let branches = branches(alloc, tree, at)?;
     let closed = closed_among(alloc, tree, given, &branches)?;

@@ -24,7 +24,7 @@ pub mod report;
 pub mod steps;
 mod worked;
 
-pub use as_json::{never_json, unfinished_json};
+pub use as_json::{never_json, unfinished_reason_json};
 pub use as_text::{never_text, unfinished_text};
 pub use layout::steps_of;
 pub use report::{allowed_report, refutation_report, unfinished_cases_report};

@@ -7,7 +7,7 @@ ghost use Rattle.refutation_laws.specs.declared.model.Model.{Model};
 ghost use Rattle.refutations.specs.Trees.{node_of};
 ghost use Rattle.reason_report.specs.Steps as spec;
 ghost use Rattle.reason_report.specs.Steps.{Part};
-ghost use Rattle.reason_report.specs.inner.Parts.{AreBelow, AreNext, IsReady, parts_at, first_part, root_at, branch_in};
+ghost use Rattle.reason_report.specs.inner.Parts.{AreBelow, AreNext, IsLayoutReady, parts_of_nodes_from, first_part, root_at, branch_in};
 
 use crate::replies::{Branch, replies, reply_count};
 use refutation_laws::Model;
@@ -33,7 +33,7 @@ pub struct Refutation<'a> {
 /// The node that stands at a place.
 pub fn node_at(nodes: &[Node], at: usize) -> &Node
     requires { at < length nodes.now }
-    ensures { (model : Model) (t : Litmus) → node_of result.now ≡ (first_part (parts_at model t nodes.now at)).root }
+    ensures { (model : Model) (t : Litmus) → node_of result.now ≡ (first_part (parts_of_nodes_from model t nodes.now at)).root }
 {
     &nodes[at]
 }
@@ -49,7 +49,7 @@ pub fn next_parts(
 ) -> Result<Vec<usize>, NoMemory>
     requires { events.now ≡ events_of test.now }
     ensures count { IfOk result (λ next. length next.items ≡ length nodes.now) }
-    ensures next { IfOk result (λ next. (model : Model) → AreNext (parts_at model test.now nodes.now) 0 next.items) }
+    ensures next { IfOk result (λ next. (model : Model) → AreNext (parts_of_nodes_from model test.now nodes.now) 0 next.items) }
 {
     let mut next = vec![in alloc; 0usize; nodes.len()]?;
     for at in (0..nodes.len()).rev() {
@@ -79,11 +79,11 @@ pub fn after_parts(next: &[usize], first: usize, count: usize) -> usize
 ///
 /// Errors: out of memory only.
 pub fn branches(alloc: Global, tree: Refutation<'_>, at: usize) -> Result<Vec<Branch>, NoMemory>
-    requires tree { IsReady tree }
+    requires tree { IsLayoutReady tree }
     requires at { at < length tree.nodes.now }
     ensures branches { IfOk result (λ all. (k : Known) → map (branch_in tree.entry k) all.items
         ≡ spec.branches_with k (spec.replies tree.entry.test.now (root_at tree.entry at))
-        (parts_at tree.entry.model tree.entry.test.now tree.entry.nodes.now (at + 1))) }
+        (parts_of_nodes_from tree.entry.model tree.entry.test.now tree.entry.nodes.now (at + 1))) }
     ensures within { IfOk result (λ all. AreBelow (length tree.entry.nodes.now) all.items) }
 {
     let mut all = Vec::new(alloc);

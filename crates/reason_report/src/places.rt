@@ -4,12 +4,12 @@ ghost use Rattle.std.specs.Prelude.{◌≡◌, ◌==◌, All, IfOk, OnOk, length
 ghost use Rattle.std.specs.List.{list_all, list_any};
 ghost use Rattle.tso_model.specs.Condition.{NamesExist, claim_of, RegClaim, LocClaim};
 ghost use Rattle.refutation_laws.specs.Known.{events_of};
-ghost use Rattle.refutation_laws.specs.Refutations.{asked};
+ghost use Rattle.refutation_laws.specs.Refutations.{asked_claim};
 ghost use Rattle.refutations.specs.inner.Trees.{known_of};
 ghost use Rattle.refutations.specs.inner.Facts.{AreFacts};
-ghost use Rattle.tso_report.specs.inner.Tally.{IsKnown};
+ghost use Rattle.tso_report.specs.inner.Tally.{NameExists};
 ghost use Rattle.reason_report.specs.Places as spec;
-ghost use Rattle.reason_report.specs.inner.Views.{with_word};
+ghost use Rattle.reason_report.specs.inner.Views.{with_new_word};
 
 use refutations::propositions::{allows, register_at_end, words_at_end};
 use refutations::{Answers, Facts};
@@ -90,7 +90,7 @@ fn tells_asked(
 ) -> bool
     requires events { events.now ≡ events_of test.now }
     requires facts { AreFacts test.now (known_of answers.now) facts.now }
-    ensures { result ≡ spec.tells test.now (known_of answers.now) (asked test.now.condition) true place }
+    ensures { result ≡ spec.tells test.now (known_of answers.now) (asked_claim test.now.condition) true place }
 {
     let Some(cond) = test.cond() else {
         return false;
@@ -115,7 +115,7 @@ pub fn words_at(
 ) -> Result<Vec<Option<u32>>, NoMemory>
     requires events { events.now ≡ events_of test.now }
     requires facts { AreFacts test.now (known_of answers.now) facts.now }
-    requires place { IsKnown (length test.now.programs) (length test.now.locations) place }
+    requires place { NameExists (length test.now.programs) (length test.now.locations) place }
     ensures { IfOk result (λ words. words.items ≡ spec.words_at test.now (known_of answers.now) place) }
 {
     match place {
@@ -156,8 +156,8 @@ pub fn suffices(
 ) -> Result<bool, NoMemory>
     requires events { events.now ≡ events_of test.now }
     requires facts { AreFacts test.now (known_of answers.now) facts.now }
-    requires place { IsKnown (length test.now.programs) (length test.now.locations) place }
-    ensures { IfOk result (λ b. b ≡ spec.suffices test.now (asked test.now.condition) (known_of answers.now) place) }
+    requires place { NameExists (length test.now.programs) (length test.now.locations) place }
+    ensures { IfOk result (λ b. b ≡ spec.suffices test.now (asked_claim test.now.condition) (known_of answers.now) place) }
 {
     if !tells_asked(test, events, answers, facts, place) {
         return Ok(false);
@@ -179,9 +179,9 @@ pub fn named_among(
 ) -> Result<Vec<bool>, NoMemory>
     requires events { events.now ≡ events_of test.now }
     requires facts { AreFacts test.now (known_of answers.now) facts.now }
-    requires places { All (IsKnown (length test.now.programs) (length test.now.locations)) places.now }
+    requires places { All (NameExists (length test.now.programs) (length test.now.locations)) places.now }
     ensures { IfOk result (λ named. named.items
-        ≡ map (spec.suffices test.now (asked test.now.condition) (known_of answers.now)) places.now) }
+        ≡ map (spec.suffices test.now (asked_claim test.now.condition) (known_of answers.now)) places.now) }
 {
     let mut named = Vec::new(alloc);
     for place in places {
@@ -207,7 +207,7 @@ pub fn distinct_words(alloc: Global, words: &[Option<u32>]) -> Result<Vec<u32>, 
 
 /// Adds a word, if it doesn't stand there yet.
 fn add_word(values: &mut Vec<u32>, value: u32) -> Result<(), NoMemory>
-    ensures { OnOk result (values.new.items ≡ with_word values.old.items value) }
+    ensures { OnOk result (values.new.items ≡ with_new_word values.old.items value) }
 {
     if !is_among(values, value) {
         values.push(value)?;

@@ -7,7 +7,7 @@ ghost use Rattle.reason_report.specs.Printed.{refutation_in, unfinished_cases_in
 
 use crate::allowed_json::allowed_json;
 use crate::allowed_text::allowed_text;
-use crate::as_json::{never_json, unfinished_json};
+use crate::as_json::{never_json, unfinished_reason_json};
 use crate::as_text::{never_text, unfinished_text};
 use crate::layout::steps_of;
 use crate::made::{make, words_after};
@@ -89,7 +89,7 @@ pub fn unfinished_cases_report(
     ensures { IfOk result (λ text. string_bytes text ≡ unfinished_cases_in json test.now cases) }
 {
     if json {
-        unfinished_json(alloc, test, cases)
+        unfinished_reason_json(alloc, test, cases)
     } else {
         unfinished_text(alloc, cases)
     }

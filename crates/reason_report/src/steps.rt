@@ -2,7 +2,7 @@
 
 ghost use Rattle.std.specs.Prelude.{◌≡◌, if◌then◌else◌, map};
 ghost use Rattle.reason_report.specs.Steps as spec;
-ghost use Rattle.reason_report.specs.Views.{step_of};
+ghost use Rattle.reason_report.specs.Views.{reason_step_of};
 
 use refutation_laws::Relation;
 use tso_model::Entry;
@@ -68,14 +68,14 @@ pub enum Step {
 }
 
 fn is_leaf(step: &Step) -> bool
-    ensures { (if result then 1 else 0) ≡ spec.leaves_of (step_of step.now) }
+    ensures { (if result then 1 else 0) ≡ spec.leaves_in_step (reason_step_of step.now) }
 {
     matches!(step, Step::Leaf(..))
 }
 
 /// How many of these steps close a case.
 pub fn leaves_in(steps: &[Step]) -> usize
-    ensures { result ≡ spec.leaves_in (map step_of steps.now) }
+    ensures { result ≡ spec.leaves_in (map reason_step_of steps.now) }
 {
     let mut leaves = 0;
     for step in steps {

@@ -1,12 +1,12 @@
 -- A full case that no leaf closes: all of its events can be put in a row; and a write between two parts is found where there is one.
-use Rattle.reasons.proofs.Vocabulary.{◌≡◌, ℕ, Bool, true, false, not, if◌then◌else◌, List, [], ◌∷◌, length, Option, Some, None, map, refl, sym, ap, ◌∙◌, ◌⊎◌, inl, inr, subst, Litmus, IsTest, IsCondition, Claim, Condition, NamesExist, Entry, IsIn, in-case, in-none, in-first, in-later, in-filter, filter-in, and-both, once-filter, once-events, Ordered, Once, Known, bare, events_of, on_location, global_in, is_edge, are_parts, is_between, is_node, asked, asked_by, IsFull, IsSound, NoneBetween, Model, IsOpen, node_of, Node, is_leaf, IsSorted, IsLeafless, LeafOrNone, first_of_two, between_these, between_from, first_between}
+use Rattle.reasons.proofs.Vocabulary.{◌≡◌, ℕ, Bool, true, false, not, if◌then◌else◌, List, [], ◌∷◌, length, Option, Some, None, map, refl, sym, ap, ◌∙◌, ◌⊎◌, inl, inr, subst, Litmus, IsTest, IsCondition, Claim, Condition, NamesExist, Entry, IsIn, in-case, in-none, in-first, in-later, in-filter, filter-in, and-both, once-filter, once-events, Ordered, Once, Known, bare, events_of, on_location, global_in, is_edge, are_parts, is_between, is_node, asked_claim, asked_by, IsFull, IsSound, NoneBetween, Model, IsOpen, node_of, Node, is_leaf, IsSorted, IsLeafless, LeafOrNone, first_of_two, between_these, between_from, first_between}
 use Rattle.std.proofs.Common.{filter}
 use Rattle.tso_model.specs.declared.condition.Quantifier.{Quantifier}
 use Rattle.tso_model.specs.declared.condition.Quantifier.TheVariants.{Exists, NotExists, Forall}
 use Rattle.relational_model.specs.Candidates.{events_from}
 use Rattle.refutation_laws.specs.Values.{allows}
 use Rattle.refutation_laws.specs.Models.{IsMet}
-use Rattle.refutation_laws.specs.inner.Orders.{comes_toward, is_load_part, IsRow, valued, with_loads, order_of}
+use Rattle.refutation_laws.specs.inner.Orders.{comes_toward, is_load_part, IsLinearExtension, valued, with_loads, order_along}
 use Rattle.refutation_laws.proofs.Building.{one-event}
 use Rattle.refutation_laws.proofs.Progress.{never-stuck}
 use Rattle.refutation_laws.proofs.Completeness.{six-of}
@@ -47,7 +47,7 @@ abbrev pub open-case : (model : Model) (t : Litmus) (k : Known) → IsTest t →
 open-case model t k test f u = record { full = f; six = six-of t test; within_locations = u.on_location; globally = u.globally }
 
 whole-row : (model : Model) (t : Litmus) (k : Known) → IsTest t → IsFull t k → IsSound t k → IsLeafless model t k → (others row rest : List Entry)
-    → others ≡ filter (λ e. not (is_load_part e)) (events_of t) → IsSorted (comes_toward model t k) others row rest → IsRow model t k row
+    → others ≡ filter (λ e. not (is_load_part e)) (events_of t) → IsSorted (comes_toward model t k) others row rest → IsLinearExtension model t k row
 whole-row model t k test f d u others row rest is s = record {
   inside = λ x i. other x (s.parted.in_row x i);
   whole = λ x i n. on x (s.parted.whole x (subst (λ es. IsIn es x) (sym is) (filter-in (λ e. not (is_load_part e)) (events_of t) x i (ap not n))));
@@ -67,11 +67,11 @@ whole-row model t k test f d u others row rest is s = record {
 
 -- with its values and its load parts it is an execution in which what is asked is true
 pub row-met : (model : Model) (t : Litmus) (k : Known) → IsTest t → IsFull t k → IsSound t k → IsLeafless model t k → (others row rest order : List Entry)
-    → others ≡ filter (λ e. not (is_load_part e)) (events_of t) → IsSorted (comes_toward model t k) others row rest → order ≡ order_of t k row
-    → IsMet model t (asked t.condition) order
+    → others ≡ filter (λ e. not (is_load_part e)) (events_of t) → IsSorted (comes_toward model t k) others row rest → order ≡ order_along t k row
+    → IsMet model t (asked_claim t.condition) order
 row-met model t k test f d u others row rest order is s so =
-    subst (IsMet model t (asked t.condition)) (sym so)
-    (row-is-met model t k (open-case model t k test f u) u.none_between (asked t.condition) (named t t.condition test refl) u.can_be row
+    subst (IsMet model t (asked_claim t.condition)) (sym so)
+    (row-is-met model t k (open-case model t k test f u) u.none_between (asked_claim t.condition) (named t t.condition test refl) u.can_be row
     (whole-row model t k test f d u others row rest is s))
   where
     asked-names : (cores locations : ℕ) (q : Quantifier) (claim : Claim) → NamesExist cores locations claim
@@ -80,7 +80,7 @@ row-met model t k test f d u others row rest order is s so =
     asked-names cores locations NotExists claim n = n
     asked-names cores locations Forall claim n = n
 
-    named : (t : Litmus) (d : Option Condition) → IsTest t → t.condition ≡ d → NamesExist (length t.programs) (length t.words) (asked d)
+    named : (t : Litmus) (d : Option Condition) → IsTest t → t.condition ≡ d → NamesExist (length t.programs) (length t.words) (asked_claim d)
     named t None test e = tt
     named t (Some d) test e =
         let f : IsCondition (length t.programs) (length t.locations) d = test.condition_fits d e in
@@ -91,7 +91,7 @@ row-met model t k test f d u others row rest order is s so =
 pub order-met : (model : Model) (t : Litmus) (k : Known) → IsTest t → IsFull t k → IsSound t k → IsLeafless model t k
     → (es others now row rest now2 loaded now3 order : List Entry) → es ≡ events_of t → others ≡ filter (λ e. not (is_load_part e)) es → now ≡ others
     → IsSorted (comes_toward model t k) now row rest → now2 ≡ row → loaded ≡ with_loads es now2 → now3 ≡ loaded → order ≡ map (valued t k) now3
-    → IsMet model t (asked t.condition) order
+    → IsMet model t (asked_claim t.condition) order
 order-met model t k test f d u es others now row rest now2 loaded now3 order e o a s b l q v =
     row-met model t k test f d u others row rest order (o ∙ ap (filter (λ x. not (is_load_part x))) e)
     (subst (λ xs. IsSorted (comes_toward model t k) xs row rest) a s)
@@ -196,9 +196,9 @@ none-is-between t k e = λ r v w i j l h. none-first t k (events_of t) (events_o
 -- the last leaf that is looked for
 pub leaf-or-none : (model : Model) (t : Litmus) (k : Known) (es : List Entry) → es ≡ events_of t
     → Ordered (λ x y. is_edge t k on_location x y ≡ true) (events_of t) → Ordered (λ x y. is_edge t k (global_in model) x y ≡ true) (events_of t)
-    → allows t k (asked t.condition) true ≡ true → (o : Option Node) → o ≡ first_between t k es es → LeafOrNone model t k o
+    → allows t k (asked_claim t.condition) true ≡ true → (o : Option Node) → o ≡ first_between t k es es → LeafOrNone model t k o
 leaf-or-none model t k es e l g a (Some n) h =
-    found-between model t (asked t.condition) k n (ap (λ xs. first_between t k xs xs) (sym e) ∙ sym h)
+    found-between model t (asked_claim t.condition) k n (ap (λ xs. first_between t k xs xs) (sym e) ∙ sym h)
 leaf-or-none model t k es e l g a None h = record {
   on_location = l;
   globally = g;

@@ -1,5 +1,5 @@
 -- The search's state: its nodes are part of a tree, whose open cases are these; they and the leaves weigh no more than all cases.
-use Rattle.reasons.proofs.Vocabulary.{◌≡◌, ◌<◌, ◌≤◌, ◌+◌, ℕ, ◌&&◌, Bool, true, false, not, if◌then◌else◌, List, [], ◌∷◌, ◌++◌, length, map, Some, None, arith, refl, sym, ap, ◌∙◌, subst, Litmus, Claim, is_read, is_write, writes_to, Entry, IsIn, in-first, in-later, in-filter, and-both, Known, events_of, same_event, is_event, nothing, with_source, ReadsFrom, ComesFirst, OnLocation, Globally, Between, FalseClaim, asked, is_node, branches, close, refutes, Model, IsPossible, has_source, may_ask, is_answered, IsSound, same-bare, bare-same, node_of, known_of, cases_of, Answers, open_after, is_leaf, leaves_of, HasMoreCases, most_cases}
+use Rattle.reasons.proofs.Vocabulary.{◌≡◌, ◌<◌, ◌≤◌, ◌+◌, ℕ, ◌&&◌, Bool, true, false, not, if◌then◌else◌, List, [], ◌∷◌, ◌++◌, length, map, Some, None, arith, refl, sym, ap, ◌∙◌, subst, Litmus, Claim, is_read, is_write, writes_to, Entry, IsIn, in-first, in-later, in-filter, and-both, Known, events_of, same_event, is_event, nothing, with_source, ReadsFrom, ComesFirst, OnLocation, Globally, Between, FalseClaim, asked_claim, is_node, branches, close, refutes, Model, IsPossibleSource, has_source, may_ask, is_answered, IsSound, same-bare, bare-same, node_of, known_of, cases_of, Answers, open_after, is_leaf, leaves_of, HasMoreCases, most_cases}
 use Rattle.std.proofs.Common.{filter}
 use Rattle.refutation_laws.specs.Refutations.{Node}
 use Rattle.refutations.specs.declared.tree.Node as code
@@ -12,7 +12,7 @@ AreSound t [] = Unit {0}
 AreSound t (k ∷ ks) = IsSound t k × AreSound t ks
 
 pub record IsSearch (model : Model) (t : Litmus) (cases : List Known) (nodes : List Node) (leaves : ℕ) : Type 0 where
-  pub is_part : open_after model t (asked t.condition) (nothing ∷ []) nodes ≡ Some cases
+  pub is_part : open_after model t (asked_claim t.condition) (nothing ∷ []) nodes ≡ Some cases
   pub counted : leaves_of nodes ≡ leaves
   pub sound : AreSound t cases
   pub bound : leaves + total 0 t cases ≤ most_cases t
@@ -83,7 +83,7 @@ module _ (model : Model) (t : Litmus) (claim : Claim) where
 -- ---- branches of an open question
 
 each-source : (t : Litmus) (k : Known) (r : Entry) → IsSound t k → is_read r ≡ true → has_source k r ≡ false → (ws : List Entry)
-    → ((w : Entry) → IsIn ws w → IsPossible t r (Some w)) → AreSound t (map (with_source k r) (map (λ w. Some w) ws))
+    → ((w : Entry) → IsIn ws w → IsPossibleSource t r (Some w)) → AreSound t (map (with_source k r) (map (λ w. Some w) ws))
 each-source t k r s read fresh [] p = tt
 each-source t k r s read fresh (w ∷ ws) p = (
   record {
@@ -161,7 +161,7 @@ module _ (model : Model) (t : Litmus) where
   }
 
   pub with-leaf : (k : Known) (rest : List Known) (nodes : List Node) (leaves : ℕ) (n : Node) → IsSearch model t (k ∷ rest) nodes leaves
-      → is_node model t (asked t.condition) k n ≡ true → is_leaf n ≡ true → IsSearch model t rest (nodes ++ (n ∷ [])) (leaves + 1)
+      → is_node model t (asked_claim t.condition) k n ≡ true → is_leaf n ≡ true → IsSearch model t rest (nodes ++ (n ∷ [])) (leaves + 1)
   with-leaf k rest nodes leaves n s stands leaf =
       let a = leaves-more nodes n in
       let b = one-leaf n true leaf in
@@ -170,7 +170,7 @@ module _ (model : Model) (t : Litmus) where
       let e = s.bound in
       record {
         is_part =
-            onwards model t (asked t.condition) (nothing ∷ []) nodes k rest n s.is_part stands
+            onwards model t (asked_claim t.condition) (nothing ∷ []) nodes k rest n s.is_part stands
             ∙ ap (λ ks. Some (ks ++ rest)) (no-branches t k n leaf);
         counted = omega (arith, a, b, c);
         sound = s.sound.1;
@@ -187,15 +187,15 @@ module _ (model : Model) (t : Litmus) where
       let e = s.bound in
       record {
         is_part =
-            onwards model t (asked t.condition) (nothing ∷ []) nodes k rest q s.is_part
-            (question-stands model t (asked t.condition) k q ask);
+            onwards model t (asked_claim t.condition) (nothing ∷ []) nodes k rest q s.is_part
+            (question-stands model t (asked_claim t.condition) k q ask);
         counted = omega (arith, a, b, c);
         sound = sound-append t (branches t k q) rest (branches-sound t k q s.sound.0 ask fresh) s.sound.1;
         bound = omega (arith, d, e);
       }
 
   pub too-many : (k : Known) (rest : List Known) (nodes : List Node) (limit : ℕ) (n : Node) → IsSearch model t (k ∷ rest) nodes limit
-      → is_node model t (asked t.condition) k n ≡ true → is_leaf n ≡ true → HasMoreCases model t limit × (limit < most_cases t)
+      → is_node model t (asked_claim t.condition) k n ≡ true → is_leaf n ≡ true → HasMoreCases model t limit × (limit < most_cases t)
   too-many k rest nodes limit n s stands leaf =
       let m = with-leaf k rest nodes limit n s stands leaf in
       let c = m.counted in
@@ -203,8 +203,8 @@ module _ (model : Model) (t : Litmus) where
       let e = s.bound in
       (record { nodes = nodes ++ (n ∷ []); cases = rest; is_part = m.is_part; more = omega (arith, c) }, omega (arith, d, e))
 
-  pub refuted : (nodes : List Node) (leaves : ℕ) → IsSearch model t [] nodes leaves → refutes model t (asked t.condition) nodes ≡ true
-  refuted nodes leaves s = all-closed model t (asked t.condition) (nothing ∷ []) nodes s.is_part
+  pub refuted : (nodes : List Node) (leaves : ℕ) → IsSearch model t [] nodes leaves → refutes model t (asked_claim t.condition) nodes ≡ true
+  refuted nodes leaves s = all-closed model t (asked_claim t.condition) (nothing ∷ []) nodes s.is_part
 
 -- ---- the steps as the code takes them
 
@@ -222,7 +222,7 @@ module _ (model : Model) (t : Litmus) (before after : List Answers) (a : Answers
 
   pub after-leaf : (nodes more : List code.Node) (leaves : ℕ) (n : code.Node) → more ≡ nodes ++ (n ∷ [])
       → IsSearch model t (cases_of before) (map node_of nodes) leaves
-      → (is_node model t (asked t.condition) (known_of a) (node_of n) ≡ true) × (is_leaf (node_of n) ≡ true)
+      → (is_node model t (asked_claim t.condition) (known_of a) (node_of n) ≡ true) × (is_leaf (node_of n) ≡ true)
       → IsSearch model t (cases_of after) (map node_of more) (leaves + 1)
   after-leaf nodes more leaves n e s h =
       subst (λ ns. IsSearch model t (cases_of after) ns (leaves + 1)) (sym (ap (map node_of) e ∙ map-more nodes n))
@@ -241,7 +241,7 @@ module _ (model : Model) (t : Litmus) (before after : List Answers) (a : Answers
 
   pub one-too-many : (nodes : List code.Node) (leaves limit : ℕ) (n : code.Node) → leaves ≡ limit
       → IsSearch model t (cases_of before) (map node_of nodes) leaves
-      → (is_node model t (asked t.condition) (known_of a) (node_of n) ≡ true) × (is_leaf (node_of n) ≡ true)
+      → (is_node model t (asked_claim t.condition) (known_of a) (node_of n) ≡ true) × (is_leaf (node_of n) ≡ true)
       → HasMoreCases model t limit × (limit < most_cases t)
   one-too-many nodes leaves limit n e s h =
       too-many model t (known_of a) (cases_of after) (map node_of nodes) limit (node_of n)
@@ -268,5 +268,5 @@ pub first-case : (model : Model) (t : Litmus) (cases : List Answers) (k : Known)
 first-case model t cases k e n = subst (λ ks. IsSearch model t ks [] 0) (sym (e ∙ ap (λ x. x ∷ []) n)) (at-first model t)
 
 pub all-done : (model : Model) (t : Litmus) (cases : List Answers) (nodes : List Node) (leaves : ℕ) → cases ≡ []
-    → IsSearch model t (cases_of cases) nodes leaves → refutes model t (asked t.condition) nodes ≡ true
+    → IsSearch model t (cases_of cases) nodes leaves → refutes model t (asked_claim t.condition) nodes ≡ true
 all-done model t cases nodes leaves e s = refuted model t nodes leaves (subst (λ xs. IsSearch model t (cases_of xs) nodes leaves) e s)

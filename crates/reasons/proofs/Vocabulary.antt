@@ -21,8 +21,8 @@ pub use Rattle.refutation_laws.proofs.Settling.{is-event, IsOpen}
 pub use Rattle.reasons.specs.inner.Cycles.{up_to, CycleOrRow}
 pub use Rattle.std.proofs.lemmas.Nat.{mul-le}
 pub use Rattle.tso_model.specs.ProgramOrder.{is_read, is_write, writes_to, is_store}
-pub use Rattle.refutation_laws.specs.Refutations.{sources_of, ReadsFrom, ComesFirst, OnLocation, Globally, Between, FalseClaim, branches, asked, is_node, close, refutes, asked_by}
-pub use Rattle.refutation_laws.specs.inner.FullCases.{has_source, are_ordered, may_ask, is_answered, IsFull, IsSound, IsPossible, NoneBetween}
+pub use Rattle.refutation_laws.specs.Refutations.{sources_of, ReadsFrom, ComesFirst, OnLocation, Globally, Between, FalseClaim, branches, asked_claim, is_node, close, refutes, asked_by}
+pub use Rattle.refutation_laws.specs.inner.FullCases.{has_source, are_ordered, may_ask, is_answered, IsFull, IsSound, IsPossibleSource, NoneBetween}
 pub use Rattle.reasons.specs.Reasons.{product, sources_in, orders_in, all_orders, most_cases, open_after, is_leaf, leaves_of, HasMoreCases}
 pub use Rattle.refutations.specs.Trees.{node_of}
 pub use Rattle.refutations.specs.declared.tree.Node.{Node}
@@ -32,7 +32,7 @@ pub use Rattle.refutation_laws.specs.declared.model.Model.{Model}
 pub use Rattle.refutations.specs.inner.Trees.{known_of, relations_of}
 pub use Rattle.refutations.specs.inner.Stack.{cases_of}
 pub use Rattle.refutations.specs.declared.answers.Answers.{Answers}
-pub use Rattle.reasons.specs.inner.Cases.{IsLeafless, LeafOrNone, first_of_two, between_these, between_from, first_between, IsStep}
+pub use Rattle.reasons.specs.inner.Cases.{IsLeafless, LeafOrNone, first_of_two, between_these, between_from, first_between, IsSearchStep}
 pub use Rattle.std.proofs.lemmas.List.{set-get_or, length-set, nil_from_length}
 pub use Rattle.tso_laws.specs.Along.{steps, drained, choices_for, places_after, last_steps, choices_from, beginnings, choices_along, LeadTo}
 pub use Rattle.reasons.specs.inner.Steps.{is_step}

@@ -6,7 +6,7 @@ use Rattle.tso_model.specs.Condition.{Claim}
 use Rattle.tso_model.specs.ProgramOrder.{is_read, is_write, writes_to}
 use Rattle.tso_model.specs.declared.execution.Entry.{Entry}
 use Rattle.refutation_laws.specs.Known.{Known, events_of, nothing}
-use Rattle.refutation_laws.specs.Refutations.{Node, ReadsFrom, ComesFirst, OnLocation, Globally, Between, FalseClaim, asked, sources_of, is_node, branches, refutes}
+use Rattle.refutation_laws.specs.Refutations.{Node, ReadsFrom, ComesFirst, OnLocation, Globally, Between, FalseClaim, asked_claim, sources_of, is_node, branches, refutes}
 use Rattle.refutation_laws.specs.Models.{IsMet}
 use Rattle.refutation_laws.specs.declared.model.Model.{Model}
 use Rattle.refutations.specs.Trees.{node_of}
@@ -37,7 +37,7 @@ leaves_of ns = length (filter is_leaf ns)
 pub record HasMoreCases (model : Model) (t : Litmus) (limit : ℕ) : Type 0 where
   pub nodes : List Node
   pub cases : List Known
-  pub is_part : open_after model t (asked t.condition) (nothing ∷ []) nodes ≡ Some cases
+  pub is_part : open_after model t (asked_claim t.condition) (nothing ∷ []) nodes ≡ Some cases
   pub more : limit < leaves_of nodes
 
 -- ---- how many cases there can be
@@ -65,6 +65,6 @@ most_cases t = product (sources_in t) (events_of t) * all_orders (events_of t)
 -- ---- the answer
 
 abbrev pub IsReason : Model → Litmus → ℕ → Reason → Type 0
-IsReason model t limit (Never nodes) = refutes model t (asked t.condition) (map node_of nodes.items) ≡ true
-IsReason model t limit (Allowed execution) = IsMet model t (asked t.condition) execution.order.items
+IsReason model t limit (Never nodes) = refutes model t (asked_claim t.condition) (map node_of nodes.items) ≡ true
+IsReason model t limit (Allowed execution) = IsMet model t (asked_claim t.condition) execution.order.items
 IsReason model t limit TooMany = HasMoreCases model t limit × (limit < most_cases t)

@@ -5,7 +5,7 @@ ghost use Rattle.refutation_laws.specs.Edges.{are_parts};
 ghost use Rattle.refutation_laws.specs.inner.Orders as spec;
 ghost use Rattle.refutations.specs.inner.Trees.{known_of};
 ghost use Rattle.refutations.specs.inner.Facts.{AreFacts};
-ghost use Rattle.refutation_laws.specs.Refutations.{asked};
+ghost use Rattle.refutation_laws.specs.Refutations.{asked_claim};
 ghost use Rattle.refutation_laws.specs.Models.{IsMet};
 ghost use Rattle.refutation_laws.specs.inner.FullCases.{IsFull, IsSound};
 ghost use Rattle.reasons.specs.inner.Cases.{IsLeafless};
@@ -100,7 +100,7 @@ pub fn make_order(
     requires full { IsFull test.now (known_of answers.now) }
     requires sound { IsSound test.now (known_of answers.now) }
     requires leafless { IsLeafless model test.now (known_of answers.now) }
-    ensures { IfOk result (λ o. IsMet model test.now (asked test.now.condition) o.items) }
+    ensures { IfOk result (λ o. IsMet model test.now (asked_claim test.now.condition) o.items) }
 {
     test.know_limits();
     let facts = known_facts(alloc, test, events, answers)?;

@@ -2,12 +2,12 @@
 ghost use Rattle.std.specs.Prelude.{◌≡◌, IfOk, IfSome, true};
 ghost use Rattle.refutation_laws.specs.Known.{events_of};
 ghost use Rattle.refutation_laws.specs.inner.FullCases.{IsSound};
-ghost use Rattle.refutation_laws.specs.Refutations.{asked, is_node};
+ghost use Rattle.refutation_laws.specs.Refutations.{asked_claim, is_node};
 ghost use Rattle.refutation_laws.specs.Models.{IsMet};
 ghost use Rattle.refutations.specs.Trees.{node_of};
 ghost use Rattle.refutations.specs.inner.Trees.{known_of};
 ghost use Rattle.reasons.specs.Reasons.{IsReason, is_leaf};
-ghost use Rattle.reasons.specs.inner.Cases.{IsLeafless, IsStep};
+ghost use Rattle.reasons.specs.inner.Cases.{IsLeafless, IsSearchStep};
 
 use crate::leaves::{find_leaf, is_leaf};
 use crate::order::make_order;
@@ -32,7 +32,7 @@ fn go_on(
     requires events { events.now ≡ events_of test.now }
     requires sound { IsSound test.now (known_of answers.now) }
     requires leafless { IsLeafless model test.now (known_of answers.now) }
-    ensures { IfOk result (IsStep model test.now (known_of answers.now)) }
+    ensures { IfOk result (IsSearchStep model test.now (known_of answers.now)) }
 {
     test.know_limits();
     if let Some(question) = next_question(events, answers) {
@@ -52,7 +52,7 @@ fn is_closed_by(
     node: &Node,
 ) -> Result<bool, NoMemory>
     requires events { events.now ≡ events_of test.now }
-    ensures { IfOk result (λ b. b ≡ true → (is_node model test.now (asked test.now.condition) (known_of answers.now) (node_of node.now) ≡ true)
+    ensures { IfOk result (λ b. b ≡ true → (is_node model test.now (asked_claim test.now.condition) (known_of answers.now) (node_of node.now) ≡ true)
         × (is_leaf (node_of node.now) ≡ true)) }
 {
     if !is_leaf(node) {
@@ -71,7 +71,7 @@ fn take_proposal(
     node: Node,
 ) -> Result<Option<Step>, NoMemory>
     requires events { events.now ≡ events_of test.now }
-    ensures { IfOk result (λ r. IfSome r (IsStep model test.now (known_of answers.now))) }
+    ensures { IfOk result (λ r. IfSome r (IsSearchStep model test.now (known_of answers.now))) }
 {
     if is_closed_by(alloc, test, events, model, answers, &node)? {
         return Ok(Some(Step::Leaf(node)));
@@ -92,7 +92,7 @@ fn next_step(
 ) -> Result<Step, NoMemory>
     requires events { events.now ≡ events_of test.now }
     requires sound { IsSound test.now (known_of answers.now) }
-    ensures { IfOk result (IsStep model test.now (known_of answers.now)) }
+    ensures { IfOk result (IsSearchStep model test.now (known_of answers.now)) }
 {
     match find_leaf(alloc, test, events, model, answers)? {
         Some(leaf) => Ok(Step::Leaf(leaf)),
@@ -111,7 +111,7 @@ fn guided_step(
 ) -> Result<Step, NoMemory>
     requires events { events.now ≡ events_of test.now }
     requires sound { IsSound test.now (known_of answers.now) }
-    ensures { IfOk result (IsStep model test.now (known_of answers.now)) }
+    ensures { IfOk result (IsSearchStep model test.now (known_of answers.now)) }
 {
     if let Some(node) = propose(alloc, guide, test, answers)? {
         if let Some(step) = take_proposal(alloc, test, events, model, answers, node)? {
@@ -129,7 +129,7 @@ fn met_execution(
     test: &Test,
     model: Model,
 ) -> Result<Option<Execution>, NoMemory>
-    ensures { IfOk result (λ r. IfSome r (λ e. IsMet model test.now (asked test.now.condition) e.order.items)) }
+    ensures { IfOk result (λ r. IfSome r (λ e. IsMet model test.now (asked_claim test.now.condition) e.order.items)) }
 {
     let Some(execution) = proposed_order(alloc, guide)? else {
         return Ok(None);

@@ -1,5 +1,5 @@
 -- The edges that a candidate has which agrees with what is known.
-use Rattle.refutation_laws.proofs.Vocabulary.{◌≡◌, ◌&&◌, true, List, [], ◌∷◌, Option, Some, None, refl, sym, ap, ◌∙◌, ◌⊎◌, inl, inr, subst, list_any, Litmus, is_read, writes_to, Entry, IsIn, IsEarlier, Candidate, Returns, IsCandidate, events, ReadsFrom, IsBefore, StandsAfter, FromReads, and-both, or-either, location, Sound, Known, same_event, is_write_of, comes_before, is_overwritten, from_reads, Source, Pair, Stands, IsSource, HasSources, HasPairs, Agrees}
+use Rattle.refutation_laws.proofs.Vocabulary.{◌≡◌, ◌&&◌, true, List, [], ◌∷◌, Option, Some, None, refl, sym, ap, ◌∙◌, ◌⊎◌, inl, inr, subst, list_any, Litmus, is_read, writes_to, Entry, IsIn, IsEarlier, Candidate, Returns, IsCandidate, events, ReadsFrom, IsBefore, StandsAfter, FromReads, and-both, or-either, location, Sound, Known, same_event, is_write_of, comes_before, is_overwritten, from_reads, Source, Pair, Stands, IsSameSource, HasSources, HasPairs, Agrees}
 use Rattle.refutation_laws.proofs.Standing.{same-bare, one-entry}
 
 pub stands-for : (t : Litmus) (c : Candidate) (d e x : Entry) → same_event d e ≡ true → Stands t c e x → Stands t c d x
@@ -7,7 +7,7 @@ stands-for t c d e x h s = record { inside = s.inside; same = same-bare d e h �
 
 -- ---- rf
 
-from-write : (t : Litmus) (c : Candidate) → Sound t c → (w x : Entry) (o s : Option Entry) → IsSource o s → is_write_of w o ≡ true
+from-write : (t : Litmus) (c : Candidate) → Sound t c → (w x : Entry) (o s : Option Entry) → IsSameSource o s → is_write_of w o ≡ true
     → Stands t c w x → ((z : Entry) → s ≡ Some z → IsIn (events t c) z) → s ≡ Some x
 from-write t c k w x None s h q a inside = let z : ⊥ = cc in absurd z
 from-write t c k w x (Some v) None h q a inside = absurd h
@@ -68,7 +68,7 @@ has-co t c k h w v x y q a b = has-pair t c k.order h.order w v x y q a b
 
 -- ---- fr
 
-over : (t : Litmus) (c : Candidate) → Sound t c → (k : Known) → Agrees t c k → (r v x y : Entry) (o s : Option Entry) → IsSource o s
+over : (t : Litmus) (c : Candidate) → Sound t c → (k : Known) → Agrees t c k → (r v x y : Entry) (o s : Option Entry) → IsSameSource o s
     → is_overwritten k r o v ≡ true → Stands t c r x → Stands t c v y
     → ((z : Entry) → s ≡ Some z → IsIn (events t c) z × (writes_to x.loc.0 z ≡ true)) → StandsAfter (c.coherence x.loc.0) s y
 over t c d k h r v x y None None i q a b inside =

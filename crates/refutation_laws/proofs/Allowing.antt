@@ -1,5 +1,5 @@
 -- The candidate of a full case with no cycle, and with no write between two parts, is allowed: each of its edges is known.
-use Rattle.refutation_laws.proofs.Vocabulary.{◌≡◌, ◌≢◌, ℕ, ◌==◌, ◌&&◌, ◌||◌, Bool, true, false, not, if◌then◌else◌, List, [], ◌∷◌, Option, Some, None, refl, sym, ap, ◌∙◌, ◌⊎◌, inl, inr, subst, list_all, Litmus, is_before, is_read, is_write, writes_to, same_kind, Entry, F, LR, LW, IsIn, IsEarlier, LeadsTo, at_once, onward, IsAcyclic, Candidate, IsCandidate, events, is_access, share_location, ReadsFrom, IsBefore, StandsAfter, FromReads, IsBeforeOnLocation, po_loc, rf, co, fr, HappensBefore, write_before_write, read_before_access, mfence, implied, rfe, IsAtomic, is_locked, in-filter, filter-in, and-both, or-either, number-same, same-number, kind-itself, never-itself, stand-once, location, starts-in, Ordered, Sound, sound, IsBeforeSequentially, Known, bare, events_of, same_event, is_event, is_write_of, reads_from, comes_before, is_overwritten, from_reads, Source, relates, on_location, global_in, is_edge, are_parts, is_between, IsAllowedBy, Model, Tso, Sequential, Relation, Mfence, IsPossible, NoneBetween}
+use Rattle.refutation_laws.proofs.Vocabulary.{◌≡◌, ◌≢◌, ℕ, ◌==◌, ◌&&◌, ◌||◌, Bool, true, false, not, if◌then◌else◌, List, [], ◌∷◌, Option, Some, None, refl, sym, ap, ◌∙◌, ◌⊎◌, inl, inr, subst, list_all, Litmus, is_before, is_read, is_write, writes_to, same_kind, Entry, F, LR, LW, IsIn, IsEarlier, LeadsTo, at_once, onward, IsAcyclic, Candidate, IsCandidate, events, is_access, share_location, ReadsFrom, IsBefore, StandsAfter, FromReads, IsBeforeOnLocation, po_loc, rf, co, fr, HappensBefore, write_before_write, read_before_access, mfence, implied, rfe, IsAtomic, is_locked, in-filter, filter-in, and-both, or-either, number-same, same-number, kind-itself, never-itself, stand-once, location, starts-in, Ordered, Sound, sound, IsBeforeSequentially, Known, bare, events_of, same_event, is_event, is_write_of, reads_from, comes_before, is_overwritten, from_reads, Source, relates, on_location, global_in, is_edge, are_parts, is_between, IsAllowedBy, Model, Tso, Sequential, Relation, Mfence, IsPossibleSource, NoneBetween}
 use Rattle.relational_model.specs.SequentialModel as sc
 use Rattle.refutation_laws.proofs.Standing.{Of, of-event, same-bare}
 use Rattle.refutation_laws.proofs.Tests.{and-of, or-first, or-second, any-in}
@@ -115,7 +115,7 @@ module _ (model : Model) (t : Litmus) (k : Known) (o : IsOpen model t k) where
           let j : IsIn (c.coherence r.loc.0) v = subst (λ s. StandsAfter (c.coherence r.loc.0) s v) e h.overwritten in
           over None q (write-in r.loc.0 v j).1
       go (Some w) q =
-          let p : IsPossible t f.source.read (Some w) = subst (λ s. IsPossible t f.source.read s) q f.possible in
+          let p : IsPossibleSource t f.source.read (Some w) = subst (λ s. IsPossibleSource t f.source.read s) q f.possible in
           let of : Of es w = of-event t c w p.0 in
           let y : Entry = of.entry in
           let e : c.source r ≡ Some y =

@@ -1,6 +1,6 @@
 -- All questions asked: each case in which every read has a source and every two writes of a location are ordered has an answer, so
 -- the whole has one.
-use Rattle.refutation_laws.proofs.Vocabulary.{◌≡◌, ◌&&◌, ◌||◌, Bool, true, false, not, List, [], ◌∷◌, ◌++◌, Option, Some, None, refl, sym, ap, ◌⊎◌, inl, inr, subst, map, filter, list_any, Litmus, Claim, is_read, is_write, writes_to, Entry, Member, IsIn, in-case, in-none, in-first, in-later, in-filter, Known, events_of, same_event, is_event, nothing, with_source, with_pair, comes_before, Source, Model, Node, ComesFirst, OnLocation, Globally, Between, FalseClaim, is_node, branches, IsPossible, ArePossible, has_source, are_ordered, may_ask, is_answered, IsFull}
+use Rattle.refutation_laws.proofs.Vocabulary.{◌≡◌, ◌&&◌, ◌||◌, Bool, true, false, not, List, [], ◌∷◌, ◌++◌, Option, Some, None, refl, sym, ap, ◌⊎◌, inl, inr, subst, map, filter, list_any, Litmus, Claim, is_read, is_write, writes_to, Entry, Member, IsIn, in-case, in-none, in-first, in-later, in-filter, Known, events_of, same_event, is_event, nothing, with_source, with_pair, comes_before, Source, Model, Node, ComesFirst, OnLocation, Globally, Between, FalseClaim, is_node, branches, IsPossibleSource, ArePossible, has_source, are_ordered, may_ask, is_answered, IsFull}
 use Rattle.refutation_laws.specs.Refutations.{ReadsFrom}
 use Rattle.refutation_laws.proofs.Soundness.{itself}
 use Rattle.refutation_laws.proofs.Tests.{or-first, or-second}
@@ -74,7 +74,7 @@ still-answered t j k g (Globally cycle) h = refl
 still-answered t j k g (Between r v w) h = refl
 still-answered t j k g FalseClaim h = refl
 
-with-source-grows : (t : Litmus) (k : Known) (r : Entry) (o : Option Entry) → IsPossible t r o → Grows t k (with_source k r o)
+with-source-grows : (t : Litmus) (k : Known) (r : Entry) (o : Option Entry) → IsPossibleSource t r o → Grows t k (with_source k r o)
 with-source-grows t k r o p = record {
   possible = λ ps. (p, ps);
   sources = λ x h. or-second (same_event r x) (has_source k x) h;
@@ -106,7 +106,7 @@ module _ (model : Model) (t : Litmus) (claim : Claim) (Other : Type 0) where
   abbrev pub Answer : Known → Type 0
   Answer k = HasTrees model t claim (k ∷ []) ⊎ Other
 
-  each-source : (k : Known) (r : Entry) (ws : List Entry) → ((w : Entry) → IsIn ws w → IsPossible t r (Some w))
+  each-source : (k : Known) (r : Entry) (ws : List Entry) → ((w : Entry) → IsIn ws w → IsPossibleSource t r (Some w))
       → ((b : Known) → Branch t k (ReadsFrom r) b → Answer b) → EachHasOne model t claim (map (with_source k r) (map (λ w. Some w) ws)) ⊎ Other
   each-source k r [] p f = inl tt
   each-source k r (w ∷ ws) p f =

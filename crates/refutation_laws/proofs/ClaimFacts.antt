@@ -1,5 +1,5 @@
 -- What a claim can be, where this much is known: no state of an agreeing candidate gives it another truth.
-use Rattle.refutation_laws.proofs.Vocabulary.{◌≡◌, ◌<◌, ℕ, zero, suc, ◌+◌, ◌==◌, ◌&&◌, ◌||◌, Bool, true, false, not, if◌then◌else◌, List, [], ◌∷◌, length, Option, Some, None, slice_index, slice_index_or, arith, refl, sym, ap, ◌⊎◌, inl, inr, subst, map, filter, list_any, Litmus, entries_of, registers_after, writes_to, Claim, TruthClaim, RegClaim, LocClaim, NotClaim, AndClaim, OrClaim, truth_of, NamesExist, Instr, Entry, IsIn, IsEarlier, Candidate, events_from, events, last_word, words_left_from, words_left, registers_left_from, registers_left, last_in, in-none, in-left, in-right, last-is-in, last-last, Precedes, from-precedes, and-both, never-itself, never-back, stand-once, location, Sound, Known, bare, events_of, comes_before, left_of, first_registers, value_among, all_known, value_read, can_be, can_be_last, words_at_end, register_at_end, allows, Stands, Agrees}
+use Rattle.refutation_laws.proofs.Vocabulary.{◌≡◌, ◌<◌, ℕ, zero, suc, ◌+◌, ◌==◌, ◌&&◌, ◌||◌, Bool, true, false, not, if◌then◌else◌, List, [], ◌∷◌, length, Option, Some, None, slice_index, slice_index_or, arith, refl, sym, ap, ◌⊎◌, inl, inr, subst, map, filter, list_any, Litmus, entries_of, registers_after, writes_to, Claim, TruthClaim, RegClaim, LocClaim, NotClaim, AndClaim, OrClaim, truth_of, NamesExist, Instr, Entry, IsIn, IsEarlier, Candidate, events_from, events, last_word, words_left_from, words_left, registers_left_from, registers_left, last_in, in-none, in-left, in-right, last-is-in, last-last, Precedes, from-precedes, and-both, never-itself, never-back, stand-once, location, Sound, Known, bare, events_of, comes_before, left_of, known_first_registers, value_among, all_known, value_read, can_be, can_be_last, words_at_end, register_at_end, allows, Stands, Agrees}
 use Rattle.refutation_laws.proofs.Tests.{and-of, or-first, or-second, any-in, any-holds, any-picked}
 use Rattle.refutation_laws.proofs.Standing.{event-in, of-event}
 use Rattle.refutation_laws.proofs.Agreeing.{has-co}
@@ -9,14 +9,14 @@ use Rattle.refutation_laws.proofs.Knowing.{Tells, Fits, Given, fits-first, tells
 
 pub left-at : (given : Entry → Option ℕ) (core : ℕ) (ps : List (List Instr)) (registers reads : List (List ℕ)) (i n : ℕ) → n ≡ core + i
     → i < length ps → Given given (events_from core ps registers reads)
-    → Fits (left_of given n 0 (slice_index_or ps i []) (first_registers registers n))
+    → Fits (left_of given n 0 (slice_index_or ps i []) (known_first_registers registers n))
     (slice_index_or (registers_left_from core ps registers reads) i [])
 left-at given core [] registers reads i n e l g = absurd (omega arith)
 left-at given core (p ∷ ps) registers reads zero n e l g =
     let q : core ≡ n = omega (arith, e) in
-    subst (λ m. Fits (left_of given m 0 p (first_registers registers m))
+    subst (λ m. Fits (left_of given m 0 p (known_first_registers registers m))
     (registers_after p (slice_index_or registers core []) (slice_index_or reads core []))) q
-    (left-fits given core 0 p (first_registers registers core) (slice_index_or registers core []) (slice_index_or reads core [])
+    (left-fits given core 0 p (known_first_registers registers core) (slice_index_or registers core []) (slice_index_or reads core [])
     (fits-first (slice_index_or registers core []))
     (λ x i r. g x (in-left (entries_of core 0 p (slice_index_or registers core []) (slice_index_or reads core [])) _ x i) r))
 left-at given core (p ∷ ps) registers reads (suc i) n e l g =

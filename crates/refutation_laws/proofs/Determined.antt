@@ -1,5 +1,5 @@
 -- Where reads are given, registers are known, and writes: a write whose earlier reads are given is among those that are known.
-use Rattle.refutation_laws.proofs.Vocabulary.{◌≡◌, ◌<◌, ◌≤◌, ℕ, zero, suc, ◌+◌, true, List, [], ◌∷◌, ◌++◌, length, Option, Some, None, slice_index, slice_index_or, arith, refl, sym, ap, ◌∙◌, ◌⊎◌, inl, inr, subst, map, slice_set, Litmus, index_of, action_of, entry, value_in, value_of, updated, entries_by, registers_by, values_after, entries_of, registers_after, is_before, is_read, is_write, Reg, Eax, Ebx, Ecx, Edx, Esi, Edi, Loc, Instr, Operand, Number, Held, Update, Exchange, Add, Action, Store, Load, Move, Fence, Lock, Entry, Kind, R, W, LR, LW, rank, part-small, IsIn, events_from, in-case, in-none, in-first, in-append, in-left, in-right, rank-before, only, here-by, from-place, bare, known_in, known_operand, known_update, write_with, word_given, writes_by, left_by, writes_of, left_of, first_registers, writes_from}
+use Rattle.refutation_laws.proofs.Vocabulary.{◌≡◌, ◌<◌, ◌≤◌, ℕ, zero, suc, ◌+◌, true, List, [], ◌∷◌, ◌++◌, length, Option, Some, None, slice_index, slice_index_or, arith, refl, sym, ap, ◌∙◌, ◌⊎◌, inl, inr, subst, map, slice_set, Litmus, index_of, action_of, entry, value_in, value_of, updated, entries_by, registers_by, values_after, entries_of, registers_after, is_before, is_read, is_write, Reg, Eax, Ebx, Ecx, Edx, Esi, Edi, Loc, Instr, Operand, Number, Held, Update, Exchange, Add, Action, Store, Load, Move, Fence, Lock, Entry, Kind, R, W, LR, LW, rank, part-small, IsIn, events_from, in-case, in-none, in-first, in-append, in-left, in-right, rank-before, only, here-by, from-place, bare, known_in, known_operand, known_update, write_with, word_given, writes_by, registers_left_by, writes_of, left_of, known_first_registers, writes_from}
 use Rattle.refutation_laws.proofs.Building.{unwritten}
 
 -- ---- registers that are all known
@@ -46,7 +46,7 @@ abbrev pub AllGiven : (Entry → Option ℕ) → List Entry → Type 0
 AllGiven given es = (x : Entry) → IsIn es x → is_read x ≡ true → given (bare x) ≡ Some x.value
 
 left-all : (given : Entry → Option ℕ) (core place : ℕ) (a : Action) (ns : List ℕ) (v : ℕ) → 6 ≤ length ns
-    → AllGiven given (entries_by core place a ns v) → left_by a (all_of ns) (word_given given core place a) ≡ all_of (registers_by a ns v)
+    → AllGiven given (entries_by core place a ns v) → registers_left_by a (all_of ns) (word_given given core place a) ≡ all_of (registers_by a ns v)
 left-all given core place (Store loc operand) ns v six g = refl
 left-all given core place (Load reg loc) ns v six g =
     ap (λ o. slice_set (all_of ns) (index_of reg) o) (g (entry core place R loc v) (0, refl) refl) ∙ set-all ns (index_of reg) v
@@ -152,7 +152,7 @@ program-known given core place (s ∷ p) ns values y six i w g =
 
     go : IsIn first y ⊎ IsIn rest y
         → (IsIn rest y → IsIn (writes_of given core (place + 1) p (all_of (registers_by (action_of s) ns (slice_index values 0)))) y)
-        → IsIn (own ++ writes_of given core (place + 1) p (left_by (action_of s) (all_of ns) (word_given given core place (action_of s)))) y
+        → IsIn (own ++ writes_of given core (place + 1) p (registers_left_by (action_of s) (all_of ns) (word_given given core place (action_of s)))) y
     go (inl j) more =
         in-left own _ y
         (by-known given core place (action_of s) ns (slice_index values 0) y six j w (λ x k r b. g x (in-left first rest x k) r b))
@@ -193,12 +193,12 @@ all-known given core (p ∷ ps) registers reads y six i w g =
     rest = events_from (core + 1) ps registers reads
 
     go : IsIn first y ⊎ IsIn rest y → (IsIn rest y → IsIn (writes_from given (core + 1) ps registers) y)
-        → IsIn (writes_of given core 0 p (first_registers registers core) ++ writes_from given (core + 1) ps registers) y
+        → IsIn (writes_of given core 0 p (known_first_registers registers core) ++ writes_from given (core + 1) ps registers) y
     go (inl j) more =
-        in-left (writes_of given core 0 p (first_registers registers core)) _ y
+        in-left (writes_of given core 0 p (known_first_registers registers core)) _ y
         (program-known given core 0 p (slice_index_or registers core []) (slice_index_or reads core []) y
         (first-six core p ps registers six) j w (λ x k r b. g x (in-left first rest x k) r b))
-    go (inr j) more = in-right (writes_of given core 0 p (first_registers registers core)) _ y (more j)
+    go (inr j) more = in-right (writes_of given core 0 p (known_first_registers registers core)) _ y (more j)
 
 -- a write of these events whose earlier reads are given is known, with its value
 pub known-write : (t : Litmus) (given : Entry → Option ℕ) (reads : List (List ℕ)) (y : Entry) → HaveSix 0 (length t.programs) t.registers

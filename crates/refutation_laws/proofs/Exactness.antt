@@ -1,5 +1,5 @@
 -- In a full case with no cycle nothing is open: what a claim can be, it is in the state that the case's candidate leaves.
-use Rattle.refutation_laws.proofs.Vocabulary.{◌≡◌, ◌<◌, ◌≤◌, ℕ, zero, suc, ◌+◌, ◌==◌, ◌&&◌, ◌||◌, Bool, true, false, not, if◌then◌else◌, List, [], ◌∷◌, length, Option, Some, None, slice_index, slice_index_or, arith, refl, sym, ap, ◌∙◌, ◌⊎◌, inl, inr, subst, map, filter, list_any, Litmus, value_in, entries_of, registers_after, is_write, writes_to, Claim, TruthClaim, RegClaim, LocClaim, NotClaim, AndClaim, OrClaim, truth_of, NamesExist, Instr, Entry, IsIn, IsEarlier, Candidate, events_from, last_word, registers_left_from, registers_left, words_left, last_in, in-none, in-left, in-right, filter-in, last-is-in, last-last, Precedes, from-precedes, and-both, or-either, location, Known, bare, events_of, comes_before, known_in, left_of, first_registers, value_among, all_known, can_be, can_be_last, words_at_end, register_at_end, allows, Model}
+use Rattle.refutation_laws.proofs.Vocabulary.{◌≡◌, ◌<◌, ◌≤◌, ℕ, zero, suc, ◌+◌, ◌==◌, ◌&&◌, ◌||◌, Bool, true, false, not, if◌then◌else◌, List, [], ◌∷◌, length, Option, Some, None, slice_index, slice_index_or, arith, refl, sym, ap, ◌∙◌, ◌⊎◌, inl, inr, subst, map, filter, list_any, Litmus, value_in, entries_of, registers_after, is_write, writes_to, Claim, TruthClaim, RegClaim, LocClaim, NotClaim, AndClaim, OrClaim, truth_of, NamesExist, Instr, Entry, IsIn, IsEarlier, Candidate, events_from, last_word, registers_left_from, registers_left, words_left, last_in, in-none, in-left, in-right, filter-in, last-is-in, last-last, Precedes, from-precedes, and-both, or-either, location, Known, bare, events_of, comes_before, known_in, left_of, known_first_registers, value_among, all_known, can_be, can_be_last, words_at_end, register_at_end, allows, Model}
 use Rattle.refutation_laws.proofs.Tests.{from-not, any-in, picked-of}
 use Rattle.refutation_laws.proofs.Standing.{Of, of-event}
 use Rattle.refutation_laws.proofs.ClaimFacts.{words-at, ends, Empty, Last}
@@ -16,7 +16,7 @@ record AreKnown (os : List (Option ℕ)) (ns : List ℕ) : Type 0 where
 
 left-known : (given : Entry → Option ℕ) (core : ℕ) (ps : List (List Instr)) (registers reads : List (List ℕ)) (i n : ℕ) → n ≡ core + i
     → i < length ps → HaveSix core (length ps) registers → AllGiven given (events_from core ps registers reads)
-    → AreKnown (left_of given n 0 (slice_index_or ps i []) (first_registers registers n))
+    → AreKnown (left_of given n 0 (slice_index_or ps i []) (known_first_registers registers n))
     (slice_index_or (registers_left_from core ps registers reads) i [])
 left-known given core [] registers reads i n e l six g = absurd (omega arith)
 left-known given core (p ∷ ps) registers reads zero n e l six g =
@@ -24,7 +24,7 @@ left-known given core (p ∷ ps) registers reads zero n e l six g =
     let s : 6 ≤ length (slice_index_or registers core []) = first-six core p ps registers six in
     let a : length (registers_after p (slice_index_or registers core []) (slice_index_or reads core [])) ≡ length (slice_index_or registers core [])
     = length-after p (slice_index_or registers core []) (slice_index_or reads core []) in
-    subst (λ m. AreKnown (left_of given m 0 p (first_registers registers m))
+    subst (λ m. AreKnown (left_of given m 0 p (known_first_registers registers m))
     (registers_after p (slice_index_or registers core []) (slice_index_or reads core []))) q
     (record {
       known =

@@ -1,5 +1,5 @@
 -- Values that are known are those of each candidate that agrees.
-use Rattle.refutation_laws.proofs.Vocabulary.{◌≡◌, ℕ, zero, suc, ◌+◌, Bool, true, false, if◌then◌else◌, List, [], ◌∷◌, ◌++◌, Option, Some, None, slice_index, slice_index_or, refl, sym, ap, ◌∙◌, ◌⊎◌, inl, inr, subst, map, slice_set, Litmus, index_of, action_of, entry, value_in, value_of, sum_of, updated, entries_by, registers_by, values_after, entries_of, registers_after, is_read, Reg, Loc, Instr, Operand, Number, Held, Update, Exchange, Add, Action, Store, Load, Move, Fence, Lock, Entry, Kind, R, W, LR, LW, IsIn, Candidate, Returns, events_from, events, in-none, in-first, in-later, in-append, in-left, in-right, only, Sound, Known, bare, same_event, Source, known_in, known_operand, known_update, write_with, word_given, writes_by, left_by, writes_of, left_of, first_registers, writes_from, value_among, returned_from, returned, known_writes, Stands, IsSource, HasSources, Agrees}
+use Rattle.refutation_laws.proofs.Vocabulary.{◌≡◌, ℕ, zero, suc, ◌+◌, Bool, true, false, if◌then◌else◌, List, [], ◌∷◌, ◌++◌, Option, Some, None, slice_index, slice_index_or, refl, sym, ap, ◌∙◌, ◌⊎◌, inl, inr, subst, map, slice_set, Litmus, index_of, action_of, entry, value_in, value_of, sum_of, updated, entries_by, registers_by, values_after, entries_of, registers_after, is_read, Reg, Loc, Instr, Operand, Number, Held, Update, Exchange, Add, Action, Store, Load, Move, Fence, Lock, Entry, Kind, R, W, LR, LW, IsIn, Candidate, Returns, events_from, events, in-none, in-first, in-later, in-append, in-left, in-right, only, Sound, Known, bare, same_event, Source, known_in, known_operand, known_update, write_with, word_given, writes_by, registers_left_by, writes_of, left_of, known_first_registers, writes_from, value_among, returned_from, returned, known_writes, Stands, IsSameSource, HasSources, Agrees}
 use Rattle.refutation_laws.proofs.Standing.{same-bare, one-entry}
 
 -- ---- registers
@@ -54,7 +54,7 @@ abbrev pub Given : (Entry → Option ℕ) → List Entry → Type 0
 Given given es = (x : Entry) → IsIn es x → is_read x ≡ true → Tells (given (bare x)) x.value
 
 left-by : (given : Entry → Option ℕ) (core place : ℕ) (a : Action) (os : List (Option ℕ)) (ns : List ℕ) (v : ℕ) → Fits os ns
-    → Given given (entries_by core place a ns v) → Fits (left_by a os (word_given given core place a)) (registers_by a ns v)
+    → Given given (entries_by core place a ns v) → Fits (registers_left_by a os (word_given given core place a)) (registers_by a ns v)
 left-by given core place (Store loc operand) os ns v f g = f
 left-by given core place (Load reg loc) os ns v f g =
     fits-set os ns (index_of reg) _ v f (g (entry core place R loc v) (0, refl) refl)
@@ -102,7 +102,7 @@ writes-in : (given : Entry → Option ℕ) (core place : ℕ) (p : List Instr) (
 writes-in given core place [] os ns values f g x i = absurd (in-none x i)
 writes-in given core place (s ∷ p) os ns values f g x i =
     go (in-append (writes_by core place (action_of s) os (word_given given core place (action_of s))) _ x i)
-    (λ j. writes-in given core (place + 1) p (left_by (action_of s) os (word_given given core place (action_of s)))
+    (λ j. writes-in given core (place + 1) p (registers_left_by (action_of s) os (word_given given core place (action_of s)))
     (registers_by (action_of s) ns (slice_index values 0)) (values_after (action_of s) values)
     (left-by given core place (action_of s) os ns (slice_index values 0) f (λ y k r. g y (in-left first rest y k) r))
     (λ y k r. g y (in-right first rest y k) r) x j)
@@ -114,7 +114,7 @@ writes-in given core place (s ∷ p) os ns values f g x i =
     rest = entries_of core (place + 1) p (registers_by (action_of s) ns (slice_index values 0)) (values_after (action_of s) values)
 
     later : List Entry
-    later = writes_of given core (place + 1) p (left_by (action_of s) os (word_given given core place (action_of s)))
+    later = writes_of given core (place + 1) p (registers_left_by (action_of s) os (word_given given core place (action_of s)))
 
     go : IsIn (writes_by core place (action_of s) os (word_given given core place (action_of s))) x ⊎ IsIn later x
         → (IsIn later x → IsIn rest x) → IsIn (first ++ rest) x
@@ -128,7 +128,7 @@ pub all-writes-in : (given : Entry → Option ℕ) (core : ℕ) (ps : List (List
     → IsIn (events_from core ps registers reads) x
 all-writes-in given core [] registers reads g x i = absurd (in-none x i)
 all-writes-in given core (p ∷ ps) registers reads g x i =
-    go (in-append (writes_of given core 0 p (first_registers registers core)) _ x i)
+    go (in-append (writes_of given core 0 p (known_first_registers registers core)) _ x i)
     (λ j. all-writes-in given (core + 1) ps registers reads (λ y k r. g y (in-right first rest y k) r) x j)
   where
     first : List Entry
@@ -137,11 +137,11 @@ all-writes-in given core (p ∷ ps) registers reads g x i =
     rest : List Entry
     rest = events_from (core + 1) ps registers reads
 
-    go : IsIn (writes_of given core 0 p (first_registers registers core)) x ⊎ IsIn (writes_from given (core + 1) ps registers) x
+    go : IsIn (writes_of given core 0 p (known_first_registers registers core)) x ⊎ IsIn (writes_from given (core + 1) ps registers) x
         → (IsIn (writes_from given (core + 1) ps registers) x → IsIn rest x) → IsIn (first ++ rest) x
     go (inl j) more =
         in-left first rest x
-        (writes-in given core 0 p (first_registers registers core) (slice_index_or registers core []) (slice_index_or reads core [])
+        (writes-in given core 0 p (known_first_registers registers core) (slice_index_or registers core []) (slice_index_or reads core [])
         (fits-first (slice_index_or registers core [])) (λ y k r. g y (in-left first rest y k) r) x j)
     go (inr j) more = in-right first rest x (more j)
 
@@ -158,7 +158,7 @@ module _ (t : Litmus) (c : Candidate) (d : Sound t c) where
           ap (λ (y : Entry). y.value) (one-entry t c d x z (f x (in-first x xs x refl)) s.inside (same-bare x w h ∙ s.same))
       go false h more = more
 
-  from-source : (ws : List Entry) → ((x : Entry) → IsIn ws x → IsIn (events t c) x) → (r : Entry) (o s : Option Entry) → IsSource o s
+  from-source : (ws : List Entry) → ((x : Entry) → IsIn ws x → IsIn (events t c) x) → (r : Entry) (o s : Option Entry) → IsSameSource o s
       → Returns t c r s → Tells (returned_from t ws (bare r) o) r.value
   from-source ws f r None None i h = sym h
   from-source ws f r None (Some z) i h = absurd i

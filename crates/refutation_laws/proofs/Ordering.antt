@@ -1,6 +1,6 @@
 -- The order of a full case that no leaf closes: a row of its events in which each edge goes forward, with the values that are known and each
 -- load part put before its store part, is an execution of the model, and what is asked is true in its final state.
-use Rattle.refutation_laws.proofs.Vocabulary.{◌≡◌, ◌+◌, ◌==◌, ◌&&◌, ◌||◌, ℕ, Bool, true, false, not, if◌then◌else◌, List, [], ◌∷◌, ◌++◌, length, Option, Some, None, slice_index, slice_index_or, refl, sym, ap, ◌∙◌, ◌⊎◌, inl, inr, subst, map, filter, list_any, Litmus, action_of, entry, fence, value_in, updated, entries_by, registers_by, values_after, entries_of, is_before, is_read, is_write, may_be_passed, same_kind, Claim, NamesExist, truth_of, final_words, final_registers, Instr, Action, Store, Load, Move, Fence, Lock, Entry, R, W, F, LR, LW, IsIn, Candidate, events, events_from, registers_left, words_left, LeaveTheSame, ArePair, IsAllowed, IsSequential, is_access, in-case, in-none, in-first, in-later, in-append, and-both, same-number, number-same, write-is-no-read, equal-kinds, kind-itself, parts, only, GoesForward, Once, Goes, kinds, Toward, pair, answer, load-of, put, in-put, sound, CanBeKept, IsKeptIn, Others, in-order, goes-kept, Step, keeps, step-kept, tso-allows, Known, bare, events_of, reads_from, comes_before, from_reads, are_parts, all_known, value_among, value_read, allows, value_known, IsExecutionOf, IsMet, Model, Tso, Sequential, is_kept_by, must_precede, comes_toward, is_load_part, IsRow, value_or_zero, value_in_order, valued, with_loads, order_of, NoneBetween}
+use Rattle.refutation_laws.proofs.Vocabulary.{◌≡◌, ◌+◌, ◌==◌, ◌&&◌, ◌||◌, ℕ, Bool, true, false, not, if◌then◌else◌, List, [], ◌∷◌, ◌++◌, length, Option, Some, None, slice_index, slice_index_or, refl, sym, ap, ◌∙◌, ◌⊎◌, inl, inr, subst, map, filter, list_any, Litmus, action_of, entry, fence, value_in, updated, entries_by, registers_by, values_after, entries_of, is_before, is_read, is_write, may_be_passed, same_kind, Claim, NamesExist, truth_of, final_words, final_registers, Instr, Action, Store, Load, Move, Fence, Lock, Entry, R, W, F, LR, LW, IsIn, Candidate, events, events_from, registers_left, words_left, LeaveTheSame, ArePair, IsAllowed, IsSequential, is_access, in-case, in-none, in-first, in-later, in-append, and-both, same-number, number-same, write-is-no-read, equal-kinds, kind-itself, parts, only, GoesForward, Once, Goes, kinds, Toward, pair, answer, load-of, put, in-put, sound, CanBeKept, IsKeptIn, Others, in-order, goes-kept, Step, keeps, step-kept, tso-allows, Known, bare, events_of, reads_from, comes_before, from_reads, are_parts, all_known, value_among, value_read, allows, value_known, IsExecutionOf, IsMet, Model, Tso, Sequential, is_kept_by, must_precede, comes_toward, is_load_part, IsLinearExtension, value_or_zero, value_in_order, valued, with_loads, order_along, NoneBetween}
 use Rattle.refutation_laws.proofs.Tests.{and-of, or-first, or-second, any-in}
 use Rattle.refutation_laws.proofs.Standing.{Of, of-event, bare-events}
 use Rattle.refutation_laws.proofs.Relating.{rf-bare, fr-bare}
@@ -236,7 +236,7 @@ module _ (model : Model) (t : Litmus) (k : Known) (o : IsOpen model t k) where
       go (inl j) = f x j
       go (inr (w, (j, (m, p)))) = m
 
-  order-own : (row : List Entry) → ((x : Entry) → IsIn row x → IsIn (events_of t) x) → order_of t k row ≡ put es (map (valued t k) row)
+  order-own : (row : List Entry) → ((x : Entry) → IsIn row x → IsIn (events_of t) x) → order_along t k row ≡ put es (map (valued t k) row)
   order-own row f =
       ap (λ xs. map (valued t k) (with_loads xs row)) (sym (bare-events t c))
       ∙ (ap (λ xs. map (valued t k) (with_loads (map bare es) xs)) (sym (bare-row row f))
@@ -264,7 +264,7 @@ module _ (model : Model) (t : Litmus) (k : Known) (o : IsOpen model t k) where
       forward-own xs (λ y i. f y (in-later x xs y i)) g.1,
     )
 
-    kept : (a : IsAllowed t c) (keep : CanBeKept t c Before) (row : List Entry) → IsRow model t k row → IsKeptIn t c Before (order_of t k row)
+    kept : (a : IsAllowed t c) (keep : CanBeKept t c Before) (row : List Entry) → IsLinearExtension model t k row → IsKeptIn t c Before (order_along t k row)
     kept a keep row r =
         subst (IsKeptIn t c Before) (sym (order-own row (λ x i. (r.inside x i).0)))
         (in-order t c (sound t c a.candidate) a Before keep (map (valued t k) row) (record {
@@ -294,20 +294,20 @@ left-true t c claim order s h =
 
 pub row-is-met : (model : Model) (t : Litmus) (k : Known) (o : IsOpen model t k) → NoneBetween t k
     → (claim : Claim) → NamesExist (length t.programs) (length t.words) claim → allows t k claim true ≡ true
-    → (row : List Entry) → IsRow model t k row → IsMet model t claim (order_of t k row)
+    → (row : List Entry) → IsLinearExtension model t k row → IsMet model t claim (order_along t k row)
 row-is-met Tso t k o none claim names h row r =
     let a = is-allowed Tso t k o none in
     let c = own_candidate Tso t k o in
     let m = kept Tso t k o (Goes c) (goes-known Tso t k o) a (goes-kept t c (sound t c a.candidate) a) row r in
-    record { execution = m.execution; holds = left-true t c claim (order_of t k row) m.state (claim-exact Tso t k o claim names true h) }
+    record { execution = m.execution; holds = left-true t c claim (order_along t k row) m.state (claim-exact Tso t k o claim names true h) }
 row-is-met Sequential t k o none claim names h row r =
     let q = is-allowed Sequential t k o none in
     let c = own_candidate Sequential t k o in
     let a = tso-allows t c q in
     let m = kept Sequential t k o (Step c) step-known a (step-kept t c (sound t c a.candidate) q) row r in
     record {
-      execution = record { execution = m.execution; keeps = keeps c (order_of t k row) m.forward };
-      holds = left-true t c claim (order_of t k row) m.state (claim-exact Sequential t k o claim names true h);
+      execution = record { execution = m.execution; keeps = keeps c (order_along t k row) m.forward };
+      holds = left-true t c claim (order_along t k row) m.state (claim-exact Sequential t k o claim names true h);
     }
   where
     step-known : (x y : Entry) → IsIn (own_events Sequential t k o) x → IsIn (own_events Sequential t k o) y

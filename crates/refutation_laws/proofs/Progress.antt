@@ -1,6 +1,6 @@
 -- In a full case that no leaf closes, some event of those that are left can stand next: the candidate of the case gives all answers, and
 -- its edges never go round.
-use Rattle.refutation_laws.proofs.Vocabulary.{◌≡◌, ◌<◌, ◌==◌, ◌&&◌, ◌||◌, ℕ, Bool, true, false, not, if◌then◌else◌, List, [], ◌∷◌, Option, Some, None, slice_get, arith, refl, sym, ap, ◌∙◌, ◌⊎◌, inl, inr, subst, map, list_any, Litmus, is_before, is_read, is_write, writes_to, may_be_passed, Entry, IsIn, at_once, IsAcyclic, Candidate, events, IsBefore, ArePair, IsAllowed, in-case, in-none, in-first, in-later, filter-in, and-both, or-either, same-number, number-same, location, Goes, member, GoesForward, Row, in-a-row, Toward, toward, pair-goes, way, others, is-other, other-is, Sound, sound, CanBeKept, goes-kept, Step, step-kept, tso-allows, Known, bare, events_of, same_event, reads_from, comes_before, from_reads, are_parts, Stands, IsSource, HasSources, HasPairs, Agrees, Source, Pair, Model, Tso, Sequential, IsPossible, ArePossible, AreSingle, AreOfReads, ArePairsOfWrites, IsSound, NoneBetween, is_kept_by, must_precede, comes_toward, is_load_part, valued}
+use Rattle.refutation_laws.proofs.Vocabulary.{◌≡◌, ◌<◌, ◌==◌, ◌&&◌, ◌||◌, ℕ, Bool, true, false, not, if◌then◌else◌, List, [], ◌∷◌, Option, Some, None, slice_get, arith, refl, sym, ap, ◌∙◌, ◌⊎◌, inl, inr, subst, map, list_any, Litmus, is_before, is_read, is_write, writes_to, may_be_passed, Entry, IsIn, at_once, IsAcyclic, Candidate, events, IsBefore, ArePair, IsAllowed, in-case, in-none, in-first, in-later, filter-in, and-both, or-either, same-number, number-same, location, Goes, member, GoesForward, LinearExtension, in-a-row, Toward, toward, pair-goes, way, others, is-other, other-is, Sound, sound, CanBeKept, goes-kept, Step, step-kept, tso-allows, Known, bare, events_of, same_event, reads_from, comes_before, from_reads, are_parts, Stands, IsSameSource, HasSources, HasPairs, Agrees, Source, Pair, Model, Tso, Sequential, IsPossibleSource, ArePossible, AreSingle, AreOfReads, ArePairsOfWrites, IsSound, NoneBetween, is_kept_by, must_precede, comes_toward, is_load_part, valued}
 use Rattle.refutation_laws.proofs.Tests.{and-of, or-first, or-second, any-in, any-holds}
 use Rattle.refutation_laws.proofs.Standing.{Of, of-event, same-bare}
 use Rattle.refutation_laws.proofs.Soundness.{bare-same}
@@ -32,13 +32,13 @@ module _ (model : Model) (t : Litmus) (k : Known) (o : IsOpen model t k) where
 
   -- ---- the candidate gives all answers
 
-  its-source : (s : Option Entry) (r : Entry) → IsPossible t r s → IsSource s (entry_of es s)
+  its-source : (s : Option Entry) (r : Entry) → IsPossibleSource t r s → IsSameSource s (entry_of es s)
   its-source None r p = tt
   its-source (Some w) r p =
       let of : Of es w = of-event t c w p.0 in
       let e : entry_of es (Some w) ≡ Some of.entry =
       found es w of.entry (λ z iz h. one-own model t k o z of.entry iz of.inside h) (ap bare of.same) of.inside in
-      subst (λ z. IsSource (Some w) z) (sym e) (ap bare of.same)
+      subst (λ z. IsSameSource (Some w) z) (sym e) (ap bare of.same)
 
   any-single : (s r : Entry) (ss : List Source) → same_event s r ≡ true → list_any (λ (q : Source). same_event q.read r) ss ≡ true
       → list_any (λ (q : Source). same_event q.read s) ss ≡ true
@@ -60,7 +60,7 @@ module _ (model : Model) (t : Litmus) (k : Known) (o : IsOpen model t k) where
         let same : same_event s.read r ≡ true = bare-same s.read r st.same in
         let e : source_in es k.sources r ≡ entry_of es s.write =
         f r (or-first (same_event s.read r) _ same) ∙ pick (same_event s.read r) (entry_of es s.write) (source_in es ss r) same in
-        (subst (λ z. is_read z ≡ true) st.same reads.0, subst (λ z. IsSource s.write z) (sym e) (its-source s.write s.read ps.0))),
+        (subst (λ z. is_read z ≡ true) st.same reads.0, subst (λ z. IsSameSource s.write z) (sym e) (its-source s.write s.read ps.0))),
     has-sources ss ps.1 single.1 reads.1 (λ r a.
         f r (or-second (same_event s.read r) _ a)
         ∙ pass (same_event s.read r) (entry_of es s.write) (source_in es ss r)
@@ -231,7 +231,7 @@ module _ (model : Model) (t : Litmus) (k : Known) (o : IsOpen model t k) (s : Is
       acyclic z p =
           keep.acyclic z (way fs (others fs) Before (λ r w q. keep.holds r w (pair-goes d r w q)) (λ y j. (is-other fs y j).0) z z p)
 
-      row : Row (Toward fs Before) (others fs)
+      row : LinearExtension (Toward fs Before) (others fs)
       row = in-a-row (others fs) (Toward fs Before) (toward fs Before keep.decided) acyclic
 
       at : (z : Entry) → From model t k o rest z → IsIn row.row z

@@ -1,6 +1,6 @@
 -- In a full case with no cycle all values are known: a read is given after so many rounds as its place in a row of the model's global relation says. The
 -- candidate of the case has those values.
-use Rattle.refutation_laws.proofs.Vocabulary.{◌≡◌, ◌<◌, ◌≤◌, ℕ, zero, suc, ◌+◌, ◌==◌, ◌&&◌, ◌||◌, Bool, true, false, not, if◌then◌else◌, List, [], ◌∷◌, length, Option, Some, None, slice_get, slice_index, arith, refl, sym, ap, ◌∙◌, ◌⊎◌, inl, inr, subst, filter, list_any, Litmus, is_before, is_read, is_write, writes_to, Entry, rank, part_of, part-small, IsIn, LeadsTo, at_once, onward, Candidate, Returns, is_access, share_location, in-case, in-none, in-first, in-later, in-filter, and-both, same-number, write-is-no-read, rank-before, before-trans, number, location, share, Row, Ordered, in-a-row, Known, bare, events_of, same_event, is_event, is_write_of, reads_from, comes_before, Source, on_location, global_in, is_edge, Model, Tso, Sequential, value_among, returned_from, returned, known_writes, all_known, IsPossible, ArePossible, IsFull}
+use Rattle.refutation_laws.proofs.Vocabulary.{◌≡◌, ◌<◌, ◌≤◌, ℕ, zero, suc, ◌+◌, ◌==◌, ◌&&◌, ◌||◌, Bool, true, false, not, if◌then◌else◌, List, [], ◌∷◌, length, Option, Some, None, slice_get, slice_index, arith, refl, sym, ap, ◌∙◌, ◌⊎◌, inl, inr, subst, filter, list_any, Litmus, is_before, is_read, is_write, writes_to, Entry, rank, part_of, part-small, IsIn, LeadsTo, at_once, onward, Candidate, Returns, is_access, share_location, in-case, in-none, in-first, in-later, in-filter, and-both, same-number, write-is-no-read, rank-before, before-trans, number, location, share, LinearExtension, Ordered, in-a-row, Known, bare, events_of, same_event, is_event, is_write_of, reads_from, comes_before, Source, on_location, global_in, is_edge, Model, Tso, Sequential, value_among, returned_from, returned, known_writes, all_known, IsPossibleSource, ArePossible, IsFull}
 use Rattle.refutation_laws.proofs.Standing.{Of, event-in, of-event, same-bare}
 use Rattle.refutation_laws.proofs.Soundness.{itself, bare-same}
 use Rattle.refutation_laws.proofs.Tests.{and-of, or-first, or-second, any-in}
@@ -28,7 +28,7 @@ source_in es (s ∷ ss) r = if same_event s.read r then entry_of es s.write else
 pub record First (t : Litmus) (ss : List Source) (r : Entry) : Type 0 where
   pub source : Source
   pub same : same_event source.read r ≡ true
-  pub possible : IsPossible t source.read source.write
+  pub possible : IsPossibleSource t source.read source.write
   pub given : (ws : List Entry) → returned t ws ss (bare r) ≡ returned_from t ws (bare r) source.write
   pub from : (es : List Entry) → source_in es ss r ≡ entry_of es source.write
   pub among : (p : Source → Bool) → p source ≡ true → list_any (λ (s : Source). same_event s.read r && p s) ss ≡ true
@@ -163,7 +163,7 @@ module _ (model : Model) (t : Litmus) (k : Known) (o : IsOpen model t k) where
   carried-way p _ _ (onward a b d i h rest) =
       onward (bare a) (bare b) (bare d) (own-in a (in-filter p own_events a i).0) (of-bare t k on_location a b (co-edge t k a b h)) (carried-way p b d rest)
 
-  pub writes-row : (loc : ℕ) → Row (Edge (comes_before k)) (filter (writes_to loc) own_events)
+  pub writes-row : (loc : ℕ) → LinearExtension (Edge (comes_before k)) (filter (writes_to loc) own_events)
   writes-row loc =
       in-a-row (filter (writes_to loc) own_events) (Edge (comes_before k)) (edge-decided (comes_before k))
       (λ x way. ordered-acyclic (Edge (is_edge t k on_location)) (events_of t) o.within_locations (bare x) (carried-way (writes_to loc) x x way))
@@ -278,8 +278,8 @@ module _ (model : Model) (t : Litmus) (k : Known) (o : IsOpen model t k) where
         returns = subst (λ s. Returns t own_candidate x s) (sym src) (iy, to, v);
       }
         where
-          p : IsPossible t f.source.read (Some w)
-          p = subst (λ s. IsPossible t f.source.read s) q f.possible
+          p : IsPossibleSource t f.source.read (Some w)
+          p = subst (λ s. IsPossibleSource t f.source.read s) q f.possible
 
           of : Of own_events w
           of = of-event t plain w p.0

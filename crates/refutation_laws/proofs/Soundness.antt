@@ -1,5 +1,5 @@
 -- A refuted claim is false of each allowed candidate: at each node, the candidate has one of the answers.
-use Rattle.refutation_laws.proofs.Vocabulary.{◌≡◌, ◌==◌, ◌&&◌, Bool, true, false, not, List, [], ◌∷◌, ◌++◌, length, Option, Some, None, refl, sym, ap, ◌∙◌, ◌⊎◌, inl, inr, subst, map, filter, Litmus, Claim, truth_of, NamesExist, is_read, is_write, writes_to, Entry, IsIn, IsEarlier, Candidate, words_left, registers_left, IsBefore, IsAllowed, in-case, in-none, filter-in, and-both, number-same, at-itself, location, writes-at, one-way, Sound, sound, tso-allows, Known, bare, events_of, same_event, is_event, nothing, with_source, with_pair, allows, Stands, IsSource, Agrees, IsAllowedBy, Model, Tso, Sequential, Node, ComesFirst, OnLocation, Globally, Between, FalseClaim, sources_of, is_node, branches, close, refutes}
+use Rattle.refutation_laws.proofs.Vocabulary.{◌≡◌, ◌==◌, ◌&&◌, Bool, true, false, not, List, [], ◌∷◌, ◌++◌, length, Option, Some, None, refl, sym, ap, ◌∙◌, ◌⊎◌, inl, inr, subst, map, filter, Litmus, Claim, truth_of, NamesExist, is_read, is_write, writes_to, Entry, IsIn, IsEarlier, Candidate, words_left, registers_left, IsBefore, IsAllowed, in-case, in-none, filter-in, and-both, number-same, at-itself, location, writes-at, one-way, Sound, sound, tso-allows, Known, bare, events_of, same_event, is_event, nothing, with_source, with_pair, allows, Stands, IsSameSource, Agrees, IsAllowedBy, Model, Tso, Sequential, Node, ComesFirst, OnLocation, Globally, Between, FalseClaim, sources_of, is_node, branches, close, refutes}
 use Rattle.refutation_laws.specs.Refutations.{ReadsFrom}
 use Rattle.refutation_laws.proofs.Standing.{standing, event-in, one-stands}
 use Rattle.refutation_laws.proofs.Agreeing.{source-in}
@@ -65,24 +65,24 @@ module _ (model : Model) (t : Litmus) (c : Candidate) (allowed : IsAllowedBy mod
       reads : is_read x ≡ true
       reads = carried-one t c is_read (λ y. refl) r x at read
 
-      agreeing : (o : Option Entry) → IsSource o (c.source x) → Agrees t c (with_source k r o)
+      agreeing : (o : Option Entry) → IsSameSource o (c.source x) → Agrees t c (with_source k r o)
       agreeing o h = record {
         sources = (
           (λ y b. let q : x ≡ y = one-stands t c d r x y at b in
-              subst (λ z. (is_read z ≡ true) × IsSource o (c.source z)) q (reads, h)),
+              subst (λ z. (is_read z ≡ true) × IsSameSource o (c.source z)) q (reads, h)),
           a.sources,
         );
         order = a.order;
       }
 
       go : (o : Option Entry) → c.source x ≡ o → Fails
-      go None q = s.0 (agreeing None (subst (IsSource None) (sym q) tt))
+      go None q = s.0 (agreeing None (subst (IsSameSource None) (sym q) tt))
       go (Some z) q =
           let i = source-in t c tso.candidate x z at.inside reads q in
           let to : writes_to r.loc.0 (bare z) ≡ true = subst (λ (y : Entry). writes_to y.loc.0 (bare z) ≡ true) (sym at.same) i.1 in
           from-one k r (filter (writes_to r.loc.0) (events_of t)) s.1 (bare z)
           (filter-in (writes_to r.loc.0) (events_of t) (bare z) (event-in t c z i.0) to)
-          (agreeing (Some (bare z)) (subst (IsSource (Some (bare z))) (sym q) refl))
+          (agreeing (Some (bare z)) (subst (IsSameSource (Some (bare z))) (sym q) refl))
 
   -- ---- which of two writes comes first
 

@@ -16,7 +16,7 @@ pub use Rattle.relational_model.proofs.Found.{kind-itself, at-itself, equal-kind
 pub use Rattle.relational_model.proofs.Sources.{never-itself, one-way, never-back}
 pub use Rattle.relational_model.proofs.Order.{stand-once, location, share}
 pub use Rattle.relational_model.proofs.Forward.{starts-in}
-pub use Rattle.relational_model.specs.inner.Rows.{Ordered, GoesForward, Once, Row}
+pub use Rattle.relational_model.specs.inner.Rows.{Ordered, GoesForward, Once, LinearExtension}
 pub use Rattle.relational_model.proofs.Events.{Sound, sound, same-events-from}
 pub use Rattle.relational_model.specs.SequentialModel.{IsBeforeSequentially, IsSequential}
 pub use Rattle.refutation_laws.specs.Known.{Known, bare, events_of, same_event, is_event, is_write_of, reads_from, comes_before, is_overwritten, from_reads, nothing, with_source, with_pair}
@@ -27,13 +27,13 @@ pub use Rattle.refutation_laws.specs.declared.model.Model.{Model}
 pub use Rattle.refutation_laws.specs.declared.model.Model.TheVariants.{Tso, Sequential}
 pub use Rattle.refutation_laws.specs.declared.model.Relation.{Relation}
 pub use Rattle.refutation_laws.specs.declared.model.Relation.TheVariants.{Mfence, Po, PoLoc, PoGhb, Implied, Rf, Rfe, Co, Fr}
-pub use Rattle.refutation_laws.specs.inner.FullCases.{IsPossible, NoneBetween, ArePossible, has_source, are_ordered, may_ask, is_answered, IsFull, AreSingle, AreOfReads, ArePairsOfWrites, IsSound}
+pub use Rattle.refutation_laws.specs.inner.FullCases.{IsPossibleSource, NoneBetween, ArePossible, has_source, are_ordered, may_ask, is_answered, IsFull, AreSingle, AreOfReads, ArePairsOfWrites, IsSound}
 pub use Rattle.tso_model.specs.Condition.{Claim, truth_of, NamesExist, TruthClaim, RegClaim, LocClaim, NotClaim, AndClaim, OrClaim, Condition}
 pub use Rattle.relational_model.proofs.Uniproc.{writes-at}
 pub use Rattle.relational_model.proofs.SequentialFacts.{tso-allows}
-pub use Rattle.refutation_laws.specs.Values.{allows, known_in, known_operand, known_update, write_with, word_given, writes_by, left_by, writes_of, left_of, first_registers, writes_from, value_among, returned_from, returned, known_writes, all_known, value_read, can_be, words_at_end, register_at_end, can_be_last}
-pub use Rattle.refutation_laws.specs.Agreement.{Stands, IsSource, Agrees, HasSources, HasPairs}
-pub use Rattle.refutation_laws.specs.Refutations.{Node, ComesFirst, OnLocation, Globally, Between, FalseClaim, sources_of, is_node, branches, close, refutes, asked, asked_by}
+pub use Rattle.refutation_laws.specs.Values.{allows, known_in, known_operand, known_update, write_with, word_given, writes_by, registers_left_by, writes_of, left_of, known_first_registers, writes_from, value_among, returned_from, returned, known_writes, all_known, value_read, can_be, words_at_end, register_at_end, can_be_last}
+pub use Rattle.refutation_laws.specs.Agreement.{Stands, IsSameSource, Agrees, HasSources, HasPairs}
+pub use Rattle.refutation_laws.specs.Refutations.{Node, ComesFirst, OnLocation, Globally, Between, FalseClaim, sources_of, is_node, branches, close, refutes, asked_claim, asked_by}
 pub use Rattle.tso_model.specs.Registers.{index_of, AreRegisters}
 pub use Rattle.tso_model.specs.Actions.{action_of}
 pub use Rattle.tso_model.specs.Thread.{entry, value_in, value_of, updated, entries_by, registers_by, values_after, entries_of, registers_after, sum_of, fence}
@@ -54,7 +54,7 @@ pub use Rattle.relational_model.proofs.Ranks.{rank-before, before-trans}
 pub use Rattle.relational_model.proofs.Same.{only, here-by, from-place}
 pub use Rattle.refutation_laws.specs.declared.known.Pair.{Pair}
 pub use Rattle.basic_laws.proofs.Lists.{Member}
-pub use Rattle.refutation_laws.specs.Shown.{value_known, first_of}
+pub use Rattle.refutation_laws.specs.Shown.{value_known, first_that_relates}
 pub use Rattle.tso_model.specs.ProgramEntries.{is_at}
 pub use Rattle.tso_model.specs.FinalState.{final_words, final_registers}
 pub use Rattle.relational_model.specs.CandidatesOfOrders.{LeaveTheSame, last_in, IsCandidateOf}
@@ -63,7 +63,7 @@ pub use Rattle.relational_model.proofs.Decisions.{Goes, kinds, member, number, i
 pub use Rattle.relational_model.proofs.Together.{Toward, pair, answer, load-of, put, in-put, toward, pair-goes, way, others, is-other, other-is}
 pub use Rattle.relational_model.proofs.Converse.{CanBeKept, IsKeptIn, Others, in-order, goes-kept}
 pub use Rattle.relational_model.proofs.SequentialOrders.{Step, keeps, step-kept}
-pub use Rattle.refutation_laws.specs.inner.Orders.{is_kept_by, must_precede, comes_toward, is_load_part, IsRow, value_or_zero, value_in_order, valued, with_loads, order_of}
+pub use Rattle.refutation_laws.specs.inner.Orders.{is_kept_by, must_precede, comes_toward, is_load_part, IsLinearExtension, value_or_zero, value_in_order, valued, with_loads, order_along}
 pub use Rattle.relational_model.proofs.Sorting.{in-a-row, Decided, GoesRound, ordered-or-round}
 pub use Rattle.tso_model.specs.declared.condition.Quantifier.{Quantifier}
 pub use Rattle.tso_model.specs.declared.condition.Quantifier.TheVariants.{Exists, NotExists, Forall}

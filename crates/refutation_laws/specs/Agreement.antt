@@ -17,13 +17,13 @@ pub record Stands (t : Litmus) (c : Candidate) (e x : Entry) : Type 0 where
   pub same : bare e ≡ bare x
 
 -- both are the initial write, or one write
-abbrev pub IsSource : Option Entry → Option Entry → Type 0
-IsSource None None = Unit {0}
-IsSource (Some w) (Some z) = bare w ≡ bare z
-IsSource _ _ = ⊥
+abbrev pub IsSameSource : Option Entry → Option Entry → Type 0
+IsSameSource None None = Unit {0}
+IsSameSource (Some w) (Some z) = bare w ≡ bare z
+IsSameSource _ _ = ⊥
 
 abbrev pub HasSource : Litmus → Candidate → Source → Type 0
-HasSource t c s = (r : Entry) → Stands t c s.read r → (is_read r ≡ true) × IsSource s.write (c.source r)
+HasSource t c s = (r : Entry) → Stands t c s.read r → (is_read r ≡ true) × IsSameSource s.write (c.source r)
 
 abbrev pub HasPair : Litmus → Candidate → Pair → Type 0
 HasPair t c p = (w v : Entry) → Stands t c p.first w → Stands t c p.second v → IsBefore c w v

@@ -20,9 +20,9 @@ asked_by Exists claim = claim
 asked_by NotExists claim = claim
 asked_by Forall claim = NotClaim claim
 
-abbrev pub asked : Option Condition → Claim
-asked None = TruthClaim true
-asked (Some c) = asked_by c.quantifier c.claim
+abbrev pub asked_claim : Option Condition → Claim
+asked_claim None = TruthClaim true
+asked_claim (Some c) = asked_by c.quantifier c.claim
 
 pub data Node : Type 0 where
   -- a question: which write does this read read from? The initial one, or one to its location, as they stand among the events

@@ -9,9 +9,9 @@ use Rattle.refutation_laws.specs.Values.{value_among, all_known, value_read}
 use Rattle.refutation_laws.specs.declared.model.Relation.{Relation}
 
 -- of these relations, the first that leads from x to y
-abbrev pub first_of : Litmus → Known → List Relation → Entry → Entry → Option Relation
-first_of t k [] x y = None
-first_of t k (r ∷ rs) x y = if relates t k r x y then Some r else first_of t k rs x y
+abbrev pub first_that_relates : Litmus → Known → List Relation → Entry → Entry → Option Relation
+first_that_relates t k [] x y = None
+first_that_relates t k (r ∷ rs) x y = if relates t k r x y then Some r else first_that_relates t k rs x y
 
 -- what is known of the value of an event; a fence has none
 abbrev pub value_known : Litmus → Known → Entry → Option ℕ

@@ -54,34 +54,34 @@ writes_by core place (Store loc operand) registers word = write_with core place 
 writes_by core place (Lock loc reg update) registers word = write_with core place LW loc (known_update update word (known_in registers reg))
 writes_by core place _ registers word = []
 
-abbrev pub left_by : Action → List (Option ℕ) → Option ℕ → List (Option ℕ)
-left_by (Load reg loc) registers word = slice_set registers (index_of reg) word
-left_by (Move reg operand) registers word = slice_set registers (index_of reg) (known_operand registers operand)
-left_by (Lock loc reg update) registers word = slice_set registers (index_of reg) word
-left_by _ registers word = registers
+abbrev pub registers_left_by : Action → List (Option ℕ) → Option ℕ → List (Option ℕ)
+registers_left_by (Load reg loc) registers word = slice_set registers (index_of reg) word
+registers_left_by (Move reg operand) registers word = slice_set registers (index_of reg) (known_operand registers operand)
+registers_left_by (Lock loc reg update) registers word = slice_set registers (index_of reg) word
+registers_left_by _ registers word = registers
 
 -- the writes of a program that are known, with their values
 abbrev pub writes_of : (Entry → Option ℕ) → ℕ → ℕ → List Instr → List (Option ℕ) → List Entry
 writes_of given core place [] registers = []
 writes_of given core place (i ∷ rest) registers =
     writes_by core place (action_of i) registers (word_given given core place (action_of i))
-    ++ writes_of given core (place + 1) rest (left_by (action_of i) registers (word_given given core place (action_of i)))
+    ++ writes_of given core (place + 1) rest (registers_left_by (action_of i) registers (word_given given core place (action_of i)))
 
 -- the registers after it
 abbrev pub left_of : (Entry → Option ℕ) → ℕ → ℕ → List Instr → List (Option ℕ) → List (Option ℕ)
 left_of given core place [] registers = registers
 left_of given core place (i ∷ rest) registers =
-    left_of given core (place + 1) rest (left_by (action_of i) registers (word_given given core place (action_of i)))
+    left_of given core (place + 1) rest (registers_left_by (action_of i) registers (word_given given core place (action_of i)))
 
 -- ---- all threads
 
-abbrev pub first_registers : List (List ℕ) → ℕ → List (Option ℕ)
-first_registers registers core = map (λ v. Some v) (slice_index_or registers core [])
+abbrev pub known_first_registers : List (List ℕ) → ℕ → List (Option ℕ)
+known_first_registers registers core = map (λ v. Some v) (slice_index_or registers core [])
 
 abbrev pub writes_from : (Entry → Option ℕ) → ℕ → List (List Instr) → List (List ℕ) → List Entry
 writes_from given core [] registers = []
 writes_from given core (p ∷ ps) registers =
-    writes_of given core 0 p (first_registers registers core) ++ writes_from given (core + 1) ps registers
+    writes_of given core 0 p (known_first_registers registers core) ++ writes_from given (core + 1) ps registers
 
 -- the value of a write, if it is among those that are known
 abbrev pub value_among : List Entry → Entry → Option ℕ
@@ -115,7 +115,7 @@ value_read t k r = returned t (all_known t k) k.sources r
 
 abbrev pub register_at_end : Litmus → Known → ℕ → Reg → Option ℕ
 register_at_end t k core reg =
-    known_in (left_of (value_read t k) core 0 (slice_index_or t.programs core []) (first_registers t.registers core)) reg
+    known_in (left_of (value_read t k) core 0 (slice_index_or t.programs core []) (known_first_registers t.registers core)) reg
 
 -- a write to the location that no answer puts before another one
 abbrev pub can_be_last : Litmus → Known → ℕ → Entry → Bool

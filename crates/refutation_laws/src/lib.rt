@@ -10,14 +10,14 @@
 #![tactic(auto)]
 
 pub mod known;
-pub mod laws;
 pub mod model;
+pub mod refuted_claims;
 pub mod worked;
 
 pub use known::{Pair, Source};
-pub use laws::{
+pub use model::{Model, Relation};
+pub use refuted_claims::{
     claims_are_refuted_or_met, edges_have_relations, known_values_are_right,
     no_run_makes_a_refuted_claim_true, refuted_claims_are_false, refuted_questions_are_answered,
 };
-pub use model::{Model, Relation};
 pub use worked::worked_refutations;

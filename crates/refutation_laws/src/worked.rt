@@ -9,7 +9,7 @@ ghost use Rattle.refutation_laws.specs.Worked.{opposite, independent_refuted, ot
 ghost use Rattle.refutation_laws.specs.Worked.{lost, between_refuted, not_seen, unseen_refuted, unwritten, unwritten_refuted};
 ghost use Rattle.refutation_laws.specs.declared.model.Model.TheVariants.{Tso, Sequential};
 
-use crate::laws::refuted_claims_are_false;
+use crate::refuted_claims::refuted_claims_are_false;
 use relational_model::worked_candidates;
 
 /// These trees refute: store buffering under sequential consistency, and with fences under x86-TSO;

@@ -14,11 +14,11 @@ pub use Rattle.tso_model.specs.ProgramOrder.{writes_to}
 pub use Rattle.refutation_laws.specs.Values.{all_known, value_among, can_be_last, words_at_end, known_writes, writes_from, returned, can_be}
 pub use Rattle.refutation_laws.specs.declared.known.Pair.{Pair}
 pub use Rattle.refutation_laws.specs.Edges.{relates, is_edge}
-pub use Rattle.refutation_laws.specs.Shown.{first_of}
+pub use Rattle.refutation_laws.specs.Shown.{first_that_relates}
 pub use Rattle.refutation_laws.specs.declared.model.Relation.{Relation}
 pub use Rattle.std.proofs.lemmas.Bool.Decides.{nat_tests}
 pub use Rattle.tso_model.specs.Condition.{Claim, NamesExist, claim_of, condition_of}
-pub use Rattle.refutation_laws.specs.Refutations.{is_node, branches, close, asked}
+pub use Rattle.refutation_laws.specs.Refutations.{is_node, branches, close, asked_claim}
 pub use Rattle.refutation_laws.specs.declared.model.Model.{Model}
 pub use Rattle.refutations.specs.Trees.{node_of}
 pub use Rattle.refutations.specs.inner.Trees.{known_of, relations_of}

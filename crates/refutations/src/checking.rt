@@ -29,7 +29,7 @@ pub fn is_node(
     node: &Node,
 ) -> Result<bool, NoMemory>
     requires { events.now ≡ known.events_of test.now }
-    ensures { IfOk result (λ b. b ≡ spec.is_node model test.now (spec.asked test.now.condition) (known_of answers.now) (node_of node.now)) }
+    ensures { IfOk result (λ b. b ≡ spec.is_node model test.now (spec.asked_claim test.now.condition) (known_of answers.now) (node_of node.now)) }
 {
     match node {
         Node::ReadsFrom(r) => Ok(is_event(test, events, r) && is_read(r)),
@@ -120,7 +120,7 @@ pub fn add_branches(
 ///
 /// Errors: out of memory only.
 pub fn refutes(alloc: Global, test: &Test, model: Model, nodes: &[Node]) -> Result<bool, NoMemory>
-    ensures { IfOk result (λ b. b ≡ spec.refutes model test.now (spec.asked test.now.condition) (map node_of nodes.now)) }
+    ensures { IfOk result (λ b. b ≡ spec.refutes model test.now (spec.asked_claim test.now.condition) (map node_of nodes.now)) }
 {
     let events = make_events(alloc, test)?;
     let mut cases = Vec::new(alloc);

@@ -69,7 +69,7 @@ pub fn relates(
     }
 }
 
-fn first_of(
+fn first_that_relates(
     test: &Test,
     events: &[Entry],
     answers: &Answers,
@@ -78,7 +78,7 @@ fn first_of(
     y: &Entry,
 ) -> Option<Relation>
     requires { events.now ≡ events_of test.now }
-    ensures { result ≡ shown.first_of test.now (known_of answers.now) relations.now x.now y.now }
+    ensures { result ≡ shown.first_that_relates test.now (known_of answers.now) relations.now x.now y.now }
 {
     for relation in relations {
         if relates(test, events, answers, *relation, x, y) {
@@ -98,12 +98,12 @@ pub fn first_relation(
     y: &Entry,
 ) -> Option<Relation>
     requires { events.now ≡ events_of test.now }
-    ensures { result ≡ shown.first_of test.now (known_of answers.now) (relations_of acyclic) x.now y.now }
+    ensures { result ≡ shown.first_that_relates test.now (known_of answers.now) (relations_of acyclic) x.now y.now }
 {
     match acyclic {
         Acyclic::OnLocation => {
             let relations = [Relation::PoLoc, Relation::Rf, Relation::Co, Relation::Fr];
-            first_of(test, events, answers, &relations, x, y)
+            first_that_relates(test, events, answers, &relations, x, y)
         }
         Acyclic::Globally(Model::Tso) => {
             let relations = [
@@ -114,11 +114,11 @@ pub fn first_relation(
                 Relation::Co,
                 Relation::Fr,
             ];
-            first_of(test, events, answers, &relations, x, y)
+            first_that_relates(test, events, answers, &relations, x, y)
         }
         Acyclic::Globally(Model::Sequential) => {
             let relations = [Relation::Po, Relation::Rf, Relation::Co, Relation::Fr];
-            first_of(test, events, answers, &relations, x, y)
+            first_that_relates(test, events, answers, &relations, x, y)
         }
     }
 }

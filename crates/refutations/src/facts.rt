@@ -9,7 +9,7 @@ ghost use Rattle.refutations.specs.inner.Facts.{AreFacts};
 
 use crate::answers::Answers;
 use crate::events::is_read;
-use crate::values::{Walk, first_registers, returned, run_all, run_program, value_among};
+use crate::values::{Walk, known_first_registers, returned, run_all, run_program, value_among};
 use std::alloc::Global;
 use tso_model::{Core, Entry, NoMemory, Test};
 
@@ -74,14 +74,14 @@ fn all_left(
     ensures count { IfOk result (λ left. length left.items ≡ length test.now.programs) }
     ensures each { IfOk result (λ left. (core : ℕ) → core < length test.now.programs → slice_index_or left.items core []
         ≡ spec.left_of (spec.returned test.now known.now (known_of answers.now).sources) core 0 (slice_index_or test.now.programs core [])
-        (spec.first_registers test.now.registers core)) }
+        (spec.known_first_registers test.now.registers core)) }
 {
     let mut left = Vec::new(alloc);
     for number in 0..test.cores() {
         let core = Core(number);
         let mut walk = Walk {
             writes: Vec::new(alloc),
-            registers: first_registers(test, core),
+            registers: known_first_registers(test, core),
         };
         run_program(&mut walk, test, known, &answers.sources, core)?;
         left.push(walk.registers)?;

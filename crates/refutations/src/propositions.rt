@@ -5,7 +5,7 @@ ghost use Rattle.tso_model.specs.ProgramOrder as program_order;
 ghost use Rattle.tso_model.specs.Condition.{NamesExist, claim_of};
 ghost use Rattle.refutation_laws.specs.Known.{events_of};
 ghost use Rattle.refutation_laws.specs.Known as known;
-ghost use Rattle.refutation_laws.specs.Refutations.{asked};
+ghost use Rattle.refutation_laws.specs.Refutations.{asked_claim};
 ghost use Rattle.refutation_laws.specs.Values as spec;
 ghost use Rattle.refutation_laws.specs.declared.known.Pair as declared;
 ghost use Rattle.refutations.specs.inner.Trees.{known_of};
@@ -214,7 +214,7 @@ pub fn allows(
 pub fn can_be_met(test: &Test, events: &[Entry], answers: &Answers, facts: &Facts) -> bool
     requires events { events.now ≡ events_of test.now }
     requires facts { AreFacts test.now (known_of answers.now) facts.now }
-    ensures { result ≡ spec.allows test.now (known_of answers.now) (asked test.now.condition) true }
+    ensures { result ≡ spec.allows test.now (known_of answers.now) (asked_claim test.now.condition) true }
 {
     let Some(cond) = test.cond() else {
         return true;

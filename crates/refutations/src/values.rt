@@ -136,7 +136,7 @@ fn act(
     word: Option<u32>,
 ) -> Result<(), NoMemory>
     ensures writes { IfOk result (λ _. walk.new.writes.items ≡ walk.old.writes.items ++ spec.writes_by core.0 place action walk.old.registers word) }
-    ensures registers { IfOk result (λ _. walk.new.registers ≡ spec.left_by action walk.old.registers word) }
+    ensures registers { IfOk result (λ _. walk.new.registers ≡ spec.registers_left_by action walk.old.registers word) }
 {
     match action {
         Action::Store(loc, operand) => {
@@ -202,9 +202,9 @@ pub fn run_program(
 }
 
 /// A core's registers at first, each known.
-pub fn first_registers(test: &Test, core: Core) -> [Option<u32>; 6]
+pub fn known_first_registers(test: &Test, core: Core) -> [Option<u32>; 6]
     requires { core.0 < length test.now.programs }
-    ensures { result ≡ spec.first_registers test.now.registers core.0 }
+    ensures { result ≡ spec.known_first_registers test.now.registers core.0 }
 {
     let first = test.initial_registers(core);
     [
@@ -232,7 +232,7 @@ pub fn run_all(
         let core = Core(number);
         let mut walk = Walk {
             writes,
-            registers: first_registers(test, core),
+            registers: known_first_registers(test, core),
         };
         run_program(&mut walk, test, before, sources, core)?;
         writes = walk.writes;

@@ -1,6 +1,6 @@
 -- Edges that can be kept are kept by an order of the candidate that is a TSO execution: the events without the load parts of locked
 -- instructions go into a row, and each load part directly before its store part.
-use Rattle.relational_model.proofs.Vocabulary.{◌≡◌, ◌≤◌, zero, suc, List, [], ◌∷◌, ◌++◌, arith, refl, sym, ap, ◌∙◌, ◌⊎◌, inl, inr, subst, length, Litmus, IsAdjacent, IsTsoExecution, Entry, LR, LW, IsIn, at_once, onward, IsAcyclic, Candidate, events, IsCandidateOf, LeaveTheSame, IsOfAnExecution, ArePair, IsAllowed, part_of, GoesForward, Row, Once}
+use Rattle.relational_model.proofs.Vocabulary.{◌≡◌, ◌≤◌, zero, suc, List, [], ◌∷◌, ◌++◌, arith, refl, sym, ap, ◌∙◌, ◌⊎◌, inl, inr, subst, length, Litmus, IsAdjacent, IsTsoExecution, Entry, LR, LW, IsIn, at_once, onward, IsAcyclic, Candidate, events, IsCandidateOf, LeaveTheSame, IsOfAnExecution, ArePair, IsAllowed, part_of, GoesForward, LinearExtension, Once}
 use Rattle.relational_model.proofs.Lists.{in-case, in-first, in-later, in-append}
 use Rattle.relational_model.proofs.Sizes.{once-filter, no-more}
 use Rattle.relational_model.proofs.Decisions.{Decision, kinds, Goes, goes}
@@ -258,7 +258,7 @@ module _ (t : Litmus) (c : Candidate) (s : Sound t c) (a : IsAllowed t c) (Befor
       go (in-a-row (others (events t c)) (Toward (events t c) Before) (toward (events t c) Before keep.decided)
       (λ x p. keep.acyclic x (way (events t c) (others (events t c)) Before pair-before (λ y i. (is-other (events t c) y i).0) x x p)))
     where
-      go : Row (Toward (events t c) Before) (others (events t c)) → IsKept t c Before
+      go : LinearExtension (Toward (events t c) Before) (others (events t c)) → IsKept t c Before
       go r =
           let o : Others r.row = record {
             inside = λ x i. (is-other (events t c) x (r.outside x i)).0;

@@ -1,5 +1,5 @@
 -- A row of a candidate's events in which no edge goes back is an order of that candidate.
-use Rattle.relational_model.proofs.Vocabulary.{◌≡◌, ◌<◌, ◌≤◌, ℕ, ◌+◌, ◌==◌, ◌&&◌, zero, suc, Bool, true, false, if◌then◌else◌, List, [], ◌∷◌, ◌++◌, Option, Some, None, arith, refl, sym, ap, ◌∙◌, ◌⊎◌, inl, inr, subst, length, filter, Litmus, is_before, is_read, is_write, writes_to, counting, KeepsProgramOrder, Entry, Kind, R, W, F, LR, LW, IsIn, IsEarlier, at_once, onward, Candidate, events, last_in, is_access, share_location, ReadsFrom, IsBefore, StandsAfter, FromReads, IsAllowed, po_loc, fr, rank, part_of, GoesForward, Row, Once}
+use Rattle.relational_model.proofs.Vocabulary.{◌≡◌, ◌<◌, ◌≤◌, ℕ, ◌+◌, ◌==◌, ◌&&◌, zero, suc, Bool, true, false, if◌then◌else◌, List, [], ◌∷◌, ◌++◌, Option, Some, None, arith, refl, sym, ap, ◌∙◌, ◌⊎◌, inl, inr, subst, length, filter, Litmus, is_before, is_read, is_write, writes_to, counting, KeepsProgramOrder, Entry, Kind, R, W, F, LR, LW, IsIn, IsEarlier, at_once, onward, Candidate, events, last_in, is_access, share_location, ReadsFrom, IsBefore, StandsAfter, FromReads, IsAllowed, po_loc, fr, rank, part_of, GoesForward, LinearExtension, Once}
 use Rattle.relational_model.specs.Model.{rf}
 use Rattle.relational_model.proofs.Lists.{in-case, in-none, in-first, in-later, in-filter, filter-in, in-right, Precedes, to-precedes, from-precedes, precedes-second, last-is-in, last-none, last-last}
 use Rattle.relational_model.proofs.Ranks.{rank-before}
@@ -95,7 +95,7 @@ pub record Placed (t : Litmus) (c : Candidate) (order : List Entry) : Type 0 whe
   pub forward : GoesForward (Goes c) order
   pub count : length order ≡ length (events t c)
 
-pub placed-row : (t : Litmus) (c : Candidate) → Sound t c → IsAllowed t c → (r : Row (Goes c) (events t c)) → Placed t c r.row
+pub placed-row : (t : Litmus) (c : Candidate) → Sound t c → IsAllowed t c → (r : LinearExtension (Goes c) (events t c)) → Placed t c r.row
 placed-row t c s a r =
     let k = pigeons (events t c) r.row s.once r.inside r.count in
     record {

@@ -1,5 +1,5 @@
 -- Events can be put in a row in which no edge goes back, or some edges lead round: a finite acyclic relation extends to a total order.
-use Rattle.relational_model.proofs.Vocabulary.{◌≡◌, suc, List, [], ◌∷◌, refl, ap, ◌∙◌, ◌⊎◌, inl, inr, subst, Entry, IsIn, LeadsTo, at_once, onward, IsAcyclic, NoneBefore, GoesForward, Row, Ordered}
+use Rattle.relational_model.proofs.Vocabulary.{◌≡◌, suc, List, [], ◌∷◌, refl, ap, ◌∙◌, ◌⊎◌, inl, inr, subst, Entry, IsIn, LeadsTo, at_once, onward, IsAcyclic, NonePrecedes, GoesForward, LinearExtension, Ordered}
 use Rattle.relational_model.proofs.Lists.{in-case, in-none, in-first, in-later}
 
 -- a relation that can be decided
@@ -40,12 +40,12 @@ unpast x xs Before _ _ (onward a b d i (inr p) rest) =
 
 -- whether one of these is before x
 any-before : (Before : Entry → Entry → Type 0) → Decided Before → (x : Entry) (ys : List Entry)
-    → ((z : Entry) × (IsIn ys z × Before z x)) ⊎ NoneBefore Before x ys
+    → ((z : Entry) × (IsIn ys z × Before z x)) ⊎ NonePrecedes Before x ys
 any-before Before d x [] = inr (λ z i b. in-none z i)
 any-before Before d x (y ∷ ys) = go (d y x) (any-before Before d x ys)
   where
-    go : Before y x ⊎ (Before y x → ⊥) → ((z : Entry) × (IsIn ys z × Before z x)) ⊎ NoneBefore Before x ys
-        → ((z : Entry) × (IsIn (y ∷ ys) z × Before z x)) ⊎ NoneBefore Before x (y ∷ ys)
+    go : Before y x ⊎ (Before y x → ⊥) → ((z : Entry) × (IsIn ys z × Before z x)) ⊎ NonePrecedes Before x ys
+        → ((z : Entry) × (IsIn (y ∷ ys) z × Before z x)) ⊎ NonePrecedes Before x (y ∷ ys)
     go (inl p) rest = inl (y, (in-first y ys y refl, p))
     go (inr p) (inl (z, h)) = inl (z, (in-later y ys z h.0, h.1))
     go (inr p) (inr none) = inr (λ z i b. on z (in-case y ys z i) b)
@@ -61,7 +61,7 @@ weaker x Before (y ∷ ys) h = ((λ z i b. h.0 z i (inl b)), weaker x Before ys 
 
 placed : (Before : Entry → Entry → Type 0) → Decided Before → (x : Entry) → (Before x x → ⊥) → (ys : List Entry)
     → ((y : Entry) → IsIn ys y → Before x y → Before y x → ⊥)
-    → GoesForward (Past x Before) ys → Row Before (x ∷ ys)
+    → GoesForward (Past x Before) ys → LinearExtension Before (x ∷ ys)
 placed Before d x once [] twice h = record {
   row = x ∷ [];
   forward = ((λ z i b. in-none z i), tt);
@@ -72,7 +72,7 @@ placed Before d x once [] twice h = record {
 placed Before d x once (y ∷ ys) twice h =
     go (any-before Before d x (y ∷ ys)) (placed Before d x once ys (λ z i. twice z (in-later y ys z i)) h.1)
   where
-    go : ((z : Entry) × (IsIn (y ∷ ys) z × Before z x)) ⊎ NoneBefore Before x (y ∷ ys) → Row Before (x ∷ ys) → Row Before (x ∷ (y ∷ ys))
+    go : ((z : Entry) × (IsIn (y ∷ ys) z × Before z x)) ⊎ NonePrecedes Before x (y ∷ ys) → LinearExtension Before (x ∷ ys) → LinearExtension Before (x ∷ (y ∷ ys))
     go (inr none) rest = record {
       row = x ∷ (y ∷ ys);
       forward = (none, weaker x Before (y ∷ ys) h);
@@ -134,7 +134,7 @@ ordered-or-round (x ∷ xs) Before d = go (ordered-or-round xs (Past x Before) (
         pick (inl e) = in-first x zs y e
         pick (inr j) = in-later x zs y (f y j)
 
-    more : (r : Row (Past x Before) xs) → Row Before (x ∷ r.row) → Row Before (x ∷ xs)
+    more : (r : LinearExtension (Past x Before) xs) → LinearExtension Before (x ∷ r.row) → LinearExtension Before (x ∷ xs)
     more r q = record {
       row = q.row;
       forward = q.forward;
@@ -158,9 +158,9 @@ ordered-or-round (x ∷ xs) Before d = go (ordered-or-round xs (Past x Before) (
       never_itself = λ y i b. selfless never o.never_itself y (in-case x xs y i) b;
     })
 
-pub in-a-row : (xs : List Entry) (Before : Entry → Entry → Type 0) → Decided Before → IsAcyclic xs Before → Row Before xs
+pub in-a-row : (xs : List Entry) (Before : Entry → Entry → Type 0) → Decided Before → IsAcyclic xs Before → LinearExtension Before xs
 in-a-row xs Before d a = go (ordered-or-round xs Before d)
   where
-    go : GoesRound Before xs ⊎ Ordered Before xs → Row Before xs
+    go : GoesRound Before xs ⊎ Ordered Before xs → LinearExtension Before xs
     go (inl g) = absurd (a g.event g.round)
     go (inr o) = o.in_a_row

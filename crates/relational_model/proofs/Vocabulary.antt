@@ -24,7 +24,7 @@ pub use Rattle.tso_model.specs.Examples.{loc_x, loc_y, zeros, sb, sb_order, n6, 
 pub use Rattle.relational_model.specs.WorkedCandidates.{of_x_and_y, fenced, fenced_candidate, exchanged, exchanged_candidate, passing, passing_candidate, buffering, buffering_candidate, independent, independent_candidate, between, between_candidate, unseen, unseen_candidate, opposite_registers, sb_candidate, n6_candidate}
 pub use Rattle.basic_laws.specs.Ranks.{rank, part_of}
 pub use Rattle.basic_laws.proofs.Ranks.{by-rank}
-pub use Rattle.relational_model.specs.inner.Rows.{Once, NoneBefore, GoesForward, Row, Ordered}
+pub use Rattle.relational_model.specs.inner.Rows.{Once, NonePrecedes, GoesForward, LinearExtension, Ordered}
 pub use Rattle.tso_model.specs.SequentialConsistency.{KeepsAllOrder}
 pub use Rattle.relational_model.specs.SequentialModel.{IsBeforeSequentially, po, rf, IsSequential}
 pub use Rattle.tso_model.specs.Runs.{run}

@@ -1,5 +1,5 @@
 -- Words that are choices, against what is read of them.
-use Rattle.scheduler.proofs.Vocabulary.{◌≡◌, ℕ, ◌+◌, ◌-◌, ◌<◌, ◌≤◌, Bool, true, false, cond, eqb, leb, List, [], ◌∷◌, ◌++◌, length, get_or, take, Option, Some, None, Ok, Err, refl, sym, ap, subst, ◌∙◌, ◌⊎◌, inl, inr, take_all, arith, bytes_eq, codes, le-leb, lt-leb, leb-true, and_parts, eqb-true, cases_lt, take_more, chosen, Choice, BadWord, NoSuchCore, TooMany, ChoiceKind, One, decimal_value, number_up_to, is_numeral, IsChoiceWord, step, drain, kind_of, choice_by, one_at, one_of}
+use Rattle.scheduler.proofs.Vocabulary.{◌≡◌, ℕ, ◌+◌, ◌-◌, ◌<◌, ◌≤◌, Bool, true, false, cond, eqb, leb, List, [], ◌∷◌, ◌++◌, length, get_or, take, Option, Some, None, Ok, Err, refl, sym, ap, subst, ◌∙◌, ◌⊎◌, inl, inr, take_all, arith, bytes_eq, codes, le-leb, lt-leb, leb-true, and_parts, eqb-true, cases_lt, take_more, chosen, Choice, BadWord, NoSuchCore, TooMany, ChoiceKind, One, decimal_value, number_up_to, is_numeral, IsChoiceWord, step, drain, choice_kind_of, choice_by, one_at, one_of}
 use Rattle.scheduler.specs.declared.item.ChoiceKind.TheVariants.{Step, Drain}
 use Rattle.scheduler.proofs.Items.{one_is, one_none}
 
@@ -23,7 +23,7 @@ number_out most digits lt = let is_out : leb (decimal_value digits) most ≡ fal
 -- a choice word is read by its core and the room
 choice_read : (cores room number : ℕ) (word : List ℕ) (c : Choice) → IsChoiceWord word c
     → (action : ChoiceKind) × (digits : List ℕ) × (c ≡ choice_by action (decimal_value digits)) × (one_of cores room number word ≡ one_at room number action (number_up_to (cores - 1) digits))
-unfolding kind_of
+unfolding choice_kind_of
 choice_read cores room number _ _ (step digits good) = (Step, digits, refl, one_is cores room number (digits ++ codes "s") digits 115 refl ∙ rw good refl)
 choice_read cores room number _ _ (drain digits good) = (Drain, digits, refl, one_is cores room number (digits ++ codes "d") digits 100 refl ∙ rw good refl)
 
@@ -64,16 +64,16 @@ not_a_choice cores room number word some bad c is =
       | inr over ↦ let other : one_of cores room number word ≡ Err (NoSuchCore number) = reads_absent cores room number word c some is over in cc
     ]
 
-letter_step : (letter : ℕ) → kind_of letter ≡ Some Step → letter ≡ 115
-unfolding kind_of
+letter_step : (letter : ℕ) → choice_kind_of letter ≡ Some Step → letter ≡ 115
+unfolding choice_kind_of
 letter_step letter e =
     elim (which-way (eqb letter 115) (Some Step) (cond (eqb letter 100) (Some Drain) None) (Some Step) e) [
       | inl hit ↦ eqb-true _ _ hit.0
       | inr miss ↦ elim (which-way (eqb letter 100) (Some Drain) None (Some Step) miss.1) [ inl hit ↦ absurd cc | inr bad ↦ absurd cc ]
     ]
 
-letter_drain : (letter : ℕ) → kind_of letter ≡ Some Drain → letter ≡ 100
-unfolding kind_of
+letter_drain : (letter : ℕ) → choice_kind_of letter ≡ Some Drain → letter ≡ 100
+unfolding choice_kind_of
 letter_drain letter e =
     elim (which-way (eqb letter 115) (Some Step) (cond (eqb letter 100) (Some Drain) None) (Some Drain) e) [
       | inl hit ↦ absurd cc
@@ -81,7 +81,7 @@ letter_drain letter e =
     ]
 
 -- digits and the letter of an action are a choice word
-word_is : (word digits : List ℕ) (letter : ℕ) (action : ChoiceKind) → word ≡ digits ++ letter ∷ [] → kind_of letter ≡ Some action → is_numeral digits ≡ true → IsChoiceWord word (choice_by action (decimal_value digits))
+word_is : (word digits : List ℕ) (letter : ℕ) (action : ChoiceKind) → word ≡ digits ++ letter ∷ [] → choice_kind_of letter ≡ Some action → is_numeral digits ≡ true → IsChoiceWord word (choice_by action (decimal_value digits))
 word_is word digits letter Step is has good =
     let same : digits ++ 115 ∷ [] ≡ word = sym (is ∙ ap (λ (b : ℕ). digits ++ b ∷ []) (letter_step letter has)) in
     subst (λ (w : List ℕ). IsChoiceWord w (choice_by Step (decimal_value digits))) same (step digits good)
@@ -90,7 +90,7 @@ word_is word digits letter Drain is has good =
     subst (λ (w : List ℕ). IsChoiceWord w (choice_by Drain (decimal_value digits))) same (drain digits good)
 
 -- a word is a choice word, or is read as of no form
-word_by : (cores room number : ℕ) (word digits : List ℕ) (letter : ℕ) (action : Option ChoiceKind) → word ≡ digits ++ letter ∷ [] → kind_of letter ≡ action
+word_by : (cores room number : ℕ) (word digits : List ℕ) (letter : ℕ) (action : Option ChoiceKind) → word ≡ digits ++ letter ∷ [] → choice_kind_of letter ≡ action
     → ((c : Choice) × IsChoiceWord word c) ⊎ (one_of cores room number word ≡ Err (BadWord number))
 word_by cores room number word digits letter None is has = inr (one_is cores room number word digits letter is ∙ rw has refl)
 word_by cores room number word digits letter (Some action) is has =
@@ -105,7 +105,7 @@ word_cases cores room number word =
       | inl some ↦
           let last : length word - 1 < length word = omega arith in
           let whole : word ≡ take (length word - 1) word ++ get_or word (length word - 1) 0 ∷ [] = sym (take_all (length word - 1 + 1) word (omega arith)) ∙ take_more word (length word - 1) 0 last in
-          word_by cores room number word (take (length word - 1) word) (get_or word (length word - 1) 0) (kind_of (get_or word (length word - 1) 0)) whole refl
+          word_by cores room number word (take (length word - 1) word) (get_or word (length word - 1) 0) (choice_kind_of (get_or word (length word - 1) 0)) whole refl
       | inr none ↦ inr (one_none cores room number word (omega arith))
     ]
 

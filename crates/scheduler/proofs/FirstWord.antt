@@ -1,5 +1,5 @@
 -- The first word of a text, and the words after it.
-use Rattle.scheduler.proofs.Vocabulary.{◌≡◌, ℕ, ◌+◌, ◌<◌, suc, Bool, true, false, not, List, [], ◌∷◌, length, take, drop, filter, refl, sym, ap, subst, ◌∙◌, inl, inr, eqb, arith, prefix_len, slice_split, onto_first, nat_tests, length-drop, is_space, words_of}
+use Rattle.scheduler.proofs.Vocabulary.{◌≡◌, ℕ, ◌+◌, ◌<◌, suc, Bool, true, false, not, List, [], ◌∷◌, length, take, drop, filter, refl, sym, ap, subst, ◌∙◌, inl, inr, eqb, arith, prefix_len, slice_split, onto_first, nat_tests, length-drop, is_space, words_of_text}
 use Rattle.scheduler.proofs.ChoiceWords.{either}
 
 abbrev is_of_word : ℕ → Bool
@@ -52,7 +52,7 @@ first_part (b ∷ bs) =
       | inr is ↦ rw (word-past b bs is, word-more b bs is, is) (ap (onto_first b) (first_part bs))
     ]
 
-words_after : (text : List ℕ) → filter is_some (parts_after (past_word text)) ≡ words_of (past_word text)
+words_after : (text : List ℕ) → filter is_some (parts_after (past_word text)) ≡ words_of_text (past_word text)
 words_after [] = refl
 words_after (b ∷ bs) =
     elim (either (is_space b)) [
@@ -64,15 +64,15 @@ some-first : (b : ℕ) (bs : List ℕ) → is_some (b ∷ bs) ≡ true
 some-first b bs = grind (arith, nat_tests)
 
 -- a text that begins with no white space
-word-first : (b : ℕ) (bs : List ℕ) → is_space b ≡ false → words_of (b ∷ bs) ≡ word_in (b ∷ bs) ∷ words_of (past_word (b ∷ bs))
+word-first : (b : ℕ) (bs : List ℕ) → is_space b ≡ false → words_of_text (b ∷ bs) ≡ word_in (b ∷ bs) ∷ words_of_text (past_word (b ∷ bs))
 word-first b bs is =
     ap (λ (parts : List (List ℕ)). filter is_some parts) (first_part (b ∷ bs))
     ∙ rw (word-past b bs is, word-more b bs is, some-first b (word_in bs)) (ap (λ (ws : List (List ℕ)). (b ∷ word_in bs) ∷ ws) (words_after bs))
 
-space-first : (b : ℕ) (bs : List ℕ) → is_space b ≡ true → words_of (b ∷ bs) ≡ words_of bs
+space-first : (b : ℕ) (bs : List ℕ) → is_space b ≡ true → words_of_text (b ∷ bs) ≡ words_of_text bs
 space-first b bs is = rw is refl
 
-pub no_words : (text : List ℕ) → length (past_space text) ≡ 0 → words_of text ≡ []
+pub no_words : (text : List ℕ) → length (past_space text) ≡ 0 → words_of_text text ≡ []
 no_words [] none = refl
 no_words (b ∷ bs) none =
     elim (either (is_space b)) [
@@ -81,7 +81,7 @@ no_words (b ∷ bs) none =
     ]
 
 -- the white space that ends the word is no part of the words after it
-word-ended : (text : List ℕ) → words_of (past_word text) ≡ words_of (drop 1 (past_word text))
+word-ended : (text : List ℕ) → words_of_text (past_word text) ≡ words_of_text (drop 1 (past_word text))
 word-ended [] = refl
 word-ended (b ∷ bs) =
     elim (either (is_space b)) [
@@ -91,7 +91,7 @@ word-ended (b ∷ bs) =
 
 -- what is said of the text after the white space is said of the text
 abbrev Begins : List ℕ → List ℕ → Type 0
-Begins text left = (words_of text ≡ word_in left ∷ words_of (drop 1 (past_word left))) × (length (drop 1 (past_word left)) < length text)
+Begins text left = (words_of_text text ≡ word_in left ∷ words_of_text (drop 1 (past_word left))) × (length (drop 1 (past_word left)) < length text)
 
 begins : (text : List ℕ) → 0 < length (past_space text) → Begins text (past_space text)
 begins [] some = absurd (omega arith)
@@ -108,7 +108,7 @@ begins (b ∷ bs) some =
           )
     ]
 
-pub word_first : (text left : List ℕ) → left ≡ past_space text → 0 < length left → words_of text ≡ word_in left ∷ words_of (drop 1 (past_word left))
+pub word_first : (text left : List ℕ) → left ≡ past_space text → 0 < length left → words_of_text text ≡ word_in left ∷ words_of_text (drop 1 (past_word left))
 word_first text left is some = (subst (Begins text) (sym is) (begins text (subst (λ (l : List ℕ). 0 < length l) is some))).0
 
 pub word_shorter : (text left : List ℕ) → left ≡ past_space text → 0 < length left → length (drop 1 (past_word left)) < length text

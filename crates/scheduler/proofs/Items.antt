@@ -1,7 +1,7 @@
 -- How one item is read, case by case.
-use Rattle.scheduler.proofs.Vocabulary.{◌≡◌, ◌≢◌, ℕ, ◌+◌, ◌-◌, ◌<◌, true, false, leb, min, List, [], ◌∷◌, ◌++◌, length, get_or, take, drop, Some, None, Result, Ok, Err, refl, ap, ◌∙◌, arith, bytes_eq, codes, le-leb, lt-leb, ne_eqb, take_at, get_or_at, length-append, BadWord, NoSuchCore, TooMany, ChoiceKind, ChoiceFault, ChoiceItem, One, Seeded, decimal_value, number_up_to, is_numeral, kind_of, choice_by, one_from, one_of, seed_of, seeded_from, seeded_of, item_of}
+use Rattle.scheduler.proofs.Vocabulary.{◌≡◌, ◌≢◌, ℕ, ◌+◌, ◌-◌, ◌<◌, true, false, leb, min, List, [], ◌∷◌, ◌++◌, length, get_or, take, drop, Some, None, Result, Ok, Err, refl, ap, ◌∙◌, arith, bytes_eq, codes, le-leb, lt-leb, ne_eqb, take_at, get_or_at, length-append, BadWord, NoSuchCore, TooMany, ChoiceKind, ChoiceFault, ChoiceItem, One, Seeded, decimal_value, number_up_to, is_numeral, choice_kind_of, choice_by, one_from, one_of, seed_of, seeded_from, seeded_of, item_of}
 
-pub one_is : (cores room number : ℕ) (word digits : List ℕ) (letter : ℕ) → word ≡ digits ++ letter ∷ [] → one_of cores room number word ≡ one_from cores room number digits (kind_of letter)
+pub one_is : (cores room number : ℕ) (word digits : List ℕ) (letter : ℕ) → word ≡ digits ++ letter ∷ [] → one_of cores room number word ≡ one_from cores room number digits (choice_kind_of letter)
 unfolding one_of
 one_is cores room number word digits letter is =
     let front : take (length word - 1) word ≡ digits = rw is (take_at digits (letter ∷ []) _ (omega (arith, length-append digits (letter ∷ [])))) in
@@ -9,14 +9,14 @@ one_is cores room number word digits letter is =
     rw (front, back) refl
 
 pub one_none : (cores room number : ℕ) (word : List ℕ) → length word ≡ 0 → one_of cores room number word ≡ Err (BadWord number)
-unfolding one_of kind_of
+unfolding one_of choice_kind_of
 one_none cores room number [] none = refl
 one_none cores room number (b ∷ bs) none = absurd (omega arith)
 
-pub one_bad_letter : (cores room number : ℕ) (word digits : List ℕ) (letter : ℕ) → word ≡ digits ++ letter ∷ [] → None ≡ kind_of letter → one_of cores room number word ≡ Err (BadWord number)
+pub one_bad_letter : (cores room number : ℕ) (word digits : List ℕ) (letter : ℕ) → word ≡ digits ++ letter ∷ [] → None ≡ choice_kind_of letter → one_of cores room number word ≡ Err (BadWord number)
 one_bad_letter cores room number word digits letter is none = one_is cores room number word digits letter is ∙ rw (← none) refl
 
-pub one_bad_digits : (cores room number : ℕ) (word digits : List ℕ) (letter : ℕ) (action : ChoiceKind) → word ≡ digits ++ letter ∷ [] → Some action ≡ kind_of letter → is_numeral digits ≡ false
+pub one_bad_digits : (cores room number : ℕ) (word digits : List ℕ) (letter : ℕ) (action : ChoiceKind) → word ≡ digits ++ letter ∷ [] → Some action ≡ choice_kind_of letter → is_numeral digits ≡ false
     → one_of cores room number word ≡ Err (BadWord number)
 one_bad_digits cores room number word digits letter action is has bad = one_is cores room number word digits letter is ∙ rw (← has, bad) refl
 
@@ -32,17 +32,17 @@ core_in cores core digits is other =
     let same : decimal_value digits ≡ core = omega arith in
     rw there (ap (λ (n : ℕ). Some n) same)
 
-pub one_no_core : (cores room number : ℕ) (word digits : List ℕ) (letter core : ℕ) (action : ChoiceKind) → 0 < cores → word ≡ digits ++ letter ∷ [] → Some action ≡ kind_of letter → is_numeral digits ≡ true
+pub one_no_core : (cores room number : ℕ) (word digits : List ℕ) (letter core : ℕ) (action : ChoiceKind) → 0 < cores → word ≡ digits ++ letter ∷ [] → Some action ≡ choice_kind_of letter → is_numeral digits ≡ true
     → core ≡ min (decimal_value digits) cores → core ≡ cores → one_of cores room number word ≡ Err (NoSuchCore number)
 one_no_core cores room number word digits letter core action some is has good capped past =
     one_is cores room number word digits letter is ∙ rw (← has, good, core_out cores core digits some capped past) refl
 
-pub one_full : (cores room number : ℕ) (word digits : List ℕ) (letter core : ℕ) (action : ChoiceKind) → word ≡ digits ++ letter ∷ [] → Some action ≡ kind_of letter → is_numeral digits ≡ true
+pub one_full : (cores room number : ℕ) (word digits : List ℕ) (letter core : ℕ) (action : ChoiceKind) → word ≡ digits ++ letter ∷ [] → Some action ≡ choice_kind_of letter → is_numeral digits ≡ true
     → core ≡ min (decimal_value digits) cores → core ≢ cores → room ≡ 0 → one_of cores room number word ≡ Err (TooMany number)
 one_full cores room number word digits letter core action is has good capped there none =
     one_is cores room number word digits letter is ∙ rw (← has, good, core_in cores core digits capped there, none) refl
 
-pub one_there : (cores room number : ℕ) (word digits : List ℕ) (letter core : ℕ) (action : ChoiceKind) → word ≡ digits ++ letter ∷ [] → Some action ≡ kind_of letter → is_numeral digits ≡ true
+pub one_there : (cores room number : ℕ) (word digits : List ℕ) (letter core : ℕ) (action : ChoiceKind) → word ≡ digits ++ letter ∷ [] → Some action ≡ choice_kind_of letter → is_numeral digits ≡ true
     → core ≡ min (decimal_value digits) cores → core ≢ cores → room ≢ 0 → one_of cores room number word ≡ Ok (One (choice_by action core))
 one_there cores room number word digits letter core action is has good capped there some =
     one_is cores room number word digits letter is ∙ rw (← has, good, core_in cores core digits capped there, ne_eqb room 0 some) refl

@@ -1,5 +1,5 @@
 -- What is printed of choices spells them.
-use Rattle.scheduler.proofs.Vocabulary.{◌≡◌, ◌<◌, ◌≤◌, ◌^◌, ℕ, Bool, true, false, IsTrue, All, not, eqb, List, [], ◌∷◌, ◌++◌, length, map, filter, arith, rules, refl, sym, ap, subst, ◌∙◌, append_assoc, is_ascii_digit, slice_split, list_all, and_parts, nat_tests, digits_decimal, digits_value-decimal, decimal_nonempty, All-nil, All-cons, All-append, slice_split_none, slice_split_at, slice_split-cons_yes, IsNumeralModel, numerals_by_fold, chosen, CoresExist, Choice, Step, Drain, most_choices, decimal_from, decimal_value, is_space, is_numeral, words_of, IsChoiceWord, step, drain, one, AreItems, none, more, SpellsChoices, printed_choice, printed_after, printed_choices}
+use Rattle.scheduler.proofs.Vocabulary.{◌≡◌, ◌<◌, ◌≤◌, ◌^◌, ℕ, Bool, true, false, IsTrue, All, not, eqb, List, [], ◌∷◌, ◌++◌, length, map, filter, arith, rules, refl, sym, ap, subst, ◌∙◌, append_assoc, is_ascii_digit, slice_split, list_all, and_parts, nat_tests, digits_decimal, digits_value-decimal, decimal_nonempty, All-nil, All-cons, All-append, slice_split_none, slice_split_at, slice_split-cons_yes, IsNumeralModel, numerals_by_fold, chosen, CoresExist, Choice, Step, Drain, most_choices, decimal_from, decimal_value, is_space, is_numeral, words_of_text, IsChoiceWord, step, drain, one, AreItems, none, more, SpellsChoices, printed_choice, printed_after, printed_choices}
 use Rattle.std.proofs.Common.{codes, append-nil, length-append}
 use Rattle.std.specs.Fmt as fmt
 
@@ -67,7 +67,7 @@ kept : (word : List ℕ) (rest : List (List ℕ)) → 0 < length word → filter
 kept [] rest some = absurd (omega arith)
 kept (b ∷ bs) rest some = let not_none : eqb (length (b ∷ bs)) 0 ≡ false = grind (arith, nat_tests) in rw not_none refl
 
-no-words : (white : List ℕ) → list_all is_space white ≡ true → words_of white ≡ []
+no-words : (white : List ℕ) → list_all is_space white ≡ true → words_of_text white ≡ []
 no-words [] blank = refl
 no-words (b ∷ bs) blank =
     let parts = and_parts _ _ blank in
@@ -78,10 +78,10 @@ abbrev AreSmall : List Choice → Type 0
 AreSmall cs = CoresExist (2 ^ 64) cs
 
 words-after : (word : List ℕ) (cs : List Choice) (white : List ℕ) → IsSolid word → 0 < length word → AreSmall cs → list_all is_space white ≡ true
-    → words_of (word ++ (printed_after cs ++ white)) ≡ word ∷ map printed_choice cs
+    → words_of_text (word ++ (printed_after cs ++ white)) ≡ word ∷ map printed_choice cs
 unfolding is_space
 words-after word [] [] solid some small blank =
-    ap (λ (t : List ℕ). words_of t) (append-nil word) ∙ ap (λ (ws : List (List ℕ)). filter is_some_word ws) (slice_split_none is_space word solid) ∙ kept word [] some
+    ap (λ (t : List ℕ). words_of_text t) (append-nil word) ∙ ap (λ (ws : List (List ℕ)). filter is_some_word ws) (slice_split_none is_space word solid) ∙ kept word [] some
 words-after word [] (b ∷ bs) solid some small blank =
     let parts = and_parts _ _ blank in
     ap (λ (ws : List (List ℕ)). filter is_some_word ws) (slice_split_at is_space word b bs solid parts.0) ∙ kept word (slice_split is_space bs) some
@@ -90,13 +90,13 @@ words-after word (c ∷ cs) white solid some small blank =
     let rest : List ℕ = (printed_choice c ++ printed_after cs) ++ white in
     ap (λ (ws : List (List ℕ)). filter is_some_word ws) (slice_split_at is_space word 32 rest solid refl) ∙ kept word (slice_split is_space rest) some
     ∙ ap (λ (ws : List (List ℕ)). word ∷ ws)
-    (ap (λ (t : List ℕ). words_of t) (append_assoc (printed_choice c) (printed_after cs) white)
+    (ap (λ (t : List ℕ). words_of_text t) (append_assoc (printed_choice c) (printed_after cs) white)
     ∙ words-after (printed_choice c) cs white (choice-is-solid c small.0) (some-byte c) small.1 blank)
 
-words-are : (cs : List Choice) (white : List ℕ) → AreSmall cs → list_all is_space white ≡ true → words_of (printed_choices cs ++ white) ≡ map printed_choice cs
+words-are : (cs : List Choice) (white : List ℕ) → AreSmall cs → list_all is_space white ≡ true → words_of_text (printed_choices cs ++ white) ≡ map printed_choice cs
 words-are [] white small blank = no-words white blank
 words-are (c ∷ cs) white small blank =
-    ap (λ (t : List ℕ). words_of t) (append_assoc (printed_choice c) (printed_after cs) white)
+    ap (λ (t : List ℕ). words_of_text t) (append_assoc (printed_choice c) (printed_after cs) white)
     ∙ words-after (printed_choice c) cs white (choice-is-solid c small.0) (some-byte c) small.1 blank
 
 -- ---- and the choices

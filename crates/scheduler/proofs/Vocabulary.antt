@@ -13,11 +13,11 @@ pub use Rattle.scheduler.specs.declared.item.ChoiceItem.TheVariants.{One, Seeded
 pub use Rattle.decimals.specs.Decimals.{decimal_value}
 unfoldable pub use Rattle.decimals.specs.Decimals.{decimal_from}
 unfoldable pub use Rattle.decimals.specs.inner.Decimals.{number_up_to}
-pub use Rattle.scheduler.specs.Words.{words_of}
+pub use Rattle.scheduler.specs.Words.{words_of_text}
 unfoldable pub use Rattle.scheduler.specs.Words.{is_numeral, is_space}
 pub use Rattle.scheduler.specs.Grammar.{IsChoiceWord, step, drain, one, AreItems, none, more, SpellsChoices, IsItem, seeded, WordsSpell}
 pub use Rattle.scheduler.specs.inner.Reading.{choice_by, one_at, made_of, words_in, seeded_from, one_from}
-unfoldable pub use Rattle.scheduler.specs.inner.Reading.{kind_of, one_of, seed_of, seeded_of, item_of}
+unfoldable pub use Rattle.scheduler.specs.inner.Reading.{choice_kind_of, one_of, seed_of, seeded_of, item_of}
 pub use Rattle.std.proofs.lemmas.Option.{slice_get-get_or}
 pub use Rattle.std.proofs.lemmas.List.Elements.{All-get_or, All-nil, All-cons, All-append}
 pub use Rattle.tso_model.specs.Litmus.{Litmus, IsTest, IsProgram}
@@ -41,7 +41,7 @@ pub use Rattle.scheduler.specs.declared.fault.ChoiceFault.{ChoiceFault}
 pub use Rattle.scheduler.specs.declared.item.ChoiceItem.{ChoiceItem}
 pub use Rattle.scheduler.specs.Seeds.{seeded_choices, generator, choice_of_word}
 unfoldable pub use Rattle.scheduler.specs.Seeds.{drawn_words}
-pub use Rattle.scheduler.specs.Refusals.{IsItemAtFault, bad_form, cut_seed, bad_seed, bad_count, no_core, too_many, AreRefused, IsDecided}
+pub use Rattle.scheduler.specs.Refusals.{IsItemAtFault, bad_form, cut_seed, bad_seed, bad_count, no_core, too_many, AreRefused, IsDecidedAsChoices}
 pub use Rattle.std.proofs.Math.Seq.{take-add, take-set-lt}
 pub use Rattle.std.proofs.lemmas.List.Folds.{list_all_at, list_all_more}
 pub use Rattle.std.specs.Global.{Vec}

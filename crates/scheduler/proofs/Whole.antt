@@ -1,5 +1,5 @@
 -- A text spells at most one list of choices, or gets at most one refusal: both are what one reading of its words gives.
-use Rattle.scheduler.proofs.Vocabulary.{◌≡◌, ℕ, zero, suc, ◌+◌, ◌-◌, ◌<◌, ◌≤◌, Bool, true, false, List, [], ◌∷◌, ◌++◌, length, take, drop, Result, Ok, Err, refl, sym, ap, subst, ◌∙◌, ◌⊎◌, inl, inr, append_assoc, arith, bytes_eq, codes, MatchResult, IfOk, IfErr, Vec, append-nil, length-append, length-drop, take-append-drop, bytes_eq-Decides, Choice, ChoiceFault, BadWord, NoMemory, ChoiceItem, One, Seeded, decimal_value, words_of, most_choices, IsChoiceWord, IsItem, one, seeded, AreItems, none, more, WordsSpell, IsItemAtFault, bad_form, cut_seed, bad_seed, bad_count, no_core, too_many, AreRefused, IsDecided, made_of, words_in, one_of, seeded_of, item_of}
+use Rattle.scheduler.proofs.Vocabulary.{◌≡◌, ℕ, zero, suc, ◌+◌, ◌-◌, ◌<◌, ◌≤◌, Bool, true, false, List, [], ◌∷◌, ◌++◌, length, take, drop, Result, Ok, Err, refl, sym, ap, subst, ◌∙◌, ◌⊎◌, inl, inr, append_assoc, arith, bytes_eq, codes, MatchResult, IfOk, IfErr, Vec, append-nil, length-append, length-drop, take-append-drop, bytes_eq-Decides, Choice, ChoiceFault, BadWord, NoMemory, ChoiceItem, One, Seeded, decimal_value, words_of_text, most_choices, IsChoiceWord, IsItem, one, seeded, AreItems, none, more, WordsSpell, IsItemAtFault, bad_form, cut_seed, bad_seed, bad_count, no_core, too_many, AreRefused, IsDecidedAsChoices, made_of, words_in, one_of, seeded_of, item_of}
 use Rattle.std.specs.Prelude.{◌≢◌}
 use Rattle.scheduler.proofs.ChoiceWords.{number_in, number_out, reads_absent, reads_full, reads_there, word_cases, choice_is_no_seed}
 use Rattle.scheduler.proofs.Found.{IsRead, item_read, length_seeded, seed_in, seed_out}
@@ -165,12 +165,12 @@ item_by_item (suc fuel) cores front (word ∷ rest) choices some le items few =
     (item_read cores (length choices) (most_choices - length choices) (length front + 1) word rest some (omega arith))
     (λ f b cs shorter are within. item_by_item fuel cores f b cs some (omega arith) are within)
 
-pub is_decided : (cores : ℕ) (text : List ℕ) → 0 < cores → IsDecided cores text
+pub is_decided : (cores : ℕ) (text : List ℕ) → 0 < cores → IsDecidedAsChoices cores text
 is_decided cores text some = record {
-  one_list = one_list cores (words_of text);
-  one_refusal = λ fault other. one_refusal cores (words_of text) fault other some;
-  never_both = λ choices fault. never_both cores (words_of text) choices fault some;
-  always = item_by_item (length (words_of text)) cores [] (words_of text) [] some (omega arith) none (omega arith);
+  one_list = one_list cores (words_of_text text);
+  one_refusal = λ fault other. one_refusal cores (words_of_text text) fault other some;
+  never_both = λ choices fault. never_both cores (words_of_text text) choices fault some;
+  always = item_by_item (length (words_of_text text)) cores [] (words_of_text text) [] some (omega arith) none (omega arith);
 }
 
 -- an answer that says what words spell, or which refusal they get, is the only one but where memory runs out

@@ -6,7 +6,7 @@ use Rattle.tso_model.specs.declared.choice.Choice.{Choice}
 use Rattle.tso_model.specs.declared.choice.Choice.TheVariants.{Step, Drain}
 use Rattle.scheduler.specs.Limits.{most_choices}
 use Rattle.decimals.specs.Decimals.{decimal_value}
-use Rattle.scheduler.specs.Words.{words_of, is_numeral}
+use Rattle.scheduler.specs.Words.{words_of_text, is_numeral}
 use Rattle.scheduler.specs.Seeds.{seeded_choices}
 
 -- a word of digits and `s`, or digits and `d`: a choice of the core that the digits say, be it there or not
@@ -35,4 +35,4 @@ pub record WordsSpell (cores : ℕ) (words : List (List ℕ)) (choices : List Ch
 
 -- a text spells choices in a test with so many cores
 abbrev pub SpellsChoices : ℕ → List ℕ → List Choice → Type 0
-SpellsChoices cores text choices = WordsSpell cores (words_of text) choices
+SpellsChoices cores text choices = WordsSpell cores (words_of_text text) choices

@@ -5,7 +5,7 @@ use Rattle.tso_model.specs.declared.choice.Choice.{Choice}
 use Rattle.scheduler.specs.declared.fault.ChoiceFault.{ChoiceFault}
 use Rattle.scheduler.specs.declared.fault.ChoiceFault.TheVariants.{BadWord, NoSuchCore, TooMany}
 use Rattle.decimals.specs.Decimals.{decimal_value}
-use Rattle.scheduler.specs.Words.{words_of, is_numeral}
+use Rattle.scheduler.specs.Words.{words_of_text, is_numeral}
 use Rattle.scheduler.specs.Limits.{most_choices}
 use Rattle.scheduler.specs.Grammar.{IsChoiceWord, IsItem, AreItems, SpellsChoices}
 
@@ -42,10 +42,10 @@ pub record AreRefused (cores : ℕ) (words : List (List ℕ)) (fault : ChoiceFau
 
 -- a text gets a refusal in a test with so many cores
 abbrev pub IsRefusedAsChoices : ℕ → List ℕ → ChoiceFault → Type 0
-IsRefusedAsChoices cores text fault = AreRefused cores (words_of text) fault
+IsRefusedAsChoices cores text fault = AreRefused cores (words_of_text text) fault
 
 -- a text spells one list of choices or gets one refusal, and never both
-pub record IsDecided (cores : ℕ) (text : List ℕ) : Type 0 where
+pub record IsDecidedAsChoices (cores : ℕ) (text : List ℕ) : Type 0 where
   pub one_list : (choices others : List Choice) → SpellsChoices cores text choices → SpellsChoices cores text others → choices ≡ others
   pub one_refusal : (fault other : ChoiceFault) → IsRefusedAsChoices cores text fault → IsRefusedAsChoices cores text other → fault ≡ other
   pub never_both : (choices : List Choice) (fault : ChoiceFault)

@@ -1,7 +1,7 @@
 -- Which word of a text says a choice, for a refusal that names it: the choices of `seed N M` all have one word.
 use Rattle.std.specs.Prelude.{ℕ, ◌≡◌, ◌<◌, ◌≤◌, ◌+◌, ◌++◌, List, length}
 use Rattle.tso_model.specs.declared.choice.Choice.{Choice}
-use Rattle.scheduler.specs.Words.{words_of}
+use Rattle.scheduler.specs.Words.{words_of_text}
 use Rattle.scheduler.specs.Grammar.{IsItem, AreItems}
 
 -- words begin with items, and the choice at this place, counted from 0, is of the last of them, whose first word has this
@@ -21,4 +21,4 @@ pub record SayAt (cores : ℕ) (words : List (List ℕ)) (place number : ℕ) : 
 
 -- the choice at this place of a text, in a test with so many cores, is of the item that begins with the word of this number
 abbrev pub IsWordOfChoice : ℕ → List ℕ → ℕ → ℕ → Type 0
-IsWordOfChoice cores text place number = SayAt cores (words_of text) place number
+IsWordOfChoice cores text place number = SayAt cores (words_of_text text) place number

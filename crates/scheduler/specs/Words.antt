@@ -9,8 +9,8 @@ unfoldable pub is_space : ℕ → Bool
 is_space byte = (byte == 32) || (byte == 9) || (byte == 13) || (byte == 10)
 
 -- the words of a text: its longest runs without white space
-abbrev pub words_of : List ℕ → List (List ℕ)
-words_of text = filter (λ word. not (length word == 0)) (slice_split is_space text)
+abbrev pub words_of_text : List ℕ → List (List ℕ)
+words_of_text text = filter (λ word. not (length word == 0)) (slice_split is_space text)
 
 -- one digit or more, and nothing else; leading zeros are allowed
 unfoldable pub is_numeral : List ℕ → Bool

@@ -5,7 +5,7 @@ ghost use Rattle.std.specs.Prelude.{◌≡◌, ◌≢◌, ◌<◌, List, IfOk, I
 ghost use Rattle.scheduler.specs.Limits.{most_choices};
 ghost use Rattle.scheduler.specs.Grammar.{WordsSpell, SpellsChoices};
 ghost use Rattle.scheduler.specs.Refusals.{AreRefused, IsRefusedAsChoices};
-ghost use Rattle.scheduler.specs.Words.{words_of};
+ghost use Rattle.scheduler.specs.Words.{words_of_text};
 ghost use Rattle.scheduler.specs.declared.fault.ChoiceFault.{ChoiceFault};
 ghost use Rattle.tso_model.specs.declared.choice.Choice.{Choice};
 

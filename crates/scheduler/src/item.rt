@@ -3,8 +3,8 @@
 
 ghost use Rattle.std.specs.Prelude.{◌≡◌, ◌<◌, ◌≤◌, ◌+◌, ◌-◌, ◌^◌, ◌++◌, ℕ, Ok, Err, length, drop, codes, IfOk, IfErr, OnOk};
 ghost use Rattle.std.specs.Str.{bytes_eq};
-ghost use Rattle.scheduler.specs.Words.{words_of};
-ghost use Rattle.scheduler.specs.inner.Reading.{made_of, words_in, kind_of, choice_by, one_of, seed_of, seeded_of, item_of};
+ghost use Rattle.scheduler.specs.Words.{words_of_text};
+ghost use Rattle.scheduler.specs.inner.Reading.{made_of, words_in, choice_kind_of, choice_by, one_of, seed_of, seeded_of, item_of};
 ghost use Rattle.scheduler.specs.inner.ItemsRead.{IsItemRead};
 ghost use Rattle.scheduler.specs.declared.item.ChoiceItem.TheVariants.{One};
 
@@ -22,9 +22,9 @@ pub enum ChoiceKind {
 }
 
 impl ChoiceKind {
-    #[tactic(auto, unfolding(crate::specs::inner::Reading::kind_of))]
+    #[tactic(auto, unfolding(crate::specs::inner::Reading::choice_kind_of))]
     fn of(letter: u8) -> Option<ChoiceKind>
-        ensures { result ≡ kind_of letter }
+        ensures { result ≡ choice_kind_of letter }
     {
         match letter {
             b's' => Some(ChoiceKind::Step),
@@ -138,8 +138,8 @@ fn seed_of(word: &[u8]) -> Option<u64>
 /// Reads the two words after `seed`, whose own number is `number`, where `room` choices more are allowed.
 pub fn read_seeded(room: usize, number: usize, text: &[u8]) -> Result<ItemRead<'_>, ChoiceFault>
     requires { number + length text.now < 2 ^ 64 }
-    ensures item { IsItemRead (seeded_of room number (words_of text.now)) result }
-    ensures after { IfOk result (λ r. words_of r.after.now ≡ drop (words_in r.item - 1) (words_of text.now)) }
+    ensures item { IsItemRead (seeded_of room number (words_of_text text.now)) result }
+    ensures after { IfOk result (λ r. words_of_text r.after.now ≡ drop (words_in r.item - 1) (words_of_text text.now)) }
     ensures shorter { IfOk result (λ r. words_in r.item + length r.after.now ≤ 1 + length text.now) }
 {
     let Some((seed, text)) = first_word(text) else {
@@ -173,8 +173,8 @@ pub fn read_item<'a>(
 ) -> Result<ItemRead<'a>, ChoiceFault>
     requires there { 0 < cores }
     requires numbered { number + length text.now < 2 ^ 64 }
-    ensures item { IsItemRead (item_of cores room number word.now (words_of text.now)) result }
-    ensures after { IfOk result (λ r. words_of r.after.now ≡ drop (words_in r.item - 1) (words_of text.now)) }
+    ensures item { IsItemRead (item_of cores room number word.now (words_of_text text.now)) result }
+    ensures after { IfOk result (λ r. words_of_text r.after.now ≡ drop (words_in r.item - 1) (words_of_text text.now)) }
     ensures shorter { IfOk result (λ r. words_in r.item + length r.after.now ≤ 1 + length text.now) }
 {
     if is_seed(word) {

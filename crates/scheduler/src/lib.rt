@@ -3,12 +3,12 @@
 #![tactic(auto)]
 
 mod along;
+pub mod choice_texts;
 mod choices;
 pub mod coming;
 mod depth;
 pub mod fault;
 mod item;
-pub mod laws;
 mod placing;
 pub mod plan;
 mod printing;
@@ -17,10 +17,10 @@ mod seeds;
 mod stalls;
 mod words;
 
+pub use choice_texts::{printed_choices_are_spelled, spelled_cores_exist, texts_are_decided};
 pub use choices::{MAX_CHOICES, read_choices};
 pub use coming::{Choices, Listed, Seeded};
 pub use fault::{ChoiceFault, WitnessFault};
-pub use laws::{printed_choices_are_spelled, spelled_cores_exist, texts_are_decided};
 pub use placing::word_of_choice;
 pub use plan::SweepPlan;
 pub use printing::{choices_text, write_after};

@@ -4,7 +4,7 @@
 ghost use Rattle.std.specs.Prelude.{◌≡◌, ◌<◌, ◌≤◌, ◌∷◌, [], not, length, drop, IfSome, true, false, min};
 ghost use Rattle.std.specs.List.{prefix_len};
 ghost use Rattle.std.specs.Option.{IfNone};
-ghost use Rattle.scheduler.specs.Words.{is_space, words_of, is_numeral};
+ghost use Rattle.scheduler.specs.Words.{is_space, words_of_text, is_numeral};
 ghost use Rattle.decimals.specs.Decimals.{decimal_value};
 
 use decimals::all_digits;
@@ -46,8 +46,8 @@ fn after_first(text: &[u8]) -> &[u8]
 /// The first word of a text, and what stands after it and the white space that ends it.
 #[tactic(auto, using(crate::proofs::FirstWord::no_words, crate::proofs::FirstWord::word_first, crate::proofs::FirstWord::word_shorter))]
 pub fn first_word(text: &[u8]) -> Option<(&[u8], &[u8])>
-    ensures none { IfNone result (words_of text.now ≡ []) }
-    ensures some { IfSome result (λ r. words_of text.now ≡ r.0.now ∷ words_of r.1.now) }
+    ensures none { IfNone result (words_of_text text.now ≡ []) }
+    ensures some { IfSome result (λ r. words_of_text text.now ≡ r.0.now ∷ words_of_text r.1.now) }
     ensures shorter { IfSome result (λ r. length r.1.now < length text.now) }
 {
     let (_, text) = text.split_at(space_length(text));

@@ -47,8 +47,8 @@ abbrev pub is_shown : Show → Litmus → Named → Bool
 is_shown show t named = is_looked_at t.condition named || is_added show t named
 
 -- what is shown of the test's final states, registers first: by core and in their order, and then locations by number
-abbrev pub named_in : Show → Litmus → List Named
-named_in show t = filter (is_shown show t) (named_registers 0 (length t.programs) ++ named_locations 0 (length t.locations))
+abbrev pub names_shown : Show → Litmus → List Named
+names_shown show t = filter (is_shown show t) (named_registers 0 (length t.programs) ++ named_locations 0 (length t.locations))
 
 -- the values that a final state has at these
 abbrev pub values_at : List Named → List (List ℕ) → List ℕ → List ℕ

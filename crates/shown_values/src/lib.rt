@@ -2,9 +2,9 @@
 //! locations as a user asks for. States are told apart by them.
 #![tactic(auto)]
 
-pub mod laws;
+pub mod condition_values;
 pub mod named;
 pub mod show;
 
-pub use named::named_in;
+pub use named::names_shown;
 pub use show::Show;

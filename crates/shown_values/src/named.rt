@@ -3,10 +3,10 @@
 ghost use Rattle.std.specs.Prelude.{◌≡◌, ◌<◌, ◌∷◌, [], IfOk, OnOk, All, length, map};
 ghost use Rattle.tso_model.specs.Actions.{action_of};
 ghost use Rattle.tso_report.specs.Report.{all_registers};
-ghost use Rattle.tso_report.specs.Tally.{register_of, named_registers, named_locations};
-ghost use Rattle.tso_report.specs.inner.Tally.{IsKnown};
-ghost use Rattle.shown_values.specs.Shown.{writes, writes_one, is_written, is_location, is_added, is_shown, named_in};
-ghost use Rattle.shown_values.specs.inner.Shown.{AreNoted};
+ghost use Rattle.tso_report.specs.Tally.{named_register, named_registers, named_locations};
+ghost use Rattle.tso_report.specs.inner.Tally.{NameExists};
+ghost use Rattle.shown_values.specs.Shown.{writes, writes_one, is_written, is_location, is_added, is_shown, names_shown};
+ghost use Rattle.shown_values.specs.inner.Shown.{ShownAreNoted};
 
 use crate::show::Show;
 use std::alloc::Global;
@@ -17,9 +17,9 @@ use tso_report::named::{Named, is_looked_at};
 /// number. All of them are cores and locations of the test.
 ///
 /// Errors: out of memory only.
-pub fn named_in(alloc: Global, test: &Test, show: Show) -> Result<Vec<Named>, NoMemory>
-    ensures known { IfOk result (λ list. All (IsKnown (length test.now.programs) (length test.now.locations)) list.items) }
-    ensures list { IfOk result (λ list. list.items ≡ named_in show test.now) }
+pub fn names_shown(alloc: Global, test: &Test, show: Show) -> Result<Vec<Named>, NoMemory>
+    ensures known { IfOk result (λ list. All (NameExists (length test.now.programs) (length test.now.locations)) list.items) }
+    ensures list { IfOk result (λ list. list.items ≡ names_shown show test.now) }
 {
     let mut list = Vec::new(alloc);
     note_registers(&mut list, test, show)?;
@@ -28,7 +28,7 @@ pub fn named_in(alloc: Global, test: &Test, show: Show) -> Result<Vec<Named>, No
 }
 
 fn note_registers(list: &mut Vec<Named>, test: &Test, show: Show) -> Result<(), NoMemory>
-    ensures { OnOk result (AreNoted show test.now (named_registers 0 (length test.now.programs)) list.old.items list.new.items) }
+    ensures { OnOk result (ShownAreNoted show test.now (named_registers 0 (length test.now.programs)) list.old.items list.new.items) }
 {
     for core in 0..test.cores() {
         note_core(list, test, show, core)?;
@@ -39,7 +39,7 @@ fn note_registers(list: &mut Vec<Named>, test: &Test, show: Show) -> Result<(), 
 #[tactic(auto, unfolding(tso_report::specs::Report::all_registers))]
 fn note_core(list: &mut Vec<Named>, test: &Test, show: Show, core: u8) -> Result<(), NoMemory>
     requires { core < length test.now.programs }
-    ensures { OnOk result (AreNoted show test.now (map (register_of core) all_registers) list.old.items list.new.items) }
+    ensures { OnOk result (ShownAreNoted show test.now (map (named_register core) all_registers) list.old.items list.new.items) }
 {
     note_each(list, test, show, core, &Reg::ALL)
 }
@@ -52,7 +52,7 @@ fn note_each(
     regs: &[Reg],
 ) -> Result<(), NoMemory>
     requires { core < length test.now.programs }
-    ensures { OnOk result (AreNoted show test.now (map (register_of core) regs.now) list.old.items list.new.items) }
+    ensures { OnOk result (ShownAreNoted show test.now (map (named_register core) regs.now) list.old.items list.new.items) }
 {
     for reg in regs {
         note(list, test, show, Named::Register(Core(core), *reg))?;
@@ -61,7 +61,7 @@ fn note_each(
 }
 
 fn note_locations(list: &mut Vec<Named>, test: &Test, show: Show) -> Result<(), NoMemory>
-    ensures { OnOk result (AreNoted show test.now (named_locations 0 (length test.now.locations)) list.old.items list.new.items) }
+    ensures { OnOk result (ShownAreNoted show test.now (named_locations 0 (length test.now.locations)) list.old.items list.new.items) }
 {
     for loc in 0..test.locations() {
         note(list, test, show, Named::Location(Loc(loc)))?;
@@ -70,8 +70,8 @@ fn note_locations(list: &mut Vec<Named>, test: &Test, show: Show) -> Result<(), 
 }
 
 fn note(list: &mut Vec<Named>, test: &Test, show: Show, named: Named) -> Result<(), NoMemory>
-    requires { IsKnown (length test.now.programs) (length test.now.locations) named }
-    ensures { OnOk result (AreNoted show test.now (named ∷ []) list.old.items list.new.items) }
+    requires { NameExists (length test.now.programs) (length test.now.locations) named }
+    ensures { OnOk result (ShownAreNoted show test.now (named ∷ []) list.old.items list.new.items) }
 {
     if is_shown(test, show, named) {
         list.push(named)?;
@@ -80,7 +80,7 @@ fn note(list: &mut Vec<Named>, test: &Test, show: Show, named: Named) -> Result<
 }
 
 fn is_shown(test: &Test, show: Show, named: Named) -> bool
-    requires { IsKnown (length test.now.programs) (length test.now.locations) named }
+    requires { NameExists (length test.now.programs) (length test.now.locations) named }
     ensures { result ≡ is_shown show test.now named }
 {
     is_looked_at(test, named) || is_added(test, show, named)
@@ -88,7 +88,7 @@ fn is_shown(test: &Test, show: Show, named: Named) -> bool
 
 /// Whether it is shown even where nobody looks at it.
 fn is_added(test: &Test, show: Show, named: Named) -> bool
-    requires { IsKnown (length test.now.programs) (length test.now.locations) named }
+    requires { NameExists (length test.now.programs) (length test.now.locations) named }
     ensures { result ≡ is_added show test.now named }
 {
     match show {
@@ -100,7 +100,7 @@ fn is_added(test: &Test, show: Show, named: Named) -> bool
 
 /// Whether it is a register that an instruction of its core writes.
 fn is_written(test: &Test, named: Named) -> bool
-    requires { IsKnown (length test.now.programs) (length test.now.locations) named }
+    requires { NameExists (length test.now.programs) (length test.now.locations) named }
     ensures { result ≡ is_written test.now named }
 {
     match named {

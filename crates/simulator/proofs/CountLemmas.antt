@@ -1,5 +1,5 @@
 -- The counts of a run: as many as the test has cores, and none larger than the number of choices.
-use Rattle.simulator.proofs.Vocabulary.{◌≡◌, ◌≤◌, ◌+◌, ℕ, zero, suc, Bool, true, false, cond, List, [], ◌∷◌, length, length-set, slice_index_or, Option, Some, None, All, refl, ◌∙◌, arith, Litmus, start, BusState, unheld, after_on, Bus, has_ended, Choice, Table, Counts, attempt_of, Statistics, no_counts, with_access, with_write_back, with_forward, with_flush, at_core, flush_counted, counted, statistics_from, statistics_after, no_statistics, counts_of}
+use Rattle.simulator.proofs.Vocabulary.{◌≡◌, ◌≤◌, ◌+◌, ℕ, zero, suc, Bool, true, false, cond, List, [], ◌∷◌, length, length-set, slice_index_or, Option, Some, None, All, refl, ◌∙◌, arith, Litmus, start, BusState, unheld, after_on, Bus, has_ended, Choice, Table, Counts, attempt_of, Statistics, no_counts, with_access, with_write_back, with_forward, with_flush, counts_at_core, flush_counted, with_use_counted, statistics_from, statistics_after, no_statistics, counts_of}
 use Rattle.std.proofs.lemmas.List.{length-replicate}
 use Rattle.std.proofs.lemmas.List.Elements.{All-set, All-replicate, All-head, All-tail, All-weaker}
 use Rattle.tso_model.specs.declared.instruction.Core.{Core}
@@ -16,7 +16,7 @@ length-flush : (o : Option Core) (cs : List Counts) → length (flush_counted o 
 length-flush None cs = refl
 length-flush (Some core) cs = length-set cs core.0 _
 
-length-counted : (core : ℕ) (how : CacheUse) (cs : List Counts) → length (counted core how cs) ≡ length cs
+length-counted : (core : ℕ) (how : CacheUse) (cs : List Counts) → length (with_use_counted core how cs) ≡ length cs
 length-counted core Unused cs = refl
 length-counted core Forwarded cs = length-set cs core _
 length-counted core (Through a) cs = length-flush a.flushed _ ∙ length-set cs core _
@@ -130,7 +130,7 @@ at-or P (c ∷ cs) (suc k) d h all = at-or P cs k d h (All-tail P c cs all)
 
 -- the counts of one core change
 at_core-grows : (P Q : Counts → Type 0) (core : ℕ) (change : Counts → Counts) (cs : List Counts) → P no_counts
-    → ((c : Counts) → P c → Q c) → ((c : Counts) → P c → Q (change c)) → All P cs → All Q (at_core core change cs)
+    → ((c : Counts) → P c → Q c) → ((c : Counts) → P c → Q (change c)) → All P cs → All Q (counts_at_core core change cs)
 at_core-grows P Q core change cs none stay go all =
     All-set Q cs core (change (slice_index_or cs core no_counts)) (go _ (at-or P cs core no_counts none all)) (All-weaker P Q stay cs all)
 
@@ -139,13 +139,13 @@ flush-counted n None cs all = All-weaker (WrittenBack n) (IsAtMost (n + 1)) (λ 
 flush-counted n (Some core) cs all =
     at_core-grows (WrittenBack n) (IsAtMost (n + 1)) core.0 with_flush cs (no-access n no_counts (none-counted n)) (λ c k. k.all) (flush-grows n) all
 
-use-counted : (n core : ℕ) (how : CacheUse) (cs : List Counts) → All (IsAtMost n) cs → All (IsAtMost (n + 1)) (counted core how cs)
+use-counted : (n core : ℕ) (how : CacheUse) (cs : List Counts) → All (IsAtMost n) cs → All (IsAtMost (n + 1)) (with_use_counted core how cs)
 use-counted n core Unused cs all = All-weaker (IsAtMost n) (IsAtMost (n + 1)) (λ c. weaker n (n + 1) c (omega arith)) cs all
 use-counted n core Forwarded cs all =
     at_core-grows (IsAtMost n) (IsAtMost (n + 1)) core with_forward cs (none-counted n) (λ c. weaker n (n + 1) c (omega arith)) (forward-grows n) all
 use-counted n core (Through a) cs all =
     let change : Counts → Counts = λ c. with_write_back a.wrote_back (with_access a.kind c) in
-    flush-counted n a.flushed (at_core core change cs)
+    flush-counted n a.flushed (counts_at_core core change cs)
     (at_core-grows (IsAtMost n) (WrittenBack n) core change cs (none-counted n) (no-access n) (λ c k. write_back-grows n a.wrote_back (with_access a.kind c) (access-grows n a.kind c k)) all)
 
 few-from : (bus : Bus) (t : Litmus) (depth : ℕ) (state : BusState) (choices : List Choice) (s : Statistics) (n m : ℕ) → n + length choices ≤ m → All (IsAtMost n) s.counts

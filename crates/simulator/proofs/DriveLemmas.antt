@@ -1,5 +1,5 @@
 -- A machine that is driven through choices: how far it has come, and where it stops.
-use Rattle.simulator.proofs.Vocabulary.{◌≡◌, ◌⊎◌, inl, inr, ◌+◌, ℕ, true, false, List, [], ◌∷◌, ◌++◌, length, append-nil, append_assoc, refl, sym, ap, subst, ◌∙◌, arith, Litmus, has_ended, stall_count, Holder, Free, Attempt, BusState, BusRun, effect_on, after_on, run_on, then_on, resting_on, HitFits, HitsFit, Bus, Choice, Entry, EndOn, left_by, ChangesNothingOn, StopsAtTheEndOn, Running, attempt_on, effect_by, machine_after, AnswerFits, Statistics, statistics_from, answers_of, run_of, HaveFittingAnswers, Drives}
+use Rattle.simulator.proofs.Vocabulary.{◌≡◌, ◌⊎◌, inl, inr, ◌+◌, ℕ, true, false, List, [], ◌∷◌, ◌++◌, length, append-nil, append_assoc, refl, sym, ap, subst, ◌∙◌, arith, Litmus, has_ended, stall_count, Holder, Free, Attempt, BusState, BusRun, effect_on, after_on, run_on, then_on, resting_on, HitFits, HitsFit, Bus, Choice, Entry, EndOn, left_by, ChangesNothingOn, StopsAtTheEndOn, Running, attempt_on, machine_effect, machine_after, AnswerFits, Statistics, statistics_from, answers_of, bus_run_of, HaveFittingAnswers, Drives}
 use Rattle.tso_model.specs.declared.choice.Outcome.{Outcome}
 use Rattle.tso_model.specs.declared.choice.Outcome.TheVariants.{Committed, Buffered, Moved, Asked}
 use Rattle.split_laws.specs.BusChoices.{IsPossibleOn}
@@ -27,11 +27,11 @@ pub record SoFar (old m : Running) (all left : List Choice) (used stalled : ℕ)
   pub bus : m.bus ≡ old.bus
   pub depth : m.depth ≡ old.depth
   pub failed : m.failed ≡ false
-  pub state : left_by (run_of old all) ≡ left_by (run_of m left)
-  pub commits : old.commits ++ (run_of old all).run.commits ≡ m.commits ++ (run_of m left).run.commits
+  pub state : left_by (bus_run_of old all) ≡ left_by (bus_run_of m left)
+  pub commits : old.commits ++ (bus_run_of old all).run.commits ≡ m.commits ++ (bus_run_of m left).run.commits
   pub statistics : counted_of old all ≡ counted_of m left
-  pub uses : (run_of old all).run.used ≡ used + (run_of m left).run.used
-  pub stalls : (run_of old all).run.stalled ≡ stalled + (run_of m left).run.stalled
+  pub uses : (bus_run_of old all).run.used ≡ used + (bus_run_of m left).run.used
+  pub stalls : (bus_run_of old all).run.stalled ≡ stalled + (bus_run_of m left).run.stalled
   pub possible : IsPossible m
   pub answers : HaveFittingAnswers m left → HaveFittingAnswers old all
 
@@ -53,7 +53,7 @@ at-first m all whole possible = record {
 -- ---- one more choice
 
 going : (m : Running) (c : Choice) (rest : List Choice) → has_ended m.test m.state.flat ≡ false
-    → run_of m (c ∷ rest) ≡ then_on (effect_by m c) (run_of (machine_after m c) rest)
+    → bus_run_of m (c ∷ rest) ≡ then_on (machine_effect m c) (bus_run_of (machine_after m c) rest)
 going m c rest live = rw live refl
 
 counting : (m : Running) (c : Choice) (rest : List Choice) → has_ended m.test m.state.flat ≡ false
@@ -62,7 +62,7 @@ counting m c rest live = rw live refl
 
 made : (old m : Running) (all rest : List Choice) (c : Choice) (used stalled : ℕ) → Laws → SoFar old m all (c ∷ rest) used stalled
     → has_ended m.test m.state.flat ≡ false → AnswerFits m c
-    → SoFar old (machine_after m c) all rest (used + 1) (stalled + stall_count (effect_by m c).effect.outcome)
+    → SoFar old (machine_after m c) all rest (used + 1) (stalled + stall_count (machine_effect m c).effect.outcome)
 made old m all rest c used stalled laws s live fits =
     let one = going m c rest live in
     record {
@@ -72,7 +72,7 @@ made old m all rest c used stalled laws s live fits =
       failed = s.failed;
       state = s.state ∙ ap (λ (r : BusRun). left_by r) one;
       commits = s.commits ∙ ap (λ (r : BusRun). m.commits ++ r.run.commits) one
-          ∙ sym (append_assoc m.commits (effect_by m c).effect.commits (run_of (machine_after m c) rest).run.commits);
+          ∙ sym (append_assoc m.commits (machine_effect m c).effect.commits (bus_run_of (machine_after m c) rest).run.commits);
       statistics = s.statistics ∙ counting m c rest live;
       uses = let u = s.uses in let n = ap (λ (r : BusRun). r.run.used) one in omega arith;
       stalls = let u = s.stalls in let n = ap (λ (r : BusRun). r.run.stalled) one in omega arith;
@@ -81,7 +81,7 @@ made old m all rest c used stalled laws s live fits =
     }
 
 pub one-more : (old m new : Running) (all left rest : List Choice) (c : Choice) (used stalled more : ℕ) → Laws → SoFar old m all left used stalled
-    → left ≡ c ∷ rest → new ≡ machine_after m c → has_ended m.test m.state.flat ≡ false → AnswerFits m c → more ≡ stall_count (effect_by m c).effect.outcome
+    → left ≡ c ∷ rest → new ≡ machine_after m c → has_ended m.test m.state.flat ≡ false → AnswerFits m c → more ≡ stall_count (machine_effect m c).effect.outcome
     → SoFar old new all rest (used + 1) (stalled + more)
 one-more old m new all left rest c used stalled more laws s is after live fits stalls =
     let here : SoFar old m all (c ∷ rest) used stalled = subst (λ (l : List Choice). SoFar old m all l used stalled) is s in
@@ -127,7 +127,7 @@ end-fits bus t depth state (a ∷ rest) laws e =
 
 -- ---- where the driving stops
 
-resting : (m : Running) (left : List Choice) → has_ended m.test m.state.flat ≡ true → (n : ℕ) × (run_of m left ≡ resting_on true m.state n)
+resting : (m : Running) (left : List Choice) → has_ended m.test m.state.flat ≡ true → (n : ℕ) × (bus_run_of m left ≡ resting_on true m.state n)
 resting m [] over = (0, rw over refl)
 resting m (c ∷ rest) over = (length (answers_of m (c ∷ rest)), rw over refl)
 

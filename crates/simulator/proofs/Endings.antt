@@ -1,5 +1,5 @@
 -- What a driven machine is left with, as the answer of a simulation.
-use Rattle.simulator.proofs.Vocabulary.{◌≡◌, ◌-◌, ℕ, List, length, is_some, sym, ap, subst, ◌∙◌, Litmus, IsTest, IsWhole, Choice, IsExecution, Table, Configuration, Running, shown, run_by, counts_by, AnswersFitBy, IsEndingOf, FitsEnding, HasCounts, IsLeftBy, Ending, Ended, Unfinished}
+use Rattle.simulator.proofs.Vocabulary.{◌≡◌, ◌-◌, ℕ, List, length, is_some, sym, ap, subst, ◌∙◌, Litmus, IsTest, IsWhole, Choice, IsExecution, Table, Configuration, Running, shown_run, run_by, counts_by, AnswersFitBy, IsEndingOf, FitsEnding, HasCounts, IsEndingLeftBy, Ending, Ended, Unfinished}
 use Rattle.tso_laws.specs.inner.Laws.{WholeOrdersHaveEachEntryOnce}
 use Rattle.simulator.specs.inner.Runs.{EndsBy}
 use Rattle.simulator.proofs.CountLemmas.{counts-each}
@@ -16,13 +16,13 @@ pub record Laws : Type 0 where
 pub record IsLeftOf (table : Table) (config : Configuration) (t : Litmus) (old m : Running) (choices : List Choice) (used stalled unused : ℕ) (ending : Ending) : Type 0 where
   pub driven : IsDriven table config t old m choices used stalled
   pub unused_are : unused ≡ length choices - used
-  pub left : IsLeftBy t m used stalled unused ending
+  pub left : IsEndingLeftBy t m used stalled unused ending
 
 pub ending-is : (table : Table) (config : Configuration) (t : Litmus) (old m : Running) (choices : List Choice) (used stalled unused : ℕ) (ending : Ending) → Laws
     → IsLeftOf table config t old m choices used stalled unused ending → IsEndingOf t (run_by config.bus table config t choices) ending
 ending-is table config t old m choices used stalled unused (Ended run) laws is =
     let l = is.left in
-    ended-is table config t old m choices used stalled (shown run) laws.runs is.driven l.ended l.order l.registers l.memory l.holds l.used l.stalled (l.unused ∙ is.unused_are)
+    ended-is table config t old m choices used stalled (shown_run run) laws.runs is.driven l.ended l.order l.registers l.memory l.holds l.used l.stalled (l.unused ∙ is.unused_are)
 ending-is table config t old m choices used stalled unused (Unfinished u s) laws is =
     let here = unfinished-is table config t old m choices used stalled laws.runs is.driven is.left.0 in
     (here.0, is.left.1 ∙ here.1, is.left.2 ∙ here.2)
@@ -32,7 +32,7 @@ pub ending-fits : (table : Table) (config : Configuration) (t : Litmus) (old m :
 ending-fits table config t old m choices used stalled unused (Unfinished u s) laws valid fit same is = tt
 ending-fits table config t old m choices used stalled unused (Ended run) laws valid fit same is =
     let l = is.left in
-    let order = (shown run).order in
+    let order = (shown_run run).order in
     let ended = ended-order table config t old m choices used stalled order laws.runs is.driven l.ended l.order in
     let execution : IsExecution t (run_by config.bus table config t choices) = laws.executions table config t choices valid fit ended.0 in
     let whole : IsWhole t order = subst (IsWhole t) (sym ended.1) execution.order.whole in
@@ -40,12 +40,12 @@ ending-fits table config t old m choices used stalled unused (Ended run) laws va
       locations = locations-known t order (λ e stands. laws.once.fits t order e valid whole stands);
       registers = l.cores ∙ ap (λ (u : Litmus). length u.programs) same;
       memory = l.locations ∙ ap (λ (u : Litmus). length u.locations) same;
-      counts = ap length (counts-are table config t old m choices used stalled (shown run).counts is.driven l.counts) ∙ counts-each config.bus table config.shape t config.depth choices;
-      verdict = ap is_some l.holds ∙ is_some-verdict t (shown run).registers (shown run).memory;
+      counts = ap length (counts-are table config t old m choices used stalled (shown_run run).counts is.driven l.counts) ∙ counts-each config.bus table config.shape t config.depth choices;
+      verdict = ap is_some l.holds ∙ is_some-verdict t (shown_run run).registers (shown_run run).memory;
     }
 
 pub ending-counts : (table : Table) (config : Configuration) (t : Litmus) (old m : Running) (choices : List Choice) (used stalled unused : ℕ) (ending : Ending)
     → IsLeftOf table config t old m choices used stalled unused ending → HasCounts (counts_by table config t choices) ending
 ending-counts table config t old m choices used stalled unused (Unfinished u s) is = tt
 ending-counts table config t old m choices used stalled unused (Ended run) is =
-    counts-are table config t old m choices used stalled (shown run).counts is.driven is.left.counts
+    counts-are table config t old m choices used stalled (shown_run run).counts is.driven is.left.counts

@@ -1,11 +1,11 @@
 -- From a machine that was driven to the answer of a simulation.
-use Rattle.simulator.proofs.Vocabulary.{◌≡◌, ◌<◌, ◌-◌, ◌+◌, ◌*◌, ℕ, zero, suc, Bool, true, false, List, [], ◌∷◌, length, All, slice_get, slice_index_or, Option, Some, None, is_some, Result, Ok, Err, IfOk, OnOk, arith, ap, sym, ◌∙◌, refl, subst, Litmus, KeepsAllOrder, Condition, truth_of, State, registers_in, Run, has_ended, Attempt, BusState, run_on, choices_in, put_together, together, Bus, Atomic, Choice, Entry, End, EndOn, StopsAtTheEndOn, Table, Counts, Configuration, Statistics, counts_of, Running, new_machine, Shown, run_by, AnswersFitBy, Ending, Ended, Unfinished, shown_of, verdict, IsEndingOf, IsCounted, HasAllOrder, HasEnded, drains, Drives}
+use Rattle.simulator.proofs.Vocabulary.{◌≡◌, ◌<◌, ◌-◌, ◌+◌, ◌*◌, ℕ, zero, suc, Bool, true, false, List, [], ◌∷◌, length, All, slice_get, slice_index_or, Option, Some, None, is_some, Result, Ok, Err, IfOk, OnOk, arith, ap, sym, ◌∙◌, refl, subst, Litmus, KeepsAllOrder, Condition, truth_of, State, registers_in, Run, has_ended, Attempt, BusState, run_on, choices_in, put_together, together, Bus, Atomic, Choice, Entry, End, EndOn, StopsAtTheEndOn, Table, Counts, Configuration, Statistics, counts_of, Running, new_machine, ShownRun, run_by, AnswersFitBy, Ending, Ended, Unfinished, shown_of, verdict, IsEndingOf, IsCounted, HasAllOrder, HasEnded, drains, Drives}
 use Rattle.std.specs.Option.{option_map}
 use Rattle.tso_model.specs.Standing.{StandsIn}
 use Rattle.tso_model.specs.Runs as flat
 use Rattle.tso_model.specs.declared.execution.Kind.{Kind}
 use Rattle.tso_model.specs.declared.execution.Kind.TheVariants.{R, W, F, LR, LW}
-use Rattle.tso_laws.specs.Counting.{instructions, stores}
+use Rattle.tso_laws.specs.Counting.{instructions, stores_of_all}
 use Rattle.tso_laws.specs.Entries.{FitsTest}
 use Rattle.tso_laws.specs.Rounds.{CanBeCutIntoRounds}
 use Rattle.order_builder.specs.PrintedOrder.{HasLocation, IsLocationFor}
@@ -50,20 +50,20 @@ unfinished-is table config t old m choices used stalled laws driven e =
     let d = from-new table config t old m choices used stalled driven in
     ending-of table config t choices (Unfinished used stalled) laws (ended-as-driven table config t old m choices used stalled false laws driven e, d.used, d.stalled)
 
-same-shown : (s u : Shown) → s.order ≡ u.order → s.registers ≡ u.registers → s.memory ≡ u.memory → s.counts ≡ u.counts → s.holds ≡ u.holds → s.used ≡ u.used → s.stalled ≡ u.stalled → s.unused ≡ u.unused → s ≡ u
+same-shown : (s u : ShownRun) → s.order ≡ u.order → s.registers ≡ u.registers → s.memory ≡ u.memory → s.counts ≡ u.counts → s.holds ≡ u.holds → s.used ≡ u.used → s.stalled ≡ u.stalled → s.unused ≡ u.unused → s ≡ u
 same-shown s u a b c d e f g h =
-    let order_with : List Entry → Shown = λ x. record { order = x; registers = s.registers; memory = s.memory; counts = s.counts; holds = s.holds; used = s.used; stalled = s.stalled; unused = s.unused } in
-    let registers_with : List (List ℕ) → Shown = λ x. record { order = u.order; registers = x; memory = s.memory; counts = s.counts; holds = s.holds; used = s.used; stalled = s.stalled; unused = s.unused } in
-    let memory_with : List ℕ → Shown = λ x. record { order = u.order; registers = u.registers; memory = x; counts = s.counts; holds = s.holds; used = s.used; stalled = s.stalled; unused = s.unused } in
-    let counts_with : List Counts → Shown = λ x. record { order = u.order; registers = u.registers; memory = u.memory; counts = x; holds = s.holds; used = s.used; stalled = s.stalled; unused = s.unused } in
-    let holds_with : Option Bool → Shown = λ x. record { order = u.order; registers = u.registers; memory = u.memory; counts = u.counts; holds = x; used = s.used; stalled = s.stalled; unused = s.unused } in
-    let used_with : ℕ → Shown = λ x. record { order = u.order; registers = u.registers; memory = u.memory; counts = u.counts; holds = u.holds; used = x; stalled = s.stalled; unused = s.unused } in
-    let stalled_with : ℕ → Shown = λ x. record { order = u.order; registers = u.registers; memory = u.memory; counts = u.counts; holds = u.holds; used = u.used; stalled = x; unused = s.unused } in
-    let unused_with : ℕ → Shown = λ x. record { order = u.order; registers = u.registers; memory = u.memory; counts = u.counts; holds = u.holds; used = u.used; stalled = u.stalled; unused = x } in
+    let order_with : List Entry → ShownRun = λ x. record { order = x; registers = s.registers; memory = s.memory; counts = s.counts; holds = s.holds; used = s.used; stalled = s.stalled; unused = s.unused } in
+    let registers_with : List (List ℕ) → ShownRun = λ x. record { order = u.order; registers = x; memory = s.memory; counts = s.counts; holds = s.holds; used = s.used; stalled = s.stalled; unused = s.unused } in
+    let memory_with : List ℕ → ShownRun = λ x. record { order = u.order; registers = u.registers; memory = x; counts = s.counts; holds = s.holds; used = s.used; stalled = s.stalled; unused = s.unused } in
+    let counts_with : List Counts → ShownRun = λ x. record { order = u.order; registers = u.registers; memory = u.memory; counts = x; holds = s.holds; used = s.used; stalled = s.stalled; unused = s.unused } in
+    let holds_with : Option Bool → ShownRun = λ x. record { order = u.order; registers = u.registers; memory = u.memory; counts = u.counts; holds = x; used = s.used; stalled = s.stalled; unused = s.unused } in
+    let used_with : ℕ → ShownRun = λ x. record { order = u.order; registers = u.registers; memory = u.memory; counts = u.counts; holds = u.holds; used = x; stalled = s.stalled; unused = s.unused } in
+    let stalled_with : ℕ → ShownRun = λ x. record { order = u.order; registers = u.registers; memory = u.memory; counts = u.counts; holds = u.holds; used = u.used; stalled = x; unused = s.unused } in
+    let unused_with : ℕ → ShownRun = λ x. record { order = u.order; registers = u.registers; memory = u.memory; counts = u.counts; holds = u.holds; used = u.used; stalled = u.stalled; unused = x } in
     ap order_with a ∙ ap registers_with b ∙ ap memory_with c ∙ ap counts_with d ∙ ap holds_with e ∙ ap used_with f ∙ ap stalled_with g ∙ ap unused_with h
 
 -- what the machine leaves is what the run shows
-pub ended-is : (table : Table) (config : Configuration) (t : Litmus) (old m : Running) (choices : List Choice) (used stalled : ℕ) (s : Shown) → RunLaws
+pub ended-is : (table : Table) (config : Configuration) (t : Litmus) (old m : Running) (choices : List Choice) (used stalled : ℕ) (s : ShownRun) → RunLaws
     → IsDriven table config t old m choices used stalled → is_ended m ≡ true
     → s.order ≡ put_together m.commits → s.registers ≡ registers_in m.state.flat → s.memory ≡ m.state.flat.memory → s.holds ≡ verdict t s.registers s.memory
     → s.used ≡ used → s.stalled ≡ stalled → s.unused ≡ length choices - used
@@ -129,7 +129,7 @@ is_some-verdict t registers memory = is_some-option_map (λ c. truth_of register
 
 -- by the depth
 pub choices-counted : (t : Litmus) (depth : ℕ) (choices : List Choice)
-    → ((t : Litmus) (depth : ℕ) (choices : List Choice) → 0 < depth → End t depth choices → (flat.run t depth choices).used ≡ (flat.run t depth choices).stalled + (instructions t.programs + stores t.programs))
+    → ((t : Litmus) (depth : ℕ) (choices : List Choice) → 0 < depth → End t depth choices → (flat.run t depth choices).used ≡ (flat.run t depth choices).stalled + (instructions t.programs + stores_of_all t.programs))
     → ((t : Litmus) (choices : List Choice) → End t 0 choices → (flat.run t 0 choices).used ≡ (flat.run t 0 choices).stalled + instructions t.programs)
     → End t depth choices → (flat.run t depth choices).used ≡ (flat.run t depth choices).stalled + (instructions t.programs + drains t depth)
 choices-counted t zero choices buffered unbuffered over = let count = unbuffered t choices over in omega arith
@@ -152,7 +152,7 @@ on-ok (Err e) f a = tt
 
 -- without buffers the order of an ended run keeps program order without exception
 pub all-order : {E : Type 0} (t : Litmus) (x : Run) (r : Result Ending E) → (OnOk r (x.ended ≡ true → KeepsAllOrder x.commits)) → IfOk r (IsEndingOf t x) → IfOk r HasAllOrder
-all-order t x (Ok (Ended run)) law is = subst KeepsAllOrder (ap (λ (s : Shown). s.order) (sym is.1)) (law is.0)
+all-order t x (Ok (Ended run)) law is = subst KeepsAllOrder (ap (λ (s : ShownRun). s.order) (sym is.1)) (law is.0)
 all-order t x (Ok (Unfinished used stalled)) law is = tt
 all-order t x (Err e) law is = tt
 

@@ -8,10 +8,10 @@ use Rattle.tso_model.specs.SequentialConsistency.{KeepsAllOrder}
 use Rattle.tso_model.specs.FlatMachine.{registers_in}
 use Rattle.tso_model.specs.Runs.{Run}
 use Rattle.tso_model.specs.declared.choice.Choice.{Choice}
-use Rattle.tso_laws.specs.Counting.{instructions, stores}
+use Rattle.tso_laws.specs.Counting.{instructions, stores_of_all}
 use Rattle.tso_laws.specs.Rounds.{CanBeCutIntoRounds}
 use Rattle.machine_core.specs.declared.counts.Counts.{Counts}
-use Rattle.tso_report.specs.Shown.{Shown, shown, IsOf}
+use Rattle.tso_report.specs.Shown.{ShownRun, shown_run, IsRunOf}
 use Rattle.simulator.specs.declared.simulation.Ending.{Ending}
 use Rattle.simulator.specs.declared.simulation.Ending.TheVariants.{Ended, Unfinished}
 
@@ -20,7 +20,7 @@ abbrev pub verdict : Litmus → List (List ℕ) → List ℕ → Option Bool
 verdict t registers words = option_map (λ c. truth_of registers words c.claim) t.condition
 
 -- what is shown of a run, with these counts of its accesses
-abbrev pub shown_of : Litmus → List Counts → Run → Shown
+abbrev pub shown_of : Litmus → List Counts → Run → ShownRun
 shown_of t counts r = record {
   order = r.commits;
   registers = registers_in r.state;
@@ -34,7 +34,7 @@ shown_of t counts r = record {
 
 -- the answer is that of this run of the test, whatever the counts
 abbrev pub IsEndingOf : Litmus → Run → Ending → Type 0
-IsEndingOf t r (Ended run) = (r.ended ≡ true) × (shown run ≡ shown_of t run.left.counts.items r)
+IsEndingOf t r (Ended run) = (r.ended ≡ true) × (shown_run run ≡ shown_of t run.left.counts.items r)
 IsEndingOf t r (Unfinished used stalled) = (r.ended ≡ false) × (used ≡ r.used) × (stalled ≡ r.stalled)
 
 -- the choices can be cut into so many rounds of the test's cores, in each of which every core has its turn
@@ -48,13 +48,13 @@ HasCounts counts (Unfinished used stalled) = Unit {0}
 
 -- a run that ended is one of the test
 abbrev pub FitsEnding : Litmus → Ending → Type 0
-FitsEnding t (Ended run) = IsOf t (shown run)
+FitsEnding t (Ended run) = IsRunOf t (shown_run run)
 FitsEnding t (Unfinished used stalled) = Unit {0}
 
 -- the drains that it takes to end the test: one for each plain store, and none where no core has a buffer
 abbrev pub drains : Litmus → ℕ → ℕ
 drains t zero = 0
-drains t (suc depth) = stores t.programs
+drains t (suc depth) = stores_of_all t.programs
 
 -- in a run that ended, the choices that didn't stall are as many as all instructions and all drains together
 abbrev pub IsCounted : Litmus → ℕ → Ending → Type 0

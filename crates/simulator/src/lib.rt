@@ -2,10 +2,10 @@
 //! test has ended; and that what an ended run leaves is a TSO execution of the test, with its final state.
 #![tactic(auto)]
 
-pub mod laws;
+pub mod ended_runs;
 pub mod simulation;
 
-pub use laws::ended_runs_of_machines_are_executions;
+pub use ended_runs::ended_runs_of_machines_are_executions;
 pub use simulation::{
     Ending, Progress, SimFault, drive_machine, ending_of, simulate, simulate_noting, verdict_of,
 };

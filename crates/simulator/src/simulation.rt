@@ -5,11 +5,11 @@ ghost use Rattle.std.specs.Prelude.{◌≡◌, ◌+◌, ◌*◌, ◌^◌, ◌<�
 ghost use Rattle.tso_model.specs.Runs.{CoresExist};
 ghost use Rattle.simulator.specs.Runs.{run_by, run_under, counts_by, counts_under, AnswersFit, AnswersFitBy};
 ghost use Rattle.simulator.specs.Simulation.{IsEndingOf, FitsEnding, HasCounts, IsCounted, HasAllOrder, HasRounds, HasEnded, verdict};
-ghost use Rattle.simulator.specs.inner.Simulation.{Drives, IsLeftBy};
+ghost use Rattle.simulator.specs.inner.Simulation.{Drives, IsEndingLeftBy};
 ghost use Rattle.split_laws.specs.BusChoices.{IsPossibleOn};
 ghost use Rattle.tso_laws.specs.Counting.{instructions, longest};
 
-use crate::laws::ended_runs_of_machines_are_executions;
+use crate::ended_runs::ended_runs_of_machines_are_executions;
 use machine_core::{Bus, Choice, Config, Machine, Outcome};
 use protocol_tables::{Mesi, Moesi, Mosi, Msi, Protocol, ProtocolKind};
 use scheduler::{Choices, Listed, Stalls};
@@ -177,7 +177,7 @@ pub fn ending_of<P: Protocol>(
     unused: usize,
 ) -> Result<Ending, NoMemory>
     requires { machine.test ≡ test.now }
-    ensures { IfOk result (IsLeftBy test.now machine.entry progress.used progress.stalled unused) }
+    ensures { IfOk result (IsEndingLeftBy test.now machine.entry progress.used progress.stalled unused) }
 {
     if !machine.is_ended() {
         return Ok(Ending::Unfinished {

@@ -1,5 +1,5 @@
 -- What an ask does, in the bus's own words.
-use Rattle.snoop_bus.proofs.Vocabulary.{◌≡◌, ℕ, ◌*◌, ◌/◌, ◌<◌, ◌≤◌, Bool, Option, Some, None, option_map, List, length, refl, sym, ap, ◌∙◌, Core, Loc, Table, Request, Transient, HeldBus, Geometry, Words, rows_of, table_of_rows, TagSets, Sets, cache_of, tags_of, counted, stage_for, held_by, current_words, bus_with, KeepsWords, awaiting, asked_for, request_for, asking, asked_caches, asked_memory, awaited_in, transacting, transaction_of, AsksFor}
+use Rattle.snoop_bus.proofs.Vocabulary.{◌≡◌, ℕ, ◌*◌, ◌/◌, ◌<◌, ◌≤◌, Bool, Option, Some, None, option_map, List, length, refl, sym, ap, ◌∙◌, Core, Loc, Table, Request, Transient, HeldBus, Geometry, Words, rows_of, table_of_rows, TagSets, Sets, cache_of, tags_of, counted_copies_of, stage_for, held_by, current_words, bus_with, KeepsWords, awaiting, asked_for, request_for, asking, asked_caches, asked_memory, awaited_in, transacting, transaction_of, AsksFor}
 use Rattle.snoop_bus.proofs.RowLemmas.{table_of-rows}
 use Rattle.snoop_bus.proofs.WordLemmas.{words-same}
 
@@ -28,12 +28,12 @@ module _ (t : Table) (shape : Geometry) (locations : ℕ) (c0 c2 : List Sets) (m
     pub tags : tags_of c2 ≡ asked_caches t (request_for write) core.0 line (tags_of c0)
     pub memory : m2 ≡ asked_memory t (request_for write) line c0 m0
     pub own : cache_of c2 core.0 ≡ cache_of c0 core.0
-    pub words : KeepsWords c0 (counted (Some h) c2) m0 m2
+    pub words : KeepsWords c0 (counted_copies_of (Some h) c2) m0 m2
 
   pub ask_done : (write : Bool) (h : HeldBus) → AskSteps write h → AsksFor (bus_with t shape locations c0 m0 None) (bus_with t shape locations c2 m2 (Some h)) core loc write
   ask_done write h s = record {
     own = s.own;
-    words = words-same shape.words locations (length m0) (current_words c0 m0) (current_words (counted (Some h) c2) m2) s.some_word s.enough s.words.words;
+    words = words-same shape.words locations (length m0) (current_words c0 m0) (current_words (counted_copies_of (Some h) c2) m2) s.some_word s.enough s.words.words;
     holder_is = rw s.exact refl;
     awaited_is = ap (λ (x : HeldBus). awaited_in x.transaction) s.exact ∙ awaited-for t (request_for write) core.0 line (current_words c0 m0 line) (tags_of c0)
         ∙ ap (λ (u : Table). (asking u (request_for write) core.0 line (tags_of c0)).awaited) back;

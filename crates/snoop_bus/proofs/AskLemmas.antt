@@ -1,5 +1,5 @@
 -- What an ask answers and leaves.
-use Rattle.snoop_bus.proofs.Vocabulary.{get_or-set_same, get_or-set_other, length-set, list_any, ◌≡◌, ◌≢◌, ◌⊎◌, inl, inr, ℕ, ◌<◌, Bool, true, false, Option, Some, None, is_some, List, [], length, refl, sym, ap, subst, ◌∙◌, slice_set, if◌then◌else◌, is_dirty, GivesUp, Shares, CleansByMemory, Supplies, FillsExclusiveOnlyAlone, Table, State, I, M, Snoop, GetS, GetM, IsD, ImD, Core, Line, copy_with, Words, line_in, Coherent, state_of, is_held, flusher_from, Sets, copy_in, copy_at, cache_of, tags_of, ways_of, current_words, AllCoherent, flushed, sent_words, left_by, LeftByOthers, Supplied, KeepsWords, counting, asked_memory, transacting}
+use Rattle.snoop_bus.proofs.Vocabulary.{get_or-set_same, get_or-set_other, length-set, list_any, ◌≡◌, ◌≢◌, ◌⊎◌, inl, inr, ℕ, ◌<◌, Bool, true, false, Option, Some, None, is_some, List, [], length, refl, sym, ap, subst, ◌∙◌, slice_set, if◌then◌else◌, is_dirty, GivesUp, Shares, CleansByMemory, Supplies, FillsExclusiveOnlyAlone, Table, State, I, M, Snoop, GetS, GetM, IsD, ImD, Core, Line, copy_with, Words, line_in, Coherent, state_of_copy, is_held, flusher_from, Sets, copy_in, copy_at, cache_of, tags_of, ways_of, current_words, AllCoherent, flushed, sent_words, copy_left_by, LeftByOthers, Supplied, KeepsWords, with_counted_copy, asked_memory, transacting}
 use Rattle.snoop_bus.proofs.CacheTags.{is_held-copies}
 use Rattle.snoop_bus.proofs.Coherence.{shared-coherent, fill-coherent, write-coherent}
 use Rattle.snoop_bus.proofs.Asked.{Asked, own_line, others_line, asked-keeps}
@@ -7,7 +7,7 @@ use Rattle.snoop_bus.proofs.LoadLemmas.{SendsOrNot, sends, found_words, fill_sha
 use Rattle.snoop_bus.proofs.WriteLemmas.{gives_up}
 
 -- nothing is sent by no copy
-quiet_none : (on : State → Snoop) → CleansByMemory on → (o : Option Line) → ((copy : Line) → o ≡ Some copy → (on copy.state).to_memory ≡ false) → (on (state_of o)).to_memory ≡ false
+quiet_none : (on : State → Snoop) → CleansByMemory on → (o : Option Line) → ((copy : Line) → o ≡ Some copy → (on copy.state).to_memory ≡ false) → (on (state_of_copy o)).to_memory ≡ false
 quiet_none on law (Some copy) h = h copy refl
 quiet_none on law None h = by_flag (on I).to_memory refl
   where
@@ -63,7 +63,7 @@ module _ (t : Table) (fills : FillsExclusiveOnlyAlone t.filled) (shares : Shares
 
     -- the line has the words in memory then, or no copy was sent there
     flusher : (o : Option Core) → SendsOrNot t.on_get_s line c0 o → f ≡ o →
-        (m1 ≡ flushed line (sent_words t.on_get_s line c0) m0) × ((line_in m1 line ≡ w) ⊎ ((line_in m1 line ≡ line_in m0 line) × ((i : ℕ) → (t.on_get_s (state_of (copy_at c0 i line))).to_memory ≡ false)))
+        (m1 ≡ flushed line (sent_words t.on_get_s line c0) m0) × ((line_in m1 line ≡ w) ⊎ ((line_in m1 line ≡ line_in m0 line) × ((i : ℕ) → (t.on_get_s (state_of_copy (copy_at c0 i line))).to_memory ≡ false)))
     flusher o (inl p) e =
         let quiet : m1 ≡ m0 = rw (e, p.0) at h.memory in
         (rw p.1 quiet, inr (ap (λ (m : List Words). line_in m line) quiet, λ i. quiet_none t.on_get_s cleans (copy_at c0 i line) (p.2 i)))
@@ -72,7 +72,7 @@ module _ (t : Table) (fills : FillsExclusiveOnlyAlone t.filled) (shares : Shares
         let sent : m1 ≡ slice_set m0 line w = rw (e, p.4) at h.memory in
         (rw (p.3, copied) sent, inl (ap (λ (m : List Words). line_in m line) sent ∙ get_or-set_same m0 line w [] h.within))
 
-    flushing : (m1 ≡ flushed line (sent_words t.on_get_s line c0) m0) × ((line_in m1 line ≡ w) ⊎ ((line_in m1 line ≡ line_in m0 line) × ((i : ℕ) → (t.on_get_s (state_of (copy_at c0 i line))).to_memory ≡ false)))
+    flushing : (m1 ≡ flushed line (sent_words t.on_get_s line c0) m0) × ((line_in m1 line ≡ w) ⊎ ((line_in m1 line ≡ line_in m0 line) × ((i : ℕ) → (t.on_get_s (state_of_copy (copy_at c0 i line))).to_memory ≡ false)))
     flushing = flusher (flusher_from 0 t.on_get_s line (tags_of c0)) (sends t.on_get_s line 0 c0) h.flusher
 
     pub load_ask-transaction : record { transient = IsD; copy = copy_with x w; flushed = f } ≡ transacting t GetS line (current_words c0 m0 line) (tags_of c0) IsD
@@ -82,15 +82,15 @@ module _ (t : Table) (fills : FillsExclusiveOnlyAlone t.filled) (shares : Shares
     pub load_ask-memory : m1 ≡ asked_memory t GetS line c0 m0
     load_ask-memory = flushing.0
 
-    pub load_ask-words : KeepsWords c0 (counting core line (copy_with x w) c1) m0 m1
+    pub load_ask-words : KeepsWords c0 (with_counted_copy core line (copy_with x w) c1) m0 m1
     load_ask-words =
         let may = fill_shares t.filled fills t.on_get_s shares c0 line x state_is in
-        let shared : Coherent w (line_in m1 line) (λ i. left_by t.on_get_s (copy_at c0 i line)) =
+        let shared : Coherent w (line_in m1 line) (λ i. copy_left_by t.on_get_s (copy_at c0 i line)) =
         shared-coherent t.on_get_s shares cleans w (line_in m0 line) (line_in m1 line) (λ i. copy_at c0 i line) was flushing.1 in
-        let new = counting core line (copy_with x w) c1 in
+        let new = with_counted_copy core line (copy_with x w) c1 in
         asked-keeps t.on_get_s c0 c1 m0 m1 core line (copy_with x w) load_asked
         (subst (λ (u : Words). Coherent u (line_in m1 line) (λ i. copy_at new i line)) words_are
-        (fill-coherent w (line_in m1 line) core x (λ i. left_by t.on_get_s (copy_at c0 i line)) (λ i. copy_at new i line) shared (rw h.absent refl) may.0 (λ i d. may.1 i)
+        (fill-coherent w (line_in m1 line) core x (λ i. copy_left_by t.on_get_s (copy_at c0 i line)) (λ i. copy_at new i line) shared (rw h.absent refl) may.0 (λ i d. may.1 i)
         (record { here = own_line t.on_get_s c0 c1 m0 m1 core line (copy_with x w) load_asked; others = others_line t.on_get_s c0 c1 m0 m1 core line (copy_with x w) load_asked })))
 
 -- An ask for a write access.
@@ -110,9 +110,9 @@ module _ (t : Table) (gives : GivesUp t.on_get_m) (c0 c1 : List Sets) (m : List 
     write_asked : Asked t.on_get_m c0 c1 m m core line (copy_with M w)
     write_asked = record { coherent = h.coherent; core_in = h.core_in; some_set = h.some_set; within = h.within; left = h.left; ways = h.ways; size = refl; elsewhere = λ k d. refl }
 
-    pub write_ask-words : KeepsWords c0 (counting core line (copy_with M w) c1) m m
+    pub write_ask-words : KeepsWords c0 (with_counted_copy core line (copy_with M w) c1) m m
     write_ask-words =
-        let new = counting core line (copy_with M w) c1 in
+        let new = with_counted_copy core line (copy_with M w) c1 in
         asked-keeps t.on_get_m c0 c1 m m core line (copy_with M w) write_asked
         (subst (λ (u : Words). Coherent u (line_in m line) (λ i. copy_at new i line)) h.words
         (write-coherent w (line_in m line) core (λ i. copy_at new i line) (own_line t.on_get_m c0 c1 m m core line (copy_with M w) write_asked)

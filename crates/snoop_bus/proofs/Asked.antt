@@ -1,6 +1,6 @@
 -- An ask keeps every line coherent, if it keeps its own: the others have seen the request, and the copy that the bus keeps
 -- counts as its core's.
-use Rattle.snoop_bus.proofs.Vocabulary.{cases_eq, arith, ◌≡◌, ◌≢◌, ℕ, ◌<◌, ◌≤◌, ◌&&◌, not, Bool, true, false, nat_eq, if◌then◌else◌, Option, Some, None, List, length, refl, sym, ap, subst, ◌∙◌, inl, inr, State, Snoop, Line, Words, line_in, Coherent, Sets, copy_at, cache_of, ways_of, current_words, AllCoherent, counting, left_by, left_if, LeftByOthers, KeepsWords}
+use Rattle.snoop_bus.proofs.Vocabulary.{cases_eq, arith, ◌≡◌, ◌≢◌, ℕ, ◌<◌, ◌≤◌, ◌&&◌, not, Bool, true, false, nat_eq, if◌then◌else◌, Option, Some, None, List, length, refl, sym, ap, subst, ◌∙◌, inl, inr, State, Snoop, Line, Words, line_in, Coherent, Sets, copy_at, cache_of, ways_of, current_words, AllCoherent, with_counted_copy, copy_left_by, copy_left_if, LeftByOthers, KeepsWords}
 use Rattle.snoop_bus.proofs.Numbers.{differ, itself}
 use Rattle.snoop_bus.proofs.CurrentWords.{seen_is, coherent_along, all_coherent}
 use Rattle.snoop_bus.proofs.NewLemmas.{same_cores}
@@ -9,7 +9,7 @@ use Rattle.snoop_bus.proofs.HeldLemmas.{counting-at, ways-counting, same_sets}
 module _ (on : State → Snoop) (c0 c1 : List Sets) (m0 m1 : List Words) (core line : ℕ) (copy : Line) where
   -- the copies that count then
   abbrev pub asked : List Sets
-  asked = counting core line copy c1
+  asked = with_counted_copy core line copy c1
 
   pub record Asked : Type 0 where
     pub coherent : AllCoherent c0 m0
@@ -22,7 +22,7 @@ module _ (on : State → Snoop) (c0 c1 : List Sets) (m0 m1 : List Words) (core l
     pub elsewhere : (k : ℕ) → k ≢ line → line_in m1 k ≡ line_in m0 k
 
   module _ (h : Asked) where
-    copies : (i k : ℕ) → copy_at asked i k ≡ (if nat_eq i core && nat_eq k line then Some copy else left_if (not (nat_eq i core) && nat_eq k line) on (copy_at c0 i k))
+    copies : (i k : ℕ) → copy_at asked i k ≡ (if nat_eq i core && nat_eq k line then Some copy else copy_left_if (not (nat_eq i core) && nat_eq k line) on (copy_at c0 i k))
     copies i k =
         counting-at c1 core line copy i k (rw (same_cores c0 c1 h.ways) h.core_in) (same_sets c0 c1 core h.ways h.some_set)
         ∙ ap (λ (o : Option Line). if nat_eq i core && nat_eq k line then Some copy else o) (h.left i k)
@@ -31,13 +31,13 @@ module _ (on : State → Snoop) (c0 c1 : List Sets) (m0 m1 : List Words) (core l
     pub own_line : copy_at asked core line ≡ Some copy
     own_line = rw (itself core, itself line) at (copies core line)
 
-    pub others_line : (i : ℕ) → i ≢ core → copy_at asked i line ≡ left_by on (copy_at c0 i line)
+    pub others_line : (i : ℕ) → i ≢ core → copy_at asked i line ≡ copy_left_by on (copy_at c0 i line)
     others_line i d = rw (differ i core d, itself line) at (copies i line)
 
     unchanged : (i k : ℕ) → k ≢ line → copy_at asked i k ≡ copy_at c0 i k
     unchanged i k d = rw (differ k line d) at (copies i k) ∙ by_core (nat_eq i core)
       where
-        by_core : (b : Bool) → (if b && false then Some copy else left_if (not b && false) on (copy_at c0 i k)) ≡ copy_at c0 i k
+        by_core : (b : Bool) → (if b && false then Some copy else copy_left_if (not b && false) on (copy_at c0 i k)) ≡ copy_at c0 i k
         by_core true = refl
         by_core false = refl
 

@@ -1,6 +1,6 @@
 -- Memory, the lines and states, and the words after a whole access, and after its two halves.
-use Rattle.snoop_bus.proofs.Vocabulary.{◌≡◌, ◌≢◌, inl, inr, ℕ, ◌-◌, zero, suc, nat_eq, Bool, true, false, if◌then◌else◌, cond, List, [], ◌∷◌, length, slice_get, slice_set, Option, Some, None, option_map, refl, sym, ap, ◌∙◌, subst, lookup, WritesInPlace, Table, State, I, S, E, O, M, GetS, GetM, Line, Victim, Contents, as_victim, victim_of, Core, Loc, Access, Words, table_of_rows, Accessed, Sets, set_at, cache_of, copy_at, tags_of, counted, BusModel, IsFree, IsCoherent, AllCoherent, words_of, written_back, flushed, sent_words, victim_at, loaded_memory, loaded_memory_in, written_memory, written_memory_in, tag_at, awaiting, asking, asked_memory, completed, completed_memory, contents_of, line_of, load_of, write_of, would_hit, ask_of, completion_of, LoadsAt, WritesAt}
-use Rattle.snoop_bus.specs.WholeAccesses.{InHalves, LoadsInHalves, WritesInHalves, LeaveTheSame, LoadsAgree}
+use Rattle.snoop_bus.proofs.Vocabulary.{◌≡◌, ◌≢◌, inl, inr, ℕ, ◌-◌, zero, suc, nat_eq, Bool, true, false, if◌then◌else◌, cond, List, [], ◌∷◌, length, slice_get, slice_set, Option, Some, None, option_map, refl, sym, ap, ◌∙◌, subst, lookup, WritesInPlace, Table, State, I, S, E, O, M, GetS, GetM, Line, Victim, Contents, as_victim, victim_of, Core, Loc, Access, Words, table_of_rows, Accessed, Sets, set_at, cache_of, copy_at, tags_of, counted_copies_of, BusModel, IsFree, IsCoherent, AllCoherent, words_of, written_back, flushed, sent_words, victim_at, loaded_memory, loaded_memory_in, written_memory, written_memory_in, tag_at, awaiting, asking, asked_memory, completed, completed_memory, contents_of, line_of_location, load_of, write_of, would_hit, ask_of, completion_of, LoadsAt, WritesAt}
+use Rattle.snoop_bus.specs.WholeAccesses.{InHalves, LoadsInHalves, WritesInHalves, AccessesLeaveTheSame, LoadsAgree}
 use Rattle.snoop_bus.proofs.Numbers.{itself, inside}
 use Rattle.snoop_bus.proofs.AccessLemmas.{tag_here}
 use Rattle.snoop_bus.proofs.HolderLemmas.{free-held, not_here}
@@ -95,7 +95,7 @@ write-memory t core line caches asked memory valid own = by_copy (copy_at caches
 
 -- what a completion is and leaves, said of the bus before the ask
 pub completed-is : (old between new : BusModel) (core : Core) (loc : Loc) (write : Bool) (access : Access) → (h : InHalves old between new core loc write access)
-    → completion_of between core.0 loc.0 ≡ completed (table_of_rows old.rows) core.0 (line_of old loc.0) (ask_of old core.0 loc.0 write).awaited (ask_of old core.0 loc.0 write).caches
+    → completion_of between core.0 loc.0 ≡ completed (table_of_rows old.rows) core.0 (line_of_location old loc.0) (ask_of old core.0 loc.0 write).awaited (ask_of old core.0 loc.0 write).caches
 completed-is old between new core loc write access h =
     rw (h.machine.rows, h.machine.shape, h.asks.awaited_is, h.asks.contents) refl
 
@@ -103,7 +103,7 @@ pub load-agrees : (old whole between new : BusModel) (core : Core) (loc : Loc) (
     → LoadsAt old whole core.0 loc.0 word a → LoadsInHalves old between new core loc other b → LoadsAgree whole new word other a b
 load-agrees old whole between new core loc word other a b misses one two =
     let t = table_of_rows old.rows in
-    let line = line_of old loc.0 in
+    let line = line_of_location old loc.0 in
     let halves : load_of old core.0 loc.0 ≡ completion_of between core.0 loc.0 =
     load_halves t core.0 line (contents_of old) misses ∙ sym (completed-is old between new core loc false b two.halves) in
     let absent : copy_at old.caches core.0 line ≡ None = not_here t old.caches core.0 line misses in
@@ -132,12 +132,12 @@ valid-tag caches memory core line coherent e = by_copy (copy_at caches core line
     ]
 
 pub write-agrees : (old whole between new : BusModel) (core : Core) (loc : Loc) (word : ℕ) (a b : Access) → WritesInPlace (table_of_rows old.rows).written → IsFree old → IsCoherent old
-    → WritesAt old whole core.0 loc.0 word a → WritesInHalves old between new core loc word b → LeaveTheSame whole new a b
+    → WritesAt old whole core.0 loc.0 word a → WritesInHalves old between new core loc word b → AccessesLeaveTheSame whole new a b
 write-agrees old whole between new core loc word a b law free coherent one two =
     let t = table_of_rows old.rows in
-    let line = line_of old loc.0 in
+    let line = line_of_location old loc.0 in
     let unheld = free-held old.held free in
-    let real : AllCoherent old.caches old.memory = subst (λ h. AllCoherent (counted h old.caches) old.memory) unheld coherent in
+    let real : AllCoherent old.caches old.memory = subst (λ h. AllCoherent (counted_copies_of h old.caches) old.memory) unheld coherent in
     let valid : tag_at core.0 line (contents_of old) ≢ Some I = valid-tag old.caches old.memory core.0 line real in
     let halves : write_of old core.0 loc.0 ≡ completion_of between core.0 loc.0 =
     write_halves t law core.0 line (contents_of old) valid ∙ sym (completed-is old between new core loc true b two.halves) in

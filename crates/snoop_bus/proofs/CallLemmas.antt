@@ -1,17 +1,17 @@
 -- What the calls of a bus do, in the bus's own words, from what they do to its caches and memory.
-use Rattle.snoop_bus.proofs.Vocabulary.{◌≡◌, ◌⊎◌, inl, inr, ℕ, ◌<◌, ◌≤◌, ◌*◌, ◌/◌, ◌%◌, Bool, IsTrue, Option, Some, None, List, length, refl, sym, ap, ◌∙◌, Table, Access, Updated, Hierarchy, Geometry, Words, line_in, words_in, rows_of, table_of_rows, loaded, written, Sets, tags_of, HeldBus, counted, BusModel, bus_with, current_words, program_words, IsBus, IsCurrentWord, LoadsAt, WritesAt, KeepsHolder, MayGoOn, loaded_memory, written_memory, IsReady, KeepsWords, Loads, Updates, hits}
+use Rattle.snoop_bus.proofs.Vocabulary.{◌≡◌, ◌⊎◌, inl, inr, ℕ, ◌<◌, ◌≤◌, ◌*◌, ◌/◌, ◌%◌, Bool, IsTrue, Option, Some, None, List, length, refl, sym, ap, ◌∙◌, Table, Access, Updated, Hierarchy, Geometry, Words, line_in, words_in_lines, rows_of, table_of_rows, loaded, written, Sets, tags_of, HeldBus, counted_copies_of, BusModel, bus_with, current_words, program_words, IsBus, IsCurrentWord, LoadsAt, WritesAt, KeepsHolder, MayGoOn, loaded_memory, written_memory, IsReady, KeepsWords, Loads, Updates, hits}
 use Rattle.snoop_bus.proofs.RowLemmas.{table_of-rows}
 use Rattle.snoop_bus.proofs.HolderLemmas.{free-held}
 use Rattle.snoop_bus.proofs.WordLemmas.{length-words, line_below, words-get, words-same, words-set}
 
 -- a location that has a word has a line
-pub loc_in : (words n : ℕ) (caches : List Sets) (memory : List Words) (loc : ℕ) → loc < length (words_in words (current_words caches memory) n) → loc < n
+pub loc_in : (words n : ℕ) (caches : List Sets) (memory : List Words) (loc : ℕ) → loc < length (words_in_lines words (current_words caches memory) n) → loc < n
 loc_in words n caches memory loc b = rw (length-words words (current_words caches memory) n) at b
 
 -- a core's access to a location of the bus
 pub bus_ready : (shape : Geometry) (locations : ℕ) (h : Hierarchy) (held : Option HeldBus) (core loc : ℕ) →
     IsBus shape locations h.caches.items h.memory.items held → core < length h.caches.items →
-    loc < length (program_words shape locations (counted held h.caches.items) h.memory.items) → IsReady held core (loc / shape.words) h
+    loc < length (program_words shape locations (counted_copies_of held h.caches.items) h.memory.items) → IsReady held core (loc / shape.words) h
 bus_ready shape locations h held core loc b core_in word_in = record {
   coherent = b.coherent;
   awaited = b.awaited;
@@ -19,7 +19,7 @@ bus_ready shape locations h held core loc b core_in word_in = record {
   few_cores = b.few_cores;
   line_in =
       line_below shape.words locations (length h.memory.items) loc b.some_word b.enough_lines
-      (loc_in shape.words locations (counted held h.caches.items) h.memory.items loc word_in);
+      (loc_in shape.words locations (counted_copies_of held h.caches.items) h.memory.items loc word_in);
 }
 
 -- what may go on: nobody holds the bus, or the access is a hit
@@ -44,10 +44,10 @@ module _ (t : Table) (shape : Geometry) (locations : ℕ) (old new : Hierarchy) 
 
   pub load_done : (word : ℕ) (access : Access) → 0 < shape.words → locations ≤ length old.memory.items * shape.words → loc < locations →
       Loads t held core (loc / shape.words) (loc % shape.words) old.caches.items new.caches.items old.memory.items new.memory.items word access →
-      KeepsWords (counted held old.caches.items) (counted held new.caches.items) old.memory.items new.memory.items → LoadsAt before after core loc word access
+      KeepsWords (counted_copies_of held old.caches.items) (counted_copies_of held new.caches.items) old.memory.items new.memory.items → LoadsAt before after core loc word access
   load_done word access some enough within h keeps = record {
-    word_is = words-get shape.words (current_words (counted held old.caches.items) old.memory.items) locations loc within ∙ ap (λ (w : ℕ). Some w) (sym h.word_is);
-    words = words-same shape.words locations (length old.memory.items) (current_words (counted held old.caches.items) old.memory.items) (current_words (counted held new.caches.items) new.memory.items) some enough keeps.words;
+    word_is = words-get shape.words (current_words (counted_copies_of held old.caches.items) old.memory.items) locations loc within ∙ ap (λ (w : ℕ). Some w) (sym h.word_is);
+    words = words-same shape.words locations (length old.memory.items) (current_words (counted_copies_of held old.caches.items) old.memory.items) (current_words (counted_copies_of held new.caches.items) new.memory.items) some enough keeps.words;
     access_is = h.access_is ∙ ap (λ (u : Table). (loaded u core (loc / shape.words) (tags_of old.caches.items)).access) back;
     contents = h.tags ∙ ap (λ (u : Table). (loaded u core (loc / shape.words) (tags_of old.caches.items)).caches) back;
     memory = h.memory ∙ ap (λ (u : Table). loaded_memory u core (loc / shape.words) old.caches.items old.memory.items) back;
@@ -57,12 +57,12 @@ module _ (t : Table) (shape : Geometry) (locations : ℕ) (old new : Hierarchy) 
   module _ (x : Updated) (within : loc < locations) (h : Updates t held core (loc / shape.words) (loc % shape.words) old.caches.items new.caches.items old.memory.items new.memory.items x) where
     -- the word that was there
     pub write_word : IsCurrentWord before loc x.before
-    write_word = words-get shape.words (current_words (counted held old.caches.items) old.memory.items) locations loc within ∙ ap (λ (w : ℕ). Some w) (sym h.word_is)
+    write_word = words-get shape.words (current_words (counted_copies_of held old.caches.items) old.memory.items) locations loc within ∙ ap (λ (w : ℕ). Some w) (sym h.word_is)
 
     -- the word that is written may rest on the one that was there
     pub write_done : 0 < shape.words → locations ≤ length old.memory.items * shape.words → WritesAt before after core loc x.after x.access
     write_done some enough = record {
-      words = words-set shape.words locations (length old.memory.items) (current_words (counted held old.caches.items) old.memory.items) (current_words (counted held new.caches.items) new.memory.items) loc x.after some enough within h.offset_in h.lines;
+      words = words-set shape.words locations (length old.memory.items) (current_words (counted_copies_of held old.caches.items) old.memory.items) (current_words (counted_copies_of held new.caches.items) new.memory.items) loc x.after some enough within h.offset_in h.lines;
       access_is = h.access_is ∙ ap (λ (u : Table). (written u core (loc / shape.words) (tags_of old.caches.items)).access) back;
       contents = h.tags ∙ ap (λ (u : Table). (written u core (loc / shape.words) (tags_of old.caches.items)).caches) back;
       memory = h.memory ∙ ap (λ (u : Table). written_memory u core (loc / shape.words) old.caches.items old.memory.items) back;
@@ -71,5 +71,5 @@ module _ (t : Table) (shape : Geometry) (locations : ℕ) (old new : Hierarchy) 
 
 -- once memory has each line that is seen, its own words are the words that are seen
 pub settled_words : (words locations : ℕ) (c0 : List Sets) (m0 m2 : List Words) → 0 < words → locations ≤ length m0 * words →
-    ((k : ℕ) → k < length m0 → line_in m2 k ≡ current_words c0 m0 k) → words_in words (line_in m2) locations ≡ words_in words (current_words c0 m0) locations
+    ((k : ℕ) → k < length m0 → line_in m2 k ≡ current_words c0 m0 k) → words_in_lines words (line_in m2) locations ≡ words_in_lines words (current_words c0 m0) locations
 settled_words words locations c0 m0 m2 some enough same = words-same words locations (length m0) (current_words c0 m0) (line_in m2) some enough same

@@ -1,5 +1,5 @@
 -- What a completion answers and leaves: the copy that the bus kept is the core's own, and another may have left.
-use Rattle.snoop_bus.proofs.Vocabulary.{cases_eq, arith, ◌≡◌, ◌≢◌, ◌⊎◌, inl, inr, ℕ, ◌<◌, ◌≤◌, cond, true, false, nat_eq, Option, Some, None, IfSome, List, length, map, refl, sym, ap, subst, ◌∙◌, slice_set, if◌then◌else◌, WritesBackDirty, Table, I, Line, Victim, after_fill, Words, line_in, Coherent, Sets, copy_in, copy_at, cache_of, current_words, AllCoherent, KeepsWords, written_back, counting}
+use Rattle.snoop_bus.proofs.Vocabulary.{cases_eq, arith, ◌≡◌, ◌≢◌, ◌⊎◌, inl, inr, ℕ, ◌<◌, ◌≤◌, cond, true, false, nat_eq, Option, Some, None, IfSome, List, length, map, refl, sym, ap, subst, ◌∙◌, slice_set, if◌then◌else◌, WritesBackDirty, Table, I, Line, Victim, after_fill, Words, line_in, Coherent, Sets, copy_in, copy_at, cache_of, current_words, AllCoherent, KeepsWords, written_back, with_counted_copy}
 use Rattle.snoop_bus.proofs.Numbers.{differ, itself, inside}
 use Rattle.snoop_bus.proofs.Coherence.{drop-coherent}
 use Rattle.snoop_bus.proofs.CurrentWords.{copy_at-set, seen_is, coherent_along, all_coherent}
@@ -81,7 +81,7 @@ module _ (t : Table) (law : WritesBackDirty t.evicts_dirty) (d0 c2 : List Sets) 
 module _ (t : Table) (law : WritesBackDirty t.evicts_dirty) (c0 : List Sets) (m0 m2 : List Words) (core line : ℕ) (copy : Line) (v : Option Victim) (own : Sets) where
   -- the steps of a fill
   pub record Fill : Type 0 where
-    pub coherent : AllCoherent (counting core line copy c0) m0
+    pub coherent : AllCoherent (with_counted_copy core line copy c0) m0
     pub core_in : core < length c0
     pub some_set : 0 < length (cache_of c0 core)
     pub absent : copy_at c0 core line ≡ None
@@ -92,7 +92,7 @@ module _ (t : Table) (law : WritesBackDirty t.evicts_dirty) (c0 : List Sets) (m0
 
   module _ (h : Fill) where
     abbrev d0 : List Sets
-    d0 = counting core line copy c0
+    d0 = with_counted_copy core line copy c0
 
     own_new : (k : ℕ) → copy_at (slice_set c0 core own) core k ≡ copy_in own k
     own_new k = let e : nat_eq core core ≡ true = itself core in rw e at (copy_at-set c0 core own core k h.core_in)
@@ -146,12 +146,12 @@ module _ (t : Table) (law : WritesBackDirty t.evicts_dirty) (c0 : List Sets) (m0
     }
 
 -- the copy that counts is valid
-pub counted-valid : (c0 : List Sets) (m0 : List Words) (core line : ℕ) (copy : Line) → AllCoherent (counting core line copy c0) m0 → core < length c0 → 0 < length (cache_of c0 core) → line < length m0 → copy.state ≢ I
+pub counted-valid : (c0 : List Sets) (m0 : List Words) (core line : ℕ) (copy : Line) → AllCoherent (with_counted_copy core line copy c0) m0 → core < length c0 → 0 < length (cache_of c0 core) → line < length m0 → copy.state ≢ I
 counted-valid c0 m0 core line copy h within some line_in =
     (h.each line line_in).valid core copy (rw (itself core, itself line) at (counting-at c0 core line copy core line within some))
 
 -- what leaves is a line of memory
-pub victim_within : (c0 : List Sets) (m0 : List Words) (core line : ℕ) (copy : Line) (v : Option Victim) → AllCoherent (counting core line copy c0) m0 → core < length c0 → 0 < length (cache_of c0 core) → line < length m0 →
+pub victim_within : (c0 : List Sets) (m0 : List Words) (core line : ℕ) (copy : Line) (v : Option Victim) → AllCoherent (with_counted_copy core line copy c0) m0 → core < length c0 → 0 < length (cache_of c0 core) → line < length m0 →
     IfSome v (λ y. copy_at c0 core y.line ≡ Some y.content) → IfSome v (λ y. y.line < length m0)
 victim_within c0 m0 core line copy None h within some line_in was = tt
 victim_within c0 m0 core line copy (Some y) h within some line_in was = elim (inside y.line (length m0)) [
@@ -159,7 +159,7 @@ victim_within c0 m0 core line copy (Some y) h within some line_in was = elim (in
   | inr p ↦
       let d : y.line ≢ line = λ e. let z : line < length m0 = line_in in let q : length m0 ≤ line = rw e at p in absurd (omega arith) in
       let n : nat_eq y.line line ≡ false = differ y.line line d in
-      let a : copy_at (counting core line copy c0) core y.line ≡ copy_at c0 core y.line = rw (itself core, n) at (counting-at c0 core line copy core y.line within some) in
-      let b : copy_at (counting core line copy c0) core y.line ≡ None = h.within y.line core p in
+      let a : copy_at (with_counted_copy core line copy c0) core y.line ≡ copy_at c0 core y.line = rw (itself core, n) at (counting-at c0 core line copy core y.line within some) in
+      let b : copy_at (with_counted_copy core line copy c0) core y.line ≡ None = h.within y.line core p in
       cc (a, b, was)
 ]

@@ -1,5 +1,5 @@
 -- What a bus has once the access of its holder was completed.
-use Rattle.snoop_bus.proofs.Vocabulary.{◌≡◌, ◌/◌, ◌%◌, ℕ, Option, Some, None, List, length, slice_index, slice_set, refl, sym, ap, ◌∙◌, Core, Loc, Table, Transient, IsD, ImD, SmD, Access, Hierarchy, HeldBus, Stage, Locked, M, Transaction, Geometry, Words, state_of, Sets, copy_at, ways_of, victim_at, counted, counted_in, holder, held_by, BusModel, bus_with, words_of, holder_of, program_words, current_words, IsSameMachine, IsBus, awaited_in, completed_memory, completed_memory_in, IsCurrentWord, CompletesAt, words_due, Completes, KeepsWords, SetsWord}
+use Rattle.snoop_bus.proofs.Vocabulary.{◌≡◌, ◌/◌, ◌%◌, ℕ, Option, Some, None, List, length, slice_index, slice_set, refl, sym, ap, ◌∙◌, Core, Loc, Table, Transient, IsD, ImD, SmD, Access, Hierarchy, HeldBus, Stage, Locked, M, Transaction, Geometry, Words, state_of_copy, Sets, copy_at, ways_of, victim_at, counted_copies_of, counted_in, holder, held_by, BusModel, bus_with, words_of, holder_of, program_words, current_words, IsSameMachine, IsBus, awaited_in, completed_memory, completed_memory_in, IsCurrentWord, CompletesAt, words_due, Completes, KeepsWords, SetsWord}
 use Rattle.snoop_bus.specs.declared.target.Target.{Target}
 use Rattle.snoop_bus.proofs.MemoryLemmas.{length-written_back}
 use Rattle.snoop_bus.proofs.WordLemmas.{words-get, words-same, words-set}
@@ -58,21 +58,21 @@ module _ (t : Table) (shape : Geometry) (locations : ℕ) (held : Option HeldBus
 
     -- no word that is seen has changed
     module _ (keeps : KeepsWords (counted_in target.core target.line h.transaction old.caches.items) new.caches.items old.memory.items new.memory.items) where
-      there : KeepsWords (counted held old.caches.items) new.caches.items old.memory.items new.memory.items
+      there : KeepsWords (counted_copies_of held old.caches.items) new.caches.items old.memory.items new.memory.items
       there = rw known.held_is (rw s.target_is at keeps)
 
       pub words_stay : program_words shape locations new.caches.items new.memory.items ≡ words_of now
       words_stay = rw (← s.now_is)
-          (words-same shape.words locations (length old.memory.items) (current_words (counted held old.caches.items) old.memory.items) (current_words new.caches.items new.memory.items) s.bus.some_word s.bus.enough_lines there.words)
+          (words-same shape.words locations (length old.memory.items) (current_words (counted_copies_of held old.caches.items) old.memory.items) (current_words new.caches.items new.memory.items) s.bus.some_word s.bus.enough_lines there.words)
 
-      pub words_beside : (left : HeldBus) → left ≡ held_by core loc Locked h.line None → program_words shape locations (counted (Some left) new.caches.items) new.memory.items ≡ words_of now
+      pub words_beside : (left : HeldBus) → left ≡ held_by core loc Locked h.line None → program_words shape locations (counted_copies_of (Some left) new.caches.items) new.memory.items ≡ words_of now
       words_beside left is = rw is words_stay
 
       pub freed : (access : Access) → Completes t h.transaction target.core target.line old new access → IsBus shape locations new.caches.items new.memory.items None
       freed access ok = bus-kept shape locations old new held None s.bus (size access ok) there s.ways tt tt
 
       -- a locked instruction that has read keeps the bus
-      pub locked : (access : Access) (left : HeldBus) → left ≡ held_by core loc Locked h.line None → state_of (copy_at new.caches.items target.core target.line) ≡ M →
+      pub locked : (access : Access) (left : HeldBus) → left ≡ held_by core loc Locked h.line None → state_of_copy (copy_at new.caches.items target.core target.line) ≡ M →
           Completes t h.transaction target.core target.line old new access → IsBus shape locations new.caches.items new.memory.items (Some left)
       locked access left is own ok = rw (is, held_is)
           (bus-kept shape locations old new held (Some (held_by core loc Locked (loc.0 / shape.words) None)) s.bus (size access ok) there s.ways
@@ -81,12 +81,12 @@ module _ (t : Table) (shape : Geometry) (locations : ℕ) (held : Option HeldBus
 
     -- one word was written
     module _ (value : ℕ) (sets : SetsWord target.line target.offset value (counted_in target.core target.line h.transaction old.caches.items) new.caches.items old.memory.items new.memory.items) where
-      here : SetsWord (loc.0 / shape.words) (loc.0 % shape.words) value (counted held old.caches.items) new.caches.items old.memory.items new.memory.items
+      here : SetsWord (loc.0 / shape.words) (loc.0 % shape.words) value (counted_copies_of held old.caches.items) new.caches.items old.memory.items new.memory.items
       here = rw known.held_is (rw s.target_is at sets)
 
       pub word_set : program_words shape locations new.caches.items new.memory.items ≡ slice_set (words_of now) loc.0 value
       word_set = rw (← s.now_is)
-          (words-set shape.words locations (length old.memory.items) (current_words (counted held old.caches.items) old.memory.items) (current_words new.caches.items new.memory.items) loc.0 value
+          (words-set shape.words locations (length old.memory.items) (current_words (counted_copies_of held old.caches.items) old.memory.items) (current_words new.caches.items new.memory.items) loc.0 value
           s.bus.some_word s.bus.enough_lines known.loc_in here.offset_in here.lines)
 
       pub written : (access : Access) → Completes t h.transaction target.core target.line old new access → IsBus shape locations new.caches.items new.memory.items None

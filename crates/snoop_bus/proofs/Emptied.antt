@@ -1,5 +1,5 @@
 -- A bus that begins anew: its caches are emptied, and memory gets its first words again.
-use Rattle.snoop_bus.proofs.Vocabulary.{◌≡◌, ◌<◌, ◌≤◌, ℕ, Option, None, List, [], ◌∷◌, length, map, replicate, refl, sym, ap, ◌∙◌, arith, div_ceil, div_ceil_times, length-map, length-map-range_with_len, get_or-map, Table, most_words, contents, copy_of, Geometry, rows_of, Words, words_in, lines_of_words, Sets, emptied, ways_of, AtHome, BusModel, words_of, current_words, empty_caches, IsBus, new_bus, HeldBus}
+use Rattle.snoop_bus.proofs.Vocabulary.{◌≡◌, ◌<◌, ◌≤◌, ℕ, Option, None, List, [], ◌∷◌, length, map, replicate, refl, sym, ap, ◌∙◌, arith, div_ceil, div_ceil_times, length-map, length-map-range_with_len, get_or-map, Table, most_words, contents, copy_of, Geometry, rows_of, Words, words_in_lines, lines_of_words, Sets, emptied, ways_of, AtHome, BusModel, words_of, current_words, empty_caches, IsBus, new_bus, HeldBus}
 use Rattle.snoop_bus.proofs.NewLemmas.{map-replicate, new-bus, new-words}
 
 pub home-emptied : (sets : Sets) → 0 < length sets → (0 < length (map emptied sets)) × AtHome (map emptied sets)
@@ -24,7 +24,7 @@ count-words b = length-map-range_with_len _ 0 b.locations
 -- these caches and this memory are those of a new bus
 pub record IsNew (t : Table) (shape : Geometry) (locations cores : ℕ) (caches : List Sets) (memory : List Words) (init : List ℕ) : Type 0 where
   pub bus : IsBus shape locations caches memory None
-  pub words : words_in shape.words (current_words caches memory) locations ≡ init
+  pub words : words_in_lines shape.words (current_words caches memory) locations ≡ init
   pub exact : record { rows = rows_of t; shape = shape; locations = locations; caches = caches; memory = memory; held = None } ≡ new_bus t cores shape init
 
 pub begins-anew : (t : Table) (shape : Geometry) (locations : ℕ) (c0 c2 : List Sets) (m0 m2 : List Words) (h : Option HeldBus) (init : List ℕ) → IsBus shape locations c0 m0 h → shape.words ≤ most_words

@@ -1,5 +1,5 @@
 -- The copies that count while the bus is held.
-use Rattle.snoop_bus.proofs.Vocabulary.{cases_eq, get_or-set_same, get_or-set_other, length-set, length-map, get_or-map, map-set_same, arith, ◌≡◌, ◌≢◌, ◌⊎◌, inl, inr, ℕ, ◌<◌, ◌%◌, false, ◌&&◌, nat_eq, Some, List, [], length, map, refl, sym, ap, ◌∙◌, slice_index_or, if◌then◌else◌, Line, Contents, contents, copy_of, Sets, set_at, in_set, copy_in, copy_at, cache_of, ways_of, with_copy, counting}
+use Rattle.snoop_bus.proofs.Vocabulary.{cases_eq, get_or-set_same, get_or-set_other, length-set, length-map, get_or-map, map-set_same, arith, ◌≡◌, ◌≢◌, ◌⊎◌, inl, inr, ℕ, ◌<◌, ◌%◌, false, ◌&&◌, nat_eq, Some, List, [], length, map, refl, sym, ap, ◌∙◌, slice_index_or, if◌then◌else◌, Line, Contents, contents, copy_of, Sets, set_at, in_set, copy_in, copy_at, cache_of, ways_of, with_copy, with_counted_copy}
 use Rattle.snoop_bus.proofs.Numbers.{differ, itself}
 use Rattle.snoop_bus.proofs.CurrentWords.{copy_at-set}
 use Rattle.snoop_bus.proofs.UseLemmas.{ways-set_cache}
@@ -21,7 +21,7 @@ copy_in-with sets line k copy some =
         rw (other, get_or-set_other sets (line % length sets) (k % length sets) (with_copy line copy (set_at sets line)) (contents [] 1) p) refl
 
 pub counting-at : (caches : List Sets) (core line : ℕ) (copy : Line) (i k : ℕ) → core < length caches → 0 < length (cache_of caches core) →
-    copy_at (counting core line copy caches) i k ≡ (if nat_eq i core && nat_eq k line then Some copy else copy_at caches i k)
+    copy_at (with_counted_copy core line copy caches) i k ≡ (if nat_eq i core && nat_eq k line then Some copy else copy_at caches i k)
 counting-at caches core line copy i k within some =
     copy_at-set caches core (in_set line (with_copy line copy) (cache_of caches core)) i k within ∙ by_core (cases_eq i core)
   where
@@ -30,7 +30,7 @@ counting-at caches core line copy i k within some =
     by_core (inl p) = rw (p, itself core) (copy_in-with (cache_of caches core) line k copy some)
     by_core (inr p) = let e : nat_eq i core ≡ false = differ i core p in rw e refl
 
-pub ways-counting : (caches : List Sets) (core line : ℕ) (copy : Line) → ways_of (counting core line copy caches) ≡ ways_of caches
+pub ways-counting : (caches : List Sets) (core line : ℕ) (copy : Line) → ways_of (with_counted_copy core line copy caches) ≡ ways_of caches
 ways-counting caches core line copy = ways-set_cache caches core (in_set line (with_copy line copy) (cache_of caches core))
     (map-set_same (λ (s : Contents). s.ways) (cache_of caches core) (line % length (cache_of caches core)) (with_copy line copy (set_at (cache_of caches core) line)) (contents [] 1) refl)
 

@@ -1,5 +1,5 @@
 -- What a hit answers and leaves.
-use Rattle.snoop_bus.proofs.Vocabulary.{cases_eq, ◌≡◌, ◌≢◌, ◌⊎◌, inl, inr, ℕ, ◌<◌, true, false, nat_eq, Option, Some, None, IfSome, option_map, List, length, map, refl, sym, ap, ◌∙◌, slice_set, slice_index, if◌then◌else◌, WritesInPlace, in_place, Table, State, M, Line, to_front, with_state, Hit, Access, Accessed, used_by, written_in, written, Words, state_of, Sets, in_set, copy_in, copy_at, cache_of, tags_of, ways_of, current_words, AllCoherent, ChangesCopy, KeepsWords, Loads, Acquires, HeldBus, counted, IsHeld}
+use Rattle.snoop_bus.proofs.Vocabulary.{cases_eq, ◌≡◌, ◌≢◌, ◌⊎◌, inl, inr, ℕ, ◌<◌, true, false, nat_eq, Option, Some, None, IfSome, option_map, List, length, map, refl, sym, ap, ◌∙◌, slice_set, slice_index, if◌then◌else◌, WritesInPlace, in_place, Table, State, M, Line, to_front, with_state, Hit, Access, Accessed, used_by, written_in, written, Words, state_of_copy, Sets, in_set, copy_in, copy_at, cache_of, tags_of, ways_of, current_words, AllCoherent, ChangesCopy, KeepsWords, Loads, Acquires, HeldBus, counted_copies_of, IsHeld}
 use Rattle.snoop_bus.specs.declared.access.AccessKind.{AccessKind}
 use Rattle.snoop_bus.proofs.BesideLemmas.{own_word, held-same, held-placed, counted-same, counted-changes, placed-counts, ways-counted}
 use Rattle.snoop_bus.proofs.Numbers.{differ, itself}
@@ -12,10 +12,10 @@ use Rattle.snoop_bus.proofs.WriteLemmas.{here_now, written_m, hit_owned}
 abbrev quiet_access : AccessKind → Access
 quiet_access kind = record { kind = kind; wrote_back = false; flushed = None }
 
-pub load_hit : (t : Table) (held : Option HeldBus) (c0 : List Sets) (m : List Words) (core line offset : ℕ) (copy : Line) (new : Sets) → AllCoherent (counted held c0) m → IfSome held (IsHeld c0 m) → core < length c0 → line < length m →
+pub load_hit : (t : Table) (held : Option HeldBus) (c0 : List Sets) (m : List Words) (core line offset : ℕ) (copy : Line) (new : Sets) → AllCoherent (counted_copies_of held c0) m → IfSome held (IsHeld c0 m) → core < length c0 → line < length m →
     copy_at c0 core line ≡ Some copy → new ≡ in_set line (to_front line) (cache_of c0 core) → ((k : ℕ) → copy_in new k ≡ copy_at c0 core k) →
     map (λ s. s.ways) new ≡ map (λ s. s.ways) (cache_of c0 core) →
-    Loads t held core line offset c0 (slice_set c0 core new) m m (slice_index copy.words offset) (quiet_access Hit) × KeepsWords (counted held c0) (counted held (slice_set c0 core new)) m m × IfSome held (IsHeld (slice_set c0 core new) m) × (ways_of (slice_set c0 core new) ≡ ways_of c0)
+    Loads t held core line offset c0 (slice_set c0 core new) m m (slice_index copy.words offset) (quiet_access Hit) × KeepsWords (counted_copies_of held c0) (counted_copies_of held (slice_set c0 core new)) m m × IfSome held (IsHeld (slice_set c0 core new) m) × (ways_of (slice_set c0 core new) ≡ ways_of c0)
 load_hit t held c0 m core line offset copy new h awaited core_in line_in found exact copies ways = (
   record {
     word_is = let other = own_word held c0 m core line copy awaited found in ap (λ (w : Words). slice_index w offset) (other.2 ∙ (h.each line line_in).same core other.0 other.1);
@@ -24,8 +24,8 @@ load_hit t held c0 m core line offset copy new h awaited core_in line_in found e
     memory = rw found refl;
   },
   record {
-    coherent = same-coherent (counted held c0) (counted held (slice_set c0 core new)) m counts h;
-    words = same-seen (counted held c0) (counted held (slice_set c0 core new)) m counts h;
+    coherent = same-coherent (counted_copies_of held c0) (counted_copies_of held (slice_set c0 core new)) m counts h;
+    words = same-seen (counted_copies_of held c0) (counted_copies_of held (slice_set c0 core new)) m counts h;
     ways = ways-counted held (slice_set c0 core new) ∙ room ∙ sym (ways-counted held c0);
   },
   still,
@@ -38,7 +38,7 @@ load_hit t held c0 m core line offset copy new h awaited core_in line_in found e
     still : IfSome held (IsHeld (slice_set c0 core new) m)
     still = held-same held c0 (slice_set c0 core new) m m awaited room refl (same_copies c0 core new core_in copies)
 
-    counts : (i k : ℕ) → copy_at (counted held (slice_set c0 core new)) i k ≡ copy_at (counted held c0) i k
+    counts : (i k : ℕ) → copy_at (counted_copies_of held (slice_set c0 core new)) i k ≡ copy_at (counted_copies_of held c0) i k
     counts = counted-same held c0 (slice_set c0 core new) m awaited still (same_copies c0 core new core_in copies)
 
 -- where a core has the line in M with the word that it had, all words are seen as they were
@@ -49,10 +49,10 @@ same_words c0 c2 m core line h k b = owned-seen c0 c2 m core line (current_words
     by_line (inl p) = let e : nat_eq k line ≡ true = rw p (itself line) in rw e (rw p refl)
     by_line (inr p) = let e : nat_eq k line ≡ false = differ k line p in rw e refl
 
-pub write_hit : (t : Table) → WritesInPlace t.written → (held : Option HeldBus) (c0 c2 : List Sets) (m : List Words) (core line : ℕ) (copy : Line) (next : State) → AllCoherent (counted held c0) m → IfSome held (IsHeld c0 m) → line < length m →
+pub write_hit : (t : Table) → WritesInPlace t.written → (held : Option HeldBus) (c0 c2 : List Sets) (m : List Words) (core line : ℕ) (copy : Line) (next : State) → AllCoherent (counted_copies_of held c0) m → IfSome held (IsHeld c0 m) → line < length m →
     copy_at c0 core line ≡ Some copy → t.written copy.state ≡ Some next → ChangesCopy core line (option_map (with_state next) (copy_at c0 core line)) c0 c2 →
     tags_of c2 ≡ used_by core line next (tags_of c0) → ways_of c2 ≡ ways_of c0 →
-    Acquires t held core line c0 c2 m m copy.words (quiet_access Hit) × KeepsWords (counted held c0) (counted held c2) m m × IfSome held (IsHeld c2 m)
+    Acquires t held core line c0 c2 m m copy.words (quiet_access Hit) × KeepsWords (counted_copies_of held c0) (counted_copies_of held c2) m m × IfSome held (IsHeld c2 m)
 write_hit t law held c0 c2 m core line copy next h awaited line_in found writes to tags ways = (
   record {
     words_are = (h.each line line_in).same core copy counts;
@@ -62,8 +62,8 @@ write_hit t law held c0 c2 m core line copy next h awaited line_in found writes 
     memory = rw found refl;
   },
   record {
-    coherent = owned-coherent (counted held c0) (counted held c2) m core line (current_words (counted held c0) m line) own;
-    words = same_words (counted held c0) (counted held c2) m core line own;
+    coherent = owned-coherent (counted_copies_of held c0) (counted_copies_of held c2) m core line (current_words (counted_copies_of held c0) m line) own;
+    words = same_words (counted_copies_of held c0) (counted_copies_of held c2) m core line own;
     ways = ways-counted held c2 ∙ ways ∙ sym (ways-counted held c0);
   },
   still,
@@ -75,20 +75,20 @@ write_hit t law held c0 c2 m core line copy next h awaited line_in found writes 
     to_m : next ≡ M
     to_m = written_m copy.state next in_state
 
-    placed : in_place (state_of (copy_at c0 core line)) ≡ Some M
+    placed : in_place (state_of_copy (copy_at c0 core line)) ≡ Some M
     placed = rw found (rw to_m at in_state)
 
     still : IfSome held (IsHeld c2 m)
     still = held-placed held c0 c2 m core line (option_map (with_state next) (copy_at c0 core line)) awaited ways placed (rw found to_m) to
 
-    counts : copy_at (counted held c0) core line ≡ Some copy
+    counts : copy_at (counted_copies_of held c0) core line ≡ Some copy
     counts = placed-counts held c0 m core line awaited placed ∙ found
 
-    changes : ChangesCopy core line (option_map (with_state next) (copy_at (counted held c0) core line)) (counted held c0) (counted held c2)
+    changes : ChangesCopy core line (option_map (with_state next) (copy_at (counted_copies_of held c0) core line)) (counted_copies_of held c0) (counted_copies_of held c2)
     changes = rw (placed-counts held c0 m core line awaited placed) (counted-changes held c0 c2 m core line (option_map (with_state next) (copy_at c0 core line)) awaited still placed to)
 
-    own : Owned (counted held c0) (counted held c2) m core line (current_words (counted held c0) m line)
-    own = hit_owned (counted held c0) (counted held c2) m core line copy next h line_in counts in_state changes
+    own : Owned (counted_copies_of held c0) (counted_copies_of held c2) m core line (current_words (counted_copies_of held c0) m line)
+    own = hit_owned (counted_copies_of held c0) (counted_copies_of held c2) m core line copy next h line_in counts in_state changes
 
     kind : written t core line (tags_of c0) ≡ written_in t core line (tags_of c0) (Some next)
     kind = written-here t c0 core line copy found ∙ ap (written_in t core line (tags_of c0)) writes

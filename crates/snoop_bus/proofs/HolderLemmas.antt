@@ -1,5 +1,5 @@
 -- What the action that holds the bus tells of all copies of its line.
-use Rattle.snoop_bus.proofs.Vocabulary.{◌≡◌, ◌≢◌, ℕ, ◌<◌, ◌/◌, Bool, true, false, Option, Some, None, IfSome, option_map, List, length, refl, sym, ap, ◌∙◌, Core, Loc, in_place, Table, M, Line, Geometry, Words, Coherent, state_of, Sets, copy_at, cache_of, tags_of, AllCoherent, bus_with, StandsAlone, HeldBus, Stage, Load, Write, Locked, Transaction, counting, counted, holder, holder_in, IsHeld, IsPlaced, Awaits, held_by, hits, hit_in}
+use Rattle.snoop_bus.proofs.Vocabulary.{◌≡◌, ◌≢◌, ℕ, ◌<◌, ◌/◌, Bool, true, false, Option, Some, None, IfSome, option_map, List, length, refl, sym, ap, ◌∙◌, Core, Loc, in_place, Table, M, Line, Geometry, Words, Coherent, state_of_copy, Sets, copy_at, cache_of, tags_of, AllCoherent, bus_with, StandsAlone, HeldBus, Stage, Load, Write, Locked, Transaction, with_counted_copy, counted_copies_of, holder, holder_in, IsHeld, IsPlaced, Awaits, held_by, hits, hit_in}
 use Rattle.snoop_bus.specs.declared.holding.BusAction.{BusAction}
 use Rattle.snoop_bus.proofs.Numbers.{differ, itself}
 use Rattle.snoop_bus.proofs.Coherence.{alone}
@@ -9,15 +9,15 @@ use Rattle.snoop_bus.proofs.AcquireAsked.{kept_m}
 use Rattle.snoop_bus.proofs.UpgradeAsk.{hits-absent}
 
 -- where a core has M or E, no other core has the line
-placed_alone : (caches : List Sets) (w m : Words) (core line i : ℕ) → Coherent w m (λ i. copy_at caches i line) → in_place (state_of (copy_at caches core line)) ≡ Some M → i ≢ core → copy_at caches i line ≡ None
+placed_alone : (caches : List Sets) (w m : Words) (core line i : ℕ) → Coherent w m (λ i. copy_at caches i line) → in_place (state_of_copy (copy_at caches core line)) ≡ Some M → i ≢ core → copy_at caches i line ≡ None
 placed_alone caches w m core line i h writes d = by_copy (copy_at caches core line) refl writes
   where
-    by_copy : (o : Option Line) → copy_at caches core line ≡ o → in_place (state_of o) ≡ Some M → copy_at caches i line ≡ None
+    by_copy : (o : Option Line) → copy_at caches core line ≡ o → in_place (state_of_copy o) ≡ Some M → copy_at caches i line ≡ None
     by_copy None e w = cc
     by_copy (Some copy) e w = alone _ _ core (λ i. copy_at caches i line) copy h e w i d
 
 -- from the ask for a write access to its end no other core has the line
-pub held_alone : (caches : List Sets) (memory : List Words) (h : HeldBus) (i : ℕ) → AllCoherent (counted (Some h) caches) memory → IsHeld caches memory h → h.holder.stage ≢ Load → i ≢ h.holder.core.0 → copy_at caches i h.line ≡ None
+pub held_alone : (caches : List Sets) (memory : List Words) (h : HeldBus) (i : ℕ) → AllCoherent (counted_copies_of (Some h) caches) memory → IsHeld caches memory h → h.holder.stage ≢ Load → i ≢ h.holder.core.0 → copy_at caches i h.line ≡ None
 held_alone caches memory h i coherent held writes d = by_stage h.holder.stage refl h.transaction refl held.awaits
   where
     core : ℕ
@@ -36,19 +36,19 @@ held_alone caches memory h i coherent held writes d = by_stage h.holder.stage re
         let real : AllCoherent caches memory = rw f at coherent in
         placed_alone caches _ _ h.holder.core.0 h.line i (real.each h.line held.line_in) a d
     by_stage Write e (Some x) f a =
-        let counts : AllCoherent (counting h.holder.core.0 h.line x.copy caches) memory = rw f at coherent in
+        let counts : AllCoherent (with_counted_copy h.holder.core.0 h.line x.copy caches) memory = rw f at coherent in
         let here = counting-at caches h.holder.core.0 h.line x.copy h.holder.core.0 h.line held.core_in held.some_set in
-        let kept : copy_at (counting h.holder.core.0 h.line x.copy caches) h.holder.core.0 h.line ≡ Some x.copy = rw (itself h.holder.core.0, itself h.line) at here in
+        let kept : copy_at (with_counted_copy h.holder.core.0 h.line x.copy caches) h.holder.core.0 h.line ≡ Some x.copy = rw (itself h.holder.core.0, itself h.line) at here in
         let there = counting-at caches h.holder.core.0 h.line x.copy i h.line held.core_in held.some_set in
-        let same : copy_at (counting h.holder.core.0 h.line x.copy caches) i h.line ≡ copy_at caches i h.line = rw (differ i h.holder.core.0 d) at there in
+        let same : copy_at (with_counted_copy h.holder.core.0 h.line x.copy caches) i h.line ≡ copy_at caches i h.line = rw (differ i h.holder.core.0 d) at there in
         let m : x.copy.state ≡ M = kept_m x (copy_at caches h.holder.core.0 h.line) a in
-        sym same ∙ placed_alone (counting h.holder.core.0 h.line x.copy caches) _ _ h.holder.core.0 h.line i (counts.each h.line held.line_in) (rw (kept, m) refl) d
+        sym same ∙ placed_alone (with_counted_copy h.holder.core.0 h.line x.copy caches) _ _ h.holder.core.0 h.line i (counts.each h.line held.line_in) (rw (kept, m) refl) d
 
 abbrev core_of : ℕ → Core
 core_of n = record { 0 = n }
 
 -- so no access of another core to it would be a hit
-pub taken : (t : Table) (locations : ℕ) (shape : Geometry) (caches : List Sets) (memory : List Words) (held : Option HeldBus) (core : Core) (loc : Loc) (write : Bool) → AllCoherent (counted held caches) memory →
+pub taken : (t : Table) (locations : ℕ) (shape : Geometry) (caches : List Sets) (memory : List Words) (held : Option HeldBus) (core : Core) (loc : Loc) (write : Bool) → AllCoherent (counted_copies_of held caches) memory →
     IfSome held (IsHeld caches memory) → IfSome held (IsPlaced shape locations) →
     IfSome (holder_in held) (λ h. h.loc.0 / shape.words ≡ loc.0 / shape.words → h.stage ≢ Load → h.core ≢ core → hits t core.0 (loc.0 / shape.words) write (tags_of caches) ≡ false)
 taken t locations shape caches memory None core loc write coherent held placed = tt
@@ -103,12 +103,12 @@ pub same_held : (held : Option HeldBus) (found known : HeldBus) → held ≡ Som
 same_held held found known a b = cc
 
 -- a locked instruction that has read has its line in M, and the bus keeps nothing
-pub locked_real : (x : Option Transaction) (own : Option Line) → Awaits Locked x own → (x ≡ None) × (state_of own ≡ M)
+pub locked_real : (x : Option Transaction) (own : Option Line) → Awaits Locked x own → (x ≡ None) × (state_of_copy own ≡ M)
 locked_real None own a = (refl, a)
 locked_real (Some x) own a = absurd a
 
 -- the lines and states say so too
-pub stands_alone : (t : Table) (shape : Geometry) (locations : ℕ) (caches : List Sets) (memory : List Words) (held : Option HeldBus) → AllCoherent (counted held caches) memory →
+pub stands_alone : (t : Table) (shape : Geometry) (locations : ℕ) (caches : List Sets) (memory : List Words) (held : Option HeldBus) → AllCoherent (counted_copies_of held caches) memory →
     IfSome held (IsHeld caches memory) → IfSome held (IsPlaced shape locations) → IfSome (holder_in held) (StandsAlone (bus_with t shape locations caches memory held))
 stands_alone t shape locations caches memory None coherent held placed = tt
 stands_alone t shape locations caches memory (Some h) coherent held placed = record {
@@ -121,6 +121,6 @@ stands_alone t shape locations caches memory (Some h) coherent held placed = rec
       (locked_real h.transaction (copy_at caches h.holder.core.0 (h.holder.loc.0 / shape.words)) (rw (locked, placed.line_is) at held.awaits)).1;
 }
   where
-    modified : (own : Option Line) → state_of own ≡ M → option_map (λ (copy : Line). copy.state) own ≡ Some M
+    modified : (own : Option Line) → state_of_copy own ≡ M → option_map (λ (copy : Line). copy.state) own ≡ Some M
     modified None m = absurd (let z : ⊥ = cc in z)
     modified (Some copy) m = ap Some m

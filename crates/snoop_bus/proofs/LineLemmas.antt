@@ -1,12 +1,12 @@
 -- Each line has its words of the list of words, and 0 at every other offset: what keeps that.
-use Rattle.snoop_bus.proofs.Vocabulary.{cases_eq, cases_lt, nat_tests, ext_get_or, get_or-set_same, get_or-set_other, length-set, drop_more, length-map-range_with_len, get_or-map-range_with_len, map-range_with_len_more, range_with_len, [], ◌∷◌, ◌++◌, map, drop, append_assoc, div-add-mod', div-mul-add, mod-mul-add, mod_below, arith, ◌≡◌, ◌≢◌, ◌⊎◌, inl, inr, ℕ, ◌+◌, ◌*◌, ◌/◌, ◌%◌, ◌<◌, ◌≤◌, true, false, nat_eq, nat_lt, List, length, refl, sym, ap, ◌∙◌, slice_index, slice_index_or, slice_set, if◌then◌else◌, most_words, Words, words_in, offset_of, line_of_words}
+use Rattle.snoop_bus.proofs.Vocabulary.{cases_eq, cases_lt, nat_tests, ext_get_or, get_or-set_same, get_or-set_other, length-set, drop_more, length-map-range_with_len, get_or-map-range_with_len, map-range_with_len_more, range_with_len, [], ◌∷◌, ◌++◌, map, drop, append_assoc, div-add-mod', div-mul-add, mod-mul-add, mod_below, arith, ◌≡◌, ◌≢◌, ◌⊎◌, inl, inr, ℕ, ◌+◌, ◌*◌, ◌/◌, ◌%◌, ◌<◌, ◌≤◌, true, false, nat_eq, nat_lt, List, length, refl, sym, ap, ◌∙◌, slice_index, slice_index_or, slice_set, if◌then◌else◌, most_words, Words, words_in_lines, offset_of, line_of_words}
 use Rattle.std.proofs.lemmas.List.{set_at}
 use Rattle.snoop_bus.proofs.Numbers.{differ, itself}
 use Rattle.snoop_bus.proofs.WordLemmas.{length-words, words-same, words-set}
 
 -- where each line is as it was
 pub lines-same : (words n size : ℕ) (l0 l2 : ℕ → Words) → 0 < words → n ≤ size * words → ((k : ℕ) → k < size → l2 k ≡ l0 k) →
-    ((k : ℕ) → k < size → l0 k ≡ line_of_words words (words_in words l0 n) k) → (k : ℕ) → k < size → l2 k ≡ line_of_words words (words_in words l2 n) k
+    ((k : ℕ) → k < size → l0 k ≡ line_of_words words (words_in_lines words l0 n) k) → (k : ℕ) → k < size → l2 k ≡ line_of_words words (words_in_lines words l2 n) k
 lines-same words n size l0 l2 some enough same was k b =
     same k b ∙ was k b ∙ ap (λ (ws : List ℕ). line_of_words words ws k) (sym (words-same words n size l0 l2 some enough same))
 
@@ -75,21 +75,21 @@ module _ (words : ℕ) (ws : List ℕ) (loc value : ℕ) (some : 0 < words) (wit
 -- where one offset of one line was written
 pub lines-set : (words n size : ℕ) (l0 l2 : ℕ → Words) (loc value : ℕ) → 0 < words → n ≤ size * words → loc < n → loc % words < length (l0 (loc / words)) →
     ((k : ℕ) → k < size → l2 k ≡ (if nat_eq k (loc / words) then slice_set (l0 (loc / words)) (loc % words) value else l0 k)) →
-    ((k : ℕ) → k < size → l0 k ≡ line_of_words words (words_in words l0 n) k) → (k : ℕ) → k < size → l2 k ≡ line_of_words words (words_in words l2 n) k
+    ((k : ℕ) → k < size → l0 k ≡ line_of_words words (words_in_lines words l0 n) k) → (k : ℕ) → k < size → l2 k ≡ line_of_words words (words_in_lines words l2 n) k
 lines-set words n size l0 l2 loc value some enough within offset set was k b =
     by_line (cases_eq k (loc / words)) ∙ ap (λ (ws : List ℕ). line_of_words words ws k) (sym (words-set words n size l0 l2 loc value some enough within offset set))
   where
-    there : loc < length (words_in words l0 n)
+    there : loc < length (words_in_lines words l0 n)
     there = rw (length-words words l0 n) within
 
-    by_line : (k ≡ loc / words) ⊎ (k ≢ loc / words) → l2 k ≡ line_of_words words (slice_set (words_in words l0 n) loc value) k
+    by_line : (k ≡ loc / words) ⊎ (k ≢ loc / words) → l2 k ≡ line_of_words words (slice_set (words_in_lines words l0 n) loc value) k
     by_line (inl p) =
         let yes : nat_eq k (loc / words) ≡ true = rw p (itself (loc / words)) in
         (rw yes at (set k b)) ∙ ap (λ (w : Words). slice_set w (loc % words) value) (ap l0 (sym p) ∙ was k b)
-        ∙ sym (line-here words (words_in words l0 n) loc value some there k p)
+        ∙ sym (line-here words (words_in_lines words l0 n) loc value some there k p)
     by_line (inr p) =
         let no : nat_eq k (loc / words) ≡ false = differ k (loc / words) p in
-        (rw no at (set k b)) ∙ was k b ∙ sym (line-away words (words_in words l0 n) loc value some there k p)
+        (rw no at (set k b)) ∙ was k b ∙ sym (line-away words (words_in_lines words l0 n) loc value some there k p)
 
 -- one line more comes in the place of the one that was there
 pub put-next : {A : Type 0} (f : ℕ → A) (n : ℕ) (xs ys : List A) (d : A) → n < length xs → ys ≡ map f (range_with_len 0 n) ++ drop n xs →

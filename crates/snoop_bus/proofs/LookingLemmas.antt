@@ -1,5 +1,5 @@
 -- What one who looks at a bus finds there.
-use Rattle.snoop_bus.proofs.Vocabulary.{eqb_tells, nat_tests, get_or_default, cases_eq, cases_lt, arith, nat_lt, ◌≡◌, ◌≢◌, inl, inr, ℕ, ◌<◌, ◌%◌, nat_eq, Bool, true, ◌&&◌, if◌then◌else◌, Option, Some, None, IfSome, unwrap_or, option_map, map, slice_get, List, [], length, slice_index_or, false, subst, refl, sym, ap, ◌∙◌, option_or, slice_get-map, get_or-map, is_dirty, or_invalid, state_of, ranked_in, IsClean, with_words, Line, Contents, contents, copy_of, with_state, State, S, O, Transient, IsD, ImD, SmD, Geometry, Words, line_in, line_of_words, Sets, copy_at, cache_of, tags_in, tags_of, AtHome, counted, counting, IsHeld, Awaits, AskedOf, kept_by, kept_words, AllCoherent, current_words, words_among, program_words, IsBus, HeldBus, Stage, Load, Write, Locked, Transaction}
+use Rattle.snoop_bus.proofs.Vocabulary.{eqb_tells, nat_tests, get_or_default, cases_eq, cases_lt, arith, nat_lt, ◌≡◌, ◌≢◌, inl, inr, ℕ, ◌<◌, ◌%◌, nat_eq, Bool, true, ◌&&◌, if◌then◌else◌, Option, Some, None, IfSome, unwrap_or, option_map, map, slice_get, List, [], length, slice_index_or, false, subst, refl, sym, ap, ◌∙◌, option_or, slice_get-map, get_or-map, is_dirty, or_invalid, state_of_copy, ranked_in, IsClean, with_words, Line, Contents, contents, copy_of, with_state, State, S, O, Transient, IsD, ImD, SmD, Geometry, Words, line_in, line_of_words, Sets, copy_at, cache_of, tags_in, tags_of, AtHome, counted_copies_of, with_counted_copy, IsHeld, Awaits, AskedOf, kept_by, kept_words, AllCoherent, current_words, words_among, program_words, IsBus, HeldBus, Stage, Load, Write, Locked, Transaction}
 use Rattle.snoop_bus.specs.declared.looking.CachedLine.{CachedLine}
 use Rattle.snoop_bus.proofs.AccessLemmas.{tag_here}
 use Rattle.snoop_bus.proofs.Numbers.{differ, itself}
@@ -12,37 +12,37 @@ neither copy false o = refl
 
 -- what the caches and memory have of a line is what is seen of it, where the bus doesn't keep it for its holder
 other_line : (caches : List Sets) (memory : List Words) (core here line : ℕ) (copy : Line) → core < length caches → 0 < length (cache_of caches core) →
-    AllCoherent (counting core here copy caches) memory → line < length memory → line ≢ here → current_words caches memory line ≡ current_words (counting core here copy caches) memory line
+    AllCoherent (with_counted_copy core here copy caches) memory → line < length memory → line ≢ here → current_words caches memory line ≡ current_words (with_counted_copy core here copy caches) memory line
 other_line caches memory core here line copy core_in some h within other =
-    seen_is caches memory line (current_words (counting core here copy caches) memory line)
-    (coherent_along _ _ (λ i. copy_at (counting core here copy caches) i line) (λ i. copy_at caches i line) same (h.each line within))
+    seen_is caches memory line (current_words (with_counted_copy core here copy caches) memory line)
+    (coherent_along _ _ (λ i. copy_at (with_counted_copy core here copy caches) i line) (λ i. copy_at caches i line) same (h.each line within))
   where
-    same : (i : ℕ) → copy_at caches i line ≡ copy_at (counting core here copy caches) i line
+    same : (i : ℕ) → copy_at caches i line ≡ copy_at (with_counted_copy core here copy caches) i line
     same i =
         let e : nat_eq line here ≡ false = differ line here other in
         let counts = rw e at (counting-at caches core here copy i line core_in some) in
         sym (counts ∙ neither copy (nat_eq i core) (copy_at caches i line))
 
 -- the copy that counts as the holder's
-kept_copy : (caches : List Sets) (core line : ℕ) (copy : Line) → core < length caches → 0 < length (cache_of caches core) → copy_at (counting core line copy caches) core line ≡ Some copy
+kept_copy : (caches : List Sets) (core line : ℕ) (copy : Line) → core < length caches → 0 < length (cache_of caches core) → copy_at (with_counted_copy core line copy caches) core line ≡ Some copy
 kept_copy caches core line copy core_in some = rw (itself core, itself line) at (counting-at caches core line copy core line core_in some)
 
 -- what is seen of a line: what the bus keeps of it, else what a cache has, else what memory has
-pub seen_words : (caches : List Sets) (memory : List Words) (held : Option HeldBus) (line : ℕ) → AllCoherent (counted held caches) memory → IfSome held (IsHeld caches memory) → line < length memory →
-    unwrap_or (option_or (kept_words held line) (words_among caches line)) (line_in memory line) ≡ current_words (counted held caches) memory line
+pub seen_words : (caches : List Sets) (memory : List Words) (held : Option HeldBus) (line : ℕ) → AllCoherent (counted_copies_of held caches) memory → IfSome held (IsHeld caches memory) → line < length memory →
+    unwrap_or (option_or (kept_words held line) (words_among caches line)) (line_in memory line) ≡ current_words (counted_copies_of held caches) memory line
 seen_words caches memory None line h a within = refl
 seen_words caches memory (Some held) line h a within = by_transaction held.transaction refl
   where
     by_transaction : (x : Option Transaction) → held.transaction ≡ x →
-        unwrap_or (option_or (kept_by held.line line x) (words_among caches line)) (line_in memory line) ≡ current_words (counted (Some held) caches) memory line
+        unwrap_or (option_or (kept_by held.line line x) (words_among caches line)) (line_in memory line) ≡ current_words (counted_copies_of (Some held) caches) memory line
     by_transaction None e = rw e refl
     by_transaction (Some x) e =
-        let counts : AllCoherent (counting held.holder.core.0 held.line x.copy caches) memory = rw e at h in
+        let counts : AllCoherent (with_counted_copy held.holder.core.0 held.line x.copy caches) memory = rw e at h in
         rw e
         (elim (eqb_tells held.line line) [
           | inl p ↦ rw p.0 (
               let kept = kept_copy caches held.holder.core.0 held.line x.copy a.core_in a.some_set in
-              let there : copy_at (counting held.holder.core.0 held.line x.copy caches) held.holder.core.0 line ≡ Some x.copy = subst (λ (n : ℕ). copy_at (counting held.holder.core.0 held.line x.copy caches) held.holder.core.0 n ≡ Some x.copy) p.1 kept in
+              let there : copy_at (with_counted_copy held.holder.core.0 held.line x.copy caches) held.holder.core.0 line ≡ Some x.copy = subst (λ (n : ℕ). copy_at (with_counted_copy held.holder.core.0 held.line x.copy caches) held.holder.core.0 n ≡ Some x.copy) p.1 kept in
               (counts.each line within).same held.holder.core.0 x.copy there)
           | inr p ↦ rw p.0 (other_line caches memory held.holder.core.0 held.line line x.copy a.core_in a.some_set counts within (λ e. p.1 (sym e)))
         ])
@@ -76,14 +76,14 @@ own_words Write x copy own awaits found = asked_words x.transient x.copy copy ow
 own_words Locked x copy own awaits found = absurd awaits
 
 -- it has the words that are seen of its line, also where its core waits for an upgrade
-pub copy_words : (caches : List Sets) (memory : List Words) (held : Option HeldBus) (core line : ℕ) (copy : Line) → AllCoherent (counted held caches) memory → IfSome held (IsHeld caches memory) →
-    copy_at caches core line ≡ Some copy → (line < length memory) × (copy.words ≡ current_words (counted held caches) memory line)
+pub copy_words : (caches : List Sets) (memory : List Words) (held : Option HeldBus) (core line : ℕ) (copy : Line) → AllCoherent (counted_copies_of held caches) memory → IfSome held (IsHeld caches memory) →
+    copy_at caches core line ≡ Some copy → (line < length memory) × (copy.words ≡ current_words (counted_copies_of held caches) memory line)
 copy_words caches memory None core line copy h a found =
     let within = in_memory caches memory core line copy h found in
     (within, (h.each line within).same core copy found)
 copy_words caches memory (Some held) core line copy h a found = by_transaction held.transaction refl
   where
-    by_transaction : (x : Option Transaction) → held.transaction ≡ x → (line < length memory) × (copy.words ≡ current_words (counted (Some held) caches) memory line)
+    by_transaction : (x : Option Transaction) → held.transaction ≡ x → (line < length memory) × (copy.words ≡ current_words (counted_copies_of (Some held) caches) memory line)
     by_transaction None e =
         let real : AllCoherent caches memory = rw e at h in
         let within = in_memory caches memory core line copy real found in
@@ -96,23 +96,23 @@ copy_words caches memory (Some held) core line copy h a found = by_transaction h
       ]
     ])
       where
-        counts : AllCoherent (counting held.holder.core.0 held.line x.copy caches) memory
+        counts : AllCoherent (with_counted_copy held.holder.core.0 held.line x.copy caches) memory
         counts = rw e at h
 
-        same : copy_at (counting held.holder.core.0 held.line x.copy caches) core line ≡ Some copy → (line < length memory) × (copy.words ≡ current_words (counting held.holder.core.0 held.line x.copy caches) memory line)
+        same : copy_at (with_counted_copy held.holder.core.0 held.line x.copy caches) core line ≡ Some copy → (line < length memory) × (copy.words ≡ current_words (with_counted_copy held.holder.core.0 held.line x.copy caches) memory line)
         same there =
-            let within = in_memory (counting held.holder.core.0 held.line x.copy caches) memory core line copy counts there in
+            let within = in_memory (with_counted_copy held.holder.core.0 held.line x.copy caches) memory core line copy counts there in
             (within, (counts.each line within).same core copy there)
 
-        other : nat_eq core held.holder.core.0 ≡ false → (line < length memory) × (copy.words ≡ current_words (counting held.holder.core.0 held.line x.copy caches) memory line)
+        other : nat_eq core held.holder.core.0 ≡ false → (line < length memory) × (copy.words ≡ current_words (with_counted_copy held.holder.core.0 held.line x.copy caches) memory line)
         other d = let there = rw d at (counting-at caches held.holder.core.0 held.line x.copy core line a.core_in a.some_set) in same (there ∙ found)
 
-        other_at : nat_eq line held.line ≡ false → (line < length memory) × (copy.words ≡ current_words (counting held.holder.core.0 held.line x.copy caches) memory line)
+        other_at : nat_eq line held.line ≡ false → (line < length memory) × (copy.words ≡ current_words (with_counted_copy held.holder.core.0 held.line x.copy caches) memory line)
         other_at d =
             let there = rw d at (counting-at caches held.holder.core.0 held.line x.copy core line a.core_in a.some_set) in
             same (there ∙ neither x.copy (nat_eq core held.holder.core.0) (copy_at caches core line) ∙ found)
 
-        own : core ≡ held.holder.core.0 → line ≡ held.line → (line < length memory) × (copy.words ≡ current_words (counting held.holder.core.0 held.line x.copy caches) memory line)
+        own : core ≡ held.holder.core.0 → line ≡ held.line → (line < length memory) × (copy.words ≡ current_words (with_counted_copy held.holder.core.0 held.line x.copy caches) memory line)
         own p q =
             let kept = kept_copy caches held.holder.core.0 held.line x.copy a.core_in a.some_set in
             let words = own_words held.holder.stage x copy (copy_at caches held.holder.core.0 held.line) (rw e at a.awaits) (rw (← p, ← q) found) in
@@ -121,7 +121,7 @@ copy_words caches memory (Some held) core line copy h a found = by_transaction h
 -- so what is found in a set has the words that a program sees
 pub found_words : (shape : Geometry) (locations : ℕ) (caches : List Sets) (memory : List Words) (held : Option HeldBus) (core set : ℕ) (r : Option (ℕ × Line)) (s : Contents) →
     IsBus shape locations caches memory held → AtHome (cache_of caches core) → set < length (cache_of caches core) → s ≡ slice_index_or (cache_of caches core) set (contents [] 1) →
-    IfSome r (λ x. copy_of s x.0 ≡ Some x.1) → IfSome r (λ x. x.1.words ≡ line_of_words shape.words (program_words shape locations (counted held caches) memory) x.0)
+    IfSome r (λ x. copy_of s x.0 ≡ Some x.1) → IfSome r (λ x. x.1.words ≡ line_of_words shape.words (program_words shape locations (counted_copies_of held caches) memory) x.0)
 found_words shape locations caches memory held core set None s bus home within is found = tt
 found_words shape locations caches memory held core set (Some x) s bus home within is found =
     let here = at_home caches core set x.0 x.1 home within (rw is at found) in
@@ -150,7 +150,7 @@ line_ranked words core set rank seen caches r found same =
     with_seen None same = refl
     with_seen (Some x) same = ap (λ ws. Some (record { line = x.0; state = x.1.state; words = ws })) same
 
-dirty_here : (o : Option Line) → is_dirty (or_invalid (option_map (λ (copy : Line). copy.state) o)) ≡ false → is_dirty (state_of o) ≡ false
+dirty_here : (o : Option Line) → is_dirty (or_invalid (option_map (λ (copy : Line). copy.state) o)) ≡ false → is_dirty (state_of_copy o) ≡ false
 dirty_here None h = refl
 dirty_here (Some copy) h = h
 

@@ -1,5 +1,5 @@
 -- A new bus, and what holds of a bus from one access to the next.
-use Rattle.snoop_bus.proofs.Vocabulary.{arith, ◌≡◌, ◌⊎◌, inl, inr, ℕ, zero, suc, ◌+◌, ◌*◌, ◌/◌, ◌<◌, ◌≤◌, ◌%◌, nat_lt, true, Option, None, IfSome, List, [], ◌∷◌, length, map, replicate, slice_index, slice_index_or, refl, sym, ap, ◌∙◌, div_ceil, length-map, length-map-range_with_len, get_or-map-range_with_len, fill_by_all, div-add-mod', mod_below, mul-le, cases_lt, nat_tests, get_or-map, Contents, contents, copy_of, Table, most_words, most_cores, Geometry, Words, line_in, word_at, words_in, offset_of, line_of_words, lines_of_words, Coherent, Sets, copy_in, copy_at, cache_of, ways_of, AtHome, current_words, AllCoherent, empty_caches, HasWholeLines, IsBus, Updated, Hierarchy, HeldBus, counted, IsHeld, IsPlaced, KeepsWords, SetsWord, Updates}
+use Rattle.snoop_bus.proofs.Vocabulary.{arith, ◌≡◌, ◌⊎◌, inl, inr, ℕ, zero, suc, ◌+◌, ◌*◌, ◌/◌, ◌<◌, ◌≤◌, ◌%◌, nat_lt, true, Option, None, IfSome, List, [], ◌∷◌, length, map, replicate, slice_index, slice_index_or, refl, sym, ap, ◌∙◌, div_ceil, length-map, length-map-range_with_len, get_or-map-range_with_len, fill_by_all, div-add-mod', mod_below, mul-le, cases_lt, nat_tests, get_or-map, Contents, contents, copy_of, Table, most_words, most_cores, Geometry, Words, line_in, word_in_lines, words_in_lines, offset_of, line_of_words, lines_of_words, Coherent, Sets, copy_in, copy_at, cache_of, ways_of, AtHome, current_words, AllCoherent, empty_caches, HasWholeLines, IsBus, Updated, Hierarchy, HeldBus, counted_copies_of, IsHeld, IsPlaced, KeepsWords, SetsWord, Updates}
 use Rattle.snoop_bus.proofs.CurrentWords.{seen_is, all_coherent}
 use Rattle.snoop_bus.proofs.LineLemmas.{lines-same, lines-set}
 use Rattle.snoop_bus.proofs.WordLemmas.{words-same, line_below}
@@ -51,10 +51,10 @@ new-line cores shape w k = record {
 }
 
 -- the lines of these words have these words
-lines-of_words : (words lines : ℕ) (init : List ℕ) → 0 < words → words ≤ most_words → length init ≤ lines * words → words_in words (line_in (lines_of_words words init lines)) (length init) ≡ init
-lines-of_words words lines init some few enough = sym (fill_by_all (word_at words (line_in (lines_of_words words init lines))) init (length init) 0 refl each)
+lines-of_words : (words lines : ℕ) (init : List ℕ) → 0 < words → words ≤ most_words → length init ≤ lines * words → words_in_lines words (line_in (lines_of_words words init lines)) (length init) ≡ init
+lines-of_words words lines init some few enough = sym (fill_by_all (word_in_lines words (line_in (lines_of_words words init lines))) init (length init) 0 refl each)
   where
-    each : (i : ℕ) → i < length init → slice_index_or init i 0 ≡ word_at words (line_in (lines_of_words words init lines)) i
+    each : (i : ℕ) → i < length init → slice_index_or init i 0 ≡ word_in_lines words (line_in (lines_of_words words init lines)) i
     each i b =
         let line : line_in (lines_of_words words init lines) (i / words) ≡ line_of_words words init (i / words) =
         get_or-map-range_with_len (line_of_words words init) 0 lines (i / words) (i / words) [] (line_below words (length init) lines i some enough b) (omega arith) in
@@ -65,7 +65,7 @@ lines-of_words words lines init some few enough = sym (fill_by_all (word_at word
         sym (ap (λ (w : Words). slice_index w (i % words)) line ∙ offset ∙ rw (yes, div-add-mod' i words) refl)
 
 pub new-words : (words lines cores : ℕ) (shape : Geometry) (init : List ℕ) → 0 < words → words ≤ most_words → length init ≤ lines * words →
-    words_in words (current_words (empty_caches cores shape) (lines_of_words words init lines)) (length init) ≡ init
+    words_in_lines words (current_words (empty_caches cores shape) (lines_of_words words init lines)) (length init) ≡ init
 new-words words lines cores shape init some few enough =
     let memory : List Words = lines_of_words words init lines in
     words-same words (length init) (length memory) (line_in memory) (current_words (empty_caches cores shape) memory) some
@@ -116,8 +116,8 @@ new-bus cores lines shape init some few words small locations enough close exact
 pub same_cores : (c0 c2 : List Sets) → ways_of c2 ≡ ways_of c0 → length c2 ≡ length c0
 same_cores c0 c2 same = sym (length-map c2 (map (λ (s : Contents). s.ways))) ∙ ap length same ∙ length-map c0 (map (λ (s : Contents). s.ways))
 
-pub bus-after : (shape : Geometry) (locations : ℕ) (old new : Hierarchy) (h0 h2 : Option HeldBus) → IsBus shape locations old.caches.items old.memory.items h0 → length new.memory.items ≡ length old.memory.items → AllCoherent (counted h2 new.caches.items) new.memory.items → ways_of new.caches.items ≡ ways_of old.caches.items →
-    HasWholeLines shape locations (counted h2 new.caches.items) new.memory.items → IfSome h2 (IsHeld new.caches.items new.memory.items) → IfSome h2 (IsPlaced shape locations) → IsBus shape locations new.caches.items new.memory.items h2
+pub bus-after : (shape : Geometry) (locations : ℕ) (old new : Hierarchy) (h0 h2 : Option HeldBus) → IsBus shape locations old.caches.items old.memory.items h0 → length new.memory.items ≡ length old.memory.items → AllCoherent (counted_copies_of h2 new.caches.items) new.memory.items → ways_of new.caches.items ≡ ways_of old.caches.items →
+    HasWholeLines shape locations (counted_copies_of h2 new.caches.items) new.memory.items → IfSome h2 (IsHeld new.caches.items new.memory.items) → IfSome h2 (IsPlaced shape locations) → IsBus shape locations new.caches.items new.memory.items h2
 bus-after shape locations old new h0 h2 h size coherent ways lines awaited placed = record {
   coherent = coherent;
   lines = lines;
@@ -134,23 +134,23 @@ bus-after shape locations old new h0 h2 h size coherent ways lines awaited place
 }
 
 -- a bus whose words stay
-pub bus-kept : (shape : Geometry) (locations : ℕ) (old new : Hierarchy) (h0 h2 : Option HeldBus) → IsBus shape locations old.caches.items old.memory.items h0 → length new.memory.items ≡ length old.memory.items → KeepsWords (counted h0 old.caches.items) (counted h2 new.caches.items) old.memory.items new.memory.items →
+pub bus-kept : (shape : Geometry) (locations : ℕ) (old new : Hierarchy) (h0 h2 : Option HeldBus) → IsBus shape locations old.caches.items old.memory.items h0 → length new.memory.items ≡ length old.memory.items → KeepsWords (counted_copies_of h0 old.caches.items) (counted_copies_of h2 new.caches.items) old.memory.items new.memory.items →
     ways_of new.caches.items ≡ ways_of old.caches.items → IfSome h2 (IsHeld new.caches.items new.memory.items) → IfSome h2 (IsPlaced shape locations) → IsBus shape locations new.caches.items new.memory.items h2
 bus-kept shape locations old new h0 h2 h size keeps ways awaited placed = bus-after shape locations old new h0 h2 h size keeps.coherent ways
-    (λ k b. lines-same shape.words locations (length old.memory.items) (current_words (counted h0 old.caches.items) old.memory.items) (current_words (counted h2 new.caches.items) new.memory.items) h.some_word h.enough_lines keeps.words h.lines k (rw size at b)) awaited placed
+    (λ k b. lines-same shape.words locations (length old.memory.items) (current_words (counted_copies_of h0 old.caches.items) old.memory.items) (current_words (counted_copies_of h2 new.caches.items) new.memory.items) h.some_word h.enough_lines keeps.words h.lines k (rw size at b)) awaited placed
 
 -- a bus once a word was written, where nobody holds it then
 pub bus-set : (shape : Geometry) (locations : ℕ) (old new : Hierarchy) (h0 : Option HeldBus) (loc value : ℕ) → IsBus shape locations old.caches.items old.memory.items h0 → length new.memory.items ≡ length old.memory.items → loc < locations →
-    SetsWord (loc / shape.words) (loc % shape.words) value (counted h0 old.caches.items) new.caches.items old.memory.items new.memory.items → ways_of new.caches.items ≡ ways_of old.caches.items → IsBus shape locations new.caches.items new.memory.items None
+    SetsWord (loc / shape.words) (loc % shape.words) value (counted_copies_of h0 old.caches.items) new.caches.items old.memory.items new.memory.items → ways_of new.caches.items ≡ ways_of old.caches.items → IsBus shape locations new.caches.items new.memory.items None
 bus-set shape locations old new h0 loc value h size within sets ways = bus-after shape locations old new h0 None h size sets.coherent ways
-    (λ k b. lines-set shape.words locations (length old.memory.items) (current_words (counted h0 old.caches.items) old.memory.items) (current_words new.caches.items new.memory.items) loc value h.some_word h.enough_lines within sets.offset_in sets.lines h.lines k (rw size at b)) tt tt
+    (λ k b. lines-set shape.words locations (length old.memory.items) (current_words (counted_copies_of h0 old.caches.items) old.memory.items) (current_words new.caches.items new.memory.items) loc value h.some_word h.enough_lines within sets.offset_in sets.lines h.lines k (rw size at b)) tt tt
 
 -- a bus once a write access was made
 pub bus-written : (t : Table) (held : Option HeldBus) (x : Updated) (shape : Geometry) (locations : ℕ) (old new : Hierarchy) (core loc : ℕ) →
-    IsBus shape locations old.caches.items old.memory.items held → length new.memory.items ≡ length old.memory.items → loc < locations → AllCoherent (counted held new.caches.items) new.memory.items → IfSome held (IsHeld new.caches.items new.memory.items) → ways_of new.caches.items ≡ ways_of old.caches.items →
+    IsBus shape locations old.caches.items old.memory.items held → length new.memory.items ≡ length old.memory.items → loc < locations → AllCoherent (counted_copies_of held new.caches.items) new.memory.items → IfSome held (IsHeld new.caches.items new.memory.items) → ways_of new.caches.items ≡ ways_of old.caches.items →
     Updates t held core (loc / shape.words) (loc % shape.words) old.caches.items new.caches.items old.memory.items new.memory.items x → IsBus shape locations new.caches.items new.memory.items held
 bus-written t held x shape locations old new core loc h size within coherent awaited ways writes = bus-after shape locations old new held held h size coherent ways
-    (λ k b. lines-set shape.words locations (length old.memory.items) (current_words (counted held old.caches.items) old.memory.items) (current_words (counted held new.caches.items) new.memory.items) loc x.after h.some_word h.enough_lines within writes.offset_in writes.lines h.lines k (rw size at b)) awaited h.placed
+    (λ k b. lines-set shape.words locations (length old.memory.items) (current_words (counted_copies_of held old.caches.items) old.memory.items) (current_words (counted_copies_of held new.caches.items) new.memory.items) loc x.after h.some_word h.enough_lines within writes.offset_in writes.lines h.lines k (rw size at b)) awaited h.placed
 
 -- each core has as many sets as the shape says
 pub cache-sets : (shape : Geometry) (locations : ℕ) (caches : List Sets) (memory : List Words) (held : Option HeldBus) (core : ℕ) → IsBus shape locations caches memory held → core < length caches → length (cache_of caches core) ≡ shape.sets

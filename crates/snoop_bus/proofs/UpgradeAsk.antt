@@ -1,14 +1,14 @@
 -- An ask for a write access to a line that the core has.
-use Rattle.snoop_bus.proofs.Vocabulary.{◌≡◌, ◌⊎◌, inl, inr, ℕ, ◌<◌, Bool, true, false, not, IsTrue, IsSome, is_some, Option, Some, None, option_map, List, length, refl, sym, ap, ◌∙◌, Core, Loc, Table, transient_of, State, M, GetS, GetM, Transient, IsD, ImD, Line, copy_with, Words, state_of, TagSets, requested, Sets, copy_at, cache_of, tags_of, ways_of, current_words, HeldBus, Transaction, Stage, Load, Write, stage_for, Awaits, IsHeld, held_by, hits, hit_in, request_for, asked_for, asked_caches, or_invalid, transacting, transaction_of}
+use Rattle.snoop_bus.proofs.Vocabulary.{◌≡◌, ◌⊎◌, inl, inr, ℕ, ◌<◌, Bool, true, false, not, IsTrue, IsSome, is_some, Option, Some, None, option_map, List, length, refl, sym, ap, ◌∙◌, Core, Loc, Table, transient_of, State, M, GetS, GetM, Transient, IsD, ImD, Line, copy_with, Words, state_of_copy, TagSets, requested, Sets, copy_at, cache_of, tags_of, ways_of, current_words, HeldBus, Transaction, Stage, Load, Write, stage_for, Awaits, IsHeld, held_by, hits, hit_in, request_for, asked_for, asked_caches, or_invalid, transacting, transaction_of}
 use Rattle.snoop_bus.proofs.NewLemmas.{same_cores}
 use Rattle.snoop_bus.proofs.AccessLemmas.{tag_here}
 use Rattle.snoop_bus.proofs.HeldLemmas.{same_sets}
 
 -- what is asked for goes by the core's own copy
-pub asked_by-copy : (caches : List Sets) (core line : ℕ) → asked_for GetM core line (tags_of caches) ≡ transient_of (state_of (copy_at caches core line)) GetM
+pub asked_by-copy : (caches : List Sets) (core line : ℕ) → asked_for GetM core line (tags_of caches) ≡ transient_of (state_of_copy (copy_at caches core line)) GetM
 asked_by-copy caches core line = ap (λ (o : Option State). transient_of (or_invalid o) GetM) (tag_here caches core line) ∙ by_copy (copy_at caches core line)
   where
-    by_copy : (o : Option Line) → transient_of (or_invalid (option_map (λ copy. copy.state) o)) GetM ≡ transient_of (state_of o) GetM
+    by_copy : (o : Option Line) → transient_of (or_invalid (option_map (λ copy. copy.state) o)) GetM ≡ transient_of (state_of_copy o) GetM
     by_copy None = refl
     by_copy (Some copy) = refl
 

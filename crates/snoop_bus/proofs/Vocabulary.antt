@@ -4,15 +4,15 @@ pub use Rattle.std.proofs.Common.{arith, ◌≡◌, ◌≢◌, ◌⊎◌, inl, i
 pub use Rattle.protocol_tables.specs.declared.state.State.{State}
 pub use Rattle.protocol_tables.specs.declared.state.State.TheVariants.{I, S, E, O, M}
 pub use Rattle.protocol_tables.specs.Tables.{Table, snoop}
-pub use Rattle.snoop_bus.specs.Rows.{column, entry_at, rows_of, filled_in, table_of_rows}
+pub use Rattle.snoop_bus.specs.Rows.{table_column, column_entry, rows_of, filled_in, table_of_rows}
 pub use Rattle.std.proofs.lemmas.Bool.{cases_eq, cases_lt}
 pub use Rattle.protocol_tables.specs.Laws.{is_dirty, in_place, WritesInPlace}
 pub use Rattle.protocol_tables.specs.inner.Laws.{Shares, CleansByMemory, MayBecome, WritesBackDirty, Supplies, FillsExclusiveOnlyAlone, GivesUp}
 pub use Rattle.protocol_tables.specs.declared.state.Snoop.{Snoop}
 pub use Rattle.cache_set.specs.declared.Line.{Line}
-pub use Rattle.snoop_bus.specs.Lines.{Words, line_in, word_at, words_in, offset_of, line_of_words, lines_of_words}
-pub use Rattle.snoop_bus.specs.Coherent.{state_of, may_share, Coherent}
-pub use Rattle.snoop_bus.specs.inner.Requests.{copy_if, left_by, next_in, answered, answered_in, SeenBelow, answered_if, SeenAt, LeftAt, LeftBelow, LeftByOthers, supplied_of, Supplied, ChangesCopy, clean_copy, words_if_dirty, cleaned_at, cleaned_below, clean_tag_at, clean_tag_below, left_if}
+pub use Rattle.snoop_bus.specs.Lines.{Words, line_in, word_in_lines, words_in_lines, offset_of, line_of_words, lines_of_words}
+pub use Rattle.snoop_bus.specs.Coherent.{state_of_copy, may_share, Coherent}
+pub use Rattle.snoop_bus.specs.inner.Requests.{copy_if, copy_left_by, with_next_state, after_request, after_request_in, SeenBelow, after_request_if, SeenAt, LeftAt, LeftBelow, LeftByOthers, supplied_of, Supplied, ChangesCopy, clean_copy, words_if_dirty, cleaned_at, cleaned_below, clean_tag_at, clean_tag_below, copy_left_if}
 pub use Rattle.std.proofs.lemmas.List.{get_or-set_same, get_or-set_other, take-map, map-set, set-get_or, length-map, ext_get_or, set-set, length-set, get_or_past, drop_more, get_or_default, with_items_is, replicate_more, take_all, drop_all, append-nil}
 pub use Rattle.snoop_bus.specs.Copies.{Sets, copy_in, copy_at, cache_of, tags_of, tags_in, set_at, in_set}
 pub use Rattle.snoop_bus.specs.Bus.{current_words, words_among, AllCoherent, empty_caches, bus_with, BusModel, words_of, holder_of, program_words, IsSameMachine, IsFree, IsCoherent, cores_of}
@@ -29,7 +29,7 @@ pub use Rattle.snoop_bus.specs.Tags.{tag_set, tag_of, used, filled, leaving, res
 pub use Rattle.std.specs.List.{list_any, range_with_len}
 pub use Rattle.std.proofs.Math.ListN.{get_or-map}
 pub use Rattle.std.proofs.Math.Seq.{map-set_same, drop-cons, drop-length}
-pub use Rattle.snoop_bus.specs.inner.Copies.{ways_of, OnlyAt, AtHome, emptied, state_in}
+pub use Rattle.snoop_bus.specs.inner.Copies.{ways_of, OnlyAt, AtHome, emptied, copy_state_in}
 pub use Rattle.std.specs.Option.{option_or, option_copied}
 pub use Rattle.tso_model.specs.declared.instruction.Core.{Core}
 pub use Rattle.tso_model.specs.Limits.{most_cores}
@@ -46,7 +46,7 @@ pub use Rattle.snoop_bus.specs.inner.Bus.{HasWholeLines, IsBus}
 pub use Rattle.snoop_bus.specs.declared.access.Updated.{Updated}
 pub use Rattle.snoop_bus.specs.declared.hierarchy.Hierarchy.{Hierarchy}
 pub use Rattle.snoop_bus.specs.declared.holding.HeldBus.{HeldBus}
-pub use Rattle.snoop_bus.specs.Held.{counted, with_copy, counting, stage_for, holder, holder_in, counted_in}
+pub use Rattle.snoop_bus.specs.Held.{counted_copies_of, with_copy, with_counted_copy, stage_for, holder, holder_in, counted_in}
 pub use Rattle.snoop_bus.specs.inner.Held.{IsHeld, IsPlaced, Awaits, held_by, AskedOf, kept_by, kept_words}
 pub use Rattle.snoop_bus.specs.inner.Accessing.{KeepsWords, SetsWord, Updates, IsReady, Acquires, Loads, Writes}
 pub use Rattle.snoop_bus.specs.declared.access.Access.{Access}
@@ -61,8 +61,8 @@ pub use Rattle.snoop_bus.specs.declared.holding.Transaction.{Transaction}
 pub use Rattle.snoop_bus.specs.declared.holding.Stage.{Stage}
 pub use Rattle.snoop_bus.specs.declared.holding.Stage.TheVariants.{Load, Write, Locked}
 pub use Rattle.snoop_bus.specs.inner.Accesses.{StandsAlone, MayGoOn, ranked_in, IsClean}
-pub use Rattle.snoop_bus.specs.Accesses.{IsCurrentWord, CompletesAt, new_bus, LoadsAt, WritesAt, KeepsHolder, AsksFor, contents_of, line_of, load_of, write_of, would_hit, ask_of, completion_of, with_words}
+pub use Rattle.snoop_bus.specs.Accesses.{IsCurrentWord, CompletesAt, new_bus, LoadsAt, WritesAt, KeepsHolder, AsksFor, contents_of, line_of_location, load_of, write_of, would_hit, ask_of, completion_of, with_words}
 pub use Rattle.snoop_bus.specs.inner.Completing.{words_due, Completes, completion_at}
 pub use Rattle.std.proofs.lemmas.Grind.{div_ceil_times}
 pub use Rattle.std.proofs.lemmas.List.Edits.{map_over_more}
-pub use Rattle.snoop_bus.specs.Requests.{asked}
+pub use Rattle.snoop_bus.specs.Requests.{snoop_column}

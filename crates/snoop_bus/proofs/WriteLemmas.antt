@@ -1,11 +1,11 @@
 -- A write access, from what each of its steps gives.
-use Rattle.snoop_bus.proofs.Vocabulary.{◌≡◌, ◌≢◌, ℕ, ◌<◌, ◌&&◌, Bool, true, false, nat_eq, Option, Some, None, option_map, List, length, slice_set, refl, ap, ◌∙◌, if◌then◌else◌, in_place, GivesUp, State, I, S, E, O, M, Snoop, Line, copy_with, with_state, with_word, Words, line_in, Coherent, Sets, copy_at, current_words, AllCoherent, copy_if, left_by, ChangesCopy}
+use Rattle.snoop_bus.proofs.Vocabulary.{◌≡◌, ◌≢◌, ℕ, ◌<◌, ◌&&◌, Bool, true, false, nat_eq, Option, Some, None, option_map, List, length, slice_set, refl, ap, ◌∙◌, if◌then◌else◌, in_place, GivesUp, State, I, S, E, O, M, Snoop, Line, copy_with, with_state, with_word, Words, line_in, Coherent, Sets, copy_at, current_words, AllCoherent, copy_if, copy_left_by, ChangesCopy}
 use Rattle.snoop_bus.proofs.Numbers.{differ, itself}
 use Rattle.snoop_bus.proofs.Coherence.{alone}
 use Rattle.snoop_bus.proofs.OwnLemmas.{Owned}
 
 -- GetM leaves no copy
-pub gives_up : (on : State → Snoop) → GivesUp on → (o : Option Line) → left_by on o ≡ None
+pub gives_up : (on : State → Snoop) → GivesUp on → (o : Option Line) → copy_left_by on o ≡ None
 gives_up on law None = refl
 gives_up on law (Some copy) = ap (λ (s : State). copy_if s copy.words) (law copy.state).0
 

@@ -37,27 +37,27 @@ abbrev pub memory_of : BusModel → List Words
 memory_of b = b.memory
 
 -- the line in which a location lies
-abbrev pub line_of : BusModel → ℕ → ℕ
-line_of b loc = loc / b.shape.words
+abbrev pub line_of_location : BusModel → ℕ → ℕ
+line_of_location b loc = loc / b.shape.words
 
 -- a core's load at a location: what access it is, and the contents after it
 abbrev pub load_of : BusModel → ℕ → ℕ → Accessed
-load_of b core loc = loaded (table_of_rows b.rows) core (line_of b loc) (contents_of b)
+load_of b core loc = loaded (table_of_rows b.rows) core (line_of_location b loc) (contents_of b)
 
 -- a core's write access at a location
 abbrev pub write_of : BusModel → ℕ → ℕ → Accessed
-write_of b core loc = written (table_of_rows b.rows) core (line_of b loc) (contents_of b)
+write_of b core loc = written (table_of_rows b.rows) core (line_of_location b loc) (contents_of b)
 
 -- memory after each of them
 abbrev pub memory_after_load : BusModel → ℕ → ℕ → List Words
-memory_after_load b core loc = loaded_memory (table_of_rows b.rows) core (line_of b loc) b.caches b.memory
+memory_after_load b core loc = loaded_memory (table_of_rows b.rows) core (line_of_location b loc) b.caches b.memory
 
 abbrev pub memory_after_write : BusModel → ℕ → ℕ → List Words
-memory_after_write b core loc = written_memory (table_of_rows b.rows) core (line_of b loc) b.caches b.memory
+memory_after_write b core loc = written_memory (table_of_rows b.rows) core (line_of_location b loc) b.caches b.memory
 
 -- whether a core's access at a location is a hit, which needs no bus
 abbrev pub would_hit : BusModel → ℕ → ℕ → Bool → Bool
-would_hit b core loc write = hits (table_of_rows b.rows) core (line_of b loc) write (contents_of b)
+would_hit b core loc write = hits (table_of_rows b.rows) core (line_of_location b loc) write (contents_of b)
 
 -- the word that a program sees at a location
 abbrev pub IsCurrentWord : BusModel → ℕ → ℕ → Type 0
@@ -69,17 +69,17 @@ awaited_of b = awaited_in (transaction_in b.held)
 
 -- the first half of a core's access at a location: what it awaits, the contents after it, and memory after it
 abbrev pub ask_of : BusModel → ℕ → ℕ → Bool → AskedAccess
-ask_of b core loc write = asking (table_of_rows b.rows) (request_for write) core (line_of b loc) (contents_of b)
+ask_of b core loc write = asking (table_of_rows b.rows) (request_for write) core (line_of_location b loc) (contents_of b)
 
 abbrev pub memory_after_ask : BusModel → ℕ → Bool → List Words
-memory_after_ask b loc write = asked_memory (table_of_rows b.rows) (request_for write) (line_of b loc) b.caches b.memory
+memory_after_ask b loc write = asked_memory (table_of_rows b.rows) (request_for write) (line_of_location b loc) b.caches b.memory
 
 -- the second half: what access it is, the contents after it, and memory after it
 abbrev pub completion_of : BusModel → ℕ → ℕ → Accessed
-completion_of b core loc = completed (table_of_rows b.rows) core (line_of b loc) (awaited_of b) (contents_of b)
+completion_of b core loc = completed (table_of_rows b.rows) core (line_of_location b loc) (awaited_of b) (contents_of b)
 
 abbrev pub memory_after_completion : BusModel → ℕ → ℕ → List Words
-memory_after_completion b core loc = completed_memory (table_of_rows b.rows) core (line_of b loc) (awaited_of b) b.caches b.memory
+memory_after_completion b core loc = completed_memory (table_of_rows b.rows) core (line_of_location b loc) (awaited_of b) b.caches b.memory
 
 -- who holds the bus, and what is awaited, is as it was
 pub record KeepsHolder (old new : BusModel) : Type 0 where

@@ -17,7 +17,7 @@ use Rattle.snoop_bus.specs.Lines.{Words}
 use Rattle.snoop_bus.specs.CacheContents.{TagSets, tag_in, sets_of, requested, is_held, flusher_from, writes_back}
 use Rattle.snoop_bus.specs.CacheContents.{used_by, filled_by, Accessed, accessed, loaded, written}
 use Rattle.snoop_bus.specs.Copies.{Sets}
-use Rattle.snoop_bus.specs.Requests.{asked}
+use Rattle.snoop_bus.specs.Requests.{snoop_column}
 use Rattle.snoop_bus.specs.MemoryAfter.{written_back, flushed, sent_words, victim_at}
 
 -- the state of a core's line, if it has it
@@ -69,7 +69,7 @@ awaiting t request line caches transient =
 
 abbrev pub asked_caches_in : Table → Request → ℕ → ℕ → Option Transient → List TagSets → List TagSets
 asked_caches_in t request core line None caches = caches
-asked_caches_in t request core line (Some x) caches = requested (asked t request) core line caches
+asked_caches_in t request core line (Some x) caches = requested (snoop_column t request) core line caches
 
 -- all caches after an ask: the others have seen the request, if there is one
 abbrev pub asked_caches : Table → Request → ℕ → ℕ → List TagSets → List TagSets

@@ -6,18 +6,18 @@ use Rattle.std.specs.Option.{option_or}
 use Rattle.cache_set.specs.Contents.{contents}
 use Rattle.snoop_bus.specs.Geometry.{Geometry}
 use Rattle.protocol_tables.specs.Tables.{Table}
-use Rattle.snoop_bus.specs.Rows.{Rows, rows_of}
-use Rattle.snoop_bus.specs.Lines.{Words, line_in, words_in}
+use Rattle.snoop_bus.specs.Rows.{TableColumns, rows_of}
+use Rattle.snoop_bus.specs.Lines.{Words, line_in, words_in_lines}
 use Rattle.snoop_bus.specs.Copies.{Sets, copy_in, copy_at}
 use Rattle.snoop_bus.specs.Coherent.{Coherent}
-use Rattle.snoop_bus.specs.Held.{counted, holder_in}
+use Rattle.snoop_bus.specs.Held.{counted_copies_of, holder_in}
 use Rattle.snoop_bus.specs.declared.holding.BusAction.{BusAction}
 use Rattle.snoop_bus.specs.declared.holding.HeldBus.{HeldBus}
 
 -- the rows of the protocol's table, the shape of the caches, how many locations there are, the sets of each core's
 -- cache with the copies in them, the lines in memory, and the action that holds the bus, if one does
 pub record BusModel : Type 0 where
-  pub rows : Rows
+  pub rows : TableColumns
   pub shape : Geometry
   pub locations : ℕ
   pub caches : List Sets
@@ -40,11 +40,11 @@ current_words caches memory line = unwrap_or (words_among caches line) (line_in 
 
 -- the words that a program sees, one for each of so many locations
 abbrev pub program_words : Geometry → ℕ → List Sets → List Words → List ℕ
-program_words shape locations caches memory = words_in shape.words (current_words caches memory) locations
+program_words shape locations caches memory = words_in_lines shape.words (current_words caches memory) locations
 
 -- the copies that count: those of the caches, and the words that the bus keeps as its holder's
 abbrev pub counted_copies : BusModel → List Sets
-counted_copies b = counted b.held b.caches
+counted_copies b = counted_copies_of b.held b.caches
 
 -- the words that a program sees of a bus, one for each location
 abbrev pub words_of : BusModel → List ℕ

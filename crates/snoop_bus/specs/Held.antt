@@ -18,17 +18,17 @@ abbrev pub with_copy : ℕ → Line → Contents → Contents
 with_copy line copy s = contents ((line, copy) ∷ s.copies) s.ways
 
 -- all caches, where this copy of a line counts as a core's own
-abbrev pub counting : ℕ → ℕ → Line → List Sets → List Sets
-counting core line copy caches = slice_set caches core (in_set line (with_copy line copy) (cache_of caches core))
+abbrev pub with_counted_copy : ℕ → ℕ → Line → List Sets → List Sets
+with_counted_copy core line copy caches = slice_set caches core (in_set line (with_copy line copy) (cache_of caches core))
 
 abbrev pub counted_in : ℕ → ℕ → Option Transaction → List Sets → List Sets
 counted_in core line None caches = caches
-counted_in core line (Some x) caches = counting core line x.copy caches
+counted_in core line (Some x) caches = with_counted_copy core line x.copy caches
 
 -- the copies that count: those of the caches, and the words that the bus keeps as the holder's
-abbrev pub counted : Option HeldBus → List Sets → List Sets
-counted None caches = caches
-counted (Some h) caches = counted_in h.holder.core.0 h.line h.transaction caches
+abbrev pub counted_copies_of : Option HeldBus → List Sets → List Sets
+counted_copies_of None caches = caches
+counted_copies_of (Some h) caches = counted_in h.holder.core.0 h.line h.transaction caches
 
 -- whose action holds the bus, if one does
 abbrev pub holder_in : Option HeldBus → Option BusAction

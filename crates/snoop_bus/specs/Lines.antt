@@ -13,12 +13,12 @@ abbrev pub line_in : List Words → ℕ → Words
 line_in memory line = slice_index_or memory line []
 
 -- the word of a location, where the lines are these
-abbrev pub word_at : ℕ → (ℕ → Words) → ℕ → ℕ
-word_at words lines loc = slice_index (lines (loc / words)) (loc % words)
+abbrev pub word_in_lines : ℕ → (ℕ → Words) → ℕ → ℕ
+word_in_lines words lines loc = slice_index (lines (loc / words)) (loc % words)
 
 -- the words of so many locations
-abbrev pub words_in : ℕ → (ℕ → Words) → ℕ → List ℕ
-words_in words lines locations = map (word_at words lines) (range_with_len 0 locations)
+abbrev pub words_in_lines : ℕ → (ℕ → Words) → ℕ → List ℕ
+words_in_lines words lines locations = map (word_in_lines words lines) (range_with_len 0 locations)
 
 -- the word at an offset in a line, where the locations have these words: 0 past the line's words, and past the last location
 abbrev pub offset_of : ℕ → List ℕ → ℕ → ℕ → ℕ

@@ -7,6 +7,6 @@ use Rattle.protocol_tables.specs.declared.requests.Request.{Request}
 use Rattle.protocol_tables.specs.declared.requests.Request.TheVariants.{GetS, GetM}
 
 -- a column of the protocol's table
-abbrev pub asked : Table → Request → State → Snoop
-asked t GetS = t.on_get_s
-asked t GetM = t.on_get_m
+abbrev pub snoop_column : Table → Request → State → Snoop
+snoop_column t GetS = t.on_get_s
+snoop_column t GetM = t.on_get_m

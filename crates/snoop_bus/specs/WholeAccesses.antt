@@ -28,7 +28,7 @@ pub record WritesInHalves (old between new : BusModel) (core : Core) (loc : Loc)
   pub words : words_of new ≡ slice_set (words_of between) loc.0 word
 
 -- two ways were the same access and left the same: the words that are seen, memory, and the lines and states
-pub record LeaveTheSame (one two : BusModel) (a b : Access) : Type 0 where
+pub record AccessesLeaveTheSame (one two : BusModel) (a b : Access) : Type 0 where
   pub access : a ≡ b
   pub words : words_of one ≡ words_of two
   pub memory : memory_of one ≡ memory_of two
@@ -37,7 +37,7 @@ pub record LeaveTheSame (one two : BusModel) (a b : Access) : Type 0 where
 -- a load that doesn't hit, on a bus that nobody holds: whole, and in halves, it answers the same word and leaves the same
 pub record LoadsAgree (whole new : BusModel) (word other : ℕ) (a b : Access) : Type 0 where
   pub answers : word ≡ other
-  pub same : LeaveTheSame whole new a b
+  pub same : AccessesLeaveTheSame whole new a b
 
 abbrev pub LoadsAgreeWithHalves : Type 0
 LoadsAgreeWithHalves =
@@ -50,4 +50,4 @@ abbrev pub WritesAgreeWithHalves : Type 0
 WritesAgreeWithHalves =
     (old whole between new : BusModel) (core : Core) (loc : Loc) (word : ℕ) (a b : Access)
     → WritesInPlace (table_of_rows old.rows).written → IsFree old → IsCoherent old → WritesAt old whole core.0 loc.0 word a
-    → WritesInHalves old between new core loc word b → LeaveTheSame whole new a b
+    → WritesInHalves old between new core loc word b → AccessesLeaveTheSame whole new a b

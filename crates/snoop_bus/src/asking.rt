@@ -4,7 +4,7 @@
 ghost use Rattle.std.specs.Prelude.{◌≡◌, ◌<◌, Some, None, false, length};
 ghost use Rattle.snoop_bus.specs.Asks.{hits, request_for, asked_caches, asked_memory};
 ghost use Rattle.snoop_bus.specs.inner.Asks.{transacting_at, transaction_at, held_after_ask};
-ghost use Rattle.snoop_bus.specs.Held.{counting, counted_in, counted};
+ghost use Rattle.snoop_bus.specs.Held.{with_counted_copy, counted_in, counted_copies_of};
 ghost use Rattle.snoop_bus.specs.inner.Held.{Awaits, IsHeld};
 ghost use Rattle.snoop_bus.specs.CacheContents.{requested};
 ghost use Rattle.snoop_bus.specs.Copies.{cache_of, copy_at, tags_of};
@@ -42,7 +42,7 @@ impl Hierarchy {
         ensures awaited { IsHeld self.new.caches.items self.new.memory.items result }
         ensures tags { tags_of self.new.caches.items ≡ asked_caches (P.table protocol.now) (request_for wanted.write) wanted.core.0 wanted.line (tags_of self.old.caches.items) }
         ensures memory { self.new.memory.items ≡ asked_memory (P.table protocol.now) (request_for wanted.write) wanted.line self.old.caches.items self.old.memory.items }
-        ensures words { KeepsWords self.old.caches.items (counted (Some result) self.new.caches.items) self.old.memory.items self.new.memory.items }
+        ensures words { KeepsWords self.old.caches.items (counted_copies_of (Some result) self.new.caches.items) self.old.memory.items self.new.memory.items }
         ensures cache { cache_of self.new.caches.items wanted.core.0 ≡ cache_of self.old.caches.items wanted.core.0 }
         ensures ways { ways_of self.new.caches.items ≡ ways_of self.old.caches.items }
     {
@@ -73,7 +73,7 @@ impl Hierarchy {
         ensures tags { tags_of self.new.caches.items ≡ requested (P.table protocol.now).on_get_s core line (tags_of self.old.caches.items) }
         ensures memory { self.new.memory.items ≡ asked_memory (P.table protocol.now) GetS line self.old.caches.items self.old.memory.items }
         ensures own { copy_at self.new.caches.items core line ≡ None }
-        ensures words { KeepsWords self.old.caches.items (counting core line result.copy self.new.caches.items) self.old.memory.items self.new.memory.items }
+        ensures words { KeepsWords self.old.caches.items (with_counted_copy core line result.copy self.new.caches.items) self.old.memory.items self.new.memory.items }
         ensures cache { cache_of self.new.caches.items core ≡ cache_of self.old.caches.items core }
         ensures ways { ways_of self.new.caches.items ≡ ways_of self.old.caches.items }
     {
@@ -135,7 +135,7 @@ impl Hierarchy {
         ensures transaction { result ≡ transacting_at (P.table protocol.now) GetM line self.old.caches.items self.old.memory.items ImD }
         ensures tags { tags_of self.new.caches.items ≡ requested (P.table protocol.now).on_get_m core line (tags_of self.old.caches.items) }
         ensures own { copy_at self.new.caches.items core line ≡ None }
-        ensures words { KeepsWords self.old.caches.items (counting core line result.copy self.new.caches.items) self.old.memory.items self.old.memory.items }
+        ensures words { KeepsWords self.old.caches.items (with_counted_copy core line result.copy self.new.caches.items) self.old.memory.items self.old.memory.items }
         ensures cache { cache_of self.new.caches.items core ≡ cache_of self.old.caches.items core }
         ensures ways { ways_of self.new.caches.items ≡ ways_of self.old.caches.items }
         ensures memory { self.new.memory.items ≡ self.old.memory.items }

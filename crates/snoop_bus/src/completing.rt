@@ -8,12 +8,12 @@ ghost use Rattle.protocol_tables.specs.declared.state.State.TheVariants.{M};
 ghost use Rattle.snoop_bus.specs.CacheContents.{writes_back, filled_by};
 ghost use Rattle.snoop_bus.specs.MemoryAfter.{written_back, victim_at};
 ghost use Rattle.snoop_bus.specs.inner.Completing.{IsAwaited, Completes, words_due};
-ghost use Rattle.snoop_bus.specs.Held.{counting, counted_in};
+ghost use Rattle.snoop_bus.specs.Held.{with_counted_copy, counted_in};
 ghost use Rattle.snoop_bus.specs.Copies.{cache_of, copy_at, tags_of};
 ghost use Rattle.snoop_bus.specs.inner.Copies.{ways_of};
 ghost use Rattle.snoop_bus.specs.Bus.{AllCoherent};
 ghost use Rattle.snoop_bus.specs.inner.Accessing.{KeepsWords, SetsWord};
-ghost use Rattle.snoop_bus.specs.Coherent.{state_of};
+ghost use Rattle.snoop_bus.specs.Coherent.{state_of_copy};
 ghost use Rattle.snoop_bus.specs.declared.access.AccessKind.TheVariants.{Miss};
 
 use crate::access::{Access, AccessKind};
@@ -32,7 +32,7 @@ impl Hierarchy {
         line: u8,
         transaction: Transaction,
     ) -> Access
-        requires coherent { AllCoherent (counting core line transaction.copy self.old.caches.items) self.old.memory.items }
+        requires coherent { AllCoherent (with_counted_copy core line transaction.copy self.old.caches.items) self.old.memory.items }
         requires core { core < length self.old.caches.items }
         requires some_set { 0 < length (cache_of self.old.caches.items core) }
         requires line { line < length self.old.memory.items }
@@ -42,7 +42,7 @@ impl Hierarchy {
         ensures tags { tags_of self.new.caches.items ≡ filled_by core line transaction.copy.state (tags_of self.old.caches.items) }
         ensures memory { self.new.memory.items ≡ written_back (P.table protocol.now) (victim_at self.old.caches.items core line) self.old.memory.items }
         ensures own { copy_at self.new.caches.items core line ≡ Some transaction.copy }
-        ensures words { KeepsWords (counting core line transaction.copy self.old.caches.items) self.new.caches.items self.old.memory.items self.new.memory.items }
+        ensures words { KeepsWords (with_counted_copy core line transaction.copy self.old.caches.items) self.new.caches.items self.old.memory.items self.new.memory.items }
         ensures ways { ways_of self.new.caches.items ≡ ways_of self.old.caches.items }
     {
         let cache = &mut self.caches[core];
@@ -149,7 +149,7 @@ impl Hierarchy {
 
         ensures word { result.0 ≡ slice_index (words_due transaction target.core target.line self.old) target.offset }
         ensures ok { Completes (P.table protocol.now) transaction target.core target.line self.old self.new result.1 }
-        ensures own { state_of (copy_at self.new.caches.items target.core target.line) ≡ M }
+        ensures own { state_of_copy (copy_at self.new.caches.items target.core target.line) ≡ M }
         ensures words { KeepsWords (counted_in target.core target.line transaction self.old.caches.items) self.new.caches.items self.old.memory.items self.new.memory.items }
         ensures ways { ways_of self.new.caches.items ≡ ways_of self.old.caches.items }
     {

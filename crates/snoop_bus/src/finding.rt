@@ -6,7 +6,7 @@ ghost use Rattle.tso_model.specs.Limits.{most_cores};
 ghost use Rattle.snoop_bus.specs.CacheContents.{flusher_from};
 ghost use Rattle.snoop_bus.specs.Copies.{copy_in, tags_of};
 ghost use Rattle.snoop_bus.specs.inner.Copies.{state_at};
-ghost use Rattle.snoop_bus.specs.Requests.{asked};
+ghost use Rattle.snoop_bus.specs.Requests.{snoop_column};
 ghost use Rattle.snoop_bus.specs.inner.Requests.{HasSupplied};
 ghost use Rattle.snoop_bus.specs.inner.Finding.{nothing_found, noting};
 
@@ -64,9 +64,9 @@ impl Hierarchy {
     #[inline(always)]
     pub fn find<P: Protocol>(&self, protocol: &P, request: Request, line: u8) -> Found
         requires few { length self.now.caches.items ≤ most_cores }
-        ensures words { HasSupplied (asked (P.table protocol.now) request) self.now.caches.items line result.words }
+        ensures words { HasSupplied (snoop_column (P.table protocol.now) request) self.now.caches.items line result.words }
         ensures shared { result.shared ≡ list_any (λ sets. is_some (copy_in sets line)) self.now.caches.items }
-        ensures flushed { result.flushed ≡ flusher_from 0 (asked (P.table protocol.now) request) line (tags_of self.now.caches.items) }
+        ensures flushed { result.flushed ≡ flusher_from 0 (snoop_column (P.table protocol.now) request) line (tags_of self.now.caches.items) }
         ensures states { (i : ℕ) → slice_index_or result.states i None ≡ state_at self.now.caches.items i line }
     {
         let mut found = Found::nothing();

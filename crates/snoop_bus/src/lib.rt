@@ -16,7 +16,6 @@ mod completing;
 mod finding;
 mod hierarchy;
 pub mod holding;
-pub mod laws;
 mod lines;
 mod loading;
 pub mod looking;
@@ -24,6 +23,7 @@ mod restarting;
 pub mod shape;
 mod snoop;
 mod target;
+pub mod whole_accesses;
 mod writing;
 
 pub use access::{Access, AccessKind, Updated};

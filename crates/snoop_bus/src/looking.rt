@@ -5,9 +5,9 @@ ghost use Rattle.std.specs.Prelude.{◌≡◌, ◌<◌, IfSome, length, option_m
 ghost use Rattle.snoop_bus.specs.Lines.{line_of_words};
 ghost use Rattle.snoop_bus.specs.Bus.{words_of, cores_of, IsFree, IsCoherent, words_among, current_words, AllCoherent};
 ghost use Rattle.snoop_bus.specs.inner.Bus.{HasLines};
-ghost use Rattle.snoop_bus.specs.Held.{counted};
+ghost use Rattle.snoop_bus.specs.Held.{counted_copies_of};
 ghost use Rattle.snoop_bus.specs.inner.Held.{IsHeld, kept_words};
-ghost use Rattle.snoop_bus.specs.Accesses.{awaited_of, contents_of, line_of, IsCurrentWord};
+ghost use Rattle.snoop_bus.specs.Accesses.{awaited_of, contents_of, line_of_location, IsCurrentWord};
 ghost use Rattle.snoop_bus.specs.inner.Accesses.{copies_of, ranked_line, memory_words_of, IsClean};
 ghost use Rattle.snoop_bus.specs.Asks.{tag_at, awaited_by};
 ghost use Rattle.snoop_bus.specs.Copies.{tags_of};
@@ -44,7 +44,7 @@ impl<P: Protocol> SnoopBus<P> {
     pub fn memory_word(&self, loc: Loc) -> u32
         requires { loc.0 < length (words_of self.now) }
         ensures value { slice_get (memory_words_of self.now) loc.0 ≡ Some result }
-        ensures clean { IsFree self.now → IsClean (contents_of self.now) (line_of self.now loc.0) → IsCurrentWord self.now loc.0 result }
+        ensures clean { IsFree self.now → IsClean (contents_of self.now) (line_of_location self.now loc.0) → IsCurrentWord self.now loc.0 result }
     {
         let line = self.shape.line_of(loc);
         let offset = self.shape.offset_of(loc);
@@ -105,10 +105,10 @@ impl Hierarchy {
     /// The words of a line that a program sees: a copy's where there is one, and else memory's. What the bus keeps
     /// for its holder counts as a copy.
     fn seen(&self, held: Option<HeldBus>, line: u8) -> [u32; MAX_WORDS]
-        requires coherent { AllCoherent (counted held self.now.caches.items) self.now.memory.items }
+        requires coherent { AllCoherent (counted_copies_of held self.now.caches.items) self.now.memory.items }
         requires awaited { IfSome held (IsHeld self.now.caches.items self.now.memory.items) }
         requires line { line < length self.now.memory.items }
-        ensures { result ≡ current_words (counted held self.now.caches.items) self.now.memory.items line }
+        ensures { result ≡ current_words (counted_copies_of held self.now.caches.items) self.now.memory.items line }
     {
         kept_words(held, line)
             .or(copied_words(&self.caches, line))

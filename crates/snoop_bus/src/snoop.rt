@@ -5,9 +5,9 @@ ghost use Rattle.std.specs.Prelude.{slice_set, slice_index_or, is_some, option_m
 ghost use Rattle.tso_model.specs.Limits.{most_cores};
 ghost use Rattle.snoop_bus.specs.CacheContents.{requested, dirty_in};
 ghost use Rattle.snoop_bus.specs.Copies.{tags_of, cache_of};
-ghost use Rattle.snoop_bus.specs.inner.Copies.{ways_of, ways_in, state_in, state_at, OnlyAt};
-ghost use Rattle.snoop_bus.specs.Requests.{asked};
-ghost use Rattle.snoop_bus.specs.inner.Requests.{answered, left_by, SeenAt, LeftAt, LeftByOthers};
+ghost use Rattle.snoop_bus.specs.inner.Copies.{ways_of, ways_in, copy_state_in, state_at, OnlyAt};
+ghost use Rattle.snoop_bus.specs.Requests.{snoop_column};
+ghost use Rattle.snoop_bus.specs.inner.Requests.{after_request, copy_left_by, SeenAt, LeftAt, LeftByOthers};
 ghost use Rattle.snoop_bus.specs.MemoryAfter.{written_back};
 
 use crate::bus::MAX_CORES;
@@ -27,7 +27,7 @@ struct Seen {
 
 /// What a copy in this state does when another core's request for its line is seen.
 pub fn answer<P: Protocol>(protocol: &P, request: Request, state: State) -> Snoop
-    ensures { result ≡ asked (P.table protocol.now) request state }
+    ensures { result ≡ snoop_column (P.table protocol.now) request state }
 {
     match request {
         Request::GetS => protocol.on_get_s(state),
@@ -43,9 +43,9 @@ fn snoop_one<P: Protocol>(
     line: u8,
     state: Option<State>,
 )
-    requires state { state ≡ state_in cache.old line }
-    ensures exact { cache.new ≡ answered (asked (P.table protocol.now) request) line cache.old }
-    ensures copies { OnlyAt line (left_by (asked (P.table protocol.now) request)) cache.old cache.new }
+    requires state { state ≡ copy_state_in cache.old line }
+    ensures exact { cache.new ≡ after_request (snoop_column (P.table protocol.now) request) line cache.old }
+    ensures copies { OnlyAt line (copy_left_by (snoop_column (P.table protocol.now) request)) cache.old cache.new }
     ensures ways { ways_in cache.new ≡ ways_in cache.old }
 {
     if let Some(state) = state {
@@ -69,8 +69,8 @@ impl Hierarchy {
     )
         requires other { other < length self.old.caches.items }
         requires state { other ≢ seen.core → state ≡ state_at self.old.caches.items other seen.line }
-        ensures seen { SeenAt other (asked (P.table protocol.now) seen.request) seen.core seen.line self.old.caches.items self.new.caches.items }
-        ensures copies { LeftAt other (asked (P.table protocol.now) seen.request) seen.core seen.line self.old.caches.items self.new.caches.items }
+        ensures seen { SeenAt other (snoop_column (P.table protocol.now) seen.request) seen.core seen.line self.old.caches.items self.new.caches.items }
+        ensures copies { LeftAt other (snoop_column (P.table protocol.now) seen.request) seen.core seen.line self.old.caches.items self.new.caches.items }
         ensures ways { ways_of self.new.caches.items ≡ ways_of self.old.caches.items }
         ensures memory { self.new.memory.items ≡ self.old.memory.items }
     {
@@ -93,9 +93,9 @@ impl Hierarchy {
     )
         requires few { length self.old.caches.items ≤ most_cores }
         requires states { (i : ℕ) → i ≢ core → slice_index_or states.now i None ≡ state_at self.old.caches.items i line }
-        ensures tags { tags_of self.new.caches.items ≡ requested (asked (P.table protocol.now) request) core line (tags_of self.old.caches.items) }
+        ensures tags { tags_of self.new.caches.items ≡ requested (snoop_column (P.table protocol.now) request) core line (tags_of self.old.caches.items) }
         ensures own { cache_of self.new.caches.items core ≡ cache_of self.old.caches.items core }
-        ensures copies { LeftByOthers (asked (P.table protocol.now) request) core line self.old.caches.items self.new.caches.items }
+        ensures copies { LeftByOthers (snoop_column (P.table protocol.now) request) core line self.old.caches.items self.new.caches.items }
         ensures ways { ways_of self.new.caches.items ≡ ways_of self.old.caches.items }
         ensures memory { self.new.memory.items ≡ self.old.memory.items }
     {

@@ -9,7 +9,7 @@ ghost use Rattle.snoop_bus.specs.Asks.{hits};
 ghost use Rattle.snoop_bus.specs.CacheContents.{used_by};
 ghost use Rattle.snoop_bus.specs.Copies.{copy_at, tags_of};
 ghost use Rattle.snoop_bus.specs.inner.Copies.{ways_of};
-ghost use Rattle.snoop_bus.specs.Held.{counted};
+ghost use Rattle.snoop_bus.specs.Held.{counted_copies_of};
 ghost use Rattle.snoop_bus.specs.inner.Held.{IsHeld};
 ghost use Rattle.snoop_bus.specs.Bus.{AllCoherent};
 ghost use Rattle.snoop_bus.specs.inner.Requests.{ChangesCopy};
@@ -39,7 +39,7 @@ impl Hierarchy {
 
         ensures ok { Updates (P.table protocol.now) held target.core target.line target.offset self.old.caches.items self.new.caches.items self.old.memory.items self.new.memory.items result }
         ensures after { result.after ≡ updated change.update result.before change.value }
-        ensures coherent { AllCoherent (counted held self.new.caches.items) self.new.memory.items }
+        ensures coherent { AllCoherent (counted_copies_of held self.new.caches.items) self.new.memory.items }
         ensures awaited { IfSome held (IsHeld self.new.caches.items self.new.memory.items) }
         ensures ways { ways_of self.new.caches.items ≡ ways_of self.old.caches.items }
     {
@@ -68,7 +68,7 @@ impl Hierarchy {
         requires free { MayWrite (P.table protocol.now) held core line (tags_of self.old.caches.items) }
 
         ensures ok { Acquires (P.table protocol.now) held core line self.old.caches.items self.new.caches.items self.old.memory.items self.new.memory.items result.0 result.1 }
-        ensures words { KeepsWords (counted held self.old.caches.items) (counted held self.new.caches.items) self.old.memory.items self.new.memory.items }
+        ensures words { KeepsWords (counted_copies_of held self.old.caches.items) (counted_copies_of held self.new.caches.items) self.old.memory.items self.new.memory.items }
         ensures awaited { IfSome held (IsHeld self.new.caches.items self.new.memory.items) }
         ensures ways { ways_of self.new.caches.items ≡ ways_of self.old.caches.items }
     {

@@ -11,10 +11,10 @@
 //! its answer are two moments. What asks, what waits and what acts at once are this project's.
 #![tactic(auto)]
 
-pub mod laws;
+pub mod bus_runs;
 pub mod worked;
 
-pub use laws::{
+pub use bus_runs::{
     accesses_wait, atomic_runs_are_flat_runs, attempts_lead_from_state_to_state,
     ended_runs_on_either_bus_are_executions, fair_rounds_end_on_either_bus,
     no_buffer_no_reordering_on_either_bus, pending_stores_are_own,

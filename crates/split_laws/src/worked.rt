@@ -25,7 +25,7 @@ ghost use Rattle.split_laws.specs.WorkedSplitRuns.{exchanged, exchange_asks, exc
 ghost use Rattle.split_laws.specs.WorkedSplitRuns.{stored_twice, store_hits};
 ghost use Rattle.split_laws.specs.inner.WorkedSplitRuns.{added_alone, two_rounds, three_rounds};
 
-use crate::laws::ended_runs_on_either_bus_are_executions;
+use crate::bus_runs::ended_runs_on_either_bus_are_executions;
 
 /// Worked runs on the split bus.
 pub fn worked_split_runs()

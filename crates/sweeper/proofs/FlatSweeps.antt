@@ -1,6 +1,6 @@
 -- Runs that are made on the flat machine, one after the other: what is counted of each, and that on the atomic bus it is the run
 -- of every machine with caches.
-use Rattle.sweeper.proofs.Vocabulary.{◌≡◌, ℕ, suc, true, List, [], ◌∷◌, length, map, Option, Bool, refl, sym, ap, ◌∙◌, Litmus, State, chosen, effect_of, applied, registers_in, start, Run, run, unheld, HitsFit, Bus, Atomic, Choice, table_of, ProtocolKind, Configuration, state_of, core_of_processor, RunCounts, with_state, with_verdict, values_in, run_by, run_under, AnswersFit, verdict, with_one_run}
+use Rattle.sweeper.proofs.Vocabulary.{◌≡◌, ℕ, suc, true, List, [], ◌∷◌, length, map, Option, Bool, refl, sym, ap, ◌∙◌, Litmus, State, chosen, effect_of, applied, registers_in, start, Run, run, unheld, HitsFit, Bus, Atomic, Choice, table_of, ProtocolKind, Configuration, state_of_snapshot, core_of_processor, RunCounts, with_state_counted, with_verdict, values_in, run_by, run_under, AnswersFit, verdict, with_one_run}
 use Rattle.tso_model.specs.SplitMachine.{Attempt}
 use Rattle.machine_core.specs.Answered.{answered}
 use Rattle.flat_machine.specs.declared.snapshot.Processor.{Processor}
@@ -12,7 +12,7 @@ registers-there : (cores : List Processor) → map (λ c. c.registers) cores ≡
 registers-there [] = refl
 registers-there (c ∷ cs) = ap (λ (rs : List (List ℕ)). c.registers ∷ rs) (registers-there cs)
 
-pub registers-left : (s : Snapshot) (registers : List (List ℕ)) → registers ≡ map (λ c. c.registers) s.cores.items → registers ≡ registers_in (state_of s)
+pub registers-left : (s : Snapshot) (registers : List (List ℕ)) → registers ≡ map (λ c. c.registers) s.cores.items → registers ≡ registers_in (state_of_snapshot s)
 registers-left s registers r = r ∙ registers-there s.cores.items
 
 pub as-many-registers : (cores : List Processor) → length (map (λ c. c.registers) cores) ≡ length cores
@@ -21,10 +21,10 @@ as-many-registers (c ∷ cs) = ap suc (as-many-registers cs)
 
 pub counted : (t : Litmus) (r : Run) (s : State) (registers : List (List ℕ)) (memory : List ℕ) (holds : Option Bool) (c : RunCounts)
     → true ≡ r.ended → s ≡ r.state → registers ≡ registers_in s → memory ≡ s.memory → holds ≡ verdict t registers memory
-    → with_verdict holds (with_state (values_in t registers memory) c) ≡ with_one_run t r c
+    → with_verdict holds (with_state_counted (values_in t registers memory) c) ≡ with_one_run t r c
 counted t r s registers memory holds c ended state regs words truth =
-    let count : List (List ℕ) → List ℕ → RunCounts = λ g w. with_verdict (verdict t g w) (with_state (values_in t g w) c) in
-    ap (λ h. with_verdict h (with_state (values_in t registers memory) c)) truth
+    let count : List (List ℕ) → List ℕ → RunCounts = λ g w. with_verdict (verdict t g w) (with_state_counted (values_in t g w) c) in
+    ap (λ h. with_verdict h (with_state_counted (values_in t registers memory) c)) truth
     ∙ ap (λ g. count g memory) (regs ∙ ap registers_in state)
     ∙ ap (λ w. count (registers_in r.state) w) (words ∙ ap (λ (x : State). x.memory) state)
     ∙ (rw (sym ended) refl)

@@ -1,5 +1,5 @@
 -- The states of a tally: lists of values in ascending order, each with the number of runs that gave it.
-use Rattle.sweeper.proofs.Vocabulary.{◌≡◌, ◌<◌, ◌+◌, ℕ, zero, suc, Bool, true, false, cond, List, [], ◌∷◌, length, slice_index_or, Option, Some, None, is_some, Ordering, Less, Equal, Greater, All, Contains, refl, sym, ap, subst, ◌∙◌, arith, bytes_eq, sum, AllByRecursion, lookup, keys_of, values_of, count_of, with_values}
+use Rattle.sweeper.proofs.Vocabulary.{◌≡◌, ◌<◌, ◌+◌, ℕ, zero, suc, Bool, true, false, cond, List, [], ◌∷◌, length, slice_index_or, Option, Some, None, is_some, Ordering, Less, Equal, Greater, All, Contains, refl, sym, ap, subst, ◌∙◌, arith, bytes_eq, sum, AllByRecursion, lookup, keys_of, values_of, count_of_runs, with_values}
 use Rattle.std.specs.List.Sorted.{IsStrictlySortedBy}
 use Rattle.std.specs.Option.{unwrap_or, option_map}
 use Rattle.std.specs.Ordering.{is_eq, nat_cmp, ordering_reverse, match_ordering, eq_by_cmp}
@@ -54,13 +54,13 @@ lookup-inserted v w n (e ∷ es) = by (R w e.0) refl (lookup-inserted v w n es)
         let c : R v e.0 ≡ R w e.0 = nat_list_cmp_total.congr v w e.0 a in let both : Equal ≡ Greater = sym b ∙ c ∙ p in let no : ⊥ = cc in no)
 
 -- one more run with the values w counts for these, and for no other
-pub count-with : (v w : List ℕ) (es : States) → count_of v (with_values w es) ≡ count_of v es + cond (bytes_eq v w) 1 0
-count-with v w es = ap (λ (o : Option ℕ). unwrap_or o 0) (lookup-inserted v w (count_of w es + 1) es) ∙ by (bytes_eq v w) refl
+pub count-with : (v w : List ℕ) (es : States) → count_of_runs v (with_values w es) ≡ count_of_runs v es + cond (bytes_eq v w) 1 0
+count-with v w es = ap (λ (o : Option ℕ). unwrap_or o 0) (lookup-inserted v w (count_of_runs w es + 1) es) ∙ by (bytes_eq v w) refl
   where
-    by : (b : Bool) → bytes_eq v w ≡ b → unwrap_or (cond (is_eq (R v w)) (Some (count_of w es + 1)) (lookup (is_at (R v)) es)) 0 ≡ count_of v es + cond b 1 0
+    by : (b : Bool) → bytes_eq v w ≡ b → unwrap_or (cond (is_eq (R v w)) (Some (count_of_runs w es + 1)) (lookup (is_at (R v)) es)) 0 ≡ count_of_runs v es + cond b 1 0
     by true h =
         let one : v ≡ w = (bytes_eq-Decides v w).0 h in
-        rw (is_eq-slice_cmp v w, h) (ap (λ (u : List ℕ). count_of u es + 1) (sym one))
+        rw (is_eq-slice_cmp v w, h) (ap (λ (u : List ℕ). count_of_runs u es + 1) (sym one))
     by false h = rw (is_eq-slice_cmp v w, h) (omega arith)
 
 -- ---- they ascend, and each was given by a run
@@ -94,7 +94,7 @@ sorted-inserted w n (e ∷ es) s = by (R w e.0) refl (sorted-inserted w n es s.1
         (keys-inserted (λ y. R e.0 y ≡ Less) w n es (nat_list_cmp_total.antisymm e.0 w ∙ ap ordering_reverse p) s.0, further)
 
 pub ascend-with : (w : List ℕ) (es : States) → Ascend es → Ascend (with_values w es)
-ascend-with w es s = sorted-inserted w (count_of w es + 1) es s
+ascend-with w es s = sorted-inserted w (count_of_runs w es + 1) es s
 
 pub ascend-none : Ascend []
 unfolding IsStrictlySortedBy
@@ -104,7 +104,7 @@ abbrev pub EachGiven : States → Type 0
 EachGiven es = All (λ n. 0 < n) (values_of es)
 
 pub given-with : (w : List ℕ) (es : States) → EachGiven es → EachGiven (with_values w es)
-given-with w es all = All-values-insert_entry R w (count_of w es + 1) (λ n. 0 < n) es all (omega arith)
+given-with w es all = All-values-insert_entry R w (count_of_runs w es + 1) (λ n. 0 < n) es all (omega arith)
 
 -- ---- how many runs there are
 
@@ -114,7 +114,7 @@ weight (Some n) = refl
 
 pub sum-with : (w : List ℕ) (es : States) → Ascend es → sum (values_of (with_values w es)) ≡ sum (values_of es) + 1
 sum-with w es s =
-    let whole = sum_by-insert_entry (λ (n : ℕ). n) nat_list_cmp_total es w (count_of w es + 1) s in
+    let whole = sum_by-insert_entry (λ (n : ℕ). n) nat_list_cmp_total es w (count_of_runs w es + 1) s in
     let here = weight (lookup (is_at (R w)) es) in
     omega arith
 
@@ -130,7 +130,7 @@ length-values [] = refl
 length-values (e ∷ es) = ap suc (length-values es)
 
 -- each entry's number is what is found at its values
-pub each-counted : (es : States) (number : List ℕ → ℕ) → Ascend es → EachGiven es → ((v : List ℕ) → count_of v es ≡ number v)
+pub each-counted : (es : States) (number : List ℕ → ℕ) → Ascend es → EachGiven es → ((v : List ℕ) → count_of_runs v es ≡ number v)
     → All (λ e. (0 < e.1) × (e.1 ≡ number e.0)) es
 each-counted es number s given counts = λ k d l.
     let e = slice_index_or es k d in
@@ -145,9 +145,9 @@ pub same-values : (v w : List ℕ) → is_eq (R v w) ≡ true → v ≡ w
 same-values v w h = (bytes_eq-Decides v w).0 (sym (is_eq-slice_cmp v w) ∙ h)
 
 -- a list of values that some run gave is one of those that are kept
-pub counted-there : (v : List ℕ) (es : States) → 0 < count_of v es → Contains (keys_of es) v
+pub counted-there : (v : List ℕ) (es : States) → 0 < count_of_runs v es → Contains (keys_of es) v
 counted-there v es some = by (lookup (is_at (R v)) es) refl
   where
     by : (o : Option ℕ) → lookup (is_at (R v)) es ≡ o → Contains (keys_of es) v
-    by None h = absurd (let none : count_of v es ≡ 0 = ap (λ (o : Option ℕ). unwrap_or o 0) h in omega arith)
+    by None h = absurd (let none : count_of_runs v es ≡ 0 = ap (λ (o : Option ℕ). unwrap_or o 0) h in omega arith)
     by (Some n) h = Contains-keys_from_lookup same-values v es (ap (λ (o : Option ℕ). is_some o) h)

@@ -1,5 +1,5 @@
 -- A machine that makes one run after the other: what it counts of each, and that it goes back to where it began.
-use Rattle.sweeper.proofs.Vocabulary.{◌≡◌, ℕ, Bool, true, false, if◌then◌else◌, List, [], ◌∷◌, Option, refl, sym, ap, subst, ◌∙◌, list_any, Litmus, State, chosen, core_of, registers_in, Run, has_ended, BusState, effect_on, after_on, Bus, Atomic, Split, Choice, Table, ProtocolKind, Configuration, Running, new_machine, restarted, RunCounts, with_state, with_verdict, with_unfinished, values_in, run_by, run_under, AnswersFit, AnswersFitBy, machine_run, AnswersFitOn, verdict, with_one_run, RunLaws, IsDriven, from-new, ended-as-driven}
+use Rattle.sweeper.proofs.Vocabulary.{◌≡◌, ℕ, Bool, true, false, if◌then◌else◌, List, [], ◌∷◌, Option, refl, sym, ap, subst, ◌∙◌, list_any, Litmus, State, chosen, core_of, registers_in, Run, has_ended, BusState, effect_on, after_on, Bus, Atomic, Split, Choice, Table, ProtocolKind, Configuration, Running, new_machine, restarted, RunCounts, with_state_counted, with_verdict, with_unfinished, values_in, run_by, run_under, AnswersFit, AnswersFitBy, machine_run, AnswersFitOn, verdict, with_one_run, RunLaws, IsDriven, from-new, ended-as-driven}
 use Rattle.tso_model.specs.ProgramOrder.{writes_to}
 use Rattle.tso_model.specs.MemoryAccess.{MemoryAccess, NoAccess, Reads, Writes, Locks, access_of}
 use Rattle.tso_model.specs.Together.{together}
@@ -7,7 +7,7 @@ use Rattle.tso_model.specs.declared.execution.Entry.{Entry}
 use Rattle.tso_model.specs.declared.execution.Kind.{Kind}
 use Rattle.tso_model.specs.declared.execution.Kind.TheVariants.{R, W, F, LR, LW}
 use Rattle.protocol_tables.specs.Tables.{table_of as table_of_kind}
-use Rattle.snoop_bus.specs.Rows.{Rows, rows_of, table_of_rows}
+use Rattle.snoop_bus.specs.Rows.{TableColumns, rows_of, table_of_rows}
 use Rattle.snoop_bus.specs.Geometry.{Geometry}
 use Rattle.machine_core.specs.declared.accesses.CacheUse.TheVariants.{Forwarded}
 use Rattle.machine_core.specs.Caches.{Caches, not_through, load_by, use_by_kind, use_of, attempt_of, is_awaited, used_between}
@@ -72,7 +72,7 @@ goes-back old m choices used stalled d =
     let shape = ap (λ (s : Statistics). s.caches.shape) d.statistics ∙ same.shape in
     made rows shape d.test d.bus d.depth
   where
-    at : Rows → Geometry → Litmus → Bus → ℕ → Running
+    at : TableColumns → Geometry → Litmus → Bus → ℕ → Running
     at r g t b n = new_machine (table_of_rows r) (record { depth = n; shape = g; bus = b }) t
 
     made : m.statistics.caches.rows ≡ old.statistics.caches.rows → m.statistics.caches.shape ≡ old.statistics.caches.shape → m.test ≡ old.test → m.bus ≡ old.bus → m.depth ≡ old.depth
@@ -90,7 +90,7 @@ counted-unfinished t r c e = rw e refl
 pub counted-ended : (table : Table) (config : Configuration) (t : Litmus) (old m : Running) (choices : List Choice) (used stalled : ℕ) (registers : List (List ℕ)) (memory : List ℕ) (holds : Option Bool) (c : RunCounts)
     → RunLaws → IsDriven table config t old m choices used stalled → is_ended m ≡ true
     → registers ≡ registers_in m.state.flat → memory ≡ m.state.flat.memory → holds ≡ verdict t registers memory
-    → ((run_by config.bus table config t choices).ended ≡ true) × (with_verdict holds (with_state (values_in t registers memory) c) ≡ with_one_run t (run_by config.bus table config t choices) c)
+    → ((run_by config.bus table config t choices).ended ≡ true) × (with_verdict holds (with_state_counted (values_in t registers memory) c) ≡ with_one_run t (run_by config.bus table config t choices) c)
 counted-ended table config t old m choices used stalled registers memory holds c laws driven over regs words truth =
     let d = from-new table config t old m choices used stalled driven in
     let r = together (bus_run table config t choices).run in
@@ -98,10 +98,10 @@ counted-ended table config t old m choices used stalled registers memory holds c
     let state : m.state.flat ≡ r.state = ap (λ (s : BusState). s.flat) d.state in
     let registers_are : registers ≡ registers_in r.state = regs ∙ ap registers_in state in
     let memory_is : memory ≡ r.state.memory = words ∙ ap (λ (x : State). x.memory) state in
-    let count : List (List ℕ) → List ℕ → RunCounts = λ g w. with_verdict (verdict t g w) (with_state (values_in t g w) c) in
-    let counted : with_verdict holds (with_state (values_in t registers memory) c) ≡ count (registers_in r.state) r.state.memory =
-    ap (λ h. with_verdict h (with_state (values_in t registers memory) c)) truth ∙ ap (λ g. count g memory) registers_are ∙ ap (λ w. count (registers_in r.state) w) memory_is in
-    subst (λ (x : Run). (x.ended ≡ true) × (with_verdict holds (with_state (values_in t registers memory) c) ≡ with_one_run t x c)) (sym (run-is table config t choices laws.atomic))
+    let count : List (List ℕ) → List ℕ → RunCounts = λ g w. with_verdict (verdict t g w) (with_state_counted (values_in t g w) c) in
+    let counted : with_verdict holds (with_state_counted (values_in t registers memory) c) ≡ count (registers_in r.state) r.state.memory =
+    ap (λ h. with_verdict h (with_state_counted (values_in t registers memory) c)) truth ∙ ap (λ g. count g memory) registers_are ∙ ap (λ w. count (registers_in r.state) w) memory_is in
+    subst (λ (x : Run). (x.ended ≡ true) × (with_verdict holds (with_state_counted (values_in t registers memory) c) ≡ with_one_run t x c)) (sym (run-is table config t choices laws.atomic))
     (ended, counted ∙ (rw ended refl))
 
 -- ---- the run on a new machine

@@ -7,7 +7,7 @@ use Rattle.tso_model.specs.declared.choice.Choice.{Choice}
 use Rattle.scheduler.specs.Seeds.{seeded_choices}
 use Rattle.protocol_tables.specs.declared.kind.ProtocolKind.{ProtocolKind}
 use Rattle.machine_core.specs.Configuration.{Configuration}
-use Rattle.tso_report.specs.Tally.{RunCounts, nothing_counted, with_state, with_verdict, with_unfinished, values_in}
+use Rattle.tso_report.specs.Tally.{RunCounts, nothing_counted, with_state_counted, with_verdict, with_unfinished, values_in}
 use Rattle.scheduler.specs.Plan.{Plan}
 use Rattle.simulator.specs.Runs.{run_under, AnswersFit}
 use Rattle.simulator.specs.Simulation.{verdict}
@@ -23,7 +23,7 @@ seeded_run t kind c count seed = run_under t kind c (choices_of t count seed)
 abbrev pub with_one_run : Litmus → Run → RunCounts → RunCounts
 with_one_run t r c =
     if r.ended
-    then with_verdict (verdict t (registers_in r.state) r.state.memory) (with_state (values_in t (registers_in r.state) r.state.memory) c)
+    then with_verdict (verdict t (registers_in r.state) r.state.memory) (with_state_counted (values_in t (registers_in r.state) r.state.memory) c)
     else with_unfinished c
 
 -- what is counted of the runs of so many seeds: `from`, `from + 1`, and so on

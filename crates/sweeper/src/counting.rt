@@ -7,7 +7,7 @@ ghost use Rattle.protocol_tables.specs.Tables.{table_of};
 ghost use Rattle.protocol_tables.specs.declared.kind.ProtocolKind.{ProtocolKind};
 ghost use Rattle.machine_core.specs.Configuration.{Configuration};
 ghost use Rattle.machine_core.specs.Running.{new_machine, restarted};
-ghost use Rattle.tso_report.specs.Tally.{nothing_counted, runs_in, values_in, with_state, with_verdict};
+ghost use Rattle.tso_report.specs.Tally.{nothing_counted, runs_in, values_in, with_state_counted, with_verdict};
 ghost use Rattle.simulator.specs.inner.Runs.{machine_run, AnswersFitOn};
 ghost use Rattle.simulator.specs.Simulation.{verdict};
 ghost use Rattle.sweeper.specs.Counting.{with_one_run, sweep_counts, SweepAnswersFit};
@@ -203,7 +203,7 @@ pub(crate) fn count_state(
     requires locations { length memory.now ≡ length test.now.locations }
     requires room { runs_in tally.old.counts < 2 ^ 32 - 1 }
 
-    ensures counts { OnOk result (tally.new.counts ≡ with_verdict (verdict test.now registers.now memory.now) (with_state (values_in test.now registers.now memory.now) tally.old.counts)) }
+    ensures counts { OnOk result (tally.new.counts ≡ with_verdict (verdict test.now registers.now memory.now) (with_state_counted (values_in test.now registers.now memory.now) tally.old.counts)) }
     ensures test { tally.new.test ≡ tally.old.test }
 {
     let holds = verdict_of(test, registers, memory);

@@ -5,7 +5,7 @@ ghost use Rattle.std.specs.Prelude.{◌≡◌, ◌<◌, ◌-◌, ◌^◌, ◌==�
 ghost use Rattle.tso_model.specs.FlatMachine.{start};
 ghost use Rattle.tso_model.specs.Runs.{run};
 ghost use Rattle.protocol_tables.specs.declared.kind.ProtocolKind.{ProtocolKind};
-ghost use Rattle.flat_machine.specs.State.{state_of};
+ghost use Rattle.flat_machine.specs.State.{state_of_snapshot};
 ghost use Rattle.machine_core.specs.Configuration.{Configuration};
 ghost use Rattle.tso_report.specs.Tally.{nothing_counted, runs_in};
 ghost use Rattle.sweeper.specs.Counting.{choices_of, with_one_run, sweep_counts, SweepAnswersFit};
@@ -64,7 +64,7 @@ fn count_runs(
     plan: SweepPlan,
     tally: &mut Tally<'_>,
 ) -> Result<bool, NoMemory>
-    requires first { state_of first.now ≡ start test.now }
+    requires first { state_of_snapshot first.now ≡ start test.now }
     requires as_many { length first.now.cores.items ≡ length test.now.programs }
     requires cores { length state.old.cores.items ≡ length test.now.programs }
     requires tally { tally.old.test ≡ test.now }
@@ -105,7 +105,7 @@ fn count_run(
     count: usize,
     tally: &mut Tally<'_>,
 ) -> Result<bool, NoMemory>
-    requires first { state_of first.now ≡ start test.now }
+    requires first { state_of_snapshot first.now ≡ start test.now }
     requires as_many { length first.now.cores.items ≡ length test.now.programs }
     requires cores { length state.old.cores.items ≡ length test.now.programs }
     requires tally { tally.old.test ≡ test.now }

@@ -1,15 +1,15 @@
 -- Memory's own words, followed from step to step, are those of the bus's memory.
-use Rattle.trace_json.proofs.Vocabulary.{arith, ◌≡◌, ◌∙◌, ◌<◌, ◌≤◌, ◌+◌, ◌/◌, ◌%◌, ◌||◌, ℕ, zero, suc, Bool, true, false, if◌then◌else◌, List, [], ◌∷◌, length, map, slice_index, Option, Some, None, inl, inr, refl, sym, ap, subst, get_or_past, length-set, Choice, table_of, ProtocolKind, Caches, Running, new_machine, machine_after, line_state, lines_of, is_newer, is_newer_in, own_word, own_words_from, own_words}
+use Rattle.trace_json.proofs.Vocabulary.{arith, ◌≡◌, ◌∙◌, ◌<◌, ◌≤◌, ◌+◌, ◌/◌, ◌%◌, ◌||◌, ℕ, zero, suc, Bool, true, false, if◌then◌else◌, List, [], ◌∷◌, length, map, slice_index, Option, Some, None, inl, inr, refl, sym, ap, subst, get_or_past, length-set, Choice, table_of, ProtocolKind, Caches, Running, new_machine, machine_after, line_state, number_of_lines, is_newer, is_newer_in, own_word, own_words_from, own_words}
 use Rattle.std.specs.List.{range_with_len}
 use Rattle.basic_laws.proofs.Basics.{lt-or}
 use Rattle.protocol_tables.specs.Laws.{is_dirty}
 use Rattle.protocol_tables.specs.declared.requests.Transient.TheVariants.{IsD, ImD, SmD}
 use Rattle.protocol_tables.specs.declared.state.State.{State}
-use Rattle.snoop_bus.specs.Coherent.{state_of}
-use Rattle.snoop_bus.specs.Lines.{Words, line_in, word_at}
+use Rattle.snoop_bus.specs.Coherent.{state_of_copy}
+use Rattle.snoop_bus.specs.Lines.{Words, line_in, word_in_lines}
 use Rattle.snoop_bus.specs.Copies.{Sets, copy_at, copy_in}
 use Rattle.snoop_bus.specs.Rows.{rows_of}
-use Rattle.snoop_bus.specs.Held.{counted, counted_in}
+use Rattle.snoop_bus.specs.Held.{counted_copies_of, counted_in}
 use Rattle.snoop_bus.specs.Bus.{BusModel, counted_copies, current_words, IsSameMachine}
 use Rattle.snoop_bus.specs.inner.Accesses.{memory_words_of}
 use Rattle.snoop_bus.specs.declared.holding.HeldBus.{HeldBus}
@@ -70,7 +70,7 @@ none-newer m line (suc last) core h l = by_test (is_newer (line_state m last lin
     ]
 
 -- past the cores there is no copy
-counted-many : (held : Option HeldBus) (caches : List Sets) → length (counted held caches) ≡ length caches
+counted-many : (held : Option HeldBus) (caches : List Sets) → length (counted_copies_of held caches) ≡ length caches
 counted-many None caches = refl
 counted-many (Some h) caches = by_transaction h.transaction
   where
@@ -78,21 +78,21 @@ counted-many (Some h) caches = by_transaction h.transaction
     by_transaction None = refl
     by_transaction (Some x) = length-set caches _ _
 
-past-clean : (caches : List Sets) (core line : ℕ) → length caches ≤ core → is_dirty (state_of (copy_at caches core line)) ≡ false
-past-clean caches core line past = ap (λ (sets : Sets). is_dirty (state_of (copy_in sets line))) (get_or_past caches core [] past)
+past-clean : (caches : List Sets) (core line : ℕ) → length caches ≤ core → is_dirty (state_of_copy (copy_at caches core line)) ≡ false
+past-clean caches core line past = ap (λ (sets : Sets). is_dirty (state_of_copy (copy_in sets line))) (get_or_past caches core [] past)
 
 -- ---- one word
 
-all-clean : (b : BusModel) (m : Running) (line core : ℕ) → IsBusOf b m → is_newer_in m line (length m.test.programs) ≡ false → is_dirty (state_of (copy_at (counted_copies b) core line)) ≡ false
+all-clean : (b : BusModel) (m : Running) (line core : ℕ) → IsBusOf b m → is_newer_in m line (length m.test.programs) ≡ false → is_dirty (state_of_copy (copy_at (counted_copies b) core line)) ≡ false
 all-clean b m line core is none = elim (lt-or (length m.test.programs) core) [
-  | inl l ↦ sym (shows-newer (line_state m core line) (state_of (copy_at (counted_copies b) core line)) (is.lines core line)) ∙ none-newer m line (length m.test.programs) core none l
+  | inl l ↦ sym (shows-newer (line_state m core line) (state_of_copy (copy_at (counted_copies b) core line)) (is.lines core line)) ∙ none-newer m line (length m.test.programs) core none l
   | inr past ↦ past-clean (counted_copies b) core line (subst (λ n. n ≤ core) (sym (counted-many b.held b.caches ∙ is.cores)) past)
 ]
 
 memory-is : (kind : ProtocolKind) (m n : Running) (old new : BusModel) (loc : ℕ) → IsAlong kind m → IsBusOf old m → IsBusOf new n → IsSameMachine old new → IsCalled old new → loc < new.locations
-    → own_word n loc (word_at new.shape.words (line_in old.memory) loc) (word_at new.shape.words (current_words (counted_copies new) new.memory) loc) ≡ word_at new.shape.words (line_in new.memory) loc
+    → own_word n loc (word_in_lines new.shape.words (line_in old.memory) loc) (word_in_lines new.shape.words (current_words (counted_copies new) new.memory) loc) ≡ word_in_lines new.shape.words (line_in new.memory) loc
 memory-is kind m n old new loc is before after same called within =
-    ap (λ w. if is_newer_in n (loc / w) (length n.test.programs) then word_at words (line_in old.memory) loc else word_at words (current_words (counted_copies new) new.memory) loc) (sym shape)
+    ap (λ w. if is_newer_in n (loc / w) (length n.test.programs) then word_in_lines words (line_in old.memory) loc else word_in_lines words (current_words (counted_copies new) new.memory) loc) (sym shape)
     ∙ by_newer (is_newer_in n line (length n.test.programs)) refl
   where
     words : ℕ
@@ -111,13 +111,13 @@ memory-is kind m n old new loc is before after same called within =
     rows = ap (λ (c : Caches). c.rows) before.caches ∙ is.rows
 
     by_newer : (b : Bool) → is_newer_in n line (length n.test.programs) ≡ b
-        → (if b then word_at words (line_in old.memory) loc else word_at words (current_words (counted_copies new) new.memory) loc) ≡ word_at words (line_in new.memory) loc
+        → (if b then word_in_lines words (line_in old.memory) loc else word_in_lines words (current_words (counted_copies new) new.memory) loc) ≡ word_in_lines words (line_in new.memory) loc
     by_newer true q =
         let found = newer-found n line (length n.test.programs) q in
         let owner : IsOwner (counted_copies new) line found.core =
-        sym (shows-newer (line_state n found.core line) (state_of (copy_at (counted_copies new) found.core line)) (after.lines found.core line)) ∙ found.newer in
-        let neat = subst (λ (c : Caches). AllNeat (lines_of m) c.contents) (sym before.caches) is.kept.neat in
-        sym (ap (λ (ws : Words). slice_index ws (loc % words)) (called-stale kind (lines_of m) old new line found.core rows before.sound after.sound neat called owner))
+        sym (shows-newer (line_state n found.core line) (state_of_copy (copy_at (counted_copies new) found.core line)) (after.lines found.core line)) ∙ found.newer in
+        let neat = subst (λ (c : Caches). AllNeat (number_of_lines m) c.contents) (sym before.caches) is.kept.neat in
+        sym (ap (λ (ws : Words). slice_index ws (loc % words)) (called-stale kind (number_of_lines m) old new line found.core rows before.sound after.sound neat called owner))
     by_newer false q =
         sym (ap (λ (ws : Words). slice_index ws (loc % words)) ((after.sound.coherent.each line in_memory).clean (λ core. all-clean new n line core after q)))
 
@@ -133,13 +133,13 @@ listed m f g h loc (suc count) each =
 told : (kind : ProtocolKind) (m n : Running) (old new : BusModel) → IsAlong kind m → IsBusOf old m → IsBusOf new n → IsSameMachine old new → IsCalled old new → own_words n (memory_words_of old) ≡ memory_words_of new
 told kind m n old new is before after same called =
     ap (λ ws. own_words_from n 0 ws n.state.flat.memory) first
-    ∙ (ap (λ ws. own_words_from n 0 (map (word_at new.shape.words (line_in old.memory)) (range_with_len 0 new.locations)) ws) (sym after.words)
-    ∙ listed n (word_at new.shape.words (line_in old.memory)) (word_at new.shape.words (current_words (counted_copies new) new.memory)) (word_at new.shape.words (line_in new.memory)) 0 new.locations
+    ∙ (ap (λ ws. own_words_from n 0 (map (word_in_lines new.shape.words (line_in old.memory)) (range_with_len 0 new.locations)) ws) (sym after.words)
+    ∙ listed n (word_in_lines new.shape.words (line_in old.memory)) (word_in_lines new.shape.words (current_words (counted_copies new) new.memory)) (word_in_lines new.shape.words (line_in new.memory)) 0 new.locations
     (λ l b. memory-is kind m n old new l is before after same called (omega (arith, b))))
   where
-    first : memory_words_of old ≡ map (word_at new.shape.words (line_in old.memory)) (range_with_len 0 new.locations)
-    first = ap (λ w. map (word_at w (line_in old.memory)) (range_with_len 0 old.locations)) (sym (ap (λ s. s.words) same.shape))
-        ∙ ap (λ k. map (word_at new.shape.words (line_in old.memory)) (range_with_len 0 k)) (sym same.locations)
+    first : memory_words_of old ≡ map (word_in_lines new.shape.words (line_in old.memory)) (range_with_len 0 new.locations)
+    first = ap (λ w. map (word_in_lines w (line_in old.memory)) (range_with_len 0 old.locations)) (sym (ap (λ s. s.words) same.shape))
+        ∙ ap (λ k. map (word_in_lines new.shape.words (line_in old.memory)) (range_with_len 0 k)) (sym same.locations)
 
 pub told-is-the-buses : ToldMemoryIsTheBuses
 told-is-the-buses kind c t choices choice old new test words before after same called =

@@ -1,5 +1,5 @@
 -- Values in a list, made one after the other.
-use Rattle.trace_json.proofs.Vocabulary.{◌≡◌, ◌∙◌, ℕ, suc, ◌+◌, ◌-◌, ◌<◌, List, [], ◌∷◌, ◌++◌, map, sym, ap, append_assoc, append-nil, arith, rules, String, Global, Vec, string_bytes, map-append, Data, array, string, view, items_of, Value, the_lemmas, Litmus, core_of, Entry, Configuration, Running, registers_value, store_text, texts, set_json, sets_json, core_with, core_json, cores_json, IsShown}
+use Rattle.trace_json.proofs.Vocabulary.{◌≡◌, ◌∙◌, ℕ, suc, ◌+◌, ◌-◌, ◌<◌, List, [], ◌∷◌, ◌++◌, map, sym, ap, append_assoc, append-nil, arith, rules, String, Global, Vec, string_bytes, map-append, Data, array, string, view, items_of, Value, the_lemmas, Litmus, core_of, Entry, Configuration, Running, registers_value, store_text, array_of_texts, set_json, sets_json, core_with, core_json, cores_json, IsMachineOfTest}
 use Rattle.serde_json.specs.declared.value.Value.TheVariants.{String as Text, Array}
 
 -- a text as a value
@@ -35,16 +35,16 @@ one-core m core cores values after v whole within pushed is so_far =
     listed values after v (core_json m core) (cores_json m (core + 1) (cores - (core + 1))) (cores_json m core (cores - core)) whole pushed is (ap (cores_json m core) left) so_far
 
 -- a core from its parts
-pub core-made : (t : Litmus) (config : Configuration) (m : Running) (core sets place : ℕ) (pending : List Entry) (buffer lines registers d : Data) → IsShown t config m
-    → d ≡ core_with buffer lines place registers → buffer ≡ texts (map (store_text t) pending) → pending ≡ (core_of m.state.flat core).pending
+pub core-made : (t : Litmus) (config : Configuration) (m : Running) (core sets place : ℕ) (pending : List Entry) (buffer lines registers d : Data) → IsMachineOfTest t config m
+    → d ≡ core_with buffer lines place registers → buffer ≡ array_of_texts (map (store_text t) pending) → pending ≡ (core_of m.state.flat core).pending
     → lines ≡ array (items_of (sets_json m core 0 sets)) → sets ≡ config.shape.sets → place ≡ (core_of m.state.flat core).place
     → registers ≡ registers_value (core_of m.state.flat core).registers → d ≡ core_json m core
 core-made t config m core sets place pending buffer lines registers d shown is buffer_is pending_is lines_is sets_is place_is registers_is =
     let mine = core_of m.state.flat core in
     let sets_same : sets ≡ m.statistics.caches.shape.sets = sets_is ∙ sym (ap (λ (c : Configuration). c.shape.sets) shown.config) in
-    let buffer_same : buffer ≡ texts (map (store_text m.test) mine.pending) =
-    buffer_is ∙ (ap (λ u. texts (map (store_text u) pending)) (sym shown.test) ∙ ap (λ p. texts (map (store_text m.test) p)) pending_is) in
+    let buffer_same : buffer ≡ array_of_texts (map (store_text m.test) mine.pending) =
+    buffer_is ∙ (ap (λ u. array_of_texts (map (store_text u) pending)) (sym shown.test) ∙ ap (λ p. array_of_texts (map (store_text m.test) p)) pending_is) in
     let lines_same : lines ≡ array (items_of (sets_json m core 0 m.statistics.caches.shape.sets)) = lines_is ∙ ap (λ n. array (items_of (sets_json m core 0 n))) sets_same in
-    is ∙ (ap (λ b. core_with b lines place registers) buffer_same ∙ (ap (λ l. core_with (texts (map (store_text m.test) mine.pending)) l place registers) lines_same
-    ∙ (ap (λ p. core_with (texts (map (store_text m.test) mine.pending)) (array (items_of (sets_json m core 0 m.statistics.caches.shape.sets))) p registers) place_is
-    ∙ ap (λ r. core_with (texts (map (store_text m.test) mine.pending)) (array (items_of (sets_json m core 0 m.statistics.caches.shape.sets))) mine.place r) registers_is)))
+    is ∙ (ap (λ b. core_with b lines place registers) buffer_same ∙ (ap (λ l. core_with (array_of_texts (map (store_text m.test) mine.pending)) l place registers) lines_same
+    ∙ (ap (λ p. core_with (array_of_texts (map (store_text m.test) mine.pending)) (array (items_of (sets_json m core 0 m.statistics.caches.shape.sets))) p registers) place_is
+    ∙ ap (λ r. core_with (array_of_texts (map (store_text m.test) mine.pending)) (array (items_of (sets_json m core 0 m.statistics.caches.shape.sets))) mine.place r) registers_is)))

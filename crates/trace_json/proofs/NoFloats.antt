@@ -1,5 +1,5 @@
 -- The values of a trace have no float, so that their text is known.
-use Rattle.trace_json.proofs.Vocabulary.{◌≡◌, ℕ, zero, suc, ◌+◌, Bool, true, false, ◌||◌, if◌then◌else◌, List, [], ◌∷◌, map, take, length, ◌/◌, Option, Some, None, refl, nat_cmp, match_ordering, slice_cmp, Ordering, Less, Equal, Greater, or_parts, Data, string, Members, no_members, member, put, items_of, has_float, items_have_float, members_have_float, Litmus, core_of, has_ended, Entry, Choice, printed_entry, table_of, ProtocolKind, CachedLine, Configuration, Running, new_machine, machine_after, bus_holder_of, count, memory_members, memory_value, order_value, Shown, counts, text_or_null, texts, own_words, access_name, stall_name, line_name, names_in_line, store_text, printed_core, printed_move, printed_change, printed_request, transient_name, words_in, words_in_line, kept_words, copy_json, copies_in, set_json, sets_json, core_json, cores_json, holder_json, bus_json, machine_json, stall_in, step_json, source_text, Sourced, sourced_by, last_or, last_step_json, step_to, steps_json, start_json, trace_json, Source}
+use Rattle.trace_json.proofs.Vocabulary.{◌≡◌, ℕ, zero, suc, ◌+◌, Bool, true, false, ◌||◌, if◌then◌else◌, List, [], ◌∷◌, map, take, length, ◌/◌, Option, Some, None, refl, nat_cmp, match_ordering, slice_cmp, Ordering, Less, Equal, Greater, or_parts, Data, string, Members, no_members, member, put, items_of, has_float, items_have_float, members_have_float, Litmus, core_of, has_ended, Entry, Choice, printed_entry, table_of, ProtocolKind, CachedLine, Configuration, Running, new_machine, machine_after, bus_holder_of, count, memory_members, memory_value, order_value, ShownStep, array_of_numbers, text_or_null, array_of_texts, own_words, access_name, stall_name, line_name, names_in_line, store_text, printed_core, printed_move, printed_change, printed_request, transient_name, words_per_line, words_in_line, words_on_bus, copy_json, cached_lines_in, set_json, sets_json, core_json, cores_json, holder_json, bus_json, machine_json, stall_in, step_json, supplier_text, Sourced, sourced_by, last_or, last_step_json, step_to, steps_json, start_json, trace_json, Source}
 use Rattle.std.specs.Option.{option_map}
 use Rattle.machine_core.specs.declared.looking.BusHolder.{BusHolder}
 
@@ -40,8 +40,8 @@ memory (name ∷ names) (word ∷ words) = one_more name word (memory_members na
 
 copy : (m : Running) (core : ℕ) (c : CachedLine) → has_float (copy_json m core c) ≡ false
 copy m core c =
-    let words : List ℕ = take (length (names_in_line m.test.locations (words_in m) c.line)) c.words in
-    neither (has_float (counts words)) false (numbers words) refl
+    let words : List ℕ = take (length (names_in_line m.test.locations (words_per_line m) c.line)) c.words in
+    neither (has_float (array_of_numbers words)) false (numbers words) refl
 
 copies : (m : Running) (core : ℕ) (cs : List CachedLine) → items_have_float (items_of (map (copy_json m core) cs)) ≡ false
 copies m core [] = refl
@@ -49,12 +49,12 @@ copies m core (c ∷ cs) = neither (has_float (copy_json m core c)) _ (copy m co
 
 sets : (m : Running) (core set rest : ℕ) → items_have_float (items_of (sets_json m core set rest)) ≡ false
 sets m core set zero = refl
-sets m core set (suc rest) = neither (has_float (set_json m core set)) _ (copies m core (copies_in m core set)) (sets m core (set + 1) rest)
+sets m core set (suc rest) = neither (has_float (set_json m core set)) _ (copies m core (cached_lines_in m core set)) (sets m core (set + 1) rest)
 
 one_core : (m : Running) (core : ℕ) → has_float (core_json m core) ≡ false
 one_core m core =
     let stores : List (List ℕ) = map (store_text m.test) (core_of m.state.flat core).pending in
-    neither (has_float (texts stores)) _ (strings stores)
+    neither (has_float (array_of_texts stores)) _ (strings stores)
     (neither (items_have_float (items_of (sets_json m core 0 m.statistics.caches.shape.sets))) false (sets m core 0 m.statistics.caches.shape.sets) refl)
 
 cores : (m : Running) (core rest : ℕ) → items_have_float (items_of (cores_json m core rest)) ≡ false
@@ -64,12 +64,12 @@ cores m core (suc rest) = neither (has_float (core_json m core)) _ (one_core m c
 holder : (t : Litmus) (words : ℕ) (seen : List ℕ) (h : BusHolder) → has_float (holder_json t words seen h) ≡ false
 holder t words seen h =
     let state : Option (List ℕ) = option_map transient_name h.transient in
-    let kept : List ℕ = kept_words h.transient (words_in_line words seen (h.loc.0 / words)) in
-    neither (has_float (text_or_null state)) _ (optional state) (neither (has_float (counts kept)) false (numbers kept) refl)
+    let kept : List ℕ = words_on_bus h.transient (words_in_line words seen (h.loc.0 / words)) in
+    neither (has_float (text_or_null state)) _ (optional state) (neither (has_float (array_of_numbers kept)) false (numbers kept) refl)
 
 bus : (m : Running) (h : Option BusHolder) → has_float (bus_json m h) ≡ false
 bus m None = refl
-bus m (Some h) = holder m.test (words_in m) m.state.flat.memory h
+bus m (Some h) = holder m.test (words_per_line m) m.state.flat.memory h
 
 machine : (m : Running) (own : List ℕ) → has_float (machine_json m own) ≡ false
 machine m own =
@@ -78,14 +78,14 @@ machine m own =
     (neither (has_float (memory_value m.test own)) _ (memory m.test.locations own)
     (neither (has_float (memory_value m.test m.state.flat.memory)) false (memory m.test.locations m.state.flat.memory) refl)))
 
-one_step : (t : Litmus) (words : ℕ) (s : Shown) (supplied : Option Source) (after : Data) → has_float after ≡ false → has_float (step_json t words s supplied after) ≡ false
+one_step : (t : Litmus) (words : ℕ) (s : ShownStep) (supplied : Option Source) (after : Data) → has_float after ≡ false → has_float (step_json t words s supplied after) ≡ false
 one_step t words s supplied after h =
     let access : Option (List ℕ) = option_map access_name s.access in
     let flush : Option (List ℕ) = option_map printed_core s.flushed in
     let moved : Option (List ℕ) = option_map printed_move s.moved in
     let stall : Option (List ℕ) = option_map stall_name (stall_in s.outcome) in
     let states : List (List ℕ) = map (printed_change t words) s.changes in
-    let source : Option (List ℕ) = option_map source_text supplied in
+    let source : Option (List ℕ) = option_map supplier_text supplied in
     let transaction : Option (List ℕ) = option_map (printed_request t words) s.request in
     let write_back : Option (List ℕ) = option_map (line_name t words) s.wrote_back in
     neither (has_float (text_or_null access)) _ (optional access)
@@ -94,13 +94,13 @@ one_step t words s supplied after h =
     (neither (has_float (text_or_null flush)) _ (optional flush)
     (neither (has_float (text_or_null moved)) _ (optional moved)
     (neither (has_float (text_or_null stall)) _ (optional stall)
-    (neither (has_float (texts states)) _ (strings states)
+    (neither (has_float (array_of_texts states)) _ (strings states)
     (neither (has_float (text_or_null source)) _ (optional source)
     (neither (has_float (text_or_null transaction)) _ (optional transaction)
     (neither (has_float (text_or_null write_back)) false (optional write_back) refl)))))))))
 
 to : (s : Sourced) (m : Running) (own : List ℕ) → has_float (step_to s m own) ≡ false
-to s m own = one_step m.test (words_in m) s.step s.supplied (machine_json m own) (machine m own)
+to s m own = one_step m.test (words_per_line m) s.step s.supplied (machine_json m own) (machine m own)
 
 steps : (m : Running) (own : List ℕ) (choices : List Choice) → items_have_float (items_of (steps_json m own choices)) ≡ false
 steps m own [] = refl

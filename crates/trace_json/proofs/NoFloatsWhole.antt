@@ -2,7 +2,7 @@
 use Rattle.trace_json.proofs.Vocabulary.{◌≡◌, ℕ, Bool, true, false, ◌||◌, List, [], ◌∷◌, map, Option, Some, None, refl, nat_cmp, match_ordering, slice_cmp, Ordering, Less, Equal, Greater, or_parts, Data, string, Members, no_members, member, put, items_of, has_float, items_have_float, members_have_float, Litmus, Condition, Choice, ProtocolKind, Configuration, run_members, unfinished_members, text_or_null, instruction_text, program_value, programs_value, trace_json, with_trace, ended_value, unended_value}
 use Rattle.std.specs.Prelude.{codes}
 use Rattle.tso_model.specs.declared.instruction.Instr.{Instr}
-use Rattle.tso_report.specs.Shown.{Shown}
+use Rattle.tso_report.specs.Shown.{ShownRun}
 use Rattle.tso_report.proofs.NoFloats.{run_has_no_float}
 use Rattle.std.specs.Option.{option_map}
 use Rattle.trace_json.specs.Proposition.{proposition_text, proposition_value}
@@ -47,7 +47,7 @@ more_has_no_float t kind c choices ms h =
     (one_more (codes "proposition") (proposition_value t) traced (proposition t)
     (one_more (codes "trace") (trace_json t kind c choices) ms (trace_has_no_float t kind c choices) h))
 
-pub ended_has_no_float : (t : Litmus) (kind : ProtocolKind) (c : Configuration) (choices : List Choice) (s : Shown) → has_float (ended_value t kind c choices s) ≡ false
+pub ended_has_no_float : (t : Litmus) (kind : ProtocolKind) (c : Configuration) (choices : List Choice) (s : ShownRun) → has_float (ended_value t kind c choices s) ≡ false
 ended_has_no_float t kind c choices s = more_has_no_float t kind c choices (run_members t kind c s) (run_has_no_float t kind c s)
 
 pub unended_has_no_float : (t : Litmus) (kind : ProtocolKind) (c : Configuration) (choices : List Choice) (used stalled : ℕ) → has_float (unended_value t kind c choices used stalled) ≡ false

@@ -11,7 +11,7 @@ use Rattle.protocol_tables.specs.declared.requests.Transient.{Transient}
 use Rattle.protocol_tables.specs.declared.state.State as protocol
 use Rattle.protocol_tables.specs.declared.state.State.TheVariants.{I, S, E, O, M}
 use Rattle.snoop_bus.specs.Asks.{Awaited}
-use Rattle.snoop_bus.specs.Requests.{asked}
+use Rattle.snoop_bus.specs.Requests.{snoop_column}
 use Rattle.trace_json.specs.declared.supplied.Source.TheVariants.{Cache, Other, Bus, Memory}
 
 -- ---- one core after the other
@@ -116,7 +116,7 @@ in-memory None None None e = (refl, refl)
 
 -- ---- the tables
 
-tables : (kind : ProtocolKind) (request : Request) (state : protocol.State) → (asked (table_of kind) request state).supplies ≡ supplies (Some state)
+tables : (kind : ProtocolKind) (request : Request) (state : protocol.State) → (snoop_column (table_of kind) request state).supplies ≡ supplies (Some state)
 tables Msi GetS state = search rules
 tables Msi GetM state = search rules
 tables Mesi GetS state = search rules

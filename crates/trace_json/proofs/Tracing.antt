@@ -1,5 +1,5 @@
 -- The steps of a run, one after the other.
-use Rattle.trace_json.proofs.Vocabulary.{◌≡◌, ◌∙◌, ℕ, ◌<◌, ◌&&◌, not, Bool, true, false, if◌then◌else◌, List, [], ◌∷◌, ◌++◌, length, map, drop, refl, sym, ap, append_assoc, append-nil, Option, Some, slice_set, subst, ◌≤◌, drop_of_length-le, map-append, Data, view, Value, Litmus, memory_after, chosen, has_ended, CoresExist, Entry, Choice, Table, IsLineSize, Configuration, Running, new_machine, effect_by, machine_after, IsTraced, IsLookedAt, some-word, Shown, step_of, own_words, words_in, machine_json, step_json, found_by, supplied_to, Sourced, sourced_by, last_or, step_to, steps_json, Source, IsShown, told_last}
+use Rattle.trace_json.proofs.Vocabulary.{◌≡◌, ◌∙◌, ℕ, ◌<◌, ◌&&◌, not, Bool, true, false, if◌then◌else◌, List, [], ◌∷◌, ◌++◌, length, map, drop, refl, sym, ap, append_assoc, append-nil, Option, Some, slice_set, subst, ◌≤◌, drop_of_length-le, map-append, Data, view, Value, Litmus, memory_after, chosen, has_ended, CoresExist, Entry, Choice, Table, IsLineSize, Configuration, Running, new_machine, machine_effect, machine_after, IsTraced, IsLookedAt, some-word, ShownStep, trace_step_of, own_words, words_per_line, machine_json, step_json, found_by, supplied_to, Sourced, sourced_by, last_or, step_to, steps_json, Source, IsMachineOfTest, told_last}
 use Rattle.std.proofs.lemmas.List.{length-set}
 use Rattle.tso_model.specs.ProgramOrder.{is_write}
 use Rattle.machine_core.specs.inner.Running.{is_ended}
@@ -49,7 +49,7 @@ one-made m next memory own done c cs whole d sound going next_is own_is d_is so_
 
 -- a step's value with the machine after it
 pub one-step : (t : Litmus) (words : ℕ) (s told : Sourced) (next : Running) (own : List ℕ) (after d : Data)
-    → d ≡ step_json t words s.step s.supplied after → after ≡ machine_json next own → s ≡ told → next.test ≡ t → words_in next ≡ words → d ≡ step_to told next own
+    → d ≡ step_json t words s.step s.supplied after → after ≡ machine_json next own → s ≡ told → next.test ≡ t → words_per_line next ≡ words → d ≡ step_to told next own
 one-step t words s told next own after d is after_is s_is test_is words_are =
     is ∙ (ap (λ a. step_json t words s.step s.supplied a) after_is ∙ (ap (λ (x : Sourced). step_json t words x.step x.supplied (machine_json next own)) s_is
     ∙ (ap (λ u. step_json u words told.step told.supplied (machine_json next own)) (sym test_is)
@@ -89,12 +89,12 @@ length-memory_after (e ∷ es) memory = length-memory_after es _ ∙ same (is_wr
 
 pub each-after : (m next : Running) (c : Choice) (n : ℕ) → next ≡ machine_after m c → length m.state.flat.memory ≡ n → length next.state.flat.memory ≡ n
 each-after m next c n next_is each =
-    ap (λ (x : Running). length x.state.flat.memory) next_is ∙ (length-memory_after (effect_by m c).effect.commits m.state.flat.memory ∙ each)
+    ap (λ (x : Running). length x.state.flat.memory) next_is ∙ (length-memory_after (machine_effect m c).effect.commits m.state.flat.memory ∙ each)
 
-pub is-shown : (t : Litmus) (config : Configuration) (m : Running) → IsTraced t config m → length m.state.flat.memory ≡ length t.locations → IsShown t config m
+pub is-shown : (t : Litmus) (config : Configuration) (m : Running) → IsTraced t config m → length m.state.flat.memory ≡ length t.locations → IsMachineOfTest t config m
 is-shown t config m traced each = record { test = traced.test; config = traced.config; each = each }
 
-pub is-looked-at : (t : Litmus) (config : Configuration) (m : Running) (words : ℕ) → IsShown t config m → words ≡ config.shape.words → IsLineSize words → IsLookedAt t words m
+pub is-looked-at : (t : Litmus) (config : Configuration) (m : Running) (words : ℕ) → IsMachineOfTest t config m → words ≡ config.shape.words → IsLineSize words → IsLookedAt t words m
 is-looked-at t config m words s is size = record {
   test = s.test;
   some = some-word words size;
@@ -129,11 +129,11 @@ pub new-traced : (table : Table) (config : Configuration) (t : Litmus) (m : Runn
 new-traced table config t m is = subst (λ x. IsTraced t config x) (sym is) (traced-first table config t)
 
 -- a step, and where its word was found
-abbrev with_source : Shown → Option Source → Sourced
+abbrev with_source : ShownStep → Option Source → Sourced
 with_source s supplied = record { step = s; supplied = supplied }
 
-pub source-told : (m : Running) (c : Choice) (s : Shown) (found : Option Source) (supplied : Option Source) → s ≡ step_of m c → found ≡ found_by m c → supplied ≡ supplied_to s found
+pub source-told : (m : Running) (c : Choice) (s : ShownStep) (found : Option Source) (supplied : Option Source) → s ≡ trace_step_of m c → found ≡ found_by m c → supplied ≡ supplied_to s found
     → with_source s supplied ≡ sourced_by m c
 source-told m c s found supplied s_is found_is is =
-    let same : supplied ≡ supplied_to (step_of m c) (found_by m c) = is ∙ (ap (λ x. supplied_to x found) s_is ∙ ap (supplied_to (step_of m c)) found_is) in
+    let same : supplied ≡ supplied_to (trace_step_of m c) (found_by m c) = is ∙ (ap (λ x. supplied_to x found) s_is ∙ ap (supplied_to (trace_step_of m c)) found_is) in
     (λ i. record { step = s_is i; supplied = same i })

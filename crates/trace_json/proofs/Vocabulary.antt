@@ -18,16 +18,16 @@ pub use Rattle.protocol_tables.specs.Tables.{table_of, Table}
 pub use Rattle.protocol_tables.specs.declared.kind.ProtocolKind.{ProtocolKind}
 pub use Rattle.snoop_bus.specs.declared.looking.CachedLine.{CachedLine}
 pub use Rattle.machine_core.specs.Configuration.{Configuration}
-pub use Rattle.machine_core.specs.Running.{Running, new_machine, machine_after, effect_by}
+pub use Rattle.machine_core.specs.Running.{Running, new_machine, machine_after, machine_effect}
 pub use Rattle.machine_core.specs.Looking.{bus_holder_of, bus_holder, bus_holder_as}
 pub use Rattle.tso_report.specs.Json.{count, memory_members, memory_value, order_value, run_members, unfinished_members, registers_value}
-pub use Rattle.trace_report.specs.Shown.{Shown, shown}
-pub use Rattle.trace_json.specs.Values.{counts, text_or_null, texts}
+pub use Rattle.trace_report.specs.Shown.{ShownStep, shown_step}
+pub use Rattle.trace_json.specs.Values.{array_of_numbers, text_or_null, array_of_texts}
 pub use Rattle.trace_json.specs.OwnWords.{own_words, is_newer_in, own_word, own_words_from, is_newer}
-pub use Rattle.trace_report.specs.Lines.{access_name, stall_name, line_name, names_in_line, store_text, printed_core, printed_move, printed_change, printed_request, transient_name, joined}
-pub use Rattle.trace_json.specs.MachineJson.{words_in, words_in_line, kept_words, copy_json, copies_in, set_json, sets_json, core_json, cores_json, holder_json, bus_json, machine_json, core_with}
+pub use Rattle.trace_report.specs.Lines.{access_name, stall_name, line_name, names_in_line, store_text, printed_core, printed_move, printed_change, printed_request, transient_name, joined_by_plus}
+pub use Rattle.trace_json.specs.MachineJson.{words_per_line, words_in_line, words_on_bus, copy_json, cached_lines_in, set_json, sets_json, core_json, cores_json, holder_json, bus_json, machine_json, core_with}
 pub use Rattle.trace_json.specs.StepJson.{stall_in, step_json}
-pub use Rattle.trace_json.specs.Supplied.{source_text, found_by, supplied_to, supplies, supplier_from, supplier_or_memory}
+pub use Rattle.trace_json.specs.Supplied.{supplier_text, found_by, supplied_to, supplies, supplier_from, supplier_or_memory}
 pub use Rattle.trace_json.specs.TraceJson.{Sourced, sourced_by, last_or, last_step_json, step_to, steps_json, start_json, trace_json, alone}
 pub use Rattle.trace_json.specs.declared.supplied.Source.{Source}
 pub use Rattle.tso_model.specs.Condition.{Condition, condition_of}
@@ -38,13 +38,13 @@ pub use Rattle.std.proofs.lemmas.List.{drop_all, length-drop, length-take, drop_
 pub use Rattle.std.proofs.Math.ListN.{drop_of_length-le, length-set}
 pub use Rattle.std.proofs.lemmas.Option.{unwrap_or-slice_get}
 pub use Rattle.machine_core.specs.Caches.{Caches, at_access}
-pub use Rattle.trace_report.specs.Steps.{line_state, lines_of, step_of, awaited_at, state_with}
+pub use Rattle.trace_report.specs.Steps.{line_state, number_of_lines, trace_step_of, awaited_at, state_with}
 pub use Rattle.serde_json.specs.declared.value.Value.{Value, the_lemmas}
-pub use Rattle.trace_json.specs.inner.Looked.{IsShown, told_last, sourced, HasMemory}
+pub use Rattle.trace_json.specs.inner.Looked.{IsMachineOfTest, told_last, sourced, HasMemory}
 pub use Rattle.snoop_bus.specs.Geometry.{IsLineSize}
-pub use Rattle.trace_report.specs.Told.{IsTraced, IsTold}
+pub use Rattle.trace_report.specs.Told.{IsTraced, IsTracedInStates}
 pub use Rattle.trace_report.specs.inner.Told.{IsLookedAt}
 pub use Rattle.trace_report.proofs.Whole.{some-word, looked-at}
 pub use Rattle.trace_json.specs.SupplyLaws.{copy_on, SourcesAreTold}
-pub use Rattle.trace_report.specs.Known.{IsLine, IsKnown}
+pub use Rattle.trace_report.specs.Known.{IsLine, StepNamesExist}
 pub use Rattle.serde_json.proofs.Views.{view-Object}

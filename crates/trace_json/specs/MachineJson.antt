@@ -18,28 +18,28 @@ use Rattle.machine_core.specs.declared.looking.BusHolder.{BusHolder}
 use Rattle.tso_report.specs.Json.{count, memory_value, registers_value}
 use Rattle.trace_report.specs.Lines.{names_in_line, line_name, store_text, state_name, transient_name}
 use Rattle.trace_report.specs.Steps.{line_state}
-use Rattle.trace_json.specs.Values.{counts, text_or_null, texts}
+use Rattle.trace_json.specs.Values.{array_of_numbers, text_or_null, array_of_texts}
 
 -- how many words a machine's lines have
-abbrev pub words_in : Running → ℕ
-words_in m = m.statistics.caches.shape.words
+abbrev pub words_per_line : Running → ℕ
+words_per_line m = m.statistics.caches.shape.words
 
 -- ---- the cores
 
 -- a core's copy of a line: the line's locations, what it is in, and the words of these locations
 abbrev pub copy_json : Running → ℕ → CachedLine → Data
 copy_json m core c =
-    object (member (codes "line") (string (line_name m.test (words_in m) c.line))
+    object (member (codes "line") (string (line_name m.test (words_per_line m) c.line))
     (member (codes "state") (string (state_name (line_state m core c.line)))
-    (member (codes "words") (counts (take (length (names_in_line m.test.locations (words_in m) c.line)) c.words)) no_members)))
+    (member (codes "words") (array_of_numbers (take (length (names_in_line m.test.locations (words_per_line m) c.line)) c.words)) no_members)))
 
 -- the copies of a core's set, the most recently used first
-abbrev pub copies_in : Running → ℕ → ℕ → List CachedLine
-copies_in m core set =
-    map (with_words (words_in m) m.state.flat.memory) (slice_index_or (sets_of m.statistics.caches.contents core) set (tag_set [] 1)).tags
+abbrev pub cached_lines_in : Running → ℕ → ℕ → List CachedLine
+cached_lines_in m core set =
+    map (with_words (words_per_line m) m.state.flat.memory) (slice_index_or (sets_of m.statistics.caches.contents core) set (tag_set [] 1)).tags
 
 abbrev pub set_json : Running → ℕ → ℕ → Data
-set_json m core set = array (items_of (map (copy_json m core) (copies_in m core set)))
+set_json m core set = array (items_of (map (copy_json m core) (cached_lines_in m core set)))
 
 -- those of a core's sets from this number on, so many
 abbrev pub sets_json : Running → ℕ → ℕ → ℕ → List Data
@@ -56,7 +56,7 @@ core_with buffer lines place registers =
 
 abbrev pub core_json : Running → ℕ → Data
 core_json m core =
-    core_with (texts (map (store_text m.test) (core_of m.state.flat core).pending)) (array (items_of (sets_json m core 0 m.statistics.caches.shape.sets)))
+    core_with (array_of_texts (map (store_text m.test) (core_of m.state.flat core).pending)) (array (items_of (sets_json m core 0 m.statistics.caches.shape.sets)))
     (core_of m.state.flat core).place (registers_value (core_of m.state.flat core).registers)
 
 -- the cores from this number on, so many
@@ -71,9 +71,9 @@ abbrev pub words_in_line : ℕ → List ℕ → ℕ → List ℕ
 words_in_line words seen line = drop (line * words) (take (line * words + words) seen)
 
 -- the words that the bus keeps for its holder: none where nothing is awaited
-abbrev pub kept_words : Option Transient → List ℕ → List ℕ
-kept_words None words = []
-kept_words (Some transient) words = words
+abbrev pub words_on_bus : Option Transient → List ℕ → List ℕ
+words_on_bus None words = []
+words_on_bus (Some transient) words = words
 
 -- the action that holds the bus, where lines have so many words and these words are seen: its next choice, its core, its line, what
 -- that is in until its words come (`null` where nothing is awaited), and the words that the bus keeps
@@ -83,11 +83,11 @@ holder_json t words seen h =
     (member (codes "core") (count (chosen h.choice))
     (member (codes "line") (string (line_name t words (h.loc.0 / words)))
     (member (codes "state") (text_or_null (option_map transient_name h.transient))
-    (member (codes "words") (counts (kept_words h.transient (words_in_line words seen (h.loc.0 / words)))) no_members)))))
+    (member (codes "words") (array_of_numbers (words_on_bus h.transient (words_in_line words seen (h.loc.0 / words)))) no_members)))))
 
 abbrev pub bus_json : Running → Option BusHolder → Data
 bus_json m None = null
-bus_json m (Some h) = holder_json m.test (words_in m) m.state.flat.memory h
+bus_json m (Some h) = holder_json m.test (words_per_line m) m.state.flat.memory h
 
 -- ---- the machine
 

@@ -9,7 +9,7 @@ use Rattle.tso_model.specs.declared.instruction.Loc.{Loc}
 use Rattle.tso_model.specs.declared.instruction.Instr.{Instr}
 use Rattle.tso_model.specs.declared.instruction.Instr.TheVariants.{StoreImm, StoreReg, Load, SetImm, SetReg, Fence}
 use Rattle.tso_model.specs.declared.instruction.Instr.TheVariants.{Xchg, Xadd}
-use Rattle.trace_json.specs.Values.{texts}
+use Rattle.trace_json.specs.Values.{array_of_texts}
 
 abbrev pub location_name : Litmus → Loc → List ℕ
 location_name t loc = slice_index_or t.locations loc.0 []
@@ -28,7 +28,7 @@ instruction_text t (Xadd loc reg) = codes "LOCK XADD [" ++ (location_name t loc 
 
 -- the instructions of a program, in program order
 abbrev pub program_value : Litmus → List Instr → Data
-program_value t program = texts (map (instruction_text t) program)
+program_value t program = array_of_texts (map (instruction_text t) program)
 
 -- those of each core
 abbrev pub programs_value : Litmus → Data

@@ -19,9 +19,9 @@ is_joined (OrClaim left right) = true
 is_joined _ = false
 
 -- a text, in brackets where it is to have them
-abbrev pub bracketed : Bool → List ℕ → List ℕ
-bracketed true text = codes "(" ++ (text ++ codes ")")
-bracketed false text = text
+abbrev pub bracketed_text : Bool → List ℕ → List ℕ
+bracketed_text true text = codes "(" ++ (text ++ codes ")")
+bracketed_text false text = text
 
 abbrev pub truth_word : Bool → List ℕ
 truth_word true = codes "true"
@@ -33,11 +33,11 @@ abbrev pub proposition_text : Litmus → Claim → List ℕ
 proposition_text t (TruthClaim truth) = truth_word truth
 proposition_text t (RegClaim core reg value) = decimal core ++ (codes ":" ++ (name_of reg ++ (codes "=" ++ decimal value)))
 proposition_text t (LocClaim loc value) = slice_index_or t.locations loc [] ++ (codes "=" ++ decimal value)
-proposition_text t (NotClaim inner) = codes "~" ++ bracketed (is_joined inner) (proposition_text t inner)
+proposition_text t (NotClaim inner) = codes "~" ++ bracketed_text (is_joined inner) (proposition_text t inner)
 proposition_text t (AndClaim left right) =
-    bracketed (is_or left) (proposition_text t left) ++ (codes " /\\ " ++ bracketed (is_joined right) (proposition_text t right))
+    bracketed_text (is_or left) (proposition_text t left) ++ (codes " /\\ " ++ bracketed_text (is_joined right) (proposition_text t right))
 proposition_text t (OrClaim left right) =
-    proposition_text t left ++ (codes " \\/ " ++ bracketed (is_or right) (proposition_text t right))
+    proposition_text t left ++ (codes " \\/ " ++ bracketed_text (is_or right) (proposition_text t right))
 
 -- that of the test's condition, or `null` where it has none
 abbrev pub proposition_value : Litmus → Data

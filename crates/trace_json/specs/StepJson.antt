@@ -8,11 +8,11 @@ use Rattle.tso_model.specs.declared.choice.Outcome.{Outcome}
 use Rattle.tso_model.specs.declared.choice.Outcome.TheVariants.{Committed, Buffered, Moved, Asked, Stalled}
 use Rattle.scheduler.specs.Printed.{printed_choice}
 use Rattle.tso_report.specs.Json.{order_value}
-use Rattle.trace_report.specs.Shown.{Shown}
+use Rattle.trace_report.specs.Shown.{ShownStep}
 use Rattle.trace_report.specs.Lines.{access_name, stall_name, outcome_name, line_name, printed_core, printed_move}
 use Rattle.trace_report.specs.Lines.{printed_change, printed_request}
-use Rattle.trace_json.specs.Values.{text_or_null, texts}
-use Rattle.trace_json.specs.Supplied.{source_text}
+use Rattle.trace_json.specs.Values.{text_or_null, array_of_texts}
+use Rattle.trace_json.specs.Supplied.{supplier_text}
 use Rattle.trace_json.specs.declared.supplied.Source.{Source}
 
 -- the outcome's word, and of a stall why
@@ -31,7 +31,7 @@ stall_in Asked = None
 stall_in (Stalled why) = Some why
 
 -- a step of the test on caches whose lines have so many words, with where the word is found that it reads, and the machine after it
-abbrev pub step_json : Litmus → ℕ → Shown → Option Source → Data → Data
+abbrev pub step_json : Litmus → ℕ → ShownStep → Option Source → Data → Data
 step_json t words s supplied after =
     object (member (codes "access") (text_or_null (option_map access_name s.access))
     (member (codes "after") after
@@ -42,7 +42,7 @@ step_json t words s supplied after =
     (member (codes "moved") (text_or_null (option_map printed_move s.moved))
     (member (codes "outcome") (string (outcome_word s.outcome))
     (member (codes "stall") (text_or_null (option_map stall_name (stall_in s.outcome)))
-    (member (codes "states") (texts (map (printed_change t words) s.changes))
-    (member (codes "supplied") (text_or_null (option_map source_text supplied))
+    (member (codes "states") (array_of_texts (map (printed_change t words) s.changes))
+    (member (codes "supplied") (text_or_null (option_map supplier_text supplied))
     (member (codes "transaction") (text_or_null (option_map (printed_request t words) s.request))
     (member (codes "write_back") (text_or_null (option_map (line_name t words) s.wrote_back)) no_members)))))))))))))

@@ -13,9 +13,9 @@ use Rattle.protocol_tables.specs.declared.state.State.{State}
 use Rattle.protocol_tables.specs.declared.state.State.TheVariants.{I, S, E, O, M}
 use Rattle.snoop_bus.specs.Asks.{tag_at}
 use Rattle.machine_core.specs.Running.{Running}
-use Rattle.trace_report.specs.Shown.{Shown}
+use Rattle.trace_report.specs.Shown.{ShownStep}
 use Rattle.trace_report.specs.Lines.{printed_core}
-use Rattle.trace_report.specs.Steps.{step_of}
+use Rattle.trace_report.specs.Steps.{trace_step_of}
 use Rattle.trace_json.specs.declared.supplied.Source.{Source}
 use Rattle.trace_json.specs.declared.supplied.Source.TheVariants.{Buffer, Cache, Other, Bus, Memory}
 
@@ -69,17 +69,17 @@ is_asked Asked = true
 is_asked (Stalled why) = false
 
 -- of a step that would find its line there: its own stores answered it, or it made its access, or it asked for it on a split bus
-abbrev pub supplied_to : Shown → Option Source → Option Source
+abbrev pub supplied_to : ShownStep → Option Source → Option Source
 supplied_to s found = if s.forwarded then Some Buffer else if is_some s.access || is_asked s.outcome then found else None
 
 -- where the word is found that a choice on a machine reads, or asks for to read it; none where it reads nothing
 abbrev pub supplied_by : Running → Choice → Option Source
-supplied_by m choice = supplied_to (step_of m choice) (found_by m choice)
+supplied_by m choice = supplied_to (trace_step_of m choice) (found_by m choice)
 
 -- `buffer`, `cache`, `P1`, `bus` and `memory`
-abbrev pub source_text : Source → List ℕ
-source_text Buffer = codes "buffer"
-source_text Cache = codes "cache"
-source_text (Other core) = printed_core core
-source_text Bus = codes "bus"
-source_text Memory = codes "memory"
+abbrev pub supplier_text : Source → List ℕ
+supplier_text Buffer = codes "buffer"
+supplier_text Cache = codes "cache"
+supplier_text (Other core) = printed_core core
+supplier_text Bus = codes "bus"
+supplier_text Memory = codes "memory"

@@ -7,7 +7,7 @@ use Rattle.protocol_tables.specs.declared.kind.ProtocolKind.{ProtocolKind}
 use Rattle.protocol_tables.specs.declared.requests.Request.{Request}
 use Rattle.protocol_tables.specs.declared.state.State.{State}
 use Rattle.snoop_bus.specs.Asks.{tag_at}
-use Rattle.snoop_bus.specs.Requests.{asked}
+use Rattle.snoop_bus.specs.Requests.{snoop_column}
 use Rattle.machine_core.specs.Running.{Running}
 use Rattle.trace_json.specs.OwnWords.{own_words}
 use Rattle.trace_json.specs.Supplied.{supplies, found_at}
@@ -31,7 +31,7 @@ NobodySupplies m line = (core : ℕ) → core < length m.test.programs → suppl
 -- told of a line that a core is to read is so: its own cache has a copy; or it has none and awaits the line; or the other core that
 -- is told supplies it; or nobody does. Then the words that a trace tells of memory are those that are seen
 pub record SourcesAreTold : Type 0 where
-  pub tables : (kind : ProtocolKind) (request : Request) (state : State) → (asked (table_of kind) request state).supplies ≡ supplies (Some state)
+  pub tables : (kind : ProtocolKind) (request : Request) (state : State) → (snoop_column (table_of kind) request state).supplies ≡ supplies (Some state)
   pub own : (m : Running) (core line : ℕ) → found_at m core line ≡ Cache → is_some (copy_on m core line) ≡ true
   pub bus : (m : Running) (core line : ℕ) → found_at m core line ≡ Bus → (copy_on m core line ≡ None) × (is_some m.statistics.caches.awaited ≡ true)
   pub other : (m : Running) (core line : ℕ) (other : Core) → found_at m core line ≡ Other other → SuppliesTo m core line other

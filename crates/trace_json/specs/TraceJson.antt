@@ -10,25 +10,25 @@ use Rattle.protocol_tables.specs.Tables.{table_of}
 use Rattle.protocol_tables.specs.declared.kind.ProtocolKind.{ProtocolKind}
 use Rattle.machine_core.specs.Configuration.{Configuration}
 use Rattle.machine_core.specs.Running.{Running, new_machine, machine_after}
-use Rattle.trace_report.specs.Shown.{Shown}
-use Rattle.trace_report.specs.Steps.{step_of}
+use Rattle.trace_report.specs.Shown.{ShownStep}
+use Rattle.trace_report.specs.Steps.{trace_step_of}
 use Rattle.trace_json.specs.OwnWords.{own_words}
-use Rattle.trace_json.specs.MachineJson.{words_in, machine_json}
+use Rattle.trace_json.specs.MachineJson.{words_per_line, machine_json}
 use Rattle.trace_json.specs.StepJson.{step_json}
 use Rattle.trace_json.specs.Supplied.{supplied_by}
 use Rattle.trace_json.specs.declared.supplied.Source.{Source}
 
 -- what a choice did, and where the word is found that it read
 pub record Sourced : Type 0 where
-  pub step : Shown
+  pub step : ShownStep
   pub supplied : Option Source
 
 abbrev pub sourced_by : Running → Choice → Sourced
-sourced_by m choice = record { step = step_of m choice; supplied = supplied_by m choice }
+sourced_by m choice = record { step = trace_step_of m choice; supplied = supplied_by m choice }
 
 -- a step to this machine, whose memory has these words
 abbrev pub step_to : Sourced → Running → List ℕ → Data
-step_to s m memory = step_json m.test (words_in m) s.step s.supplied (machine_json m memory)
+step_to s m memory = step_json m.test (words_per_line m) s.step s.supplied (machine_json m memory)
 
 -- what each choice did that was used, up to the first moment at which the test had ended, from a machine whose memory has these words
 abbrev pub steps_json : Running → List ℕ → List Choice → List Data

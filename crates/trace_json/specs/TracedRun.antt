@@ -7,7 +7,7 @@ use Rattle.tso_model.specs.Litmus.{Litmus}
 use Rattle.tso_model.specs.declared.choice.Choice.{Choice}
 use Rattle.protocol_tables.specs.declared.kind.ProtocolKind.{ProtocolKind}
 use Rattle.machine_core.specs.Configuration.{Configuration}
-use Rattle.tso_report.specs.Shown.{Shown}
+use Rattle.tso_report.specs.Shown.{ShownRun}
 use Rattle.tso_report.specs.Report.{line}
 use Rattle.tso_report.specs.Json.{run_members, unfinished_members}
 use Rattle.trace_json.specs.Programs.{programs_value}
@@ -26,7 +26,7 @@ with_trace t kind c choices members =
     (put (codes "trace") (trace_json t kind c choices) members))
 
 -- a run of the test that ended, under these choices on a machine of this protocol and configuration
-abbrev pub ended_value : Litmus → ProtocolKind → Configuration → List Choice → Shown → Data
+abbrev pub ended_value : Litmus → ProtocolKind → Configuration → List Choice → ShownRun → Data
 ended_value t kind c choices s = object (with_trace t kind c choices (run_members t kind c s))
 
 -- one that didn't end: so many choices were used, and so many of them stalled
@@ -34,7 +34,7 @@ abbrev pub unended_value : Litmus → ProtocolKind → Configuration → List Ch
 unended_value t kind c choices used stalled = object (with_trace t kind c choices (unfinished_members used stalled))
 
 -- what is printed: the compact text of the value, on one line
-abbrev pub json_ended : Litmus → ProtocolKind → Configuration → List Choice → Shown → List ℕ
+abbrev pub json_ended : Litmus → ProtocolKind → Configuration → List Choice → ShownRun → List ℕ
 json_ended t kind c choices s = line (compact_text (ended_value t kind c choices s))
 
 abbrev pub json_unended : Litmus → ProtocolKind → Configuration → List Choice → ℕ → ℕ → List ℕ

@@ -5,13 +5,13 @@ use Rattle.serde_json.specs.View.{items_of}
 use Rattle.tso_report.specs.Json.{count}
 
 -- numbers, and texts, in a list
-abbrev pub counts : List ℕ → Data
-counts numbers = array (items_of (map count numbers))
+abbrev pub array_of_numbers : List ℕ → Data
+array_of_numbers numbers = array (items_of (map count numbers))
 
 -- a text, or `null`
 abbrev pub text_or_null : Option (List ℕ) → Data
 text_or_null None = null
 text_or_null (Some text) = string text
 
-abbrev pub texts : List (List ℕ) → Data
-texts list = array (items_of (map string list))
+abbrev pub array_of_texts : List (List ℕ) → Data
+array_of_texts list = array (items_of (map string list))

@@ -7,10 +7,10 @@ ghost use Rattle.serde_json.specs.View.{view, members_view, items_of};
 ghost use Rattle.machine_core.specs.Looking.{bus_holder_of};
 ghost use Rattle.trace_report.specs.Lines.{names_in_line};
 ghost use Rattle.trace_report.specs.inner.Told.{IsLookedAt};
-ghost use Rattle.trace_json.specs.MachineJson.{copy_json, copies_in, set_json, sets_json};
+ghost use Rattle.trace_json.specs.MachineJson.{copy_json, cached_lines_in, set_json, sets_json};
 ghost use Rattle.trace_json.specs.inner.Looked.{copy_members};
 
-use crate::texts::{counts, line_text};
+use crate::texts::{array_of_numbers, line_text};
 use machine_core::{BusHolder, CachedLine, Machine};
 use protocol_tables::Protocol;
 use serde_json::{Map, Value, put};
@@ -56,7 +56,7 @@ fn set_value<P: Protocol>(
     requires line { words ≤ 4 }
     ensures { IfOk result (λ value. view value ≡ set_json machine.now core.0 set) }
 {
-    let copies = copies_in(alloc, machine, core, set)?;
+    let copies = cached_lines_in(alloc, machine, core, set)?;
     copies_value(alloc, machine, test, words, core, &copies)
 }
 
@@ -89,7 +89,7 @@ fn copies_in<P: Protocol>(
     core: Core,
     set: u8,
 ) -> Result<Vec<CachedLine>, NoMemory>
-    ensures { IfOk result (λ copies. copies.items ≡ copies_in machine.now core.0 set) }
+    ensures { IfOk result (λ copies. copies.items ≡ cached_lines_in machine.now core.0 set) }
 {
     let mut copies = Vec::new(alloc);
     while let Some(copy) = machine.cached_line(core, set, copies.len()) {
@@ -136,7 +136,7 @@ fn put_copy(
     put(members, alloc, "line", Value::String(line))?;
     let state = Value::try_from_str(alloc, state)?;
     put(members, alloc, "state", state)?;
-    let words = counts(alloc, words)?;
+    let words = array_of_numbers(alloc, words)?;
     put(members, alloc, "words", words)?;
     Ok(())
 }

@@ -4,9 +4,9 @@ ghost use Rattle.std.specs.Prelude.{◌≡◌, ◌<◌, IfOk, length, map};
 ghost use Rattle.serde_json.specs.Data.{array};
 ghost use Rattle.serde_json.specs.View.{view, items_of};
 ghost use Rattle.trace_report.specs.Lines.{store_text};
-ghost use Rattle.trace_json.specs.Values.{texts};
+ghost use Rattle.trace_json.specs.Values.{array_of_texts};
 ghost use Rattle.trace_json.specs.MachineJson.{core_with, core_json, cores_json};
-ghost use Rattle.trace_json.specs.inner.Looked.{IsShown};
+ghost use Rattle.trace_json.specs.inner.Looked.{IsMachineOfTest};
 
 use crate::copies::sets_value;
 use crate::texts::store_text;
@@ -27,7 +27,7 @@ pub fn cores_value<P: Protocol>(
     test: &Test,
     config: Config,
 ) -> Result<Value, NoMemory>
-    requires { IsShown test.now config machine.now }
+    requires { IsMachineOfTest test.now config machine.now }
     ensures { IfOk result (λ value. view value ≡ array (items_of (cores_json machine.now 0 (length machine.now.test.programs)))) }
 {
     let mut values = Vec::new(alloc);
@@ -45,7 +45,7 @@ fn core_value<P: Protocol>(
     config: Config,
     core: Core,
 ) -> Result<Value, NoMemory>
-    requires shown { IsShown test.now config machine.now }
+    requires shown { IsMachineOfTest test.now config machine.now }
     requires core { core.0 < length test.now.programs }
     ensures { IfOk result (λ value. view value ≡ core_json machine.now core.0) }
 {
@@ -79,7 +79,7 @@ fn core_of_parts(
 
 /// Pending stores.
 fn buffer_value(alloc: Global, test: &Test, stores: &[Entry]) -> Result<Value, NoMemory>
-    ensures { IfOk result (λ value. view value ≡ texts (map (store_text test.now) stores.now)) }
+    ensures { IfOk result (λ value. view value ≡ array_of_texts (map (store_text test.now) stores.now)) }
 {
     let mut values = Vec::new(alloc);
     for store in stores {

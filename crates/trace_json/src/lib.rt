@@ -4,8 +4,8 @@
 
 mod copies;
 mod cores;
-pub mod laws;
 mod machine;
+pub mod memory_words;
 mod own_words;
 mod programs;
 mod proposition;

@@ -4,11 +4,11 @@ ghost use Rattle.std.specs.Prelude.{◌≡◌, ◌<◌, [], IfOk, OnOk, length};
 ghost use Rattle.serde_json.specs.View.{view, members_view};
 ghost use Rattle.machine_core.specs.Looking.{bus_holder_of};
 ghost use Rattle.trace_report.specs.inner.Told.{IsLookedAt};
-ghost use Rattle.trace_json.specs.MachineJson.{words_in_line, kept_words, holder_json, bus_json, machine_json};
-ghost use Rattle.trace_json.specs.inner.Looked.{IsShown, holder_members, machine_members};
+ghost use Rattle.trace_json.specs.MachineJson.{words_in_line, words_on_bus, holder_json, bus_json, machine_json};
+ghost use Rattle.trace_json.specs.inner.Looked.{IsMachineOfTest, holder_members, machine_members};
 
 use crate::cores::cores_value;
-use crate::texts::{choice_text, counts, line_text, name_or_null};
+use crate::texts::{array_of_numbers, choice_text, line_text, name_or_null};
 use machine_core::{BusHolder, Choice, Config, Machine};
 use protocol_tables::{Protocol, Transient};
 use serde_json::{Map, Value, put};
@@ -28,7 +28,7 @@ pub fn machine_value<P: Protocol>(
     config: Config,
     memory: &[u32],
 ) -> Result<Value, NoMemory>
-    requires shown { IsShown test.now config machine.now }
+    requires shown { IsMachineOfTest test.now config machine.now }
     requires memory { length memory.now ≡ length test.now.locations }
     ensures { IfOk result (λ value. view value ≡ machine_json machine.now memory.now) }
 {
@@ -48,7 +48,7 @@ fn put_machine<P: Protocol>(
     memory: &[u32],
     seen: &[u32],
 ) -> Result<(), NoMemory>
-    requires shown { IsShown test.now config machine.now }
+    requires shown { IsMachineOfTest test.now config machine.now }
     requires memory { length memory.now ≡ length test.now.locations }
     requires seen { seen.now ≡ machine.now.state.flat.memory }
     requires empty { members.old.entries ≡ [] }
@@ -139,15 +139,15 @@ fn put_holder(
     put(members, alloc, "line", Value::String(name))?;
     let state = name_or_null(alloc, holder.transient.map(transient_name))?;
     put(members, alloc, "state", state)?;
-    let kept = kept_words(holder.transient, words_in_line(words, seen, line));
-    let kept = counts(alloc, kept)?;
+    let kept = words_on_bus(holder.transient, words_in_line(words, seen, line));
+    let kept = array_of_numbers(alloc, kept)?;
     put(members, alloc, "words", kept)?;
     Ok(())
 }
 
 /// The words that the bus keeps for its holder: none where nothing is awaited.
-fn kept_words(transient: Option<Transient>, words: &[u32]) -> &[u32]
-    ensures { result.now ≡ kept_words transient words.now }
+fn words_on_bus(transient: Option<Transient>, words: &[u32]) -> &[u32]
+    ensures { result.now ≡ words_on_bus transient words.now }
 {
     match transient {
         None => &[],

@@ -34,13 +34,13 @@ pub fn own_words<P: Protocol>(
     for loc in 0..test.locations() {
         let seen = machine.seen(Loc(loc)).unwrap_or(0);
         let is_newer = is_newer_in(machine, holder, test, words, loc / words);
-        own.push(newer_or(is_newer, before[loc as usize], seen))?;
+        own.push(memory_word(is_newer, before[loc as usize], seen))?;
     }
     Ok(own)
 }
 
 /// The word that memory had before, where a copy may have a newer one; else the one that is seen.
-fn newer_or(is_newer: bool, before: u32, seen: u32) -> u32
+fn memory_word(is_newer: bool, before: u32, seen: u32) -> u32
     ensures { result ≡ (if is_newer then before else seen) }
 {
     if is_newer { before } else { seen }

@@ -6,7 +6,7 @@ ghost use Rattle.serde_json.specs.View.{view};
 ghost use Rattle.tso_model.specs.Registers.{name_of};
 ghost use Rattle.tso_model.specs.Condition.{NamesExist};
 ghost use Rattle.tso_model.specs.Condition.{claim_of};
-ghost use Rattle.trace_json.specs.Proposition.{is_or, is_joined, bracketed, truth_word, proposition_text, proposition_value};
+ghost use Rattle.trace_json.specs.Proposition.{is_or, is_joined, bracketed_text, truth_word, proposition_text, proposition_value};
 ghost use Rattle.trace_json.specs.inner.Brackets.{opening, closing};
 
 use serde_json::Value;
@@ -39,7 +39,7 @@ fn write_proposition(
     in_brackets: bool,
 ) -> Result<(), NoMemory>
     requires { NamesExist (length test.now.programs) (length test.now.locations) (claim_of prop.now) }
-    ensures { OnOk result (string_bytes text.new ≡ string_bytes text.old ++ bracketed in_brackets (proposition_text test.now (claim_of prop.now))) }
+    ensures { OnOk result (string_bytes text.new ≡ string_bytes text.old ++ bracketed_text in_brackets (proposition_text test.now (claim_of prop.now))) }
 {
     open(text, in_brackets)?;
     match prop {

@@ -4,11 +4,11 @@
 ghost use Rattle.std.specs.Prelude.{◌≡◌, ◌<◌, [], IfOk, OnOk, IfSome, All, map, option_map, string_bytes};
 ghost use Rattle.serde_json.specs.View.{view, members_view};
 ghost use Rattle.order_builder.specs.PrintedOrder.{HasLocation};
-ghost use Rattle.trace_report.specs.Shown.{shown};
-ghost use Rattle.trace_report.specs.Known.{IsLine, IsKnown};
+ghost use Rattle.trace_report.specs.Shown.{shown_step};
+ghost use Rattle.trace_report.specs.Known.{IsLine, StepNamesExist};
 ghost use Rattle.trace_report.specs.Lines.{access_name, stall_name, line_name, printed_core, printed_move};
 ghost use Rattle.trace_report.specs.Lines.{printed_change, printed_request};
-ghost use Rattle.trace_json.specs.Values.{text_or_null, texts};
+ghost use Rattle.trace_json.specs.Values.{text_or_null, array_of_texts};
 ghost use Rattle.trace_json.specs.StepJson.{outcome_word, stall_in, step_json};
 ghost use Rattle.trace_json.specs.inner.Stepped.{done_members, with_left};
 
@@ -36,8 +36,8 @@ pub fn step_value(
     after: Value,
 ) -> Result<Value, NoMemory>
     requires words { 0 < words }
-    requires known { IsKnown test.now words (shown step.now) }
-    ensures { IfOk result (λ value. view value ≡ step_json test.now words (shown step.now) supplied (view after)) }
+    requires known { StepNamesExist test.now words (shown_step step.now) }
+    ensures { IfOk result (λ value. view value ≡ step_json test.now words (shown_step step.now) supplied (view after)) }
 {
     let mut members = Map::new(alloc);
     put_done(&mut members, alloc, test, step, after)?;
@@ -55,7 +55,7 @@ fn put_done(
 ) -> Result<(), NoMemory>
     requires known { All (HasLocation test.now) step.now.entries.items }
     requires empty { members.old.entries ≡ [] }
-    ensures { OnOk result (members_view members.new.entries ≡ done_members test.now (shown step.now) (view after)) }
+    ensures { OnOk result (members_view members.new.entries ≡ done_members test.now (shown_step step.now) (view after)) }
 {
     let access = access_value(alloc, step.access)?;
     put(members, alloc, "access", access)?;
@@ -83,8 +83,8 @@ fn put_left(
     supplied: Option<Source>,
 ) -> Result<(), NoMemory>
     requires words { 0 < words }
-    requires known { IsKnown test.now words (shown step.now) }
-    ensures { OnOk result (members_view members.new.entries ≡ with_left test.now words (shown step.now) supplied (members_view members.old.entries)) }
+    requires known { StepNamesExist test.now words (shown_step step.now) }
+    ensures { OnOk result (members_view members.new.entries ≡ with_left test.now words (shown_step step.now) supplied (members_view members.old.entries)) }
 {
     let outcome = Value::try_from_str(alloc, outcome_word(step.outcome))?;
     put(members, alloc, "outcome", outcome)?;
@@ -163,7 +163,7 @@ fn changes_value(
     changes: &[StateChange],
 ) -> Result<Value, NoMemory>
     requires { All (λ c. IsLine test.now words c.line) changes.now }
-    ensures { IfOk result (λ value. view value ≡ texts (map (printed_change test.now words) changes.now)) }
+    ensures { IfOk result (λ value. view value ≡ array_of_texts (map (printed_change test.now words) changes.now)) }
 {
     let mut values = Vec::new(alloc);
     for change in changes {

@@ -3,11 +3,11 @@
 
 ghost use Rattle.std.specs.Prelude.{◌≡◌, ◌<◌, IfOk, length, option_map, string_bytes};
 ghost use Rattle.serde_json.specs.View.{view};
-ghost use Rattle.machine_core.specs.inner.Keeping.{access_in};
+ghost use Rattle.machine_core.specs.inner.Keeping.{memory_access_in};
 ghost use Rattle.tso_model.specs.FlatMachine.{chosen};
-ghost use Rattle.trace_report.specs.Shown.{shown};
+ghost use Rattle.trace_report.specs.Shown.{shown_step};
 ghost use Rattle.trace_report.specs.inner.Told.{IsLookedAt};
-ghost use Rattle.trace_json.specs.Supplied.{found_at, found_by, is_asked, line_read, source_text, supplied_to, supplier_from};
+ghost use Rattle.trace_json.specs.Supplied.{found_at, found_by, is_asked, line_read, supplier_text, supplied_to, supplier_from};
 ghost use Rattle.trace_json.specs.Supplied.{supplier_or_memory, supplies};
 ghost use Rattle.trace_json.specs.Values.{text_or_null};
 
@@ -52,7 +52,7 @@ pub fn found_by<P: Protocol>(
 /// The line that an access reads, where lines have so many words; a store reads none.
 fn line_read(access: MemoryAccess, words: u8) -> Option<u8>
     requires { 0 < words }
-    ensures { result ≡ line_read words (access_in access) }
+    ensures { result ≡ line_read words (memory_access_in access) }
 {
     match access {
         MemoryAccess::Read(loc) | MemoryAccess::Lock(loc) => Some(loc.0 / words),
@@ -113,7 +113,7 @@ fn supplies(copy: Option<State>) -> bool
 
 /// Where the word is found that a step reads, or asks for to read it, if the choice would find its line there.
 pub fn supplied_to(step: &Step, found: Option<Source>) -> Option<Source>
-    ensures { result ≡ supplied_to (shown step.now) found }
+    ensures { result ≡ supplied_to (shown_step step.now) found }
 {
     if step.forwarded {
         Some(Source::Buffer)
@@ -137,16 +137,16 @@ fn is_asked(outcome: Outcome) -> bool
 ///
 /// Errors: out of memory only.
 pub fn source_value(alloc: Global, supplied: Option<Source>) -> Result<Value, NoMemory>
-    ensures { IfOk result (λ value. view value ≡ text_or_null (option_map source_text supplied)) }
+    ensures { IfOk result (λ value. view value ≡ text_or_null (option_map supplier_text supplied)) }
 {
     let Some(source) = supplied else {
         return Ok(Value::Null);
     };
-    Ok(Value::String(source_text(alloc, source)?))
+    Ok(Value::String(supplier_text(alloc, source)?))
 }
 
-fn source_text(alloc: Global, source: Source) -> Result<String, NoMemory>
-    ensures { IfOk result (λ text. string_bytes text ≡ source_text source) }
+fn supplier_text(alloc: Global, source: Source) -> Result<String, NoMemory>
+    ensures { IfOk result (λ text. string_bytes text ≡ supplier_text source) }
 {
     let mut text = String::new(alloc);
     match source {

@@ -4,7 +4,7 @@ ghost use Rattle.std.specs.Prelude.{◌≡◌, ◌<◌, [], IfOk, map, option_ma
 ghost use Rattle.serde_json.specs.View.{view};
 ghost use Rattle.scheduler.specs.Printed.{printed_choice};
 ghost use Rattle.trace_report.specs.Lines.{line_name, store_text};
-ghost use Rattle.trace_json.specs.Values.{counts, text_or_null};
+ghost use Rattle.trace_json.specs.Values.{array_of_numbers, text_or_null};
 
 use scheduler::choices_text;
 use serde_json::Value;
@@ -37,8 +37,8 @@ pub fn name_or_null(alloc: Global, name: Option<&str>) -> Result<Value, NoMemory
 /// Numbers in a list.
 ///
 /// Errors: out of memory only.
-pub fn counts(alloc: Global, numbers: &[u32]) -> Result<Value, NoMemory>
-    ensures { IfOk result (λ value. view value ≡ counts numbers.now) }
+pub fn array_of_numbers(alloc: Global, numbers: &[u32]) -> Result<Value, NoMemory>
+    ensures { IfOk result (λ value. view value ≡ array_of_numbers numbers.now) }
 {
     let mut values = Vec::new(alloc);
     for number in numbers {

@@ -6,9 +6,9 @@ ghost use Rattle.serde_json.specs.View.{view, items_of};
 ghost use Rattle.tso_model.specs.FlatMachine.{chosen};
 ghost use Rattle.tso_model.specs.Runs.{CoresExist};
 ghost use Rattle.machine_core.specs.Running.{new_machine, machine_after};
-ghost use Rattle.trace_report.specs.Shown.{shown};
-ghost use Rattle.trace_report.specs.Known.{IsKnown};
-ghost use Rattle.trace_report.specs.Told.{IsTraced, IsTold};
+ghost use Rattle.trace_report.specs.Shown.{shown_step};
+ghost use Rattle.trace_report.specs.Known.{StepNamesExist};
+ghost use Rattle.trace_report.specs.Told.{IsTraced, IsTracedInStates};
 ghost use Rattle.trace_json.specs.TraceJson.{alone, last_or, last_from, last_step_json};
 ghost use Rattle.trace_json.specs.TraceJson.{sourced_by, step_to, steps_json, trace_from, trace_json};
 ghost use Rattle.trace_json.specs.MachineJson.{machine_json};
@@ -155,7 +155,7 @@ fn steps_on<P: Protocol>(
     choices: &[Choice],
 ) -> Result<Vec<Value>, NoMemory>
     requires cores { CoresExist (length test.now.programs) choices.now }
-    requires told { IsTold test.now config machine.old states.old.items }
+    requires told { IsTracedInStates test.now config machine.old states.old.items }
     requires memory { HasMemory test.now machine.old memory.old.items }
     ensures { IfOk result (λ steps. map view steps.items ≡ steps_json machine.old memory.old.items choices.now) }
 {
@@ -189,12 +189,12 @@ fn tell_on<P: Protocol>(
     choice: Choice,
 ) -> Result<SourcedStep, NoMemory>
     requires core { chosen choice < length test.now.programs }
-    requires told { IsTold test.now config machine.old states.old.items }
+    requires told { IsTracedInStates test.now config machine.old states.old.items }
     requires memory { HasMemory test.now machine.old memory.old.items }
     ensures step { IfOk result (λ told. sourced told ≡ sourced_by machine.old choice) }
-    ensures known { IfOk result (λ told. IsKnown test.now config.shape.words (shown told.step)) }
+    ensures known { IfOk result (λ told. StepNamesExist test.now config.shape.words (shown_step told.step)) }
     ensures after { OnOk result (machine.new ≡ machine_after machine.old choice) }
-    ensures told { OnOk result (IsTold test.now config machine.new states.new.items) }
+    ensures told { OnOk result (IsTracedInStates test.now config machine.new states.new.items) }
     ensures own { OnOk result (memory.new.items ≡ own_words machine.new memory.old.items) }
     ensures memory { OnOk result (HasMemory test.now machine.new memory.new.items) }
 {
@@ -218,7 +218,7 @@ fn step_to<P: Protocol>(
 ) -> Result<Value, NoMemory>
     requires traced { IsTraced test.now config machine.now }
     requires memory { HasMemory test.now machine.now memory.now }
-    requires known { IsKnown test.now config.shape.words (shown told.now.step) }
+    requires known { StepNamesExist test.now config.shape.words (shown_step told.now.step) }
     ensures { IfOk result (λ value. view value ≡ step_to (sourced told.now) machine.now memory.now) }
 {
     let after = machine_value(alloc, machine, test, config, memory)?;
@@ -289,7 +289,7 @@ fn tell_last<P: Protocol>(
     requires memory { HasMemory test.now machine.old memory.old.items }
     ensures traced { OnOk result (IsTraced test.now config machine.new) }
     ensures memory { OnOk result (HasMemory test.now machine.new memory.new.items) }
-    ensures known { IfOk result (λ last. IfSome last (λ told. IsKnown test.now config.shape.words (shown told.step))) }
+    ensures known { IfOk result (λ last. IfSome last (λ told. StepNamesExist test.now config.shape.words (shown_step told.step))) }
     ensures last { IfOk result (λ last. told_last (option_map sourced last) machine.new memory.new.items
         ≡ last_or (alone machine.old memory.old.items) (steps_json machine.old memory.old.items choices.now)) }
 {

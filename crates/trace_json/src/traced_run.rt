@@ -7,7 +7,7 @@ ghost use Rattle.tso_model.specs.Runs.{CoresExist};
 ghost use Rattle.tso_model.specs.declared.choice.Choice.{Choice};
 ghost use Rattle.scheduler.specs.Grammar.{SpellsChoices};
 ghost use Rattle.scheduler.specs.WordOfChoice.{IsWordOfChoice};
-ghost use Rattle.tso_report.specs.Shown.{shown, IsOf};
+ghost use Rattle.tso_report.specs.Shown.{shown_run, IsRunOf};
 ghost use Rattle.trace_json.specs.TracedRun.{most_steps, with_trace, json_ended, json_unended, json_last_step};
 
 use crate::programs::programs_value;
@@ -60,8 +60,8 @@ pub fn ended_json(
     run: &Run,
 ) -> Result<String, NoMemory>
     requires cores { CoresExist (length test.now.programs) choices.now }
-    requires run { IsOf test.now (shown run.now) }
-    ensures { IfOk result (λ text. string_bytes text ≡ json_ended test.now protocol config choices.now (shown run.now)) }
+    requires run { IsRunOf test.now (shown_run run.now) }
+    ensures { IfOk result (λ text. string_bytes text ≡ json_ended test.now protocol config choices.now (shown_run run.now)) }
 {
     let members = run_members(alloc, test, protocol, config, run)?;
     let members = with_trace(alloc, test, protocol, config, choices, members)?;

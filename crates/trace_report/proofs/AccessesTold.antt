@@ -1,5 +1,5 @@
 -- The accesses that a trace tells, and those that are counted.
-use Rattle.trace_report.proofs.Vocabulary.{◌≡◌, ◌≢◌, ◌∙◌, ℕ, zero, suc, ◌+◌, ◌<◌, ◌≤◌, ◌==◌, ◌&&◌, Bool, true, false, List, [], ◌∷◌, length, replicate, slice_index_or, Option, Some, None, refl, sym, ap, subst, arith, inl, inr, get_or-set_same, get_or-set_other, get_or_past, length-set, decide, lt-or, test-true, test-false, chosen, has_ended, CoresExist, Core, Choice, AccessKind, Hit, Upgrade, Miss, Running, use_by, machine_after, Statistics, no_counts, with_access, with_forward, with_write_back, with_flush, at_core, flush_counted, counted, statistics_from, Counts, CacheUse, Unused, Forwarded, Through, length-counted, Shown, is_forwarded, access_in, step_of, steps_from, count_of, is_kind, is_access, tells_access, tells_forward, one_if, steps_that}
+use Rattle.trace_report.proofs.Vocabulary.{◌≡◌, ◌≢◌, ◌∙◌, ℕ, zero, suc, ◌+◌, ◌<◌, ◌≤◌, ◌==◌, ◌&&◌, Bool, true, false, List, [], ◌∷◌, length, replicate, slice_index_or, Option, Some, None, refl, sym, ap, subst, arith, inl, inr, get_or-set_same, get_or-set_other, get_or_past, length-set, decide, lt-or, test-true, test-false, chosen, has_ended, CoresExist, Core, Choice, AccessKind, Hit, Upgrade, Miss, Running, machine_use, machine_after, Statistics, no_counts, with_access, with_forward, with_write_back, with_flush, counts_at_core, flush_counted, with_use_counted, statistics_from, Counts, CacheUse, Unused, Forwarded, Through, length-counted, ShownStep, is_forwarded, access_kind_in, trace_step_of, steps_from, count_of_accesses, is_kind, is_access_of_kind, tells_access, tells_forward, one_if, steps_that}
 
 -- the counts of one core among those of all
 abbrev pub of : List Counts → ℕ → Counts
@@ -7,28 +7,28 @@ of cs k = slice_index_or cs k no_counts
 
 -- ---- one core's counts changed
 
-pub changed-same : (core : ℕ) (change : Counts → Counts) (cs : List Counts) → core < length cs → of (at_core core change cs) core ≡ change (of cs core)
+pub changed-same : (core : ℕ) (change : Counts → Counts) (cs : List Counts) → core < length cs → of (counts_at_core core change cs) core ≡ change (of cs core)
 changed-same core change cs h = get_or-set_same cs core (change (of cs core)) no_counts h
 
-changed-other : (core k : ℕ) (change : Counts → Counts) (cs : List Counts) → k ≢ core → of (at_core core change cs) k ≡ of cs k
+changed-other : (core k : ℕ) (change : Counts → Counts) (cs : List Counts) → k ≢ core → of (counts_at_core core change cs) k ≡ of cs k
 changed-other core k change cs n = get_or-set_other cs core k (change (of cs core)) no_counts n
 
 -- a change that leaves a count
-pub kept : (what : Counts → ℕ) (core k : ℕ) (change : Counts → Counts) (cs : List Counts) → ((n : Counts) → what (change n) ≡ what n) → what (of (at_core core change cs) k) ≡ what (of cs k)
+pub kept : (what : Counts → ℕ) (core k : ℕ) (change : Counts → Counts) (cs : List Counts) → ((n : Counts) → what (change n) ≡ what n) → what (of (counts_at_core core change cs) k) ≡ what (of cs k)
 kept what core k change cs same = elim (decide k core) [
   | inl q ↦ elim (lt-or (length cs) core) [
-    | inl l ↦ subst (λ j. what (of (at_core core change cs) j) ≡ what (of cs j)) (sym q) (ap what (changed-same core change cs l) ∙ same (of cs core))
-    | inr past ↦ subst (λ j. what (of (at_core core change cs) j) ≡ what (of cs j)) (sym q)
-        (ap what (get_or_past (at_core core change cs) core no_counts (subst (λ n. n ≤ core) (sym (length-set cs core (change (of cs core)))) past) ∙ sym (get_or_past cs core no_counts past)))
+    | inl l ↦ subst (λ j. what (of (counts_at_core core change cs) j) ≡ what (of cs j)) (sym q) (ap what (changed-same core change cs l) ∙ same (of cs core))
+    | inr past ↦ subst (λ j. what (of (counts_at_core core change cs) j) ≡ what (of cs j)) (sym q)
+        (ap what (get_or_past (counts_at_core core change cs) core no_counts (subst (λ n. n ≤ core) (sym (length-set cs core (change (of cs core)))) past) ∙ sym (get_or_past cs core no_counts past)))
   ]
   | inr n ↦ ap what (changed-other core k change cs n)
 ]
 
 -- a change that adds so many
 pub added : (what : Counts → ℕ) (core k : ℕ) (change : Counts → Counts) (cs : List Counts) (b : Bool) → core < length cs → ((n : Counts) → what (change n) ≡ what n + one_if b)
-    → what (of (at_core core change cs) k) ≡ what (of cs k) + one_if ((core == k) && b)
+    → what (of (counts_at_core core change cs) k) ≡ what (of cs k) + one_if ((core == k) && b)
 added what core k change cs b h adds = elim (decide k core) [
-  | inl q ↦ subst (λ j. what (of (at_core core change cs) j) ≡ what (of cs j) + one_if ((core == j) && b)) (sym q)
+  | inl q ↦ subst (λ j. what (of (counts_at_core core change cs) j) ≡ what (of cs j) + one_if ((core == j) && b)) (sym q)
       (ap what (changed-same core change cs h) ∙ (adds (of cs core) ∙ sym (ap (λ t. what (of cs core) + one_if (t && b)) (test-true core core refl))))
   | inr n ↦ ap what (changed-other core k change cs n) ∙ (plus-none (what (of cs k)) ∙ sym (ap (λ t. what (of cs k) + one_if (t && b)) (test-false core k (λ e. n (sym e)))))
 ]
@@ -38,7 +38,7 @@ added what core k change cs b h adds = elim (decide k core) [
 
 -- ---- what a choice counts
 
-access-adds : (kind k : AccessKind) (n : Counts) → count_of kind (with_access k n) ≡ count_of kind n + one_if (is_kind kind k)
+access-adds : (kind k : AccessKind) (n : Counts) → count_of_accesses kind (with_access k n) ≡ count_of_accesses kind n + one_if (is_kind kind k)
 access-adds Hit Hit n = refl
 access-adds Hit Miss n = omega arith
 access-adds Hit Upgrade n = omega arith
@@ -49,18 +49,18 @@ access-adds Upgrade Hit n = omega arith
 access-adds Upgrade Miss n = omega arith
 access-adds Upgrade Upgrade n = refl
 
-written-kept : (kind : AccessKind) (b : Bool) (n : Counts) → count_of kind (with_write_back b n) ≡ count_of kind n
+written-kept : (kind : AccessKind) (b : Bool) (n : Counts) → count_of_accesses kind (with_write_back b n) ≡ count_of_accesses kind n
 written-kept Hit true n = refl
 written-kept Miss true n = refl
 written-kept Upgrade true n = refl
 written-kept kind false n = refl
 
-flush-kept : (kind : AccessKind) (n : Counts) → count_of kind (with_flush n) ≡ count_of kind n
+flush-kept : (kind : AccessKind) (n : Counts) → count_of_accesses kind (with_flush n) ≡ count_of_accesses kind n
 flush-kept Hit n = refl
 flush-kept Miss n = refl
 flush-kept Upgrade n = refl
 
-forward-kept : (kind : AccessKind) (n : Counts) → count_of kind (with_forward n) ≡ count_of kind n
+forward-kept : (kind : AccessKind) (n : Counts) → count_of_accesses kind (with_forward n) ≡ count_of_accesses kind n
 forward-kept Hit n = refl
 forward-kept Miss n = refl
 forward-kept Upgrade n = refl
@@ -74,12 +74,12 @@ none-told true n = omega arith
 none-told false n = omega arith
 
 pub counted-access : (kind : AccessKind) (core k : ℕ) (how : CacheUse) (cs : List Counts) → core < length cs
-    → count_of kind (of (counted core how cs) k) ≡ count_of kind (of cs k) + one_if ((core == k) && is_access kind (access_in how))
-counted-access kind core k Unused cs h = none-told (core == k) (count_of kind (of cs k))
-counted-access kind core k Forwarded cs h = kept (count_of kind) core k with_forward cs (forward-kept kind) ∙ none-told (core == k) (count_of kind (of cs k))
+    → count_of_accesses kind (of (with_use_counted core how cs) k) ≡ count_of_accesses kind (of cs k) + one_if ((core == k) && is_access_of_kind kind (access_kind_in how))
+counted-access kind core k Unused cs h = none-told (core == k) (count_of_accesses kind (of cs k))
+counted-access kind core k Forwarded cs h = kept (count_of_accesses kind) core k with_forward cs (forward-kept kind) ∙ none-told (core == k) (count_of_accesses kind (of cs k))
 counted-access kind core k (Through a) cs h =
-    flushed-kept (count_of kind) k a.flushed (at_core core (λ n. with_write_back a.wrote_back (with_access a.kind n)) cs) (flush-kept kind)
-    ∙ added (count_of kind) core k (λ n. with_write_back a.wrote_back (with_access a.kind n)) cs (is_kind kind a.kind) h
+    flushed-kept (count_of_accesses kind) k a.flushed (counts_at_core core (λ n. with_write_back a.wrote_back (with_access a.kind n)) cs) (flush-kept kind)
+    ∙ added (count_of_accesses kind) core k (λ n. with_write_back a.wrote_back (with_access a.kind n)) cs (is_kind kind a.kind) h
     (λ n. written-kept kind a.wrote_back (with_access a.kind n) ∙ access-adds kind a.kind n)
 
 through-forwards : (k : AccessKind) (b : Bool) (n : Counts) → (with_write_back b (with_access k n)).forwards ≡ n.forwards
@@ -91,11 +91,11 @@ through-forwards Miss false n = refl
 through-forwards Upgrade false n = refl
 
 pub counted-forward : (core k : ℕ) (how : CacheUse) (cs : List Counts) → core < length cs
-    → (of (counted core how cs) k).forwards ≡ (of cs k).forwards + one_if ((core == k) && is_forwarded how)
+    → (of (with_use_counted core how cs) k).forwards ≡ (of cs k).forwards + one_if ((core == k) && is_forwarded how)
 counted-forward core k Unused cs h = none-told (core == k) (of cs k).forwards
 counted-forward core k Forwarded cs h = added (λ (n : Counts). n.forwards) core k with_forward cs true h (λ n. refl)
 counted-forward core k (Through a) cs h =
-    flushed-kept (λ (n : Counts). n.forwards) k a.flushed (at_core core (λ n. with_write_back a.wrote_back (with_access a.kind n)) cs) (λ n. refl)
+    flushed-kept (λ (n : Counts). n.forwards) k a.flushed (counts_at_core core (λ n. with_write_back a.wrote_back (with_access a.kind n)) cs) (λ n. refl)
     ∙ (kept (λ (n : Counts). n.forwards) core k (λ n. with_write_back a.wrote_back (with_access a.kind n)) cs (through-forwards a.kind a.wrote_back) ∙ none-told (core == k) (of cs k).forwards)
 
 -- ---- along the choices
@@ -112,21 +112,21 @@ stopped m c rest over = rw over refl
 abbrev pub counts_after : Running → List Choice → List Counts
 counts_after m choices = (counted_of m choices).counts
 
-step-tells-access : (kind : AccessKind) (k : ℕ) (m : Running) (c : Choice) → tells_access kind k (step_of m c) ≡ ((chosen c == k) && is_access kind (access_in (use_by m c).how))
-unfolding step_of
+step-tells-access : (kind : AccessKind) (k : ℕ) (m : Running) (c : Choice) → tells_access kind k (trace_step_of m c) ≡ ((chosen c == k) && is_access_of_kind kind (access_kind_in (machine_use m c).how))
+unfolding trace_step_of
 step-tells-access kind k m c = refl
 
-step-tells-forward : (k : ℕ) (m : Running) (c : Choice) → tells_forward k (step_of m c) ≡ ((chosen c == k) && is_forwarded (use_by m c).how)
-unfolding step_of
+step-tells-forward : (k : ℕ) (m : Running) (c : Choice) → tells_forward k (trace_step_of m c) ≡ ((chosen c == k) && is_forwarded (machine_use m c).how)
+unfolding trace_step_of
 step-tells-forward k m c = refl
 
 -- a count that each choice adds to where its step tells so
-summed : (what : Counts → ℕ) (test : Shown → Bool) (k : ℕ) (m : Running) (choices : List Choice)
-    → ((m : Running) (c : Choice) → chosen c < length m.statistics.counts → what (of (machine_after m c).statistics.counts k) ≡ what (of m.statistics.counts k) + one_if (test (step_of m c)))
+summed : (what : Counts → ℕ) (test : ShownStep → Bool) (k : ℕ) (m : Running) (choices : List Choice)
+    → ((m : Running) (c : Choice) → chosen c < length m.statistics.counts → what (of (machine_after m c).statistics.counts k) ≡ what (of m.statistics.counts k) + one_if (test (trace_step_of m c)))
     → CoresExist (length m.statistics.counts) choices → what (of (counts_after m choices) k) ≡ what (of m.statistics.counts k) + steps_that test (steps_from m choices)
 summed what test k m [] adds cores = omega arith
 summed what test k m (c ∷ cs) adds cores =
-    go (has_ended m.test m.state.flat) refl (summed what test k (machine_after m c) cs adds (subst (λ n. CoresExist n cs) (sym (length-counted (chosen c) (use_by m c).how m.statistics.counts)) cores.1))
+    go (has_ended m.test m.state.flat) refl (summed what test k (machine_after m c) cs adds (subst (λ n. CoresExist n cs) (sym (length-counted (chosen c) (machine_use m c).how m.statistics.counts)) cores.1))
   where
     go : (b : Bool) → has_ended m.test m.state.flat ≡ b
         → what (of (counts_after (machine_after m c) cs) k) ≡ what (of (machine_after m c).statistics.counts k) + steps_that test (steps_from (machine_after m c) cs)
@@ -139,10 +139,10 @@ summed what test k m (c ∷ cs) adds cores =
         plus-none : (n : ℕ) → n ≡ n + 0
         plus-none n = omega arith
     go false live rest =
-        let steps : steps_from m (c ∷ cs) ≡ step_of m c ∷ steps_from (machine_after m c) cs = rw live refl in
+        let steps : steps_from m (c ∷ cs) ≡ trace_step_of m c ∷ steps_from (machine_after m c) cs = rw live refl in
         let counts : counts_after m (c ∷ cs) ≡ counts_after (machine_after m c) cs = ap (λ (x : Statistics). x.counts) (counting m c cs live) in
         let one = adds m c cores.0 in
-        let whole : what (of (counts_after (machine_after m c) cs) k) ≡ what (of m.statistics.counts k) + (one_if (test (step_of m c)) + steps_that test (steps_from (machine_after m c) cs)) = omega arith in
+        let whole : what (of (counts_after (machine_after m c) cs) k) ≡ what (of m.statistics.counts k) + (one_if (test (trace_step_of m c)) + steps_that test (steps_from (machine_after m c) cs)) = omega arith in
         ap (λ ns. what (of ns k)) counts ∙ (whole ∙ sym (ap (λ ss. what (of m.statistics.counts k) + steps_that test ss) steps))
 
 pub no-counts : (n k : ℕ) → of (replicate n no_counts) k ≡ no_counts
@@ -150,19 +150,19 @@ no-counts zero k = refl
 no-counts (suc n) zero = refl
 no-counts (suc n) (suc k) = no-counts n k
 
-pub none-of : (kind : AccessKind) → count_of kind no_counts ≡ 0
+pub none-of : (kind : AccessKind) → count_of_accesses kind no_counts ≡ 0
 none-of Hit = refl
 none-of Miss = refl
 none-of Upgrade = refl
 
 pub accesses-told : (kind : AccessKind) (m : Running) (choices : List Choice) (k : ℕ) → CoresExist (length m.statistics.counts) choices
-    → count_of kind (of (counts_after m choices) k) ≡ count_of kind (of m.statistics.counts k) + steps_that (tells_access kind k) (steps_from m choices)
+    → count_of_accesses kind (of (counts_after m choices) k) ≡ count_of_accesses kind (of m.statistics.counts k) + steps_that (tells_access kind k) (steps_from m choices)
 accesses-told kind m choices k there =
-    summed (count_of kind) (tells_access kind k) k m choices
-    (λ m c h. counted-access kind (chosen c) k (use_by m c).how m.statistics.counts h ∙ sym (ap (λ b. count_of kind (of m.statistics.counts k) + one_if b) (step-tells-access kind k m c))) there
+    summed (count_of_accesses kind) (tells_access kind k) k m choices
+    (λ m c h. counted-access kind (chosen c) k (machine_use m c).how m.statistics.counts h ∙ sym (ap (λ b. count_of_accesses kind (of m.statistics.counts k) + one_if b) (step-tells-access kind k m c))) there
 
 pub forwards-told : (m : Running) (choices : List Choice) (k : ℕ) → CoresExist (length m.statistics.counts) choices
     → (of (counts_after m choices) k).forwards ≡ (of m.statistics.counts k).forwards + steps_that (tells_forward k) (steps_from m choices)
 forwards-told m choices k there =
     summed (λ (n : Counts). n.forwards) (tells_forward k) k m choices
-    (λ m c h. counted-forward (chosen c) k (use_by m c).how m.statistics.counts h ∙ sym (ap (λ b. (of m.statistics.counts k).forwards + one_if b) (step-tells-forward k m c))) there
+    (λ m c h. counted-forward (chosen c) k (machine_use m c).how m.statistics.counts h ∙ sym (ap (λ b. (of m.statistics.counts k).forwards + one_if b) (step-tells-forward k m c))) there

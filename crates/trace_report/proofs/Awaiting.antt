@@ -1,5 +1,5 @@
 -- A line that its core awaits isn't in the core's cache, but for an upgrade: so the line that leaves for it is another.
-use Rattle.trace_report.proofs.Vocabulary.{◌≡◌, ◌≢◌, ◌∙◌, ◌⊎◌, ◌<◌, ◌≤◌, ◌%◌, ◌/◌, ℕ, Bool, true, false, not, List, [], length, slice_set, slice_index_or, Option, Some, None, is_some, inl, inr, refl, sym, ap, subst, get_or-set_same, get_or-set_other, eqb_tells, get_or_past, length-set, decide, lt-or, MemoryAccess, NoAccess, Reads, Writes, Locks, Holder, Free, HeldBy, HeldBetween, needs_bus, chosen, Choice, Table, transient_of, I, S, E, O, M, Request, GetS, GetM, Transient, IsD, ImD, SmD, Geometry, table_of_rows, TagSet, tag_of, used, TagSets, tags_at, tag_in, at_line, sets_of, used_by, loaded_in, written_in, write_in, asked, Awaited, tag_at, hit_in, or_invalid, awaiting, asking, asked_caches_in, completed, completed_in, Caches, Used, not_through, load_by, write_by, hits_by, is_awaited, asking_by, completing_by, Unused, IsUseFor, KeepsNoCopyInI, no_set, absent-remove, AllNeat, found-valid, all-requested, all-used, all-filled, own-kept}
+use Rattle.trace_report.proofs.Vocabulary.{◌≡◌, ◌≢◌, ◌∙◌, ◌⊎◌, ◌<◌, ◌≤◌, ◌%◌, ◌/◌, ℕ, Bool, true, false, not, List, [], length, slice_set, slice_index_or, Option, Some, None, is_some, inl, inr, refl, sym, ap, subst, get_or-set_same, get_or-set_other, eqb_tells, get_or_past, length-set, decide, lt-or, MemoryAccess, NoAccess, Reads, Writes, Locks, Holder, Free, HeldBy, HeldBetween, needs_bus, chosen, Choice, Table, transient_of, I, S, E, O, M, Request, GetS, GetM, Transient, IsD, ImD, SmD, Geometry, table_of_rows, TagSet, tag_of, used, TagSets, tags_at, tag_in, at_line, sets_of, used_by, loaded_in, written_in, write_in, snoop_column, Awaited, tag_at, hit_in, or_invalid, awaiting, asking, asked_caches_in, completed, completed_in, Caches, Used, not_through, load_by, write_by, hits_by, is_awaited, asking_by, completing_by, Unused, IsUseFor, KeepsNoCopyInI, no_set, absent-remove, AllNeat, found-valid, all-requested, all-used, all-filled, own-kept}
 use Rattle.std.specs.Option.{option_map}
 use Rattle.protocol_tables.specs.declared.state.State.{State}
 use Rattle.trace_report.proofs.VictimsLeave.{wrote_in, HasGone, filled-gone, modified, IsWithin, NeatAfter, GoneBy, use-neat, use-gone, use-rows}
@@ -54,7 +54,7 @@ asking-may lines t request core line caches keeps h =
 
 asked-neat : (lines : ℕ) (t : Table) (request : Request) (core line : ℕ) (o : Option Transient) (caches : List TagSets) → AllNeat lines caches → AllNeat lines (asked_caches_in t request core line o caches)
 asked-neat lines t request core line None caches h = h
-asked-neat lines t request core line (Some x) caches h = all-requested lines (asked t request) core line caches h
+asked-neat lines t request core line (Some x) caches h = all-requested lines (snoop_column t request) core line caches h
 
 asks-may : (lines : ℕ) (c : Caches) (core : ℕ) (what : MemoryAccess) → KeepsNoCopyInI (table_of_rows c.rows) → AllNeat lines c.contents → MayMake (asking_by c core what).caches core what
 asks-may lines c core NoAccess keeps h = tt

@@ -1,9 +1,9 @@
 -- What a step tells of its core: the register that was moved, the pending stores, and why it stalled.
-use Rattle.trace_report.proofs.Vocabulary.{arith, ◌≡◌, ◌≢◌, ◌∙◌, ◌⊎◌, ◌≤◌, ◌+◌, ◌==◌, ℕ, zero, suc, Bool, true, false, nat_lt, if◌then◌else◌, List, [], ◌∷◌, ◌++◌, length, take, drop, slice_index, slice_set, Option, Some, None, inl, inr, refl, sym, ap, subst, length-append, get_or-set_same, get_or_past, nat_tests, length-set, lt-or, Litmus, action_of, value_of, CoreState, State, Effect, idle, is_none_pending, stalled, stored, effect_by, effect_of, core_of, chosen, applied, MemoryAccess, NoAccess, Reads, Writes, Locks, access_of, next_of, Holder, Free, HeldBy, HeldBetween, Attempt, same_choice, needs_bus, acts, asks, begins, completes, as_read, writes_last, split_effect, BusState, effect_on, Bus, Atomic, Split, Core, Instr, Action, Store, Load, Move, Fence, Lock, Entry, Choice, Step, Drain, Outcome, Committed, Buffered, Moved, Stalled, Stall, same-is, Running, machine_after, attempt_on, stall_name, moved_by, moved_at, moved_from, buffer_if_changed, with_moved, with_buffer, CoresAreTold, IsWordOfStall, done, full, lock, empty, IsHeldByOther, IsWordOfStallOn, flat, bus, StallsAreTold}
+use Rattle.trace_report.proofs.Vocabulary.{arith, ◌≡◌, ◌≢◌, ◌∙◌, ◌⊎◌, ◌≤◌, ◌+◌, ◌==◌, ℕ, zero, suc, Bool, true, false, nat_lt, if◌then◌else◌, List, [], ◌∷◌, ◌++◌, length, take, drop, slice_index, slice_set, Option, Some, None, inl, inr, refl, sym, ap, subst, length-append, get_or-set_same, get_or_past, nat_tests, length-set, lt-or, Litmus, action_of, value_of, CoreState, State, Effect, idle, is_none_pending, stalled, stored, effect_by, effect_of, core_of, chosen, applied, MemoryAccess, NoAccess, Reads, Writes, Locks, access_of, next_of, Holder, Free, HeldBy, HeldBetween, Attempt, same_choice, needs_bus, acts, asks, begins, completes, as_read, writes_last, split_effect, BusState, effect_on, Bus, Atomic, Split, Core, Instr, Action, Store, Load, Move, Fence, Lock, Entry, Choice, Step, Drain, Outcome, Committed, Buffered, Moved, Stalled, Stall, same-is, Running, machine_after, attempt_on, stall_name, moved_by, moved_at, moved_from, buffer_if_changed, with_moved, pending_told, CoresAreTold, IsWordOfStall, done, full, lock, empty, IsHeldByOther, IsWordOfStallOn, flat, bus, StallsAreTold}
 use Rattle.tso_model.specs.Registers.{index_of}
 use Rattle.tso_model.specs.FlatMachine.{step_of, after_choice}
 use Rattle.tso_model.specs.declared.choice.Stall.TheVariants as stall
-use Rattle.machine_core.specs.Running.{effect_by as effect_made}
+use Rattle.machine_core.specs.Running.{machine_effect as effect_made}
 use Rattle.trace_report.specs.Steps as steps
 use Rattle.trace_report.specs.declared.step.Moved as move
 use Rattle.trace_report.specs.StepLaws.{fence}
@@ -131,22 +131,22 @@ same-many choice s f (grown e more is none) q =
 same-many choice s f (shrunk core e less is drain) q =
     let longer : length s.pending ≡ suc (length f.after.pending) = ap length less in absurd (let z : ⊥ = omega arith in z)
 
-told-stores : (before after : List Entry) → (length after ≡ length before → after ≡ before) → after ≡ with_buffer (buffer_if_changed (length before) after) before
+told-stores : (before after : List Entry) → (length after ≡ length before → after ≡ before) → after ≡ pending_told (buffer_if_changed (length before) after) before
 told-stores before after h = by_test (length after == length before) refl
   where
-    by_test : (b : Bool) → (length after == length before) ≡ b → after ≡ with_buffer (if b then None else Some after) before
+    by_test : (b : Bool) → (length after == length before) ≡ b → after ≡ pending_told (if b then None else Some after) before
     by_test true q = h (grind (arith, nat_tests))
     by_test false q = refl
 
 buffer-told : (m : Running) (choice : Choice) → (core_of (machine_after m choice).state.flat (chosen choice)).pending
-    ≡ with_buffer (buffer_if_changed (length (core_of m.state.flat (chosen choice)).pending) (core_of (machine_after m choice).state.flat (chosen choice)).pending) (core_of m.state.flat (chosen choice)).pending
+    ≡ pending_told (buffer_if_changed (length (core_of m.state.flat (chosen choice)).pending) (core_of (machine_after m choice).state.flat (chosen choice)).pending) (core_of m.state.flat (chosen choice)).pending
 buffer-told m choice = told-stores (core_of m.state.flat (chosen choice)).pending (core_of (machine_after m choice).state.flat (chosen choice)).pending (elim (core-after m.state.flat (chosen choice) (effect_made m choice).effect) [
   | inl is ↦ λ q. ap (λ (c : CoreState). c.pending) is ∙ same-many choice (core_of m.state.flat (chosen choice)) (effect_made m choice).effect (form-of m choice) (sym (ap (λ (c : CoreState). length c.pending) is) ∙ q)
   | inr none ↦ λ q. ap (λ (c : CoreState). c.pending) (none.0 ∙ sym none.1)
 ])
 
 pub cores-told : (m : Running) (choice : Choice) → CoresAreTold m choice
-unfolding steps.step_of
+unfolding steps.trace_step_of
 cores-told m choice = record {
   moved = moved-told m choice;
   unmoved = λ n. unmoved-told m.test (core_of m.state.flat (chosen choice)).place choice (effect_made m choice).effect.outcome _ n (effect-moves m.bus m.test m.depth m.state (attempt_on m choice));
@@ -260,7 +260,7 @@ split-word t depth state a (HeldBetween e) why q = go (same_choice (Step e.core)
     go false is z = begins-word t depth state a (HeldBetween e) why (inr is) z
 
 pub stalls-told : (m : Running) (choice : Choice) → StallsAreTold m choice
-unfolding steps.step_of
+unfolding steps.trace_step_of
 stalls-told m choice why q = by_bus m.bus refl q
   where
     by_bus : (b : Bus) → m.bus ≡ b → (effect_on b m.test m.depth m.state (attempt_on m choice)).effect.outcome ≡ Stalled why → IsWordOfStallOn m choice (stall_name why)

@@ -1,11 +1,11 @@
 -- The flushes that a trace tells, and those that are counted.
-use Rattle.trace_report.proofs.Vocabulary.{◌≡◌, ◌∙◌, ℕ, zero, suc, ◌+◌, ◌==◌, ◌&&◌, Bool, true, false, if◌then◌else◌, List, [], ◌∷◌, length, map, slice_index_or, Option, Some, None, refl, sym, ap, subst, arith, length-replicate, length-map, set-get_or, list_any, Each, Litmus, State, idle, program_of, chosen, core_of, applied, effect_of, has_ended, is_done, writes_to, MemoryAccess, NoAccess, Reads, Writes, Locks, step_access, drain_access, access_of, Holder, Free, HeldBy, HeldBetween, Attempt, same_choice, needs_bus, acts, asks, begins, completes, as_read, writes_last, split_effect, BusState, BusRun, after_on, Bus, Atomic, Split, Core, Choice, Step, Drain, Table, Transient, IsD, ImD, SmD, Kind, R, W, F, LR, LW, Entry, Request, GetS, GetM, AccessKind, Hit, Upgrade, Miss, tags_in, Configuration, TagSets, at_others, loaded_in, written_in, write_in, Awaited, asked_caches_in, completed, completed_in, table_of_rows, quiet-same, done-next, done-pending, done-anywhere, IsStore, AllStores, choice-stores, start-stores, same-is, Live, LiveIn, live-after, live-start, Caches, not_through, load_by, use_by_kind, use_of, is_awaited, used_between, Statistics, no_counts, with_access, with_forward, with_write_back, with_flush, at_core, flush_counted, counted, Counts, CacheUse, Unused, Forwarded, Through, Running, new_machine, attempt_on, use_by, machine_after, length-counted, step_of, steps_from, request_at, is_sender, tells_flush, one_if, steps_that}
+use Rattle.trace_report.proofs.Vocabulary.{◌≡◌, ◌∙◌, ℕ, zero, suc, ◌+◌, ◌==◌, ◌&&◌, Bool, true, false, if◌then◌else◌, List, [], ◌∷◌, length, map, slice_index_or, Option, Some, None, refl, sym, ap, subst, arith, length-replicate, length-map, set-get_or, list_any, Each, Litmus, State, idle, program_of, chosen, core_of, applied, effect_of, has_ended, is_done, writes_to, MemoryAccess, NoAccess, Reads, Writes, Locks, step_access, drain_access, access_of, Holder, Free, HeldBy, HeldBetween, Attempt, same_choice, needs_bus, acts, asks, begins, completes, as_read, writes_last, split_effect, BusState, BusRun, after_on, Bus, Atomic, Split, Core, Choice, Step, Drain, Table, Transient, IsD, ImD, SmD, Kind, R, W, F, LR, LW, Entry, Request, GetS, GetM, AccessKind, Hit, Upgrade, Miss, tags_in, Configuration, TagSets, at_others, loaded_in, written_in, write_in, Awaited, asked_caches_in, completed, completed_in, table_of_rows, quiet-same, done-next, done-pending, done-anywhere, IsStore, AllStores, choice-stores, start-stores, same-is, Live, LiveIn, live-after, live-start, Caches, not_through, load_by, use_by_kind, use_of, is_awaited, used_between, Statistics, no_counts, with_access, with_forward, with_write_back, with_flush, counts_at_core, flush_counted, with_use_counted, Counts, CacheUse, Unused, Forwarded, Through, Running, new_machine, attempt_on, machine_use, machine_after, length-counted, trace_step_of, steps_from, request_at, is_sender, tells_flush, one_if, steps_that}
 use Rattle.std.proofs.Common.{length-set}
 use Rattle.tso_model.specs.declared.choice.Outcome.TheVariants as out
 use Rattle.tso_model.specs.declared.choice.Stall.TheVariants as stall
 use Rattle.protocol_tables.specs.declared.state.State as protocol
 use Rattle.snoop_bus.specs.Bus.{empty_caches}
-use Rattle.machine_core.specs.Running.{effect_by}
+use Rattle.machine_core.specs.Running.{machine_effect}
 use Rattle.machine_core.specs.inner.Keeping.{IsAmong, IsFlusherAmong, IsSenderAmong}
 use Rattle.machine_core.proofs.CountsOnBus.{senders}
 use Rattle.trace_report.proofs.AccessesTold.{of, kept, added, counts_after, counting, stopped}
@@ -48,12 +48,12 @@ through-flushes false Hit n = refl
 through-flushes false Miss n = refl
 through-flushes false Upgrade n = refl
 
-counted-flush : (core k : ℕ) (how : CacheUse) (cs : List Counts) → IsFlusherAmong (length cs) how → (of (counted core how cs) k).flushes ≡ (of cs k).flushes + one_if (is_sender k (flush_in how))
+counted-flush : (core k : ℕ) (how : CacheUse) (cs : List Counts) → IsFlusherAmong (length cs) how → (of (with_use_counted core how cs) k).flushes ≡ (of cs k).flushes + one_if (is_sender k (flush_in how))
 counted-flush core k Unused cs among = omega arith
 counted-flush core k Forwarded cs among = kept (λ (n : Counts). n.flushes) core k with_forward cs (λ n. refl) ∙ (omega arith)
 counted-flush core k (Through a) cs among =
     let change : Counts → Counts = λ n. with_write_back a.wrote_back (with_access a.kind n) in
-    sender-adds k a.flushed (at_core core change cs) (subst (λ size. IsAmong size a.flushed) (sym (length-set cs core (change (of cs core)))) among)
+    sender-adds k a.flushed (counts_at_core core change cs) (subst (λ size. IsAmong size a.flushed) (sym (length-set cs core (change (of cs core)))) among)
     ∙ ap (λ n. n + one_if (is_sender k a.flushed)) (kept (λ (n : Counts). n.flushes) core k change cs (through-flushes a.wrote_back a.kind))
 
 -- ---- the caches stay as many
@@ -173,62 +173,62 @@ sound-first table c t = record {
 
 abbrev TurnsOn : Running → Choice → Type 0
 TurnsOn m c =
-    Turns (is_awaited m.state.holder) (is_awaited (effect_by m c).holder) m.statistics.caches.awaited (use_by m c).caches.awaited (step_of m c).flushed (flush_in (use_by m c).how)
+    Turns (is_awaited m.state.holder) (is_awaited (machine_effect m c).holder) m.statistics.caches.awaited (machine_use m c).caches.awaited (trace_step_of m c).flushed (flush_in (machine_use m c).how)
 
 turn : (m : Running) (c : Choice) → IsSound m → TurnsOn m c
-unfolding step_of
+unfolding trace_step_of
 turn m c s =
     choice-turn m.bus (request_at m.statistics.caches.shape.words (access_of m.test m.depth m.state.flat c)) m.statistics.caches m.test m.depth m.state c s.live.holding s.stores s.quiet
 
 among-all : (m : Running) (c : Choice) → IsSound m
-    → IsFlusherAmong (length m.statistics.caches.contents) (use_by m c).how × IsSenderAmong (length m.statistics.caches.contents) (use_by m c).caches.awaited
+    → IsFlusherAmong (length m.statistics.caches.contents) (machine_use m c).how × IsSenderAmong (length m.statistics.caches.contents) (machine_use m c).caches.awaited
 among-all m c s =
-    senders (is_awaited m.state.holder) (is_awaited (effect_by m c).holder) m.statistics.caches (chosen c) (access_of m.test m.depth m.state.flat c) (core_of m.state.flat (chosen c)).pending
-    (effect_by m c).effect.commits s.sender
+    senders (is_awaited m.state.holder) (is_awaited (machine_effect m c).holder) m.statistics.caches (chosen c) (access_of m.test m.depth m.state.flat c) (core_of m.state.flat (chosen c)).pending
+    (machine_effect m c).effect.commits s.sender
 
 pub sound-after : (m : Running) (c : Choice) → IsSound m → IsSound (machine_after m c)
 sound-after m c s =
-    let size : length (use_by m c).caches.contents ≡ length m.statistics.caches.contents =
-    used-size (is_awaited m.state.holder) (is_awaited (effect_by m c).holder) m.statistics.caches (chosen c) (access_of m.test m.depth m.state.flat c) (core_of m.state.flat (chosen c)).pending
-    (effect_by m c).effect.commits in
+    let size : length (machine_use m c).caches.contents ≡ length m.statistics.caches.contents =
+    used-size (is_awaited m.state.holder) (is_awaited (machine_effect m c).holder) m.statistics.caches (chosen c) (access_of m.test m.depth m.state.flat c) (core_of m.state.flat (chosen c)).pending
+    (machine_effect m c).effect.commits in
     let told = after-turn (turn m c s) in
     record {
       live = live-after m.bus m.test m.depth m.state (attempt_on m c) s.live;
       stores = stores-after m.bus m.test m.depth m.state (attempt_on m c) s.stores;
-      size = length-counted (chosen c) (use_by m c).how m.statistics.counts ∙ (s.size ∙ sym size);
-      sender = subst (λ n. IsSenderAmong n (use_by m c).caches.awaited) (sym size) (among-all m c s).1;
+      size = length-counted (chosen c) (machine_use m c).how m.statistics.counts ∙ (s.size ∙ sym size);
+      sender = subst (λ n. IsSenderAmong n (machine_use m c).caches.awaited) (sym size) (among-all m c s).1;
       quiet = told.0;
       resting = told.1;
     }
   where
-    after-turn : TurnsOn m c → UpgradesQuietly (use_by m c).caches.awaited × (is_awaited (effect_by m c).holder ≡ false → flush_awaited (use_by m c).caches.awaited ≡ None)
+    after-turn : TurnsOn m c → UpgradesQuietly (machine_use m c).caches.awaited × (is_awaited (machine_effect m c).holder ≡ false → flush_awaited (machine_use m c).caches.awaited ≡ None)
     after-turn (whole told after waits) = (subst UpgradesQuietly (sym after) s.quiet, λ h. ap flush_awaited after ∙ s.resting (sym waits ∙ h))
     after-turn (asked told how waits next quiet) = (quiet, λ h. absurd (let z : ⊥ = cc in z))
     after-turn (arrived told how after) = (subst UpgradesQuietly (sym after) tt, λ h. ap flush_awaited after)
 
 -- of this core's copies: what is told and what was awaited is what is counted and what is awaited
 balance : (k : ℕ) (m : Running) (c : Choice) → IsSound m
-    → one_if (is_sender k (step_of m c).flushed) + one_if (is_sender k (flush_awaited m.statistics.caches.awaited))
-    ≡ one_if (is_sender k (flush_in (use_by m c).how)) + one_if (is_sender k (flush_awaited (use_by m c).caches.awaited))
+    → one_if (is_sender k (trace_step_of m c).flushed) + one_if (is_sender k (flush_awaited m.statistics.caches.awaited))
+    ≡ one_if (is_sender k (flush_in (machine_use m c).how)) + one_if (is_sender k (flush_awaited (machine_use m c).caches.awaited))
 balance k m c s = by_turn (turn m c s)
   where
     sent : Option Core → ℕ
     sent o = one_if (is_sender k o)
 
-    by_turn : TurnsOn m c → sent (step_of m c).flushed + sent (flush_awaited m.statistics.caches.awaited) ≡ sent (flush_in (use_by m c).how) + sent (flush_awaited (use_by m c).caches.awaited)
+    by_turn : TurnsOn m c → sent (trace_step_of m c).flushed + sent (flush_awaited m.statistics.caches.awaited) ≡ sent (flush_in (machine_use m c).how) + sent (flush_awaited (machine_use m c).caches.awaited)
     by_turn (whole told after waits) =
-        let x : sent (step_of m c).flushed ≡ sent (flush_in (use_by m c).how) = ap sent told in
-        let y : sent (flush_awaited (use_by m c).caches.awaited) ≡ sent (flush_awaited m.statistics.caches.awaited) = ap (λ w. sent (flush_awaited w)) after in
+        let x : sent (trace_step_of m c).flushed ≡ sent (flush_in (machine_use m c).how) = ap sent told in
+        let y : sent (flush_awaited (machine_use m c).caches.awaited) ≡ sent (flush_awaited m.statistics.caches.awaited) = ap (λ w. sent (flush_awaited w)) after in
         omega arith
     by_turn (asked told how waits next quiet) =
-        let x : sent (step_of m c).flushed ≡ sent (flush_awaited (use_by m c).caches.awaited) = ap sent told in
-        let y : sent (flush_in (use_by m c).how) ≡ 0 = ap sent how in
+        let x : sent (trace_step_of m c).flushed ≡ sent (flush_awaited (machine_use m c).caches.awaited) = ap sent told in
+        let y : sent (flush_in (machine_use m c).how) ≡ 0 = ap sent how in
         let z : sent (flush_awaited m.statistics.caches.awaited) ≡ 0 = ap sent (s.resting waits) in
         omega arith
     by_turn (arrived told how after) =
-        let x : sent (step_of m c).flushed ≡ 0 = ap sent told in
-        let y : sent (flush_in (use_by m c).how) ≡ sent (flush_awaited m.statistics.caches.awaited) = ap sent how in
-        let z : sent (flush_awaited (use_by m c).caches.awaited) ≡ 0 = ap (λ w. sent (flush_awaited w)) after in
+        let x : sent (trace_step_of m c).flushed ≡ 0 = ap sent told in
+        let y : sent (flush_in (machine_use m c).how) ≡ sent (flush_awaited m.statistics.caches.awaited) = ap sent how in
+        let z : sent (flush_awaited (machine_use m c).caches.awaited) ≡ 0 = ap (λ w. sent (flush_awaited w)) after in
         omega arith
 
 pub flushes-told : (m : Running) (choices : List Choice) (k : ℕ) → IsSound m → (run_of m choices).ended ≡ true
@@ -248,12 +248,12 @@ flushes-told m (c ∷ cs) k s over = go (has_ended m.test m.state.flat) refl (fl
         let none : one_if (is_sender k (flush_awaited m.statistics.caches.awaited)) ≡ 0 = ap (λ o. one_if (is_sender k o)) (s.resting (ended-free m.bus m.test m.depth m.state.flat m.state.holder s.live now)) in
         omega arith
     go false now rest =
-        let steps : steps_that (tells_flush k) (steps_from m (c ∷ cs)) ≡ one_if (is_sender k (step_of m c).flushed) + steps_that (tells_flush k) (steps_from (machine_after m c) cs) = rw now refl in
+        let steps : steps_that (tells_flush k) (steps_from m (c ∷ cs)) ≡ one_if (is_sender k (trace_step_of m c).flushed) + steps_that (tells_flush k) (steps_from (machine_after m c) cs) = rw now refl in
         let counts : (of (counts_after m (c ∷ cs)) k).flushes ≡ (of (counts_after (machine_after m c) cs) k).flushes = ap (λ (x : Statistics). (of x.counts k).flushes) (counting m c cs now) in
         let ended : (run_of (machine_after m c) cs).ended ≡ true = sym (live-run now) ∙ over in
         let all = rest ended in
-        let one : (of (machine_after m c).statistics.counts k).flushes ≡ (of m.statistics.counts k).flushes + one_if (is_sender k (flush_in (use_by m c).how)) =
-        counted-flush (chosen c) k (use_by m c).how m.statistics.counts (subst (λ n. IsFlusherAmong n (use_by m c).how) (sym s.size) (among-all m c s).0) in
+        let one : (of (machine_after m c).statistics.counts k).flushes ≡ (of m.statistics.counts k).flushes + one_if (is_sender k (flush_in (machine_use m c).how)) =
+        counted-flush (chosen c) k (machine_use m c).how m.statistics.counts (subst (λ n. IsFlusherAmong n (machine_use m c).how) (sym s.size) (among-all m c s).0) in
         let same = balance k m c s in
         omega arith
       where

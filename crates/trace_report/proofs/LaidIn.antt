@@ -1,5 +1,5 @@
 -- The changes of a step, laid into the states before it.
-use Rattle.trace_report.proofs.Vocabulary.{◌≡◌, ◌≢◌, ◌∙◌, ℕ, zero, suc, ◌+◌, ◌<◌, ◌==◌, ◌&&◌, Bool, true, false, if◌then◌else◌, List, [], ◌∷◌, ◌++◌, length, map, All, refl, sym, ap, subst, arith, ◌⊎◌, inl, inr, div_ceil, nat_tests, All-nil, All-cons, All-append, All-weaker, test-true, test-false, and-false, Each, each-append, Litmus, Choice, IsD, ImD, SmD, Running, machine_after, step_of, placed, line_states, core_states, lines_of, states_of, number_of, change_of, changes_in, is_of, laid_in, with_changes, ChangesOne, ChangesLeadFromStatesToStates, LineState, StateChange, PlacedState}
+use Rattle.trace_report.proofs.Vocabulary.{◌≡◌, ◌≢◌, ◌∙◌, ℕ, zero, suc, ◌+◌, ◌<◌, ◌==◌, ◌&&◌, Bool, true, false, if◌then◌else◌, List, [], ◌∷◌, ◌++◌, length, map, All, refl, sym, ap, subst, arith, ◌⊎◌, inl, inr, div_ceil, nat_tests, All-nil, All-cons, All-append, All-weaker, test-true, test-false, and-false, Each, each-append, Litmus, Choice, IsD, ImD, SmD, Running, machine_after, trace_step_of, placed, line_states, placed_states_from, number_of_lines, states_of, number_of_state, change_of, changes_in, is_of, laid_in, with_changes, ChangesOne, ChangesLeadFromStatesToStates, LineState, StateChange, PlacedState}
 use Rattle.protocol_tables.specs.declared.state.State.TheVariants as tag
 use Rattle.trace_report.specs.declared.step.LineState.TheVariants as state
 use Rattle.trace_report.proofs.Whole.{words-kept}
@@ -32,7 +32,7 @@ numbered (suc (suc (suc (suc (suc zero))))) = state.Transient IsD
 numbered (suc (suc (suc (suc (suc (suc zero)))))) = state.Transient ImD
 numbered _ = state.Transient SmD
 
-round : (x : LineState) → numbered (number_of x) ≡ x
+round : (x : LineState) → numbered (number_of_state x) ≡ x
 round (state.Stable tag.I) = refl
 round (state.Stable tag.S) = refl
 round (state.Stable tag.E) = refl
@@ -42,7 +42,7 @@ round (state.Transient IsD) = refl
 round (state.Transient ImD) = refl
 round (state.Transient SmD) = refl
 
-number-tells : (x y : LineState) → number_of x ≡ number_of y → x ≡ y
+number-tells : (x y : LineState) → number_of_state x ≡ number_of_state y → x ≡ y
 number-tells x y h = sym (round x) ∙ (ap numbered h ∙ round y)
 
 -- ---- changes laid in
@@ -65,7 +65,7 @@ flipped p q (inr n) = inr (λ e. n (sym e))
 elsewhere : (b : PlacedState) (bs afters : List PlacedState) → Each (IsOther b) bs → Each (λ (c : StateChange). is_of c b ≡ false) (changes_in bs afters)
 elsewhere b [] afters h = tt
 elsewhere b (q ∷ qs) [] h = tt
-elsewhere b (q ∷ qs) (a ∷ afters) h = each-append (λ (c : StateChange). is_of c b ≡ false) (change_of q a) (changes_in qs afters) (one (number_of q.state == number_of a.state)) (elsewhere b qs afters h.1)
+elsewhere b (q ∷ qs) (a ∷ afters) h = each-append (λ (c : StateChange). is_of c b ≡ false) (change_of q a) (changes_in qs afters) (one (number_of_state q.state == number_of_state a.state)) (elsewhere b qs afters h.1)
   where
     one : (t : Bool) → Each (λ (c : StateChange). is_of c b ≡ false) (if t then [] else record { core = q.core; line = q.line; before = q.state; after = a.state } ∷ [])
     one true = tt
@@ -83,12 +83,12 @@ pub laid : (bs afters : List PlacedState) → Aligned bs afters → with_changes
 laid [] [] h = refl
 laid [] (a ∷ afters) h = absurd h
 laid (b ∷ bs) [] h = absurd h
-laid (b ∷ bs) (a ∷ afters) h = go (number_of b.state == number_of a.state) refl (laid bs afters h.1.1)
+laid (b ∷ bs) (a ∷ afters) h = go (number_of_state b.state == number_of_state a.state) refl (laid bs afters h.1.1)
   where
-    go : (t : Bool) → (number_of b.state == number_of a.state) ≡ t → with_changes (changes_in bs afters) bs ≡ afters
+    go : (t : Bool) → (number_of_state b.state == number_of_state a.state) ≡ t → with_changes (changes_in bs afters) bs ≡ afters
         → with_changes ((if t then [] else record { core = b.core; line = b.line; before = b.state; after = a.state } ∷ []) ++ changes_in bs afters) (b ∷ bs) ≡ a ∷ afters
     go true q rest =
-        let same : number_of b.state ≡ number_of a.state = grind (arith, nat_tests) in
+        let same : number_of_state b.state ≡ number_of_state a.state = grind (arith, nat_tests) in
         with-other (changes_in bs afters) b bs (elsewhere b bs afters h.1.0) ∙ (ap (λ ps. b ∷ ps) rest
         ∙ ap (λ p. p ∷ afters) (same-place b a h.0.0 h.0.1 (number-tells b.state a.state same)))
     go false q rest =
@@ -107,13 +107,13 @@ pub changes-one : (bs afters : List PlacedState) → All (ChangesOne bs) (change
 changes-one [] afters = All-nil (ChangesOne [])
 changes-one (b ∷ bs) [] = All-nil (ChangesOne (b ∷ bs))
 changes-one (b ∷ bs) (a ∷ afters) =
-    All-append (ChangesOne (b ∷ bs)) (change_of b a) (changes_in bs afters) (one (number_of b.state == number_of a.state) refl)
+    All-append (ChangesOne (b ∷ bs)) (change_of b a) (changes_in bs afters) (one (number_of_state b.state == number_of_state a.state) refl)
     (All-weaker (ChangesOne bs) (ChangesOne (b ∷ bs)) (there b bs) (changes_in bs afters) (changes-one bs afters))
   where
-    one : (t : Bool) → (number_of b.state == number_of a.state) ≡ t → All (ChangesOne (b ∷ bs)) (if t then [] else record { core = b.core; line = b.line; before = b.state; after = a.state } ∷ [])
+    one : (t : Bool) → (number_of_state b.state == number_of_state a.state) ≡ t → All (ChangesOne (b ∷ bs)) (if t then [] else record { core = b.core; line = b.line; before = b.state; after = a.state } ∷ [])
     one true q = All-nil (ChangesOne (b ∷ bs))
     one false q =
-        let differ : number_of b.state ≢ number_of a.state = λ same. (let z : ⊥ = grind (arith, nat_tests) in z) in
+        let differ : number_of_state b.state ≢ number_of_state a.state = λ same. (let z : ⊥ = grind (arith, nat_tests) in z) in
         All-cons (ChangesOne (b ∷ bs)) (record { core = b.core; line = b.line; before = b.state; after = a.state }) []
         (record { was = (0, omega arith, refl); differs = differ }) (All-nil (ChangesOne (b ∷ bs)))
 
@@ -124,9 +124,9 @@ abbrev pub grid : Running → ℕ → ℕ → ℕ → List PlacedState
 grid m lines core zero = []
 grid m lines core (suc count) = line_states m core 0 lines ++ grid m lines (core + 1) count
 
-pub grid-is : (m : Running) (core count : ℕ) → core_states m core count ≡ grid m (lines_of m) core count
+pub grid-is : (m : Running) (core count : ℕ) → placed_states_from m core count ≡ grid m (number_of_lines m) core count
 grid-is m core zero = refl
-grid-is m core (suc count) = ap (λ ps. line_states m core 0 (lines_of m) ++ ps) (grid-is m (core + 1) count)
+grid-is m core (suc count) = ap (λ ps. line_states m core 0 (number_of_lines m) ++ ps) (grid-is m (core + 1) count)
 
 later-lines : (p : PlacedState) (m : Running) (core line count : ℕ) → p.line < line → Each (IsOther p) (line_states m core line count)
 later-lines p m core line zero h = tt
@@ -158,19 +158,19 @@ grids m n lines core zero = tt
 grids m n lines core (suc count) =
     beside m n core 0 lines (grid m lines (core + 1) count) (grid n lines (core + 1) count) (λ p is. later-cores p m lines (core + 1) count (omega arith)) (grids m n lines (core + 1) count)
 
-pub aligned : (m n : Running) → n.test ≡ m.test → lines_of n ≡ lines_of m → Aligned (states_of m) (states_of n)
+pub aligned : (m n : Running) → n.test ≡ m.test → number_of_lines n ≡ number_of_lines m → Aligned (states_of m) (states_of n)
 aligned m n test lines =
     let cores = length m.test.programs in
-    let second : grid n (lines_of m) 0 cores ≡ states_of n =
-    sym (ap (λ k. grid n k 0 cores) lines) ∙ (sym (ap (λ (t : Litmus). grid n (lines_of n) 0 (length t.programs)) test) ∙ sym (grid-is n 0 (length n.test.programs))) in
-    subst (λ b. Aligned b (states_of n)) (sym (grid-is m 0 cores)) (subst (λ a. Aligned (grid m (lines_of m) 0 cores) a) second (grids m n (lines_of m) 0 cores))
+    let second : grid n (number_of_lines m) 0 cores ≡ states_of n =
+    sym (ap (λ k. grid n k 0 cores) lines) ∙ (sym (ap (λ (t : Litmus). grid n (number_of_lines n) 0 (length t.programs)) test) ∙ sym (grid-is n 0 (length n.test.programs))) in
+    subst (λ b. Aligned b (states_of n)) (sym (grid-is m 0 cores)) (subst (λ a. Aligned (grid m (number_of_lines m) 0 cores) a) second (grids m n (number_of_lines m) 0 cores))
 
-lead : (m : Running) (choice : Choice) → with_changes (step_of m choice).changes (states_of m) ≡ states_of (machine_after m choice)
-unfolding step_of
+lead : (m : Running) (choice : Choice) → with_changes (trace_step_of m choice).changes (states_of m) ≡ states_of (machine_after m choice)
+unfolding trace_step_of
 lead m choice = laid (states_of m) (states_of (machine_after m choice)) (aligned m (machine_after m choice) refl (ap (λ n. div_ceil (length m.test.locations) n) (words-kept m choice)))
 
-real : (m : Running) (choice : Choice) → All (ChangesOne (states_of m)) (step_of m choice).changes
-unfolding step_of
+real : (m : Running) (choice : Choice) → All (ChangesOne (states_of m)) (trace_step_of m choice).changes
+unfolding trace_step_of
 real m choice = changes-one (states_of m) (states_of (machine_after m choice))
 
 pub changes-lead : ChangesLeadFromStatesToStates

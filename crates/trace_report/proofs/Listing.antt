@@ -1,5 +1,5 @@
 -- Lists of states and of changes, made one after the other.
-use Rattle.trace_report.proofs.Vocabulary.{◌≡◌, ◌∙◌, ℕ, zero, suc, ◌+◌, ◌-◌, ◌<◌, ◌≤◌, List, [], ◌∷◌, ◌++◌, length, drop, get_or, min, refl, sym, ap, append_assoc, append-nil, arith, drop_more, Running, placed, line_states, core_states, lines_of, change_of, changes_in, PlacedState, StateChange}
+use Rattle.trace_report.proofs.Vocabulary.{◌≡◌, ◌∙◌, ℕ, zero, suc, ◌+◌, ◌-◌, ◌<◌, ◌≤◌, List, [], ◌∷◌, ◌++◌, length, drop, get_or, min, refl, sym, ap, append_assoc, append-nil, arith, drop_more, Running, placed, line_states, placed_states_from, number_of_lines, change_of, changes_in, PlacedState, StateChange}
 
 -- ---- states
 
@@ -16,18 +16,18 @@ all-lines m core line lines before whole h was =
     let count : lines - line ≡ 0 = omega arith in
     sym (append-nil before) ∙ (sym (ap (λ n. before ++ line_states m core line n) count) ∙ was)
 
-pub one-core : (m : Running) (core cores : ℕ) (before after whole : List PlacedState) → core < cores → after ≡ before ++ line_states m core 0 (lines_of m)
-    → before ++ core_states m core (cores - core) ≡ whole → after ++ core_states m (core + 1) (cores - (core + 1)) ≡ whole
+pub one-core : (m : Running) (core cores : ℕ) (before after whole : List PlacedState) → core < cores → after ≡ before ++ line_states m core 0 (number_of_lines m)
+    → before ++ placed_states_from m core (cores - core) ≡ whole → after ++ placed_states_from m (core + 1) (cores - (core + 1)) ≡ whole
 one-core m core cores before after whole h is was =
-    let rest = core_states m (core + 1) (cores - (core + 1)) in
+    let rest = placed_states_from m (core + 1) (cores - (core + 1)) in
     let count : cores - core ≡ suc (cores - (core + 1)) = omega arith in
-    ap (λ text. text ++ rest) is ∙ (append_assoc before (line_states m core 0 (lines_of m)) rest
-    ∙ (sym (ap (λ n. before ++ core_states m core n) count) ∙ was))
+    ap (λ text. text ++ rest) is ∙ (append_assoc before (line_states m core 0 (number_of_lines m)) rest
+    ∙ (sym (ap (λ n. before ++ placed_states_from m core n) count) ∙ was))
 
-pub all-cores : (m : Running) (core cores : ℕ) (before whole : List PlacedState) → cores ≤ core → before ++ core_states m core (cores - core) ≡ whole → before ≡ whole
+pub all-cores : (m : Running) (core cores : ℕ) (before whole : List PlacedState) → cores ≤ core → before ++ placed_states_from m core (cores - core) ≡ whole → before ≡ whole
 all-cores m core cores before whole h was =
     let count : cores - core ≡ 0 = omega arith in
-    sym (append-nil before) ∙ (sym (ap (λ n. before ++ core_states m core n) count) ∙ was)
+    sym (append-nil before) ∙ (sym (ap (λ n. before ++ placed_states_from m core n) count) ∙ was)
 
 -- ---- changes
 

@@ -2,7 +2,7 @@
 use Rattle.trace_report.proofs.Vocabulary.{◌≡◌, ◌∙◌, ℕ, zero, suc, ◌+◌, ◌-◌, ◌<◌, List, [], ◌∷◌, ◌++◌, length, take, Option, Some, None, option_map, slice_get, slice_index_or, refl, sym, ap, arith, length-append, option_and_then, unwrap_or, action_of, value_in, CoreState, idle, core_of, Action, Move, Instr, Entry, Running, moved_by}
 use Rattle.tso_model.specs.declared.register.Reg.{Reg}
 use Rattle.tso_model.specs.declared.action.Operand.{Operand}
-use Rattle.machine_core.specs.inner.Looking.{core_at, pending_at}
+use Rattle.machine_core.specs.inner.Looking.{core_numbered, pending_at}
 use Rattle.trace_report.specs.declared.step.Moved.{Moved}
 
 place-in : (cores : List CoreState) (i : ℕ) → unwrap_or (option_map (λ (s : CoreState). s.place) (slice_get cores i)) 0 ≡ (slice_index_or cores i idle).place
@@ -10,7 +10,7 @@ place-in [] i = refl
 place-in (s ∷ ss) zero = refl
 place-in (s ∷ ss) (suc i) = place-in ss i
 
-pub place-of : (m : Running) (core : ℕ) → unwrap_or (option_map (λ (s : CoreState). s.place) (core_at m core)) 0 ≡ (core_of m.state.flat core).place
+pub place-of : (m : Running) (core : ℕ) → unwrap_or (option_map (λ (s : CoreState). s.place) (core_numbered m core)) 0 ≡ (core_of m.state.flat core).place
 place-of m core = place-in m.state.flat.cores core
 
 register-in : (cores : List CoreState) (i : ℕ) (reg : Reg)
@@ -20,12 +20,12 @@ register-in (s ∷ ss) zero reg = refl
 register-in (s ∷ ss) (suc i) reg = register-in ss i reg
 
 pub register-of : (m : Running) (core : ℕ) (reg : Reg)
-    → unwrap_or (option_map (λ (s : CoreState). value_in s.registers reg) (core_at m core)) 0 ≡ value_in (core_of m.state.flat core).registers reg
+    → unwrap_or (option_map (λ (s : CoreState). value_in s.registers reg) (core_numbered m core)) 0 ≡ value_in (core_of m.state.flat core).registers reg
 register-of m core reg = register-in m.state.flat.cores core reg
 
 -- what a move set
 pub moved-value : (m : Running) (core : ℕ) (reg : Reg) (operand : Operand) (i : Instr) (found : Option ℕ) (value : ℕ) → Move reg operand ≡ action_of i
-    → found ≡ option_map (λ (s : CoreState). value_in s.registers reg) (core_at m core) → value ≡ unwrap_or found 0
+    → found ≡ option_map (λ (s : CoreState). value_in s.registers reg) (core_numbered m core) → value ≡ unwrap_or found 0
     → Some (record { reg = reg; value = value }) ≡ moved_by (action_of i) (core_of m.state.flat core).registers
 moved-value m core reg operand i found value is found_is value_is =
     let made : ℕ → Option Moved = λ v. Some (record { reg = reg; value = v }) in

@@ -1,5 +1,5 @@
 -- The lines and stores that a step names are the test's.
-use Rattle.trace_report.proofs.Vocabulary.{ℕ, zero, suc, ◌+◌, ◌<◌, ◌≤◌, Bool, true, false, ◌&&◌, ◌==◌, if◌then◌else◌, List, [], ◌∷◌, length, Option, Some, None, IfSome, All, arith, All-nil, All-cons, All-head, All-tail, All-append, Litmus, MemoryAccess, NoAccess, Reads, Writes, Locks, Bus, Atomic, Split, Outcome, Committed, Buffered, Moved, Asked, Stalled, Entry, Awaited, Running, CacheUse, Unused, Forwarded, Through, IsAt, IsLine, goes_on_bus, request_at, sent_on, line_states, core_states, lines_of, states_of, number_of, is_absent, change_of, changes_in, left_by, wrote_back_by, buffer_if_changed, LineRequest, StateChange, PlacedState}
+use Rattle.trace_report.proofs.Vocabulary.{ℕ, zero, suc, ◌+◌, ◌<◌, ◌≤◌, Bool, true, false, ◌&&◌, ◌==◌, if◌then◌else◌, List, [], ◌∷◌, length, Option, Some, None, IfSome, All, arith, All-nil, All-cons, All-head, All-tail, All-append, Litmus, MemoryAccess, NoAccess, Reads, Writes, Locks, Bus, Atomic, Split, Outcome, Committed, Buffered, Moved, Asked, Stalled, Entry, Awaited, Running, CacheUse, Unused, Forwarded, Through, IsAt, IsLine, goes_on_bus, request_at, sent_on, line_states, placed_states_from, number_of_lines, states_of, number_of_state, is_absent, change_of, changes_in, line_that_left, wrote_back_by, buffer_if_changed, LineRequest, StateChange, PlacedState}
 use Rattle.trace_report.proofs.Places.{AccessKnown, line-at, line-within}
 
 -- ---- requests
@@ -34,18 +34,18 @@ sent-known t words Split (Stalled why) request how awaited k = tt
 abbrev pub IsOnLine : Litmus → ℕ → PlacedState → Type 0
 IsOnLine t words p = IsLine t words p.line
 
-lines-known : (m : Running) (core line count : ℕ) → 0 < m.statistics.caches.shape.words → line + count ≤ lines_of m → All (IsOnLine m.test m.statistics.caches.shape.words) (line_states m core line count)
+lines-known : (m : Running) (core line count : ℕ) → 0 < m.statistics.caches.shape.words → line + count ≤ number_of_lines m → All (IsOnLine m.test m.statistics.caches.shape.words) (line_states m core line count)
 lines-known m core line zero some within = All-nil (IsOnLine m.test m.statistics.caches.shape.words)
 lines-known m core line (suc count) some within =
     All-cons (IsOnLine m.test m.statistics.caches.shape.words) _ (line_states m core (line + 1) count)
-    (line-within m.test m.statistics.caches.shape.words line some (let h : line < lines_of m = omega arith in h))
+    (line-within m.test m.statistics.caches.shape.words line some (let h : line < number_of_lines m = omega arith in h))
     (lines-known m core (line + 1) count some (omega arith))
 
-cores-known : (m : Running) (core count : ℕ) → 0 < m.statistics.caches.shape.words → All (IsOnLine m.test m.statistics.caches.shape.words) (core_states m core count)
+cores-known : (m : Running) (core count : ℕ) → 0 < m.statistics.caches.shape.words → All (IsOnLine m.test m.statistics.caches.shape.words) (placed_states_from m core count)
 cores-known m core zero some = All-nil (IsOnLine m.test m.statistics.caches.shape.words)
 cores-known m core (suc count) some =
-    All-append (IsOnLine m.test m.statistics.caches.shape.words) (line_states m core 0 (lines_of m)) (core_states m (core + 1) count)
-    (lines-known m core 0 (lines_of m) some (omega arith)) (cores-known m (core + 1) count some)
+    All-append (IsOnLine m.test m.statistics.caches.shape.words) (line_states m core 0 (number_of_lines m)) (placed_states_from m (core + 1) count)
+    (lines-known m core 0 (number_of_lines m) some (omega arith)) (cores-known m (core + 1) count some)
 
 pub states-known : (m : Running) → 0 < m.statistics.caches.shape.words → All (IsOnLine m.test m.statistics.caches.shape.words) (states_of m)
 states-known m some = cores-known m 0 (length m.test.programs) some
@@ -54,7 +54,7 @@ abbrev pub IsChangeOnLine : Litmus → ℕ → StateChange → Type 0
 IsChangeOnLine t words c = IsLine t words c.line
 
 change-known : (t : Litmus) (words : ℕ) (b a : PlacedState) → IsOnLine t words b → All (IsChangeOnLine t words) (change_of b a)
-change-known t words b a k = by_test (number_of b.state == number_of a.state)
+change-known t words b a k = by_test (number_of_state b.state == number_of_state a.state)
   where
     by_test : (same : Bool) → All (IsChangeOnLine t words) (if same then [] else record { core = b.core; line = b.line; before = b.state; after = a.state } ∷ [])
     by_test true = All-nil (IsChangeOnLine t words)
@@ -67,11 +67,11 @@ changes-known t words (b ∷ bs) (a ∷ rest) k =
     All-append (IsChangeOnLine t words) (change_of b a) (changes_in bs rest) (change-known t words b a (All-head (IsOnLine t words) b bs k))
     (changes-known t words bs rest (All-tail (IsOnLine t words) b bs k))
 
-left-known : (t : Litmus) (words core : ℕ) (cs : List StateChange) → All (IsChangeOnLine t words) cs → IfSome (left_by core cs) (IsLine t words)
+left-known : (t : Litmus) (words core : ℕ) (cs : List StateChange) → All (IsChangeOnLine t words) cs → IfSome (line_that_left core cs) (IsLine t words)
 left-known t words core [] k = tt
 left-known t words core (c ∷ cs) k = by_test ((c.core.0 == core) && is_absent c.after) (left-known t words core cs (All-tail (IsChangeOnLine t words) c cs k))
   where
-    by_test : (b : Bool) → IfSome (left_by core cs) (IsLine t words) → IfSome (if b then Some c.line else left_by core cs) (IsLine t words)
+    by_test : (b : Bool) → IfSome (line_that_left core cs) (IsLine t words) → IfSome (if b then Some c.line else line_that_left core cs) (IsLine t words)
     by_test true rest = All-head (IsChangeOnLine t words) c cs k
     by_test false rest = rest
 
@@ -81,7 +81,7 @@ written-back-known t words Unused core cs k = tt
 written-back-known t words Forwarded core cs k = tt
 written-back-known t words (Through a) core cs k = by_test a.wrote_back
   where
-    by_test : (b : Bool) → IfSome (if b then left_by core cs else None) (IsLine t words)
+    by_test : (b : Bool) → IfSome (if b then line_that_left core cs else None) (IsLine t words)
     by_test true = left-known t words core cs k
     by_test false = tt
 

@@ -1,5 +1,5 @@
 -- The request that a step tells is the one that the other caches see.
-use Rattle.trace_report.proofs.Vocabulary.{◌≡◌, ◌≢◌, ◌∙◌, ◌/◌, ℕ, Bool, true, false, not, if◌then◌else◌, List, [], ◌∷◌, Option, Some, None, is_some, option_map, inl, inr, refl, sym, ap, subst, Litmus, State, chosen, core_of, effect_of, MemoryAccess, NoAccess, Reads, Writes, Locks, access_of, next_of, Holder, Free, HeldBy, HeldBetween, BusEffect, same_choice, needs_bus, acts, asks, begins, completes, as_read, writes_last, split_effect, BusState, effect_on, Bus, Atomic, Split, Choice, Step, Outcome, Entry, Table, Request, GetS, GetM, Transient, IsD, ImD, SmD, M, table_of_rows, asked, used, filled, snooped, TagSets, at_line, tag_in, sets_of, is_held, requested, filled_by, loaded_in, written_in, write_in, Awaited, asking, awaiting, asked_for, asked_caches_in, completed, completed_in, hit_in, same-is, AllStores, HolderWaits, Through, Caches, Used, asking_by, completing_by, use_of, used_between, use_on, hits_by, attempt_of, is_awaited, Configuration, Running, new_machine, machine_after, IsUseFor, choice-use, goes_on_bus, nothing_sent, request_at, sent_whole, sent_asked, sent_at, sent_on, with_seen, OthersSeeTheRequest, after_choices, Sent, LineRequest}
+use Rattle.trace_report.proofs.Vocabulary.{◌≡◌, ◌≢◌, ◌∙◌, ◌/◌, ℕ, Bool, true, false, not, if◌then◌else◌, List, [], ◌∷◌, Option, Some, None, is_some, option_map, inl, inr, refl, sym, ap, subst, Litmus, State, chosen, core_of, effect_of, MemoryAccess, NoAccess, Reads, Writes, Locks, access_of, next_of, Holder, Free, HeldBy, HeldBetween, BusEffect, same_choice, needs_bus, acts, asks, begins, completes, as_read, writes_last, split_effect, BusState, effect_on, Bus, Atomic, Split, Choice, Step, Outcome, Entry, Table, Request, GetS, GetM, Transient, IsD, ImD, SmD, M, table_of_rows, snoop_column, used, filled, snooped, TagSets, at_line, tag_in, sets_of, is_held, requested, filled_by, loaded_in, written_in, write_in, Awaited, asking, awaiting, asked_for, asked_caches_in, completed, completed_in, hit_in, same-is, AllStores, HolderWaits, Through, Caches, Used, asking_by, completing_by, use_of, used_between, use_on, hits_by, attempt_of, is_awaited, Configuration, Running, new_machine, machine_after, IsUseFor, choice-use, goes_on_bus, nothing_sent, request_at, sent_whole, sent_asked, sent_at, sent_on, with_seen, OthersSeeTheRequest, after_choices, Sent, LineRequest}
 use Rattle.protocol_tables.specs.declared.state.State as protocol
 use Rattle.bus_laws.proofs.Snooped.{requested-at, own-alone}
 use Rattle.trace_report.specs.Steps as steps
@@ -87,7 +87,7 @@ asked-seen t request core line k caches n = by_transient (asked_for request core
     by_transient : (x : Option Transient) → sets_of (asked_caches_in t request core line x caches) k
         ≡ with_seen t (sent_asked (Some (record { request = request; line = line })) (option_map (awaiting t request line caches) x)).request (sets_of caches k)
     by_transient None = refl
-    by_transient (Some x) = requested-at (asked t request) core line caches k n
+    by_transient (Some x) = requested-at (snoop_column t request) core line caches k n
 
 asks-seen : (c : Caches) (core k : ℕ) (what : MemoryAccess) → k ≢ core → SeesSent c k (asking_by c core what) (sent_asked (request_at c.shape.words what) (asking_by c core what).caches.awaited)
 asks-seen c core k NoAccess n = by_awaited c.awaited
@@ -207,7 +207,7 @@ choice-sees Atomic t d state c a k holding stores n = by_waiting (is_awaited sta
     by_waiting false = whole-seen c core k what _ (choice-use t d state.flat c a (own-stores state.flat stores)) n
 
 others-see : (m : Running) (choice : Choice) → IsSound m → OthersSeeTheRequest m choice
-unfolding steps.step_of
+unfolding steps.trace_step_of
 others-see m choice sound core n = choice-sees m.bus m.test m.depth m.state m.statistics.caches choice core sound.live.holding sound.stores n
 
 -- ---- along the choices

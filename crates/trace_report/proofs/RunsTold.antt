@@ -1,9 +1,9 @@
 -- The steps of a trace, summed along its run.
-use Rattle.trace_report.proofs.Vocabulary.{◌≡◌, ◌∙◌, ℕ, suc, ◌+◌, ◌≤◌, Bool, true, false, List, [], ◌∷◌, ◌++◌, length, drop, refl, sym, ap, subst, inl, inr, get_or-set_same, get_or_past, length-set, lt-or, Litmus, CoreState, Effect, idle, core_of, chosen, start, Run, has_ended, stall_count, then_run, run, Attempt, BusState, BusRun, unheld, then_on, resting_on, run_on, run_on_from, choices_in, Bus, Atomic, Choice, Table, Configuration, Caches, use_on, state_after_on, no_statistics, Running, new_machine, attempt_on, machine_after, step_of, steps_from, trace_of, committed_at, committed_in, stalls_in, TellsRun, run_traced}
+use Rattle.trace_report.proofs.Vocabulary.{◌≡◌, ◌∙◌, ℕ, suc, ◌+◌, ◌≤◌, Bool, true, false, List, [], ◌∷◌, ◌++◌, length, drop, refl, sym, ap, subst, inl, inr, get_or-set_same, get_or_past, length-set, lt-or, Litmus, CoreState, Effect, idle, core_of, chosen, start, Run, has_ended, stall_count, then_run, run, Attempt, BusState, BusRun, unheld, then_on, resting_on, run_on, run_on_from, choices_in, Bus, Atomic, Choice, Table, Configuration, Caches, use_on, state_after_on, no_statistics, Running, new_machine, attempt_on, machine_after, trace_step_of, steps_from, trace_of, committed_at, committed_in, stalls_in, TellsRun, run_traced}
 use Rattle.tso_model.specs.Together.{put_together}
 use Rattle.split_laws.specs.BusLaws.{AtomicRunsAreFlatRuns}
 use Rattle.machine_core.specs.Answered.{answered, answered_from}
-use Rattle.machine_core.specs.Running.{effect_by}
+use Rattle.machine_core.specs.Running.{machine_effect}
 use Rattle.trace_report.proofs.Effects.{Form, effect-form, named-is, nothing-new}
 
 -- the choices with the answers of a machine's caches along them, and the run under them from the machine's state on
@@ -14,8 +14,8 @@ abbrev pub run_of : Running → List Choice → Run
 run_of m choices = (run_on_from m.bus m.test m.depth m.state (answers_of m choices)).run
 
 -- what a step has committed is what its choice commits
-step-commits : (m : Running) (choice : Choice) → committed_at (step_of m choice).outcome (step_of m choice).entries ≡ (effect_by m choice).effect.commits
-unfolding step_of
+step-commits : (m : Running) (choice : Choice) → committed_at (trace_step_of m choice).outcome (trace_step_of m choice).entries ≡ (machine_effect m choice).effect.commits
+unfolding trace_step_of
 step-commits m choice = elim (lt-or (length m.state.flat.cores) (chosen choice)) [
   | inl there ↦
       let after : core_of (machine_after m choice).state.flat (chosen choice) ≡ f.after = get_or-set_same m.state.flat.cores (chosen choice) f.after idle there in
@@ -28,7 +28,7 @@ step-commits m choice = elim (lt-or (length m.state.flat.cores) (chosen choice))
 ]
   where
     f : Effect
-    f = (effect_by m choice).effect
+    f = (machine_effect m choice).effect
 
     s : CoreState
     s = core_of m.state.flat (chosen choice)
@@ -36,15 +36,15 @@ step-commits m choice = elim (lt-or (length m.state.flat.cores) (chosen choice))
     form : Form choice s f
     form = effect-form m.bus m.test m.depth m.state (attempt_on m choice)
 
-pub step-outcome : (m : Running) (choice : Choice) → (step_of m choice).outcome ≡ (effect_by m choice).effect.outcome
-unfolding step_of
+pub step-outcome : (m : Running) (choice : Choice) → (trace_step_of m choice).outcome ≡ (machine_effect m choice).effect.outcome
+unfolding trace_step_of
 step-outcome m choice = refl
 
 abbrev pub bus_run_of : Running → List Choice → BusRun
 bus_run_of m choices = run_on_from m.bus m.test m.depth m.state (answers_of m choices)
 
 pub going : (m : Running) (c : Choice) (rest : List Choice) → has_ended m.test m.state.flat ≡ false
-    → bus_run_of m (c ∷ rest) ≡ then_on (effect_by m c) (bus_run_of (machine_after m c) rest)
+    → bus_run_of m (c ∷ rest) ≡ then_on (machine_effect m c) (bus_run_of (machine_after m c) rest)
 going m c rest live = rw live refl
 
 stopped : (m : Running) (c : Choice) (rest : List Choice) → has_ended m.test m.state.flat ≡ true
@@ -70,14 +70,14 @@ tells-from m (c ∷ cs) = go (has_ended m.test m.state.flat) refl (tells-from (m
           stalled = ap stalls_in steps ∙ sym (ap (λ (r : BusRun). r.run.stalled) runs);
         }
     go false live rest =
-        let steps : steps_from m (c ∷ cs) ≡ step_of m c ∷ steps_from (machine_after m c) cs = rw live refl in
-        let runs : run_of m (c ∷ cs) ≡ then_run (effect_by m c).effect (run_of (machine_after m c) cs) = ap (λ (r : BusRun). r.run) (going m c cs live) in
+        let steps : steps_from m (c ∷ cs) ≡ trace_step_of m c ∷ steps_from (machine_after m c) cs = rw live refl in
+        let runs : run_of m (c ∷ cs) ≡ then_run (machine_effect m c).effect (run_of (machine_after m c) cs) = ap (λ (r : BusRun). r.run) (going m c cs live) in
         let next = steps_from (machine_after m c) cs in
         record {
-          committed = ap committed_in steps ∙ (ap (λ es. es ++ committed_in next) (step-commits m c) ∙ (ap (λ es. (effect_by m c).effect.commits ++ es) rest.committed
+          committed = ap committed_in steps ∙ (ap (λ es. es ++ committed_in next) (step-commits m c) ∙ (ap (λ es. (machine_effect m c).effect.commits ++ es) rest.committed
               ∙ sym (ap (λ (r : Run). r.commits) runs)));
           used = ap length steps ∙ (ap (λ n. suc n) rest.used ∙ sym (ap (λ (r : Run). r.used) runs));
-          stalled = ap stalls_in steps ∙ (ap (λ o. stall_count o + stalls_in next) (step-outcome m c) ∙ (ap (λ n. stall_count (effect_by m c).effect.outcome + n) rest.stalled
+          stalled = ap stalls_in steps ∙ (ap (λ o. stall_count o + stalls_in next) (step-outcome m c) ∙ (ap (λ n. stall_count (machine_effect m c).effect.outcome + n) rest.stalled
               ∙ sym (ap (λ (r : Run). r.stalled) runs)));
         }
 

@@ -1,5 +1,5 @@
 -- A choice that stalled: nothing else is told of it.
-use Rattle.trace_report.proofs.Vocabulary.{◌≡◌, ◌⊎◌, inl, inr, ◌∙◌, ℕ, Bool, true, false, if◌then◌else◌, List, [], ◌++◌, length, drop, Option, Some, None, refl, sym, ap, subst, Litmus, action_of, CoreState, State, effect_by, effect_of, core_of, chosen, MemoryAccess, NoAccess, Reads, Writes, Locks, access_by, step_access, access_of, next_of, Holder, Free, HeldBy, HeldBetween, Attempt, same_choice, needs_bus, acts, asks, begins, completes, as_read, writes_last, split_effect, BusState, effect_on, Bus, Atomic, Split, Instr, Action, Store, Load, Move, Fence, Lock, Entry, Choice, Step, Drain, Outcome, Moved, Stalled, Stall, Awaited, same-is, Caches, is_awaited, used_between, Running, use_by, machine_after, CacheUse, Unused, states_of, changes_in, is_forwarded, access_in, request_at, nothing_sent, sent_on, moved_at, moved_by, moved_from, wrote_back_by, buffer_if_changed, stores_on, stalled_step, LineRequest, Sent}
+use Rattle.trace_report.proofs.Vocabulary.{◌≡◌, ◌⊎◌, inl, inr, ◌∙◌, ℕ, Bool, true, false, if◌then◌else◌, List, [], ◌++◌, length, drop, Option, Some, None, refl, sym, ap, subst, Litmus, action_of, CoreState, State, effect_by, effect_of, core_of, chosen, MemoryAccess, NoAccess, Reads, Writes, Locks, access_by, step_access, access_of, next_of, Holder, Free, HeldBy, HeldBetween, Attempt, same_choice, needs_bus, acts, asks, begins, completes, as_read, writes_last, split_effect, BusState, effect_on, Bus, Atomic, Split, Instr, Action, Store, Load, Move, Fence, Lock, Entry, Choice, Step, Drain, Outcome, Moved, Stalled, Stall, Awaited, same-is, Caches, is_awaited, used_between, Running, machine_use, machine_after, CacheUse, Unused, states_of, changes_in, is_forwarded, access_kind_in, request_at, nothing_sent, sent_on, moved_at, moved_by, moved_from, wrote_back_by, buffer_if_changed, stores_on, stalled_step, LineRequest, Sent}
 use Rattle.tso_model.specs.FlatMachine.{step_of}
 use Rattle.machine_core.specs.Running as running
 use Rattle.trace_report.specs.Steps as steps
@@ -114,26 +114,26 @@ sends-nothing Atomic o why request how awaited stalls none = ap (λ h. sent_on A
 sends-nothing Split o why request how awaited stalls none = ap (λ x. sent_on Split x request how awaited) stalls
 
 -- what a choice did that stalled and changed nothing
-pub stall-shown : (m : Running) (choice : Choice) (why : Stall) → machine_after m choice ≡ m → (running.effect_by m choice).effect.outcome ≡ Stalled why
-    → stalled_step choice why ≡ steps.step_of m choice
-unfolding steps.step_of
+pub stall-shown : (m : Running) (choice : Choice) (why : Stall) → machine_after m choice ≡ m → (running.machine_effect m choice).effect.outcome ≡ Stalled why
+    → stalled_step choice why ≡ steps.trace_step_of m choice
+unfolding steps.trace_step_of
 stall-shown m choice why same stalls =
-    let f = running.effect_by m choice in
+    let f = running.machine_effect m choice in
     let core = chosen choice in
     let end = machine_after m choice in
     let rests = stall-rests choice (core_of m.state.flat core) f.effect why stalls (form-of m choice) in
     let stores : stores_on end choice ≡ stores_on m choice = ap (λ (n : Running). stores_on n choice) same in
     let held : is_awaited f.holder ≡ is_awaited m.state.holder = ap (λ (n : Running). is_awaited n.state.holder) same in
-    let how : (use_by m choice).how ≡ Unused =
+    let how : (machine_use m choice).how ≡ Unused =
     unused (is_awaited m.state.holder) (is_awaited f.holder) m.statistics.caches core (access_of m.test m.depth m.state.flat choice) (core_of m.state.flat core).pending f.effect.commits held rests.commits in
     let request = request_at m.statistics.caches.shape.words (access_of m.test m.depth m.state.flat choice) in
-    let sent : sent_on m.bus f.effect.outcome request (use_by m choice).how end.statistics.caches.awaited ≡ nothing_sent =
-    sends-nothing m.bus f.effect.outcome why request (use_by m choice).how end.statistics.caches.awaited stalls how in
+    let sent : sent_on m.bus f.effect.outcome request (machine_use m choice).how end.statistics.caches.awaited ≡ nothing_sent =
+    sends-nothing m.bus f.effect.outcome why request (machine_use m choice).how end.statistics.caches.awaited stalls how in
     let changes : changes_in (states_of m) (states_of end) ≡ [] = ap (λ (n : Running). changes_in (states_of m) (states_of n)) same ∙ unchanged (states_of m) in
     sym (same-fields choice _ _ _ _ _ _ _ _ _ _ _ _ _ _ _ _ _ _ _ _ stalls
     (ap (λ es. es ++ drop (length (stores_on m choice)) (stores_on end choice)) rests.commits ∙ (ap (λ es. drop (length (stores_on m choice)) es) stores ∙ drop-all (stores_on m choice)))
     (stall-moves m.test (core_of m.state.flat core).place choice f.effect.outcome why (core_of end.state.flat core).registers stalls
     (effect-moves m.bus m.test m.depth m.state (running.attempt_on m choice)))
-    (ap is_forwarded how) (ap access_in how) (ap (λ (s : Sent). s.request) sent) (ap (λ (s : Sent). s.flushed) sent)
+    (ap is_forwarded how) (ap access_kind_in how) (ap (λ (s : Sent). s.request) sent) (ap (λ (s : Sent). s.flushed) sent)
     (ap (λ h. wrote_back_by h core (changes_in (states_of m) (states_of end))) how) changes
     (ap (λ es. buffer_if_changed (length (stores_on m choice)) es) stores ∙ rw (same-test (length (stores_on m choice))) refl))

@@ -1,5 +1,5 @@
 -- The line that a step tells as written back is the one that gave way in its set.
-use Rattle.trace_report.proofs.Vocabulary.{arith, ◌≡◌, ◌≢◌, ◌∙◌, ◌⊎◌, ◌+◌, ◌-◌, ◌<◌, ◌≤◌, ◌/◌, ◌%◌, ◌==◌, ◌&&◌, ℕ, zero, suc, Bool, true, false, if◌then◌else◌, List, [], ◌∷◌, ◌++◌, length, take, slice_get, slice_set, slice_index_or, Option, Some, None, nat_eq, inl, inr, refl, sym, ap, subst, get_or-set_same, get_or-set_other, eqb_tells, nat_tests, get_or_past, length-set, decide, lt-or, Litmus, IsTest, chosen, MemoryAccess, NoAccess, Reads, Writes, Locks, access_of, Holder, Free, HeldBy, Loc, Choice, Table, Transient, IsD, ImD, SmD, table_of_rows, TagSet, tag_of, leaving, filled, TagSets, tags_at, tag_in, at_line, sets_of, is_held, dirty_in, writes_back, filled_by, loaded_in, written_in, write_in, Awaited, tag_at, completed, completed_in, Configuration, Caches, Used, through, load_by, write_by, completion_by, completing_by, at_access, bus_holder, bus_holder_as, bus_holder_of, Running, new_machine, use_by, machine_after, CacheUse, Unused, Forwarded, Through, IsUseFor, no_set, found-valid, own-kept, state_with, awaited_at, line_state, line_states, placed, lines_of, states_of, number_of, change_of, changes_in, is_absent, left_by, wrote_back_by, WriteBacksAreTold, KeepsWays, after_choices, KeepsNoCopyInI, StateChange, PlacedState}
+use Rattle.trace_report.proofs.Vocabulary.{arith, ◌≡◌, ◌≢◌, ◌∙◌, ◌⊎◌, ◌+◌, ◌-◌, ◌<◌, ◌≤◌, ◌/◌, ◌%◌, ◌==◌, ◌&&◌, ℕ, zero, suc, Bool, true, false, if◌then◌else◌, List, [], ◌∷◌, ◌++◌, length, take, slice_get, slice_set, slice_index_or, Option, Some, None, nat_eq, inl, inr, refl, sym, ap, subst, get_or-set_same, get_or-set_other, eqb_tells, nat_tests, get_or_past, length-set, decide, lt-or, Litmus, IsTest, chosen, MemoryAccess, NoAccess, Reads, Writes, Locks, access_of, Holder, Free, HeldBy, Loc, Choice, Table, Transient, IsD, ImD, SmD, table_of_rows, TagSet, tag_of, leaving, filled, TagSets, tags_at, tag_in, at_line, sets_of, is_held, dirty_in, writes_back, filled_by, loaded_in, written_in, write_in, Awaited, tag_at, completed, completed_in, Configuration, Caches, Used, through, load_by, write_by, completion_by, completing_by, at_access, bus_holder, bus_holder_as, bus_holder_of, Running, new_machine, machine_use, machine_after, CacheUse, Unused, Forwarded, Through, IsUseFor, no_set, found-valid, own-kept, state_with, awaited_at, line_state, line_states, placed, number_of_lines, states_of, number_of_state, change_of, changes_in, is_absent, line_that_left, wrote_back_by, WriteBacksAreTold, KeepsWays, after_choices, KeepsNoCopyInI, StateChange, PlacedState}
 use Rattle.std.specs.Map.{lookup}
 use Rattle.std.proofs.lemmas.Bool.{eq-eqb}
 use Rattle.protocol_tables.specs.declared.state.State as protocol
@@ -22,11 +22,11 @@ both-true : (a b : Bool) → (a && b) ≡ true → (a ≡ true) × (b ≡ true)
 both-true true b h = (refl, h)
 both-true false b h = absurd (let z : ⊥ = cc in z)
 
-line-sound : (m n : Running) (core k from count line : ℕ) (xs ys : List PlacedState) → (left_by core (changes_in xs ys) ≡ Some line → LeavesLine m n core line)
-    → left_by core (changes_in (line_states m k from count ++ xs) (line_states n k from count ++ ys)) ≡ Some line → LeavesLine m n core line
+line-sound : (m n : Running) (core k from count line : ℕ) (xs ys : List PlacedState) → (line_that_left core (changes_in xs ys) ≡ Some line → LeavesLine m n core line)
+    → line_that_left core (changes_in (line_states m k from count ++ xs) (line_states n k from count ++ ys)) ≡ Some line → LeavesLine m n core line
 line-sound m n core k from zero line xs ys rest h = rest h
 line-sound m n core k from (suc count) line xs ys rest h =
-    by_number (number_of (line_state m k from) == number_of (line_state n k from)) refl h (line-sound m n core k (from + 1) count line xs ys rest)
+    by_number (number_of_state (line_state m k from) == number_of_state (line_state n k from)) refl h (line-sound m n core k (from + 1) count line xs ys rest)
   where
     change : StateChange
     change = record { core = record { 0 = k }; line = from; before = line_state m k from; after = line_state n k from }
@@ -34,33 +34,33 @@ line-sound m n core k from (suc count) line xs ys rest h =
     later : List StateChange
     later = changes_in (line_states m k (from + 1) count ++ xs) (line_states n k (from + 1) count ++ ys)
 
-    by_test : (b : Bool) → ((k == core) && is_absent (line_state n k from)) ≡ b → (number_of (line_state m k from) == number_of (line_state n k from)) ≡ false
-        → (if b then Some from else left_by core later) ≡ Some line → (left_by core later ≡ Some line → LeavesLine m n core line) → LeavesLine m n core line
+    by_test : (b : Bool) → ((k == core) && is_absent (line_state n k from)) ≡ b → (number_of_state (line_state m k from) == number_of_state (line_state n k from)) ≡ false
+        → (if b then Some from else line_that_left core later) ≡ Some line → (line_that_left core later ≡ Some line → LeavesLine m n core line) → LeavesLine m n core line
     by_test false q differ found rest = rest found
     by_test true q differ found rest =
         let parts = both-true (k == core) (is_absent (line_state n k from)) q in
         let here : k ≡ core = grind (arith, nat_tests, parts.0) in
         let line_is : from ≡ line = cc in
-        let gone : number_of (line_state n k from) ≡ 0 = grind (arith, nat_tests, parts.1) in
-        let was : number_of (line_state m k from) ≢ 0 = λ z. (let y : ⊥ = grind (arith, nat_tests, differ, gone, z) in y) in
+        let gone : number_of_state (line_state n k from) ≡ 0 = grind (arith, nat_tests, parts.1) in
+        let was : number_of_state (line_state m k from) ≢ 0 = λ z. (let y : ⊥ = grind (arith, nat_tests, differ, gone, z) in y) in
         subst (λ c. LeavesLine m n c line) here (subst (λ l. LeavesLine m n k l) line_is (record { was = was; is = gone }))
 
-    by_number : (b : Bool) → (number_of (line_state m k from) == number_of (line_state n k from)) ≡ b
-        → left_by core ((if b then [] else change ∷ []) ++ later) ≡ Some line → (left_by core later ≡ Some line → LeavesLine m n core line) → LeavesLine m n core line
+    by_number : (b : Bool) → (number_of_state (line_state m k from) == number_of_state (line_state n k from)) ≡ b
+        → line_that_left core ((if b then [] else change ∷ []) ++ later) ≡ Some line → (line_that_left core later ≡ Some line → LeavesLine m n core line) → LeavesLine m n core line
     by_number true q found rest = rest found
     by_number false q found rest = by_test ((k == core) && is_absent (line_state n k from)) refl q found rest
 
-grid-sound : (m n : Running) (core lines from count line : ℕ) → left_by core (changes_in (grid m lines from count) (grid n lines from count)) ≡ Some line → LeavesLine m n core line
+grid-sound : (m n : Running) (core lines from count line : ℕ) → line_that_left core (changes_in (grid m lines from count) (grid n lines from count)) ≡ Some line → LeavesLine m n core line
 grid-sound m n core lines from zero line h = absurd (let z : ⊥ = cc in z)
 grid-sound m n core lines from (suc count) line h =
     line-sound m n core from 0 lines line (grid m lines (from + 1) count) (grid n lines (from + 1) count) (grid-sound m n core lines (from + 1) count line) h
 
-left-sound : (m n : Running) (core line : ℕ) → n.test ≡ m.test → lines_of n ≡ lines_of m → left_by core (changes_in (states_of m) (states_of n)) ≡ Some line → LeavesLine m n core line
+left-sound : (m n : Running) (core line : ℕ) → n.test ≡ m.test → number_of_lines n ≡ number_of_lines m → line_that_left core (changes_in (states_of m) (states_of n)) ≡ Some line → LeavesLine m n core line
 left-sound m n core line test lines h =
     let cores = length m.test.programs in
-    let second : states_of n ≡ grid n (lines_of m) 0 cores =
-    grid-is n 0 (length n.test.programs) ∙ (ap (λ (t : Litmus). grid n (lines_of n) 0 (length t.programs)) test ∙ ap (λ k. grid n k 0 cores) lines) in
-    grid-sound m n core (lines_of m) 0 cores line (subst (λ b. left_by core (changes_in b (grid n (lines_of m) 0 cores)) ≡ Some line) (grid-is m 0 cores) (subst (λ a. left_by core (changes_in (states_of m) a) ≡ Some line) second h))
+    let second : states_of n ≡ grid n (number_of_lines m) 0 cores =
+    grid-is n 0 (length n.test.programs) ∙ (ap (λ (t : Litmus). grid n (number_of_lines n) 0 (length t.programs)) test ∙ ap (λ k. grid n k 0 cores) lines) in
+    grid-sound m n core (number_of_lines m) 0 cores line (subst (λ b. line_that_left core (changes_in b (grid n (number_of_lines m) 0 cores)) ≡ Some line) (grid-is m 0 cores) (subst (λ a. line_that_left core (changes_in (states_of m) a) ≡ Some line) second h))
 
 -- ---- an access that writes back fills a line in
 
@@ -244,7 +244,7 @@ sets-last line came s state sets size apart there gone = elim (decide (line % le
 -- ---- the choice
 
 -- a line in I has no copy, where no copy is in I; and a line in another state has one where nothing is awaited
-absent-copy : (x : Option Transient) (o : Option protocol.State) → o ≢ Some tag.I → number_of (state_with x o) ≡ 0 → o ≡ None
+absent-copy : (x : Option Transient) (o : Option protocol.State) → o ≢ Some tag.I → number_of_state (state_with x o) ≡ 0 → o ≡ None
 absent-copy x None n h = refl
 absent-copy (Some IsD) (Some s) n h = absurd (let z : ⊥ = omega (arith, h) in z)
 absent-copy (Some ImD) (Some s) n h = absurd (let z : ⊥ = omega (arith, h) in z)
@@ -255,16 +255,16 @@ absent-copy None (Some tag.E) n h = absurd (let z : ⊥ = omega (arith, h) in z)
 absent-copy None (Some tag.O) n h = absurd (let z : ⊥ = omega (arith, h) in z)
 absent-copy None (Some tag.M) n h = absurd (let z : ⊥ = omega (arith, h) in z)
 
-present-copy : (o : Option protocol.State) → number_of (state_with None o) ≢ 0 → Has o
+present-copy : (o : Option protocol.State) → number_of_state (state_with None o) ≢ 0 → Has o
 present-copy None n = absurd (n refl)
 present-copy (Some s) n = (s, refl)
 
-wrote-parts : (how : CacheUse) (core line : ℕ) (changes : List StateChange) → wrote_back_by how core changes ≡ Some line → (wrote_in how ≡ true) × (left_by core changes ≡ Some line)
+wrote-parts : (how : CacheUse) (core line : ℕ) (changes : List StateChange) → wrote_back_by how core changes ≡ Some line → (wrote_in how ≡ true) × (line_that_left core changes ≡ Some line)
 wrote-parts Unused core line changes h = absurd (let z : ⊥ = cc in z)
 wrote-parts Forwarded core line changes h = absurd (let z : ⊥ = cc in z)
 wrote-parts (Through a) core line changes h = by_test a.wrote_back refl h
   where
-    by_test : (b : Bool) → a.wrote_back ≡ b → (if b then left_by core changes else None) ≡ Some line → (a.wrote_back ≡ true) × (left_by core changes ≡ Some line)
+    by_test : (b : Bool) → a.wrote_back ≡ b → (if b then line_that_left core changes else None) ≡ Some line → (a.wrote_back ≡ true) × (line_that_left core changes ≡ Some line)
     by_test true q h = (q, h)
     by_test false q h = absurd (let z : ⊥ = cc in z)
 
@@ -299,7 +299,7 @@ came-there came state sets v size leaves =
     new = filled came state (tags_at sets came)
 
 gave-way : (m : Running) (choice : Choice) → IsKept m → chosen choice < length m.statistics.counts → KeepsWays m (chosen choice) → WriteBacksAreTold m choice
-unfolding steps.step_of
+unfolding steps.trace_step_of
 gave-way m choice kept within ways line told = record {
   came = f.came;
   state = there.0;
@@ -318,16 +318,16 @@ gave-way m choice kept within ways line told = record {
     next : Running
     next = machine_after m choice
 
-    parts : (wrote_in (use_by m choice).how ≡ true) × (left_by core (changes_in (states_of m) (states_of next)) ≡ Some line)
-    parts = wrote-parts (use_by m choice).how core line (changes_in (states_of m) (states_of next)) told
+    parts : (wrote_in (machine_use m choice).how ≡ true) × (line_that_left core (changes_in (states_of m) (states_of next)) ≡ Some line)
+    parts = wrote-parts (machine_use m choice).how core line (changes_in (states_of m) (states_of next)) told
 
     left : LeavesLine m next core line
     left = left-sound m next core line refl (lines-kept m choice) parts.1
 
-    alone : FillsAlone caches choice (access_of m.test m.depth m.state.flat choice) m.state.holder (use_by m choice)
-    alone = fills-alone caches choice (access_of m.test m.depth m.state.flat) (access_of m.test m.depth next.state.flat) m.state.holder next.state.holder (use_by m choice) (uses-of m choice kept) kept.may parts.0
+    alone : FillsAlone caches choice (access_of m.test m.depth m.state.flat choice) m.state.holder (machine_use m choice)
+    alone = fills-alone caches choice (access_of m.test m.depth m.state.flat) (access_of m.test m.depth next.state.flat) m.state.holder next.state.holder (machine_use m choice) (uses-of m choice kept) kept.may parts.0
 
-    f : Fills caches core (access_of m.test m.depth m.state.flat choice) (use_by m choice)
+    f : Fills caches core (access_of m.test m.depth m.state.flat choice) (machine_use m choice)
     f = alone.fills
 
     sets : TagSets
@@ -341,7 +341,7 @@ gave-way m choice kept within ways line told = record {
 
     gone : tag_in (at_line f.came (filled f.came f.state) sets) line ≡ None
     gone = subst (λ s. tag_in s line ≡ None) own (absent-copy (awaited_at (bus_holder_of next) next.statistics.caches.shape.words core line) (tag_at core line next.statistics.caches.contents)
-        (λ q. found-valid (lines_of next) line tag.I (sets_of next.statistics.caches.contents core) ((kept-after m choice kept).neat core) q refl) left.is)
+        (λ q. found-valid (number_of_lines next) line tag.I (sets_of next.statistics.caches.contents core) ((kept-after m choice kept).neat core) q refl) left.is)
 
     apart : line ≢ f.came
     apart same =
@@ -351,7 +351,7 @@ gave-way m choice kept within ways line told = record {
         let y : ⊥ = cc in y
 
     there : Has (tag_in sets line)
-    there = present-copy (tag_in sets line) (subst (λ x. number_of (state_with x (tag_in sets line)) ≢ 0)
+    there = present-copy (tag_in sets line) (subst (λ x. number_of_state (state_with x (tag_in sets line)) ≢ 0)
         (beside-awaited m choice m.state.holder caches.shape.words core f.came line alone.alone f.accessed apart) left.was)
 
     beside : (nat_eq line f.came ≡ true) × (line ≡ f.came) ⊎ (nat_eq line f.came ≡ false) × (line ≢ f.came) → nat_eq line f.came ≡ false

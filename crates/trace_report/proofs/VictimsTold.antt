@@ -1,5 +1,5 @@
 -- Where a dirty line is written back it is told.
-use Rattle.trace_report.proofs.Vocabulary.{arith, ◌≡◌, ◌≢◌, ◌∙◌, ◌⊎◌, ◌/◌, ◌<◌, ◌==◌, ◌&&◌, ℕ, zero, suc, Bool, true, false, if◌then◌else◌, List, length, map, replicate, slice_index_or, Option, Some, None, is_some, inl, inr, refl, sym, ap, subst, div_ceil, div_ceil_times, length-replicate, div-mul-le_self, mul-le-mul_right, lt-or, Litmus, IsTest, chosen, MemoryAccess, NoAccess, Reads, Writes, Locks, access_of, Holder, Free, HeldBy, HeldBetween, Choice, Table, Transient, table_of_rows, rows_of, tags_in, tag_at, TagSet, Configuration, at_access, bus_holder, bus_holder_as, bus_holder_of, no_counts, CacheUse, Unused, Forwarded, Through, Running, new_machine, use_by, machine_after, length-counted, AreStoresKnown, state_with, awaited_at, lines_of, states_of, number_of, changes_in, left_by, wrote_back_by, step_of, tells_write_back, KeepsNoCopyInI, StateChange, IsNeat, none-neat, no-sets, no_set, AllNeat}
+use Rattle.trace_report.proofs.Vocabulary.{arith, ◌≡◌, ◌≢◌, ◌∙◌, ◌⊎◌, ◌/◌, ◌<◌, ◌==◌, ◌&&◌, ℕ, zero, suc, Bool, true, false, if◌then◌else◌, List, length, map, replicate, slice_index_or, Option, Some, None, is_some, inl, inr, refl, sym, ap, subst, div_ceil, div_ceil_times, length-replicate, div-mul-le_self, mul-le-mul_right, lt-or, Litmus, IsTest, chosen, MemoryAccess, NoAccess, Reads, Writes, Locks, access_of, Holder, Free, HeldBy, HeldBetween, Choice, Table, Transient, table_of_rows, rows_of, tags_in, tag_at, TagSet, Configuration, at_access, bus_holder, bus_holder_as, bus_holder_of, no_counts, CacheUse, Unused, Forwarded, Through, Running, new_machine, machine_use, machine_after, length-counted, AreStoresKnown, state_with, awaited_at, number_of_lines, states_of, number_of_state, changes_in, line_that_left, wrote_back_by, trace_step_of, tells_write_back, KeepsNoCopyInI, StateChange, IsNeat, none-neat, no-sets, no_set, AllNeat}
 use Rattle.protocol_tables.specs.declared.state.State as protocol
 use Rattle.protocol_tables.specs.declared.state.State.TheVariants as tag
 use Rattle.trace_report.proofs.Awaiting.{HolderMayMake, rows-after, neat-after, may-after, gone-after, rest-after}
@@ -39,18 +39,18 @@ pub record IsKept (m : Running) : Type 0 where
   words : 0 < m.statistics.caches.shape.words
   pub cores : length m.statistics.counts ≡ length m.test.programs
   keeps : KeepsNoCopyInI (table_of_rows m.statistics.caches.rows)
-  pub neat : AllNeat (lines_of m) m.statistics.caches.contents
+  pub neat : AllNeat (number_of_lines m) m.statistics.caches.contents
   pub may : HolderMayMake (access_of m.test m.depth m.state.flat) m.state.holder m.statistics.caches
 
 -- what a choice has to do with the caches
 abbrev pub UsesOf : Running → Choice → Type 0
 UsesOf m c =
-    UsesOn m.statistics.caches c (access_of m.test m.depth m.state.flat) (access_of m.test m.depth (machine_after m c).state.flat) m.state.holder (machine_after m c).state.holder (use_by m c)
+    UsesOn m.statistics.caches c (access_of m.test m.depth m.state.flat) (access_of m.test m.depth (machine_after m c).state.flat) m.state.holder (machine_after m c).state.holder (machine_use m c)
 
 pub uses-of : (m : Running) (c : Choice) → IsKept m → UsesOf m c
 uses-of m c k = choice-uses m.bus m.test m.depth m.state m.statistics.caches c k.sound.live.holding k.sound.stores
 
-pub lines-kept : (m : Running) (c : Choice) → lines_of (machine_after m c) ≡ lines_of m
+pub lines-kept : (m : Running) (c : Choice) → number_of_lines (machine_after m c) ≡ number_of_lines m
 lines-kept m c = ap (λ n. div_ceil (length m.test.locations) n) (words-kept m c)
 
 pub kept-after : (m : Running) (c : Choice) → IsKept m → IsKept (machine_after m c)
@@ -66,16 +66,16 @@ kept-after m c k =
       test = k.test;
       known = stores-kept m c k.test k.known;
       words = subst (λ n. 0 < n) (sym (words-kept m c)) k.words;
-      cores = length-counted (chosen c) (use_by m c).how m.statistics.counts ∙ k.cores;
-      keeps = subst (λ rows. KeepsNoCopyInI (table_of_rows rows)) (sym (rows-after caches c before after m.state.holder next (use_by m c) uses)) k.keeps;
-      neat = subst (λ n. AllNeat n (use_by m c).caches.contents) (sym (lines-kept m c)) (neat-after caches c before after m.state.holder next (use_by m c) (lines_of m) uses within k.keeps k.may k.neat);
-      may = may-after caches c before after m.state.holder next (use_by m c) (lines_of m) uses k.keeps k.may k.neat;
+      cores = length-counted (chosen c) (machine_use m c).how m.statistics.counts ∙ k.cores;
+      keeps = subst (λ rows. KeepsNoCopyInI (table_of_rows rows)) (sym (rows-after caches c before after m.state.holder next (machine_use m c) uses)) k.keeps;
+      neat = subst (λ n. AllNeat n (machine_use m c).caches.contents) (sym (lines-kept m c)) (neat-after caches c before after m.state.holder next (machine_use m c) (number_of_lines m) uses within k.keeps k.may k.neat);
+      may = may-after caches c before after m.state.holder next (machine_use m c) (number_of_lines m) uses k.keeps k.may k.neat;
     }
 
 -- the rows of the protocol's table stay
 pub rows-kept : (m : Running) (c : Choice) → IsKept m → (machine_after m c).statistics.caches.rows ≡ m.statistics.caches.rows
 rows-kept m c k =
-    rows-after m.statistics.caches c (access_of m.test m.depth m.state.flat) (access_of m.test m.depth (machine_after m c).state.flat) m.state.holder (machine_after m c).state.holder (use_by m c) (uses-of m c k)
+    rows-after m.statistics.caches c (access_of m.test m.depth m.state.flat) (access_of m.test m.depth (machine_after m c).state.flat) m.state.holder (machine_after m c).state.holder (machine_use m c) (uses-of m c k)
 
 -- the caches are empty at the beginning
 empty-sets : {A : Type 0} (P : ℕ → protocol.State → Type 0) (f : A → TagSet) (x : A) (count i : ℕ) → IsNeat P (f x) → IsNeat P (slice_index_or (map f (replicate count x)) i no_set)
@@ -110,7 +110,7 @@ kept-first table c t test words keeps = record {
   words = words;
   cores = length-replicate (length t.programs) no_counts;
   keeps = keeps-first table keeps;
-  neat = empty-neat (lines_of (new_machine table c t)) tags_in _ (length t.programs) c.shape.sets (λ P. record { kind = tt; once = tt });
+  neat = empty-neat (number_of_lines (new_machine table c t)) tags_in _ (length t.programs) c.shape.sets (λ P. record { kind = tt; once = tt });
   may = tt;
 }
 
@@ -137,8 +137,8 @@ none-awaited m holder words core line (inr none) = ap (λ w. awaited_at (bus_hol
     by_holder (HeldBy choice) = by_access choice (access_of m.test m.depth m.state.flat choice)
     by_holder (HeldBetween e) = if-none _ _ refl
 
-victim-told : (m : Running) (c : Choice) → IsKept m → chosen c < length m.statistics.counts → wrote_in (use_by m c).how ≡ true
-    → is_some (left_by (chosen c) (changes_in (states_of m) (states_of (machine_after m c)))) ≡ true
+victim-told : (m : Running) (c : Choice) → IsKept m → chosen c < length m.statistics.counts → wrote_in (machine_use m c).how ≡ true
+    → is_some (line_that_left (chosen c) (changes_in (states_of m) (states_of (machine_after m c)))) ≡ true
 victim-told m c k there wrote =
     let core = chosen c in
     let next = machine_after m c in
@@ -148,23 +148,23 @@ victim-told m c k there wrote =
     let after : Choice → MemoryAccess = access_of m.test m.depth next.state.flat in
     let uses = uses-of m c k in
     let within : core < length caches.contents = subst (λ n. core < n) k.sound.size there in
-    let gone = gone-after caches c before after m.state.holder next.state.holder (use_by m c) (lines_of m) uses within k.may k.neat wrote in
-    let rest = rest-after caches c before after m.state.holder next.state.holder (use_by m c) uses wrote in
+    let gone = gone-after caches c before after m.state.holder next.state.holder (machine_use m c) (number_of_lines m) uses within k.may k.neat wrote in
+    let rest = rest-after caches c before after m.state.holder next.state.holder (machine_use m c) uses wrote in
     left-found m next core gone.line refl (lines-kept m c) (subst (λ n. core < n) k.cores there) gone.within
-    (subst (λ o. number_of (state_with (awaited_at (bus_holder_of m) words core gone.line) o) ≢ 0) (sym gone.was) (present (awaited_at (bus_holder_of m) words core gone.line) gone.state gone.valid))
-    (ap (λ x. number_of (state_with x (tag_at core gone.line next.statistics.caches.contents))) (none-awaited next next.state.holder next.statistics.caches.shape.words core gone.line rest)
-    ∙ ap (λ o. number_of (state_with None o)) gone.gone)
+    (subst (λ o. number_of_state (state_with (awaited_at (bus_holder_of m) words core gone.line) o) ≢ 0) (sym gone.was) (present (awaited_at (bus_holder_of m) words core gone.line) gone.state gone.valid))
+    (ap (λ x. number_of_state (state_with x (tag_at core gone.line next.statistics.caches.contents))) (none-awaited next next.state.holder next.statistics.caches.shape.words core gone.line rest)
+    ∙ ap (λ o. number_of_state (state_with None o)) gone.gone)
 
-told-where : (how : CacheUse) (core : ℕ) (changes : List StateChange) → (wrote_in how ≡ true → is_some (left_by core changes) ≡ true) → is_some (wrote_back_by how core changes) ≡ wrote_in how
+told-where : (how : CacheUse) (core : ℕ) (changes : List StateChange) → (wrote_in how ≡ true → is_some (line_that_left core changes) ≡ true) → is_some (wrote_back_by how core changes) ≡ wrote_in how
 told-where Unused core changes h = refl
 told-where Forwarded core changes h = refl
 told-where (Through a) core changes h = by_test a.wrote_back h
   where
-    by_test : (b : Bool) → (b ≡ true → is_some (left_by core changes) ≡ true) → is_some (if b then left_by core changes else None) ≡ b
+    by_test : (b : Bool) → (b ≡ true → is_some (line_that_left core changes) ≡ true) → is_some (if b then line_that_left core changes else None) ≡ b
     by_test true h = h refl
     by_test false h = refl
 
-pub step-told : (k : ℕ) (m : Running) (c : Choice) → IsKept m → chosen c < length m.statistics.counts → tells_write_back k (step_of m c) ≡ ((chosen c == k) && wrote_in (use_by m c).how)
-unfolding step_of
+pub step-told : (k : ℕ) (m : Running) (c : Choice) → IsKept m → chosen c < length m.statistics.counts → tells_write_back k (trace_step_of m c) ≡ ((chosen c == k) && wrote_in (machine_use m c).how)
+unfolding trace_step_of
 step-told k m c kept there =
-    ap (λ b. (chosen c == k) && b) (told-where (use_by m c).how (chosen c) (changes_in (states_of m) (states_of (machine_after m c))) (victim-told m c kept there))
+    ap (λ b. (chosen c == k) && b) (told-where (machine_use m c).how (chosen c) (changes_in (states_of m) (states_of (machine_after m c))) (victim-told m c kept there))

@@ -3,7 +3,7 @@ pub use Rattle.std.proofs.Common.{◌≡◌, ◌∙◌, ℕ, ◌+◌, ◌<◌, �
 pub use Rattle.std.proofs.Math.ListN.{drop_of_length-le, length-set}
 pub use Rattle.std.proofs.lemmas.List.{drop_more, get_or-take, length-take, get_or_past, length-replicate, length-map, set-get_or}
 pub use Rattle.tso_model.specs.Litmus.{Litmus, IsTest, IsProgram, KnownLocation}
-pub use Rattle.trace_report.specs.Lines.{after_plus, joined, line_name, write_back_text, stall_name, changes_text, entries_text, later_stores}
+pub use Rattle.trace_report.specs.Lines.{after_plus, joined_by_plus, line_name, write_back_text, stall_name, changes_text, entries_text, later_stores}
 pub use Rattle.std.specs.List.{list_any}
 pub use Rattle.tso_model.specs.ProgramOrder.{writes_to}
 pub use Rattle.tso_model.specs.MemoryAccess.{MemoryAccess, NoAccess, Reads, Writes, Locks, access_of, next_of, access_by, step_access, load_access, locked_access, store_access, drain_access}
@@ -28,7 +28,7 @@ pub use Rattle.tso_model.specs.declared.choice.Outcome.TheVariants.{Committed, B
 pub use Rattle.tso_model.specs.declared.choice.Stall.{Stall}
 pub use Rattle.split_laws.proofs.Following.{same-is, IsOther}
 pub use Rattle.split_laws.proofs.Steps.{drain-no-lock, IsStore}
-pub use Rattle.trace_report.specs.TraceLaws.{committed_at, committed_in, stalls_in, TellsRun, run_traced, is_of, laid_in, with_changes, ChangesOne, ChangesLeadFromStatesToStates, count_of, is_kind, is_access, tells_access, tells_forward, one_if, steps_that, KeepsNoCopyInI, is_sender, tells_flush, tells_write_back, ProtocolsKeepNoCopyInI, AccessesAreTold}
+pub use Rattle.trace_report.specs.TraceLaws.{committed_at, committed_in, stalls_in, TellsRun, run_traced, is_of, laid_in, with_changes, ChangesOne, ChangesLeadFromStatesToStates, count_of_accesses, is_kind, is_access_of_kind, tells_access, tells_forward, one_if, steps_that, KeepsNoCopyInI, is_sender, tells_flush, tells_write_back, ProtocolsKeepNoCopyInI, AccessesAreTold}
 pub use Rattle.trace_report.specs.inner.Steps.{waited_before}
 pub use Rattle.std.specs.Int.{div_ceil}
 pub use Rattle.std.proofs.lemmas.Grind.{div_ceil_times}
@@ -39,13 +39,13 @@ pub use Rattle.std.specs.Prelude.{filter, Ok}
 pub use Rattle.tso_model.specs.declared.instruction.Loc.{Loc}
 pub use Rattle.order_builder.specs.PrintedOrder.{HasLocation, IsLocationFor}
 pub use Rattle.split_laws.proofs.Cores.{core-cases, starts-idle, length-starts, quiet-same, done-next, done-pending, done-anywhere}
-pub use Rattle.trace_report.specs.Known.{IsAt, IsLine, AreStoresKnown, IsKnown}
+pub use Rattle.trace_report.specs.Known.{IsAt, IsLine, AreStoresKnown, StepNamesExist}
 pub use Rattle.snoop_bus.specs.Asks.{Awaited, tag_at, or_invalid, hit_in, asking, completed, completed_in, asked_caches_in, asked_for, awaited_by}
 unfoldable pub use Rattle.snoop_bus.specs.Asks.{awaiting}
-pub use Rattle.machine_core.specs.Running.{Running, attempt_on, use_by, machine_after, new_machine}
+pub use Rattle.machine_core.specs.Running.{Running, attempt_on, machine_use, machine_after, new_machine}
 pub use Rattle.machine_core.specs.declared.accesses.CacheUse.{CacheUse}
-pub use Rattle.trace_report.specs.Steps.{goes_on_bus, request_at, sent_on, line_states, core_states, lines_of, states_of, number_of, is_absent, change_of, changes_in, left_by, wrote_back_by, buffer_if_changed, moved_by, placed, is_forwarded, access_in, moved_from, nothing_sent, moved_at, steps_from, trace_of, sent_whole, sent_at, state_with, line_state, awaited_at, sent_asked}
-unfoldable pub use Rattle.trace_report.specs.Steps.{step_of}
+pub use Rattle.trace_report.specs.Steps.{goes_on_bus, request_at, sent_on, line_states, placed_states_from, number_of_lines, states_of, number_of_state, is_absent, change_of, changes_in, line_that_left, wrote_back_by, buffer_if_changed, moved_by, placed, is_forwarded, access_kind_in, moved_from, nothing_sent, moved_at, steps_from, trace_of, sent_whole, sent_at, state_with, line_state, awaited_at, sent_asked}
+unfoldable pub use Rattle.trace_report.specs.Steps.{trace_step_of}
 pub use Rattle.trace_report.specs.declared.step.LineRequest.{LineRequest}
 pub use Rattle.trace_report.specs.declared.step.StateChange.{StateChange}
 pub use Rattle.trace_report.specs.declared.states.PlacedState.{PlacedState}
@@ -55,14 +55,14 @@ pub use Rattle.snoop_bus.specs.declared.access.AccessKind.{AccessKind}
 pub use Rattle.snoop_bus.specs.Geometry.{Geometry, IsLineSize}
 pub use Rattle.basic_laws.proofs.Basics.{test-true, lt-or, test-false, and-false, decide}
 pub use Rattle.machine_core.specs.Configuration.{Configuration}
-pub use Rattle.trace_report.specs.Shown.{Shown}
-pub use Rattle.trace_report.specs.Told.{IsTraced, IsTold}
+pub use Rattle.trace_report.specs.Shown.{ShownStep}
+pub use Rattle.trace_report.specs.Told.{IsTraced, IsTracedInStates}
 pub use Rattle.trace_report.specs.inner.Left.{stores_on, waited_on, IsLeftBy}
 pub use Rattle.trace_report.specs.declared.sending.Sent.{Sent}
 pub use Rattle.trace_report.specs.Stalls.{stalled_step}
 pub use Rattle.protocol_tables.specs.Tables.{Table, filled_shared, filled_by_sharing, written_in_place}
 pub use Rattle.tso_model.specs.Runs.{Run, has_ended, stall_count, then_run, run, CoresExist, is_done}
-pub use Rattle.machine_core.specs.Statistics.{no_statistics, Statistics, no_counts, with_access, with_forward, with_write_back, with_flush, at_core, flush_counted, counted, statistics_from}
+pub use Rattle.machine_core.specs.Statistics.{no_statistics, Statistics, no_counts, with_access, with_forward, with_write_back, with_flush, counts_at_core, flush_counted, with_use_counted, statistics_from}
 pub use Rattle.std.proofs.lemmas.Bool.Decides.{nat_tests, eqb_tells}
 pub use Rattle.basic_laws.proofs.Lists.{Each, each-append, each-at}
 pub use Rattle.protocol_tables.specs.declared.requests.Transient.TheVariants.{IsD, ImD, SmD}
@@ -83,7 +83,7 @@ pub use Rattle.snoop_bus.specs.Tags.{leaving, filled, TagSet, tag_of, used, snoo
 pub use Rattle.bus_laws.specs.Uses.{IsUseFor}
 pub use Rattle.bus_laws.proofs.Victims.{AllNeat, found-valid, all-requested, all-used, all-filled, own-kept, sets-leave, no_set, absent-remove, IsNeat, none-neat, no-sets}
 pub use Rattle.bus_laws.proofs.Counted.{choice-use}
-pub use Rattle.snoop_bus.specs.Requests.{asked}
+pub use Rattle.snoop_bus.specs.Requests.{snoop_column}
 pub use Rattle.snoop_bus.specs.Copies.{tags_in}
 pub use Rattle.machine_core.specs.Looking.{bus_holder, bus_holder_as, bus_holder_of}
-pub use Rattle.trace_report.specs.StepLaws.{with_moved, with_buffer, CoresAreTold, IsWordOfStall, done, full, lock, empty, IsHeldByOther, IsWordOfStallOn, flat, bus, StallsAreTold, with_seen, OthersSeeTheRequest, after_choices, WriteBacksAreTold, KeepsWays}
+pub use Rattle.trace_report.specs.StepLaws.{with_moved, pending_told, CoresAreTold, IsWordOfStall, done, full, lock, empty, IsHeldByOther, IsWordOfStallOn, flat, bus, StallsAreTold, with_seen, OthersSeeTheRequest, after_choices, WriteBacksAreTold, KeepsWays}

@@ -1,6 +1,6 @@
 -- What a choice did, from what was looked at before it and after it.
-use Rattle.trace_report.proofs.Vocabulary.{◌≡◌, ◌∙◌, ℕ, Bool, true, List, [], ◌∷◌, ◌++◌, length, drop, Option, ◌<◌, ◌==◌, inl, inr, refl, sym, ap, subst, arith, option_map, get_or-set_same, All, length-set, Litmus, IsTest, idle, core_of, chosen, access_of, Core, Choice, Outcome, Entry, AccessKind, Geometry, IsLineSize, test-true, Configuration, is_awaited, Running, attempt_on, use_by, machine_after, CacheUse, Shown, waited_before, states_of, number_of, changes_in, is_forwarded, access_in, request_at, sent_on, moved_from, wrote_back_by, buffer_if_changed, step_of, IsTraced, IsTold, stores_on, waited_on, IsLeftBy, HasLocation, IsAt, AreStoresKnown, IsKnown, All-append, All-drop, All-weaker, LineRequest, StateChange, PlacedState, Sent}
-use Rattle.machine_core.specs.Running.{configuration_of, effect_by}
+use Rattle.trace_report.proofs.Vocabulary.{◌≡◌, ◌∙◌, ℕ, Bool, true, List, [], ◌∷◌, ◌++◌, length, drop, Option, ◌<◌, ◌==◌, inl, inr, refl, sym, ap, subst, arith, option_map, get_or-set_same, All, length-set, Litmus, IsTest, idle, core_of, chosen, access_of, Core, Choice, Outcome, Entry, AccessKind, Geometry, IsLineSize, test-true, Configuration, is_awaited, Running, attempt_on, machine_use, machine_after, CacheUse, ShownStep, waited_before, states_of, number_of_state, changes_in, is_forwarded, access_kind_in, request_at, sent_on, moved_from, wrote_back_by, buffer_if_changed, trace_step_of, IsTraced, IsTracedInStates, stores_on, waited_on, IsLeftBy, HasLocation, IsAt, AreStoresKnown, StepNamesExist, All-append, All-drop, All-weaker, LineRequest, StateChange, PlacedState, Sent}
+use Rattle.machine_core.specs.Running.{configuration_of, machine_effect}
 use Rattle.trace_report.specs.inner.Told.{IsLookedAt}
 use Rattle.trace_report.proofs.Effects.{Form, effect-form, waited-is}
 use Rattle.trace_report.proofs.Places.{effect-places, stores-next, access-known, at-place}
@@ -10,7 +10,7 @@ use Rattle.trace_report.specs.declared.step.Moved.{Moved}
 use Rattle.trace_report.specs.declared.telling.Left.{Left}
 
 -- what is shown, by its parts
-abbrev pub parts : Choice → Outcome → List Entry → Option Moved → Bool → Option AccessKind → Option LineRequest → Option Core → Option ℕ → List StateChange → Option (List Entry) → Shown
+abbrev pub parts : Choice → Outcome → List Entry → Option Moved → Bool → Option AccessKind → Option LineRequest → Option Core → Option ℕ → List StateChange → Option (List Entry) → ShownStep
 parts choice o es v f k r c w cs b =
     record { choice = choice; outcome = o; entries = es; moved = v; forwarded = f; access = k; request = r; flushed = c; wrote_back = w; changes = cs; buffer = b }
 
@@ -31,15 +31,15 @@ after-all (x ∷ xs) ys = after-all xs ys
 
 -- by the machine after the choice: the entries, the lines that changed, the pending stores where they changed
 pub record Leaves (m : Running) (choice : Choice) (l : Left) : Type 0 where
-  pub entries : l.entries.items ≡ (effect_by m choice).effect.commits ++ drop (length (stores_on m choice)) (stores_on (machine_after m choice) choice)
+  pub entries : l.entries.items ≡ (machine_effect m choice).effect.commits ++ drop (length (stores_on m choice)) (stores_on (machine_after m choice) choice)
   pub changes : l.changes.items ≡ changes_in (states_of m) (states_of (machine_after m choice))
   pub buffer : option_map (λ stores. stores.items) l.buffer ≡ buffer_if_changed (length (stores_on m choice)) (stores_on (machine_after m choice) choice)
 
 -- the core of the choice is as its effect leaves it
-core-after : (m : Running) (choice : Choice) → chosen choice < length m.state.flat.cores → core_of (machine_after m choice).state.flat (chosen choice) ≡ (effect_by m choice).effect.after
-core-after m choice there = get_or-set_same m.state.flat.cores (chosen choice) (effect_by m choice).effect.after idle there
+core-after : (m : Running) (choice : Choice) → chosen choice < length m.state.flat.cores → core_of (machine_after m choice).state.flat (chosen choice) ≡ (machine_effect m choice).effect.after
+core-after m choice there = get_or-set_same m.state.flat.cores (chosen choice) (machine_effect m choice).effect.after idle there
 
-pub form-of : (m : Running) (choice : Choice) → Form choice (core_of m.state.flat (chosen choice)) (effect_by m choice).effect
+pub form-of : (m : Running) (choice : Choice) → Form choice (core_of m.state.flat (chosen choice)) (machine_effect m choice).effect
 form-of m choice = effect-form m.bus m.test m.depth m.state (attempt_on m choice)
 
 pub same-test : (n : ℕ) → (n == n) ≡ true
@@ -47,13 +47,13 @@ same-test n = test-true n n refl
 
 pub unchanged : (states : List PlacedState) → changes_in states states ≡ []
 unchanged [] = refl
-unchanged (s ∷ ss) = rw (same-test (number_of s.state)) (unchanged ss)
+unchanged (s ∷ ss) = rw (same-test (number_of_state s.state)) (unchanged ss)
 
 pub left-looked : (m next : Running) (choice : Choice) (outcome : Outcome) (before : List PlacedState) (committed : ℕ) (l : Left)
-    → chosen choice < length m.state.flat.cores → next ≡ machine_after m choice → outcome ≡ (effect_by m choice).effect.outcome → before ≡ states_of m → committed ≡ length m.commits
+    → chosen choice < length m.state.flat.cores → next ≡ machine_after m choice → outcome ≡ (machine_effect m choice).effect.outcome → before ≡ states_of m → committed ≡ length m.commits
     → IsLeftBy next before choice outcome committed l → Leaves m choice l
 left-looked m next choice outcome before committed l there next_is outcome_is before_is committed_is is =
-    let f = (effect_by m choice).effect in
+    let f = (machine_effect m choice).effect in
     let end = machine_after m choice in
     let stores : stores_on next choice ≡ stores_on end choice = ap (λ (n : Running). stores_on n choice) next_is in
     let waited : waited_on next choice outcome ≡ length (stores_on m choice) =
@@ -75,8 +75,8 @@ pub record WasLookedAt (t : Litmus) (config : Configuration) (m next : Running) 
     (place : ℕ) (request : Option LineRequest) (sent : Sent) (left : Left) : Type 0 where
   pub machine : IsTraced t config m
   pub next_is : next ≡ machine_after m choice
-  pub outcome_is : outcome ≡ (effect_by m choice).effect.outcome
-  pub how_is : how ≡ (use_by m choice).how
+  pub outcome_is : outcome ≡ (machine_effect m choice).effect.outcome
+  pub how_is : how ≡ (machine_use m choice).how
   pub place_is : place ≡ (core_of m.state.flat (chosen choice)).place
   pub request_is : request ≡ request_at config.shape.words (access_of m.test m.depth m.state.flat choice)
   pub sent_is : sent ≡ sent_on config.bus outcome request how next.statistics.caches.awaited
@@ -86,13 +86,13 @@ pub told-whole : (t : Litmus) (config : Configuration) (m next : Running) (choic
     (place : ℕ) (request : Option LineRequest) (sent : Sent) (left : Left)
     (moved : Option Moved) (forwarded : Bool) (access : Option AccessKind) (wrote_back : Option ℕ)
     → WasLookedAt t config m next choice how outcome place request sent left
-    → moved ≡ moved_from t place choice (core_of next.state.flat (chosen choice)).registers → forwarded ≡ is_forwarded how → access ≡ access_in how
+    → moved ≡ moved_from t place choice (core_of next.state.flat (chosen choice)).registers → forwarded ≡ is_forwarded how → access ≡ access_kind_in how
     → wrote_back ≡ wrote_back_by how (chosen choice) left.changes.items
-    → parts choice outcome left.entries.items moved forwarded access sent.request sent.flushed wrote_back left.changes.items (option_map (λ stores. stores.items) left.buffer) ≡ step_of m choice
-unfolding step_of
+    → parts choice outcome left.entries.items moved forwarded access sent.request sent.flushed wrote_back left.changes.items (option_map (λ stores. stores.items) left.buffer) ≡ trace_step_of m choice
+unfolding trace_step_of
 told-whole t config m next choice how outcome place request sent left moved forwarded access wrote_back l moved_is forwarded_is access_is wrote_back_is =
-    let f = (effect_by m choice).effect in
-    let used = (use_by m choice).how in
+    let f = (machine_effect m choice).effect in
+    let used = (machine_use m choice).how in
     let core = chosen choice in
     let old = core_of m.state.flat core in
     let end = machine_after m choice in
@@ -109,7 +109,7 @@ told-whole t config m next choice how outcome place request sent left moved forw
     ∙ ap (λ (n : Running). moved_from m.test old.place choice (core_of n.state.flat core).registers) l.next_is)) in
     let victim : wrote_back ≡ wrote_back_by used core (changes_in (states_of m) (states_of end)) =
     wrote_back_is ∙ (ap (λ h. wrote_back_by h core left.changes.items) l.how_is ∙ ap (λ cs. wrote_back_by used core cs) l.left_is.changes) in
-    same-fields choice _ _ _ _ _ _ _ _ _ _ _ _ _ _ _ _ _ _ _ _ l.outcome_is l.left_is.entries moved_same (forwarded_is ∙ ap is_forwarded l.how_is) (access_is ∙ ap access_in l.how_is)
+    same-fields choice _ _ _ _ _ _ _ _ _ _ _ _ _ _ _ _ _ _ _ _ l.outcome_is l.left_is.entries moved_same (forwarded_is ∙ ap is_forwarded l.how_is) (access_is ∙ ap access_kind_in l.how_is)
     (ap (λ (s : Sent). s.request) sent_same) (ap (λ (s : Sent). s.flushed) sent_same) victim l.left_is.changes l.left_is.buffer
 
 -- ---- the machine after the choice
@@ -121,7 +121,7 @@ some-word n (inr (inr e)) = omega arith
 
 configuration-kept : (m : Running) (choice : Choice) → configuration_of (machine_after m choice) ≡ configuration_of m
 configuration-kept m choice =
-    let f = effect_by m choice in
+    let f = machine_effect m choice in
     let made : Geometry → Configuration = λ s. record { depth = m.depth; shape = s; bus = m.bus } in
     ap made (used-shape (is_awaited m.state.holder) (is_awaited f.holder) m.statistics.caches (chosen choice) (access_of m.test m.depth m.state.flat choice)
     (core_of m.state.flat (chosen choice)).pending f.effect.commits)
@@ -131,7 +131,7 @@ words-kept m choice = ap (λ (c : Configuration). c.shape.words) (configuration-
 
 pub stores-kept : (m : Running) (choice : Choice) → IsTest m.test → AreStoresKnown m.test m.state.flat → AreStoresKnown m.test (machine_after m choice).state.flat
 stores-kept m choice valid known =
-    stores-next m.test m.state.flat (chosen choice) (effect_by m choice).effect known (effect-places m.bus m.test m.depth m.state (attempt_on m choice) valid known).pending
+    stores-next m.test m.state.flat (chosen choice) (machine_effect m choice).effect known (effect-places m.bus m.test m.depth m.state (attempt_on m choice) valid known).pending
 
 known-there : (t : Litmus) (config : Configuration) (m : Running) → IsTraced t config m → AreStoresKnown m.test m.state.flat
 known-there t config m is = subst (λ u. AreStoresKnown u m.state.flat) (sym is.test) is.stores
@@ -141,14 +141,14 @@ traced-next t config m choice valid is = record {
   test = is.test;
   config = configuration-kept m choice ∙ is.config;
   whole = is.whole;
-  cores = length-set m.state.flat.cores (chosen choice) (effect_by m choice).effect.after ∙ is.cores;
+  cores = length-set m.state.flat.cores (chosen choice) (machine_effect m choice).effect.after ∙ is.cores;
   stores = subst (λ u. AreStoresKnown u (machine_after m choice).state.flat) is.test (stores-kept m choice (subst IsTest (sym is.test) valid) (known-there t config m is));
 }
 
 pub told-next : (t : Litmus) (config : Configuration) (m next : Running) (choice : Choice) (after : List PlacedState) → IsTest t → IsTraced t config m
-    → next ≡ machine_after m choice → after ≡ states_of (machine_after m choice) → IsTold t config next after
+    → next ≡ machine_after m choice → after ≡ states_of (machine_after m choice) → IsTracedInStates t config next after
 told-next t config m next choice after valid is next_is states =
-    subst (λ (n : Running). IsTold t config n after) (sym next_is) (record { machine = traced-next t config m choice valid is; states_are = states })
+    subst (λ (n : Running). IsTracedInStates t config n after) (sym next_is) (record { machine = traced-next t config m choice valid is; states_are = states })
 
 pub looked-at : (t : Litmus) (config : Configuration) (m : Running) → IsTraced t config m → IsLineSize config.shape.words → IsLookedAt t config.shape.words m
 looked-at t config m is some = record {
@@ -165,12 +165,12 @@ looked-next t config m next choice valid is next_is some =
 -- ---- what a step names
 
 known-here : (m : Running) (choice : Choice) → IsTest m.test → AreStoresKnown m.test m.state.flat → 0 < m.statistics.caches.shape.words
-    → IsKnown m.test m.statistics.caches.shape.words (step_of m choice)
-unfolding step_of
+    → StepNamesExist m.test m.statistics.caches.shape.words (trace_step_of m choice)
+unfolding trace_step_of
 known-here m choice valid known some =
     let t = m.test in
     let words = m.statistics.caches.shape.words in
-    let f = (effect_by m choice).effect in
+    let f = (machine_effect m choice).effect in
     let end = machine_after m choice in
     let places = effect-places m.bus t m.depth m.state (attempt_on m choice) valid known in
     let stores : All (IsAt t) (stores_on end choice) = stores-kept m choice valid known (chosen choice) in
@@ -178,16 +178,16 @@ known-here m choice valid known some =
     record {
       entries = All-append (HasLocation t) f.commits (drop (length (stores_on m choice)) (stores_on end choice)) places.commits
           (All-weaker (IsAt t) (HasLocation t) (at-place t) _ (All-drop (IsAt t) (length (stores_on m choice)) (stores_on end choice) stores));
-      request = sent-known t words m.bus f.outcome _ (use_by m choice).how end.statistics.caches.awaited
+      request = sent-known t words m.bus f.outcome _ (machine_use m choice).how end.statistics.caches.awaited
           (request-known t words (access_of t m.depth m.state.flat choice) some (access-known t m.depth m.state.flat choice valid known));
-      wrote_back = written-back-known t words (use_by m choice).how (chosen choice) (changes_in (states_of m) (states_of end)) changes;
+      wrote_back = written-back-known t words (machine_use m choice).how (chosen choice) (changes_in (states_of m) (states_of end)) changes;
       changes = changes;
       buffer = buffer-known t (length (stores_on m choice)) (stores_on end choice) stores;
     }
 
 pub step-known : (t : Litmus) (config : Configuration) (m : Running) (choice : Choice) → IsTest t → IsTraced t config m → IsLineSize config.shape.words
-    → IsKnown t config.shape.words (step_of m choice)
+    → StepNamesExist t config.shape.words (trace_step_of m choice)
 step-known t config m choice valid is some =
     let words : m.statistics.caches.shape.words ≡ config.shape.words = ap (λ (c : Configuration). c.shape.words) is.config in
-    subst (λ u. IsKnown u config.shape.words (step_of m choice)) is.test (subst (λ n. IsKnown m.test n (step_of m choice)) words
+    subst (λ u. StepNamesExist u config.shape.words (trace_step_of m choice)) is.test (subst (λ n. StepNamesExist m.test n (trace_step_of m choice)) words
     (known-here m choice (subst IsTest (sym is.test) valid) (known-there t config m is) (subst (λ n. 0 < n) (sym words) (some-word config.shape.words some))))

@@ -1,5 +1,5 @@
 -- The write-backs that a trace tells are those that are counted; and all that it tells of the accesses.
-use Rattle.trace_report.proofs.Vocabulary.{◌≡◌, ◌≢◌, ◌∙◌, ℕ, ◌+◌, ◌<◌, ◌==◌, ◌&&◌, Bool, true, false, List, [], ◌∷◌, length, Some, refl, sym, ap, subst, arith, length-replicate, chosen, has_ended, CoresExist, Choice, filled_shared, filled_by_sharing, written_in_place, I, S, E, O, M, AccessKind, Hit, Upgrade, Miss, Running, new_machine, use_by, machine_after, Statistics, no_counts, with_access, with_forward, with_write_back, at_core, counted, Counts, CacheUse, Unused, Forwarded, Through, length-counted, step_of, steps_from, count_of, is_sender, tells_write_back, one_if, steps_that, ProtocolsKeepNoCopyInI, AccessesAreTold}
+use Rattle.trace_report.proofs.Vocabulary.{◌≡◌, ◌≢◌, ◌∙◌, ℕ, ◌+◌, ◌<◌, ◌==◌, ◌&&◌, Bool, true, false, List, [], ◌∷◌, length, Some, refl, sym, ap, subst, arith, length-replicate, chosen, has_ended, CoresExist, Choice, filled_shared, filled_by_sharing, written_in_place, I, S, E, O, M, AccessKind, Hit, Upgrade, Miss, Running, new_machine, machine_use, machine_after, Statistics, no_counts, with_access, with_forward, with_write_back, counts_at_core, with_use_counted, Counts, CacheUse, Unused, Forwarded, Through, length-counted, trace_step_of, steps_from, count_of_accesses, is_sender, tells_write_back, one_if, steps_that, ProtocolsKeepNoCopyInI, AccessesAreTold}
 use Rattle.protocol_tables.specs.declared.kind.ProtocolKind.TheVariants.{Msi, Mesi, Moesi, Mosi}
 use Rattle.protocol_tables.specs.declared.state.State.{State}
 use Rattle.trace_report.proofs.AccessesTold.{of, kept, added, flushed-kept, none-told, counts_after, counting, stopped, no-counts, none-of, accesses-told, forwards-told}
@@ -17,11 +17,11 @@ adds false Miss n = omega arith
 adds false Upgrade n = omega arith
 
 counted-write-back : (core k : ℕ) (how : CacheUse) (cs : List Counts) → core < length cs
-    → (of (counted core how cs) k).write_backs ≡ (of cs k).write_backs + one_if ((core == k) && wrote_in how)
+    → (of (with_use_counted core how cs) k).write_backs ≡ (of cs k).write_backs + one_if ((core == k) && wrote_in how)
 counted-write-back core k Unused cs h = none-told (core == k) (of cs k).write_backs
 counted-write-back core k Forwarded cs h = kept (λ (n : Counts). n.write_backs) core k with_forward cs (λ n. refl) ∙ none-told (core == k) (of cs k).write_backs
 counted-write-back core k (Through a) cs h =
-    flushed-kept (λ (n : Counts). n.write_backs) k a.flushed (at_core core (λ n. with_write_back a.wrote_back (with_access a.kind n)) cs) (λ n. refl)
+    flushed-kept (λ (n : Counts). n.write_backs) k a.flushed (counts_at_core core (λ n. with_write_back a.wrote_back (with_access a.kind n)) cs) (λ n. refl)
     ∙ added (λ (n : Counts). n.write_backs) core k (λ n. with_write_back a.wrote_back (with_access a.kind n)) cs a.wrote_back h (adds a.wrote_back a.kind)
 
 write-backs-counted : (m : Running) (choices : List Choice) (k : ℕ) → IsKept m → CoresExist (length m.statistics.counts) choices
@@ -29,7 +29,7 @@ write-backs-counted : (m : Running) (choices : List Choice) (k : ℕ) → IsKept
 write-backs-counted m [] k kept cores = omega arith
 write-backs-counted m (c ∷ cs) k kept cores =
     go (has_ended m.test m.state.flat) refl
-    (write-backs-counted (machine_after m c) cs k (kept-after m c kept) (subst (λ n. CoresExist n cs) (sym (length-counted (chosen c) (use_by m c).how m.statistics.counts)) cores.1))
+    (write-backs-counted (machine_after m c) cs k (kept-after m c kept) (subst (λ n. CoresExist n cs) (sym (length-counted (chosen c) (machine_use m c).how m.statistics.counts)) cores.1))
   where
     go : (b : Bool) → has_ended m.test m.state.flat ≡ b
         → (of (counts_after (machine_after m c) cs) k).write_backs ≡ (of (machine_after m c).statistics.counts k).write_backs + steps_that (tells_write_back k) (steps_from (machine_after m c) cs)
@@ -39,11 +39,11 @@ write-backs-counted m (c ∷ cs) k kept cores =
         let counts : (of (counts_after m (c ∷ cs)) k).write_backs ≡ (of m.statistics.counts k).write_backs = ap (λ (x : Statistics). (of x.counts k).write_backs) (stopped m c cs over) in
         omega arith
     go false live rest =
-        let steps : steps_that (tells_write_back k) (steps_from m (c ∷ cs)) ≡ one_if (tells_write_back k (step_of m c)) + steps_that (tells_write_back k) (steps_from (machine_after m c) cs) = rw live refl in
+        let steps : steps_that (tells_write_back k) (steps_from m (c ∷ cs)) ≡ one_if (tells_write_back k (trace_step_of m c)) + steps_that (tells_write_back k) (steps_from (machine_after m c) cs) = rw live refl in
         let counts : (of (counts_after m (c ∷ cs)) k).write_backs ≡ (of (counts_after (machine_after m c) cs) k).write_backs = ap (λ (x : Statistics). (of x.counts k).write_backs) (counting m c cs live) in
-        let one : (of (machine_after m c).statistics.counts k).write_backs ≡ (of m.statistics.counts k).write_backs + one_if ((chosen c == k) && wrote_in (use_by m c).how) =
-        counted-write-back (chosen c) k (use_by m c).how m.statistics.counts cores.0 in
-        let told : one_if (tells_write_back k (step_of m c)) ≡ one_if ((chosen c == k) && wrote_in (use_by m c).how) = ap one_if (step-told k m c kept cores.0) in
+        let one : (of (machine_after m c).statistics.counts k).write_backs ≡ (of m.statistics.counts k).write_backs + one_if ((chosen c == k) && wrote_in (machine_use m c).how) =
+        counted-write-back (chosen c) k (machine_use m c).how m.statistics.counts cores.0 in
+        let told : one_if (tells_write_back k (trace_step_of m c)) ≡ one_if ((chosen c == k) && wrote_in (machine_use m c).how) = ap one_if (step-told k m c kept cores.0) in
         omega arith
 
 -- ---- all of it
@@ -57,7 +57,7 @@ all-told table c t choices k cores =
     record {
       accesses = λ kind.
           let all = accesses-told kind m choices k there in
-          let first : count_of kind (of m.statistics.counts k) ≡ 0 = ap (count_of kind) none ∙ none-of kind in
+          let first : count_of_accesses kind (of m.statistics.counts k) ≡ 0 = ap (count_of_accesses kind) none ∙ none-of kind in
           omega arith;
       forwards =
           let all = forwards-told m choices k there in

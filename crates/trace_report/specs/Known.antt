@@ -4,7 +4,7 @@ use Rattle.tso_model.specs.Litmus.{Litmus}
 use Rattle.tso_model.specs.FlatMachine.{State, core_of}
 use Rattle.tso_model.specs.declared.execution.Entry.{Entry}
 use Rattle.order_builder.specs.PrintedOrder.{HasLocation}
-use Rattle.trace_report.specs.Shown.{Shown}
+use Rattle.trace_report.specs.Shown.{ShownStep}
 
 -- a line of so many words, at least one, begins at a location of the test
 pub record IsLine (t : Litmus) (words number : ℕ) : Type 0 where
@@ -19,7 +19,7 @@ IsAt t e = e.loc.0 < length t.locations
 abbrev pub AreStoresKnown : Litmus → State → Type 0
 AreStoresKnown t state = (core : ℕ) → All (IsAt t) (core_of state core).pending
 
-pub record IsKnown (t : Litmus) (words : ℕ) (s : Shown) : Type 0 where
+pub record StepNamesExist (t : Litmus) (words : ℕ) (s : ShownStep) : Type 0 where
   pub entries : All (HasLocation t) s.entries
   pub request : IfSome s.request (λ r. IsLine t words r.line)
   pub wrote_back : IfSome s.wrote_back (IsLine t words)

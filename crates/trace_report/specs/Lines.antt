@@ -22,7 +22,7 @@ use Rattle.protocol_tables.specs.declared.requests.Transient.TheVariants.{IsD, I
 use Rattle.snoop_bus.specs.declared.access.AccessKind.{AccessKind}
 use Rattle.snoop_bus.specs.declared.access.AccessKind.TheVariants.{Hit, Upgrade, Miss}
 use Rattle.order_builder.specs.PrintedOrder.{printed_entry}
-use Rattle.trace_report.specs.Shown.{Shown}
+use Rattle.trace_report.specs.Shown.{ShownStep}
 use Rattle.trace_report.specs.declared.step.LineRequest.{LineRequest}
 use Rattle.trace_report.specs.declared.step.LineState.{LineState}
 use Rattle.trace_report.specs.declared.step.StateChange.{StateChange}
@@ -70,16 +70,16 @@ abbrev pub after_plus : List (List ℕ) → List ℕ
 after_plus [] = []
 after_plus (name ∷ names) = codes "+" ++ (name ++ after_plus names)
 
-abbrev pub joined : List (List ℕ) → List ℕ
-joined [] = []
-joined (name ∷ names) = name ++ after_plus names
+abbrev pub joined_by_plus : List (List ℕ) → List ℕ
+joined_by_plus [] = []
+joined_by_plus (name ∷ names) = name ++ after_plus names
 
 -- the names of the locations of a line of so many words, of which the last line may have fewer
 abbrev pub names_in_line : List (List ℕ) → ℕ → ℕ → List (List ℕ)
 names_in_line names words number = drop (number * words) (take (number * words + words) names)
 
 abbrev pub line_name : Litmus → ℕ → ℕ → List ℕ
-line_name t words number = joined (names_in_line t.locations words number)
+line_name t words number = joined_by_plus (names_in_line t.locations words number)
 
 -- ---- the words of a line, each part after a space
 
@@ -169,13 +169,13 @@ buffer_text t core (Some stores) = codes " P" ++ (decimal core ++ (codes "[" ++ 
 -- ---- the lines
 
 -- what the choice did: to the order and the registers, by its access, on the bus, to the lines, and to the core's buffer
-abbrev pub done_text : Litmus → Shown → List ℕ
+abbrev pub done_text : Litmus → ShownStep → List ℕ
 done_text t s = entries_text t s.entries ++ (moved_text s.moved ++ (forwarded_text s.forwarded ++ access_text s.access))
 
-abbrev pub bus_text : Litmus → ℕ → Shown → List ℕ
-bus_text t words s = request_text t words s.request ++ (flush_text s.flushed ++ write_back_text t words s.wrote_back)
+abbrev pub bus_traffic_text : Litmus → ℕ → ShownStep → List ℕ
+bus_traffic_text t words s = request_text t words s.request ++ (flush_text s.flushed ++ write_back_text t words s.wrote_back)
 
-abbrev pub left_text : Litmus → ℕ → Shown → List ℕ
+abbrev pub left_text : Litmus → ℕ → ShownStep → List ℕ
 left_text t words s = changes_text t words s.changes ++ buffer_text t (chosen s.choice) s.buffer
 
 -- `5 0d committed`
@@ -184,19 +184,19 @@ outcome_text number choice outcome =
     decimal number ++ (codes " " ++ (printed_choice choice ++ (codes " " ++ outcome_name outcome)))
 
 -- `5 0d committed P0:0 W x=1 miss GetM x P0.x I>M P1.x S>I P0[]`
-abbrev pub step_line : Litmus → ℕ → ℕ → Shown → List ℕ
-step_line t words number s =
-    outcome_text number s.choice s.outcome ++ (done_text t s ++ (bus_text t words s ++ line (left_text t words s)))
+abbrev pub trace_step_line : Litmus → ℕ → ℕ → ShownStep → List ℕ
+trace_step_line t words number s =
+    outcome_text number s.choice s.outcome ++ (done_text t s ++ (bus_traffic_text t words s ++ line (left_text t words s)))
 
 -- a line for each step, from this number on
-abbrev pub step_lines : Litmus → ℕ → ℕ → List Shown → List ℕ
+abbrev pub step_lines : Litmus → ℕ → ℕ → List ShownStep → List ℕ
 step_lines t words number [] = []
-step_lines t words number (s ∷ ss) = step_line t words number s ++ step_lines t words (number + 1) ss
+step_lines t words number (s ∷ ss) = trace_step_line t words number s ++ step_lines t words (number + 1) ss
 
 -- `Endtrace 6`
 abbrev pub end_line : ℕ → List ℕ
 end_line count = codes "Endtrace " ++ line (decimal count)
 
 -- the trace of these steps, on caches whose lines have so many words: `Trace`, a line for each step, `Endtrace N`
-abbrev pub trace_text : Litmus → ℕ → List Shown → List ℕ
+abbrev pub trace_text : Litmus → ℕ → List ShownStep → List ℕ
 trace_text t words steps = line (codes "Trace") ++ (step_lines t words 1 steps ++ end_line (length steps))

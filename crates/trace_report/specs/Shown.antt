@@ -15,7 +15,7 @@ use Rattle.trace_report.specs.declared.step.StateChange.{StateChange}
 -- commit; the register that it moved a value to; whether the core's own pending stores answered it; what its access was; what
 -- went on the bus; whose copy was sent to memory; the dirty line that left; the lines whose state changed, by core and then by
 -- line; and the core's pending stores after it, oldest first, where they changed
-pub record Shown : Type 0 where
+pub record ShownStep : Type 0 where
   pub choice : Choice
   pub outcome : Outcome
   pub entries : List Entry
@@ -28,8 +28,8 @@ pub record Shown : Type 0 where
   pub changes : List StateChange
   pub buffer : Option (List Entry)
 
-abbrev pub shown : Step → Shown
-shown s = record {
+abbrev pub shown_step : Step → ShownStep
+shown_step s = record {
   choice = s.choice;
   outcome = s.outcome;
   entries = s.entries.items;

@@ -5,10 +5,10 @@ use Rattle.tso_model.specs.declared.choice.Outcome.TheVariants.{Stalled}
 use Rattle.tso_model.specs.declared.choice.Stall.{Stall}
 use Rattle.protocol_tables.specs.PrintedTable.{line}
 use Rattle.trace_report.specs.Lines.{outcome_text}
-use Rattle.trace_report.specs.Shown.{Shown}
+use Rattle.trace_report.specs.Shown.{ShownStep}
 
 -- what is shown of a choice that stalled: that alone
-abbrev pub stalled_step : Choice → Stall → Shown
+abbrev pub stalled_step : Choice → Stall → ShownStep
 stalled_step choice why = record {
   choice = choice;
   outcome = Stalled why;

@@ -26,12 +26,12 @@ use Rattle.protocol_tables.specs.declared.state.State as protocol
 use Rattle.snoop_bus.specs.Asks.{tag_at}
 use Rattle.snoop_bus.specs.Tags.{leaving, snooped}
 use Rattle.snoop_bus.specs.CacheContents.{TagSets, tags_at, at_line, sets_of}
-use Rattle.snoop_bus.specs.Requests.{asked}
+use Rattle.snoop_bus.specs.Requests.{snoop_column}
 use Rattle.machine_core.specs.Configuration.{Configuration}
 use Rattle.machine_core.specs.Caches.{at_access}
 use Rattle.machine_core.specs.Running.{Running, new_machine, machine_after, attempt_on, table_in}
 use Rattle.trace_report.specs.Lines.{stall_name}
-use Rattle.trace_report.specs.Steps.{step_of}
+use Rattle.trace_report.specs.Steps.{trace_step_of}
 use Rattle.trace_report.specs.TraceLaws.{KeepsNoCopyInI}
 use Rattle.trace_report.specs.declared.step.LineRequest.{LineRequest}
 use Rattle.trace_report.specs.declared.step.Moved.{Moved}
@@ -43,19 +43,19 @@ abbrev pub with_moved : Option Moved → List ℕ → List ℕ
 with_moved None registers = registers
 with_moved (Some m) registers = with_value registers m.reg m.value
 
-abbrev pub with_buffer : Option (List Entry) → List Entry → List Entry
-with_buffer None pending = pending
-with_buffer (Some stores) pending = stores
+abbrev pub pending_told : Option (List Entry) → List Entry → List Entry
+pending_told None pending = pending
+pending_told (Some stores) pending = stores
 
 -- the register that a step tells has the value that it tells, and no other has changed, and none is told but where the core
 -- moved; the stores that a step tells are pending then, and where it tells none the same as before are. On the atomic bus that
 -- is the flat machine's core
 pub record CoresAreTold (m : Running) (choice : Choice) : Type 0 where
-  pub moved : (step_of m choice).outcome ≡ out.Moved → (core_of (machine_after m choice).state.flat (chosen choice)).registers
-      ≡ with_moved (step_of m choice).moved (core_of m.state.flat (chosen choice)).registers
-  pub unmoved : (step_of m choice).outcome ≢ out.Moved → (step_of m choice).moved ≡ None
+  pub moved : (trace_step_of m choice).outcome ≡ out.Moved → (core_of (machine_after m choice).state.flat (chosen choice)).registers
+      ≡ with_moved (trace_step_of m choice).moved (core_of m.state.flat (chosen choice)).registers
+  pub unmoved : (trace_step_of m choice).outcome ≢ out.Moved → (trace_step_of m choice).moved ≡ None
   pub buffer : (core_of (machine_after m choice).state.flat (chosen choice)).pending
-      ≡ with_buffer (step_of m choice).buffer (core_of m.state.flat (chosen choice)).pending
+      ≡ pending_told (trace_step_of m choice).buffer (core_of m.state.flat (chosen choice)).pending
   pub flat : m.bus ≡ Atomic → (machine_after m choice).state.flat ≡ after_choice m.test m.depth m.state.flat choice
 
 -- ---- stalls
@@ -86,20 +86,20 @@ pub data IsWordOfStallOn (m : Running) (choice : Choice) : List ℕ → Type 0 w
 
 -- the word of each stall is its reason
 abbrev pub StallsAreTold : Running → Choice → Type 0
-StallsAreTold m choice = (why : Stall) → (step_of m choice).outcome ≡ Stalled why → IsWordOfStallOn m choice (stall_name why)
+StallsAreTold m choice = (why : Stall) → (trace_step_of m choice).outcome ≡ Stalled why → IsWordOfStallOn m choice (stall_name why)
 
 -- ---- the other caches
 
 -- a core's sets once it saw this request, if there is one
 abbrev pub with_seen : Table → Option LineRequest → TagSets → TagSets
 with_seen table None sets = sets
-with_seen table (Some r) sets = at_line r.line (snooped (asked table r.request) r.line) sets
+with_seen table (Some r) sets = at_line r.line (snooped (snoop_column table r.request) r.line) sets
 
 -- the request and the line that a step tells are those by which the copies of the other cores change, and none changes otherwise
 abbrev pub OthersSeeTheRequest : Running → Choice → Type 0
 OthersSeeTheRequest m choice =
     (core : ℕ) → core ≢ chosen choice
-    → sets_of (machine_after m choice).statistics.caches.contents core ≡ with_seen (table_in m) (step_of m choice).request (sets_of m.statistics.caches.contents core)
+    → sets_of (machine_after m choice).statistics.caches.contents core ≡ with_seen (table_in m) (trace_step_of m choice).request (sets_of m.statistics.caches.contents core)
 
 -- ---- write-backs
 
@@ -114,7 +114,7 @@ pub record GaveWay (m : Running) (choice : Choice) (line : ℕ) : Type 0 where
   pub dirty : (table_in m).evicts_dirty state ≡ true
 
 abbrev pub WriteBacksAreTold : Running → Choice → Type 0
-WriteBacksAreTold m choice = (line : ℕ) → (step_of m choice).wrote_back ≡ Some line → GaveWay m choice line
+WriteBacksAreTold m choice = (line : ℕ) → (trace_step_of m choice).wrote_back ≡ Some line → GaveWay m choice line
 
 -- no set of a core's cache has more lines than it may have, as the caches keep it
 abbrev pub KeepsWays : Running → ℕ → Type 0

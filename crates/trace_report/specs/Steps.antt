@@ -28,12 +28,12 @@ use Rattle.snoop_bus.specs.declared.access.AccessKind.{AccessKind}
 use Rattle.snoop_bus.specs.declared.access.AccessKind.TheVariants.{Hit, Upgrade, Miss}
 use Rattle.machine_core.specs.Configuration.{Configuration}
 use Rattle.machine_core.specs.Caches.{at_access}
-use Rattle.machine_core.specs.Running.{Running, new_machine, effect_by, use_by, machine_after}
+use Rattle.machine_core.specs.Running.{Running, new_machine, machine_effect, machine_use, machine_after}
 use Rattle.machine_core.specs.Looking.{bus_holder_of}
 use Rattle.machine_core.specs.declared.looking.BusHolder.{BusHolder}
 use Rattle.machine_core.specs.declared.accesses.CacheUse.{CacheUse}
 use Rattle.machine_core.specs.declared.accesses.CacheUse.TheVariants.{Unused, Forwarded, Through}
-use Rattle.trace_report.specs.Shown.{Shown}
+use Rattle.trace_report.specs.Shown.{ShownStep}
 use Rattle.trace_report.specs.declared.step.Moved.{Moved}
 use Rattle.trace_report.specs.declared.step.LineRequest.{LineRequest}
 use Rattle.trace_report.specs.declared.step.LineState.{LineState}
@@ -76,10 +76,10 @@ is_forwarded Forwarded = true
 is_forwarded (Through a) = false
 
 -- what the access was, if there was one
-abbrev pub access_in : CacheUse → Option AccessKind
-access_in Unused = None
-access_in Forwarded = None
-access_in (Through a) = Some a.kind
+abbrev pub access_kind_in : CacheUse → Option AccessKind
+access_kind_in Unused = None
+access_kind_in Forwarded = None
+access_kind_in (Through a) = Some a.kind
 
 -- ---- the bus
 
@@ -145,33 +145,33 @@ line_states m core line zero = []
 line_states m core line (suc count) = placed m core line ∷ line_states m core (line + 1) count
 
 -- how many lines the locations of the test take
-abbrev pub lines_of : Running → ℕ
-lines_of m = div_ceil (length m.test.locations) m.statistics.caches.shape.words
+abbrev pub number_of_lines : Running → ℕ
+number_of_lines m = div_ceil (length m.test.locations) m.statistics.caches.shape.words
 
 -- those of each core from this number on, so many
-abbrev pub core_states : Running → ℕ → ℕ → List PlacedState
-core_states m core zero = []
-core_states m core (suc count) = line_states m core 0 (lines_of m) ++ core_states m (core + 1) count
+abbrev pub placed_states_from : Running → ℕ → ℕ → List PlacedState
+placed_states_from m core zero = []
+placed_states_from m core (suc count) = line_states m core 0 (number_of_lines m) ++ placed_states_from m (core + 1) count
 
 -- what each line of each core is in, by core and then by line
 abbrev pub states_of : Running → List PlacedState
-states_of m = core_states m 0 (length m.test.programs)
+states_of m = placed_states_from m 0 (length m.test.programs)
 
 -- states are told apart by a number of each
-abbrev pub number_of : LineState → ℕ
-number_of (state.Stable tag.I) = 0
-number_of (state.Stable tag.S) = 1
-number_of (state.Stable tag.E) = 2
-number_of (state.Stable tag.O) = 3
-number_of (state.Stable tag.M) = 4
-number_of (state.Transient IsD) = 5
-number_of (state.Transient ImD) = 6
-number_of (state.Transient SmD) = 7
+abbrev pub number_of_state : LineState → ℕ
+number_of_state (state.Stable tag.I) = 0
+number_of_state (state.Stable tag.S) = 1
+number_of_state (state.Stable tag.E) = 2
+number_of_state (state.Stable tag.O) = 3
+number_of_state (state.Stable tag.M) = 4
+number_of_state (state.Transient IsD) = 5
+number_of_state (state.Transient ImD) = 6
+number_of_state (state.Transient SmD) = 7
 
 -- a line whose state was this before and is that after, if it changed
 abbrev pub change_of : PlacedState → PlacedState → List StateChange
 change_of before after =
-    if number_of before.state == number_of after.state
+    if number_of_state before.state == number_of_state after.state
     then []
     else record { core = before.core; line = before.line; before = before.state; after = after.state } ∷ []
 
@@ -183,23 +183,23 @@ changes_in (before ∷ befores) (after ∷ afters) = change_of before after ++ c
 
 -- ---- the line that is written back
 abbrev pub is_absent : LineState → Bool
-is_absent x = number_of x == 0
+is_absent x = number_of_state x == 0
 
 -- the first line of this core among these that has left its cache
-abbrev pub left_by : ℕ → List StateChange → Option ℕ
-left_by core [] = None
-left_by core (c ∷ cs) = if (c.core.0 == core) && is_absent c.after then Some c.line else left_by core cs
+abbrev pub line_that_left : ℕ → List StateChange → Option ℕ
+line_that_left core [] = None
+line_that_left core (c ∷ cs) = if (c.core.0 == core) && is_absent c.after then Some c.line else line_that_left core cs
 
 -- where the access sent a dirty line away, the line that left the core's cache
 abbrev pub wrote_back_by : CacheUse → ℕ → List StateChange → Option ℕ
 wrote_back_by Unused core changes = None
 wrote_back_by Forwarded core changes = None
-wrote_back_by (Through a) core changes = if a.wrote_back then left_by core changes else None
+wrote_back_by (Through a) core changes = if a.wrote_back then line_that_left core changes else None
 
 -- ---- the step
 
 -- what a choice did that had this effect and used the caches so, by the machine before it and the machine after it
-abbrev pub step_with : Running → Choice → Effect → CacheUse → Running → Shown
+abbrev pub step_with : Running → Choice → Effect → CacheUse → Running → ShownStep
 step_with m choice f how next =
     let before = core_of m.state.flat (chosen choice) in
     let after = core_of next.state.flat (chosen choice) in
@@ -212,7 +212,7 @@ step_with m choice f how next =
       entries = f.commits ++ drop (length before.pending) after.pending;
       moved = moved_from m.test before.place choice after.registers;
       forwarded = is_forwarded how;
-      access = access_in how;
+      access = access_kind_in how;
       request = sent.request;
       flushed = sent.flushed;
       wrote_back = wrote_back_by how (chosen choice) changes;
@@ -221,18 +221,18 @@ step_with m choice f how next =
     }
 
 -- what a choice on a machine did
-unfoldable pub step_of : Running → Choice → Shown
-step_of m choice = step_with m choice (effect_by m choice).effect (use_by m choice).how (machine_after m choice)
+unfoldable pub trace_step_of : Running → Choice → ShownStep
+trace_step_of m choice = step_with m choice (machine_effect m choice).effect (machine_use m choice).how (machine_after m choice)
 
 -- what each choice did that was used, up to the first moment at which the test had ended
-abbrev pub steps_from : Running → List Choice → List Shown
+abbrev pub steps_from : Running → List Choice → List ShownStep
 steps_from m [] = []
-steps_from m (c ∷ cs) = if has_ended m.test m.state.flat then [] else step_of m c ∷ steps_from (machine_after m c) cs
+steps_from m (c ∷ cs) = if has_ended m.test m.state.flat then [] else trace_step_of m c ∷ steps_from (machine_after m c) cs
 
 -- the trace of a test's run, by the protocol's table, the configuration and the choices
-abbrev pub trace_of : Table → Configuration → Litmus → List Choice → List Shown
+abbrev pub trace_of : Table → Configuration → Litmus → List Choice → List ShownStep
 trace_of table config t choices = steps_from (new_machine table config t) choices
 
 -- the same by the protocol's name
-abbrev pub trace_under : Litmus → ProtocolKind → Configuration → List Choice → List Shown
+abbrev pub trace_under : Litmus → ProtocolKind → Configuration → List Choice → List ShownStep
 trace_under t kind c choices = trace_of (table_of kind) c t choices

@@ -17,6 +17,6 @@ pub record IsTraced (t : Litmus) (c : Configuration) (m : Running) : Type 0 wher
   pub stores : AreStoresKnown t m.state.flat
 
 -- the same, and its lines are in these states
-pub record IsTold (t : Litmus) (c : Configuration) (m : Running) (states : List PlacedState) : Type 0 where
+pub record IsTracedInStates (t : Litmus) (c : Configuration) (m : Running) (states : List PlacedState) : Type 0 where
   pub machine : IsTraced t c m
   pub states_are : states ≡ states_of m

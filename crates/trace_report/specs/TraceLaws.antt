@@ -23,8 +23,8 @@ use Rattle.machine_core.specs.Answered.{answered}
 use Rattle.machine_core.specs.Statistics.{no_counts, counts_of}
 use Rattle.machine_core.specs.declared.counts.Counts.{Counts}
 use Rattle.machine_core.specs.Running.{Running, machine_after}
-use Rattle.trace_report.specs.Shown.{Shown}
-use Rattle.trace_report.specs.Steps.{step_of, states_of, number_of, trace_of}
+use Rattle.trace_report.specs.Shown.{ShownStep}
+use Rattle.trace_report.specs.Steps.{trace_step_of, states_of, number_of_state, trace_of}
 use Rattle.trace_report.specs.declared.step.StateChange.{StateChange}
 use Rattle.trace_report.specs.declared.states.PlacedState.{PlacedState}
 use Rattle.tso_model.specs.declared.choice.Outcome.TheVariants as out
@@ -40,18 +40,18 @@ committed_at Asked entries = []
 committed_at (Stalled why) entries = []
 
 -- the entries that the steps have committed, in their order
-abbrev pub committed_in : List Shown → List Entry
+abbrev pub committed_in : List ShownStep → List Entry
 committed_in [] = []
 committed_in (s ∷ ss) = committed_at s.outcome s.entries ++ committed_in ss
 
 -- how many of the steps stalled
-abbrev pub stalls_in : List Shown → ℕ
+abbrev pub stalls_in : List ShownStep → ℕ
 stalls_in [] = 0
 stalls_in (s ∷ ss) = stall_count s.outcome + stalls_in ss
 
 -- the entries that the steps have committed, each load part of a locked instruction put directly before its store part, are the
 -- order of the run; the steps are as many as the choices that it used; and as many of them stalled
-pub record TellsRun (steps : List Shown) (r : Run) : Type 0 where
+pub record TellsRun (steps : List ShownStep) (r : Run) : Type 0 where
   pub order : put_together (committed_in steps) ≡ r.commits
   pub used : length steps ≡ r.used
   pub stalled : stalls_in steps ≡ r.stalled
@@ -84,21 +84,21 @@ with_changes (c ∷ cs) states = with_changes cs (map (laid_in c) states)
 -- a change is of one of these lines, which was in the state that it is said to leave, and goes to another
 pub record ChangesOne (states : List PlacedState) (c : StateChange) : Type 0 where
   pub was : Contains states (record { core = c.core; line = c.line; state = c.before })
-  pub differs : number_of c.before ≢ number_of c.after
+  pub differs : number_of_state c.before ≢ number_of_state c.after
 
 -- the states of all lines before a choice, with the changes that its step tells laid in, are the states after it; and no change
 -- is told that isn't one
 pub record ChangesLeadFromStatesToStates : Type 0 where
-  pub lead : (m : Running) (choice : Choice) → with_changes (step_of m choice).changes (states_of m) ≡ states_of (machine_after m choice)
-  pub real : (m : Running) (choice : Choice) → All (ChangesOne (states_of m)) (step_of m choice).changes
+  pub lead : (m : Running) (choice : Choice) → with_changes (trace_step_of m choice).changes (states_of m) ≡ states_of (machine_after m choice)
+  pub real : (m : Running) (choice : Choice) → All (ChangesOne (states_of m)) (trace_step_of m choice).changes
 
 -- ---- the accesses
 
 -- what a core's cache counts of this kind of access
-abbrev pub count_of : AccessKind → Counts → ℕ
-count_of Hit n = n.hits
-count_of Miss n = n.misses
-count_of Upgrade n = n.upgrades
+abbrev pub count_of_accesses : AccessKind → Counts → ℕ
+count_of_accesses Hit n = n.hits
+count_of_accesses Miss n = n.misses
+count_of_accesses Upgrade n = n.upgrades
 
 -- the two kinds are one
 abbrev pub is_kind : AccessKind → AccessKind → Bool
@@ -107,15 +107,15 @@ is_kind Miss Miss = true
 is_kind Upgrade Upgrade = true
 is_kind _ _ = false
 
-abbrev pub is_access : AccessKind → Option AccessKind → Bool
-is_access kind None = false
-is_access kind (Some k) = is_kind kind k
+abbrev pub is_access_of_kind : AccessKind → Option AccessKind → Bool
+is_access_of_kind kind None = false
+is_access_of_kind kind (Some k) = is_kind kind k
 
 -- whether a step tells an access of this kind to this core's cache, and whether it tells that the core's own stores answered it
-abbrev pub tells_access : AccessKind → ℕ → Shown → Bool
-tells_access kind core s = (chosen s.choice == core) && is_access kind s.access
+abbrev pub tells_access : AccessKind → ℕ → ShownStep → Bool
+tells_access kind core s = (chosen s.choice == core) && is_access_of_kind kind s.access
 
-abbrev pub tells_forward : ℕ → Shown → Bool
+abbrev pub tells_forward : ℕ → ShownStep → Bool
 tells_forward core s = (chosen s.choice == core) && s.forwarded
 
 abbrev pub one_if : Bool → ℕ
@@ -123,12 +123,12 @@ one_if true = 1
 one_if false = 0
 
 -- how many of the steps are such
-abbrev pub steps_that : (Shown → Bool) → List Shown → ℕ
+abbrev pub steps_that : (ShownStep → Bool) → List ShownStep → ℕ
 steps_that test [] = 0
 steps_that test (s ∷ ss) = one_if (test s) + steps_that test ss
 
 -- whether a step tells that a dirty line of this core's cache is written back
-abbrev pub tells_write_back : ℕ → Shown → Bool
+abbrev pub tells_write_back : ℕ → ShownStep → Bool
 tells_write_back core s = (chosen s.choice == core) && is_some s.wrote_back
 
 -- whether a step tells that a copy in this core's cache is sent to memory
@@ -136,7 +136,7 @@ abbrev pub is_sender : ℕ → Option Core → Bool
 is_sender core None = false
 is_sender core (Some sender) = sender.0 == core
 
-abbrev pub tells_flush : ℕ → Shown → Bool
+abbrev pub tells_flush : ℕ → ShownStep → Bool
 tells_flush core s = is_sender core s.flushed
 
 -- a protocol under which no core's read or write leaves its copy in I, the state that says that there is none
@@ -151,8 +151,8 @@ ProtocolsKeepNoCopyInI = (kind : ProtocolKind) → KeepsNoCopyInI (table_of kind
 -- what the steps tell of this core's cache is what is counted of it: its hits, misses and upgrades, the loads that the core's own
 -- pending stores answered, and of a test within the limits, on lines of a word at least, its write-backs; and once the test has
 -- ended its flushes. (On a split bus a flush is told where the line is asked for, and counted where the access is made.)
-pub record AreTold (table : Table) (c : Configuration) (t : Litmus) (core : ℕ) (steps : List Shown) (ended : Bool) (n : Counts) : Type 0 where
-  pub accesses : (kind : AccessKind) → steps_that (tells_access kind core) steps ≡ count_of kind n
+pub record AreTold (table : Table) (c : Configuration) (t : Litmus) (core : ℕ) (steps : List ShownStep) (ended : Bool) (n : Counts) : Type 0 where
+  pub accesses : (kind : AccessKind) → steps_that (tells_access kind core) steps ≡ count_of_accesses kind n
   pub forwards : steps_that (tells_forward core) steps ≡ n.forwards
   pub write_backs : IsTest t → 0 < c.shape.words → KeepsNoCopyInI table → steps_that (tells_write_back core) steps ≡ n.write_backs
   pub flushes : ended ≡ true → steps_that (tells_flush core) steps ≡ n.flushes

@@ -2,13 +2,13 @@
 //! and memory.
 #![tactic(auto)]
 
-pub mod laws;
 pub mod names;
 mod sending;
 pub mod states;
 pub mod step;
 pub mod telling;
 pub mod text;
+pub mod told_runs;
 
 pub use states::states_of;
 pub use step::{LineRequest, LineState, Moved, StateChange, Step};

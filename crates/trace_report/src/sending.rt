@@ -3,7 +3,7 @@
 
 ghost use Rattle.std.specs.Prelude.{◌≡◌, ◌<◌, ◌/◌, option_map};
 ghost use Rattle.snoop_bus.specs.Asks.{awaited_by};
-ghost use Rattle.machine_core.specs.inner.Keeping.{access_in};
+ghost use Rattle.machine_core.specs.inner.Keeping.{memory_access_in};
 ghost use Rattle.trace_report.specs.Steps.{request_at, sent_whole, sent_asked, sent_on};
 
 use crate::step::LineRequest;
@@ -31,7 +31,7 @@ impl Sent {
 /// What an access asks for, where lines have so many words.
 pub fn request_at(access: MemoryAccess, words: u8) -> Option<LineRequest>
     requires { 0 < words }
-    ensures { result ≡ request_at words (access_in access) }
+    ensures { result ≡ request_at words (memory_access_in access) }
 {
     match access {
         MemoryAccess::Nothing => None,

@@ -4,8 +4,8 @@
 ghost use Rattle.std.specs.Prelude.{◌≡◌, ◌<◌, ◌++◌, IfOk, OnOk, length};
 ghost use Rattle.std.specs.Int.{div_ceil};
 ghost use Rattle.machine_core.specs.Looking.{bus_holder_of};
-ghost use Rattle.trace_report.specs.Steps.{awaited_at, line_state, placed, line_states, lines_of, states_of, number_of};
-ghost use Rattle.trace_report.specs.Steps.{change_of, changes_in, left_by};
+ghost use Rattle.trace_report.specs.Steps.{awaited_at, line_state, placed, line_states, number_of_lines, states_of, number_of_state};
+ghost use Rattle.trace_report.specs.Steps.{change_of, changes_in, line_that_left};
 ghost use Rattle.trace_report.specs.inner.Told.{IsLookedAt};
 
 use crate::step::{LineState, StateChange, core_of};
@@ -52,7 +52,7 @@ fn note_core<P: Protocol>(
 ) -> Result<(), NoMemory>
     requires looked { IsLookedAt test.now words machine.now }
     requires core { core.0 < length test.now.programs }
-    ensures { OnOk result (states.new.items ≡ states.old.items ++ line_states machine.now core.0 0 (lines_of machine.now)) }
+    ensures { OnOk result (states.new.items ≡ states.old.items ++ line_states machine.now core.0 0 (number_of_lines machine.now)) }
 {
     let holder = machine.bus_holder();
     let lines = test.locations().div_ceil(words);
@@ -120,7 +120,7 @@ fn note_change(
 ) -> Result<(), NoMemory>
     ensures { OnOk result (changes.new.items ≡ changes.old.items ++ change_of before after) }
 {
-    if number_of(before.state) != number_of(after.state) {
+    if number_of_state(before.state) != number_of_state(after.state) {
         changes.push(StateChange {
             core: before.core,
             line: before.line,
@@ -132,8 +132,8 @@ fn note_change(
 }
 
 /// A number of each state, by which states are told apart; that of I is 0.
-fn number_of(state: LineState) -> u8
-    ensures { result ≡ number_of state }
+fn number_of_state(state: LineState) -> u8
+    ensures { result ≡ number_of_state state }
 {
     match state {
         LineState::Stable(State::I) => 0,
@@ -148,11 +148,11 @@ fn number_of(state: LineState) -> u8
 }
 
 /// The first line of this core among these that has left its cache.
-pub fn left_by(core: Core, changes: &[StateChange]) -> Option<u8>
-    ensures { result ≡ left_by core.0 changes.now }
+pub fn line_that_left(core: Core, changes: &[StateChange]) -> Option<u8>
+    ensures { result ≡ line_that_left core.0 changes.now }
 {
     for change in changes {
-        if change.core.0 == core.0 && number_of(change.after) == 0 {
+        if change.core.0 == core.0 && number_of_state(change.after) == 0 {
             return Some(change.line);
         }
     }

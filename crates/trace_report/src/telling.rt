@@ -8,18 +8,18 @@ ghost use Rattle.tso_model.specs.Actions.{action_of};
 ghost use Rattle.tso_model.specs.FlatMachine.{chosen, core_of};
 ghost use Rattle.tso_model.specs.Runs.{stall_count};
 ghost use Rattle.machine_core.specs.Running.{machine_after, AnswerFits};
-ghost use Rattle.trace_report.specs.Shown.{shown};
+ghost use Rattle.trace_report.specs.Shown.{shown_step};
 ghost use Rattle.trace_report.specs.inner.Steps.{waited_before};
-ghost use Rattle.trace_report.specs.Steps.{is_forwarded, access_in, moved_from, moved_by, buffer_if_changed, wrote_back_by, step_of, states_of};
-ghost use Rattle.trace_report.specs.Known.{IsKnown};
+ghost use Rattle.trace_report.specs.Steps.{is_forwarded, access_kind_in, moved_from, moved_by, buffer_if_changed, wrote_back_by, trace_step_of, states_of};
+ghost use Rattle.trace_report.specs.Known.{StepNamesExist};
 ghost use Rattle.trace_report.specs.inner.Told.{IsLookedAt};
-ghost use Rattle.trace_report.specs.Told.{IsTold};
+ghost use Rattle.trace_report.specs.Told.{IsTracedInStates};
 ghost use Rattle.trace_report.specs.inner.Left.{IsLeftBy};
 ghost use Rattle.trace_report.specs.Stalls.{stalled_step};
 ghost use Rattle.trace_report.specs.inner.ToldSteps.{told_step, stalls_told};
 
 use crate::sending::{request_at, sent_on};
-use crate::states::{PlacedState, changes_in, left_by, states_of};
+use crate::states::{PlacedState, changes_in, line_that_left, states_of};
 use crate::step::{Moved, StateChange, Step, core_of};
 use machine_core::{CacheUse, Config, Machine};
 use protocol_tables::Protocol;
@@ -47,14 +47,14 @@ pub fn tell<P: Protocol>(
     choice: Choice,
 ) -> Result<Step, NoMemory>
     requires core { chosen choice < length test.now.programs }
-    requires told { IsTold test.now config machine.old states.old.items }
-    ensures step { IfOk result (λ step. shown step ≡ step_of machine.old choice) }
-    ensures known { IfOk result (λ step. IsKnown test.now config.shape.words (shown step)) }
+    requires told { IsTracedInStates test.now config machine.old states.old.items }
+    ensures step { IfOk result (λ step. shown_step step ≡ trace_step_of machine.old choice) }
+    ensures known { IfOk result (λ step. StepNamesExist test.now config.shape.words (shown_step step)) }
     ensures after { OnOk result (machine.new ≡ machine_after machine.old choice) }
-    ensures told { OnOk result (IsTold test.now config machine.new states.new.items) }
+    ensures told { OnOk result (IsTracedInStates test.now config machine.new states.new.items) }
 
     // Of a choice that stalled nothing else is told.
-    ensures stall { (why : Stall) → IfOk result (λ step. step.outcome ≡ Outcome.Stalled why → shown step ≡ stalled_step choice why) }
+    ensures stall { (why : Stall) → IfOk result (λ step. step.outcome ≡ Outcome.Stalled why → shown_step step ≡ stalled_step choice why) }
 
     // Between the two parts of a locked instruction no write of another core to its location hits.
     ensures answer { OnOk result (AnswerFits machine.old choice) }
@@ -79,12 +79,12 @@ pub fn tell_or_stall<P: Protocol>(
     choice: Choice,
 ) -> Result<Told, NoMemory>
     requires core { chosen choice < length test.now.programs }
-    requires told { IsTold test.now config machine.old states.old.items }
-    ensures step { IfOk result (λ told. told_step choice told ≡ step_of machine.old choice) }
-    ensures known { IfOk result (λ told. IsKnown test.now config.shape.words (told_step choice told)) }
+    requires told { IsTracedInStates test.now config machine.old states.old.items }
+    ensures step { IfOk result (λ told. told_step choice told ≡ trace_step_of machine.old choice) }
+    ensures known { IfOk result (λ told. StepNamesExist test.now config.shape.words (told_step choice told)) }
     ensures stalls { IfOk result (λ told. stalls_told told ≡ stall_count (told_step choice told).outcome) }
     ensures after { OnOk result (machine.new ≡ machine_after machine.old choice) }
-    ensures told { OnOk result (IsTold test.now config machine.new states.new.items) }
+    ensures told { OnOk result (IsTracedInStates test.now config machine.new states.new.items) }
 
     // A stall changes nothing.
     ensures same { IfOk result (λ told. stalls_told told ≡ 1 → machine.new ≡ machine.old) }
@@ -115,7 +115,7 @@ pub fn tell_or_stall<P: Protocol>(
         entries: left.entries,
         moved: moved_in(machine, test, choice, place),
         forwarded: is_forwarded(cache_use),
-        access: access_in(cache_use),
+        access: access_kind_in(cache_use),
         request: sent.request,
         flushed: sent.flushed,
         wrote_back,
@@ -126,7 +126,7 @@ pub fn tell_or_stall<P: Protocol>(
 
 /// The step of a choice that stalled.
 fn stalled_step(alloc: Global, choice: Choice, stall: Stall) -> Step
-    ensures shown { shown result ≡ stalled_step choice stall }
+    ensures shown_step { shown_step result ≡ stalled_step choice stall }
     ensures outcome { result.outcome ≡ Outcome.Stalled stall }
 {
     Step {
@@ -291,8 +291,8 @@ fn is_forwarded(cache_use: CacheUse) -> bool
     }
 }
 
-fn access_in(cache_use: CacheUse) -> Option<AccessKind>
-    ensures { result ≡ access_in cache_use }
+fn access_kind_in(cache_use: CacheUse) -> Option<AccessKind>
+    ensures { result ≡ access_kind_in cache_use }
 {
     match cache_use {
         CacheUse::Unused | CacheUse::Forwarded => None,
@@ -305,7 +305,7 @@ fn wrote_back_by(cache_use: CacheUse, core: Core, changes: &[StateChange]) -> Op
     ensures { result ≡ wrote_back_by cache_use core.0 changes.now }
 {
     match cache_use {
-        CacheUse::Through(access) if access.wrote_back => left_by(core, changes),
+        CacheUse::Through(access) if access.wrote_back => line_that_left(core, changes),
         CacheUse::Unused | CacheUse::Forwarded | CacheUse::Through(_) => None,
     }
 }

@@ -5,14 +5,14 @@ ghost use Rattle.std.specs.Prelude.{◌≡◌, ◌++◌, OnOk, All, IfSome, Some
 ghost use Rattle.std.specs.Fmt.{decimal};
 ghost use Rattle.scheduler.specs.Printed.{printed_choice};
 ghost use Rattle.order_builder.specs.PrintedOrder.{HasLocation};
-ghost use Rattle.trace_report.specs.Shown.{shown};
+ghost use Rattle.trace_report.specs.Shown.{shown_step};
 ghost use Rattle.protocol_tables.specs.PrintedTable.{line};
 ghost use Rattle.trace_report.specs.Lines.{line_name, entries_text, moved_text, access_text, outcome_name, outcome_text};
 ghost use Rattle.trace_report.specs.Lines.{request_text, flush_text, write_back_text, changes_text};
 ghost use Rattle.trace_report.specs.Lines.{printed_move, printed_request, printed_change};
-ghost use Rattle.trace_report.specs.Lines.{store_text, later_stores, stores_text, buffer_text, done_text, bus_text, left_text};
-ghost use Rattle.trace_report.specs.Lines.{step_line, end_line};
-ghost use Rattle.trace_report.specs.Known.{IsLine, IsAt, IsKnown};
+ghost use Rattle.trace_report.specs.Lines.{store_text, later_stores, stores_text, buffer_text, done_text, bus_traffic_text, left_text};
+ghost use Rattle.trace_report.specs.Lines.{trace_step_line, end_line};
+ghost use Rattle.trace_report.specs.Known.{IsLine, IsAt, StepNamesExist};
 ghost use Rattle.trace_report.specs.Stalls.{stall_line};
 
 use crate::names::{access_name, request_name, stall_name, state_name};
@@ -54,8 +54,8 @@ pub fn write_step(
     number: usize,
     step: &Step,
 ) -> Result<(), NoMemory>
-    requires { IsKnown test.now words (shown step.now) }
-    ensures { OnOk result (string_bytes text.new ≡ string_bytes text.old ++ step_line test.now words number (shown step.now)) }
+    requires { StepNamesExist test.now words (shown_step step.now) }
+    ensures { OnOk result (string_bytes text.new ≡ string_bytes text.old ++ trace_step_line test.now words number (shown_step step.now)) }
 {
     write_outcome(text, number, step.choice, step.outcome)?;
     write_done(text, alloc, test, step)?;
@@ -149,7 +149,7 @@ fn write_number(text: &mut String, number: usize) -> Result<(), NoMemory>
 /// What the choice did to the order and the registers, and by its access.
 fn write_done(text: &mut String, alloc: Global, test: &Test, step: &Step) -> Result<(), NoMemory>
     requires { All (HasLocation test.now) step.now.entries.items }
-    ensures { OnOk result (string_bytes text.new ≡ string_bytes text.old ++ done_text test.now (shown step.now)) }
+    ensures { OnOk result (string_bytes text.new ≡ string_bytes text.old ++ done_text test.now (shown_step step.now)) }
 {
     write_entries(text, alloc, test, &step.entries)?;
     write_moved(text, step.moved)?;
@@ -208,8 +208,8 @@ fn write_access(text: &mut String, access: Option<AccessKind>) -> Result<(), NoM
 
 /// What went on the bus and to memory.
 fn write_bus(text: &mut String, test: &Test, words: u8, step: &Step) -> Result<(), NoMemory>
-    requires { IsKnown test.now words (shown step.now) }
-    ensures { OnOk result (string_bytes text.new ≡ string_bytes text.old ++ bus_text test.now words (shown step.now)) }
+    requires { StepNamesExist test.now words (shown_step step.now) }
+    ensures { OnOk result (string_bytes text.new ≡ string_bytes text.old ++ bus_traffic_text test.now words (shown_step step.now)) }
 {
     write_request(text, test, words, step.request)?;
     write_flush(text, step.flushed)?;
@@ -300,8 +300,8 @@ pub fn write_line_name(
 
 /// The lines whose state changed, and the core's pending stores where they changed.
 fn write_left(text: &mut String, test: &Test, words: u8, step: &Step) -> Result<(), NoMemory>
-    requires { IsKnown test.now words (shown step.now) }
-    ensures { OnOk result (string_bytes text.new ≡ string_bytes text.old ++ left_text test.now words (shown step.now)) }
+    requires { StepNamesExist test.now words (shown_step step.now) }
+    ensures { OnOk result (string_bytes text.new ≡ string_bytes text.old ++ left_text test.now words (shown_step step.now)) }
 {
     write_changes(text, test, words, &step.changes)?;
     if let Some(stores) = &step.buffer {

@@ -48,7 +48,7 @@ fn main(rt: HostRuntime) -> ExitCode {
 fn settings_of_line(rt: &HostRuntime) -> Result<Settings, u8>
     ensures { IfOk result HasDepth }
 {
-    match words_of_line(rt) {
+    match settings_of_arguments(rt) {
         Ok(settings) => Ok(settings),
         Err(LineError::Refused { fault, hint }) => {
             tell_refusal(rt, &fault);
@@ -98,7 +98,7 @@ impl From<io::Error> for LineError {
 }
 
 /// The settings that the process's words give. Whatever name the program's file has, it is called `tso`.
-fn words_of_line(rt: &HostRuntime) -> Result<Settings, LineError>
+fn settings_of_arguments(rt: &HostRuntime) -> Result<Settings, LineError>
     ensures { IfOk result HasDepth }
 {
     let mut lines = Vec::new(rt.alloc());

@@ -1,5 +1,5 @@
 -- What `check` answers, and what that means.
-use Rattle.tso_cli.proofs.Vocabulary.{◌≡◌, ◌≢◌, ℕ, false, ◌<◌, ◌≤◌, ◌^◌, List, [], length, get_or, Some, slice_get, slice_index_or, All, refl, sym, ap, subst, arith, slice_get-get_or, Litmus, IsTest, IsWhole, IsTsoExecution, StandsIn, Run, program_of, Entry, FitsTest, IsExecution, HasWord, HasAccess, IsEntryFor, IsOrderFor, SpellsOrder, HasFault, OrderFault, IsFirstBreach, Breach, ProtocolKind, Configuration, report, Shown, shown_of, IsCheckAnswer, IsJudgement, valid, valid_line, invalid_line, JudgesOrder, JudgesEachOrder, PrintsExecution, Status, Good}
+use Rattle.tso_cli.proofs.Vocabulary.{◌≡◌, ◌≢◌, ℕ, false, ◌<◌, ◌≤◌, ◌^◌, List, [], length, get_or, Some, slice_get, slice_index_or, All, refl, sym, ap, subst, arith, slice_get-get_or, Litmus, IsTest, IsWhole, IsTsoExecution, StandsIn, Run, program_of, Entry, FitsTest, IsExecution, HasWord, HasAccess, IsEntryFor, IsOrderFor, SpellsOrder, HasFault, OrderFault, IsFirstBreach, Breach, ProtocolKind, Configuration, report, ShownRun, shown_of, IsCheckAnswer, IsJudgement, valid, valid_line, invalid_line, JudgesOrder, JudgesEachOrder, PrintsExecution, Status, Good}
 use Rattle.tso_model.specs.declared.execution.Kind.{Kind}
 use Rattle.tso_model.specs.declared.execution.Kind.TheVariants.{R, W, F, LR, LW}
 use Rattle.snoop_bus.specs.Geometry.{IsShapeWithinLimits}
@@ -92,12 +92,12 @@ pub order-for : (t : Litmus) (order : List Entry) → IsTest t → ((e : Entry) 
 order-for t order test fits words = λ k d lt.
     entry-for t (slice_index_or order k d) test (fits _ (k, stands-at order k d lt)) (words k d lt)
 
-pub run-spells : (t : Litmus) (kind : ProtocolKind) (c : Configuration) (r : Run) (s : Shown) (text : List ℕ) → IsTest t → c.depth < 2 ^ 64 → IsShapeWithinLimits c.shape
-    → ((t : Litmus) (kind : ProtocolKind) (c : Configuration) (s : Shown) → IsTest t → c.depth < 2 ^ 64 → IsShapeWithinLimits c.shape → IsOrderFor t s.order → SpellsOrder t (report t kind c s) s.order)
+pub run-spells : (t : Litmus) (kind : ProtocolKind) (c : Configuration) (r : Run) (s : ShownRun) (text : List ℕ) → IsTest t → c.depth < 2 ^ 64 → IsShapeWithinLimits c.shape
+    → ((t : Litmus) (kind : ProtocolKind) (c : Configuration) (s : ShownRun) → IsTest t → c.depth < 2 ^ 64 → IsShapeWithinLimits c.shape → IsOrderFor t s.order → SpellsOrder t (report t kind c s) s.order)
     → ((t : Litmus) (order : List Entry) (e : Entry) → IsTest t → IsWhole t order → StandsIn order e → FitsTest t e)
     → IsExecution t r → s ≡ shown_of t s.counts r → text ≡ report t kind c s → All HasWord s.order → SpellsOrder t text r.commits
 run-spells t kind c r s text test small shape law fits execution same printed words =
-    let order : s.order ≡ r.commits = ap (λ (s : Shown). s.order) same in
+    let order : s.order ≡ r.commits = ap (λ (s : ShownRun). s.order) same in
     let whole : IsWhole t s.order = subst (IsWhole t) (sym order) execution.order.whole in
     let are : IsOrderFor t s.order = order-for t s.order test (λ e stands. fits t s.order e test whole stands) words in
     subst (SpellsOrder t text) order (subst (λ o. SpellsOrder t o s.order) (sym printed) (law t kind c s test small shape are))

@@ -1,5 +1,5 @@
 -- What `run` answers to the choices that `why` prints.
-use Rattle.tso_cli.proofs.Vocabulary.{◌≡◌, ℕ, Bool, List, length, refl, sym, subst, arith, Litmus, IsTest, run, Atomic, Choice, Entry, LeadTo, SpellsTest, depth_of, SpellsChoices, printed_choices, ProtocolKind, Configuration, counts_under, shown_of, Explanation, parts_of, joined, IsWhyAnswer, Status, Good, IsInputAnswer, too_large, refused, answered, IsPrinted, AreReadOneWay}
+use Rattle.tso_cli.proofs.Vocabulary.{◌≡◌, ℕ, Bool, List, length, refl, sym, subst, arith, Litmus, IsTest, run, Atomic, Choice, Entry, LeadTo, SpellsTest, depth_of, SpellsChoices, printed_choices, ProtocolKind, Configuration, counts_under, shown_of, Explanation, parts_of, joined_parts, IsWhyAnswer, Status, Good, IsInputAnswer, too_large, refused, answered, IsPrinted, AreReadOneWay}
 use Rattle.command_line.specs.declared.settings.Settings.TheVariants as settings
 use Rattle.commands.specs.Why.{never, allowed, too_many}
 use Rattle.tso_cli.specs.Explained.{AreRunAgain, IsExplained, never, allowed}
@@ -9,14 +9,14 @@ use Rattle.tso_cli.proofs.WitnessLemmas.{Reaching, choices-few}
 use Rattle.tso_cli.proofs.WhyLemmas.{Refuting, refutation-means, execution-means}
 
 run-again : (kind : ProtocolKind) (c : Configuration) (json : Bool) (test : List ℕ) (t : Litmus) (choices : List Choice) (order : List Entry) → AreReadOneWay → Reaching → c.bus ≡ Atomic
-    → SpellsTest test t → (parts_of (joined test (printed_choices choices)) ≡ record { test = test; rest = printed_choices choices })
+    → SpellsTest test t → (parts_of (joined_parts test (printed_choices choices)) ≡ record { test = test; rest = printed_choices choices })
     → SpellsChoices (length t.programs) (printed_choices choices) choices → LeadTo t c.depth choices order → AreRunAgain kind c json test t choices order
 run-again kind c json test t choices order texts reaching atomic spelled separated spells lead answer status answered_so =
     let fits = texts.test test t spelled in
     let cores = fits.cores in
     let few = choices-few t c.depth choices order reaching fits lead in
     let short = choices-short (length t.programs) choices (omega arith) lead.cores in
-    let answers = replayed-joined kind c json test (printed_choices choices) (joined test (printed_choices choices)) answer status t choices texts refl separated
+    let answers = replayed-joined kind c json test (printed_choices choices) (joined_parts test (printed_choices choices)) answer status t choices texts refl separated
     (omega arith) spelled spells atomic lead.ended answered_so in (
       record {
         shown = shown_of t (counts_under t kind c choices) (run t c.depth choices);
@@ -30,7 +30,7 @@ run-again kind c json test t choices order texts reaching atomic spelled separat
 
 module _ (kind : ProtocolKind) (c : Configuration) (e : Explanation) (json told assert : Bool) (input : List ℕ) (texts : AreReadOneWay) (reaching : Reaching) (laws : Refuting)
     (atomic : c.bus ≡ Atomic) (depth : c.depth ≡ depth_of e.model)
-    (separated : (rest : List ℕ) → parts_of (joined (parts_of input).test rest) ≡ record { test = (parts_of input).test; rest = rest }) where
+    (separated : (rest : List ℕ) → parts_of (joined_parts (parts_of input).test rest) ≡ record { test = (parts_of input).test; rest = rest }) where
   of-a-test : (t : Litmus) (out : List ℕ) (status : Status) → SpellsTest (parts_of input).test t → IsPrinted status → IsWhyAnswer t e told assert out status
       → IsExplained kind c json e.model told (parts_of input).test out
   of-a-test t _ _ spelled good (never nodes refuted) =

@@ -1,5 +1,5 @@
 -- What is counted of a plan's runs fits their test.
-use Rattle.tso_cli.proofs.Vocabulary.{◌≡◌, ℕ, zero, suc, ◌+◌, ◌<◌, Bool, true, false, cond, List, [], ◌∷◌, map, All, slice_index, slice_index_or, Option, Some, None, is_some, refl, sym, subst, ◌∙◌, arith, option_map, nat_cmp, match_ordering, slice_cmp, insert_entry, length-map, All-head, All-tail, All-cons, All-nil, All-map, Litmus, IsTest, Condition, truth_of, registers_in, IsWord, AreRegisters, index_of, Run, table_of, ProtocolKind, Configuration, Named, RunCounts, looked_at, shown_value, values_in, count_of, with_state, with_verdict, ended_in, runs_in, AnswersFit, verdict, choices_of, seeded_run, with_one_run, counts_from, Ascend, ascend-none, sum-with, ascend-run, runs-with, IsStateAt, IsStateOf, SweptCountsFit}
+use Rattle.tso_cli.proofs.Vocabulary.{◌≡◌, ℕ, zero, suc, ◌+◌, ◌<◌, Bool, true, false, cond, List, [], ◌∷◌, map, All, slice_index, slice_index_or, Option, Some, None, is_some, refl, sym, subst, ◌∙◌, arith, option_map, nat_cmp, match_ordering, slice_cmp, insert_entry, length-map, All-head, All-tail, All-cons, All-nil, All-map, Litmus, IsTest, Condition, truth_of, registers_in, IsWord, AreRegisters, index_of, Run, table_of, ProtocolKind, Configuration, Named, RunCounts, looked_at, shown_value, values_in, count_of_runs, with_state_counted, with_verdict, ended_in, runs_in, AnswersFit, verdict, choices_of, seeded_run, with_one_run, counts_from, Ascend, ascend-none, sum-with, ascend-run, runs-with, IsStateAt, IsStateOf, SweptCountsFit}
 use Rattle.std.specs.declared.cmp.Ordering.{Ordering}
 use Rattle.std.specs.declared.cmp.Ordering.TheVariants.{Less, Equal, Greater}
 use Rattle.tso_report.specs.declared.named.Named.TheVariants.{Register, Location}
@@ -82,19 +82,19 @@ states-with : (t : Litmus) (r : Run) (c : RunCounts) → (r.ended ≡ true → I
 states-with t r c law all = by_end r.ended law
   where
     by_end : (b : Bool) → (b ≡ true → IsStateOf t (values_in t (registers_in r.state) r.state.memory))
-        → AreStates t (cond b (with_verdict (verdict t (registers_in r.state) r.state.memory) (with_state (values_in t (registers_in r.state) r.state.memory) c)) (record c { unfinished = c.unfinished + 1 })).states
+        → AreStates t (cond b (with_verdict (verdict t (registers_in r.state) r.state.memory) (with_state_counted (values_in t (registers_in r.state) r.state.memory) c)) (record c { unfinished = c.unfinished + 1 })).states
     by_end true law =
         let v = values_in t (registers_in r.state) r.state.memory in
-        subst (AreStates t) (sym (states-judged (verdict t (registers_in r.state) r.state.memory) (with_state v c))) (one-more t v (count_of v c.states + 1) c.states (law refl) all)
+        subst (AreStates t) (sym (states-judged (verdict t (registers_in r.state) r.state.memory) (with_state_counted v c))) (one-more t v (count_of_runs v c.states + 1) c.states (law refl) all)
     by_end false law = all
 
 judged-run : (t : Litmus) (r : Run) (c : RunCounts) → Ascend c.states → AreJudged t.condition c → AreJudged t.condition (with_one_run t r c)
 judged-run t r c s h = by_end r.ended
   where
-    by_end : (b : Bool) → AreJudged t.condition (cond b (with_verdict (verdict t (registers_in r.state) r.state.memory) (with_state (values_in t (registers_in r.state) r.state.memory) c)) (record c { unfinished = c.unfinished + 1 }))
+    by_end : (b : Bool) → AreJudged t.condition (cond b (with_verdict (verdict t (registers_in r.state) r.state.memory) (with_state_counted (values_in t (registers_in r.state) r.state.memory) c)) (record c { unfinished = c.unfinished + 1 }))
     by_end true =
         let v = values_in t (registers_in r.state) r.state.memory in
-        judged-with (λ (k : Condition). truth_of (registers_in r.state) r.state.memory k.claim) t.condition (with_state v c) (ended_in c) h (sum-with v c.states s)
+        judged-with (λ (k : Condition). truth_of (registers_in r.state) r.state.memory k.claim) t.condition (with_state_counted v c) (ended_in c) h (sum-with v c.states s)
     by_end false = h
 
 kept-with : (t : Litmus) (r : Run) (c : RunCounts) (n : ℕ) → (r.ended ≡ true → IsStateOf t (values_in t (registers_in r.state) r.state.memory)) → Kept t c n → Kept t (with_one_run t r c) (suc n)

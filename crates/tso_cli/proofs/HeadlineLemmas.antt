@@ -1,5 +1,5 @@
 -- The headline holds of each answer.
-use Rattle.tso_cli.proofs.Vocabulary.{◌≡◌, ◌<◌, ◌^◌, ℕ, Bool, List, ◌++◌, length, true, false, Option, Some, None, IfSome, subst, refl, arith, Litmus, IsTest, IsWhole, StandsIn, KeepsAllOrder, Bus, Atomic, Choice, Entry, FitsTest, IsExecution, IsDecided, IsOrderFor, SpellsOrder, Table, table_of, ProtocolKind, Configuration, IsConfigurationWithinLimits, head, report, Shown, IsAnswerTo, IsInputAnswer, IsAnswer, too_large, answered, run_text, IsRunAnswer, ran, IsWithinLimits, parts_of, Plan, PrintsExecution, PrintsEachRun, HeadlineOfRuns, ending_text, traced_in, IsTooLong, IsTraceAnswer, too_long, traced, PrintsTraceIn, PrintsEachTrace, HeadlineOfTraces, PrintsSweep, HeadlineOfSweeps, HeadlineOf, InputHeadline, Headline, run_by, run_under, AnswersFitBy, AnswersFit, counts_under, unfinished_line, report_in, unfinished_in, shown_of, Settings, Status, AreReadOneWay, never-both}
+use Rattle.tso_cli.proofs.Vocabulary.{◌≡◌, ◌<◌, ◌^◌, ℕ, Bool, List, ◌++◌, length, true, false, Option, Some, None, IfSome, subst, refl, arith, Litmus, IsTest, IsWhole, StandsIn, KeepsAllOrder, Bus, Atomic, Choice, Entry, FitsTest, IsExecution, IsDecidedAsChoices, IsOrderFor, SpellsOrder, Table, table_of, ProtocolKind, Configuration, IsConfigurationWithinLimits, head, report, ShownRun, IsAnswerTo, IsInputAnswer, IsAnswer, too_large, answered, run_text, IsRunAnswer, ran, IsWithinLimits, parts_of, Plan, PrintsExecution, PrintsEachRun, HeadlineOfRuns, ending_text, traced_in, IsTooLong, IsTraceAnswer, too_long, traced, PrintsTraceIn, PrintsEachTrace, HeadlineOfTraces, PrintsSweep, HeadlineOfSweeps, HeadlineOf, InputHeadline, Headline, run_by, run_under, AnswersFitBy, AnswersFit, counts_under, unfinished_run_line, report_in, unfinished_in, shown_of, Settings, Status, AreReadOneWay, never-both}
 use Rattle.tso_laws.specs.Words.{HoldsWords}
 use Rattle.snoop_bus.specs.Geometry.{IsShapeWithinLimits as IsShape}
 use Rattle.tso_cli.specs.Answers.{refused}
@@ -53,7 +53,7 @@ prints-none : (t : Litmus) (kind : ProtocolKind) (c : Configuration) (json : Boo
     → HasNotEnded t kind c choices → out ≡ unfinished_in json (run_under t kind c choices).used (run_under t kind c choices).stalled
 prints-none t kind c json choices out text unended = rw unended at text
 
-run-means : (t : Litmus) (kind : ProtocolKind) (c : Configuration) (json : Bool) (text out : List ℕ) (status : Status) → IsDecided (length t.programs) text
+run-means : (t : Litmus) (kind : ProtocolKind) (c : Configuration) (json : Bool) (text out : List ℕ) (status : Status) → IsDecidedAsChoices (length t.programs) text
     → ((choices : List Choice) → AnswersFit t kind c choices → HasEnded t kind c choices → IsExecution t (run_under t kind c choices))
     → ((choices : List Choice) → c.depth ≡ 0 → AnswersFit t kind c choices → HasEnded t kind c choices → KeepsAllOrder (run_under t kind c choices).commits)
     → ((choices : List Choice) (out : List ℕ) → AnswersFit t kind c choices → out ≡ written_of t kind c json choices → HasEnded t kind c choices → Spells t kind c json choices out)
@@ -87,7 +87,7 @@ is-written : (t : Litmus) (kind : ProtocolKind) (c : Configuration) (choices : L
 is-written t kind c choices ended = rw ended refl
 
 is-unfinished : (t : Litmus) (kind : ProtocolKind) (c : Configuration) (choices : List Choice) → HasNotEnded t kind c choices
-    → ending_text t (counts_under t kind c choices) (run_under t kind c choices) ≡ unfinished_line (run_under t kind c choices).used (run_under t kind c choices).stalled
+    → ending_text t (counts_under t kind c choices) (run_under t kind c choices) ≡ unfinished_run_line (run_under t kind c choices).used (run_under t kind c choices).stalled
 is-unfinished t kind c choices unended = rw unended refl
 
 -- what is printed of choices is so, plain or as JSON
@@ -115,7 +115,7 @@ prints-trace true t kind c choices law all spells =
       unended = λ unended. rw unended refl;
     }
 
-trace-means : (t : Litmus) (kind : ProtocolKind) (c : Configuration) (json : Bool) (text out : List ℕ) (status : Status) → IsDecided (length t.programs) text
+trace-means : (t : Litmus) (kind : ProtocolKind) (c : Configuration) (json : Bool) (text out : List ℕ) (status : Status) → IsDecidedAsChoices (length t.programs) text
     → ((choices : List Choice) → AnswersFit t kind c choices → HasEnded t kind c choices → IsExecution t (run_under t kind c choices))
     → ((choices : List Choice) → c.depth ≡ 0 → AnswersFit t kind c choices → HasEnded t kind c choices → KeepsAllOrder (run_under t kind c choices).commits)
     → ((choices : List Choice) (out : List ℕ) → AnswersFit t kind c choices → out ≡ written_of t kind c json choices → HasEnded t kind c choices → Spells t kind c json choices out)
@@ -173,7 +173,7 @@ pub record Runs : Type 0 where
       → (run_by c.bus table c t choices).ended ≡ true → KeepsAllOrder (run_by c.bus table c t choices).commits
   pub atomic : (table : Table) (c : Configuration) (t : Litmus) (choices : List Choice) → c.bus ≡ Atomic → AnswersFitBy table c t choices
   pub fits : (t : Litmus) (order : List Entry) (e : Entry) → IsTest t → IsWhole t order → StandsIn order e → FitsTest t e
-  pub report_spells : (t : Litmus) (kind : ProtocolKind) (c : Configuration) (s : Shown) → IsTest t → c.depth < 2 ^ 64 → IsShape c.shape → IsOrderFor t s.order → SpellsOrder t (report t kind c s) s.order
+  pub report_spells : (t : Litmus) (kind : ProtocolKind) (c : Configuration) (s : ShownRun) → IsTest t → c.depth < 2 ^ 64 → IsShape c.shape → IsOrderFor t s.order → SpellsOrder t (report t kind c s) s.order
 
 pub report-spells : (t : Litmus) (kind : ProtocolKind) (c : Configuration) (json : Bool) (choices : List Choice) (out : List ℕ) → Runs → IsTest t → IsConfigurationWithinLimits c
     → AnswersFit t kind c choices → out ≡ written_of t kind c json choices → HasEnded t kind c choices → Spells t kind c json choices out

@@ -1,5 +1,5 @@
 -- On the atomic bus the protocol and the shape of the caches change two kinds of lines alone.
-use Rattle.tso_cli.proofs.Vocabulary.{◌≡◌, ◌<◌, ◌==◌, ◌+◌, ℕ, zero, suc, Bool, true, false, cond, List, [], ◌∷◌, ◌++◌, length, Some, codes, refl, sym, ap, subst, ◌∙◌, inl, inr, append_assoc, arith, decimal, Litmus, IsTest, registers_in, Run, run, Choice, IsDecided, TooMany, table_of, ProtocolKind, Configuration, printed_order, Shown, line, head, body, test_line, machine_line, register_lines, memory_line, condition_line, choices_line, cache_lines, report, RunCounts, tally_text, Plan, parts_of, EndsInFeed, input_refusal, test_refusal, choices_refusal, unfinished_line, report_in, unfinished_in, run_under, counts_under, shown_of, verdict, sweep_status, IsSweepAnswer, choices_of, seeded_run, with_one_run, counts_from, sweep_counts, IsAnswerTo, IsInputAnswer, IsAnswer, too_large, answered, run_text, run_status, status_under, IsRunAnswer, ran, ending_text, IsTraceAnswer, traced, traced_in, FitsForm, IsTooLong, too_long, trace_text, trace_under, json_ended, json_unended, AreReadOneWay, Settings, Status, Good, Refused, Unended, atomic-run, counts-each, never-both, one-word}
+use Rattle.tso_cli.proofs.Vocabulary.{◌≡◌, ◌<◌, ◌==◌, ◌+◌, ℕ, zero, suc, Bool, true, false, cond, List, [], ◌∷◌, ◌++◌, length, Some, codes, refl, sym, ap, subst, ◌∙◌, inl, inr, append_assoc, arith, decimal, Litmus, IsTest, registers_in, Run, run, Choice, IsDecidedAsChoices, TooMany, table_of, ProtocolKind, Configuration, printed_order, ShownRun, line, head, body, test_line, machine_line, register_lines, memory_line, condition_line, choices_line, cache_lines, report, RunCounts, tally_text, Plan, parts_of, EndsInFeed, input_refusal, test_refusal, choices_refusal, unfinished_run_line, report_in, unfinished_in, run_under, counts_under, shown_of, verdict, sweep_status, IsSweepAnswer, choices_of, seeded_run, with_one_run, counts_from, sweep_counts, IsAnswerTo, IsInputAnswer, IsAnswer, too_large, answered, run_text, run_status, status_under, IsRunAnswer, ran, ending_text, IsTraceAnswer, traced, traced_in, FitsForm, IsTooLong, too_long, trace_text, trace_under, json_ended, json_unended, AreReadOneWay, Settings, Status, Good, Refused, Unended, atomic-run, counts-each, never-both, one-word}
 use Rattle.std.proofs.Common.{append-nil}
 use Rattle.machine_core.specs.declared.counts.Counts.{Counts}
 use Rattle.tso_report.specs.Json.{json_report}
@@ -9,7 +9,7 @@ use Rattle.tso_cli.specs.Answers.{refused}
 use Rattle.commands.specs.Answers.{text_under, refused}
 use Rattle.tso_cli.specs.Machines.{AreAtomicAtOneDepth, DifferInLines, DifferInMembers, ReportsDiffer, RunsAnswerAlike, TracesDiffer, TracesAnswerAlike, SweepsAnswerAlike, TracesDifferIn}
 use Rattle.commands.specs.Trace.{traced_text, refused, object_text}
-use Rattle.trace_report.specs.Shown.{Shown as Step}
+use Rattle.trace_report.specs.Shown.{ShownStep as Step}
 
 -- ---- a report as one text with two places
 
@@ -23,7 +23,7 @@ ends-test : (t : Litmus) → EndsInFeed (test_line t)
 ends-test t = ends-after (codes "Test ") (line t.name) (ends-line t.name)
 
 -- the lines between the machine's and the caches'
-abbrev middle_lines : Litmus → Shown → List ℕ
+abbrev middle_lines : Litmus → ShownRun → List ℕ
 middle_lines t s =
     printed_order t s.order ++ (register_lines 0 s.registers ++ (memory_line t s.memory ++ (condition_line t s.holds ++ choices_line s.used s.stalled s.unused)))
 
@@ -32,7 +32,7 @@ ends-choices used stalled unused =
     ends-after (codes "Choices used=") _ (ends-after (decimal used) _ (ends-after (codes " stalled=") _ (ends-after (decimal stalled) _
     (ends-after (codes " unused=") (line (decimal unused)) (ends-line (decimal unused))))))
 
-ends-middle : (t : Litmus) (s : Shown) → EndsInFeed (middle_lines t s)
+ends-middle : (t : Litmus) (s : ShownRun) → EndsInFeed (middle_lines t s)
 ends-middle t s =
     ends-after (printed_order t s.order) _ (ends-after (register_lines 0 s.registers) _ (ends-after (memory_line t s.memory) _
     (ends-after (condition_line t s.holds) _ (ends-choices s.used s.stalled s.unused))))
@@ -43,7 +43,7 @@ regrouped a b c d e f = sym (
     ∙ ap (λ (x : List ℕ). a ++ x) (append_assoc b (c ++ (d ++ e)) f
     ∙ ap (λ (x : List ℕ). b ++ x) (append_assoc c (d ++ e) f ∙ ap (λ (x : List ℕ). c ++ x) (append_assoc d e f))))
 
-report-is : (t : Litmus) (kind : ProtocolKind) (c : Configuration) (s : Shown)
+report-is : (t : Litmus) (kind : ProtocolKind) (c : Configuration) (s : ShownRun)
     → report t kind c s ≡ test_line t ++ (machine_line kind c ++ (middle_lines t s ++ cache_lines 0 s.counts))
 report-is t kind c s =
     ap (λ (x : List ℕ). (test_line t ++ machine_line kind c) ++ x)
@@ -107,7 +107,7 @@ never-refused : (b : Bool) → cond b Good Unended ≡ Refused → ⊥
 never-refused true h = let no : ⊥ = cc in no
 never-refused false h = let no : ⊥ = cc in no
 
-ends-unfinished : (used stalled : ℕ) → EndsInFeed (unfinished_line used stalled)
+ends-unfinished : (used stalled : ℕ) → EndsInFeed (unfinished_run_line used stalled)
 ends-unfinished used stalled =
     ends-after (codes "Unfinished used=") _ (ends-after (decimal used) _ (ends-after (codes " stalled=") (line (decimal stalled)) (ends-line (decimal stalled))))
 
@@ -120,7 +120,7 @@ refusals-alike : (json : Bool) (kind other : ProtocolKind) (c d : Configuration)
 refusals-alike json kind other c d out again same = record { status = refl; ended = λ good. absurd (let no : ⊥ = cc in no); otherwise = λ not_good. same }
 
 run-answers-alike : (t : Litmus) (kind other : ProtocolKind) (c d : Configuration) (json : Bool) (text out again : List ℕ) (status too : Status)
-    → IsDecided (length t.programs) text → AreAtomicAtOneDepth c d → IsRunAnswer t kind c json text out status → IsRunAnswer t other d json text again too
+    → IsDecidedAsChoices (length t.programs) text → AreAtomicAtOneDepth c d → IsRunAnswer t kind c json text out status → IsRunAnswer t other d json text again too
     → RunsAnswerAlike json kind other c d out again status too
 run-answers-alike t kind other c d json text _ _ _ _ law shape (refused f h) (refused g k) =
     refusals-alike json kind other c d (choices_refusal f) (choices_refusal g) (ap choices_refusal (law.one_refusal f g h k))
@@ -146,8 +146,8 @@ module _ (t : Litmus) (kind other : ProtocolKind) (c d : Configuration) (steps o
   no-end text = sym (append-nil text)
 
   traces-differ : (b : Bool) → TracesDiffer kind other c d
-      (trace_with kind c steps (cond b (body t (shown_of t counts r)) (unfinished_line r.used r.stalled)))
-      (trace_with other d other_steps (cond b (body t (shown_of t others r)) (unfinished_line r.used r.stalled)))
+      (trace_with kind c steps (cond b (body t (shown_of t counts r)) (unfinished_run_line r.used r.stalled)))
+      (trace_with other d other_steps (cond b (body t (shown_of t others r)) (unfinished_run_line r.used r.stalled)))
   traces-differ true = record {
     t = t;
     steps = steps;
@@ -164,13 +164,13 @@ module _ (t : Litmus) (kind other : ProtocolKind) (c d : Configuration) (steps o
     t = t;
     steps = steps;
     other_steps = other_steps;
-    rest = unfinished_line r.used r.stalled;
+    rest = unfinished_run_line r.used r.stalled;
     counts = [];
     others = [];
     whole_lines = ends-unfinished r.used r.stalled;
     cores = refl;
-    first = ap (λ (ending : List ℕ). trace_with kind c steps ending) (no-end (unfinished_line r.used r.stalled));
-    second = ap (λ (ending : List ℕ). trace_with other d other_steps ending) (no-end (unfinished_line r.used r.stalled));
+    first = ap (λ (ending : List ℕ). trace_with kind c steps ending) (no-end (unfinished_run_line r.used r.stalled));
+    second = ap (λ (ending : List ℕ). trace_with other d other_steps ending) (no-end (unfinished_run_line r.used r.stalled));
   }
 
   traced-alike : TracesAnswerAlike false kind other c d (trace_with kind c steps (ending_text t counts r)) (trace_with other d other_steps (ending_text t others r)) (run_status r) (run_status r)
@@ -220,7 +220,7 @@ one-trace-alike true t kind other c d choices shape =
     (objects-alike t kind other c d choices (counts_under t kind c choices) counts (same-cores t kind other c d choices) (run_under t kind c choices))
 
 trace-answers-alike : (t : Litmus) (kind other : ProtocolKind) (c d : Configuration) (json : Bool) (text out again : List ℕ) (status too : Status) → 0 < length t.programs
-    → IsDecided (length t.programs) text → AreAtomicAtOneDepth c d → IsTraceAnswer t kind c json text out status → IsTraceAnswer t other d json text again too
+    → IsDecidedAsChoices (length t.programs) text → AreAtomicAtOneDepth c d → IsTraceAnswer t kind c json text out status → IsTraceAnswer t other d json text again too
     → TracesAnswerAlike json kind other c d out again status too
 trace-answers-alike t kind other c d json text _ _ _ _ some law shape (refused f h) (refused g k) =
     trace-refusals-alike json kind other c d (choices_refusal f) (choices_refusal g) (ap choices_refusal (law.one_refusal f g h k))

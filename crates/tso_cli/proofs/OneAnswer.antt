@@ -1,5 +1,5 @@
 -- There is one answer to an input.
-use Rattle.tso_cli.proofs.Vocabulary.{◌≡◌, ◌≤◌, ◌<◌, ◌^◌, ℕ, Bool, List, length, Some, refl, sym, ◌∙◌, ap, subst, arith, Litmus, IsTest, Entry, IsDecided, TooMany, ProtocolKind, Configuration, parts_of, run_under, counts_under, test_refusal, choices_refusal, order_refusal, invalid_line, IsAnswerTo, IsInputAnswer, IsAnswer, too_large, answered, run_text, run_status, IsRunAnswer, IsJudgement, IsCheckAnswer, ran, valid, traced_in, IsTooLong, IsTraceAnswer, too_long, traced, IsWitness, IsWitnessAnswer, reached, too_small, Settings, Status, GivesOneAnswer, AreReadOneWay, one-word, never-both}
+use Rattle.tso_cli.proofs.Vocabulary.{◌≡◌, ◌≤◌, ◌<◌, ◌^◌, ℕ, Bool, List, length, Some, refl, sym, ◌∙◌, ap, subst, arith, Litmus, IsTest, Entry, IsDecidedAsChoices, TooMany, ProtocolKind, Configuration, parts_of, run_under, counts_under, test_refusal, choices_refusal, order_refusal, invalid_line, IsAnswerTo, IsInputAnswer, IsAnswer, too_large, answered, run_text, run_status, IsRunAnswer, IsJudgement, IsCheckAnswer, ran, valid, traced_in, IsTooLong, IsTraceAnswer, too_long, traced, IsWitness, IsWitnessAnswer, reached, too_small, Settings, Status, GivesOneAnswer, AreReadOneWay, one-word, never-both}
 use Rattle.tso_cli.specs.Answers.{refused}
 use Rattle.commands.specs.Answers.{refused, judged, invalid}
 use Rattle.commands.specs.Trace.{refused}
@@ -11,7 +11,7 @@ use Rattle.commands.proofs.DividingLemmas.{rest_within}
 abbrev pub Same : List ℕ → List ℕ → Status → Status → Type 0
 Same out other status again = (out ≡ other) × (status ≡ again)
 
-one_run_answer : (t : Litmus) (kind : ProtocolKind) (c : Configuration) (json : Bool) (text out other : List ℕ) (status again : Status) → IsDecided (length t.programs) text
+one_run_answer : (t : Litmus) (kind : ProtocolKind) (c : Configuration) (json : Bool) (text out other : List ℕ) (status again : Status) → IsDecidedAsChoices (length t.programs) text
     → IsRunAnswer t kind c json text out status → IsRunAnswer t kind c json text other again → Same out other status again
 one_run_answer t kind c json text _ _ _ _ law (refused f h) (refused g k) = (ap choices_refusal (law.one_refusal f g h k), refl)
 one_run_answer t kind c json text _ _ _ _ law (refused f h) (ran choices spelled fit) = absurd (law.never_both choices f spelled h)
@@ -21,7 +21,7 @@ one_run_answer t kind c json text _ _ _ _ law (ran choices spelled fit) (ran oth
     (ap (λ cs. run_text t kind c json (counts_under t kind c cs) (run_under t kind c cs)) same, ap (λ cs. run_status (run_under t kind c cs)) same)
 
 one_trace_answer : (t : Litmus) (kind : ProtocolKind) (c : Configuration) (json : Bool) (text out other : List ℕ) (status again : Status) → 0 < length t.programs
-    → IsDecided (length t.programs) text → IsTraceAnswer t kind c json text out status → IsTraceAnswer t kind c json text other again → Same out other status again
+    → IsDecidedAsChoices (length t.programs) text → IsTraceAnswer t kind c json text out status → IsTraceAnswer t kind c json text other again → Same out other status again
 one_trace_answer t kind c json text _ _ _ _ some law (refused f h) (refused g k) = (ap choices_refusal (law.one_refusal f g h k), refl)
 one_trace_answer t kind c json text _ _ _ _ some law (refused f h) (too_long choices word spelled long is) = absurd (law.never_both choices f spelled h)
 one_trace_answer t kind c json text _ _ _ _ some law (refused f h) (traced choices spelled fit short) = absurd (law.never_both choices f spelled h)

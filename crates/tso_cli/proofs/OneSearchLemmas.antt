@@ -1,5 +1,5 @@
 -- What the headline decides of `outcomes`.
-use Rattle.tso_cli.proofs.Vocabulary.{◌≡◌, ◌∙◌, ◌<◌, ◌≤◌, ◌⊎◌, inl, inr, ℕ, Bool, true, false, List, [], ◌∷◌, ◌++◌, map, length, Contains, Option, Some, None, refl, sym, ap, subst, ForSome, nat_cmp, slice_cmp, IsStrictlySortedBy, length-map, Litmus, IsTest, Condition, Choice, SpellsTest, TextFault, test_line, Named, named_in, verdict_line, verdict_value, Outcome, shown_values, held_in, failed_in, is_met_in, outcomes_in, AreAlike, OutcomesOfTheSameValuesAreAlike, Search, longest_input, Parts, parts_of, test_refusal, AreAllOutcomes, HeadlineOfOutcomes, all, PartsHeadline, InputHeadline, AreReadOneWay}
+use Rattle.tso_cli.proofs.Vocabulary.{◌≡◌, ◌∙◌, ◌<◌, ◌≤◌, ◌⊎◌, inl, inr, ℕ, Bool, true, false, List, [], ◌∷◌, ◌++◌, map, length, Contains, Option, Some, None, refl, sym, ap, subst, ForSome, nat_cmp, slice_cmp, IsStrictlySortedBy, length-map, Litmus, IsTest, Condition, Choice, SpellsTest, TextFault, test_line, Named, names_shown, verdict_line, outcomes_verdict_value, Outcome, shown_values, held_in, failed_in, is_met_in, outcomes_in, OutcomesAreAlike, OutcomesOfTheSameValuesAreAlike, Search, longest_input, Parts, parts_of, test_refusal, AreAllOutcomes, HeadlineOfOutcomes, all, PartsHeadline, InputHeadline, AreReadOneWay}
 use Rattle.litmus_reader.specs.Spelling.{IsRefused as IsRefusedTest}
 use Rattle.outcome_report.specs.Outcomes.{true_in, outcomes_line, state_line, by_line, outcome_lines, observation_line, true_line, condition_lines}
 use Rattle.outcome_report.specs.OutcomesJson.{state_value, holds_in, observation_value}
@@ -58,7 +58,7 @@ observed-value None a b held failed = refl
 observed-value (Some c) a b held failed = rw (held c refl, failed c refl) refl
 
 module _ (t : Litmus) (names : List Named) (depth : ℕ) (outcomes others : List Outcome) (same : values_of names outcomes ≡ values_of names others)
-    (alike : AreAlike t names (without outcomes) (without others)) where
+    (alike : OutcomesAreAlike t names (without outcomes) (without others)) where
   met : is_met_in t.condition (without outcomes) ≡ is_met_in t.condition (without others)
   met = same-met t.condition (without outcomes) (without others) alike.held alike.failed
 
@@ -81,7 +81,7 @@ module _ (t : Litmus) (names : List Named) (depth : ℕ) (outcomes others : List
       let states = states-are (state_value t names) t names outcomes ∙ ap (λ vs. made_of value vs (map (holds_in t.condition) (without outcomes))) same
       ∙ ap (made_of value (values_of names others)) alike.holds ∙ sym (states-are (state_value t names) t names others) in
       let observation = observed-value t.condition (without outcomes) (without others) alike.held alike.failed in
-      let verdict = ap (verdict_value t.condition) met in
+      let verdict = ap (outcomes_verdict_value t.condition) met in
       rw (observation, verdict, states) refl
 
   in-either : (form : Bool) → outcomes_in form t names depth (without outcomes) ≡ outcomes_in form t names depth (without others)
@@ -98,7 +98,7 @@ one-search : (test : List ℕ) (t : Litmus) (s : Search) (json again : Bool) (ou
 one-search test t s json again out other law is spelled (too_many more line) q = first_shows_none t spelled (record { more = more; printed = line })
 one-search test t s json again out other law is spelled (all p) (too_many more line) = second_shows_none t spelled (record { more = more; printed = line })
 one-search test t s json again out other law is spelled (all p) (all q) =
-    let names = named_in s.show t in
+    let names = names_shown s.show t in
     let there = each-there t names s.depth p.outcomes q.outcomes p.all q.all in
     let back = each-there t names s.depth q.outcomes p.outcomes q.all p.all in
     let alike = law s.show t p.outcomes q.outcomes is p.all.ascending q.all.ascending (λ values. (there values, back values)) in

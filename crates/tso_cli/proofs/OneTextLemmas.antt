@@ -1,5 +1,5 @@
 -- What the headline decides by itself.
-use Rattle.tso_cli.proofs.Vocabulary.{◌≡◌, ◌<◌, ◌≤◌, ◌^◌, ◌+◌, ◌⊎◌, inl, inr, ℕ, zero, suc, Bool, true, false, cond, List, ◌++◌, length, Option, Some, None, IfSome, Contains, refl, sym, ap, subst, ◌∙◌, arith, keys_of, bytes_eq-Decides, Litmus, IsTest, Condition, IsTsoExecution, final_words, final_registers, Run, run, Bus, Atomic, Split, Choice, Entry, SpellsTest, TextFault, SpellsChoices, IsRefusedAsChoices, IsDecided, TooMany, SpellsOrder, HasFault, OrderFault, IsFirstBreach, Breach, ProtocolKind, Configuration, head, observation, state_lines, sweep_line, ended_in, run_counts, Plan, longest_input, Parts, parts_of, test_refusal, choices_refusal, order_refusal, invalid_line, verdict, sweep_lines, PrintsExecution, PrintsEachRun, HeadlineOfRuns, seeded_order, values_after, has_values, has_truth, seeds_from, seeds_with, PrintsSweep, HeadlineOfSweeps, JudgesOrder, JudgesEachOrder, WitnessesOrder, WitnessesEachOrder, unreached, broken, HeadlineOf, PartsHeadline, InputHeadline, ShowOneExecution, AreOneRun, AreOneTrace, AreOneWitness, PrintsEachTrace, HeadlineOfTraces, PrintsTrace, PrintsTracedObject, PrintsTraceIn, trace_text, trace_under, FitsForm, IsTooLong, AreReadOneWay, Settings, too-long-or-not, one-word}
+use Rattle.tso_cli.proofs.Vocabulary.{◌≡◌, ◌<◌, ◌≤◌, ◌^◌, ◌+◌, ◌⊎◌, inl, inr, ℕ, zero, suc, Bool, true, false, cond, List, ◌++◌, length, Option, Some, None, IfSome, Contains, refl, sym, ap, subst, ◌∙◌, arith, keys_of, bytes_eq-Decides, Litmus, IsTest, Condition, IsTsoExecution, final_words, final_registers, Run, run, Bus, Atomic, Split, Choice, Entry, SpellsTest, TextFault, SpellsChoices, IsRefusedAsChoices, IsDecidedAsChoices, TooMany, SpellsOrder, HasFault, OrderFault, IsFirstBreach, Breach, ProtocolKind, Configuration, head, observation, counted_state_lines, sweep_line, ended_in, run_counts, Plan, longest_input, Parts, parts_of, test_refusal, choices_refusal, order_refusal, invalid_line, verdict, sweep_lines, PrintsExecution, PrintsEachRun, HeadlineOfRuns, seeded_order, final_values, has_values, has_truth, seeds_from, seeds_with, PrintsSweep, HeadlineOfSweeps, JudgesOrder, JudgesEachOrder, WitnessesOrder, WitnessesEachOrder, unreached, broken, HeadlineOf, PartsHeadline, InputHeadline, ShowOneExecution, AreOneRun, AreOneTrace, AreOneWitness, PrintsEachTrace, HeadlineOfTraces, PrintsTrace, PrintsTracedObject, PrintsTraceIn, trace_text, trace_under, FitsForm, IsTooLong, AreReadOneWay, Settings, too-long-or-not, one-word}
 use Rattle.litmus_reader.specs.Spelling.{IsRefused as IsRefusedTest, IsDecided as IsDecidedTest}
 use Rattle.scheduler.specs.declared.fault.ChoiceFault.{ChoiceFault}
 use Rattle.tso_cli.specs.SplitRun.{split_run}
@@ -35,7 +35,7 @@ module _ (t : Litmus) (kind : ProtocolKind) (c : Configuration) (json : Bool) (o
         holds = p.condition ∙ ap (λ (r : List (List ℕ)). verdict t r p.shown.memory) registers ∙ ap (λ (m : List ℕ). verdict t q.shown.registers m) memory ∙ sym q.condition;
       }
 
-  one-run : (run_of : List Choice → Run) (text : List ℕ) → IsDecided (length t.programs) text → PrintsEachRun t kind c json run_of text out → PrintsEachRun t kind c json run_of text other
+  one-run : (run_of : List Choice → Run) (text : List ℕ) → IsDecidedAsChoices (length t.programs) text → PrintsEachRun t kind c json run_of text out → PrintsEachRun t kind c json run_of text other
       → AreOneRun kind c json out other
   one-run run_of text decided p q = by_text decided.always
     where
@@ -51,7 +51,7 @@ module _ (t : Litmus) (kind : ProtocolKind) (c : Configuration) (json : Bool) (o
           let second = q.every_other none in
           inl (first.2 ∙ ap choices_refusal (decided.one_refusal first.0 second.0 first.1 second.1) ∙ sym second.2)
 
-  one-run-on-either : (text : List ℕ) → IsDecided (length t.programs) text → HeadlineOfRuns t kind c json text out → HeadlineOfRuns t kind c json text other → AreOneRun kind c json out other
+  one-run-on-either : (text : List ℕ) → IsDecidedAsChoices (length t.programs) text → HeadlineOfRuns t kind c json text out → HeadlineOfRuns t kind c json text other → AreOneRun kind c json out other
   one-run-on-either text decided p q = by_bus c.bus refl
     where
       by_bus : (b : Bus) → c.bus ≡ b → AreOneRun kind c json out other
@@ -111,7 +111,7 @@ module _ (t : Litmus) (kind : ProtocolKind) (c : Configuration) (out other : Lis
   one-in false r choices p q = one-told r choices r.ended refl p q
   one-in true r choices p q = one-object r choices r.ended refl p q
 
-  one-trace : (json : Bool) (run_of : List Choice → Run) (text : List ℕ) → 0 < length t.programs → IsDecided (length t.programs) text
+  one-trace : (json : Bool) (run_of : List Choice → Run) (text : List ℕ) → 0 < length t.programs → IsDecidedAsChoices (length t.programs) text
       → PrintsEachTrace t kind c json run_of text out → PrintsEachTrace t kind c json run_of text other → AreOneTrace kind c json out other
   one-trace json run_of text some decided p q = by_text decided.always
     where
@@ -130,7 +130,7 @@ module _ (t : Litmus) (kind : ProtocolKind) (c : Configuration) (out other : Lis
           let second = q.every_other none in
           same-text kind c json out other (first.2 ∙ ap choices_refusal (decided.one_refusal first.0 second.0 first.1 second.1) ∙ sym second.2)
 
-  one-trace-on-either : (json : Bool) (text : List ℕ) → 0 < length t.programs → IsDecided (length t.programs) text
+  one-trace-on-either : (json : Bool) (text : List ℕ) → 0 < length t.programs → IsDecidedAsChoices (length t.programs) text
       → HeadlineOfTraces t kind c json text out → HeadlineOfTraces t kind c json text other → AreOneTrace kind c json out other
   one-trace-on-either json text some decided p q = by_bus c.bus refl
     where
@@ -157,9 +157,9 @@ seed-found test from (suc seeds) some = by (test (from + seeds)) refl some (seed
     by false is some earlier = let found = earlier (omega arith) in (found.0, (let below = found.1 in omega arith), found.2)
 
 passed-there : (t : Litmus) (v : List ℕ) (keys : List (List ℕ)) (o : Option (List Entry)) → has_values t v o ≡ true
-    → IfSome o (λ order. Contains keys (values_after t order)) → Contains keys v
+    → IfSome o (λ order. Contains keys (final_values t order)) → Contains keys v
 passed-there t v keys None passed there = absurd (let no : ⊥ = cc in no)
-passed-there t v keys (Some order) passed there = subst (λ (w : List ℕ). Contains keys w) (sym ((bytes_eq-Decides v (values_after t order)).0 passed)) there
+passed-there t v keys (Some order) passed there = subst (λ (w : List ℕ). Contains keys w) (sym ((bytes_eq-Decides v (final_values t order)).0 passed)) there
 
 has-all : (t : Litmus) (kind : ProtocolKind) (c : Configuration) (plan : Plan) (run_of : List Choice → Run) (out : List ℕ) (p : PrintsSweep t kind c plan run_of out) (v : List ℕ)
     → 0 < seeds_with t run_of plan (has_values t v) → Contains (keys_of p.counts.states) v
@@ -183,7 +183,7 @@ one-sweep t kind c plan run_of out other p q =
     p.printed
     ∙ ap (λ s. sweep_lines t kind c plan (run_counts s held failed p.counts.unfinished)) states
     ∙ ap (λ (n : ℕ). sweep_lines t kind c plan (run_counts counts.states held failed n)) unfinished
-    ∙ ap (λ (l : List ℕ). head t kind c ++ (sweep_line (ended_in counts) counts.unfinished plan.from plan.length ++ (state_lines t counts.states ++ l))) last
+    ∙ ap (λ (l : List ℕ). head t kind c ++ (sweep_line (ended_in counts) counts.unfinished plan.from plan.length ++ (counted_state_lines t counts.states ++ l))) last
     ∙ sym q.printed
 
 one-sweep-on-either : (t : Litmus) (kind : ProtocolKind) (c : Configuration) (plan : Plan) (out other : List ℕ)

@@ -1,5 +1,5 @@
 -- What the answer of a search means.
-use Rattle.tso_cli.proofs.Vocabulary.{◌≡◌, ◌∙◌, ◌≤◌, ℕ, zero, suc, Bool, List, [], map, length, Contains, refl, ap, subst, arith, append-nil, All-weaker, All-contains, most_depth, Litmus, IsTest, IsTsoExecution, final_words, final_registers, Entry, SpellsChoices, printed_choices, Named, named_in, values_at, Outcome, shown_values, Search, AreAllOutcomes, IsOutcomesAnswer, found, HeadlineOfOutcomes, all, Status, Leads, made-of}
+use Rattle.tso_cli.proofs.Vocabulary.{◌≡◌, ◌∙◌, ◌≤◌, ℕ, zero, suc, Bool, List, [], map, length, Contains, refl, ap, subst, arith, append-nil, All-weaker, All-contains, most_depth, Litmus, IsTest, IsTsoExecution, final_words, final_registers, Entry, SpellsChoices, printed_choices, Named, names_shown, values_at, Outcome, shown_values, Search, AreAllOutcomes, IsOutcomesAnswer, found, HeadlineOfOutcomes, all, Status, Leads, made-of}
 use Rattle.outcome_laws.specs.Outcomes.{IsEnd, IsSequentiallyConsistent, EndsAreWhatTsoAllows, ChoicesToAnEndAreCounted}
 use Rattle.commands.specs.Outcomes.{too_many}
 use Rattle.tso_cli.specs.OutcomesHeadline.{shown_after, AreExactly, too_many}
@@ -84,8 +84,8 @@ outcomes-mean t s json assert _ _ reaching searches test (found outcomes are) =
       outcomes = outcomes;
       printed = refl;
       all = are;
-      tso = λ greatest. exactly-tso t (named_in s.show t) outcomes searches.ends test (subst (λ depth. AreAllOutcomes t (named_in s.show t) depth outcomes) greatest are);
-      sequential = λ none. exactly-sequential t (named_in s.show t) outcomes searches.ends test (subst (λ depth. AreAllOutcomes t (named_in s.show t) depth outcomes) none are);
+      tso = λ greatest. exactly-tso t (names_shown s.show t) outcomes searches.ends test (subst (λ depth. AreAllOutcomes t (names_shown s.show t) depth outcomes) greatest are);
+      sequential = λ none. exactly-sequential t (names_shown s.show t) outcomes searches.ends test (subst (λ depth. AreAllOutcomes t (names_shown s.show t) depth outcomes) none are);
       spelled = All-weaker (Leads t s.depth) (λ o. SpellsChoices (length t.programs) (printed_choices o.choices) o.choices)
           (λ o lead. choices-spell t s.depth o reaching searches test lead) outcomes are.reached;
     })

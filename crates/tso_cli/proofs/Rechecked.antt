@@ -1,5 +1,5 @@
 -- The report of a run is short, and what `check` answers to it.
-use Rattle.tso_cli.proofs.Vocabulary.{◌≡◌, ◌+◌, ◌-◌, ◌*◌, ◌≤◌, ◌^◌, ℕ, suc, Bool, true, false, cond, List, [], ◌∷◌, ◌++◌, length, All, slice_index, slice_index_or, drop, length-append, codes, refl, sym, ap, subst, ◌∙◌, arith, All-map, All-head, All-tail, All-weaker, SpellsOrder, Litmus, IsTest, IsProgram, AreRegisters, made_by, made_from, IsTsoExecution, read_values, registers_from, start, Run, has_ended, stall_count, Bus, Instr, StoreImm, StoreReg, Load, SetImm, SetReg, Fence, Xchg, Xadd, Entry, Choice, IsExecution, SpellsTest, Table, table_of, ProtocolKind, Configuration, IsConfigurationWithinLimits, report, Shown, Parts, parts_of, joined, valid_line, run_by, run_under, AnswersFit, counts_under, shown_of, IsInputAnswer, too_large, answered, run_text, run_status, IsRunAnswer, IsCheckAnswer, ran, Status, Good, Unended, attempts_in, length-in, run-is, RunLaws, counts-each, counts-few, AreReadOneWay}
+use Rattle.tso_cli.proofs.Vocabulary.{◌≡◌, ◌+◌, ◌-◌, ◌*◌, ◌≤◌, ◌^◌, ℕ, suc, Bool, true, false, cond, List, [], ◌∷◌, ◌++◌, length, All, slice_index, slice_index_or, drop, length-append, codes, refl, sym, ap, subst, ◌∙◌, arith, All-map, All-head, All-tail, All-weaker, SpellsOrder, Litmus, IsTest, IsProgram, AreRegisters, made_by, made_from, IsTsoExecution, read_values, registers_from, start, Run, has_ended, stall_count, Bus, Instr, StoreImm, StoreReg, Load, SetImm, SetReg, Fence, Xchg, Xadd, Entry, Choice, IsExecution, SpellsTest, Table, table_of, ProtocolKind, Configuration, IsConfigurationWithinLimits, report, ShownRun, Parts, parts_of, joined_parts, valid_line, run_by, run_under, AnswersFit, counts_under, shown_of, IsInputAnswer, too_large, answered, run_text, run_status, IsRunAnswer, IsCheckAnswer, ran, Status, Good, Unended, attempts_in, length-in, run-is, RunLaws, counts-each, counts-few, AreReadOneWay}
 use Rattle.tso_model.specs.Thread.{entries_of, with_value, value_in}
 use Rattle.tso_model.specs.SplitMachine.{Attempt}
 use Rattle.tso_model.specs.EitherBus.{BusState, unheld, effect_on, after_on, run_on_from, resting_on, then_on}
@@ -105,7 +105,7 @@ small-run t kind c choices laws runs test few fit ended =
 
 -- what is known of reports, as this file uses it
 abbrev pub AreShort : Type 0
-AreShort = (t : Litmus) (kind : ProtocolKind) (c : Configuration) (s : Shown) → IsTest t → IsConfigurationWithinLimits c → IsSmall t s → length (report t kind c s) ≤ longest_report
+AreShort = (t : Litmus) (kind : ProtocolKind) (c : Configuration) (s : ShownRun) → IsTest t → IsConfigurationWithinLimits c → IsSmall t s → length (report t kind c s) ≤ longest_report
 
 record Ended (kind : ProtocolKind) (c : Configuration) (input out : List ℕ) : Type 0 where
   t : Litmus
@@ -135,8 +135,8 @@ input-ended kind c input _ _ good (too_large large) = absurd (let no : ⊥ = cc 
 input-ended kind c input _ _ good (refused fault small is) = absurd (let no : ⊥ = cc in no)
 input-ended kind c input _ _ good (answered t out status small spelled is) = run-ended t kind c input out status spelled good is
 
-checked : (test out input answer : List ℕ) (status : Status) (t : Litmus) (order : List Entry) → AreReadOneWay → input ≡ joined test out
-    → parts_of (joined test out) ≡ record { test = test; rest = out } → length out ≤ longest_report → SpellsTest test t → SpellsOrder t out order → IsTsoExecution t order
+checked : (test out input answer : List ℕ) (status : Status) (t : Litmus) (order : List Entry) → AreReadOneWay → input ≡ joined_parts test out
+    → parts_of (joined_parts test out) ≡ record { test = test; rest = out } → length out ≤ longest_report → SpellsTest test t → SpellsOrder t out order → IsTsoExecution t order
     → IsInputAnswer settings.Check input answer status → (answer ≡ valid_line) × (status ≡ Good)
 checked test out input _ _ t order laws same separated short spelled spells execution (too_large large) =
     let size : length test ≤ 65536 = spelled.is.small in
@@ -164,11 +164,11 @@ pub printed-short : (kind : ProtocolKind) (c : Configuration) (input out : List 
 printed-short kind c input out texts runs laws short within is = ended-short kind c input out texts runs laws short within (input-ended kind c input out Good refl is)
 
 pub rechecked : (kind : ProtocolKind) (c : Configuration) (input out answer : List ℕ) (status : Status) → AreReadOneWay → Runs → RunLaws
-    → AreShort → IsConfigurationWithinLimits c → parts_of (joined (parts_of input).test out) ≡ record { test = (parts_of input).test; rest = out }
-    → IsInputAnswer (settings.Run kind c false) input out Good → IsInputAnswer settings.Check (joined (parts_of input).test out) answer status → (answer ≡ valid_line) × (status ≡ Good)
+    → AreShort → IsConfigurationWithinLimits c → parts_of (joined_parts (parts_of input).test out) ≡ record { test = (parts_of input).test; rest = out }
+    → IsInputAnswer (settings.Run kind c false) input out Good → IsInputAnswer settings.Check (joined_parts (parts_of input).test out) answer status → (answer ≡ valid_line) × (status ≡ Good)
 rechecked kind c input out answer status texts runs laws short within separated is answered_so =
     let e = input-ended kind c input out Good refl is in
     let test = texts.test (parts_of input).test e.t e.spelled in
     let size : length out ≤ longest_report = ended-short kind c input out texts runs laws short within e in
-    checked (parts_of input).test out (joined (parts_of input).test out) answer status e.t (run_under e.t kind c e.choices).commits texts refl separated size e.spelled
+    checked (parts_of input).test out (joined_parts (parts_of input).test out) answer status e.t (run_under e.t kind c e.choices).commits texts refl separated size e.spelled
     (report-spells e.t kind c false e.choices out runs test within e.fit e.is e.ended refl) (runs.executions (table_of kind) c e.t e.choices test e.fit e.ended).order answered_so

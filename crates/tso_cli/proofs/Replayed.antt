@@ -1,5 +1,5 @@
 -- What `witness` prints, and what `run` answers to it.
-use Rattle.tso_cli.proofs.Vocabulary.{◌≡◌, ◌*◌, ◌≤◌, ◌<◌, ℕ, Bool, true, List, [], ◌∷◌, ◌++◌, length, codes, length-append, refl, sym, ap, subst, ◌∙◌, arith, decimal, Litmus, IsTest, IsTsoExecution, chosen, run, CoresExist, Atomic, Entry, Choice, choices_along, LeadTo, needed, SpellsTest, SpellsChoices, printed_choice, printed_after, printed_choices, SpellsOrder, table_of, ProtocolKind, Configuration, IsConfigurationWithinLimits, Parts, parts_of, joined, run_under, counts_under, report_in, shown_of, witness_line, IsWitness, IsWitnessAnswer, reached, too_small, invalid, judged, IsInputAnswer, too_large, answered, IsRunAnswer, ran, Status, Good, atomic-run, AreReadOneWay}
+use Rattle.tso_cli.proofs.Vocabulary.{◌≡◌, ◌*◌, ◌≤◌, ◌<◌, ℕ, Bool, true, List, [], ◌∷◌, ◌++◌, length, codes, length-append, refl, sym, ap, subst, ◌∙◌, arith, decimal, Litmus, IsTest, IsTsoExecution, chosen, run, CoresExist, Atomic, Entry, Choice, choices_along, LeadTo, needed, SpellsTest, SpellsChoices, printed_choice, printed_after, printed_choices, SpellsOrder, table_of, ProtocolKind, Configuration, IsConfigurationWithinLimits, Parts, parts_of, joined_parts, run_under, counts_under, report_in, shown_of, witness_line, IsWitness, IsWitnessAnswer, reached, too_small, invalid, judged, IsInputAnswer, too_large, answered, IsRunAnswer, ran, Status, Good, atomic-run, AreReadOneWay}
 use Rattle.std.proofs.lemmas.Fmt.{length-decimal-le}
 use Rattle.tso_model.specs.declared.choice.Choice.TheVariants.{Step, Drain}
 use Rattle.litmus_reader.specs.Spelling.{IsRefused as IsRefusedTest}
@@ -85,7 +85,7 @@ replays kind c json t choices out _ _ laws test spells atomic ended (ran others 
     rw (flat, same, ended) (refl, refl)
 
 pub replayed-joined : (kind : ProtocolKind) (c : Configuration) (json : Bool) (test out input answer : List ℕ) (status : Status) (t : Litmus) (choices : List Choice) → AreReadOneWay
-    → input ≡ joined test out → parts_of (joined test out) ≡ record { test = test; rest = out } → length out ≤ 4000 → SpellsTest test t
+    → input ≡ joined_parts test out → parts_of (joined_parts test out) ≡ record { test = test; rest = out } → length out ≤ 4000 → SpellsTest test t
     → SpellsChoices (length t.programs) out choices → c.bus ≡ Atomic → (run t c.depth choices).ended ≡ true
     → IsInputAnswer (settings.Run kind c json) input answer status → Replays kind c json t choices answer status
 replayed-joined kind c json test out input _ _ t choices laws same separated short spelled spells atomic ended (too_large large) =
@@ -102,8 +102,8 @@ replayed-joined kind c json test out input _ _ t choices laws same separated sho
     (subst (λ (u : Litmus). IsRunAnswer u kind c json out answer status) one (subst (λ text. IsRunAnswer other kind c json text answer status) second is))
 
 pub replayed : (kind : ProtocolKind) (c : Configuration) (json : Bool) (input out answer : List ℕ) (status : Status) → AreReadOneWay → Reaching → c.bus ≡ Atomic → IsConfigurationWithinLimits c
-    → parts_of (joined (parts_of input).test out) ≡ record { test = (parts_of input).test; rest = out }
-    → IsInputAnswer (settings.Witness c.depth) input out Good → IsInputAnswer (settings.Run kind c json) (joined (parts_of input).test out) answer status
+    → parts_of (joined_parts (parts_of input).test out) ≡ record { test = (parts_of input).test; rest = out }
+    → IsInputAnswer (settings.Witness c.depth) input out Good → IsInputAnswer (settings.Run kind c json) (joined_parts (parts_of input).test out) answer status
     → ReportsOrder kind c json (parts_of input) answer × (status ≡ Good)
 replayed kind c json input out answer status texts reaching atomic within separated is answered_so =
     let f = found c.depth input out Good refl is in
@@ -113,7 +113,7 @@ replayed kind c json input out answer status texts reaching atomic within separa
     let spells : SpellsChoices (length f.t.programs) out choices =
     subst (λ text. SpellsChoices (length f.t.programs) text choices) (sym f.is) (line-spells f.t c.depth choices f.order reaching test lead) in
     let short : length out ≤ 4000 = subst (λ (text : List ℕ). length text ≤ 4000) (sym f.is) (line-short f.t c.depth choices f.order reaching test lead) in
-    let answers = replayed-joined kind c json (parts_of input).test out (joined (parts_of input).test out) answer status f.t choices texts refl separated short f.test_spelled spells atomic lead.ended answered_so in (
+    let answers = replayed-joined kind c json (parts_of input).test out (joined_parts (parts_of input).test out) answer status f.t choices texts refl separated short f.test_spelled spells atomic lead.ended answered_so in (
       record {
         t = f.t;
         order = f.order;

@@ -1,5 +1,5 @@
 -- What `outcomes` prints, once more; and what `run` answers to its choices.
-use Rattle.tso_cli.proofs.Vocabulary.{◌≡◌, ◌∙◌, ℕ, Bool, List, map, length, Contains, Option, Some, None, refl, sym, ap, subst, arith, ForSome, All-weaker, All-contains, Litmus, Condition, run, Atomic, SpellsTest, printed_choices, ProtocolKind, Configuration, Named, named_in, values_at, is_met, Outcome, shown_values, held_in, failed_in, is_met_in, outcomes_in, AreAlike, OutcomesOfTheSameValuesAreAlike, Search, IsInputAnswer, too_large, refused, answered, IsPrinted, ShowTheSameStates, AreAllOutcomes, IsOutcomesAnswer, is_claimed_of, found, too_many, parts_of, joined, counts_under, shown_of, Status, AreReadOneWay, Leads, made-of}
+use Rattle.tso_cli.proofs.Vocabulary.{◌≡◌, ◌∙◌, ℕ, Bool, List, map, length, Contains, Option, Some, None, refl, sym, ap, subst, arith, ForSome, All-weaker, All-contains, Litmus, Condition, run, Atomic, SpellsTest, printed_choices, ProtocolKind, Configuration, Named, names_shown, values_at, is_met, Outcome, shown_values, held_in, failed_in, is_met_in, outcomes_in, OutcomesAreAlike, OutcomesOfTheSameValuesAreAlike, Search, IsInputAnswer, too_large, refused, answered, IsPrinted, ShowTheSameStates, AreAllOutcomes, IsOutcomesAnswer, is_claimed_of, found, too_many, parts_of, joined_parts, counts_under, shown_of, Status, AreReadOneWay, Leads, made-of}
 use Rattle.commands.specs.Verdicts.{status_of_verdict}
 use Rattle.tso_cli.specs.Revisited.{IsRevisited, AreRevisited}
 use Rattle.command_line.specs.declared.settings.Settings.TheVariants as settings
@@ -14,8 +14,8 @@ record Found (search : Search) (json assert : Bool) (input out : List ℕ) (stat
   t : Litmus
   outcomes : List Outcome
   spelled : SpellsTest (parts_of input).test t
-  are : AreAllOutcomes t (named_in search.show t) search.depth outcomes
-  is : out ≡ outcomes_in json t (named_in search.show t) search.depth outcomes
+  are : AreAllOutcomes t (names_shown search.show t) search.depth outcomes
+  is : out ≡ outcomes_in json t (names_shown search.show t) search.depth outcomes
   ended : status ≡ status_of_verdict assert (is_claimed_of t outcomes)
 
 all-found : (t : Litmus) (search : Search) (json assert : Bool) (input out : List ℕ) (status : Status) → SpellsTest (parts_of input).test t → IsPrinted status
@@ -52,7 +52,7 @@ pub same-met : (condition : Option Condition) (outcomes others : List Outcome) �
 same-met None outcomes others held failed = refl
 same-met (Some c) outcomes others held failed = rw (held c refl, failed c refl) refl
 
-pub same-claimed : (t : Litmus) (names : List Named) (outcomes others : List Outcome) → AreAlike t names outcomes others → is_claimed_of t outcomes ≡ is_claimed_of t others
+pub same-claimed : (t : Litmus) (names : List Named) (outcomes others : List Outcome) → OutcomesAreAlike t names outcomes others → is_claimed_of t outcomes ≡ is_claimed_of t others
 same-claimed t names outcomes others alike = rw (same-met t.condition outcomes others alike.held alike.failed) refl
 
 pub same-states-shown : (search : Search) (json assert : Bool) (input out other : List ℕ) (status again : Status) → AreReadOneWay → OutcomesOfTheSameValuesAreAlike
@@ -61,10 +61,10 @@ pub same-states-shown : (search : Search) (json assert : Bool) (input out other 
 same-states-shown search json assert input out other status again texts law good fine is too =
     let f = states-found search json assert input out status good is in
     let g = states-found search json assert input other again fine too in
-    let names = named_in search.show f.t in
+    let names = names_shown search.show f.t in
     let one : g.t ≡ f.t = texts.one_test (parts_of input).test g.t f.t g.spelled f.spelled in
-    let more : AreAllOutcomes f.t names search.depth g.outcomes = subst (λ t. AreAllOutcomes t (named_in search.show t) search.depth g.outcomes) one g.are in
-    let alike : AreAlike f.t names f.outcomes g.outcomes =
+    let more : AreAllOutcomes f.t names search.depth g.outcomes = subst (λ t. AreAllOutcomes t (names_shown search.show t) search.depth g.outcomes) one g.are in
+    let alike : OutcomesAreAlike f.t names f.outcomes g.outcomes =
     law search.show f.t f.outcomes g.outcomes (texts.test (parts_of input).test f.t f.spelled) f.are.ascending more.ascending
     (λ values. (each-there f.t names search.depth f.outcomes g.outcomes f.are more values, each-there f.t names search.depth g.outcomes f.outcomes more f.are values)) in
     let claimed : is_claimed_of f.t f.outcomes ≡ is_claimed_of g.t g.outcomes =
@@ -74,7 +74,7 @@ same-states-shown search json assert input out other status again texts law good
         outcomes = f.outcomes;
         others = g.outcomes;
         first = f.is;
-        second = g.is ∙ ap (λ (t : Litmus). outcomes_in json t (named_in search.show t) search.depth g.outcomes) one;
+        second = g.is ∙ ap (λ (t : Litmus). outcomes_in json t (names_shown search.show t) search.depth g.outcomes) one;
         alike = alike;
       },
       f.ended ∙ (ap (status_of_verdict assert) claimed ∙ sym g.ended),
@@ -83,14 +83,14 @@ same-states-shown search json assert input out other status again texts law good
 -- ---- what `run` answers
 
 one-revisited : (kind : ProtocolKind) (c : Configuration) (json : Bool) (test : List ℕ) (t : Litmus) (names : List Named) (o : Outcome) → AreReadOneWay → Reaching → Searches → c.bus ≡ Atomic
-    → SpellsTest test t → (parts_of (joined test (printed_choices o.choices)) ≡ record { test = test; rest = printed_choices o.choices })
+    → SpellsTest test t → (parts_of (joined_parts test (printed_choices o.choices)) ≡ record { test = test; rest = printed_choices o.choices })
     → Leads t c.depth o → IsRevisited kind c json test t names o
 one-revisited kind c json test t names o texts reaching searches atomic spelled separated lead answer status answered_so =
     let fits = texts.test test t spelled in
     let cores = fits.cores in
     let few = few-to-end t c.depth o searches.counted fits lead in
     let short = choices-short (length t.programs) o.choices (omega arith) lead.cores in
-    let answers = replayed-joined kind c json test (printed_choices o.choices) (joined test (printed_choices o.choices)) answer status t o.choices texts refl separated
+    let answers = replayed-joined kind c json test (printed_choices o.choices) (joined_parts test (printed_choices o.choices)) answer status t o.choices texts refl separated
     (omega arith) spelled (choices-spell t c.depth o reaching searches fits lead) atomic lead.ended answered_so in
     let r = run t c.depth o.choices in (
       record {
@@ -104,11 +104,11 @@ one-revisited kind c json test t names o texts reaching searches atomic spelled 
     )
 
 pub revisited : (kind : ProtocolKind) (c : Configuration) (search : Search) (json told assert : Bool) (input out : List ℕ) (status : Status) → AreReadOneWay → Reaching → Searches → c.bus ≡ Atomic
-    → search.depth ≡ c.depth → ((rest : List ℕ) → parts_of (joined (parts_of input).test rest) ≡ record { test = (parts_of input).test; rest = rest })
+    → search.depth ≡ c.depth → ((rest : List ℕ) → parts_of (joined_parts (parts_of input).test rest) ≡ record { test = (parts_of input).test; rest = rest })
     → IsPrinted status → IsInputAnswer (settings.Outcomes search told assert) input out status → AreRevisited kind c search.show json told (parts_of input).test out
 revisited kind c search json told assert input out status texts reaching searches atomic depth separated good is =
     let f = states-found search told assert input out status good is in
-    let names = named_in search.show f.t in
+    let names = names_shown search.show f.t in
     record {
       t = f.t;
       spelled = f.spelled;

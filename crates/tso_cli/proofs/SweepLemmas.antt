@@ -1,5 +1,5 @@
 -- What is counted of a sweep, and what that means: the final states of TSO executions.
-use Rattle.tso_cli.proofs.Vocabulary.{◌≡◌, ◌<◌, ◌≤◌, ◌⊎◌, inl, inr, ◌+◌, ℕ, zero, suc, Bool, true, false, not, cond, List, Option, Some, None, IfSome, is_none, All, Contains, refl, sym, ap, subst, ◌∙◌, arith, bytes_eq-Decides, option_map, keys_of, registers_in, Litmus, IsTsoExecution, KeepsAllOrder, Condition, truth_of, final_words, final_registers, Run, Atomic, Choice, Entry, IsExecution, ProtocolKind, Configuration, RunCounts, with_state, with_verdict, values_in, count_of, runs_in, state_line, Plan, run_under, AnswersFit, verdict, IsSweepAnswer, choices_of, seeded_run, with_one_run, counts_from, sweep_counts, values_after, has_values, has_truth, seeds_from, HasPart, PrintsSweep, Status, States, Ascend, EachGiven, count-with, ascend-none, each-counted, counted-there, values-left, one, states-judged, unfinished-judged, held-judged, failed-judged, ascend-run, given-run, runs-with}
+use Rattle.tso_cli.proofs.Vocabulary.{◌≡◌, ◌<◌, ◌≤◌, ◌⊎◌, inl, inr, ◌+◌, ℕ, zero, suc, Bool, true, false, not, cond, List, Option, Some, None, IfSome, is_none, All, Contains, refl, sym, ap, subst, ◌∙◌, arith, bytes_eq-Decides, option_map, keys_of, registers_in, Litmus, IsTsoExecution, KeepsAllOrder, Condition, truth_of, final_words, final_registers, Run, Atomic, Choice, Entry, IsExecution, ProtocolKind, Configuration, RunCounts, with_state_counted, with_verdict, values_in, count_of_runs, runs_in, counted_state_line, Plan, run_under, AnswersFit, verdict, IsSweepAnswer, choices_of, seeded_run, with_one_run, counts_from, sweep_counts, final_values, has_values, has_truth, seeds_from, HasPart, PrintsSweep, Status, States, Ascend, EachGiven, count-with, ascend-none, each-counted, counted-there, values-left, one, states-judged, unfinished-judged, held-judged, failed-judged, ascend-run, given-run, runs-with}
 use Rattle.std.specs.Prelude.{bytes_eq}
 use Rattle.tso_cli.proofs.SweptLines.{each-line}
 
@@ -10,25 +10,25 @@ order_in r = cond r.ended (Some r.commits) None
 -- ---- one more run
 
 states-with : (t : Litmus) (r : Run) (c : RunCounts) (v : List ℕ) → (r.ended ≡ true → IsExecution t r)
-    → count_of v (with_one_run t r c).states ≡ count_of v c.states + one (has_values t v (order_in r))
+    → count_of_runs v (with_one_run t r c).states ≡ count_of_runs v c.states + one (has_values t v (order_in r))
 states-with t r c v law = by_end r.ended law
   where
     by_end : (b : Bool) → (b ≡ true → IsExecution t r)
-        → count_of v (cond b (with_verdict (verdict t (registers_in r.state) r.state.memory) (with_state (values-left t r) c)) (record c { unfinished = c.unfinished + 1 })).states
-        ≡ count_of v c.states + one (has_values t v (cond b (Some r.commits) None))
+        → count_of_runs v (cond b (with_verdict (verdict t (registers_in r.state) r.state.memory) (with_state_counted (values-left t r) c)) (record c { unfinished = c.unfinished + 1 })).states
+        ≡ count_of_runs v c.states + one (has_values t v (cond b (Some r.commits) None))
     by_end true law =
         let e = law refl in
-        ap (λ (s : States). count_of v s) (states-judged (verdict t (registers_in r.state) r.state.memory) (with_state (values-left t r) c))
+        ap (λ (s : States). count_of_runs v s) (states-judged (verdict t (registers_in r.state) r.state.memory) (with_state_counted (values-left t r) c))
         ∙ count-with v (values-left t r) c.states
-        ∙ ap (λ (w : List ℕ). count_of v c.states + one (bytes_eq v w)) (ap (λ (g : List (List ℕ)). values_in t g r.state.memory) e.registers ∙ ap (λ (m : List ℕ). values_in t (final_registers t r.commits) m) e.memory)
+        ∙ ap (λ (w : List ℕ). count_of_runs v c.states + one (bytes_eq v w)) (ap (λ (g : List (List ℕ)). values_in t g r.state.memory) e.registers ∙ ap (λ (m : List ℕ). values_in t (final_registers t r.commits) m) e.memory)
     by_end false law = omega arith
 
 unfinished-with : (t : Litmus) (r : Run) (c : RunCounts) → (with_one_run t r c).unfinished ≡ c.unfinished + one (is_none (order_in r))
 unfinished-with t r c = by_end r.ended
   where
-    by_end : (b : Bool) → (cond b (with_verdict (verdict t (registers_in r.state) r.state.memory) (with_state (values-left t r) c)) (record c { unfinished = c.unfinished + 1 })).unfinished
+    by_end : (b : Bool) → (cond b (with_verdict (verdict t (registers_in r.state) r.state.memory) (with_state_counted (values-left t r) c)) (record c { unfinished = c.unfinished + 1 })).unfinished
         ≡ c.unfinished + one (is_none (cond b (Some r.commits) None))
-    by_end true = let same : (with_verdict (verdict t (registers_in r.state) r.state.memory) (with_state (values-left t r) c)).unfinished ≡ c.unfinished = unfinished-judged _ _ in omega arith
+    by_end true = let same : (with_verdict (verdict t (registers_in r.state) r.state.memory) (with_state_counted (values-left t r) c)).unfinished ≡ c.unfinished = unfinished-judged _ _ in omega arith
     by_end false = refl
 
 -- the truth of the condition where a run ended
@@ -44,11 +44,11 @@ held-with : (t : Litmus) (r : Run) (c : RunCounts) (k : Condition) → t.conditi
 held-with t r c k is law = by_end r.ended law
   where
     by_end : (b : Bool) → (b ≡ true → IsExecution t r)
-        → (cond b (with_verdict (verdict t (registers_in r.state) r.state.memory) (with_state (values-left t r) c)) (record c { unfinished = c.unfinished + 1 })).held
+        → (cond b (with_verdict (verdict t (registers_in r.state) r.state.memory) (with_state_counted (values-left t r) c)) (record c { unfinished = c.unfinished + 1 })).held
         ≡ c.held + one (has_truth t k.claim true (cond b (Some r.commits) None))
     by_end true law =
-        ap (λ (o : Option Condition). (with_verdict (option_map (λ (k : Condition). truth-left k r) o) (with_state (values-left t r) c)).held) is
-        ∙ held-judged (truth-left k r) (with_state (values-left t r) c) ∙ ap (λ (b : Bool). c.held + one b) (same-truth t k r (law refl))
+        ap (λ (o : Option Condition). (with_verdict (option_map (λ (k : Condition). truth-left k r) o) (with_state_counted (values-left t r) c)).held) is
+        ∙ held-judged (truth-left k r) (with_state_counted (values-left t r) c) ∙ ap (λ (b : Bool). c.held + one b) (same-truth t k r (law refl))
     by_end false law = omega arith
 
 failed-with : (t : Litmus) (r : Run) (c : RunCounts) (k : Condition) → t.condition ≡ Some k → (r.ended ≡ true → IsExecution t r)
@@ -56,11 +56,11 @@ failed-with : (t : Litmus) (r : Run) (c : RunCounts) (k : Condition) → t.condi
 failed-with t r c k is law = by_end r.ended law
   where
     by_end : (b : Bool) → (b ≡ true → IsExecution t r)
-        → (cond b (with_verdict (verdict t (registers_in r.state) r.state.memory) (with_state (values-left t r) c)) (record c { unfinished = c.unfinished + 1 })).failed
+        → (cond b (with_verdict (verdict t (registers_in r.state) r.state.memory) (with_state_counted (values-left t r) c)) (record c { unfinished = c.unfinished + 1 })).failed
         ≡ c.failed + one (has_truth t k.claim false (cond b (Some r.commits) None))
     by_end true law =
-        ap (λ (o : Option Condition). (with_verdict (option_map (λ (k : Condition). truth-left k r) o) (with_state (values-left t r) c)).failed) is
-        ∙ failed-judged (truth-left k r) (with_state (values-left t r) c) ∙ ap (λ (b : Bool). c.failed + one (not b)) (same-truth t k r (law refl))
+        ap (λ (o : Option Condition). (with_verdict (option_map (λ (k : Condition). truth-left k r) o) (with_state_counted (values-left t r) c)).failed) is
+        ∙ failed-judged (truth-left k r) (with_state_counted (values-left t r) c) ∙ ap (λ (b : Bool). c.failed + one (not b)) (same-truth t k r (law refl))
     by_end false law = omega arith
 
 -- ---- all runs of a sweep
@@ -98,7 +98,7 @@ module _ (t : Litmus) (kind : ProtocolKind) (c : Configuration) (count from : �
   order_of seed = order_in (seeded_run t kind c count seed)
 
   found : (v : List ℕ) (n : ℕ) → AreExecutionsFrom t kind c count from n
-      → count_of v (after t kind c count from n).states ≡ seeds_from (λ seed. has_values t v (order_of seed)) from n
+      → count_of_runs v (after t kind c count from n).states ≡ seeds_from (λ seed. has_values t v (order_of seed)) from n
   found v zero law = refl
   found v (suc n) law =
       let one-more = states-with t (seeded_run t kind c count (from + n)) (after t kind c count from n) v (last t kind c count from n law) in
@@ -156,14 +156,14 @@ seeds-some test from n (suc seeds) below passed = by_place (le-cases n seeds (om
         let counted : one (test (from + seeds)) ≡ 1 = ap (λ (b : Bool). one b) here in omega arith
 
 among : (t : Litmus) (order_of : ℕ → Option (List Entry)) (states : States) (from n seeds : ℕ)
-    → ((v : List ℕ) → count_of v states ≡ seeds_from (λ seed. has_values t v (order_of seed)) from seeds) → n < seeds
-    → IfSome (order_of (from + n)) (λ order. Contains (keys_of states) (values_after t order))
+    → ((v : List ℕ) → count_of_runs v states ≡ seeds_from (λ seed. has_values t v (order_of seed)) from seeds) → n < seeds
+    → IfSome (order_of (from + n)) (λ order. Contains (keys_of states) (final_values t order))
 among t order_of states from n seeds counts below = by_end (order_of (from + n)) refl
   where
-    by_end : (o : Option (List Entry)) → order_of (from + n) ≡ o → IfSome o (λ order. Contains (keys_of states) (values_after t order))
+    by_end : (o : Option (List Entry)) → order_of (from + n) ≡ o → IfSome o (λ order. Contains (keys_of states) (final_values t order))
     by_end None e = tt
     by_end (Some order) e =
-        let v = values_after t order in
+        let v = final_values t order in
         let has : has_values t v (order_of (from + n)) ≡ true =
         ap (λ (o : Option (List Entry)). has_values t v o) e ∙ (bytes_eq-Decides v v).1 refl in
         let some : 0 < seeds_from (λ seed. has_values t v (order_of seed)) from seeds = seeds-some (λ seed. has_values t v (order_of seed)) from n seeds below has in
@@ -191,7 +191,7 @@ sweep-means t kind c plan out status executions all fit is =
       every_seed = λ atomic seed. execution-is t (seeded_run t kind c count seed) (executions (choices_of t count seed) (fit (choices_of t count seed) atomic));
       unbuffered = λ none n l. all-order-is (seeded_run t kind c count (from + n)) (all (choices_of t count (from + n)) none (is.answers n l));
       ascending = ascend t kind c count from seeds;
-      lines = subst (λ (o : List ℕ). All (λ state. HasPart o (state_line t state)) (sweep_counts t kind c plan).states) (sym is.text) (each-line t kind c plan (sweep_counts t kind c plan));
+      lines = subst (λ (o : List ℕ). All (λ state. HasPart o (counted_state_line t state)) (sweep_counts t kind c plan).states) (sym is.text) (each-line t kind c plan (sweep_counts t kind c plan));
       complete = λ n l. among t (λ seed. order_in (seeded_run t kind c count seed)) (sweep_counts t kind c plan).states from n seeds (λ v. found t kind c count from v seeds law) l;
       states = each-counted (sweep_counts t kind c plan).states _ (ascend t kind c count from seeds) (given t kind c count from seeds) (λ v. found t kind c count from v seeds law);
       held = where-there-is t.condition _ (λ k there. held-are t kind c count from k there seeds law);

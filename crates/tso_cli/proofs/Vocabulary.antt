@@ -16,20 +16,20 @@ pub use Rattle.tso_model.specs.declared.execution.Entry.{Entry}
 pub use Rattle.tso_laws.specs.EndedRuns.{IsExecution, End}
 pub use Rattle.protocol_tables.specs.declared.kind.ProtocolKind.{ProtocolKind}
 pub use Rattle.machine_core.specs.Configuration.{Configuration, IsConfigurationWithinLimits}
-pub use Rattle.tso_report.specs.Tally.{RunCounts, with_state, with_verdict, values_in, count_of, runs_in, state_line, tally_text, state_lines, sweep_line, ended_in, observation, run_counts, looked_at, shown_value}
+pub use Rattle.tso_report.specs.Tally.{RunCounts, with_state_counted, with_verdict, values_in, count_of_runs, runs_in, counted_state_line, tally_text, counted_state_lines, sweep_line, ended_in, observation, run_counts, looked_at, shown_value}
 pub use Rattle.scheduler.specs.Plan.{Plan}
 pub use Rattle.simulator.specs.Runs.{run_under, AnswersFit, counts_under, run_by, AnswersFitBy}
 pub use Rattle.simulator.specs.Simulation.{verdict, IsEndingOf, drains, shown_of}
 pub use Rattle.commands.specs.Sweep.{IsSweepAnswer, sweep_status, sweep_lines}
 pub use Rattle.sweeper.specs.Counting.{choices_of, seeded_run, with_one_run, counts_from, sweep_counts}
-pub use Rattle.tso_cli.specs.SweepHeadline.{values_after, has_values, has_truth, seeds_from, HasPart, PrintsSweep, HeadlineOfSweeps, seeded_order, seeds_with}
+pub use Rattle.tso_cli.specs.SweepHeadline.{final_values, has_values, has_truth, seeds_from, HasPart, PrintsSweep, HeadlineOfSweeps, seeded_order, seeds_with}
 pub use Rattle.commands.specs.declared.answer.Status.{Status}
 pub use Rattle.sweeper.proofs.StateLemmas.{States, Ascend, EachGiven, count-with, ascend-none, each-counted, counted-there, all-map, same-values, sum-with}
 pub use Rattle.sweeper.proofs.RunsCounted.{values-left, one, states-judged, unfinished-judged, held-judged, failed-judged, ascend-run, given-run, runs-with}
-pub use Rattle.scheduler.specs.Refusals.{IsDecided, IsRefusedAsChoices}
+pub use Rattle.scheduler.specs.Refusals.{IsDecidedAsChoices, IsRefusedAsChoices}
 pub use Rattle.scheduler.specs.declared.fault.ChoiceFault.TheVariants.{TooMany}
-pub use Rattle.commands.specs.Dividing.{parts_of, joined, after_feed, after_end, after_divider, parts_at, with_byte, parts_from, HasNoDivider, EndsInFeed, Parts}
-pub use Rattle.commands.specs.Lines.{test_refusal, choices_refusal, unfinished_line, input_refusal}
+pub use Rattle.commands.specs.Dividing.{parts_of, joined_parts, after_feed, after_end, after_divider, parts_at, with_byte, parts_from, HasNoDivider, EndsInFeed, Parts}
+pub use Rattle.commands.specs.Lines.{test_refusal, choices_refusal, unfinished_run_line, input_refusal}
 pub use Rattle.commands.specs.CheckLines.{order_refusal, invalid_line, valid_line}
 pub use Rattle.tso_cli.specs.Answers.{IsAnswerTo, IsInputAnswer, IsAnswer, too_large, answered, IsPrinted, refused, most_read}
 pub use Rattle.commands.specs.Answers.{run_text, run_status, IsRunAnswer, IsJudgement, IsCheckAnswer, ran, valid, status_under}
@@ -55,7 +55,7 @@ pub use Rattle.simulator.specs.declared.simulation.Ending.TheVariants.{Ended, Un
 pub use Rattle.commands.specs.declared.answer.Status.TheVariants.{Good, Refused, Unended}
 pub use Rattle.std.proofs.lemmas.List.{append-nil, length-map}
 pub use Rattle.tso_report.specs.declared.named.Named.{Named}
-pub use Rattle.shown_values.specs.Shown.{named_in, values_at}
+pub use Rattle.shown_values.specs.Shown.{names_shown, values_at}
 pub use Rattle.outcome_report.specs.Outcomes.{Outcome, shown_values, held_in, failed_in, is_met_in}
 pub use Rattle.command_line.specs.Search.{Search}
 pub use Rattle.commands.specs.Outcomes.{AreAllOutcomes, IsOutcomesAnswer, found, is_claimed_of, too_many}
@@ -66,16 +66,16 @@ pub use Rattle.command_line.specs.Explanation.{Explanation}
 pub use Rattle.commands.specs.Why.{IsWhyAnswer}
 pub use Rattle.tso_cli.specs.WhyHeadline.{PrintsRefutation, PrintsExecutionOf, HeadlineOfReasons}
 pub use Rattle.litmus_reader.specs.Spelling.{SpellsTest}
-pub use Rattle.outcome_report.specs.Verdict.{is_met, verdict_line, verdict_value}
+pub use Rattle.outcome_report.specs.Verdict.{is_met, verdict_line, outcomes_verdict_value}
 pub use Rattle.outcome_report.specs.Printed.{outcomes_in}
-pub use Rattle.outcome_report.specs.Laws.{AreAlike, OutcomesOfTheSameValuesAreAlike}
+pub use Rattle.outcome_report.specs.Laws.{OutcomesAreAlike, OutcomesOfTheSameValuesAreAlike}
 pub use Rattle.tso_model.specs.Standing.{StandsIn}
 pub use Rattle.tso_model.specs.declared.choice.Bus.{Bus}
 pub use Rattle.tso_laws.specs.Entries.{FitsTest}
 pub use Rattle.order_builder.specs.Spelling.{IsOrderFor, SpellsOrder, HasAccess, IsEntryFor, HasFault}
 pub use Rattle.protocol_tables.specs.Tables.{Table, table_of}
 pub use Rattle.tso_report.specs.Report.{head, report, line, body, test_line, machine_line, register_lines, memory_line, condition_line, choices_line, cache_lines}
-pub use Rattle.tso_report.specs.Shown.{Shown}
+pub use Rattle.tso_report.specs.Shown.{ShownRun}
 pub use Rattle.tso_cli.specs.RunHeadline.{PrintsExecution, PrintsEachRun, HeadlineOfRuns}
 pub use Rattle.tso_cli.specs.TraceHeadline.{PrintsTraceIn, PrintsEachTrace, HeadlineOfTraces, PrintsTrace, PrintsTracedObject}
 pub use Rattle.tso_cli.specs.Headline.{HeadlineOf, InputHeadline, Headline, PartsHeadline}

@@ -2,7 +2,7 @@
 use Rattle.tso_cli.proofs.Vocabulary.{◌≡◌, ℕ, Bool, true, false, not, List, [], length, Option, Some, None, refl, sym, ap, subst, arith, append-nil, Litmus, IsTest, Claim, Condition, NamesExist, truth_of, final_words, final_registers, registers_in, run, Choice, Entry, LeadTo, End, IsExecutionOf, depth_of, SpellsChoices, printed_choices, Explanation, IsWhyAnswer, Status, PrintsRefutation, PrintsExecutionOf, HeadlineOfReasons}
 use Rattle.tso_model.specs.declared.condition.Quantifier.{Quantifier}
 use Rattle.tso_model.specs.declared.condition.Quantifier.TheVariants.{Exists, NotExists, Forall}
-use Rattle.refutation_laws.specs.Refutations.{Node, asked, refutes}
+use Rattle.refutation_laws.specs.Refutations.{Node, asked_claim, refutes}
 use Rattle.refutation_laws.specs.declared.model.Model.{Model}
 use Rattle.refutation_laws.specs.declared.model.Model.TheVariants.{Tso, Sequential}
 use Rattle.reason_report.specs.ReasonText.{truth_asked}
@@ -13,7 +13,7 @@ use Rattle.tso_cli.proofs.WitnessLemmas.{Reaching, choices-few}
 
 -- what the crates below say of refutations
 pub record Refuting : Type 0 where
-  pub names : (t : Litmus) → IsTest t → NamesExist (length t.programs) (length t.words) (asked t.condition)
+  pub names : (t : Litmus) → IsTest t → NamesExist (length t.programs) (length t.words) (asked_claim t.condition)
   pub executions : (model : Model) (t : Litmus) (claim : Claim) (nodes : List Node) (order : List Entry)
       → NamesExist (length t.programs) (length t.words) claim → refutes model t claim nodes ≡ true → IsExecutionOf model t order
       → truth_of (final_registers t order) (final_words t order) claim ≡ false
@@ -30,49 +30,49 @@ not-false : (b : Bool) → not b ≡ true → b ≡ false
 not-false false q = refl
 not-false true q = absurd (let z : ⊥ = cc in z)
 
-so-when : (condition : Option Condition) (registers : List (List ℕ)) (memory : List ℕ) → truth_of registers memory (asked condition) ≡ true → IsSoIn condition registers memory
+so-when : (condition : Option Condition) (registers : List (List ℕ)) (memory : List ℕ) → truth_of registers memory (asked_claim condition) ≡ true → IsSoIn condition registers memory
 so-when None registers memory q = tt
 so-when (Some c) registers memory q = by-quantifier c.quantifier c.claim q
   where
-    by-quantifier : (quantifier : Quantifier) (claim : Claim) → truth_of registers memory (asked (Some (record { quantifier = quantifier; claim = claim }))) ≡ true
+    by-quantifier : (quantifier : Quantifier) (claim : Claim) → truth_of registers memory (asked_claim (Some (record { quantifier = quantifier; claim = claim }))) ≡ true
         → truth_of registers memory claim ≡ truth_asked quantifier
     by-quantifier Exists claim q = q
     by-quantifier NotExists claim q = q
     by-quantifier Forall claim q = not-false (truth_of registers memory claim) q
 
-true-when : (condition : Option Condition) (registers : List (List ℕ)) (memory : List ℕ) → IsSoIn condition registers memory → truth_of registers memory (asked condition) ≡ true
+true-when : (condition : Option Condition) (registers : List (List ℕ)) (memory : List ℕ) → IsSoIn condition registers memory → truth_of registers memory (asked_claim condition) ≡ true
 true-when None registers memory q = refl
 true-when (Some c) registers memory q = by-quantifier c.quantifier c.claim q
   where
     by-quantifier : (quantifier : Quantifier) (claim : Claim) → truth_of registers memory claim ≡ truth_asked quantifier
-        → truth_of registers memory (asked (Some (record { quantifier = quantifier; claim = claim }))) ≡ true
+        → truth_of registers memory (asked_claim (Some (record { quantifier = quantifier; claim = claim }))) ≡ true
     by-quantifier Exists claim q = q
     by-quantifier NotExists claim q = q
     by-quantifier Forall claim q = ap not q
 
-never-so : (condition : Option Condition) (registers : List (List ℕ)) (memory : List ℕ) → truth_of registers memory (asked condition) ≡ false → ¬ IsSoIn condition registers memory
+never-so : (condition : Option Condition) (registers : List (List ℕ)) (memory : List ℕ) → truth_of registers memory (asked_claim condition) ≡ false → ¬ IsSoIn condition registers memory
 never-so condition registers memory q so = let p = true-when condition registers memory so in let z : ⊥ = cc in z
 
 -- ---- a refutation
 
-no-run : (model : Model) (t : Litmus) (nodes : List Node) (depth : ℕ) (choices : List Choice) → Refuting → IsTest t → refutes model t (asked t.condition) nodes ≡ true
+no-run : (model : Model) (t : Litmus) (nodes : List Node) (depth : ℕ) (choices : List Choice) → Refuting → IsTest t → refutes model t (asked_claim t.condition) nodes ≡ true
     → IsDepthOf model depth → End t depth choices → ¬ IsSoIn t.condition (registers_in (run t depth choices).state) (run t depth choices).state.memory
 no-run Tso t nodes depth choices laws test refuted is ended =
     never-so t.condition (registers_in (run t depth choices).state) (run t depth choices).state.memory
-    (laws.tso t (asked t.condition) nodes depth choices test (laws.names t test) refuted ended)
+    (laws.tso t (asked_claim t.condition) nodes depth choices test (laws.names t test) refuted ended)
 no-run Sequential t nodes depth choices laws test refuted is ended =
     subst (λ d. End t d choices → ¬ IsSoIn t.condition (registers_in (run t d choices).state) (run t d choices).state.memory) (sym is)
     (λ over. never-so t.condition (registers_in (run t 0 choices).state) (run t 0 choices).state.memory
-    (laws.sequential t (asked t.condition) nodes choices test (laws.names t test) refuted over)) ended
+    (laws.sequential t (asked_claim t.condition) nodes choices test (laws.names t test) refuted over)) ended
 
-pub refutation-means : (t : Litmus) (model : Model) (json : Bool) (nodes : List Node) → Refuting → IsTest t → refutes model t (asked t.condition) nodes ≡ true
+pub refutation-means : (t : Litmus) (model : Model) (json : Bool) (nodes : List Node) → Refuting → IsTest t → refutes model t (asked_claim t.condition) nodes ≡ true
     → PrintsRefutation t model json (refutation_in json model t nodes)
 refutation-means t model json nodes laws test refuted = record {
   nodes = nodes;
   printed = refl;
   refuted = refuted;
   executions = λ order execution. never-so t.condition (final_registers t order) (final_words t order)
-      (laws.executions model t (asked t.condition) nodes order (laws.names t test) refuted execution);
+      (laws.executions model t (asked_claim t.condition) nodes order (laws.names t test) refuted execution);
   runs = λ depth choices is ended. no-run model t nodes depth choices laws test refuted is ended;
 }
 

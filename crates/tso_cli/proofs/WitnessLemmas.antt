@@ -1,6 +1,6 @@
 -- What `witness` answers, and what that means.
 use Rattle.tso_cli.proofs.Vocabulary.{◌≡◌, ◌≢◌, ◌+◌, ◌*◌, ◌≤◌, ◌<◌, ◌^◌, ℕ, zero, suc, true, false, IsTrue, List, [], ◌∷◌, ◌++◌, length, All, refl, sym, ap, subst, ◌∙◌, arith, list_all, All-head, All-tail, All-weaker, most_depth, Litmus, IsTest, IsProgram, IsTsoExecution, run, CoresExist, Instr, StoreImm, StoreReg, Load, SetImm, SetReg, Fence, Xchg, Xadd, Entry, Choice, choices_along, LeadTo, needed, End, SpellsChoices, printed_choices, WitnessesOrder, WitnessesEachOrder, unreached, broken, IsDepth, IsEndingOf, drains, witness_line, IsWitness, IsWitnessAnswer, too_small, invalid, judged, Ending, Ended, Unfinished, Status, Good, AreReadOneWay}
-use Rattle.tso_laws.specs.Counting.{is_plain_store, stores_in, instructions, stores}
+use Rattle.tso_laws.specs.Counting.{is_plain_store, stores_in, instructions, stores_of_all}
 use Rattle.scheduler.specs.Limits.{most_choices}
 use Rattle.scheduler.specs.Words.{is_space}
 use Rattle.tso_cli.specs.Judgement.{reached}
@@ -32,7 +32,7 @@ stores_in-few : (p : List Instr) → stores_in p ≤ length p
 stores_in-few [] = omega arith
 stores_in-few (x ∷ xs) = let one = store-few x in let others = stores_in-few xs in omega arith
 
-work-few : (programs : List (List Instr)) → All (λ p. length p ≤ 32) programs → instructions programs + stores programs ≤ 64 * length programs
+work-few : (programs : List (List Instr)) → All (λ p. length p ≤ 32) programs → instructions programs + stores_of_all programs ≤ 64 * length programs
 work-few [] small = omega arith
 work-few (p ∷ ps) small =
     let first : length p ≤ 32 = All-head (λ (p : List Instr). length p ≤ 32) p ps small in
@@ -40,12 +40,12 @@ work-few (p ∷ ps) small =
     let others = work-few ps (All-tail (λ (p : List Instr). length p ≤ 32) p ps small) in
     omega arith
 
-drains-few : (t : Litmus) (depth : ℕ) → drains t depth ≤ stores t.programs
+drains-few : (t : Litmus) (depth : ℕ) → drains t depth ≤ stores_of_all t.programs
 drains-few t zero = omega arith
 drains-few t (suc n) = omega arith
 
 -- one choice for each instruction, and one more for each plain store
-pub work-within : (t : Litmus) → IsTest t → instructions t.programs + stores t.programs ≤ 512
+pub work-within : (t : Litmus) → IsTest t → instructions t.programs + stores_of_all t.programs ≤ 512
 work-within t test =
     let sizes : All (λ p. length p ≤ 32) t.programs = All-weaker (IsProgram (length t.locations)) (λ (p : List Instr). length p ≤ 32) (λ p fits. fits.size) t.programs test.programs_fit in
     let cores = test.cores in

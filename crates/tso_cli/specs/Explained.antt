@@ -8,9 +8,9 @@ use Rattle.refutation_laws.specs.declared.model.Model.{Model}
 use Rattle.scheduler.specs.Printed.{printed_choices}
 use Rattle.protocol_tables.specs.declared.kind.ProtocolKind.{ProtocolKind}
 use Rattle.machine_core.specs.Configuration.{Configuration}
-use Rattle.tso_report.specs.Shown.{Shown}
+use Rattle.tso_report.specs.Shown.{ShownRun}
 use Rattle.command_line.specs.declared.settings.Settings.TheVariants as settings
-use Rattle.commands.specs.Dividing.{joined}
+use Rattle.commands.specs.Dividing.{joined_parts}
 use Rattle.commands.specs.RunTexts.{report_in}
 use Rattle.commands.specs.declared.answer.Status.{Status}
 use Rattle.commands.specs.declared.answer.Status.TheVariants.{Good}
@@ -19,7 +19,7 @@ use Rattle.tso_cli.specs.WhyHeadline.{PrintsRefutation, PrintsExecutionOf}
 
 -- what is written is the report of a run that ended with this very order; none of its choices stalled, and none was left over
 pub record ReportsExecution (t : Litmus) (kind : ProtocolKind) (c : Configuration) (json : Bool) (order : List Entry) (out : List ℕ) : Type 0 where
-  pub shown : Shown
+  pub shown : ShownRun
   pub printed : out ≡ report_in json t kind c shown
   pub reached : shown.order ≡ order
   pub stalled : shown.stalled ≡ 0
@@ -29,7 +29,7 @@ pub record ReportsExecution (t : Litmus) (kind : ProtocolKind) (c : Configuratio
 abbrev pub AreRunAgain : ProtocolKind → Configuration → Bool → List ℕ → Litmus → List Choice → List Entry → Type 0
 AreRunAgain kind c json test t choices order =
     (answer : List ℕ) (status : Status)
-    → IsAnswer (settings.Run kind c json) (Some (joined test (printed_choices choices))) answer status
+    → IsAnswer (settings.Run kind c json) (Some (joined_parts test (printed_choices choices))) answer status
     → ReportsExecution t kind c json order answer × (status ≡ Good)
 
 -- of the given test a refutation was printed, or an execution whose choices are run again so

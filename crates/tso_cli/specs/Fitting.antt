@@ -7,7 +7,7 @@ use Rattle.scheduler.specs.Limits.{most_choices}
 use Rattle.protocol_tables.specs.declared.kind.ProtocolKind.{ProtocolKind}
 use Rattle.machine_core.specs.Configuration.{Configuration}
 use Rattle.tso_report.specs.declared.named.Named.{Named}
-use Rattle.tso_report.specs.Shown.{Shown, IsOf}
+use Rattle.tso_report.specs.Shown.{ShownRun, IsRunOf}
 use Rattle.tso_report.specs.Limits.{IsSmall}
 use Rattle.tso_report.specs.Tally.{RunCounts, looked_at, ended_in, runs_in}
 use Rattle.scheduler.specs.Plan.{Plan, most_seeds}
@@ -16,8 +16,8 @@ use Rattle.simulator.specs.Simulation.{shown_of}
 use Rattle.sweeper.specs.Counting.{sweep_counts, SweepAnswersFit}
 
 -- a run of this test: its parts are as many as the test has, and each is one that a run of the test can leave
-pub record FitsTest (t : Litmus) (s : Shown) : Type 0 where
-  pub of_test : IsOf t s
+pub record RunFitsTest (t : Litmus) (s : ShownRun) : Type 0 where
+  pub of_test : IsRunOf t s
   pub small : IsSmall t s
 
 -- a word for each of these registers and locations
@@ -37,7 +37,7 @@ pub record CountsFitTest (t : Litmus) (c : RunCounts) : Type 0 where
   pub few : runs_in c < 2 ^ 64
 
 -- what is shown of the run under these choices, where it ends
-abbrev pub shown_under : Litmus → ProtocolKind → Configuration → List Choice → Shown
+abbrev pub shown_under : Litmus → ProtocolKind → Configuration → List Choice → ShownRun
 shown_under t kind c choices = shown_of t (counts_under t kind c choices) (run_under t kind c choices)
 
 -- each run that ends under as many choices as a text may have, with answers such as caches may give, fits its test
@@ -45,7 +45,7 @@ abbrev pub EndedRunsFit : Type 0
 EndedRunsFit =
     (t : Litmus) (kind : ProtocolKind) (c : Configuration) (choices : List Choice)
     → IsTest t → length choices ≤ most_choices → AnswersFit t kind c choices
-    → (run_under t kind c choices).ended ≡ true → FitsTest t (shown_under t kind c choices)
+    → (run_under t kind c choices).ended ≡ true → RunFitsTest t (shown_under t kind c choices)
 
 -- of the choices that a run was given each was used or is left over, and no more stalled than were used
 abbrev pub ChoicesAreCounted : Type 0

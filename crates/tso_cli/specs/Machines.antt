@@ -8,10 +8,10 @@ use Rattle.protocol_tables.specs.declared.kind.ProtocolKind.{ProtocolKind}
 use Rattle.machine_core.specs.Configuration.{Configuration}
 use Rattle.machine_core.specs.declared.counts.Counts.{Counts}
 use Rattle.tso_model.specs.Litmus.{Litmus}
-use Rattle.tso_report.specs.Shown.{Shown}
+use Rattle.tso_report.specs.Shown.{ShownRun}
 use Rattle.tso_report.specs.Report.{head, machine_line, cache_lines}
 use Rattle.trace_report.specs.Lines.{trace_text}
-use Rattle.trace_report.specs.Shown.{Shown as Step}
+use Rattle.trace_report.specs.Shown.{ShownStep as Step}
 use Rattle.tso_report.specs.Json.{cache_value, machine_value, json_report}
 use Rattle.tso_report.specs.JsonFrame.{OtherMembers, json_with}
 use Rattle.trace_json.specs.TracedRun.{json_ended, json_unended}
@@ -84,8 +84,8 @@ pub record RunsAnswerAlike (json : Bool) (kind other : ProtocolKind) (c d : Conf
 pub record EndedObjectsDiffer (kind other : ProtocolKind) (c d : Configuration) (out again : List ℕ) : Type 0 where
   pub t : Litmus
   pub choices : List Choice
-  pub shown : Shown
-  pub other_shown : Shown
+  pub shown : ShownRun
+  pub other_shown : ShownRun
   pub reports : DifferInMembers kind other c d (json_report t kind c shown) (json_report t other d other_shown)
   pub first : out ≡ json_ended t kind c choices shown
   pub second : again ≡ json_ended t other d choices other_shown

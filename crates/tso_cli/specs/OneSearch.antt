@@ -4,10 +4,10 @@ use Rattle.std.specs.Prelude.{ℕ, ◌≡◌, Bool, List, [], map}
 use Rattle.tso_model.specs.Litmus.{Litmus}
 use Rattle.litmus_reader.specs.Spelling.{SpellsTest}
 use Rattle.explorer.specs.FinalStates.{HasMoreStates}
-use Rattle.shown_values.specs.Shown.{named_in}
+use Rattle.shown_values.specs.Shown.{names_shown}
 use Rattle.outcome_report.specs.Outcomes.{Outcome}
 use Rattle.outcome_report.specs.Printed.{outcomes_in, unfinished_search_in}
-use Rattle.outcome_report.specs.Laws.{AreAlike}
+use Rattle.outcome_report.specs.Laws.{OutcomesAreAlike}
 use Rattle.command_line.specs.Search.{Search}
 
 -- the same state, with no choices
@@ -18,12 +18,12 @@ without_choices o = record { registers = o.registers; memory = o.memory; choices
 pub record ShowOneSearch (t : Litmus) (s : Search) (json again : Bool) (out other : List ℕ) : Type 0 where
   pub outcomes : List Outcome
   pub others : List Outcome
-  pub first : out ≡ outcomes_in json t (named_in s.show t) s.depth outcomes
-  pub second : other ≡ outcomes_in again t (named_in s.show t) s.depth others
-  pub alike : AreAlike t (named_in s.show t) outcomes others
+  pub first : out ≡ outcomes_in json t (names_shown s.show t) s.depth outcomes
+  pub second : other ≡ outcomes_in again t (names_shown s.show t) s.depth others
+  pub alike : OutcomesAreAlike t (names_shown s.show t) outcomes others
   pub but_for_choices : (form : Bool)
-      → outcomes_in form t (named_in s.show t) s.depth (map without_choices outcomes)
-      ≡ outcomes_in form t (named_in s.show t) s.depth (map without_choices others)
+      → outcomes_in form t (names_shown s.show t) s.depth (map without_choices outcomes)
+      ≡ outcomes_in form t (names_shown s.show t) s.depth (map without_choices others)
 
 -- the text shows no state: it says that the machine can reach more of them than may be kept
 pub record ShowsNoState (t : Litmus) (s : Search) (json : Bool) (out : List ℕ) : Type 0 where

@@ -8,16 +8,16 @@ use Rattle.tso_laws.specs.Along.{LeadTo}
 use Rattle.scheduler.specs.Grammar.{SpellsChoices}
 use Rattle.protocol_tables.specs.declared.kind.ProtocolKind.{ProtocolKind}
 use Rattle.machine_core.specs.Configuration.{Configuration}
-use Rattle.tso_report.specs.Shown.{Shown}
+use Rattle.tso_report.specs.Shown.{ShownRun}
 use Rattle.tso_report.specs.Report.{head}
 use Rattle.trace_report.specs.Lines.{trace_text}
-use Rattle.trace_report.specs.Shown.{Shown as Step}
+use Rattle.trace_report.specs.Shown.{ShownStep as Step}
 use Rattle.tso_report.specs.Json.{json_report}
 use Rattle.trace_json.specs.TracedRun.{json_ended}
-use Rattle.shown_values.specs.Shown.{named_in}
+use Rattle.shown_values.specs.Shown.{names_shown}
 use Rattle.outcome_report.specs.Outcomes.{Outcome}
 use Rattle.outcome_report.specs.Printed.{outcomes_in}
-use Rattle.outcome_report.specs.Laws.{AreAlike}
+use Rattle.outcome_report.specs.Laws.{OutcomesAreAlike}
 use Rattle.command_line.specs.Search.{Search}
 use Rattle.commands.specs.RunTexts.{report_in}
 use Rattle.command_line.specs.declared.settings.Settings.{Settings}
@@ -33,8 +33,8 @@ GivesOneAnswer _ = Unit {0}
 -- two reports show the same order, registers, memory and verdict of one test; the counts of choices and of accesses may differ
 pub record ShowOneExecution (kind : ProtocolKind) (c : Configuration) (json : Bool) (out other : List ℕ) : Type 0 where
   pub t : Litmus
-  pub shown : Shown
-  pub again : Shown
+  pub shown : ShownRun
+  pub again : ShownRun
   pub first : out ≡ report_in json t kind c shown
   pub second : other ≡ report_in json t kind c again
   pub order : shown.order ≡ again.order
@@ -60,8 +60,8 @@ pub record TraceOneExecution (kind : ProtocolKind) (c : Configuration) (out othe
 pub record TraceOneObject (kind : ProtocolKind) (c : Configuration) (out other : List ℕ) : Type 0 where
   pub t : Litmus
   pub choices : List Choice
-  pub shown : Shown
-  pub again : Shown
+  pub shown : ShownRun
+  pub again : ShownRun
   pub first : out ≡ json_ended t kind c choices shown
   pub second : other ≡ json_ended t kind c choices again
   pub reports : ShowOneExecution kind c true (json_report t kind c shown) (json_report t kind c again)
@@ -76,9 +76,9 @@ pub record ShowTheSameStates (s : Search) (json : Bool) (out other : List ℕ) :
   pub t : Litmus
   pub outcomes : List Outcome
   pub others : List Outcome
-  pub first : out ≡ outcomes_in json t (named_in s.show t) s.depth outcomes
-  pub second : other ≡ outcomes_in json t (named_in s.show t) s.depth others
-  pub alike : AreAlike t (named_in s.show t) outcomes others
+  pub first : out ≡ outcomes_in json t (names_shown s.show t) s.depth outcomes
+  pub second : other ≡ outcomes_in json t (names_shown s.show t) s.depth others
+  pub alike : OutcomesAreAlike t (names_shown s.show t) outcomes others
 
 -- two texts spell choices of one test that lead to one order at this depth; which choices they are may differ
 pub record ReachOneOrder (depth : ℕ) (out other : List ℕ) : Type 0 where

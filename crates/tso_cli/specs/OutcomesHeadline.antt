@@ -11,7 +11,7 @@ use Rattle.explorer.specs.FinalStates.{HasMoreStates}
 use Rattle.scheduler.specs.Grammar.{SpellsChoices}
 use Rattle.scheduler.specs.Printed.{printed_choices}
 use Rattle.tso_report.specs.declared.named.Named.{Named}
-use Rattle.shown_values.specs.Shown.{named_in, values_at}
+use Rattle.shown_values.specs.Shown.{names_shown, values_at}
 use Rattle.outcome_report.specs.Outcomes.{Outcome, shown_values}
 use Rattle.outcome_report.specs.Printed.{outcomes_in, unfinished_search_in}
 use Rattle.command_line.specs.Search.{Search}
@@ -32,10 +32,10 @@ AreExactly t names outcomes Allowed =
 -- exactly what sequentially consistent ones leave; and the choices of each can be read again, as `run` reads them
 pub record PrintsAllOutcomes (t : Litmus) (s : Search) (json : Bool) (out : List ℕ) : Type 0 where
   pub outcomes : List Outcome
-  pub printed : out ≡ outcomes_in json t (named_in s.show t) s.depth outcomes
-  pub all : AreAllOutcomes t (named_in s.show t) s.depth outcomes
-  pub tso : s.depth ≡ most_depth → AreExactly t (named_in s.show t) outcomes (IsTsoExecution t)
-  pub sequential : s.depth ≡ 0 → AreExactly t (named_in s.show t) outcomes (IsSequentiallyConsistent t)
+  pub printed : out ≡ outcomes_in json t (names_shown s.show t) s.depth outcomes
+  pub all : AreAllOutcomes t (names_shown s.show t) s.depth outcomes
+  pub tso : s.depth ≡ most_depth → AreExactly t (names_shown s.show t) outcomes (IsTsoExecution t)
+  pub sequential : s.depth ≡ 0 → AreExactly t (names_shown s.show t) outcomes (IsSequentiallyConsistent t)
   pub spelled : All (λ o. SpellsChoices (length t.programs) (printed_choices o.choices) o.choices) outcomes
 
 -- that, or one line which says that the machine can reach more states than may be kept: then no state is printed, so that nobody

@@ -6,15 +6,15 @@ use Rattle.litmus_reader.specs.Spelling.{SpellsTest}
 use Rattle.scheduler.specs.Printed.{printed_choices}
 use Rattle.protocol_tables.specs.declared.kind.ProtocolKind.{ProtocolKind}
 use Rattle.machine_core.specs.Configuration.{Configuration}
-use Rattle.tso_report.specs.Shown.{Shown}
+use Rattle.tso_report.specs.Shown.{ShownRun}
 use Rattle.tso_report.specs.declared.named.Named.{Named}
-use Rattle.shown_values.specs.Shown.{named_in, values_at}
+use Rattle.shown_values.specs.Shown.{names_shown, values_at}
 use Rattle.shown_values.specs.declared.show.Show.{Show}
 use Rattle.outcome_report.specs.Outcomes.{Outcome, shown_values}
 use Rattle.outcome_report.specs.Printed.{outcomes_in}
 use Rattle.command_line.specs.declared.settings.Settings.TheVariants as settings
 use Rattle.tso_cli.specs.Answers.{IsAnswer}
-use Rattle.commands.specs.Dividing.{joined}
+use Rattle.commands.specs.Dividing.{joined_parts}
 use Rattle.commands.specs.RunTexts.{report_in}
 use Rattle.commands.specs.declared.answer.Status.{Status}
 use Rattle.commands.specs.declared.answer.Status.TheVariants.{Good}
@@ -23,7 +23,7 @@ use Rattle.commands.specs.declared.answer.Status.TheVariants.{Good}
 -- over
 pub record ReportsValues (t : Litmus) (names : List Named) (kind : ProtocolKind) (c : Configuration) (json : Bool) (values out : List ℕ)
     : Type 0 where
-  pub shown : Shown
+  pub shown : ShownRun
   pub printed : out ≡ report_in json t kind c shown
   pub values_are : values_at names shown.registers shown.memory ≡ values
   pub stalled : shown.stalled ≡ 0
@@ -33,7 +33,7 @@ pub record ReportsValues (t : Litmus) (names : List Named) (kind : ProtocolKind)
 abbrev pub IsRevisited : ProtocolKind → Configuration → Bool → List ℕ → Litmus → List Named → Outcome → Type 0
 IsRevisited kind c json test t names o =
     (answer : List ℕ) (status : Status)
-    → IsAnswer (settings.Run kind c json) (Some (joined test (printed_choices o.choices))) answer status
+    → IsAnswer (settings.Run kind c json) (Some (joined_parts test (printed_choices o.choices))) answer status
     → ReportsValues t names kind c json (shown_values names o) answer × (status ≡ Good)
 
 -- so it is with each state of the given test that was printed
@@ -41,5 +41,5 @@ pub record AreRevisited (kind : ProtocolKind) (c : Configuration) (show : Show) 
   pub t : Litmus
   pub spelled : SpellsTest test t
   pub outcomes : List Outcome
-  pub printed : out ≡ outcomes_in told t (named_in show t) c.depth outcomes
-  pub each : All (IsRevisited kind c json test t (named_in show t)) outcomes
+  pub printed : out ≡ outcomes_in told t (names_shown show t) c.depth outcomes
+  pub each : All (IsRevisited kind c json test t (names_shown show t)) outcomes

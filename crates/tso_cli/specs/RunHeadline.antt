@@ -14,7 +14,7 @@ use Rattle.scheduler.specs.declared.fault.ChoiceFault.{ChoiceFault}
 use Rattle.order_builder.specs.Spelling.{SpellsOrder}
 use Rattle.protocol_tables.specs.declared.kind.ProtocolKind.{ProtocolKind}
 use Rattle.machine_core.specs.Configuration.{Configuration}
-use Rattle.tso_report.specs.Shown.{Shown}
+use Rattle.tso_report.specs.Shown.{ShownRun}
 use Rattle.commands.specs.Lines.{choices_refusal}
 use Rattle.commands.specs.RunTexts.{report_in, unfinished_in}
 use Rattle.simulator.specs.Simulation.{verdict}
@@ -25,7 +25,7 @@ use Rattle.tso_cli.specs.SplitRun.{split_run}
 -- order give, and its verdict is the condition's truth in them; its order is the one that the run committed; and a plain report
 -- can be read again, as the text of that order
 pub record PrintsExecution (t : Litmus) (kind : ProtocolKind) (c : Configuration) (json : Bool) (r : Run) (out : List ℕ) : Type 0 where
-  pub shown : Shown
+  pub shown : ShownRun
   pub printed : out ≡ report_in json t kind c shown
   pub execution : IsTsoExecution t shown.order
   pub unbuffered : c.depth ≡ 0 → KeepsAllOrder shown.order

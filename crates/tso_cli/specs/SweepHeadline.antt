@@ -13,7 +13,7 @@ use Rattle.tso_model.specs.declared.choice.Choice.{Choice}
 use Rattle.tso_model.specs.declared.execution.Entry.{Entry}
 use Rattle.protocol_tables.specs.declared.kind.ProtocolKind.{ProtocolKind}
 use Rattle.machine_core.specs.Configuration.{Configuration}
-use Rattle.tso_report.specs.Tally.{RunCounts, runs_in, values_in, Ascend, state_line}
+use Rattle.tso_report.specs.Tally.{RunCounts, runs_in, values_in, Ascend, counted_state_line}
 use Rattle.scheduler.specs.Plan.{Plan}
 use Rattle.tso_cli.specs.SplitRun.{split_run}
 use Rattle.commands.specs.Sweep.{sweep_lines}
@@ -24,13 +24,13 @@ abbrev pub seeded_order : Litmus → (List Choice → Run) → Plan → ℕ → 
 seeded_order t run_of plan seed = let r = run_of (choices_of t plan.length seed) in (if r.ended then Some r.commits else None)
 
 -- the values that the final state of an order has
-abbrev pub values_after : Litmus → List Entry → List ℕ
-values_after t order = values_in t (final_registers t order) (final_words t order)
+abbrev pub final_values : Litmus → List Entry → List ℕ
+final_values t order = values_in t (final_registers t order) (final_words t order)
 
 -- whether the final state of such an order has these values (`bytes_eq` compares two lists number by number)
 abbrev pub has_values : Litmus → List ℕ → Option (List Entry) → Bool
 has_values t values None = false
-has_values t values (Some order) = bytes_eq values (values_after t order)
+has_values t values (Some order) = bytes_eq values (final_values t order)
 
 -- whether the claim has this truth there
 abbrev pub has_truth : Litmus → Claim → Bool → Option (List Entry) → Bool
@@ -64,10 +64,10 @@ pub record PrintsSweep (t : Litmus) (kind : ProtocolKind) (c : Configuration) (p
   pub every_seed : c.bus ≡ Atomic → (seed : ℕ) → IfSome (seeded_order t run_of plan seed) (IsTsoExecution t)
   pub unbuffered : c.depth ≡ 0 → (n : ℕ) → n < plan.seeds → IfSome (seeded_order t run_of plan (plan.from + n)) KeepsAllOrder
   pub ascending : Ascend counts.states
-  pub lines : All (λ state. HasPart out (state_line t state)) counts.states
+  pub lines : All (λ state. HasPart out (counted_state_line t state)) counts.states
   pub states : All (λ state. (0 < state.1) × (state.1 ≡ seeds_with t run_of plan (has_values t state.0))) counts.states
   pub complete : (n : ℕ) → n < plan.seeds
-      → IfSome (seeded_order t run_of plan (plan.from + n)) (λ order. Contains (keys_of counts.states) (values_after t order))
+      → IfSome (seeded_order t run_of plan (plan.from + n)) (λ order. Contains (keys_of counts.states) (final_values t order))
   pub held : IfSome t.condition (λ condition. counts.held ≡ seeds_with t run_of plan (has_truth t condition.claim true))
   pub failed : IfSome t.condition (λ condition. counts.failed ≡ seeds_with t run_of plan (has_truth t condition.claim false))
   pub unfinished : counts.unfinished ≡ seeds_with t run_of plan is_none

@@ -16,7 +16,7 @@ use Rattle.tso_report.specs.Report.{head}
 use Rattle.trace_report.specs.Lines.{trace_text}
 use Rattle.trace_report.specs.Steps.{trace_under}
 use Rattle.trace_json.specs.TracedRun.{most_steps, json_ended, json_unended}
-use Rattle.commands.specs.Lines.{choices_refusal, unfinished_line}
+use Rattle.commands.specs.Lines.{choices_refusal, unfinished_run_line}
 use Rattle.tso_cli.specs.RunHeadline.{PrintsExecution}
 use Rattle.tso_cli.specs.SplitRun.{split_run}
 use Rattle.commands.specs.Trace.{FitsForm, IsTooLong}
@@ -27,7 +27,7 @@ pub record PrintsTrace (t : Litmus) (kind : ProtocolKind) (c : Configuration) (c
   pub rest : List ℕ
   pub printed : out ≡ head t kind c ++ (trace_text t c.shape.words (trace_under t kind c choices) ++ rest)
   pub ended : r.ended ≡ true → PrintsExecution t kind c false r (head t kind c ++ rest)
-  pub unended : r.ended ≡ false → rest ≡ unfinished_line r.used r.stalled
+  pub unended : r.ended ≡ false → rest ≡ unfinished_run_line r.used r.stalled
 
 -- as JSON, where the run ends: the object of an execution, as `run` prints it, with what a trace adds
 pub record PrintsTracedExecution (t : Litmus) (kind : ProtocolKind) (c : Configuration) (choices : List Choice) (r : Run) (out : List ℕ)

@@ -11,7 +11,7 @@ use Rattle.tso_model.specs.declared.execution.Entry.{Entry}
 use Rattle.tso_laws.specs.Along.{LeadTo}
 use Rattle.tso_laws.specs.EndedRuns.{End}
 use Rattle.refutation_laws.specs.Models.{IsExecutionOf, depth_of}
-use Rattle.refutation_laws.specs.Refutations.{Node, asked, refutes}
+use Rattle.refutation_laws.specs.Refutations.{Node, asked_claim, refutes}
 use Rattle.refutation_laws.specs.declared.model.Model.{Model}
 use Rattle.refutation_laws.specs.declared.model.Model.TheVariants.{Tso, Sequential}
 use Rattle.reasons.specs.Reasons.{HasMoreCases, most_cases}
@@ -36,7 +36,7 @@ IsDepthOf Sequential depth = depth ≡ 0
 pub record PrintsRefutation (t : Litmus) (model : Model) (json : Bool) (out : List ℕ) : Type 0 where
   pub nodes : List Node
   pub printed : out ≡ refutation_in json model t nodes
-  pub refuted : refutes model t (asked t.condition) nodes ≡ true
+  pub refuted : refutes model t (asked_claim t.condition) nodes ≡ true
   pub executions : (order : List Entry) → IsExecutionOf model t order → ¬ IsSoIn t.condition (final_registers t order) (final_words t order)
   pub runs : (depth : ℕ) (choices : List Choice) → IsDepthOf model depth → End t depth choices
       → ¬ IsSoIn t.condition (registers_in (run t depth choices).state) (run t depth choices).state.memory

@@ -6,8 +6,8 @@ ghost use Rattle.tso_cli.specs.Answers.{IsTableAnswer, IsAnswerTo, IsInputAnswer
 ghost use Rattle.tso_cli.specs.Headline.{Headline};
 ghost use Rattle.command_line.specs.Limits.{HasDepth};
 
+use crate::answers::answers_meet_the_headline;
 use crate::hinting::may_mislead;
-use crate::laws::answers_meet_the_headline;
 use crate::listing::left_out;
 use command_line::Settings;
 use commands::{

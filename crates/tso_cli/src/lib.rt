@@ -3,12 +3,13 @@
 #![tactic(auto)]
 
 pub mod answering;
+pub mod answers;
 pub mod command;
 pub mod headline_laws;
 pub mod hinting;
-pub mod laws;
 mod listing;
 pub mod machine_laws;
+pub mod round_trips;
 mod stepping;
 
 pub use answering::{answer_to, answer_watched};

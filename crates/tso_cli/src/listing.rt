@@ -2,7 +2,7 @@
 //! proved rests on it.
 
 use hints::{Cause, ListedName, listed_in};
-use shown_values::{Show, named_in};
+use shown_values::{Show, names_shown};
 use std::alloc::Global;
 use tso_model::{Core, Loc, NoMemory, Reg, Test};
 use tso_report::named::Named;
@@ -18,8 +18,8 @@ pub(crate) fn left_out(
     show: Show,
 ) -> Result<Option<Cause>, NoMemory> {
     let list = listed_in(alloc, test, spelling)?;
-    let shown = named_in(alloc, test, show)?;
-    let shown_at_most = named_in(alloc, test, Show::All)?;
+    let shown = names_shown(alloc, test, show)?;
+    let shown_at_most = names_shown(alloc, test, Show::All)?;
     for listed in &list {
         if !is_among(&shown, listed.what) && is_among(&shown_at_most, listed.what) {
             return Ok(Some(Cause::LeftOut {

@@ -10,7 +10,7 @@ ghost use Rattle.tso_cli.specs.Answers.{IsAnswer};
 ghost use Rattle.tso_cli.specs.Machines.{AreAtomicAtOneDepth, RunsAnswerAlike, TracesAnswerAlike, SweepsAnswerAlike};
 ghost use Rattle.commands.specs.declared.answer.Status.{Status};
 
-use crate::laws::texts_are_read_one_way;
+use crate::answers::texts_are_read_one_way;
 
 /// On the atomic bus two protocols, shapes and line sizes give answers to one input that differ in the
 /// `Machine` line and the `Cache` lines alone: as JSON in the members `machine` and `cache`, of a sweep

@@ -33,7 +33,7 @@ pub use Rattle.tso_model.specs.declared.instruction.Loc.{Loc}
 pub use Rattle.tso_model.specs.declared.choice.Stall.{Stall}
 pub use Rattle.tso_model.specs.declared.choice.Outcome.TheVariants.{Committed, Buffered, Stalled}
 pub use Rattle.tso_laws.specs.Along.{steps, choices_along, LeadTo, drained, choices_for, places_after, last_steps, choices_from, beginnings}
-pub use Rattle.tso_laws.specs.Counting.{store_count, stores_in, most_stores, longest, instructions, stores}
+pub use Rattle.tso_laws.specs.Counting.{store_count, stores_in, most_stores, longest, instructions, stores_of_all}
 pub use Rattle.tso_laws.specs.Depth.{needed, stores_before, most_passed, one_for_stores}
 pub use Rattle.tso_laws.specs.Reached.{IsReached}
 pub use Rattle.std.proofs.Math.ListN.{length-set}

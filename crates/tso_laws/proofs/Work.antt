@@ -1,5 +1,5 @@
 -- What is left to do, and that each choice that takes effect does one part of it.
-use Rattle.tso_laws.proofs.Vocabulary.{◌≡◌, ◌<◌, ◌≤◌, ℕ, ◌+◌, zero, suc, List, [], ◌∷◌, Option, Some, None, Bool, true, false, length, slice_get, slice_set, slice_index_or, drop, arith, ap, sym, ◌∙◌, refl, ◌⊎◌, inl, inr, ◌==◌, nat_lt, if◌then◌else◌, length-append, length-set, slice_get_within, nat_tests, Litmus, Entry, Instr, Action, Store, Load, Move, Fence, Lock, Choice, Step, Drain, Stall, Committed, action_of, is_none_pending, core_of, stalled, advanced, CoreState, State, Effect, idle, program_of, stored, when_drained, effect_by, step_of, drain_of, effect_of, chosen, after_choice, started, start, lt-or, and-left, and-right, is_done, all_done, has_ended, stall_count, then_run, resting, run, run_from, store_count, stores_in, instructions, stores, drop-at, drop-end}
+use Rattle.tso_laws.proofs.Vocabulary.{◌≡◌, ◌<◌, ◌≤◌, ℕ, ◌+◌, zero, suc, List, [], ◌∷◌, Option, Some, None, Bool, true, false, length, slice_get, slice_set, slice_index_or, drop, arith, ap, sym, ◌∙◌, refl, ◌⊎◌, inl, inr, ◌==◌, nat_lt, if◌then◌else◌, length-append, length-set, slice_get_within, nat_tests, Litmus, Entry, Instr, Action, Store, Load, Move, Fence, Lock, Choice, Step, Drain, Stall, Committed, action_of, is_none_pending, core_of, stalled, advanced, CoreState, State, Effect, idle, program_of, stored, when_drained, effect_by, step_of, drain_of, effect_of, chosen, after_choice, started, start, lt-or, and-left, and-right, is_done, all_done, has_ended, stall_count, then_run, resting, run, run_from, store_count, stores_in, instructions, stores_of_all, drop-at, drop-end}
 use Rattle.tso_model.specs.declared.choice.Stall.TheVariants as stall
 use Rattle.tso_laws.proofs.Draining.{waits-or-acts, drains}
 use Rattle.tso_laws.proofs.Folds.{put}
@@ -199,7 +199,7 @@ work-is : (n : ℕ) (p : List Instr) → work (suc n) p ≡ length p + stores_in
 work-is n [] = refl
 work-is n (x ∷ xs) = let h = work-is n xs in let w = weight-is n (action_of x) in omega arith
 
-works-are : (n : ℕ) (ps : List (List Instr)) → works (suc n) ps ≡ instructions ps + stores ps
+works-are : (n : ℕ) (ps : List (List Instr)) → works (suc n) ps ≡ instructions ps + stores_of_all ps
 works-are n [] = refl
 works-are n (p ∷ ps) = let h = works-are n ps in let w = work-is n p in omega arith
 
@@ -225,7 +225,7 @@ counted t d cs e =
     let s = start-remaining d 0 t.programs t.registers in omega arith
 
 pub counted-buffered : (t : Litmus) (d : ℕ) (cs : List Choice) → 0 < d → (run t d cs).ended ≡ true
-    → (run t d cs).used ≡ (run t d cs).stalled + (instructions t.programs + stores t.programs)
+    → (run t d cs).used ≡ (run t d cs).stalled + (instructions t.programs + stores_of_all t.programs)
 counted-buffered t zero cs p e = absurd (omega arith)
 counted-buffered t (suc n) cs p e = counted t (suc n) cs e ∙ ap (λ z. (run t (suc n) cs).stalled + z) (works-are n t.programs)
 

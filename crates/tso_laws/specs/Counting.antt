@@ -25,9 +25,9 @@ instructions [] = 0
 instructions (p ∷ ps) = length p + instructions ps
 
 -- the plain stores of all programs
-abbrev pub stores : List (List Instr) → ℕ
-stores [] = 0
-stores (p ∷ ps) = stores_in p + stores ps
+abbrev pub stores_of_all : List (List Instr) → ℕ
+stores_of_all [] = 0
+stores_of_all (p ∷ ps) = stores_in p + stores_of_all ps
 
 -- the greatest number of plain stores in one program
 abbrev pub most_stores : List (List Instr) → ℕ

@@ -11,7 +11,7 @@ use Rattle.tso_model.specs.declared.choice.Choice.{Choice}
 use Rattle.tso_laws.specs.Choices.{state_after, commits_of, IsPossible}
 use Rattle.tso_laws.specs.SoFar.{SoFar}
 use Rattle.tso_laws.specs.EndedRuns.{End}
-use Rattle.tso_laws.specs.Counting.{instructions, stores, longest}
+use Rattle.tso_laws.specs.Counting.{instructions, stores_of_all, longest}
 use Rattle.tso_laws.specs.Rounds.{CanBeCutIntoRounds}
 use Rattle.tso_laws.specs.Depth.{needed}
 use Rattle.tso_laws.specs.Along.{choices_along, LeadTo}
@@ -31,7 +31,7 @@ pub record WhatHoldsSoFar : Type 0 where
 -- one more for each plain store
 pub record RunsAreCounted : Type 0 where
   pub buffered : (t : Litmus) (depth : ℕ) (choices : List Choice) → 0 < depth → End t depth choices
-      → (run t depth choices).used ≡ (run t depth choices).stalled + (instructions t.programs + stores t.programs)
+      → (run t depth choices).used ≡ (run t depth choices).stalled + (instructions t.programs + stores_of_all t.programs)
   pub unbuffered : (t : Litmus) (choices : List Choice) → End t 0 choices
       → (run t 0 choices).used ≡ (run t 0 choices).stalled + instructions t.programs
 

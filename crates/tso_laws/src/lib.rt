@@ -9,10 +9,10 @@
 //! machine. Rounds, the depth that an order needs and the choices along an order are this project's.
 #![tactic(auto)]
 
-pub mod laws;
+pub mod flat_runs;
 pub mod worked;
 
-pub use laws::{
+pub use flat_runs::{
     choices_lead_from_state_to_state, ended_runs_are_executions, every_execution_is_reached,
     fair_rounds_end, made_entries_fit_the_test, most_stores_are_depth_enough,
     needed_is_the_most_that_is_asked, no_buffer_no_reordering, runs_are_counted,

@@ -1,5 +1,5 @@
 -- One run more raises one count and keeps the order.
-use Rattle.tso_report.proofs.Vocabulary.{◌≡◌, ◌≢◌, ◌∙◌, ℕ, ◌+◌, cond, List, [], ◌∷◌, Option, Some, None, unwrap_or, refl, sym, ap, Ordering, Less, Equal, Greater, nat_cmp, match_ordering, is_eq, ordering_reverse, slice_cmp, insert_entry, is_at, lookup, keys_of, AllByRecursion, IsStrictlySortedBy, nat_list_cmp_total, tied_itself, count_of, with_values, Ascend}
+use Rattle.tso_report.proofs.Vocabulary.{◌≡◌, ◌≢◌, ◌∙◌, ℕ, ◌+◌, cond, List, [], ◌∷◌, Option, Some, None, unwrap_or, refl, sym, ap, Ordering, Less, Equal, Greater, nat_cmp, match_ordering, is_eq, ordering_reverse, slice_cmp, insert_entry, is_at, lookup, keys_of, AllByRecursion, IsStrictlySortedBy, nat_list_cmp_total, tied_itself, count_of_runs, with_values, Ascend}
 use Rattle.std.proofs.lemmas.Map.Lookups.{exact_bytes}
 
 -- ---- the count of the values themselves
@@ -14,8 +14,8 @@ lookup-inserted values n (e ∷ es) = by_order (slice_cmp nat_cmp values e.0) re
     by_order Equal is further = ap (λ o. cond (is_eq o) (Some n) (lookup (is_at (slice_cmp nat_cmp values)) es)) is
     by_order Greater is further = ap (λ o. cond (is_eq o) (Some e.1) (lookup (is_at (slice_cmp nat_cmp values)) (insert_entry (slice_cmp nat_cmp) es values n))) is ∙ further
 
-pub own-count : (values : List ℕ) (states : List (List ℕ × ℕ)) → count_of values (with_values values states) ≡ count_of values states + 1
-own-count values states = ap (λ o. unwrap_or o 0) (lookup-inserted values (count_of values states + 1) states)
+pub own-count : (values : List ℕ) (states : List (List ℕ × ℕ)) → count_of_runs values (with_values values states) ≡ count_of_runs values states + 1
+own-count values states = ap (λ o. unwrap_or o 0) (lookup-inserted values (count_of_runs values states + 1) states)
 
 -- ---- every other count
 
@@ -41,8 +41,8 @@ lookup-other other values n (e ∷ es) differ = by_order (slice_cmp nat_cmp valu
         skipped other e.0 n (lookup (is_at (slice_cmp nat_cmp other)) es) apart ∙ sym (skipped other e.0 e.1 (lookup (is_at (slice_cmp nat_cmp other)) es) apart)
     by_order Greater is further = ap (λ o. cond (is_eq (slice_cmp nat_cmp other e.0)) (Some e.1) o) further
 
-pub other-count : (values other : List ℕ) (states : List (List ℕ × ℕ)) → other ≢ values → count_of other (with_values values states) ≡ count_of other states
-other-count values other states differ = ap (λ o. unwrap_or o 0) (lookup-other other values (count_of values states + 1) states differ)
+pub other-count : (values other : List ℕ) (states : List (List ℕ × ℕ)) → other ≢ values → count_of_runs other (with_values values states) ≡ count_of_runs other states
+other-count values other states differ = ap (λ o. unwrap_or o 0) (lookup-other other values (count_of_runs values states + 1) states differ)
 
 -- ---- the order
 
@@ -74,4 +74,4 @@ insert-ascends values n (e ∷ es) h = by_order (slice_cmp nat_cmp values e.0) r
         (all-inserted (λ y. slice_cmp nat_cmp e.0 y ≡ Less) values n es (nat_list_cmp_total.antisymm e.0 values ∙ ap ordering_reverse is) h.0, further)
 
 pub states-ascend : (values : List ℕ) (states : List (List ℕ × ℕ)) → Ascend states → Ascend (with_values values states)
-states-ascend values states h = insert-ascends values (count_of values states + 1) states h
+states-ascend values states h = insert-ascends values (count_of_runs values states + 1) states h

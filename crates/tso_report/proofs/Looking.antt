@@ -1,5 +1,5 @@
 -- What is looked at, one core and one location at a time.
-use Rattle.tso_report.proofs.Vocabulary.{◌≡◌, ◌∙◌, ℕ, zero, suc, ◌+◌, ◌-◌, ◌<◌, ◌≤◌, Bool, List, [], ◌∷◌, ◌++◌, length, map, filter, All, ap, sym, subst, append_assoc, arith, filter-append, All-filter, All-append, All-cons, All-nil, Litmus, Reg, Named, all_registers, is_looked_at, register_of, location, named_registers, named_locations, looked_at, IsKnown}
+use Rattle.tso_report.proofs.Vocabulary.{◌≡◌, ◌∙◌, ℕ, zero, suc, ◌+◌, ◌-◌, ◌<◌, ◌≤◌, Bool, List, [], ◌∷◌, ◌++◌, length, map, filter, All, ap, sym, subst, append_assoc, arith, filter-append, All-filter, All-append, All-cons, All-nil, Litmus, Reg, Named, all_registers, is_looked_at, named_register, named_location, named_registers, named_locations, looked_at, NameExists}
 
 count-next : (i n : ℕ) → i < n → n - i ≡ suc (n - (i + 1))
 count-next i n h = omega arith
@@ -12,46 +12,46 @@ part-noted p list before after part rest is was =
     ∙ (ap (λ further. before ++ further) (sym (filter-append p part rest)) ∙ was))
 
 pub core-noted : (p : Named → Bool) (list before after : List Named) (core n : ℕ) → core < n
-    → after ≡ before ++ filter p (map (register_of core) all_registers) → before ++ filter p (named_registers core (n - core)) ≡ list
+    → after ≡ before ++ filter p (map (named_register core) all_registers) → before ++ filter p (named_registers core (n - core)) ≡ list
     → after ++ filter p (named_registers (core + 1) (n - (core + 1))) ≡ list
 core-noted p list before after core n small is was =
-    part-noted p list before after (map (register_of core) all_registers) (named_registers (core + 1) (n - (core + 1))) is
+    part-noted p list before after (map (named_register core) all_registers) (named_registers (core + 1) (n - (core + 1))) is
     (ap (λ count. before ++ filter p (named_registers core count)) (sym (count-next core n small)) ∙ was)
 
 pub location-noted : (p : Named → Bool) (list before after : List Named) (loc n : ℕ) → loc < n
-    → after ≡ before ++ filter p (location loc ∷ []) → before ++ filter p (named_locations loc (n - loc)) ≡ list
+    → after ≡ before ++ filter p (named_location loc ∷ []) → before ++ filter p (named_locations loc (n - loc)) ≡ list
     → after ++ filter p (named_locations (loc + 1) (n - (loc + 1))) ≡ list
 location-noted p list before after loc n small is was =
-    part-noted p list before after (location loc ∷ []) (named_locations (loc + 1) (n - (loc + 1))) is
+    part-noted p list before after (named_location loc ∷ []) (named_locations (loc + 1) (n - (loc + 1))) is
     (ap (λ count. before ++ filter p (named_locations loc count)) (sym (count-next loc n small)) ∙ was)
 
 -- ---- what is looked at is there
 
-core-known : (cores locations core : ℕ) (regs : List Reg) → core < cores → All (IsKnown cores locations) (map (register_of core) regs)
-core-known cores locations core [] small = All-nil (IsKnown cores locations)
-core-known cores locations core (reg ∷ regs) small = All-cons (IsKnown cores locations) (register_of core reg) (map (register_of core) regs) small (core-known cores locations core regs small)
+core-known : (cores locations core : ℕ) (regs : List Reg) → core < cores → All (NameExists cores locations) (map (named_register core) regs)
+core-known cores locations core [] small = All-nil (NameExists cores locations)
+core-known cores locations core (reg ∷ regs) small = All-cons (NameExists cores locations) (named_register core reg) (map (named_register core) regs) small (core-known cores locations core regs small)
 
-registers-known : (cores locations core count : ℕ) → core + count ≤ cores → All (IsKnown cores locations) (named_registers core count)
-registers-known cores locations core zero fits = All-nil (IsKnown cores locations)
+registers-known : (cores locations core count : ℕ) → core + count ≤ cores → All (NameExists cores locations) (named_registers core count)
+registers-known cores locations core zero fits = All-nil (NameExists cores locations)
 registers-known cores locations core (suc count) fits =
-    All-append (IsKnown cores locations) (map (register_of core) all_registers) (named_registers (core + 1) count)
+    All-append (NameExists cores locations) (map (named_register core) all_registers) (named_registers (core + 1) count)
     (core-known cores locations core all_registers (omega (arith, fits))) (registers-known cores locations (core + 1) count (omega (arith, fits)))
 
-locations-known : (cores locations loc count : ℕ) → loc + count ≤ locations → All (IsKnown cores locations) (named_locations loc count)
-locations-known cores locations loc zero fits = All-nil (IsKnown cores locations)
+locations-known : (cores locations loc count : ℕ) → loc + count ≤ locations → All (NameExists cores locations) (named_locations loc count)
+locations-known cores locations loc zero fits = All-nil (NameExists cores locations)
 locations-known cores locations loc (suc count) fits =
-    All-cons (IsKnown cores locations) (location loc) (named_locations (loc + 1) count) (omega (arith, fits)) (locations-known cores locations (loc + 1) count (omega (arith, fits)))
+    All-cons (NameExists cores locations) (named_location loc) (named_locations (loc + 1) count) (omega (arith, fits)) (locations-known cores locations (loc + 1) count (omega (arith, fits)))
 
 -- all registers and locations of a test
-pub names-known : (t : Litmus) → All (IsKnown (length t.programs) (length t.locations)) (named_registers 0 (length t.programs) ++ named_locations 0 (length t.locations))
+pub names-known : (t : Litmus) → All (NameExists (length t.programs) (length t.locations)) (named_registers 0 (length t.programs) ++ named_locations 0 (length t.locations))
 names-known t =
     let cores = length t.programs in
     let locations = length t.locations in
-    All-append (IsKnown cores locations) (named_registers 0 cores) (named_locations 0 locations) (registers-known cores locations 0 cores (omega arith)) (locations-known cores locations 0 locations (omega arith))
+    All-append (NameExists cores locations) (named_registers 0 cores) (named_locations 0 locations) (registers-known cores locations 0 cores (omega arith)) (locations-known cores locations 0 locations (omega arith))
 
-pub looked-known : (t : Litmus) → All (IsKnown (length t.programs) (length t.locations)) (looked_at t)
+pub looked-known : (t : Litmus) → All (NameExists (length t.programs) (length t.locations)) (looked_at t)
 looked-known t =
-    All-filter (is_looked_at t.condition) (IsKnown (length t.programs) (length t.locations)) (named_registers 0 (length t.programs) ++ named_locations 0 (length t.locations)) (names-known t)
+    All-filter (is_looked_at t.condition) (NameExists (length t.programs) (length t.locations)) (named_registers 0 (length t.programs) ++ named_locations 0 (length t.locations)) (names-known t)
 
 -- all of them are noted, registers first, after nothing
 pub all-noted : (t : Litmus) (first middle list : List Named) → first ≡ [] → middle ≡ first ++ filter (is_looked_at t.condition) (named_registers 0 (length t.programs))
@@ -61,5 +61,5 @@ all-noted t first middle list none registers locations =
     locations ∙ (ap (λ noted. noted ++ filter p (named_locations 0 (length t.locations))) (registers ∙ ap (λ noted. noted ++ filter p (named_registers 0 (length t.programs))) none)
     ∙ sym (filter-append p (named_registers 0 (length t.programs)) (named_locations 0 (length t.locations))))
 
-pub noted-known : (t : Litmus) (list : List Named) → list ≡ looked_at t → All (IsKnown (length t.programs) (length t.locations)) list
-noted-known t list is = subst (All (IsKnown (length t.programs) (length t.locations))) (sym is) (looked-known t)
+pub noted-known : (t : Litmus) (list : List Named) → list ≡ looked_at t → All (NameExists (length t.programs) (length t.locations)) list
+noted-known t list is = subst (All (NameExists (length t.programs) (length t.locations))) (sym is) (looked-known t)

@@ -1,5 +1,5 @@
 -- The values of a report have no float, so that their text is known.
-use Rattle.tso_report.proofs.Vocabulary.{◌≡◌, ℕ, Bool, true, false, ◌||◌, List, [], ◌∷◌, map, Option, Some, None, refl, nat_cmp, match_ordering, slice_cmp, Ordering, Less, Equal, Greater, or_parts, string, Members, no_members, member, put, items_of, has_float, items_have_float, members_have_float, Litmus, Condition, Bus, Atomic, Split, Entry, printed_entry, ProtocolKind, Configuration, Counts, Shown, count, counts_value, cache_value, condition_value, with_bus, machine_members, machine_value, memory_members, memory_value, order_value, registers_value, cores_value, run_value}
+use Rattle.tso_report.proofs.Vocabulary.{◌≡◌, ℕ, Bool, true, false, ◌||◌, List, [], ◌∷◌, map, Option, Some, None, refl, nat_cmp, match_ordering, slice_cmp, Ordering, Less, Equal, Greater, or_parts, string, Members, no_members, member, put, items_of, has_float, items_have_float, members_have_float, Litmus, Condition, Bus, Atomic, Split, Entry, printed_entry, ProtocolKind, Configuration, Counts, ShownRun, count, counts_value, cache_value, condition_value, with_bus, configuration_members, machine_value, memory_members, memory_value, order_value, registers_value, cores_value, run_value}
 
 neither : (p q : Bool) → p ≡ false → q ≡ false → p || q ≡ false
 neither true q h k = h
@@ -40,11 +40,11 @@ memory (name ∷ names) (word ∷ words) = one_more name word (memory_members na
 machine : (kind : ProtocolKind) (c : Configuration) → has_float (machine_value kind c) ≡ false
 machine kind c = by_bus c.bus
   where
-    by_bus : (bus : Bus) → members_have_float (with_bus bus (machine_members kind c)) ≡ false
+    by_bus : (bus : Bus) → members_have_float (with_bus bus (configuration_members kind c)) ≡ false
     by_bus Atomic = refl
     by_bus Split = refl
 
-pub run_has_no_float : (t : Litmus) (kind : ProtocolKind) (c : Configuration) (s : Shown) → has_float (run_value t kind c s) ≡ false
+pub run_has_no_float : (t : Litmus) (kind : ProtocolKind) (c : Configuration) (s : ShownRun) → has_float (run_value t kind c s) ≡ false
 run_has_no_float t kind c s =
     neither (has_float (cache_value s.counts)) _ (cache s.counts)
     (neither (has_float (condition_value t.condition s.holds)) _ (condition t.condition s.holds)

@@ -1,5 +1,5 @@
 -- The lines of a report before its order are none that an order could begin with.
-use Rattle.tso_report.proofs.Vocabulary.{◌≡◌, ℕ, ◌<◌, ◌^◌, Bool, true, not, eqb, List, [], ◌∷◌, ◌++◌, get_or, All, inl, inr, refl, ap, ◌∙◌, arith, rules, decimal, list_all, and_parts, and_from, nat_tests, digits_decimal, All-cons, All-nil, Litmus, IsTest, Bus, Atomic, Split, Entry, is_printable, is_test_name, printed_lines, printed_order, IsBefore, IsOrderFor, SpellsOrder, Shown, protocol_name, ProtocolKind, Msi, Mesi, Moesi, Mosi, Geometry, IsLineSize, IsShapeWithinLimits, Configuration, report, line, test_line, shape_text, bus_text, register_lines, memory_line, condition_line, choices_line, cache_lines}
+use Rattle.tso_report.proofs.Vocabulary.{◌≡◌, ℕ, ◌<◌, ◌^◌, Bool, true, not, eqb, List, [], ◌∷◌, ◌++◌, get_or, All, inl, inr, refl, ap, ◌∙◌, arith, rules, decimal, list_all, and_parts, and_from, nat_tests, digits_decimal, All-cons, All-nil, Litmus, IsTest, Bus, Atomic, Split, Entry, is_printable, is_test_name, printed_lines, printed_order, IsLineBeforeOrder, IsOrderFor, SpellsOrder, ShownRun, protocol_name, ProtocolKind, Msi, Mesi, Moesi, Mosi, Geometry, IsLineSize, IsShapeWithinLimits, Configuration, report, line, test_line, shape_text, bus_text, register_lines, memory_line, condition_line, choices_line, cache_lines}
 use Rattle.std.specs.Prelude.{codes}
 use Rattle.std.specs.Char.{is_ascii_digit}
 use Rattle.std.proofs.lemmas.Str.Parse.{IsNumeralModel, numerals_by_fold}
@@ -87,14 +87,14 @@ line_of_machine Mosi c small fits = line_of_depth c small fits
 heads : (x y : ℕ) (xs ys : List ℕ) → x ∷ xs ≡ y ∷ ys → x ≡ y
 heads x y xs ys same = ap (λ (l : List ℕ). get_or l 0 0) same
 
-before_name : (t : Litmus) → IsTest t → IsBefore (codes "Test " ++ t.name)
+before_name : (t : Litmus) → IsTest t → IsLineBeforeOrder (codes "Test " ++ t.name)
 before_name t test = record {
   whole = line_of_name t test;
   other = λ same. omega (arith, heads 84 79 _ _ same);
   other_returned = λ same. omega (arith, heads 84 79 _ _ same);
 }
 
-before_machine : (kind : ProtocolKind) (c : Configuration) → c.depth < 2 ^ 64 → IsShapeWithinLimits c.shape → IsBefore (machine_text kind c)
+before_machine : (kind : ProtocolKind) (c : Configuration) → c.depth < 2 ^ 64 → IsShapeWithinLimits c.shape → IsLineBeforeOrder (machine_text kind c)
 unfolding machine_text
 before_machine kind c small fits = record {
   whole = line_of_machine kind c small fits;
@@ -117,16 +117,16 @@ joined : (first second order rest : List ℕ)
 joined first second order rest = simp append_assoc
 
 pub report_spells : ((t : Litmus) (order : List Entry) (front : List (List ℕ)) (rest text : List ℕ)
-    → IsTest t → IsOrderFor t order → All IsBefore front
+    → IsTest t → IsOrderFor t order → All IsLineBeforeOrder front
     → text ≡ printed_lines front ++ (printed_order t order ++ rest) → SpellsOrder t text order)
-    → (t : Litmus) (kind : ProtocolKind) (c : Configuration) (s : Shown) → IsTest t → c.depth < 2 ^ 64 → IsShapeWithinLimits c.shape → IsOrderFor t s.order
+    → (t : Litmus) (kind : ProtocolKind) (c : Configuration) (s : ShownRun) → IsTest t → c.depth < 2 ^ 64 → IsShapeWithinLimits c.shape → IsOrderFor t s.order
     → SpellsOrder t (report t kind c s) s.order
 unfolding front_of machine_text
 report_spells amid t kind c s test small fits are =
     let rest = register_lines 0 s.registers ++ (memory_line t s.memory ++ (condition_line t s.holds ++ (choices_line s.used s.stalled s.unused ++ cache_lines 0 s.counts))) in
-    let front : All IsBefore (front_of t kind c) =
-    All-cons IsBefore (codes "Test " ++ t.name) (machine_text kind c ∷ []) (before_name t test)
-    (All-cons IsBefore (machine_text kind c) [] (before_machine kind c small fits) (All-nil IsBefore)) in
+    let front : All IsLineBeforeOrder (front_of t kind c) =
+    All-cons IsLineBeforeOrder (codes "Test " ++ t.name) (machine_text kind c ∷ []) (before_name t test)
+    (All-cons IsLineBeforeOrder (machine_text kind c) [] (before_machine kind c small fits) (All-nil IsLineBeforeOrder)) in
     amid t s.order (front_of t kind c) rest (report t kind c s) test are front
     (ap (λ second. (test_line t ++ second) ++ (printed_order t s.order ++ rest)) (line_of_text (protocol_name kind) (decimal c.depth) (shape_text c.shape ++ bus_text c.bus))
     ∙ joined (codes "Test " ++ t.name) (machine_text kind c) (printed_order t s.order) rest)

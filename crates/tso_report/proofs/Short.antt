@@ -1,5 +1,5 @@
 -- The maximum length of each line of a report.
-use Rattle.tso_report.proofs.Vocabulary.{inl, inr, ◌≡◌, ℕ, ◌+◌, ◌-◌, ◌*◌, ◌≤◌, ◌<◌, ◌^◌, zero, suc, Bool, true, false, not, nat_le, ◌&&◌, List, [], ◌∷◌, ◌++◌, length, map, slice_index, slice_index_or, All, Option, Some, None, length-append, refl, arith, decimal, list_all, length-decimal-le, and_parts, nat_tests, All-head, All-tail, Litmus, IsTest, Condition, begins_name, continues_name, is_name, is_register_word, is_location_name, is_test_name, Bus, Atomic, Split, Reg, Entry, letters_of, printed_access, printed_entry, printed_end, printed_lines, printed_order, HasAccess, IsEntryFor, IsOrderFor, protocol_name, ProtocolKind, Msi, Mesi, Moesi, Mosi, Geometry, IsLineSize, Configuration, IsConfigurationWithinLimits, Counts, Shown, report, line, test_line, machine_line, shape_text, bus_text, printed_register, printed_registers, all_registers, register_line, register_lines, printed_words, memory_line, printed_quantifier, printed_truth, printed_verdict, condition_line, choices_line, traffic_text, cache_line, cache_lines}
+use Rattle.tso_report.proofs.Vocabulary.{inl, inr, ◌≡◌, ℕ, ◌+◌, ◌-◌, ◌*◌, ◌≤◌, ◌<◌, ◌^◌, zero, suc, Bool, true, false, not, nat_le, ◌&&◌, List, [], ◌∷◌, ◌++◌, length, map, slice_index, slice_index_or, All, Option, Some, None, length-append, refl, arith, decimal, list_all, length-decimal-le, and_parts, nat_tests, All-head, All-tail, Litmus, IsTest, Condition, begins_name, continues_name, is_name, is_register_word, is_location_name, is_test_name, Bus, Atomic, Split, Reg, Entry, letters_of, printed_access, printed_entry, printed_end, printed_lines, printed_order, HasAccess, IsEntryFor, IsOrderFor, protocol_name, ProtocolKind, Msi, Mesi, Moesi, Mosi, Geometry, IsLineSize, Configuration, IsConfigurationWithinLimits, Counts, ShownRun, report, line, test_line, machine_line, shape_text, bus_text, printed_register, printed_registers, all_registers, register_line, register_lines, printed_words, memory_line, printed_quantifier, printed_truth, printed_verdict, condition_line, choices_line, traffic_text, cache_line, cache_lines}
 use Rattle.std.specs.Prelude.{codes}
 use Rattle.tso_model.specs.Registers.{IsWord, AreRegisters, index_of, name_of}
 use Rattle.tso_model.specs.Thread.{value_in}
@@ -254,7 +254,7 @@ cache_lines_short core (c ∷ cs) few h =
     let both = joined (cache_line core c) (cache_lines (core + 1) cs) 125 (125 * length cs) first further in
     omega arith
 
-pub report_short : (t : Litmus) (kind : ProtocolKind) (c : Configuration) (s : Shown) → IsTest t → IsConfigurationWithinLimits c → IsSmall t s → length (report t kind c s) ≤ longest_report
+pub report_short : (t : Litmus) (kind : ProtocolKind) (c : Configuration) (s : ShownRun) → IsTest t → IsConfigurationWithinLimits c → IsSmall t s → length (report t kind c s) ≤ longest_report
 report_short t kind c s test within small =
     let name = test_name_short t.name test.name_spelled in
     let locations = test.location_count in

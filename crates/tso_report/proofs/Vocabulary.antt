@@ -12,8 +12,8 @@ pub use Rattle.tso_model.specs.declared.choice.Bus.TheVariants.{Atomic, Split}
 pub use Rattle.tso_model.specs.declared.execution.Entry.{Entry}
 pub use Rattle.tso_model.specs.Names.{is_printable, is_test_name, begins_name, continues_name, is_name, is_register_word, is_location_name}
 pub use Rattle.order_builder.specs.PrintedOrder.{printed_lines, printed_order, letters_of, printed_access, printed_entry, printed_end}
-pub use Rattle.order_builder.specs.Spelling.{IsBefore, IsOrderFor, SpellsOrder, HasAccess, IsEntryFor}
-pub use Rattle.tso_report.specs.Shown.{Shown, shown}
+pub use Rattle.order_builder.specs.Spelling.{IsLineBeforeOrder, IsOrderFor, SpellsOrder, HasAccess, IsEntryFor}
+pub use Rattle.tso_report.specs.Shown.{ShownRun, shown_run}
 pub use Rattle.protocol_tables.specs.Names.{protocol_name}
 pub use Rattle.protocol_tables.specs.declared.kind.ProtocolKind.{ProtocolKind}
 pub use Rattle.protocol_tables.specs.declared.kind.ProtocolKind.TheVariants.{Msi, Mesi, Moesi, Mosi}
@@ -25,7 +25,7 @@ pub use Rattle.tso_model.specs.Condition.{Condition}
 pub use Rattle.tso_model.specs.declared.register.Reg.{Reg}
 pub use Rattle.machine_core.specs.declared.counts.Counts.{Counts}
 pub use Rattle.tso_report.specs.declared.named.Named.{Named}
-pub use Rattle.tso_report.specs.Tally.{printed_value, printed_values, is_looked_at, register_of, location, named_registers, named_locations, looked_at, count_of, with_values, sweep_line, state_lines, observation, tally_text, Ascend, shown_value, frequency_text, ends_text}
+pub use Rattle.tso_report.specs.Tally.{printed_value, printed_values, is_looked_at, named_register, named_location, named_registers, named_locations, looked_at, count_of_runs, with_values, sweep_line, counted_state_lines, observation, tally_text, Ascend, shown_value, frequency_text, ends_text}
 pub use Rattle.std.specs.Ordering.{nat_cmp, match_ordering, is_eq, ordering_reverse}
 pub use Rattle.std.specs.Cmp.Lexicographic.{slice_cmp}
 pub use Rattle.std.specs.declared.cmp.Ordering.{Ordering}
@@ -33,12 +33,12 @@ pub use Rattle.std.specs.declared.cmp.Ordering.TheVariants.{Less, Equal, Greater
 pub use Rattle.serde_json.specs.Data.{string, Members, no_members, member, put, object}
 pub use Rattle.serde_json.specs.View.{items_of, view, members_view}
 pub use Rattle.serde_json.specs.Written.{has_float, items_have_float, members_have_float}
-pub use Rattle.tso_report.specs.Json.{count, counts_value, cache_value, condition_value, with_bus, machine_members, machine_value, memory_members, memory_value, order_value, registers_value, cores_value, run_value}
-pub use Rattle.tso_report.specs.inner.Tally.{IsKnown, Tallied}
+pub use Rattle.tso_report.specs.Json.{count, counts_value, cache_value, condition_value, with_bus, configuration_members, machine_value, memory_members, memory_value, order_value, registers_value, cores_value, run_value}
+pub use Rattle.tso_report.specs.inner.Tally.{NameExists, Tallied}
 pub use Rattle.std.specs.BTreeMap.{insert_entry, is_at}
 pub use Rattle.std.specs.Map.{lookup, keys_of, values_of}
 unfoldable pub use Rattle.std.specs.List.Sorted.{IsStrictlySortedBy}
 pub use Rattle.std.proofs.lemmas.Cmp.{nat_list_cmp_total, on_total, tied_itself}
-pub use Rattle.tso_report.specs.inner.Counted.{states_of, counts_in, IsKept}
+pub use Rattle.tso_report.specs.inner.Counted.{counted_states, counts_in, IsKept}
 pub use Rattle.std.specs.Slice.Iter.{iter_rest}
 pub use Rattle.std.specs.Iterator.Adapters.{zip_first, zip_second}

@@ -16,7 +16,7 @@ use Rattle.protocol_tables.specs.Names.{protocol_name}
 use Rattle.protocol_tables.specs.declared.kind.ProtocolKind.{ProtocolKind}
 use Rattle.machine_core.specs.Configuration.{Configuration}
 use Rattle.machine_core.specs.declared.counts.Counts.{Counts}
-use Rattle.tso_report.specs.Shown.{Shown}
+use Rattle.tso_report.specs.Shown.{ShownRun}
 use Rattle.tso_report.specs.Report.{line, printed_quantifier}
 
 abbrev pub count : ℕ → Data
@@ -56,8 +56,8 @@ abbrev pub with_bus : Bus → Members → Members
 with_bus Atomic members = members
 with_bus Split members = member (codes "bus") (string (codes "split")) members
 
-abbrev pub machine_members : ProtocolKind → Configuration → Members
-machine_members kind c =
+abbrev pub configuration_members : ProtocolKind → Configuration → Members
+configuration_members kind c =
     member (codes "depth") (count c.depth)
     (member (codes "protocol") (string (protocol_name kind))
     (member (codes "sets") (count c.shape.sets)
@@ -65,7 +65,7 @@ machine_members kind c =
     (member (codes "words") (count c.shape.words) no_members))))
 
 abbrev pub machine_value : ProtocolKind → Configuration → Data
-machine_value kind c = object (with_bus c.bus (machine_members kind c))
+machine_value kind c = object (with_bus c.bus (configuration_members kind c))
 
 -- a member for each location, each where the bytes of its name belong
 abbrev pub memory_members : List (List ℕ) → List ℕ → Members
@@ -94,7 +94,7 @@ abbrev pub cores_value : List (List ℕ) → Data
 cores_value all = array (items_of (map registers_value all))
 
 -- the members of a run of the test on a machine of this protocol and configuration
-abbrev pub run_members : Litmus → ProtocolKind → Configuration → Shown → Members
+abbrev pub run_members : Litmus → ProtocolKind → Configuration → ShownRun → Members
 run_members t kind c s =
     member (codes "cache") (cache_value s.counts)
     (member (codes "choices") (choices_value s.used s.stalled s.unused)
@@ -113,15 +113,15 @@ unfinished_members used stalled =
     (member (codes "used") (count used) no_members))) no_members
 
 -- a run, ended or not
-abbrev pub run_value : Litmus → ProtocolKind → Configuration → Shown → Data
+abbrev pub run_value : Litmus → ProtocolKind → Configuration → ShownRun → Data
 run_value t kind c s = object (run_members t kind c s)
 
-abbrev pub unfinished_value : ℕ → ℕ → Data
-unfinished_value used stalled = object (unfinished_members used stalled)
+abbrev pub unfinished_run_value : ℕ → ℕ → Data
+unfinished_run_value used stalled = object (unfinished_members used stalled)
 
 -- what is printed: the compact text of the value, on one line
-abbrev pub json_report : Litmus → ProtocolKind → Configuration → Shown → List ℕ
+abbrev pub json_report : Litmus → ProtocolKind → Configuration → ShownRun → List ℕ
 json_report t kind c s = line (compact_text (run_value t kind c s))
 
 abbrev pub json_unfinished : ℕ → ℕ → List ℕ
-json_unfinished used stalled = line (compact_text (unfinished_value used stalled))
+json_unfinished used stalled = line (compact_text (unfinished_run_value used stalled))

@@ -5,7 +5,7 @@ use Rattle.tso_model.specs.Litmus.{Litmus}
 use Rattle.tso_model.specs.Registers.{IsWord, AreRegisters}
 use Rattle.order_builder.specs.Spelling.{IsOrderFor}
 use Rattle.machine_core.specs.Keeping.{IsAtMost}
-use Rattle.tso_report.specs.Shown.{Shown}
+use Rattle.tso_report.specs.Shown.{ShownRun}
 
 -- maximum length of a report, in bytes
 abbrev pub longest_report : ℕ
@@ -16,7 +16,7 @@ abbrev pub most_entries : ℕ
 most_entries = 2 * (most_instructions * most_cores)
 
 -- no more is shown than a run of the test can leave
-pub record IsSmall (t : Litmus) (s : Shown) : Type 0 where
+pub record IsSmall (t : Litmus) (s : ShownRun) : Type 0 where
   pub entries : length s.order ≤ most_entries
   pub order : IsOrderFor t s.order
   pub cores : length s.registers ≤ most_cores

@@ -19,7 +19,7 @@ use Rattle.protocol_tables.specs.declared.kind.ProtocolKind.{ProtocolKind}
 use Rattle.snoop_bus.specs.Geometry.{Geometry}
 use Rattle.machine_core.specs.Configuration.{Configuration}
 use Rattle.machine_core.specs.declared.counts.Counts.{Counts}
-use Rattle.tso_report.specs.Shown.{Shown}
+use Rattle.tso_report.specs.Shown.{ShownRun}
 
 -- `Test NAME`
 abbrev pub test_line : Litmus → List ℕ
@@ -115,11 +115,11 @@ abbrev pub head : Litmus → ProtocolKind → Configuration → List ℕ
 head t kind c = test_line t ++ machine_line kind c
 
 -- what stands after them: the order, the final state, the verdict, and the counts
-abbrev pub body : Litmus → Shown → List ℕ
+abbrev pub body : Litmus → ShownRun → List ℕ
 body t s =
     printed_order t s.order ++ (register_lines 0 s.registers ++ (memory_line t s.memory
     ++ (condition_line t s.holds ++ (choices_line s.used s.stalled s.unused ++ cache_lines 0 s.counts))))
 
 -- the report of a run of the test on a machine of this protocol and configuration
-abbrev pub report : Litmus → ProtocolKind → Configuration → Shown → List ℕ
+abbrev pub report : Litmus → ProtocolKind → Configuration → ShownRun → List ℕ
 report t kind c s = head t kind c ++ body t s

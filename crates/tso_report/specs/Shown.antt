@@ -7,7 +7,7 @@ use Rattle.machine_core.specs.declared.counts.Counts.{Counts}
 use Rattle.tso_report.specs.declared.run.Run.{Run}
 
 -- the order, the registers of each core, the words, the verdict, the counts of choices, and those of each core's cache
-pub record Shown : Type 0 where
+pub record ShownRun : Type 0 where
   pub order : List Entry
   pub registers : List (List ℕ)
   pub memory : List ℕ
@@ -17,8 +17,8 @@ pub record Shown : Type 0 where
   pub unused : ℕ
   pub counts : List Counts
 
-abbrev pub shown : Run → Shown
-shown r = record {
+abbrev pub shown_run : Run → ShownRun
+shown_run r = record {
   order = r.left.execution.order.items;
   registers = r.left.state.registers.items;
   memory = r.left.state.memory.items;
@@ -30,7 +30,7 @@ shown r = record {
 }
 
 -- a run of this test: registers and counts for each core, a word for each location, a verdict where there is a condition
-pub record IsOf (t : Litmus) (s : Shown) : Type 0 where
+pub record IsRunOf (t : Litmus) (s : ShownRun) : Type 0 where
   pub locations : All (HasLocation t) s.order
   pub registers : length s.registers ≡ length t.programs
   pub memory : length s.memory ≡ length t.locations

@@ -21,45 +21,45 @@ use Rattle.tso_report.specs.Report.{line, all_registers}
 -- ---- what is looked at of a final state
 
 -- whether an atom of the claim names this register of this core
-abbrev pub names_register : Claim → ℕ → Reg → Bool
-names_register (TruthClaim truth) core reg = false
-names_register (RegClaim other named value) core reg = (other == core) && (index_of named == index_of reg)
-names_register (LocClaim loc value) core reg = false
-names_register (NotClaim inner) core reg = names_register inner core reg
-names_register (AndClaim left right) core reg = names_register left core reg || names_register right core reg
-names_register (OrClaim left right) core reg = names_register left core reg || names_register right core reg
+abbrev pub claim_names_register : Claim → ℕ → Reg → Bool
+claim_names_register (TruthClaim truth) core reg = false
+claim_names_register (RegClaim other named value) core reg = (other == core) && (index_of named == index_of reg)
+claim_names_register (LocClaim loc value) core reg = false
+claim_names_register (NotClaim inner) core reg = claim_names_register inner core reg
+claim_names_register (AndClaim left right) core reg = claim_names_register left core reg || claim_names_register right core reg
+claim_names_register (OrClaim left right) core reg = claim_names_register left core reg || claim_names_register right core reg
 
 -- whether an atom of the claim names this location
-abbrev pub names_location : Claim → ℕ → Bool
-names_location (TruthClaim truth) loc = false
-names_location (RegClaim core reg value) loc = false
-names_location (LocClaim named value) loc = named == loc
-names_location (NotClaim inner) loc = names_location inner loc
-names_location (AndClaim left right) loc = names_location left loc || names_location right loc
-names_location (OrClaim left right) loc = names_location left loc || names_location right loc
+abbrev pub claim_names_location : Claim → ℕ → Bool
+claim_names_location (TruthClaim truth) loc = false
+claim_names_location (RegClaim core reg value) loc = false
+claim_names_location (LocClaim named value) loc = named == loc
+claim_names_location (NotClaim inner) loc = claim_names_location inner loc
+claim_names_location (AndClaim left right) loc = claim_names_location left loc || claim_names_location right loc
+claim_names_location (OrClaim left right) loc = claim_names_location left loc || claim_names_location right loc
 
 -- whether it is looked at: the condition names it; without a condition all locations are, and no register
 abbrev pub is_looked_at : Option Condition → Named → Bool
 is_looked_at None (Register core reg) = false
 is_looked_at None (Location loc) = true
-is_looked_at (Some condition) (Register core reg) = names_register condition.claim core.0 reg
-is_looked_at (Some condition) (Location loc) = names_location condition.claim loc.0
+is_looked_at (Some condition) (Register core reg) = claim_names_register condition.claim core.0 reg
+is_looked_at (Some condition) (Location loc) = claim_names_location condition.claim loc.0
 
-abbrev pub register_of : ℕ → Reg → Named
-register_of core reg = Register (record { 0 = core }) reg
+abbrev pub named_register : ℕ → Reg → Named
+named_register core reg = Register (record { 0 = core }) reg
 
-abbrev pub location : ℕ → Named
-location loc = Location (record { 0 = loc })
+abbrev pub named_location : ℕ → Named
+named_location loc = Location (record { 0 = loc })
 
 -- the registers of so many cores from this one on: core by core, in their order
 abbrev pub named_registers : ℕ → ℕ → List Named
 named_registers core zero = []
-named_registers core (suc count) = map (register_of core) all_registers ++ named_registers (core + 1) count
+named_registers core (suc count) = map (named_register core) all_registers ++ named_registers (core + 1) count
 
 -- so many locations from this one on
 abbrev pub named_locations : ℕ → ℕ → List Named
 named_locations loc zero = []
-named_locations loc (suc count) = location loc ∷ named_locations (loc + 1) count
+named_locations loc (suc count) = named_location loc ∷ named_locations (loc + 1) count
 
 -- what is looked at of the test's final states, registers first
 abbrev pub looked_at : Litmus → List Named
@@ -90,12 +90,12 @@ abbrev pub nothing_counted : RunCounts
 nothing_counted = run_counts [] 0 0 0
 
 -- how many runs gave these values
-abbrev pub count_of : List ℕ → List (List ℕ × ℕ) → ℕ
-count_of values states = unwrap_or (lookup (is_at (slice_cmp nat_cmp values)) states) 0
+abbrev pub count_of_runs : List ℕ → List (List ℕ × ℕ) → ℕ
+count_of_runs values states = unwrap_or (lookup (is_at (slice_cmp nat_cmp values)) states) 0
 
 -- one more run gave these values: values that are new come to their place in the order
 abbrev pub with_values : List ℕ → List (List ℕ × ℕ) → List (List ℕ × ℕ)
-with_values values states = insert_entry (slice_cmp nat_cmp) states values (count_of values states + 1)
+with_values values states = insert_entry (slice_cmp nat_cmp) states values (count_of_runs values states + 1)
 
 -- the lists stand in ascending order, each once
 abbrev pub Ascend : List (List ℕ × ℕ) → Type 0
@@ -106,8 +106,8 @@ with_verdict None c = c
 with_verdict (Some true) c = run_counts c.states (c.held + 1) c.failed c.unfinished
 with_verdict (Some false) c = run_counts c.states c.held (c.failed + 1) c.unfinished
 
-abbrev pub with_state : List ℕ → RunCounts → RunCounts
-with_state values c = run_counts (with_values values c.states) c.held c.failed c.unfinished
+abbrev pub with_state_counted : List ℕ → RunCounts → RunCounts
+with_state_counted values c = run_counts (with_values values c.states) c.held c.failed c.unfinished
 
 -- one more run that didn't end
 abbrev pub with_unfinished : RunCounts → RunCounts
@@ -133,12 +133,12 @@ printed_values t (named ∷ rest) [] = []
 printed_values t (named ∷ rest) (value ∷ values) = printed_value t named value ++ printed_values t rest values
 
 -- `State COUNT 0:EAX=v x=v ..`
-abbrev pub state_line : Litmus → List ℕ × ℕ → List ℕ
-state_line t state = codes "State " ++ (decimal state.1 ++ line (printed_values t (looked_at t) state.0))
+abbrev pub counted_state_line : Litmus → List ℕ × ℕ → List ℕ
+counted_state_line t state = codes "State " ++ (decimal state.1 ++ line (printed_values t (looked_at t) state.0))
 
-abbrev pub state_lines : Litmus → List (List ℕ × ℕ) → List ℕ
-state_lines t [] = []
-state_lines t (state ∷ rest) = state_line t state ++ state_lines t rest
+abbrev pub counted_state_lines : Litmus → List (List ℕ × ℕ) → List ℕ
+counted_state_lines t [] = []
+counted_state_lines t (state ∷ rest) = counted_state_line t state ++ counted_state_lines t rest
 
 -- ` ended=E unfinished=U`
 abbrev pub ends_text : ℕ → ℕ → List ℕ
@@ -171,4 +171,4 @@ observation name (Some condition) held failed = observed_line name held failed
 abbrev pub tally_text : Litmus → RunCounts → ℕ → ℕ → List ℕ
 tally_text t c from length =
     sweep_line (ended_in c) c.unfinished from length
-    ++ (state_lines t c.states ++ observation t.name t.condition c.held c.failed)
+    ++ (counted_state_lines t c.states ++ observation t.name t.condition c.held c.failed)

@@ -3,8 +3,8 @@
 
 ghost use Rattle.std.specs.Prelude.{◌≡◌, ◌+◌, ◌<◌, ◌^◌, ◌-◌, Bool, OnOk, OnErr, sum, is_some};
 ghost use Rattle.std.specs.Map.{values_of};
-ghost use Rattle.tso_report.specs.Tally.{nothing_counted, with_values, with_state, with_verdict, with_unfinished, runs_in};
-ghost use Rattle.tso_report.specs.inner.Counted.{states_of, counts_in, IsKept};
+ghost use Rattle.tso_report.specs.Tally.{nothing_counted, with_values, with_state_counted, with_verdict, with_unfinished, runs_in};
+ghost use Rattle.tso_report.specs.inner.Counted.{counted_states, counts_in, IsKept};
 
 use std::alloc::Global;
 use std::collections::BTreeMap;
@@ -50,7 +50,7 @@ pub fn count_ended(
 ) -> Result<(), NoMemory>
     requires kept { IsKept (is_some holds) counters.old }
     requires room { runs_in (counts_in counters.old) < 2 ^ 32 - 1 }
-    ensures counts { OnOk result (counts_in counters.new ≡ with_verdict holds (with_state values.items (counts_in counters.old))) }
+    ensures counts { OnOk result (counts_in counters.new ≡ with_verdict holds (with_state_counted values.items (counts_in counters.old))) }
     ensures refused { OnErr result (counts_in counters.new ≡ counts_in counters.old) }
     ensures kept { IsKept (is_some holds) counters.new }
 {
@@ -66,9 +66,9 @@ pub fn count_ended(
 
 /// One more run that ended with these values.
 fn raise(states: &mut BTreeMap<Vec<u32>, u32>, values: Vec<u32>) -> Result<(), NoMemory>
-    requires { sum (values_of (states_of states.old.entries)) < 2 ^ 32 - 1 }
-    ensures states { OnOk result (states_of states.new.entries ≡ with_values values.items (states_of states.old.entries)) }
-    ensures total { OnOk result (sum (values_of (states_of states.new.entries)) ≡ sum (values_of (states_of states.old.entries)) + 1) }
+    requires { sum (values_of (counted_states states.old.entries)) < 2 ^ 32 - 1 }
+    ensures states { OnOk result (counted_states states.new.entries ≡ with_values values.items (counted_states states.old.entries)) }
+    ensures total { OnOk result (sum (values_of (counted_states states.new.entries)) ≡ sum (values_of (counted_states states.old.entries)) + 1) }
     ensures refused { OnErr result (states.new.entries ≡ states.old.entries) }
 {
     let count = states.get(&values).copied().unwrap_or(0);

@@ -6,7 +6,7 @@ ghost use Rattle.serde_json.specs.Data.{Data, boolean, string};
 ghost use Rattle.serde_json.specs.Written.{compact_text, has_float};
 ghost use Rattle.serde_json.specs.View.{view, members_view};
 ghost use Rattle.order_builder.specs.PrintedOrder.{HasLocation};
-ghost use Rattle.tso_report.specs.Shown.{shown, IsOf};
+ghost use Rattle.tso_report.specs.Shown.{shown_run, IsRunOf};
 ghost use Rattle.tso_report.specs.Report.{line};
 ghost use Rattle.tso_report.specs.Json.{counts_value, cache_value, choices_value, verdict_value, condition_value, machine_value};
 ghost use Rattle.tso_report.specs.Json.{memory_members, memory_value, order_value, registers_value, cores_value};
@@ -32,8 +32,8 @@ pub fn report_json(
     config: Config,
     run: &Run,
 ) -> Result<String, NoMemory>
-    requires { IsOf test.now (shown run.now) }
-    ensures { IfOk result (λ text. string_bytes text ≡ json_report test.now protocol config (shown run.now)) }
+    requires { IsRunOf test.now (shown_run run.now) }
+    ensures { IfOk result (λ text. string_bytes text ≡ json_report test.now protocol config (shown_run run.now)) }
 {
     let members = run_members(alloc, test, protocol, config, run)?;
     line_of(alloc, &Value::Object(members))
@@ -88,8 +88,8 @@ pub fn run_members(
     config: Config,
     run: &Run,
 ) -> Result<Map<String, Value>, NoMemory>
-    requires { IsOf test.now (shown run.now) }
-    ensures { IfOk result (λ members. members_view members.entries ≡ run_members test.now protocol config (shown run.now)) }
+    requires { IsRunOf test.now (shown_run run.now) }
+    ensures { IfOk result (λ members. members_view members.entries ≡ run_members test.now protocol config (shown_run run.now)) }
 {
     let mut members = Map::new(alloc);
     put(

@@ -4,11 +4,11 @@
 
 mod counters;
 pub mod json;
-pub mod laws;
 pub mod named;
 pub mod observation;
 pub mod printed_values;
 pub mod report;
+pub mod report_texts;
 pub mod run;
 pub mod tally;
 mod tally_text;

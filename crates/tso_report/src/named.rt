@@ -4,8 +4,8 @@
 ghost use Rattle.std.specs.Prelude.{◌≡◌, ◌<◌, ◌∷◌, [], IfOk, OnOk, All, length, map};
 ghost use Rattle.tso_model.specs.Condition.{claim_of};
 ghost use Rattle.tso_report.specs.Report.{all_registers};
-ghost use Rattle.tso_report.specs.Tally.{names_register, names_location, is_looked_at, register_of};
-ghost use Rattle.tso_report.specs.inner.Tally.{AreNoted, IsKnown};
+ghost use Rattle.tso_report.specs.Tally.{claim_names_register, claim_names_location, is_looked_at, named_register};
+ghost use Rattle.tso_report.specs.inner.Tally.{AreNoted, NameExists};
 ghost use Rattle.tso_report.specs.Tally.{named_registers, named_locations, looked_at, shown_value};
 
 use std::alloc::Global;
@@ -25,7 +25,7 @@ pub enum Named {
 ///
 /// Errors: out of memory only.
 pub fn looked_at(alloc: Global, test: &Test) -> Result<Vec<Named>, NoMemory>
-    ensures known { IfOk result (λ list. All (IsKnown (length test.now.programs) (length test.now.locations)) list.items) }
+    ensures known { IfOk result (λ list. All (NameExists (length test.now.programs) (length test.now.locations)) list.items) }
     ensures list { IfOk result (λ list. list.items ≡ looked_at test.now) }
 {
     let mut list = Vec::new(alloc);
@@ -45,13 +45,13 @@ fn note_registers(list: &mut Vec<Named>, test: &Test) -> Result<(), NoMemory>
 
 #[tactic(auto, unfolding(crate::specs::Report::all_registers))]
 fn note_core(list: &mut Vec<Named>, test: &Test, core: u8) -> Result<(), NoMemory>
-    ensures { OnOk result (AreNoted test.now.condition (map (register_of core) all_registers) list.old.items list.new.items) }
+    ensures { OnOk result (AreNoted test.now.condition (map (named_register core) all_registers) list.old.items list.new.items) }
 {
     note_each(list, test, core, &Reg::ALL)
 }
 
 fn note_each(list: &mut Vec<Named>, test: &Test, core: u8, regs: &[Reg]) -> Result<(), NoMemory>
-    ensures { OnOk result (AreNoted test.now.condition (map (register_of core) regs.now) list.old.items list.new.items) }
+    ensures { OnOk result (AreNoted test.now.condition (map (named_register core) regs.now) list.old.items list.new.items) }
 {
     for reg in regs {
         note(list, test, Named::Register(Core(core), *reg))?;
@@ -82,35 +82,35 @@ pub fn is_looked_at(test: &Test, named: Named) -> bool
     ensures { result ≡ is_looked_at test.now.condition named }
 {
     match (test.cond(), named) {
-        (Some(cond), Named::Register(core, reg)) => names_register(&cond.prop, core, reg),
-        (Some(cond), Named::Location(loc)) => names_location(&cond.prop, loc),
+        (Some(cond), Named::Register(core, reg)) => claim_names_register(&cond.prop, core, reg),
+        (Some(cond), Named::Location(loc)) => claim_names_location(&cond.prop, loc),
         (None, Named::Register(..)) => false,
         (None, Named::Location(_)) => true,
     }
 }
 
-fn names_register(prop: &Prop, core: Core, reg: Reg) -> bool
-    ensures { result ≡ names_register (claim_of prop.now) core.0 reg }
+fn claim_names_register(prop: &Prop, core: Core, reg: Reg) -> bool
+    ensures { result ≡ claim_names_register (claim_of prop.now) core.0 reg }
 {
     match prop {
         Prop::Truth(_) | Prop::LocIs(..) => false,
         Prop::RegIs(other, named, _) => other.0 == core.0 && named.index() == reg.index(),
-        Prop::Not(inner) => names_register(inner, core, reg),
+        Prop::Not(inner) => claim_names_register(inner, core, reg),
         Prop::And(left, right) | Prop::Or(left, right) => {
-            names_register(left, core, reg) || names_register(right, core, reg)
+            claim_names_register(left, core, reg) || claim_names_register(right, core, reg)
         }
     }
 }
 
-fn names_location(prop: &Prop, loc: Loc) -> bool
-    ensures { result ≡ names_location (claim_of prop.now) loc.0 }
+fn claim_names_location(prop: &Prop, loc: Loc) -> bool
+    ensures { result ≡ claim_names_location (claim_of prop.now) loc.0 }
 {
     match prop {
         Prop::Truth(_) | Prop::RegIs(..) => false,
         Prop::LocIs(named, _) => named.0 == loc.0,
-        Prop::Not(inner) => names_location(inner, loc),
+        Prop::Not(inner) => claim_names_location(inner, loc),
         Prop::And(left, right) | Prop::Or(left, right) => {
-            names_location(left, loc) || names_location(right, loc)
+            claim_names_location(left, loc) || claim_names_location(right, loc)
         }
     }
 }
@@ -124,7 +124,7 @@ pub fn values_at(
     registers: &[[u32; 6]],
     memory: &[u32],
 ) -> Result<Vec<u32>, NoMemory>
-    requires { All (IsKnown (length registers.now) (length memory.now)) list.now }
+    requires { All (NameExists (length registers.now) (length memory.now)) list.now }
     ensures { IfOk result (λ values. values.items ≡ map (shown_value registers.now memory.now) list.now) }
 {
     let mut values = Vec::new(alloc);
@@ -135,7 +135,7 @@ pub fn values_at(
 }
 
 fn value_at(named: Named, registers: &[[u32; 6]], memory: &[u32]) -> u32
-    requires { IsKnown (length registers.now) (length memory.now) named }
+    requires { NameExists (length registers.now) (length memory.now) named }
     ensures { result ≡ shown_value registers.now memory.now named }
 {
     match named {

@@ -3,7 +3,7 @@
 
 ghost use Rattle.std.specs.Prelude.{◌≡◌, ◌++◌, OnOk, All, string_bytes, length};
 ghost use Rattle.tso_report.specs.Tally.{printed_value, printed_values};
-ghost use Rattle.tso_report.specs.inner.Tally.{IsKnown};
+ghost use Rattle.tso_report.specs.inner.Tally.{NameExists};
 
 use crate::named::Named;
 use tso_model::{NoMemory, Test};
@@ -17,7 +17,7 @@ pub fn write_values(
     names: &[Named],
     values: &[u32],
 ) -> Result<(), NoMemory>
-    requires { All (IsKnown (length test.now.programs) (length test.now.locations)) names.now }
+    requires { All (NameExists (length test.now.programs) (length test.now.locations)) names.now }
     ensures { OnOk result (string_bytes text.new ≡ string_bytes text.old ++ printed_values test.now names.now values.now) }
 {
     for (named, value) in names.iter().zip(values.iter()) {
@@ -28,7 +28,7 @@ pub fn write_values(
 
 /// ` c:EAX=v`, or ` x=v`.
 fn write_value(text: &mut String, test: &Test, named: Named, value: u32) -> Result<(), NoMemory>
-    requires { IsKnown (length test.now.programs) (length test.now.locations) named }
+    requires { NameExists (length test.now.programs) (length test.now.locations) named }
     ensures { OnOk result (string_bytes text.new ≡ string_bytes text.old ++ printed_value test.now named value) }
 {
     match named {

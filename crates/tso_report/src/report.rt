@@ -3,7 +3,7 @@
 
 ghost use Rattle.std.specs.Prelude.{◌≡◌, ◌++◌, ◌∷◌, [], IfOk, OnOk, string_bytes, length, slice_index_or, Option, is_some, All};
 ghost use Rattle.order_builder.specs.PrintedOrder.{printed_order, HasWord};
-ghost use Rattle.tso_report.specs.Shown.{shown, IsOf};
+ghost use Rattle.tso_report.specs.Shown.{shown_run, IsRunOf};
 ghost use Rattle.tso_report.specs.Report.{report, head, body, line, test_line, machine_line, shape_text, bus_text};
 ghost use Rattle.tso_report.specs.Report.{printed_register, printed_registers, all_registers, register_line, register_lines};
 ghost use Rattle.tso_report.specs.Report.{printed_words, memory_line, printed_verdict, condition_line, choices_line};
@@ -28,8 +28,8 @@ pub fn report_text(
     config: Config,
     run: &Run,
 ) -> Result<String, NoMemory>
-    requires { IsOf test.now (shown run.now) }
-    ensures text { IfOk result (λ text. string_bytes text ≡ report test.now protocol config (shown run.now)) }
+    requires { IsRunOf test.now (shown_run run.now) }
+    ensures text { IfOk result (λ text. string_bytes text ≡ report test.now protocol config (shown_run run.now)) }
     ensures words { OnOk result (All HasWord run.now.left.execution.order.items) }
 {
     let mut text = head_text(alloc, test, protocol, config)?;
@@ -42,8 +42,8 @@ pub fn report_text(
 ///
 /// Errors: out of memory only; the text may have grown then.
 pub fn write_body(text: &mut String, test: &Test, run: &Run) -> Result<(), NoMemory>
-    requires { IsOf test.now (shown run.now) }
-    ensures text { OnOk result (string_bytes text.new ≡ string_bytes text.old ++ body test.now (shown run.now)) }
+    requires { IsRunOf test.now (shown_run run.now) }
+    ensures text { OnOk result (string_bytes text.new ≡ string_bytes text.old ++ body test.now (shown_run run.now)) }
     ensures words { OnOk result (All HasWord run.now.left.execution.order.items) }
 {
     write_order(text, test, &run.left.execution)?;

@@ -2,7 +2,7 @@
 //! the runs.
 
 ghost use Rattle.std.specs.Prelude.{◌≡◌, ◌+◌, ◌<◌, ◌^◌, ◌-◌, true, IfOk, OnOk, OnErr, length, string_bytes, is_some};
-ghost use Rattle.tso_report.specs.Shown.{shown};
+ghost use Rattle.tso_report.specs.Shown.{shown_run};
 ghost use Rattle.tso_report.specs.Tally.{nothing_counted, with_unfinished, runs_in, ended_in, tally_text};
 ghost use Rattle.tso_report.specs.inner.Tally.{with_run, with_ended};
 
@@ -64,12 +64,12 @@ impl<'a> Tally<'a> {
     ///
     /// Errors: out of memory only; then nothing has changed.
     pub fn add(&mut self, run: &Run) -> Result<(), NoMemory>
-        requires registers { length (shown run.now).registers ≡ length self.old.test.programs }
-        requires memory { length (shown run.now).memory ≡ length self.old.test.locations }
-        requires verdict { is_some (shown run.now).holds ≡ is_some self.old.test.condition }
+        requires registers { length (shown_run run.now).registers ≡ length self.old.test.programs }
+        requires memory { length (shown_run run.now).memory ≡ length self.old.test.locations }
+        requires verdict { is_some (shown_run run.now).holds ≡ is_some self.old.test.condition }
         requires room { runs_in self.old.counts < 2 ^ 32 - 1 }
 
-        ensures counts { OnOk result (self.new.counts ≡ with_run self.old.test (shown run.now) self.old.counts) }
+        ensures counts { OnOk result (self.new.counts ≡ with_run self.old.test (shown_run run.now) self.old.counts) }
         ensures test { self.new.test ≡ self.old.test }
         ensures refused { OnErr result (self.new ≡ self.old) }
     {

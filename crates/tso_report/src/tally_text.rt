@@ -2,8 +2,8 @@
 //! which order the runs were counted has no part in it.
 
 ghost use Rattle.std.specs.Prelude.{◌≡◌, ◌+◌, ◌<◌, ◌^◌, ◌++◌, OnOk, string_bytes};
-ghost use Rattle.tso_report.specs.Tally.{looked_at, state_line, state_lines, ends_text, sweep_line, observation};
-ghost use Rattle.tso_report.specs.inner.Counted.{states_of};
+ghost use Rattle.tso_report.specs.Tally.{looked_at, counted_state_line, counted_state_lines, ends_text, sweep_line, observation};
+ghost use Rattle.tso_report.specs.inner.Counted.{counted_states};
 
 use crate::counters::Counters;
 use crate::named::Named;
@@ -44,7 +44,7 @@ pub fn write_states(
     counters: &Counters,
 ) -> Result<(), NoMemory>
     requires { names.now ≡ looked_at test.now }
-    ensures { OnOk result (string_bytes text.new ≡ string_bytes text.old ++ state_lines test.now (states_of counters.now.states.entries)) }
+    ensures { OnOk result (string_bytes text.new ≡ string_bytes text.old ++ counted_state_lines test.now (counted_states counters.now.states.entries)) }
 {
     for (values, count) in counters.states.iter() {
         write_state(text, test, names, values, *count)?;
@@ -61,7 +61,7 @@ fn write_state(
     count: u32,
 ) -> Result<(), NoMemory>
     requires { names.now ≡ looked_at test.now }
-    ensures { OnOk result (string_bytes text.new ≡ string_bytes text.old ++ state_line test.now (values.now, count)) }
+    ensures { OnOk result (string_bytes text.new ≡ string_bytes text.old ++ counted_state_line test.now (values.now, count)) }
 {
     write!(text, "State {count}")?;
     write_values(text, test, names, values)?;

@@ -1,7 +1,7 @@
 //! A bus that is taken through calls, each of which answers what is listed with it.
 ghost use Rattle.std.specs.Prelude.{◌≡◌, ◌<◌, Some};
 ghost use Rattle.snoop_bus.specs.Bus.{holder_of, IsFree};
-ghost use Rattle.tso_tests.specs.inner.Small.{IsSmall};
+ghost use Rattle.tso_tests.specs.inner.Small.{IsSmallBus};
 
 use crate::calls::{Call, HIT};
 use crate::named::{MEMORY, P0, holds};
@@ -19,7 +19,7 @@ fn two_cores<P: Protocol>(
     ways: u8,
     words: u8,
 ) -> SnoopBus<P>
-    ensures small { IsSmall result }
+    ensures small { IsSmallBus result }
     ensures free { IsFree result }
 {
     let shape = Shape::new(1, ways, words).expect(rt, "a shape");
@@ -45,9 +45,9 @@ fn load<P: Protocol>(
     word: u32,
     access: Access,
 )
-    requires small { IsSmall bus.old }
+    requires small { IsSmallBus bus.old }
     requires free { IsFree bus.old }
-    ensures small { IsSmall bus.new }
+    ensures small { IsSmallBus bus.new }
     ensures free { IsFree bus.new }
 {
     are_there(rt, core, loc);
@@ -63,9 +63,9 @@ fn store<P: Protocol>(
     value: u32,
     access: Access,
 )
-    requires small { IsSmall bus.old }
+    requires small { IsSmallBus bus.old }
     requires free { IsFree bus.old }
-    ensures small { IsSmall bus.new }
+    ensures small { IsSmallBus bus.new }
     ensures free { IsFree bus.new }
 {
     are_there(rt, core, loc);
@@ -82,9 +82,9 @@ fn swap<P: Protocol>(
     word: u32,
     access: Access,
 )
-    requires small { IsSmall bus.old }
+    requires small { IsSmallBus bus.old }
     requires free { IsFree bus.old }
-    ensures small { IsSmall bus.new }
+    ensures small { IsSmallBus bus.new }
     ensures free { IsFree bus.new }
 {
     are_there(rt, core, loc);
@@ -101,9 +101,9 @@ fn add<P: Protocol>(
     word: u32,
     access: Access,
 )
-    requires small { IsSmall bus.old }
+    requires small { IsSmallBus bus.old }
     requires free { IsFree bus.old }
-    ensures small { IsSmall bus.new }
+    ensures small { IsSmallBus bus.new }
     ensures free { IsFree bus.new }
 {
     are_there(rt, core, loc);
@@ -112,9 +112,9 @@ fn add<P: Protocol>(
 }
 
 fn ask_load<P: Protocol>(rt: &impl Abort, bus: &mut SnoopBus<P>, core: Core, loc: Loc) -> BusAction
-    requires small { IsSmall bus.old }
+    requires small { IsSmallBus bus.old }
     requires free { IsFree bus.old }
-    ensures small { IsSmall bus.new }
+    ensures small { IsSmallBus bus.new }
     ensures holds { holder_of bus.new ≡ Some result }
 {
     are_there(rt, core, loc);
@@ -128,9 +128,9 @@ fn ask_load<P: Protocol>(rt: &impl Abort, bus: &mut SnoopBus<P>, core: Core, loc
 }
 
 fn ask_write<P: Protocol>(rt: &impl Abort, bus: &mut SnoopBus<P>, core: Core, loc: Loc) -> BusAction
-    requires small { IsSmall bus.old }
+    requires small { IsSmallBus bus.old }
     requires free { IsFree bus.old }
-    ensures small { IsSmall bus.new }
+    ensures small { IsSmallBus bus.new }
     ensures holds { holder_of bus.new ≡ Some result }
 {
     are_there(rt, core, loc);
@@ -143,8 +143,8 @@ fn ask_write<P: Protocol>(rt: &impl Abort, bus: &mut SnoopBus<P>, core: Core, lo
 }
 
 fn hit<P: Protocol>(rt: &impl Abort, bus: &mut SnoopBus<P>, core: Core, loc: Loc, word: u32)
-    requires small { IsSmall bus.old }
-    ensures small { IsSmall bus.new }
+    requires small { IsSmallBus bus.old }
+    ensures small { IsSmallBus bus.new }
     ensures holds { holder_of bus.new ≡ holder_of bus.old }
 {
     are_there(rt, core, loc);
@@ -160,9 +160,9 @@ fn complete_load<P: Protocol>(
     word: u32,
     access: Access,
 )
-    requires small { IsSmall bus.old }
+    requires small { IsSmallBus bus.old }
     requires holds { holder_of bus.old ≡ Some holder }
-    ensures small { IsSmall bus.new }
+    ensures small { IsSmallBus bus.new }
     ensures free { IsFree bus.new }
 {
     let is_load = matches!(holder.stage, Stage::Load);
@@ -180,9 +180,9 @@ fn complete_store<P: Protocol>(
     value: u32,
     access: Access,
 )
-    requires small { IsSmall bus.old }
+    requires small { IsSmallBus bus.old }
     requires holds { holder_of bus.old ≡ Some holder }
-    ensures small { IsSmall bus.new }
+    ensures small { IsSmallBus bus.new }
     ensures free { IsFree bus.new }
 {
     let is_write = matches!(holder.stage, Stage::Write);
@@ -200,9 +200,9 @@ fn complete_read<P: Protocol>(
     word: u32,
     access: Access,
 ) -> BusAction
-    requires small { IsSmall bus.old }
+    requires small { IsSmallBus bus.old }
     requires holds { holder_of bus.old ≡ Some holder }
-    ensures small { IsSmall bus.new }
+    ensures small { IsSmallBus bus.new }
     ensures holds { holder_of bus.new ≡ Some result }
 {
     let is_write = matches!(holder.stage, Stage::Write);
@@ -224,9 +224,9 @@ fn complete_write<P: Protocol>(
     holder: BusAction,
     value: u32,
 )
-    requires small { IsSmall bus.old }
+    requires small { IsSmallBus bus.old }
     requires holds { holder_of bus.old ≡ Some holder }
-    ensures small { IsSmall bus.new }
+    ensures small { IsSmallBus bus.new }
     ensures free { IsFree bus.new }
 {
     let is_locked = matches!(holder.stage, Stage::Locked);
@@ -235,13 +235,13 @@ fn complete_write<P: Protocol>(
 }
 
 fn memory_has<P: Protocol>(bus: &SnoopBus<P>, loc: Loc, word: u32) -> bool
-    requires { IsSmall bus.now }
+    requires { IsSmallBus bus.now }
 {
     loc.0 < 3 && bus.memory_word(loc) == word
 }
 
 fn first_is<P: Protocol>(bus: &SnoopBus<P>, state: State, word: u32) -> bool
-    requires { IsSmall bus.now }
+    requires { IsSmallBus bus.now }
 {
     match bus.set_of(P0, 0).look(0) {
         Some(copy) => copy.state == state && copy.words[0] == word,
@@ -250,14 +250,14 @@ fn first_is<P: Protocol>(bus: &SnoopBus<P>, state: State, word: u32) -> bool
 }
 
 fn nothing_hits<P: Protocol>(bus: &SnoopBus<P>, core: Core, loc: Loc) -> bool
-    requires { IsSmall bus.now }
+    requires { IsSmallBus bus.now }
 {
     core.0 < 2 && !bus.would_hit(core, loc, false) && !bus.would_hit(core, loc, true)
 }
 
 /// A look at the bus, which may be held or not.
 fn look<P: Protocol>(bus: &SnoopBus<P>, call: Call) -> bool
-    requires { IsSmall bus.now }
+    requires { IsSmallBus bus.now }
 {
     match call {
         Call::Memory(loc, word) => memory_has(bus, loc, word),
@@ -269,9 +269,9 @@ fn look<P: Protocol>(bus: &SnoopBus<P>, call: Call) -> bool
 
 /// A call of a bus that nobody holds. Answers who holds it then.
 fn begin<P: Protocol>(rt: &impl Abort, bus: &mut SnoopBus<P>, call: Call) -> Option<BusAction>
-    requires small { IsSmall bus.old }
+    requires small { IsSmallBus bus.old }
     requires free { IsFree bus.old }
-    ensures small { IsSmall bus.new }
+    ensures small { IsSmallBus bus.new }
     ensures holds { holder_of bus.new ≡ result }
 {
     match call {
@@ -294,9 +294,9 @@ fn go_on<P: Protocol>(
     holder: BusAction,
     call: Call,
 ) -> Option<BusAction>
-    requires small { IsSmall bus.old }
+    requires small { IsSmallBus bus.old }
     requires holds { holder_of bus.old ≡ Some holder }
-    ensures small { IsSmall bus.new }
+    ensures small { IsSmallBus bus.new }
     ensures holds { holder_of bus.new ≡ result }
 {
     match call {

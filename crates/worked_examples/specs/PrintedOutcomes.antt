@@ -13,10 +13,10 @@ use Rattle.tso_model.specs.declared.register.Reg.{Reg}
 use Rattle.tso_model.specs.declared.register.Reg.TheVariants.{Eax, Ebx, Ecx, Edx, Esi}
 use Rattle.tso_model.specs.declared.instruction.Instr.TheVariants.{StoreImm, StoreReg, Load, SetImm, SetReg, Fence, Xchg, Xadd}
 use Rattle.tso_report.specs.Report.{line}
-use Rattle.tso_report.specs.Tally.{register_of}
+use Rattle.tso_report.specs.Tally.{named_register}
 use Rattle.tso_report.specs.declared.named.Named.{Named}
 use Rattle.tso_report.specs.declared.named.Named.TheVariants.{Location}
-use Rattle.shown_values.specs.Shown.{named_in}
+use Rattle.shown_values.specs.Shown.{names_shown}
 use Rattle.shown_values.specs.declared.show.Show.TheVariants.{Condition}
 use Rattle.outcome_report.specs.Outcomes.{Outcome, condition_lines, outcomes_text}
 use Rattle.outcome_report.specs.OutcomesJson.{outcomes_json}
@@ -57,7 +57,7 @@ abbrev pub three_lines : List ℕ → List ℕ → List ℕ → List ℕ
 three_lines first second third = line first ++ (line second ++ line third)
 
 abbrev pub printed : List ℕ
-printed = outcomes_text store_buffering (named_in Condition store_buffering) 32 four
+printed = outcomes_text store_buffering (names_shown Condition store_buffering) 32 four
 
 abbrev pub printed_lines_of_it : List ℕ
 printed_lines_of_it =
@@ -69,7 +69,7 @@ printed_lines_of_it =
     ++ codes "Observation SB Sometimes 1 3\nTrue 1\nVerdict Ok\n"))))
 
 abbrev pub printed_json : List ℕ
-printed_json = outcomes_json store_buffering (named_in Condition store_buffering) 32 four
+printed_json = outcomes_json store_buffering (names_shown Condition store_buffering) 32 four
 
 abbrev pub printed_object : List ℕ
 printed_object =
@@ -105,7 +105,7 @@ abbrev pub without_condition : Litmus
 without_condition = record all_kinds { condition = None }
 
 abbrev pub register : ℕ → Reg → Named
-register core reg = register_of core reg
+register core reg = named_register core reg
 
 -- the registers that are written there
 abbrev pub written_registers : List Named

@@ -14,7 +14,7 @@ ghost use Rattle.snoop_bus.specs.CacheContents.{loaded, written};
 ghost use Rattle.snoop_bus.specs.inner.CacheContents.{settled};
 ghost use Rattle.snoop_bus.specs.Asks.{hits, asking, completed};
 ghost use Rattle.snoop_bus.specs.Bus.{words_of};
-ghost use Rattle.snoop_bus.specs.Accesses.{line_of, lines_with, load_of, memory_after_load, memory_after_write};
+ghost use Rattle.snoop_bus.specs.Accesses.{line_of_location, lines_with, load_of, memory_after_load, memory_after_write};
 ghost use Rattle.snoop_bus.specs.inner.Accesses.{memory_words_of};
 ghost use Rattle.worked_examples.specs.LinesInSets.{set_for, was, p1};
 ghost use Rattle.worked_examples.specs.inner.LinesInSets.{shape, words, awaits, asked, eight_words, five_words};
@@ -27,7 +27,7 @@ ghost use Rattle.worked_examples.specs.inner.LinesInSets.{by_state, under_way};
 /// In which line and which set a location lies: where P1 loads it, that set of P1 has that line.
 pub fn worked_places()
     // Lines of two words, in two sets: the third line lies in the first set again.
-    ensures line_of_location_5 { line_of (eight_locations (shape 2 3 2)) 5 ≡ 2 }
+    ensures line_of_location_5 { line_of_location (eight_locations (shape 2 3 2)) 5 ≡ 2 }
     ensures set_of_location_1 { (load_of (eight_locations (shape 2 3 2)) 1 1).caches ≡ (none ∷ none ∷ []) ∷ (alone 0 ∷ none ∷ []) ∷ [] }
     ensures set_of_location_2 { (load_of (eight_locations (shape 2 3 2)) 1 2).caches ≡ (none ∷ none ∷ []) ∷ (none ∷ alone 1 ∷ []) ∷ [] }
     ensures set_of_location_5 { (load_of (eight_locations (shape 2 3 2)) 1 5).caches ≡ (none ∷ none ∷ []) ∷ (alone 2 ∷ none ∷ []) ∷ [] }
@@ -40,7 +40,7 @@ pub fn worked_places()
         ≡ (none ∷ none ∷ none ∷ []) ∷ (alone 3 ∷ none ∷ none ∷ []) ∷ [] }
 
     // Lines of four words, in two sets.
-    ensures line_of_four_words { line_of (eight_locations (shape 2 3 4)) 5 ≡ 1 }
+    ensures line_of_four_words { line_of_location (eight_locations (shape 2 3 4)) 5 ≡ 1 }
     ensures set_of_four_words { (load_of (eight_locations (shape 2 3 4)) 1 5).caches ≡ (none ∷ none ∷ []) ∷ (none ∷ alone 1 ∷ []) ∷ [] }
 {}
 

@@ -2,7 +2,7 @@
 //! shown. (litmus7 and herd, for the words.)
 
 ghost use Rattle.std.specs.Prelude.{◌≡◌, ◌++◌, [], ◌∷◌, codes};
-ghost use Rattle.shown_values.specs.Shown.{named_in};
+ghost use Rattle.shown_values.specs.Shown.{names_shown};
 ghost use Rattle.shown_values.specs.declared.show.Show.TheVariants.{Condition, Registers, All};
 ghost use Rattle.tso_model.specs.Condition.{NotClaim};
 ghost use Rattle.tso_model.specs.declared.condition.Quantifier.TheVariants.{Exists, NotExists, Forall};
@@ -32,10 +32,10 @@ pub fn worked_verdicts()
 /// What is shown: what the condition names, also what instructions of its core write, also all locations. A store and a fence write no
 /// register. Without a condition all locations are shown in any case.
 pub fn worked_shown_values()
-    ensures condition { named_in Condition all_kinds ≡ register 1 Ebx ∷ [] }
-    ensures registers { named_in Registers all_kinds ≡ written_registers }
-    ensures all { named_in All all_kinds ≡ written_registers ++ both_locations }
-    ensures none_condition { named_in Condition without_condition ≡ both_locations }
-    ensures none_registers { named_in Registers without_condition ≡ written_registers ++ both_locations }
-    ensures none_all { named_in All without_condition ≡ written_registers ++ both_locations }
+    ensures condition { names_shown Condition all_kinds ≡ register 1 Ebx ∷ [] }
+    ensures registers { names_shown Registers all_kinds ≡ written_registers }
+    ensures all { names_shown All all_kinds ≡ written_registers ++ both_locations }
+    ensures none_condition { names_shown Condition without_condition ≡ both_locations }
+    ensures none_registers { names_shown Registers without_condition ≡ written_registers ++ both_locations }
+    ensures none_all { names_shown All without_condition ≡ written_registers ++ both_locations }
 {}

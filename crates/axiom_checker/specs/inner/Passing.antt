@@ -36,9 +36,9 @@ IsDueFrom made settled words x value =
     (source : Option Entry) × IsSource made x source × (value ≡ due_from source settled words x)
 
 -- the first of the two that is there
-abbrev pub first_of : {X : Type 0} → Option X → Option X → Option X
-first_of None later = later
-first_of (Some x) later = Some x
+abbrev pub first_of_two : {X : Type 0} → Option X → Option X → Option X
+first_of_two None later = later
+first_of_two (Some x) later = Some x
 
 -- it is x, a write of another value than its program's, and with it that value
 abbrev pub NamesWrongWrite : List Entry → Entry → Entry × ℕ → Type 0

@@ -10,12 +10,12 @@ abbrev pub reached : List ℕ → Entry → List ℕ
 reached marks x = slice_set marks x.core.0 (max (slice_index marks x.core.0) (rank x + 1))
 
 -- the same, plain loads aside
-abbrev pub settled : List ℕ → Entry → List ℕ
-settled marks x = if is_load x then marks else reached marks x
+abbrev pub reached_but_for_loads : List ℕ → Entry → List ℕ
+reached_but_for_loads marks x = if is_load x then marks else reached marks x
 
 -- the words once this entry has come
-abbrev pub written : List ℕ → Entry → List ℕ
-written words x = if is_write x then slice_set words x.loc.0 x.value else words
+abbrev pub words_with : List ℕ → Entry → List ℕ
+words_with words x = if is_write x then slice_set words x.loc.0 x.value else words
 
 -- an entry that its core is past; loads may pass a plain store
 abbrev pub is_late : List ℕ → List ℕ → Entry → Bool

@@ -27,13 +27,13 @@ abbrev pub Ascends : List Entry → Type 0
 Ascends list = (j k : ℕ) (d e : Entry) → j < k → slice_get list j ≡ Some d → slice_get list k ≡ Some e → Precedes d e
 
 -- an entry of a test with so many cores and locations
-pub record IsWithin (cores locations : ℕ) (e : Entry) : Type 0 where
+pub record IsEntryWithin (cores locations : ℕ) (e : Entry) : Type 0 where
   pub core : e.core.0 < cores
   pub fits : rank e < slots_of_a_core
   pub known : is_write e ≡ true → e.loc.0 < locations
 
-abbrev pub AreWithin : ℕ → ℕ → List Entry → Type 0
-AreWithin cores locations list = (k : ℕ) (e : Entry) → slice_get list k ≡ Some e → IsWithin cores locations e
+abbrev pub EntriesAreWithin : ℕ → ℕ → List Entry → Type 0
+EntriesAreWithin cores locations list = (k : ℕ) (e : Entry) → slice_get list k ≡ Some e → IsEntryWithin cores locations e
 
 -- the table tells of each slot where in the list its entry stands
 pub record IsIndex (list : List Entry) (slots : List (Option ℕ)) : Type 0 where

@@ -29,5 +29,5 @@ IsSource made x None = (k : ℕ) (y : Entry) → slice_get made k ≡ Some y →
 IsSource made x (Some w) = IsLastOwn made x w
 
 -- the table tells of each of the programs' entries its source
-abbrev pub HasSources : List Entry → List (Option Entry) → Type 0
-HasSources made sources = (k : ℕ) (e : Entry) → slice_get made k ≡ Some e → IsSource made e (kept_in sources k)
+abbrev pub TellsSources : List Entry → List (Option Entry) → Type 0
+TellsSources made sources = (k : ℕ) (e : Entry) → slice_get made k ≡ Some e → IsSource made e (kept_in sources k)

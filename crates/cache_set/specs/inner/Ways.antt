@@ -35,9 +35,9 @@ way_of line [] = None
 way_of line (e ∷ es) = if has_line line e.1 then Some e.0 else way_of line es
 
 -- whether a line lies in the way used last
-abbrev pub is_first : ℕ → List (ℕ × Way) → Bool
-is_first line [] = false
-is_first line (e ∷ es) = has_line line e.1
+abbrev pub is_most_recent : ℕ → List (ℕ × Way) → Bool
+is_most_recent line [] = false
+is_most_recent line (e ∷ es) = has_line line e.1
 
 -- the number of the first way that is empty
 abbrev pub first_empty : List (ℕ × Way) → Option ℕ

@@ -6,7 +6,7 @@ use Rattle.tso_model.specs.FlatMachine.{State, start, registers_in}
 use Rattle.tso_model.specs.Runs.{has_ended}
 use Rattle.eager_laws.specs.Closed.{AreClosed}
 use Rattle.eager_laws.specs.Dead.{forgotten}
-use Rattle.flat_machine.specs.State.{state_of}
+use Rattle.flat_machine.specs.State.{state_of_snapshot}
 use Rattle.explorer.specs.Settled.{LeadsBy}
 use Rattle.explorer.specs.inner.Settled.{Grows}
 use Rattle.explorer.specs.inner.Arranged.{AreExchanged}
@@ -28,19 +28,19 @@ pub record IsMadeOf (depth : ℕ) (t : Litmus) (hidden : List (List Bool)) (snap
   pub snapshot : Snapshot
   pub within : at < count
   pub stands : slice_get snapshots at ≡ Some snapshot
-  pub ended : has_ended t (state_of snapshot) ≡ true
-  pub made : IsFinalOf depth t hidden (state_of snapshot) f
+  pub ended : has_ended t (state_of_snapshot snapshot) ≡ true
+  pub made : IsFinalOf depth t hidden (state_of_snapshot snapshot) f
 
 -- those of the first so many snapshots that have ended, each once
 pub record AreFinalsOf (depth : ℕ) (t : Litmus) (hidden : List (List Bool)) (snapshots : List Snapshot) (count : ℕ) (finals : List FinalState) : Type 0 where
   pub each : (i : ℕ) (f : FinalState) → slice_get finals i ≡ Some f → IsMadeOf depth t hidden snapshots count f
-  pub all : (i : ℕ) (s : Snapshot) → i < count → slice_get snapshots i ≡ Some s → has_ended t (state_of s) ≡ true
-      → Have hidden finals (registers_in (state_of s)) s.memory.items
+  pub all : (i : ℕ) (s : Snapshot) → i < count → slice_get snapshots i ≡ Some s → has_ended t (state_of_snapshot s) ≡ true
+      → Have hidden finals (registers_in (state_of_snapshot s)) s.memory.items
   pub once : AreDistinct hidden finals
 
 -- the snapshots miss no end of a run: they grew from closed ones, and have what exchanges make of those that have ended
-pub record IsWhole (depth : ℕ) (t : Litmus) (hidden : List (List Bool)) (pairs : List (ℕ × ℕ)) (snapshots : List Snapshot) : Type 0 where
+pub record MissesNoEnd (depth : ℕ) (t : Litmus) (hidden : List (List Bool)) (pairs : List (ℕ × ℕ)) (snapshots : List Snapshot) : Type 0 where
   pub earlier : List Snapshot
-  pub closed : AreClosed depth t hidden pairs (map state_of earlier)
+  pub closed : AreClosed depth t hidden pairs (map state_of_snapshot earlier)
   pub grows : Grows earlier snapshots
   pub exchanged : AreExchanged t pairs snapshots (length snapshots)

@@ -7,12 +7,12 @@ use Rattle.tso_model.specs.declared.choice.Choice.{Choice}
 use Rattle.eager_laws.specs.Closed.{IsCovered, LeadsEagerly}
 use Rattle.eager_laws.specs.Dead.{forgotten}
 use Rattle.eager_laws.specs.Exchanged.{exchanged_by, AreOf, AreAllAlike}
-use Rattle.flat_machine.specs.State.{state_of}
+use Rattle.flat_machine.specs.State.{state_of_snapshot}
 use Rattle.flat_machine.specs.declared.snapshot.Snapshot.{Snapshot}
 use Rattle.explorer.specs.declared.link.Turn.{Turn}
 use Rattle.explorer.specs.declared.link.Turn.TheVariants.{Made, Exchanged}
 use Rattle.explorer.specs.declared.link.Link.{Link}
-use Rattle.explorer.specs.Settled.{LeadsBy, LeadsTo, IsSettled}
+use Rattle.explorer.specs.Settled.{LeadsBy, LeadsToForgotten, IsSettled}
 
 -- no snapshot was taken away, and those that are new came last
 abbrev pub Grows : List Snapshot → List Snapshot → Type 0
@@ -24,14 +24,14 @@ HaveCores t snapshots = All (λ s. length s.cores.items ≡ length t.programs) s
 
 -- choices that need not wait lead from the beginning of the test to a state that is the kept one once its dead registers are
 -- forgotten; nothing was exchanged
-pub record IsFirst (depth : ℕ) (t : Litmus) (hidden : List (List Bool)) (choices : List Choice) (exchanges : List (ℕ × ℕ)) (kept : State) : Type 0 where
+pub record IsFirstKept (depth : ℕ) (t : Litmus) (hidden : List (List Bool)) (choices : List Choice) (exchanges : List (ℕ × ℕ)) (kept : State) : Type 0 where
   pub last : State
   pub settled : IsSettled depth t (start t) last [] choices
   pub none : exchanges ≡ []
   pub kept_is : kept ≡ forgotten t hidden last
 
 -- choices lead to a state that is the kept one once its dead registers are forgotten and then cores that are alike exchanged
-pub record LeadTo (depth : ℕ) (t : Litmus) (hidden : List (List Bool)) (state : State) (choices : List Choice) (exchanges : List (ℕ × ℕ)) (kept : State) : Type 0 where
+pub record LeadToExchanged (depth : ℕ) (t : Litmus) (hidden : List (List Bool)) (state : State) (choices : List Choice) (exchanges : List (ℕ × ℕ)) (kept : State) : Type 0 where
   pub last : State
   pub leads : LeadsBy depth t state choices last
   pub alike : AreAllAlike t hidden exchanges
@@ -42,11 +42,11 @@ pub record LeadByTurns (depth : ℕ) (t : Litmus) (hidden : List (List Bool)) (s
   pub choices : List Choice
   pub exchanges : List (ℕ × ℕ)
   pub turns_are : turns ≡ map Made choices ++ map Exchanged exchanges
-  pub lead : LeadTo depth t hidden state choices exchanges kept
+  pub lead : LeadToExchanged depth t hidden state choices exchanges kept
 
 -- choices lead from the one state to the kept one, a first one and eager ones after it, and then exchanges of these pairs
-pub record IsReached (depth : ℕ) (t : Litmus) (hidden : List (List Bool)) (pairs : List (ℕ × ℕ)) (state : State) (c : Choice) (choices : List Choice) (exchanges : List (ℕ × ℕ)) (kept : State) : Type 0 where
-  pub leads : LeadTo depth t hidden state choices exchanges kept
+pub record IsReachedByChoice (depth : ℕ) (t : Litmus) (hidden : List (List Bool)) (pairs : List (ℕ × ℕ)) (state : State) (c : Choice) (choices : List Choice) (exchanges : List (ℕ × ℕ)) (kept : State) : Type 0 where
+  pub leads : LeadToExchanged depth t hidden state choices exchanges kept
   pub last : State
   pub later : List Choice
   pub eager : LeadsEagerly depth t (after_choice t depth state c) later last
@@ -56,7 +56,7 @@ pub record IsReached (depth : ℕ) (t : Litmus) (hidden : List (List Bool)) (pai
 -- the choice stalls in the state, or what it leads to is covered
 abbrev pub IsVisited : ℕ → Litmus → List (List Bool) → List (ℕ × ℕ) → List Snapshot → State → Choice → Type 0
 IsVisited depth t hidden pairs snapshots state c =
-    (after_choice t depth state c ≡ state) ⊎ IsCovered depth t hidden pairs (map state_of snapshots) (after_choice t depth state c)
+    (after_choice t depth state c ≡ state) ⊎ IsCovered depth t hidden pairs (map state_of_snapshot snapshots) (after_choice t depth state c)
 
 -- both choices of a core
 abbrev pub AreVisited : ℕ → Litmus → List (List Bool) → List (ℕ × ℕ) → List Snapshot → State → ℕ → Type 0
@@ -66,10 +66,10 @@ AreVisited depth t hidden pairs snapshots state core =
 -- a link's turns lead to its snapshot: those of the first from the beginning of the test, those of each other from the
 -- snapshot that the link names, which stands before it
 abbrev pub IsLinked : ℕ → Litmus → List (List Bool) → List Snapshot → ℕ → Snapshot → Link → Type 0
-IsLinked depth t hidden snapshots zero s link = LeadByTurns depth t hidden (start t) link.turns.items (state_of s)
+IsLinked depth t hidden snapshots zero s link = LeadByTurns depth t hidden (start t) link.turns.items (state_of_snapshot s)
 IsLinked depth t hidden snapshots (suc i) s link =
     (r : Snapshot) × (link.from ≤ i) × (slice_get snapshots link.from ≡ Some r)
-    × LeadByTurns depth t hidden (state_of r) link.turns.items (state_of s)
+    × LeadByTurns depth t hidden (state_of_snapshot r) link.turns.items (state_of_snapshot s)
 
 -- each snapshot has its link
 pub record AreLinked (depth : ℕ) (t : Litmus) (hidden : List (List Bool)) (snapshots : List Snapshot) (links : List Link) : Type 0 where
@@ -81,7 +81,7 @@ pub record AreLinked (depth : ℕ) (t : Litmus) (hidden : List (List Bool)) (sna
 abbrev pub IsPath : List Link → ℕ → List Choice → Type 0
 IsPath links at choices =
     (depth : ℕ) (t : Litmus) (hidden : List (List Bool)) (snapshots : List Snapshot) (s : Snapshot)
-    → AreLinked depth t hidden snapshots links → slice_get snapshots at ≡ Some s → LeadsTo depth t hidden (start t) choices (state_of s)
+    → AreLinked depth t hidden snapshots links → slice_get snapshots at ≡ Some s → LeadsToForgotten depth t hidden (start t) choices (state_of_snapshot s)
 
 -- each link but the first names a snapshot before its own
 abbrev pub GoBack : List Link → Type 0

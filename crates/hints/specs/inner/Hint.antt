@@ -3,8 +3,8 @@ use Rattle.std.specs.Prelude.{ℕ, ◌==◌, ◌||◌, if◌then◌else◌}
 use Rattle.tso_model.specs.Names.{is_printable}
 
 -- maximum length of its words, in bytes: six stand before them, and one after
-abbrev pub most_words : ℕ
-most_words = 249
+abbrev pub most_hint_bytes : ℕ
+most_hint_bytes = 249
 
 -- a byte as it is shown: white space as a space, and what isn't printable as a question mark
 unfoldable pub shown_byte : ℕ → ℕ

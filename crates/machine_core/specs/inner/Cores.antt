@@ -22,11 +22,11 @@ use Rattle.machine_core.specs.declared.processor.Processor.{Processor}
 use Rattle.machine_core.specs.Cores.{core_state, store_of}
 
 -- the entries of the stores in a core's buffer, and so its pending stores
-abbrev pub entries_in : ℕ → Stores → List Entry
-entries_in core s = map (store_of core) s.items
+abbrev pub buffered_entries : ℕ → Stores → List Entry
+buffered_entries core s = map (store_of core) s.items
 
 abbrev pub pending_in : ℕ → Processor → List Entry
-pending_in core p = entries_in core p.stores
+pending_in core p = buffered_entries core p.stores
 
 -- what the core of this number does with this memory: an action, at the depth of its own buffer
 abbrev pub action_by : Action → ℕ → Processor → List ℕ → Effect
@@ -37,23 +37,23 @@ abbrev pub step_by : Instr → ℕ → Processor → List ℕ → Effect
 step_by instr = action_by (action_of instr)
 
 -- a load, and a locked instruction
-abbrev pub load_by : Reg → Loc → ℕ → Processor → List ℕ → Effect
-load_by reg loc = action_by (Load reg loc)
+abbrev pub effect_of_load : Reg → Loc → ℕ → Processor → List ℕ → Effect
+effect_of_load reg loc = action_by (Load reg loc)
 
-abbrev pub lock_by : Loc → Reg → Update → ℕ → Processor → List ℕ → Effect
-lock_by loc reg update = action_by (Lock loc reg update)
+abbrev pub effect_of_lock : Loc → Reg → Update → ℕ → Processor → List ℕ → Effect
+effect_of_lock loc reg update = action_by (Lock loc reg update)
 
 -- a plain store of this value
-abbrev pub store_by : Loc → ℕ → ℕ → Processor → List ℕ → Effect
-store_by loc value core p memory = stored p.stores.depth (core_state core p) (entry core p.place W loc value)
+abbrev pub effect_of_store : Loc → ℕ → ℕ → Processor → List ℕ → Effect
+effect_of_store loc value core p memory = stored p.stores.depth (core_state core p) (entry core p.place W loc value)
 
 -- a fence
-abbrev pub fence_by : ℕ → Processor → List ℕ → Effect
-fence_by core p memory = fenced core (core_state core p)
+abbrev pub effect_of_fence : ℕ → Processor → List ℕ → Effect
+effect_of_fence core p memory = fenced core (core_state core p)
 
 -- a drain
-abbrev pub drain_by : ℕ → Processor → List ℕ → Effect
-drain_by core p memory = drain_of (core_state core p)
+abbrev pub effect_of_drain : ℕ → Processor → List ℕ → Effect
+effect_of_drain core p memory = drain_of (core_state core p)
 
 -- the access that an action of the core makes
 abbrev pub own_access : Action → ℕ → Processor → MemoryAccess
@@ -61,11 +61,11 @@ own_access action core p = access_by p.stores.depth action (pending_in core p)
 
 -- what a core with these pending stores sees at a location of this memory
 abbrev pub seen_by : ℕ → Stores → List ℕ → Loc → ℕ
-seen_by core s memory loc = last_value (filter (writes_to loc.0) (entries_in core s)) (slice_index memory loc.0)
+seen_by core s memory loc = last_value (filter (writes_to loc.0) (buffered_entries core s)) (slice_index memory loc.0)
 
 -- the word at a location of the bus
-abbrev pub word_at : BusModel → Loc → ℕ
-word_at b loc = slice_index (words_of b) loc.0
+abbrev pub word_on_bus : BusModel → Loc → ℕ
+word_on_bus b loc = slice_index (words_of b) loc.0
 
 -- both parts of a locked instruction that read this word and wrote this value
 abbrev pub both_parts : ℕ → ℕ → Loc → ℕ → ℕ → List Entry

@@ -24,7 +24,7 @@ abbrev pub done_by : CoreState → ℕ
 done_by s = s.place - length s.pending
 
 -- a core has issued what waits in its buffer, and no more instructions than a program may have
-pub record IsIssued (s : CoreState) : Type 0 where
+pub record HasIssuedItsStores (s : CoreState) : Type 0 where
   pub place : s.place ≤ most_instructions
   pub pending : length s.pending ≤ s.place
 
@@ -61,15 +61,15 @@ IsSenderAmong cores (Some awaited) = IsAmong cores awaited.flushed
 pub record IsTallied (t : Litmus) (state : BusState) (s : Statistics) : Type 0 where
   pub test : IsTest t
   pub cores : length s.counts ≡ length t.programs
-  pub issued : All IsIssued state.flat.cores
+  pub issued : All HasIssuedItsStores state.flat.cores
   pub done : All (IsAtMost (done_in state)) s.counts
   pub sender : IsSenderAmong (length t.programs) s.caches.awaited
 
-abbrev pub access_in : code.MemoryAccess → MemoryAccess
-access_in Nothing = NoAccess
-access_in (Read loc) = Reads loc
-access_in (Write loc) = Writes loc
-access_in (Lock loc) = Locks loc
+abbrev pub memory_access_in : code.MemoryAccess → MemoryAccess
+memory_access_in Nothing = NoAccess
+memory_access_in (Read loc) = Reads loc
+memory_access_in (Write loc) = Writes loc
+memory_access_in (Lock loc) = Locks loc
 
 -- the statistics so far
 abbrev pub statistics_in : {P : Type 0} → Hardware P → Statistics

@@ -10,12 +10,12 @@ use Rattle.snoop_bus.specs.Accesses.{with_words}
 use Rattle.machine_core.specs.Running.{Running}
 
 -- a core, if the test has one of that number
-abbrev pub core_at : Running → ℕ → Option CoreState
-core_at m core = slice_get m.state.flat.cores core
+abbrev pub core_numbered : Running → ℕ → Option CoreState
+core_numbered m core = slice_get m.state.flat.cores core
 
 -- its pending store with this number, counted from the oldest, as the entry that it commits
 abbrev pub pending_at : Running → ℕ → ℕ → Option Entry
-pending_at m core number = option_and_then (λ s. slice_get s.pending number) (core_at m core)
+pending_at m core number = option_and_then (λ s. slice_get s.pending number) (core_numbered m core)
 
 -- the line of this rank in a core's set
 abbrev pub cached_line : Running → ℕ → ℕ → ℕ → Option CachedLine

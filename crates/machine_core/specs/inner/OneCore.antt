@@ -19,12 +19,12 @@ use Rattle.machine_core.specs.Cores.{core_state, store_of}
 use Rattle.machine_core.specs.inner.Cores.{pending_in}
 use Rattle.machine_core.specs.inner.Turns.{by_way}
 use Rattle.machine_core.specs.Caches.{Caches, Used, caches_of, completing_by, completion_by, use_of}
-use Rattle.machine_core.specs.Effects.{Answer, HasUsed}
+use Rattle.machine_core.specs.Effects.{ChoiceAnswer, HasUsed}
 use Rattle.snoop_bus.specs.declared.access.Access as bus_access
 
 -- an action of the core that makes its access this way had this effect, and answered its outcome and how it used the caches;
 -- an access that was asked for frees the bus
-pub record HasActed (way : Way) (access : MemoryAccess) (core : ℕ) (old new : Processor) (bus bus' : BusModel) (noted noted' : Noted) (f : Effect) (r : Answer) : Type 0 where
+pub record HasActed (way : Way) (access : MemoryAccess) (core : ℕ) (old new : Processor) (bus bus' : BusModel) (noted noted' : Noted) (f : Effect) (r : ChoiceAnswer) : Type 0 where
   pub outcome : r.0 ≡ f.outcome
   pub after : core_state core new ≡ f.after
   pub words : words_of bus' ≡ memory_after f.commits (words_of bus)
@@ -34,7 +34,7 @@ pub record HasActed (way : Way) (access : MemoryAccess) (core : ℕ) (old new : 
 
 -- the core has acted, with the effect that this has on the core of that number where memory has the words of the bus
 abbrev pub Acts : Turn → MemoryAccess → (ℕ → Processor → List ℕ → Effect)
-    → Processor → Processor → BusModel → BusModel → Noted → Noted → Answer → Type 0
+    → Processor → Processor → BusModel → BusModel → Noted → Noted → ChoiceAnswer → Type 0
 Acts turn access does old new bus bus' noted noted' =
     HasActed turn.way access turn.core.0 old new bus bus' noted noted' (does turn.core.0 old (words_of bus))
 

@@ -4,5 +4,5 @@ use Rattle.decimals.specs.inner.Decimals.{number_up_to}
 use Rattle.order_builder.specs.Numbers.{is_number}
 
 -- the number that a text is, if it is one and no greater than the most that there may be
-unfoldable pub number_in : ℕ → List ℕ → Option ℕ
-number_in most text = if is_number text then number_up_to most text else None
+unfoldable pub number_within : ℕ → List ℕ → Option ℕ
+number_within most text = if is_number text then number_up_to most text else None

@@ -11,7 +11,7 @@ use Rattle.tso_model.specs.declared.execution.Kind.TheVariants.{R, W, F, LR, LW}
 use Rattle.order_builder.specs.Lines.{lines_of}
 use Rattle.decimals.specs.Decimals.{decimal_value}
 use Rattle.order_builder.specs.Numbers.{is_number}
-use Rattle.order_builder.specs.inner.Numbers.{number_in}
+use Rattle.order_builder.specs.inner.Numbers.{number_within}
 use Rattle.order_builder.specs.declared.fault.OrderFault.{OrderFault}
 use Rattle.order_builder.specs.declared.fault.OrderFault.TheVariants.{NoOrder, BadLine, BadCount}
 
@@ -55,8 +55,8 @@ unfoldable pub place_in : List ℕ → Option (ℕ × ℕ)
 place_in text = do
   numbers ← without_prefix (codes "P") text
   halves ← split_once 58 numbers
-  core ← number_in 255 halves.0
-  place ← number_in 255 halves.1
+  core ← number_within 255 halves.0
+  place ← number_within 255 halves.1
   Some (core, place)
 
 -- `x=v`, the location and the value
@@ -64,7 +64,7 @@ unfoldable pub access_in : Litmus → List ℕ → Option (ℕ × ℕ)
 access_in t text = do
   halves ← split_once 61 text
   loc ← location_named t halves.0
-  value ← number_in (2 ^ 32 - 1) halves.1
+  value ← number_within (2 ^ 32 - 1) halves.1
   Some (loc, value)
 
 -- `K x=v`, or `F`

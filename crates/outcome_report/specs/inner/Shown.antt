@@ -11,15 +11,15 @@ use Rattle.tso_model.specs.Litmus.{Litmus}
 use Rattle.tso_model.specs.Condition.{Claim, NamesExist}
 use Rattle.explorer.specs.declared.final_states.FinalState.{FinalState}
 use Rattle.tso_report.specs.declared.named.Named.{Named}
-use Rattle.tso_report.specs.inner.Tally.{IsKnown}
+use Rattle.tso_report.specs.inner.Tally.{NameExists}
 use Rattle.outcome_report.specs.Outcomes.{Outcome, outcome_of, shown_values}
 
 -- each name is of a core or a location of the test
-abbrev pub AreOf : Litmus → List Named → Type 0
-AreOf t names = All (IsKnown (length t.programs) (length t.locations)) names
+abbrev pub AreNamesOf : Litmus → List Named → Type 0
+AreNamesOf t names = All (NameExists (length t.programs) (length t.locations)) names
 
 -- a state of the test: it has registers for each core and a word for each location
-pub record IsOf (t : Litmus) (o : Outcome) : Type 0 where
+pub record IsOutcomeOf (t : Litmus) (o : Outcome) : Type 0 where
   pub registers : length o.registers ≡ length t.programs
   pub memory : length o.memory ≡ length t.locations
 
@@ -46,7 +46,7 @@ kept_after names kept (f ∷ rest) = kept_after names (with_outcome (shown_value
 
 -- the values of each are those that it shows, and it is a state of the test
 abbrev pub AreShown : Litmus → List Named → List (List ℕ × Outcome) → Type 0
-AreShown t names kept = All (λ k. (k.0 ≡ shown_values names k.1) × IsOf t k.1) kept
+AreShown t names kept = All (λ k. (k.0 ≡ shown_values names k.1) × IsOutcomeOf t k.1) kept
 
 -- each of these states has the cores and the locations that the claim names
 abbrev pub AllHave : Claim → List Outcome → Type 0

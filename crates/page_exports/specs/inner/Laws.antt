@@ -1,19 +1,19 @@
 -- What the page's numbers ask for, by plain numbers, and what stands beside an answer to them.
 use Rattle.std.specs.Prelude.{ℕ, ◌≡◌, List, [], length}
-use Rattle.page_exports.specs.declared.Told.{Told}
+use Rattle.page_exports.specs.declared.AnswerLengths.{AnswerLengths}
 use Rattle.page_exports.specs.declared.question.Numbers.{Numbers}
 use Rattle.page_exports.specs.declared.question.Question.{Question}
 use Rattle.page_exports.specs.declared.question.Question.TheVariants.{Command, Step}
-use Rattle.page_exports.specs.Questions.{AsksFor, IsAskable, IsMachineAsked, AnswersAsked}
+use Rattle.page_exports.specs.Questions.{AsksQuestion, IsAskable, IsMachineAsked, AnswersAsked}
 
-abbrev pub IsStep : Question → Type 0
-IsStep (Command settings) = ⊥
-IsStep (Step kind config) = Unit {0}
+abbrev pub IsStepQuestion : Question → Type 0
+IsStepQuestion (Command settings) = ⊥
+IsStepQuestion (Step kind config) = Unit {0}
 
 -- 7 asks for the last step of a trace: wherever there is a machine that the numbers ask for, and for nothing else
 pub record SevenAsksForAStep : Type 0 where
   pub askable : (a : Numbers) → a.command ≡ 7 → IsMachineAsked a → IsAskable a
-  pub step : (a : Numbers) (question : Question) → a.command ≡ 7 → AsksFor a question → IsStep question
+  pub step : (a : Numbers) (question : Question) → a.command ≡ 7 → AsksQuestion a question → IsStepQuestion question
 
 -- beside the last step of a trace of a run that ended, which has status 0, no hint stands: it is JSON
 abbrev pub NoHintStandsBesideAStep : Type 0
@@ -21,7 +21,7 @@ NoHintStandsBesideAStep =
     (a : Numbers) (input out hint : List ℕ) → a.command ≡ 7 → AnswersAsked a input out hint 0 → hint ≡ []
 
 -- what is told is how long an answer to what the numbers ask is, and the hint beside it, whether they fitted or not
-pub record TellsLengths (a : Numbers) (input : List ℕ) (told : Told) : Type 0 where
+pub record TellsLengths (a : Numbers) (input : List ℕ) (told : AnswerLengths) : Type 0 where
   pub out : List ℕ
   pub hint : List ℕ
   pub answers : AnswersAsked a input out hint told.status

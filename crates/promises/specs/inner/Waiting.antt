@@ -9,7 +9,7 @@ use Rattle.tso_model.specs.declared.choice.Outcome.TheVariants.{Stalled}
 use Rattle.tso_model.specs.declared.choice.Stall.TheVariants.{Bus}
 use Rattle.tso_model.specs.declared.execution.Entry.{Entry}
 use Rattle.machine_core.specs.Caches.{Caches}
-use Rattle.machine_core.specs.Running.{Running, effect_by}
+use Rattle.machine_core.specs.Running.{Running, machine_effect}
 use Rattle.promises.specs.Locked.{ShareLine}
 
 -- an access, a read or a write, to the line of this location
@@ -24,4 +24,4 @@ abbrev pub OthersWaitForTheLine : Running → Type 0
 OthersWaitForTheLine m =
     (e : Entry) (choice : Choice) → m.bus ≡ Split → m.state.holder ≡ HeldBetween e → chosen choice ≢ e.core.0
     → IsAtLine m.statistics.caches e.loc.0 (access_of m.test m.depth m.state.flat choice)
-    → (effect_by m choice).effect.outcome ≡ Stalled Bus
+    → (machine_effect m choice).effect.outcome ≡ Stalled Bus

@@ -2,7 +2,7 @@
 use Rattle.std.specs.Prelude.{◌≡◌, ◌<◌, ◌&&◌, not, Bool, true, false, if◌then◌else◌, List, [], ◌∷◌, map, filter, length}
 use Rattle.tso_model.specs.Litmus.{Litmus}
 use Rattle.refutation_laws.specs.Known.{Known}
-use Rattle.refutation_laws.specs.Refutations.{asked}
+use Rattle.refutation_laws.specs.Refutations.{asked_claim}
 use Rattle.refutations.specs.inner.Trees.{known_of}
 use Rattle.refutations.specs.inner.Facts.{AreFacts}
 use Rattle.reason_report.specs.Places.{suffices}
@@ -11,7 +11,7 @@ use Rattle.reason_report.specs.declared.parts.Refutation.{Refutation}
 use Rattle.reason_report.specs.declared.closed.Given.{Given}
 use Rattle.reason_report.specs.declared.closed.Leaf.{Leaf}
 use Rattle.reason_report.specs.declared.closed.Closed.{Closed}
-use Rattle.reason_report.specs.inner.Parts.{parts_at, first_part}
+use Rattle.reason_report.specs.inner.Parts.{parts_of_nodes_from, first_part}
 
 abbrev pub IsGiven : Litmus → Given → Type 0
 IsGiven t g = AreFacts t (known_of g.answers) g.facts
@@ -21,22 +21,22 @@ abbrev pub closed_branch : Refutation → Closed → spec.Branch
 closed_branch tree c = record {
   reply = c.reply;
   known = known_of c.leaf.given.answers;
-  part = first_part (parts_at tree.model tree.test.now tree.nodes.now c.leaf.at);
+  part = first_part (parts_of_nodes_from tree.model tree.test.now tree.nodes.now c.leaf.at);
 }
 
 pub record IsLeaf (tree : Refutation) (l : Leaf) : Type 0 where
   pub given : IsGiven tree.test.now l.given
   pub within : l.at < length tree.nodes.now
   pub named : l.shares ≡ true
-      → l.named.items ≡ map (suffices tree.test.now (asked tree.test.now.condition) (known_of l.given.answers)) tree.places.now
+      → l.named.items ≡ map (suffices tree.test.now (asked_claim tree.test.now.condition) (known_of l.given.answers)) tree.places.now
 
 pub record IsClosed (tree : Refutation) (c : Closed) : Type 0 where
   pub leaf : IsLeaf tree c.leaf
   pub shares : c.leaf.shares ≡ spec.is_false_source (closed_branch tree c)
 
-abbrev pub AreClosed : Refutation → List Closed → Type 0
-AreClosed tree [] = Unit {0}
-AreClosed tree (c ∷ cs) = IsClosed tree c × AreClosed tree cs
+abbrev pub BranchesAreClosed : Refutation → List Closed → Type 0
+BranchesAreClosed tree [] = Unit {0}
+BranchesAreClosed tree (c ∷ cs) = IsClosed tree c × BranchesAreClosed tree cs
 
 -- the same truths, as far as the first ones go
 abbrev pub same_truths : List Bool → List Bool → Bool
@@ -55,4 +55,4 @@ known_alike l cs = known_of l.given.answers ∷ map (λ (c : Closed). known_of c
 -- the branches among these cases that one line closes together with the first
 unfoldable pub rest_of : Refutation → Closed → List Closed → List spec.Branch
 rest_of tree first others =
-    filter (spec.are_alike tree.test.now (asked tree.test.now.condition) (closed_branch tree first)) (map (closed_branch tree) others)
+    filter (spec.are_alike tree.test.now (asked_claim tree.test.now.condition) (closed_branch tree first)) (map (closed_branch tree) others)

@@ -18,7 +18,7 @@ use Rattle.tso_report.specs.Tally.{looked_at}
 use Rattle.tso_report.specs.declared.named.Named.{Named}
 use Rattle.outcome_report.specs.OutcomesJson.{value_members}
 use Rattle.reason_report.specs.ReasonText.{model_name, read_source, reads_of, coherence_line, values_left}
-use Rattle.outcome_report.specs.Verdict.{verdict_value}
+use Rattle.outcome_report.specs.Verdict.{outcomes_verdict_value}
 use Rattle.reason_report.specs.ReasonJson.{asked_value, with_coherence}
 use Rattle.reason_report.specs.declared.readings.Reading.{Reading}
 
@@ -45,12 +45,12 @@ AreReadings order [] [] = Unit {0}
 AreReadings order (r ∷ rs) (x ∷ xs) = (x.read ≡ r) × ReadsIt order r x.write × AreReadings order rs xs
 AreReadings order _ _ = ⊥
 
-abbrev pub reading_of : Candidate → Entry → Reading
-reading_of c r = record { read = r; write = c.source r }
+abbrev pub read_with_source : Candidate → Entry → Reading
+read_with_source c r = record { read = r; write = c.source r }
 
 -- a candidate of which this is shown
 pub record IsShown (t : Litmus) (order : List Entry) (xs : List Reading) (vs : List ℕ) (c : Candidate) : Type 0 where
-  pub readings : xs ≡ map (reading_of c) (reads_of t c)
+  pub readings : xs ≡ map (read_with_source c) (reads_of t c)
   pub coherence : (loc : ℕ) → c.coherence loc ≡ filter (writes_to loc) order
   pub values : vs ≡ values_left t c
 
@@ -80,7 +80,7 @@ coherence_members_by t order loc (name ∷ names) =
 -- these members, and what is answered to what the test asks
 abbrev pub with_answer : Model → Litmus → Members → Members
 with_answer model t members =
-    put (codes "verdict") (verdict_value t.condition true)
+    put (codes "verdict") (outcomes_verdict_value t.condition true)
     (put (codes "test") (string t.name)
     (put (codes "model") (string (model_name model))
     (put (codes "asked") (asked_value t.condition)
@@ -99,8 +99,8 @@ with_end t names values choices members =
     (put (codes "choices") (string (printed_choices choices)) members)
 
 -- all of it, as `allowed_value` has it of a candidate
-abbrev pub shown_value : Model → Litmus → List Entry → List Reading → List ℕ → List Choice → Data
-shown_value model t order readings values choices =
+abbrev pub shown_allowed_value : Model → Litmus → List Entry → List Reading → List ℕ → List Choice → Data
+shown_allowed_value model t order readings values choices =
     object (member (codes "answer") (string (codes "allowed"))
     (member (codes "asked") (asked_value t.condition)
     (member (codes "choices") (string (printed_choices choices))
@@ -109,4 +109,4 @@ shown_value model t order readings values choices =
     (member (codes "sources") (array (items_of (map (reading_value t) readings)))
     (member (codes "test") (string t.name)
     (member (codes "values") (object (value_members t (looked_at t) values))
-    (member (codes "verdict") (verdict_value t.condition true) no_members)))))))))
+    (member (codes "verdict") (outcomes_verdict_value t.condition true) no_members)))))))))

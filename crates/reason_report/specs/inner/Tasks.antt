@@ -57,7 +57,7 @@ abbrev pub as_branch : Reply → Known → spec.Part → spec.Branch
 as_branch reply k part = record { reply = reply; known = k; part = part }
 
 -- the steps of these parts, where these tasks are open; a part without a task is a tree of its own
-abbrev pub emit : Litmus → List Task → List spec.Part → List spec.Step
+abbrev pub emit : Litmus → List Task → List spec.Part → List spec.ReasonStep
 emit t [] ps = flat_map (λ (p : spec.Part). p.steps 0 nothing) ps
 emit t (Endcases depth ∷ ts) ps = spec.Endcases depth ∷ emit t ts ps
 emit t (_ ∷ ts) [] = emit t ts []
@@ -66,16 +66,16 @@ emit t (Case depth reply k ∷ ts) (p ∷ ps) = spec.case_steps t depth (as_bran
 emit t (So depth reply k ∷ ts) (p ∷ ps) = spec.so_steps t depth (as_branch reply k p) ++ emit t ts ps
 
 -- how deep the lines of a task stand at most
-abbrev pub depth_of : Task → ℕ
-depth_of Passed = 0
-depth_of (Case depth reply k) = depth + 1
-depth_of (So depth reply k) = depth
-depth_of (Endcases depth) = depth
+abbrev pub task_depth : Task → ℕ
+task_depth Passed = 0
+task_depth (Case depth reply k) = depth + 1
+task_depth (So depth reply k) = depth
+task_depth (Endcases depth) = depth
 
 -- none stands deeper than this
-abbrev pub AreWithin : ℕ → List Task → Type 0
-AreWithin most [] = Unit {0}
-AreWithin most (a ∷ rest) = (depth_of a ≤ most) × AreWithin most rest
+abbrev pub TasksAreWithin : ℕ → List Task → Type 0
+TasksAreWithin most [] = Unit {0}
+TasksAreWithin most (a ∷ rest) = (task_depth a ≤ most) × TasksAreWithin most rest
 
 -- a part without a task comes only where no task is left
 abbrev pub IsUsed : Option Wanted → List Task → Type 0
@@ -83,6 +83,6 @@ IsUsed None ts = ts ≡ []
 IsUsed (Some w) ts = Unit {0}
 
 -- the line of a task where no part is left
-abbrev pub ended_by : Task → List spec.Step
+abbrev pub ended_by : Task → List spec.ReasonStep
 ended_by (Endcases depth) = spec.Endcases depth ∷ []
 ended_by _ = []

@@ -21,10 +21,10 @@ value_text None = []
 value_text (Some value) = codes "=" ++ decimal value
 
 -- the line of a leaf, if there is one
-abbrev pub leaf_of : ℕ → Option Closing → List spec.Step
+abbrev pub leaf_of : ℕ → Option Closing → List spec.ReasonStep
 leaf_of depth None = []
 leaf_of depth (Some c) = spec.Leaf depth (closing_of c) ∷ []
 
 -- one more word, if it doesn't stand there yet
-abbrev pub with_word : List ℕ → ℕ → List ℕ
-with_word values value = if list_any (λ v. v == value) values then values else values ++ (value ∷ [])
+abbrev pub with_new_word : List ℕ → ℕ → List ℕ
+with_new_word values value = if list_any (λ v. v == value) values then values else values ++ (value ∷ [])

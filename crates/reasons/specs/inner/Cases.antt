@@ -5,7 +5,7 @@ use Rattle.tso_model.specs.declared.execution.Entry.{Entry}
 use Rattle.refutation_laws.specs.Known.{Known, events_of}
 use Rattle.refutation_laws.specs.Edges.{on_location, global_in, is_edge, are_parts, is_between}
 use Rattle.refutation_laws.specs.Values.{allows}
-use Rattle.refutation_laws.specs.Refutations.{asked, is_node}
+use Rattle.refutation_laws.specs.Refutations.{asked_claim, is_node}
 use Rattle.refutation_laws.specs.Models.{IsMet}
 use Rattle.refutation_laws.specs.declared.model.Model.{Model}
 use Rattle.refutation_laws.specs.inner.FullCases.{may_ask, is_answered, NoneBetween}
@@ -17,10 +17,10 @@ use Rattle.reasons.specs.Reasons.{is_leaf}
 use Rattle.reasons.specs.declared.reason.Step.{Step}
 use Rattle.reasons.specs.declared.reason.Step.TheVariants.{Leaf, Question, Allowed}
 
-abbrev pub IsStep : Model → Litmus → Known → Step → Type 0
-IsStep model t k (Leaf n) = (is_node model t (asked t.condition) k (node_of n) ≡ true) × (is_leaf (node_of n) ≡ true)
-IsStep model t k (Question n) = (may_ask t (node_of n) ≡ true) × (is_answered k (node_of n) ≡ false)
-IsStep model t k (Allowed execution) = IsMet model t (asked t.condition) execution.order.items
+abbrev pub IsSearchStep : Model → Litmus → Known → Step → Type 0
+IsSearchStep model t k (Leaf n) = (is_node model t (asked_claim t.condition) k (node_of n) ≡ true) × (is_leaf (node_of n) ≡ true)
+IsSearchStep model t k (Question n) = (may_ask t (node_of n) ≡ true) × (is_answered k (node_of n) ≡ false)
+IsSearchStep model t k (Allowed execution) = IsMet model t (asked_claim t.condition) execution.order.items
 
 -- ---- leaves
 
@@ -29,10 +29,10 @@ pub record IsLeafless (model : Model) (t : Litmus) (k : Known) : Type 0 where
   pub on_location : Ordered (λ x y. is_edge t k on_location x y ≡ true) (events_of t)
   pub globally : Ordered (λ x y. is_edge t k (global_in model) x y ≡ true) (events_of t)
   pub none_between : NoneBetween t k
-  pub can_be : allows t k (asked t.condition) true ≡ true
+  pub can_be : allows t k (asked_claim t.condition) true ≡ true
 
 abbrev pub LeafOrNone : Model → Litmus → Known → Option Node → Type 0
-LeafOrNone model t k (Some n) = (is_node model t (asked t.condition) k (node_of n) ≡ true) × (is_leaf (node_of n) ≡ true)
+LeafOrNone model t k (Some n) = (is_node model t (asked_claim t.condition) k (node_of n) ≡ true) × (is_leaf (node_of n) ≡ true)
 LeafOrNone model t k None = IsLeafless model t k
 
 -- ---- a write between two parts

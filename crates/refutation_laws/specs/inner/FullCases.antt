@@ -12,13 +12,13 @@ use Rattle.refutation_laws.specs.Edges.{is_between}
 use Rattle.refutation_laws.specs.Refutations.{Node, ReadsFrom, ComesFirst}
 
 -- the initial write, or one of the test's to the location of the read
-abbrev pub IsPossible : Litmus → Entry → Option Entry → Type 0
-IsPossible t r None = Unit {0}
-IsPossible t r (Some w) = IsIn (events_of t) w × (writes_to r.loc.0 w ≡ true)
+abbrev pub IsPossibleSource : Litmus → Entry → Option Entry → Type 0
+IsPossibleSource t r None = Unit {0}
+IsPossibleSource t r (Some w) = IsIn (events_of t) w × (writes_to r.loc.0 w ≡ true)
 
 abbrev pub ArePossible : Litmus → List Source → Type 0
 ArePossible t [] = Unit {0}
-ArePossible t (s ∷ ss) = IsPossible t s.read s.write × ArePossible t ss
+ArePossible t (s ∷ ss) = IsPossibleSource t s.read s.write × ArePossible t ss
 
 abbrev pub has_source : Known → Entry → Bool
 has_source k r = list_any (λ (s : Source). same_event s.read r) k.sources

@@ -34,7 +34,7 @@ abbrev pub is_load_part : Entry → Bool
 is_load_part e = same_kind e.kind LR
 
 -- all events but load parts, each once, so that nothing stands before what must precede it
-pub record IsRow (model : Model) (t : Litmus) (k : Known) (row : List Entry) : Type 0 where
+pub record IsLinearExtension (model : Model) (t : Litmus) (k : Known) (row : List Entry) : Type 0 where
   pub inside : (x : Entry) → IsIn row x → IsIn (events_of t) x × (is_load_part x ≡ false)
   pub whole : (x : Entry) → IsIn (events_of t) x → is_load_part x ≡ false → IsIn row x
   pub once : Once row
@@ -57,5 +57,5 @@ abbrev pub with_loads : List Entry → List Entry → List Entry
 with_loads es [] = []
 with_loads es (x ∷ xs) = filter (λ r. are_parts r x) es ++ (x ∷ with_loads es xs)
 
-abbrev pub order_of : Litmus → Known → List Entry → List Entry
-order_of t k row = map (valued t k) (with_loads (events_of t) row)
+abbrev pub order_along : Litmus → Known → List Entry → List Entry
+order_along t k row = map (valued t k) (with_loads (events_of t) row)

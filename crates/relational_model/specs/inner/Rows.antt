@@ -4,16 +4,16 @@ use Rattle.tso_model.specs.declared.execution.Entry.{Entry}
 use Rattle.relational_model.specs.Events.{IsIn}
 
 -- none of these is before x
-abbrev pub NoneBefore : (Entry → Entry → Type 0) → Entry → List Entry → Type 0
-NoneBefore Before x ys = (y : Entry) → IsIn ys y → Before y x → ⊥
+abbrev pub NonePrecedes : (Entry → Entry → Type 0) → Entry → List Entry → Type 0
+NonePrecedes Before x ys = (y : Entry) → IsIn ys y → Before y x → ⊥
 
 -- no edge goes back
 abbrev pub GoesForward : (Entry → Entry → Type 0) → List Entry → Type 0
 GoesForward Before [] = Unit {0}
-GoesForward Before (y ∷ ys) = NoneBefore Before y ys × GoesForward Before ys
+GoesForward Before (y ∷ ys) = NonePrecedes Before y ys × GoesForward Before ys
 
 -- the same events, put so
-pub record Row (Before : Entry → Entry → Type 0) (xs : List Entry) : Type 0 where
+pub record LinearExtension (Before : Entry → Entry → Type 0) (xs : List Entry) : Type 0 where
   pub row : List Entry
   pub forward : GoesForward Before row
   pub inside : (y : Entry) → IsIn xs y → IsIn row y
@@ -22,7 +22,7 @@ pub record Row (Before : Entry → Entry → Type 0) (xs : List Entry) : Type 0 
 
 -- they stand in a row, and none is before itself
 pub record Ordered (Before : Entry → Entry → Type 0) (xs : List Entry) : Type 0 where
-  pub in_a_row : Row Before xs
+  pub in_a_row : LinearExtension Before xs
   pub never_itself : (x : Entry) → IsIn xs x → Before x x → ⊥
 
 -- no member stands there again

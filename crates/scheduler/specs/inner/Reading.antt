@@ -25,8 +25,8 @@ words_in (One choice) = 1
 words_in (Seeded seed count) = 3
 
 -- ---- a step or a drain
-unfoldable pub kind_of : ℕ → Option ChoiceKind
-kind_of letter = if letter == 115 then Some Step else if letter == 100 then Some Drain else None
+unfoldable pub choice_kind_of : ℕ → Option ChoiceKind
+choice_kind_of letter = if letter == 115 then Some Step else if letter == 100 then Some Drain else None
 
 abbrev pub choice_by : ChoiceKind → ℕ → Choice
 choice_by Step core = choice.Step (record { 0 = core })
@@ -43,7 +43,7 @@ one_from cores room number digits (Some action) =
 
 -- the item of a word that isn't `seed`: its last byte is the letter
 unfoldable pub one_of : ℕ → ℕ → ℕ → List ℕ → Result ChoiceItem ChoiceFault
-one_of cores room number word = one_from cores room number (take (length word - 1) word) (kind_of (slice_index word (length word - 1)))
+one_of cores room number word = one_from cores room number (take (length word - 1) word) (choice_kind_of (slice_index word (length word - 1)))
 
 -- ---- the choices of a seed
 unfoldable pub seed_of : List ℕ → Option ℕ

@@ -6,5 +6,5 @@ use Rattle.shown_values.specs.Shown.{is_shown}
 use Rattle.shown_values.specs.declared.show.Show.{Show}
 
 -- of these names those that are shown are put after the list
-abbrev pub AreNoted : Show → Litmus → List Named → List Named → List Named → Type 0
-AreNoted show t names old new = new ≡ old ++ filter (is_shown show t) names
+abbrev pub ShownAreNoted : Show → Litmus → List Named → List Named → List Named → Type 0
+ShownAreNoted show t names old new = new ≡ old ++ filter (is_shown show t) names

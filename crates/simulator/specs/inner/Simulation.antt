@@ -12,7 +12,7 @@ use Rattle.machine_core.specs.Statistics.{statistics_from}
 use Rattle.machine_core.specs.Answered.{answered_from}
 use Rattle.machine_core.specs.Running.{Running}
 use Rattle.machine_core.specs.inner.Running.{is_ended}
-use Rattle.tso_report.specs.Shown.{Shown, shown}
+use Rattle.tso_report.specs.Shown.{ShownRun, shown_run}
 use Rattle.simulator.specs.Simulation.{verdict}
 use Rattle.simulator.specs.declared.simulation.Ending.{Ending}
 use Rattle.simulator.specs.declared.simulation.Ending.TheVariants.{Ended, Unfinished}
@@ -21,8 +21,8 @@ use Rattle.simulator.specs.declared.simulation.Ending.TheVariants.{Ended, Unfini
 abbrev pub answers_of : Running → List Choice → List Attempt
 answers_of m choices = answered_from m.bus m.test m.depth m.state m.statistics.caches choices
 
-abbrev pub run_of : Running → List Choice → BusRun
-run_of m choices = run_on_from m.bus m.test m.depth m.state (answers_of m choices)
+abbrev pub bus_run_of : Running → List Choice → BusRun
+bus_run_of m choices = run_on_from m.bus m.test m.depth m.state (answers_of m choices)
 
 -- the answers are such as caches may give
 abbrev pub HaveFittingAnswers : Running → List Choice → Type 0
@@ -34,15 +34,15 @@ pub record Drives (old new : Running) (choices : List Choice) (uses stalls : ℕ
   pub bus : new.bus ≡ old.bus
   pub depth : new.depth ≡ old.depth
   pub failed : new.failed ≡ false
-  pub state : new.state ≡ left_by (run_of old choices)
-  pub commits : new.commits ≡ old.commits ++ (run_of old choices).run.commits
+  pub state : new.state ≡ left_by (bus_run_of old choices)
+  pub commits : new.commits ≡ old.commits ++ (bus_run_of old choices).run.commits
   pub statistics : new.statistics ≡ statistics_from old.bus old.test old.depth old.state choices old.statistics
-  pub used : uses ≡ (run_of old choices).run.used
-  pub stalled : stalls ≡ (run_of old choices).run.stalled
+  pub used : uses ≡ (bus_run_of old choices).run.used
+  pub stalled : stalls ≡ (bus_run_of old choices).run.stalled
   pub answers : HaveFittingAnswers old choices
 
 -- a machine on which the test has ended leaves this, once so many choices were made and so many are left over
-pub record IsLeft (t : Litmus) (m : Running) (uses stalls rest : ℕ) (s : Shown) : Type 0 where
+pub record IsLeft (t : Litmus) (m : Running) (uses stalls rest : ℕ) (s : ShownRun) : Type 0 where
   pub ended : is_ended m ≡ true
   pub order : s.order ≡ put_together m.commits
   pub registers : s.registers ≡ registers_in m.state.flat
@@ -56,6 +56,6 @@ pub record IsLeft (t : Litmus) (m : Running) (uses stalls rest : ℕ) (s : Shown
   pub unused : s.unused ≡ rest
 
 -- that, or a test that hasn't ended
-abbrev pub IsLeftBy : Litmus → Running → ℕ → ℕ → ℕ → Ending → Type 0
-IsLeftBy t m uses stalls rest (Ended run) = IsLeft t m uses stalls rest (shown run)
-IsLeftBy t m uses stalls rest (Unfinished used stalled) = (is_ended m ≡ false) × (used ≡ uses) × (stalled ≡ stalls)
+abbrev pub IsEndingLeftBy : Litmus → Running → ℕ → ℕ → ℕ → Ending → Type 0
+IsEndingLeftBy t m uses stalls rest (Ended run) = IsLeft t m uses stalls rest (shown_run run)
+IsEndingLeftBy t m uses stalls rest (Unfinished used stalled) = (is_ended m ≡ false) × (used ≡ uses) × (stalled ≡ stalls)

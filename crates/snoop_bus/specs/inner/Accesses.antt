@@ -12,7 +12,7 @@ use Rattle.snoop_bus.specs.declared.access.AccessKind.TheVariants.{Miss}
 use Rattle.snoop_bus.specs.declared.holding.BusAction.{BusAction}
 use Rattle.snoop_bus.specs.declared.holding.Stage.TheVariants.{Load, Locked}
 use Rattle.snoop_bus.specs.declared.looking.CachedLine.{CachedLine}
-use Rattle.snoop_bus.specs.Lines.{line_in, words_in}
+use Rattle.snoop_bus.specs.Lines.{line_in, words_in_lines}
 use Rattle.snoop_bus.specs.Tags.{tag_set}
 use Rattle.snoop_bus.specs.CacheContents.{TagSets, sets_of}
 use Rattle.snoop_bus.specs.inner.CacheContents.{settled}
@@ -20,7 +20,7 @@ use Rattle.snoop_bus.specs.Copies.{cache_of}
 use Rattle.snoop_bus.specs.Bus.{BusModel, words_of, IsFree}
 use Rattle.protocol_tables.specs.Laws.{is_dirty}
 use Rattle.snoop_bus.specs.Asks.{tag_at, or_invalid}
-use Rattle.snoop_bus.specs.Accesses.{contents_of, line_of, would_hit, with_words}
+use Rattle.snoop_bus.specs.Accesses.{contents_of, line_of_location, would_hit, with_words}
 
 -- the copies of a core's set with this number, with their words
 abbrev pub copies_of : BusModel → ℕ → ℕ → Contents
@@ -38,11 +38,11 @@ abbrev pub IsClean : List TagSets → ℕ → Type 0
 IsClean caches line = (core : ℕ) → is_dirty (or_invalid (tag_at core line caches)) ≡ false
 
 abbrev pub memory_words_of : BusModel → List ℕ
-memory_words_of b = words_in b.shape.words (line_in b.memory) b.locations
+memory_words_of b = words_in_lines b.shape.words (line_in b.memory) b.locations
 
 -- a core's access to the line for which another core's write access holds the bus doesn't hit
 abbrev pub KeepsOut : BusModel → Core → Loc → Bool → BusAction → Type 0
-KeepsOut b core loc hit h = line_of b h.loc.0 ≡ line_of b loc.0 → h.stage ≢ Load → h.core ≢ core → hit ≡ false
+KeepsOut b core loc hit h = line_of_location b h.loc.0 ≡ line_of_location b loc.0 → h.stage ≢ Load → h.core ≢ core → hit ≡ false
 
 -- an access that may be made whole: nobody holds the bus, or it hits
 abbrev pub MayGoOn : BusModel → ℕ → ℕ → Bool → Type 0
@@ -55,8 +55,8 @@ contents_settled b = settled (contents_of b)
 -- while a core's write access holds the bus, or its locked instruction, no other core has its line; and where a locked
 -- instruction has read, its core has the line in M
 pub record StandsAlone (b : BusModel) (h : BusAction) : Type 0 where
-  pub others : h.stage ≢ Load → (core : ℕ) → core ≢ h.core.0 → tag_at core (line_of b h.loc.0) (contents_of b) ≡ None
-  pub own : h.stage ≡ Locked → tag_at h.core.0 (line_of b h.loc.0) (contents_of b) ≡ Some M
+  pub others : h.stage ≢ Load → (core : ℕ) → core ≢ h.core.0 → tag_at core (line_of_location b h.loc.0) (contents_of b) ≡ None
+  pub own : h.stage ≡ Locked → tag_at h.core.0 (line_of_location b h.loc.0) (contents_of b) ≡ Some M
 
 -- an access was out of memory: it was a miss, since no other takes any, and nothing has changed
 pub record IsOutOfMemory (old new : BusModel) (refused : Access) : Type 0 where

@@ -14,7 +14,7 @@ use Rattle.snoop_bus.specs.CacheContents.{TagSets, loaded, written}
 use Rattle.snoop_bus.specs.Copies.{Sets, copy_at, tags_of}
 use Rattle.snoop_bus.specs.inner.Copies.{ways_of}
 use Rattle.snoop_bus.specs.MemoryAfter.{loaded_memory, written_memory}
-use Rattle.snoop_bus.specs.Held.{counted}
+use Rattle.snoop_bus.specs.Held.{counted_copies_of}
 use Rattle.snoop_bus.specs.inner.Held.{IsHeld}
 use Rattle.snoop_bus.specs.Bus.{AllCoherent, current_words}
 use Rattle.snoop_bus.specs.Asks.{hits}
@@ -22,7 +22,7 @@ use Rattle.snoop_bus.specs.Asks.{hits}
 -- a core may ask for a line of memory, or hit it beside an action that holds the bus: the copies that count are
 -- coherent, and the holder's own copy is as its action has left it
 pub record IsReady (held : Option HeldBus) (core line : ℕ) (h : Hierarchy) : Type 0 where
-  pub coherent : AllCoherent (counted held h.caches.items) h.memory.items
+  pub coherent : AllCoherent (counted_copies_of held h.caches.items) h.memory.items
   pub awaited : IfSome held (IsHeld h.caches.items h.memory.items)
   pub core_in : core < length h.caches.items
   pub few_cores : length h.caches.items ≤ most_cores
@@ -51,7 +51,7 @@ pub record SetsWord (line offset value : ℕ) (old_caches new_caches : List Sets
 
 -- the current words of a line, where those that the bus keeps count as the holder's
 abbrev pub counted_words : Option HeldBus → List Sets → List Words → ℕ → Words
-counted_words held caches memory line = current_words (counted held caches) memory line
+counted_words held caches memory line = current_words (counted_copies_of held caches) memory line
 
 module _ (t : Table) (held : Option HeldBus) (core line : ℕ) where
   -- a load answered the word at this offset in a line and was this access: what it leaves goes by the protocol's table

@@ -7,7 +7,7 @@ use Rattle.snoop_bus.specs.Geometry.{Geometry}
 use Rattle.snoop_bus.specs.Lines.{Words, line_of_words}
 use Rattle.snoop_bus.specs.Copies.{Sets}
 use Rattle.snoop_bus.specs.inner.Copies.{ways_of}
-use Rattle.snoop_bus.specs.Held.{counted}
+use Rattle.snoop_bus.specs.Held.{counted_copies_of}
 use Rattle.snoop_bus.specs.inner.Held.{IsHeld, IsPlaced}
 use Rattle.snoop_bus.specs.declared.holding.HeldBus.{HeldBus}
 use Rattle.snoop_bus.specs.Bus.{AllCoherent, BusModel, counted_copies, current_words, program_words}
@@ -20,8 +20,8 @@ HasWholeLines shape locations caches memory =
 -- what holds of every bus: the copies that count are coherent, the holder's own copy is as its action has left it, each
 -- cache of the bus's shape, cores and locations within their limits, and a line for each location
 pub record IsBus (shape : Geometry) (locations : ℕ) (caches : List Sets) (memory : List Words) (held : Option HeldBus) : Type 0 where
-  pub coherent : AllCoherent (counted held caches) memory
-  pub lines : HasWholeLines shape locations (counted held caches) memory
+  pub coherent : AllCoherent (counted_copies_of held caches) memory
+  pub lines : HasWholeLines shape locations (counted_copies_of held caches) memory
   pub awaited : IfSome held (IsHeld caches memory)
   pub placed : IfSome held (IsPlaced shape locations)
   pub shaped : ways_of caches ≡ replicate (length caches) (replicate shape.sets shape.ways)

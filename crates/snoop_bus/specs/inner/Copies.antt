@@ -14,11 +14,11 @@ abbrev pub emptied : Contents → Contents
 emptied s = contents [] s.ways
 
 -- the state of a core's copy of a line, if it has one
-abbrev pub state_in : Sets → ℕ → Option State
-state_in sets line = option_map (λ copy. copy.state) (copy_in sets line)
+abbrev pub copy_state_in : Sets → ℕ → Option State
+copy_state_in sets line = option_map (λ copy. copy.state) (copy_in sets line)
 
 abbrev pub state_at : List Sets → ℕ → ℕ → Option State
-state_at caches core line = state_in (cache_of caches core) line
+state_at caches core line = copy_state_in (cache_of caches core) line
 
 -- a core's copy of one line was changed so, and no other of its copies
 abbrev pub OnlyAt : ℕ → (Option Line → Option Line) → Sets → Sets → Type 0

@@ -11,7 +11,7 @@ use Rattle.cache_set.specs.declared.Line.{Line}
 use Rattle.cache_set.specs.inner.Copy.{with_state}
 use Rattle.snoop_bus.specs.Geometry.{Geometry}
 use Rattle.snoop_bus.specs.Lines.{Words}
-use Rattle.snoop_bus.specs.Coherent.{state_of}
+use Rattle.snoop_bus.specs.Coherent.{state_of_copy}
 use Rattle.snoop_bus.specs.Copies.{Sets, copy_at, cache_of}
 use Rattle.snoop_bus.specs.declared.holding.Stage.{Stage}
 use Rattle.snoop_bus.specs.declared.holding.Stage.TheVariants.{Load, Write, Locked}
@@ -30,9 +30,9 @@ AskedOf SmD copy own = ((own ≡ Some (with_state S copy)) ⊎ (own ≡ Some (wi
 abbrev pub Awaits : Stage → Option Transaction → Option Line → Type 0
 Awaits Load None own = ⊥
 Awaits Load (Some x) own = (x.transient ≡ IsD) × (own ≡ None)
-Awaits Write None own = in_place (state_of own) ≡ Some M
+Awaits Write None own = in_place (state_of_copy own) ≡ Some M
 Awaits Write (Some x) own = (x.transient ≢ IsD) × AskedOf x.transient x.copy own
-Awaits Locked None own = state_of own ≡ M
+Awaits Locked None own = state_of_copy own ≡ M
 Awaits Locked (Some x) own = ⊥
 
 -- what holds while an action holds the bus

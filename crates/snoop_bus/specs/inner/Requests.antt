@@ -16,20 +16,20 @@ use Rattle.snoop_bus.specs.inner.Tags.{clean}
 use Rattle.snoop_bus.specs.Copies.{Sets, in_set, copy_in, copy_at, cache_of}
 
 -- a set once its copy of a line went to this state: in I it leaves
-abbrev pub next_in : ℕ → State → Contents → Contents
-next_in line I s = without line s
-next_in line S s = with_changed (with_state S) line s
-next_in line E s = with_changed (with_state E) line s
-next_in line O s = with_changed (with_state O) line s
-next_in line M s = with_changed (with_state M) line s
+abbrev pub with_next_state : ℕ → State → Contents → Contents
+with_next_state line I s = without line s
+with_next_state line S s = with_changed (with_state S) line s
+with_next_state line E s = with_changed (with_state E) line s
+with_next_state line O s = with_changed (with_state O) line s
+with_next_state line M s = with_changed (with_state M) line s
 
-abbrev pub answered_in : (State → Snoop) → ℕ → Option Line → Sets → Sets
-answered_in on_request line None sets = sets
-answered_in on_request line (Some copy) sets = in_set line (next_in line (on_request copy.state).next) sets
+abbrev pub after_request_in : (State → Snoop) → ℕ → Option Line → Sets → Sets
+after_request_in on_request line None sets = sets
+after_request_in on_request line (Some copy) sets = in_set line (with_next_state line (on_request copy.state).next) sets
 
 -- a core's sets once it saw another's request for a line
-abbrev pub answered : (State → Snoop) → ℕ → Sets → Sets
-answered on_request line sets = answered_in on_request line (copy_in sets line) sets
+abbrev pub after_request : (State → Snoop) → ℕ → Sets → Sets
+after_request on_request line sets = after_request_in on_request line (copy_in sets line) sets
 
 -- a copy in this state, and none in I
 abbrev pub copy_if : State → Words → Option Line
@@ -40,39 +40,39 @@ copy_if O words = Some (copy_with O words)
 copy_if M words = Some (copy_with M words)
 
 -- what another's request leaves of a copy
-abbrev pub left_by : (State → Snoop) → Option Line → Option Line
-left_by on_request None = None
-left_by on_request (Some copy) = copy_if (on_request copy.state).next copy.words
+abbrev pub copy_left_by : (State → Snoop) → Option Line → Option Line
+copy_left_by on_request None = None
+copy_left_by on_request (Some copy) = copy_if (on_request copy.state).next copy.words
 
 -- a core's sets, and a copy, where the core has seen the request, or hasn't
-abbrev pub answered_if : Bool → (State → Snoop) → ℕ → Sets → Sets
-answered_if has_seen on_request line sets = if has_seen then answered on_request line sets else sets
+abbrev pub after_request_if : Bool → (State → Snoop) → ℕ → Sets → Sets
+after_request_if has_seen on_request line sets = if has_seen then after_request on_request line sets else sets
 
-abbrev pub left_if : Bool → (State → Snoop) → Option Line → Option Line
-left_if has_seen on_request copy = if has_seen then left_by on_request copy else copy
+abbrev pub copy_left_if : Bool → (State → Snoop) → Option Line → Option Line
+copy_left_if has_seen on_request copy = if has_seen then copy_left_by on_request copy else copy
 
 -- one cache has seen the request, unless it is the one of the core that made it; and the copies then
 abbrev pub SeenAt : ℕ → (State → Snoop) → ℕ → ℕ → List Sets → List Sets → Type 0
 SeenAt other on_request core line old new =
-    (i : ℕ) → cache_of new i ≡ answered_if (nat_eq i other && not (nat_eq i core)) on_request line (cache_of old i)
+    (i : ℕ) → cache_of new i ≡ after_request_if (nat_eq i other && not (nat_eq i core)) on_request line (cache_of old i)
 
 abbrev pub LeftAt : ℕ → (State → Snoop) → ℕ → ℕ → List Sets → List Sets → Type 0
 LeftAt other on_request core line old new =
-    (i k : ℕ) → copy_at new i k ≡ left_if (nat_eq i other && (not (nat_eq i core) && nat_eq k line)) on_request (copy_at old i k)
+    (i k : ℕ) → copy_at new i k ≡ copy_left_if (nat_eq i other && (not (nat_eq i core) && nat_eq k line)) on_request (copy_at old i k)
 
 -- every cache below this number has seen the request, but for the one that made it; and the copies then
 abbrev pub SeenBelow : ℕ → (State → Snoop) → ℕ → ℕ → List Sets → List Sets → Type 0
 SeenBelow upto on_request core line old new =
-    (i : ℕ) → cache_of new i ≡ answered_if (nat_lt i upto && not (nat_eq i core)) on_request line (cache_of old i)
+    (i : ℕ) → cache_of new i ≡ after_request_if (nat_lt i upto && not (nat_eq i core)) on_request line (cache_of old i)
 
 abbrev pub LeftBelow : ℕ → (State → Snoop) → ℕ → ℕ → List Sets → List Sets → Type 0
 LeftBelow upto on_request core line old new =
-    (i k : ℕ) → copy_at new i k ≡ left_if (nat_lt i upto && (not (nat_eq i core) && nat_eq k line)) on_request (copy_at old i k)
+    (i k : ℕ) → copy_at new i k ≡ copy_left_if (nat_lt i upto && (not (nat_eq i core) && nat_eq k line)) on_request (copy_at old i k)
 
 -- the copies once every cache but one has seen a request for a line
 abbrev pub LeftByOthers : (State → Snoop) → ℕ → ℕ → List Sets → List Sets → Type 0
 LeftByOthers on_request core line old new =
-    (i k : ℕ) → copy_at new i k ≡ left_if (not (nat_eq i core) && nat_eq k line) on_request (copy_at old i k)
+    (i k : ℕ) → copy_at new i k ≡ copy_left_if (not (nat_eq i core) && nat_eq k line) on_request (copy_at old i k)
 
 -- one core's copy of one line is this one now, and all others are as they were
 abbrev pub ChangesCopy : ℕ → ℕ → Option Line → List Sets → List Sets → Type 0

@@ -8,7 +8,7 @@ use Rattle.protocol_tables.specs.declared.kind.ProtocolKind.{ProtocolKind}
 use Rattle.protocol_tables.specs.declared.requests.Transient.TheVariants.{IsD, ImD, SmD}
 use Rattle.protocol_tables.specs.declared.state.State.{State}
 use Rattle.protocol_tables.specs.declared.state.State.TheVariants.{M}
-use Rattle.snoop_bus.specs.Coherent.{state_of}
+use Rattle.snoop_bus.specs.Coherent.{state_of_copy}
 use Rattle.snoop_bus.specs.Copies.{copy_at}
 use Rattle.snoop_bus.specs.Bus.{BusModel, words_of, cores_of, counted_copies, IsSameMachine}
 use Rattle.snoop_bus.specs.inner.Bus.{IsBus}
@@ -36,7 +36,7 @@ pub record IsBusOf (b : BusModel) (m : Running) : Type 0 where
   pub caches : caches_of b ≡ m.statistics.caches
   pub words : words_of b ≡ m.state.flat.memory
   pub cores : cores_of b ≡ length m.test.programs
-  pub lines : (core line : ℕ) → ShowsAs (line_state m core line) (state_of (copy_at (counted_copies b) core line))
+  pub lines : (core line : ℕ) → ShowsAs (line_state m core line) (state_of_copy (copy_at (counted_copies b) core line))
 
 -- the words that a trace tells of memory after a choice, by those that the bus's memory had before it, are those that it has
 -- then: whatever call the choice made, of each machine that choices of a test lead to

@@ -11,15 +11,15 @@ use Rattle.serde_json.specs.View.{items_of}
 use Rattle.machine_core.specs.Looking.{bus_holder_of}
 use Rattle.machine_core.specs.declared.looking.BusHolder.{BusHolder}
 use Rattle.tso_report.specs.Json.{count, memory_value}
-use Rattle.trace_report.specs.Shown.{shown}
+use Rattle.trace_report.specs.Shown.{shown_step}
 use Rattle.trace_report.specs.Lines.{line_name, transient_name}
-use Rattle.trace_json.specs.Values.{counts, text_or_null}
-use Rattle.trace_json.specs.MachineJson.{bus_json, cores_json, kept_words, words_in_line}
+use Rattle.trace_json.specs.Values.{array_of_numbers, text_or_null}
+use Rattle.trace_json.specs.MachineJson.{bus_json, cores_json, words_on_bus, words_in_line}
 use Rattle.trace_json.specs.TraceJson.{Sourced, alone, step_to}
 use Rattle.trace_json.specs.declared.trace.SourcedStep.{SourcedStep}
 
 -- the machine runs this test, is configured so, and has a word for each location
-pub record IsShown (t : Litmus) (c : Configuration) (m : Running) : Type 0 where
+pub record IsMachineOfTest (t : Litmus) (c : Configuration) (m : Running) : Type 0 where
   pub test : m.test ≡ t
   pub config : configuration_of m ≡ c
   pub each : length m.state.flat.memory ≡ length t.locations
@@ -44,12 +44,12 @@ holder_members t words seen h =
     (member (codes "core") (count (chosen h.choice))
     (member (codes "line") (string (line_name t words (h.loc.0 / words)))
     (member (codes "state") (text_or_null (option_map transient_name h.transient))
-    (member (codes "words") (counts (kept_words h.transient (words_in_line words seen (h.loc.0 / words)))) no_members))))
+    (member (codes "words") (array_of_numbers (words_on_bus h.transient (words_in_line words seen (h.loc.0 / words)))) no_members))))
 
 -- those of a copy's, by the names of its line and of what that is in, and the words of the line's locations
 abbrev pub copy_members : List ℕ → List ℕ → List ℕ → Members
 copy_members line state words =
-    member (codes "line") (string line) (member (codes "state") (string state) (member (codes "words") (counts words) no_members))
+    member (codes "line") (string line) (member (codes "state") (string state) (member (codes "words") (array_of_numbers words) no_members))
 
 -- a trace from its parts: the machine before the first choice, and the steps
 abbrev pub trace_with : Data → Data → Data
@@ -62,4 +62,4 @@ told_last (Some s) m memory = step_to s m memory
 
 -- what is told of a choice
 abbrev pub sourced : SourcedStep → Sourced
-sourced s = record { step = shown s.step; supplied = s.supplied }
+sourced s = record { step = shown_step s.step; supplied = s.supplied }

@@ -4,16 +4,16 @@ use Rattle.serde_json.specs.Data.{Data, boolean, string, Members, no_members, me
 use Rattle.tso_model.specs.Litmus.{Litmus}
 use Rattle.scheduler.specs.Printed.{printed_choice}
 use Rattle.tso_report.specs.Json.{order_value}
-use Rattle.trace_report.specs.Shown.{Shown}
+use Rattle.trace_report.specs.Shown.{ShownStep}
 use Rattle.trace_report.specs.Lines.{access_name, stall_name, line_name}
 use Rattle.trace_report.specs.Lines.{printed_core, printed_move, printed_change, printed_request}
-use Rattle.trace_json.specs.Values.{text_or_null, texts}
+use Rattle.trace_json.specs.Values.{text_or_null, array_of_texts}
 use Rattle.trace_json.specs.StepJson.{outcome_word, stall_in}
-use Rattle.trace_json.specs.Supplied.{source_text}
+use Rattle.trace_json.specs.Supplied.{supplier_text}
 use Rattle.trace_json.specs.declared.supplied.Source.{Source}
 
 -- those to `moved`
-abbrev pub done_members : Litmus → Shown → Data → Members
+abbrev pub done_members : Litmus → ShownStep → Data → Members
 done_members t s after =
     member (codes "access") (text_or_null (option_map access_name s.access))
     (member (codes "after") after
@@ -24,11 +24,11 @@ done_members t s after =
     (member (codes "moved") (text_or_null (option_map printed_move s.moved)) no_members))))))
 
 -- and with the others put to them
-abbrev pub with_left : Litmus → ℕ → Shown → Option Source → Members → Members
+abbrev pub with_left : Litmus → ℕ → ShownStep → Option Source → Members → Members
 with_left t words s supplied members =
     put (codes "write_back") (text_or_null (option_map (line_name t words) s.wrote_back))
     (put (codes "transaction") (text_or_null (option_map (printed_request t words) s.request))
-    (put (codes "supplied") (text_or_null (option_map source_text supplied))
-    (put (codes "states") (texts (map (printed_change t words) s.changes))
+    (put (codes "supplied") (text_or_null (option_map supplier_text supplied))
+    (put (codes "states") (array_of_texts (map (printed_change t words) s.changes))
     (put (codes "stall") (text_or_null (option_map stall_name (stall_in s.outcome)))
     (put (codes "outcome") (string (outcome_word s.outcome)) members)))))

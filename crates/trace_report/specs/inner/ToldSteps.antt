@@ -1,15 +1,15 @@
 -- What is shown of what is told of a choice.
 use Rattle.std.specs.Prelude.{ℕ}
 use Rattle.tso_model.specs.declared.choice.Choice.{Choice}
-use Rattle.trace_report.specs.Shown.{Shown, shown}
+use Rattle.trace_report.specs.Shown.{ShownStep, shown_step}
 use Rattle.trace_report.specs.Stalls.{stalled_step}
 use Rattle.trace_report.specs.declared.telling.Told.{Told}
 use Rattle.trace_report.specs.declared.telling.Told.TheVariants.{Stalled, Made}
 
 -- its step
-abbrev pub told_step : Choice → Told → Shown
+abbrev pub told_step : Choice → Told → ShownStep
 told_step choice (Stalled why) = stalled_step choice why
-told_step choice (Made step) = shown step
+told_step choice (Made step) = shown_step step
 
 -- how many stalls are told of it
 abbrev pub stalls_told : Told → ℕ

@@ -5,7 +5,7 @@ use Rattle.tso_model.specs.Axioms.{IsTsoExecution}
 use Rattle.tso_model.specs.declared.execution.Entry.{Entry}
 use Rattle.litmus_reader.specs.Spelling.{SpellsTest, IsRefused as IsRefusedTest}
 use Rattle.litmus_reader.specs.declared.fault.TextFault.{TextFault}
-use Rattle.scheduler.specs.Refusals.{IsDecided}
+use Rattle.scheduler.specs.Refusals.{IsDecidedAsChoices}
 use Rattle.order_builder.specs.Spelling.{SpellsOrder, HasFault}
 use Rattle.order_builder.specs.declared.fault.OrderFault.{OrderFault}
 use Rattle.axiom_checker.specs.FirstBreach.{IsFirstBreach}
@@ -18,7 +18,7 @@ pub record AreReadOneWay : Type 0 where
   pub one_refusal : (text : List ℕ) (fault other : TextFault) → IsRefusedTest text fault → IsRefusedTest text other → fault ≡ other
   pub test : (text : List ℕ) (t : Litmus) → SpellsTest text t → IsTest t
   -- a text spells one list of choices, or gets one refusal
-  pub decided : (cores : ℕ) (text : List ℕ) → 0 < cores → IsDecided cores text
+  pub decided : (cores : ℕ) (text : List ℕ) → 0 < cores → IsDecidedAsChoices cores text
   -- a text spells one order of a test, or has one fault
   pub once : (t : Litmus) (text : List ℕ) (order other : List Entry) → IsTest t → length text < 2 ^ 64
       → SpellsOrder t text order → SpellsOrder t text other → order ≡ other

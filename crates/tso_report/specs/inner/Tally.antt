@@ -4,23 +4,23 @@ use Rattle.tso_model.specs.Litmus.{Litmus}
 use Rattle.tso_model.specs.Condition.{Condition}
 use Rattle.tso_report.specs.declared.named.Named.{Named}
 use Rattle.tso_report.specs.declared.named.Named.TheVariants.{Register, Location}
-use Rattle.tso_report.specs.Shown.{Shown}
-use Rattle.tso_report.specs.Tally.{RunCounts, is_looked_at, values_in, with_state, with_verdict}
+use Rattle.tso_report.specs.Shown.{ShownRun}
+use Rattle.tso_report.specs.Tally.{RunCounts, is_looked_at, values_in, with_state_counted, with_verdict}
 
 -- of these names those that are looked at are put after the list
 abbrev pub AreNoted : Option Condition → List Named → List Named → List Named → Type 0
 AreNoted condition names old new = new ≡ old ++ filter (is_looked_at condition) names
 
 -- the core or the location is below these numbers
-abbrev pub IsKnown : ℕ → ℕ → Named → Type 0
-IsKnown cores locations (Register core reg) = core.0 < cores
-IsKnown cores locations (Location loc) = loc.0 < locations
+abbrev pub NameExists : ℕ → ℕ → Named → Type 0
+NameExists cores locations (Register core reg) = core.0 < cores
+NameExists cores locations (Location loc) = loc.0 < locations
 
 -- one more run of the test that ended, in this state, with this truth of the condition's proposition
 abbrev pub with_ended : Litmus → List (List ℕ) → List ℕ → Option Bool → RunCounts → RunCounts
-with_ended t registers memory holds c = with_verdict holds (with_state (values_in t registers memory) c)
+with_ended t registers memory holds c = with_verdict holds (with_state_counted (values_in t registers memory) c)
 
-abbrev pub with_run : Litmus → Shown → RunCounts → RunCounts
+abbrev pub with_run : Litmus → ShownRun → RunCounts → RunCounts
 with_run t s c = with_ended t s.registers s.memory s.holds c
 
 -- what a tally holds

@@ -1,4 +1,4 @@
-use Rattle.axiom_checker.proofs.Vocabulary.{length, ap, sym, ◌∙◌, subst, refl, Ascends, AreWithin, HasSources}
+use Rattle.axiom_checker.proofs.Vocabulary.{length, ap, sym, ◌∙◌, subst, refl, Ascends, EntriesAreWithin, TellsSources}
 use Rattle.axiom_checker.proofs.Made.{made-ascends, made-within}
 use Rattle.axiom_checker.proofs.Judging.{of-programs, tells-met, words-are}
 use Rattle.axiom_checker.proofs.Coming.{zeros-are}
@@ -11,8 +11,8 @@ pub own_writes-requires-clause-within : goal.own_writes-requires-clause-within
 own_writes-requires-clause-within g c =
     let t = c.args.test.now in (
       length t.programs,
-      subst (λ n. AreWithin (length t.programs) n c.args.made.now) (sym c.locations.ensures.value)
-          (subst (AreWithin (length t.programs) (length t.locations)) (sym c.requires.made) (made-within t c.args.order.now.order c.requires.test)),
+      subst (λ n. EntriesAreWithin (length t.programs) n c.args.made.now) (sym c.locations.ensures.value)
+          (subst (EntriesAreWithin (length t.programs) (length t.locations)) (sym c.requires.made) (made-within t c.args.order.now.order c.requires.test)),
     )
 
 pub pass-met-requires-clause-of_programs : goal.pass-met-requires-clause-of_programs
@@ -21,7 +21,7 @@ pass-met-requires-clause-of_programs g c =
     (ap length (words-are c.deref_mut.result.now _ c.new-words.result.items c.initial_words.result.now _ c.deref_mut.ensures.value c.in_ok-extend_from_slice.ensures.items c.new-words.ensures.items refl) ∙ c.initial_words.ensures.each)
 
 pub pass-met-requires-clause-sources : goal.pass-met-requires-clause-sources
-pass-met-requires-clause-sources g c = subst (λ s. HasSources c.args.made.now s) (sym c.deref.ensures.value) c.in_ok-sources.ensures
+pass-met-requires-clause-sources g c = subst (λ s. TellsSources c.args.made.now s) (sym c.deref.ensures.value) c.in_ok-sources.ensures
 
 pub pass-met-requires-clause-none_yet : goal.pass-met-requires-clause-none_yet
 pass-met-requires-clause-none_yet g c k = (zeros-are 8 k, zeros-are 8 k)

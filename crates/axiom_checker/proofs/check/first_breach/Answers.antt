@@ -1,4 +1,4 @@
-use Rattle.axiom_checker.proofs.Vocabulary.{length, arith, sym, ◌∙◌, subst, Ascends, AreWithin}
+use Rattle.axiom_checker.proofs.Vocabulary.{length, arith, sym, ◌∙◌, subst, Ascends, EntriesAreWithin}
 use Rattle.axiom_checker.proofs.Made.{reads-few, reading-ascends, reading-within}
 use Rattle.axiom_checker.proofs.check.first_breach.Goals as goal
 
@@ -16,6 +16,6 @@ pub index_of-requires-clause-within : goal.index_of-requires-clause-within
 index_of-requires-clause-within g c =
     let t = c.args.test.now in (
       length t.locations,
-      subst (λ n. AreWithin n (length t.locations) c.deref.result.now) (sym c.cores.ensures.value)
-          (subst (AreWithin (length t.programs) (length t.locations)) (sym (c.deref.ensures.value ∙ c.in_ok-shape.ensures)) (reading-within t c.know_limits.ensures _)),
+      subst (λ n. EntriesAreWithin n (length t.locations) c.deref.result.now) (sym c.cores.ensures.value)
+          (subst (EntriesAreWithin (length t.programs) (length t.locations)) (sym (c.deref.ensures.value ∙ c.in_ok-shape.ensures)) (reading-within t c.know_limits.ensures _)),
     )

@@ -1,4 +1,4 @@
-use Rattle.commands.proofs.Vocabulary.{string_bytes, subst, sym, AreReached, named_in, PrintsOutcomes}
+use Rattle.commands.proofs.Vocabulary.{string_bytes, subst, sym, AreReached, names_shown, PrintsOutcomes}
 use Rattle.commands.proofs.FoundOutcomes.{search-answers}
 use Rattle.commands.proofs.outcomes.found_answer.Goals as goal
 
@@ -11,6 +11,6 @@ returns c =
     let text = string_bytes c.in_ok-printed.printed.text in
     let claimed = c.in_ok-printed.printed.is_as_claimed in
     search-answers t c.args.search c.args.json c.args.assert claimed c.args.finals.now text c.of_verdict.result c.requires.reached c.requires.complete
-    (subst (λ show. PrintsOutcomes t (named_in show t) c.args.search.depth c.args.json c.args.finals.now text claimed) c.show.ensures
-    (subst (λ depth. PrintsOutcomes t (named_in c.show.result t) depth c.args.json c.args.finals.now text claimed) c.depth.ensures.value c.in_ok-printed.ensures))
+    (subst (λ show. PrintsOutcomes t (names_shown show t) c.args.search.depth c.args.json c.args.finals.now text claimed) c.show.ensures
+    (subst (λ depth. PrintsOutcomes t (names_shown c.show.result t) depth c.args.json c.args.finals.now text claimed) c.depth.ensures.value c.in_ok-printed.ensures))
     c.of_verdict.ensures

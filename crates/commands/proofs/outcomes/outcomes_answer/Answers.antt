@@ -1,4 +1,4 @@
-use Rattle.commands.proofs.Vocabulary.{ap, subst, sym, AreReached, HasMoreStates, named_in}
+use Rattle.commands.proofs.Vocabulary.{ap, subst, sym, AreReached, HasMoreStates, names_shown}
 use Rattle.commands.proofs.FoundOutcomes.{search-shows}
 use Rattle.commands.proofs.outcomes.outcomes_answer.Goals as goal
 
@@ -10,9 +10,9 @@ found_answer-requires-clause-reached g c =
 pub found_answer-requires-clause-complete : goal.found_answer-requires-clause-complete
 found_answer-requires-clause-complete g c =
     let t = c.args.test.now in
-    search-shows t (named_in c.args.search.show t) (named_in c.show.result t) c.depth.result c.args.search.depth c.deref.result.now c.in_ok-hidden.hidden.items
+    search-shows t (names_shown c.args.search.show t) (names_shown c.show.result t) c.depth.result c.args.search.depth c.deref.result.now c.in_ok-hidden.hidden.items
     c.in_ok-met.met.final_states.items c.deref-in-Whole.result.now (c.in_ok-met.ensures.complete c.in-Whole.is) c.in_ok-hidden.ensures.not_shown
-    (ap (λ show. named_in show t) c.show.ensures) c.depth.ensures.value c.deref.ensures.value c.deref-in-Whole.ensures.value
+    (ap (λ show. names_shown show t) c.show.ensures) c.depth.ensures.value c.deref.ensures.value c.deref-in-Whole.ensures.value
 
 pub unfinished_answer-requires-clause-reached : goal.unfinished_answer-requires-clause-reached
 unfinished_answer-requires-clause-reached g c =

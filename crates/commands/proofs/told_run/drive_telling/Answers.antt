@@ -1,4 +1,4 @@
-use Rattle.commands.proofs.Vocabulary.{arith, ℕ, ◌≡◌, ◌+◌, ◌∙◌, drop, string_bytes, false, refl, sym, ap, subst, drop_more, has_ended, stall_count, Running, Shown, stalls_told}
+use Rattle.commands.proofs.Vocabulary.{arith, ℕ, ◌≡◌, ◌+◌, ◌∙◌, drop, string_bytes, false, refl, sym, ap, subst, drop_more, has_ended, stall_count, Running, ShownStep, stalls_told}
 use Rattle.trace_report.proofs.RunsTold.{step-outcome}
 use Rattle.simulator.proofs.DriveLemmas as drive
 use Rattle.commands.proofs.ToldLines as lines
@@ -19,7 +19,7 @@ loop-choice-preserved g c =
       stops = c.runs_on_either_bus_stop_where_they_end.ensures.stops;
       nothing_more = c.runs_on_either_bus_stop_where_they_end.ensures.nothing_more;
     } in
-    let outcome = ap (λ (s : Shown). s.outcome) c.in_ok-told.ensures.step ∙ step-outcome m _ in
+    let outcome = ap (λ (s : ShownStep). s.outcome) c.in_ok-told.ensures.step ∙ step-outcome m _ in
     let driven = drive.one-more c.args.machine.now m c.tell_or_stall.new.machine c.args.choices.now (drop c.loop-choice.choice-index c.args.choices.now) (drop (c.loop-choice.choice-index + 1) c.args.choices.now) _
     c.loop-choice.used c.loop-choice.stalled (stalls_told told) laws i.driven next c.in_ok-told.ensures.after going c.in_ok-told.ensures.answer
     (c.in_ok-told.ensures.stalls ∙ ap stall_count outcome) in

@@ -1,4 +1,4 @@
-use Rattle.commands.proofs.Vocabulary.{◌≡◌, ◌≤◌, drop, string_bytes, has_ended, IsTold}
+use Rattle.commands.proofs.Vocabulary.{◌≡◌, ◌≤◌, drop, string_bytes, has_ended, IsTracedInStates}
 use Rattle.simulator.proofs.DriveLemmas as drive
 use Rattle.commands.proofs.ToldLines as lines
 use Rattle.commands.proofs.told_run.drive_telling.Given as goal
@@ -9,7 +9,7 @@ invariant-loop-choice g l = record {
   count : l.used ≡ l.choice-index;
   fewer : l.stalled ≤ l.used;
   over : l.ended ≡ has_ended l.machine.test l.machine.state.flat;
-  told : IsTold l.test l.config l.machine l.states.items;
+  told : IsTracedInStates l.test l.config l.machine l.states.items;
   driven : drive.SoFar l.initial.machine l.machine l.choices (drop l.choice-index l.choices) l.used l.stalled;
   written : lines.SoFar l.test l.config.shape.words l.initial.machine l.machine l.choices l.choice-index (string_bytes l.initial.text) (string_bytes l.text);
 }

@@ -1,4 +1,4 @@
-use Rattle.explorer.proofs.Vocabulary.{◌≡◌, ◌<◌, length, map, slice_get, Some, slice_index_or, arith, subst, ap, sym, ◌∙◌, slice_get-get_or, both_ways, has_ended, IsIn, exchanged, state_of}
+use Rattle.explorer.proofs.Vocabulary.{◌≡◌, ◌<◌, length, map, slice_get, Some, slice_index_or, arith, subst, ap, sym, ◌∙◌, slice_get-get_or, both_ways, has_ended, IsAmongStates, exchanged, state_of_snapshot}
 use Rattle.explorer.proofs.Completing.{exchanged-none, exchanged-more}
 use Rattle.explorer.proofs.Finals.{cores-at}
 use Rattle.explorer.proofs.Linking.{get-within, get-one}
@@ -14,9 +14,9 @@ loop-at-preserved c =
       linked = c.in_ok-add_exchanged.ensures.linked;
       room = c.in_ok-add_exchanged.ensures.room;
       exchanged = λ s at.
-          exchanged-more c.args.plan.now.alike.items _ _ (state_of s) c.loop-at.at (slice_index_or c.args.plan.now.alike.items c.loop-at.at c.index-in-loop-at.result.now) c.in_ok-add_exchanged.ensures.grows
+          exchanged-more c.args.plan.now.alike.items _ _ (state_of_snapshot s) c.loop-at.at (slice_index_or c.args.plan.now.alike.items c.loop-at.at c.index-in-loop-at.result.now) c.in_ok-add_exchanged.ensures.grows
           (slice_get-get_or c.args.plan.now.alike.items c.loop-at.at c.index-in-loop-at.result.now l) (c.loop-at.invariant.exchanged s at)
-          (subst (λ z. IsIn (map state_of c.add_exchanged.new.found.snapshots.keys) (exchanged z (state_of s))) c.index-in-loop-at.ensures
+          (subst (λ z. IsAmongStates (map state_of_snapshot c.add_exchanged.new.found.snapshots.keys) (exchanged z (state_of_snapshot s))) c.index-in-loop-at.ensures
           (c.in_ok-add_exchanged.ensures.among s (get-grown _ _ _ s c.loop-at.invariant.grows at)));
     }
 
@@ -31,7 +31,7 @@ has_ended-requires c = cores-at c.args.plan.now.test.now c.args.found.now.snapsh
 pub returns-then-not-has_ended-clause-exchanged : goal.returns-then-not-has_ended-clause-exchanged
 returns-then-not-has_ended-clause-exchanged c = λ s at ended.
     let same : s ≡ c.index.result.now = get-one c.args.found.now.snapshots.keys c.args.from s c.index.result.now at c.index.ensures in
-    absurd (both_ways _ (ap (λ z. has_ended c.args.plan.now.test.now (state_of z)) same ∙ sym c.has_ended.ensures ∙ c.if-not-has_ended.true) ended)
+    absurd (both_ways _ (ap (λ z. has_ended c.args.plan.now.test.now (state_of_snapshot z)) same ∙ sym c.has_ended.ensures ∙ c.if-not-has_ended.true) ended)
 
 pub returns-then-not-has_ended-clause-grows : goal.returns-then-not-has_ended-clause-grows
 returns-then-not-has_ended-clause-grows c = grows-none _
@@ -42,7 +42,7 @@ loop-at-init c = record {
   cores = c.requires.cores;
   linked = c.requires.linked;
   room = c.requires.room;
-  exchanged = λ s at. exchanged-none c.args.plan.now.alike.items c.args.found.now.snapshots.keys (state_of s);
+  exchanged = λ s at. exchanged-none c.args.plan.now.alike.items c.args.found.now.snapshots.keys (state_of_snapshot s);
 }
 
 pub add_exchanged-requires-clause-from : goal.add_exchanged-requires-clause-from

@@ -1,4 +1,4 @@
-use Rattle.explorer.proofs.Vocabulary.{◌≡◌, ◌<◌, ℕ, Some, slice_get, map, length, IsIn, exchanged, state_of, Grows, HaveCores, AreLinked, Snapshot}
+use Rattle.explorer.proofs.Vocabulary.{◌≡◌, ◌<◌, ℕ, Some, slice_get, map, length, IsAmongStates, exchanged, state_of_snapshot, Grows, HaveCores, AreLinked, Snapshot}
 use Rattle.explorer.proofs.closing.add_all_exchanged.Given as goal
 
 abbrev pub invariant-loop-at : goal.invariant-loop-at
@@ -8,5 +8,5 @@ invariant-loop-at l = record {
   linked : AreLinked l.plan.depth l.plan.test.now l.plan.hidden.now l.found.snapshots.keys l.found.links.items;
   room : length l.reached.state.cores.items ≡ length l.plan.test.now.programs;
   exchanged : (s : Snapshot) → slice_get l.fn.found.snapshots.keys l.from ≡ Some s → (i : ℕ) (pair : ℕ × ℕ) → i < l.at → slice_get l.plan.alike.items i ≡ Some pair
-      → IsIn (map state_of l.found.snapshots.keys) (exchanged pair (state_of s));
+      → IsAmongStates (map state_of_snapshot l.found.snapshots.keys) (exchanged pair (state_of_snapshot s));
 }

@@ -1,4 +1,4 @@
-use Rattle.explorer.proofs.Vocabulary.{◌∷◌, ◌++◌, [], map, ap, sym, ◌∙◌, subst, arith, IsIn, exchanged, state_of, on-ok}
+use Rattle.explorer.proofs.Vocabulary.{◌∷◌, ◌++◌, [], map, ap, sym, ◌∙◌, subst, arith, IsAmongStates, exchanged, state_of_snapshot, on-ok}
 use Rattle.explorer.proofs.Completing.{one-exchange}
 use Rattle.explorer.proofs.Finals.{cores-at}
 use Rattle.explorer.proofs.Linking.{linked-forgotten, get-one}
@@ -31,7 +31,7 @@ returns-clause-linked c =
     on-ok c.keep.result (λ f.
     f c.args.plan.now.depth c.args.plan.now.test.now c.args.plan.now.hidden.now c.index.result.now c.requires.linked c.index.ensures
     (one-exchange c.args.plan.now.depth c.args.plan.now.test.now c.args.plan.now.hidden.now c.args.plan.now.alike.items c.push.new.self.items c.args.pair c.clear.new.self.items
-    (state_of c.index.result.now) (state_of c.exchange.new.state) c.requires.plan.alike c.requires.pair
+    (state_of_snapshot c.index.result.now) (state_of_snapshot c.exchange.new.state) c.requires.plan.alike c.requires.pair
     (linked-forgotten c.dead_registers_change_nothing.ensures c.alike_cores_are_exchangeable.ensures c.args.plan.now.depth c.args.plan.now.test.now c.args.plan.now.hidden.now
     c.args.found.now.snapshots.keys c.args.found.now.links.items c.requires.linked c.args.from c.index.result.now c.index.ensures)
     c.clear.ensures.items (c.in_ok-push.ensures.items ∙ ap (λ z. z ++ c.args.pair ∷ []) c.clear-2.ensures.items)
@@ -43,6 +43,6 @@ returns-clause-grows c = c.keep.ensures.grows
 pub returns-clause-among : goal.returns-clause-among
 returns-clause-among c =
     on-ok c.keep.result (λ m s at.
-    subst (λ z. IsIn (map state_of c.keep.new.found.snapshots.keys) z)
+    subst (λ z. IsAmongStates (map state_of_snapshot c.keep.new.found.snapshots.keys) z)
     (c.exchange.ensures.value ∙ ap (exchanged c.args.pair)
-    (c.in_ok-overwrite.ensures.value ∙ sym (ap state_of (get-one c.args.found.now.snapshots.keys c.args.from s c.index.result.now at c.index.ensures)))) m) c.keep.ensures.among
+    (c.in_ok-overwrite.ensures.value ∙ sym (ap state_of_snapshot (get-one c.args.found.now.snapshots.keys c.args.from s c.index.result.now at c.index.ensures)))) m) c.keep.ensures.among

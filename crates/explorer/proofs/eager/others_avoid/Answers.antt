@@ -1,4 +1,4 @@
-use Rattle.explorer.proofs.Vocabulary.{◌≡◌, sym, subst, ◌∙◌, inl, inr, arith, lt-or, program_of, core_of, Avoids, state_of}
+use Rattle.explorer.proofs.Vocabulary.{◌≡◌, sym, subst, ◌∙◌, inl, inr, arith, lt-or, program_of, core_of, Avoids, state_of_snapshot}
 use Rattle.explorer.proofs.Absent.{avoids-absent}
 use Rattle.explorer.proofs.eager.others_avoid.Goals as goal
 
@@ -6,7 +6,7 @@ pub loop-other-preserved : goal.loop-other-preserved
 loop-other-preserved c = λ j l n. elim (lt-or c.loop-other.other j) [
   | inl m ↦ c.loop-other.invariant j m n
   | inr m ↦ let q : j ≡ c.loop-other.other = omega (arith, l, m) in
-      subst (λ z. Avoids c.args.loads c.args.loc.0 (program_of c.args.test.now z) (core_of (state_of c.args.state.now) z)) (sym q)
+      subst (λ z. Avoids c.args.loads c.args.loc.0 (program_of c.args.test.now z) (core_of (state_of_snapshot c.args.state.now) z)) (sym q)
       (c.keeps_away.ensures c.if-not-keeps_away.false (λ r. n (q ∙ r)))
 ]
 

@@ -1,4 +1,4 @@
-use Rattle.explorer.proofs.Vocabulary.{◌≡◌, length, map, ap, sym, ◌∙◌, subst, arith, start, registers_in, CoresExist, state_after, state_of, LeadsTo, IsPath, GoBack}
+use Rattle.explorer.proofs.Vocabulary.{◌≡◌, length, map, ap, sym, ◌∙◌, subst, arith, start, registers_in, CoresExist, state_after, state_of_snapshot, LeadsToForgotten, IsPath, GoBack}
 use Rattle.explorer.proofs.Ending.{registers-map}
 use Rattle.explorer.proofs.Linking.{goes-back, get-some, leads-cores, leads-after}
 use Rattle.explorer.proofs.final_states.final_state.Goals as goal
@@ -20,9 +20,9 @@ state_after-requires c =
 pub returns : goal.returns
 returns c = λ s at.
     let path : IsPath c.args.found.now.links.items c.args.at c.in_ok-choices.choices.items = subst (λ z. IsPath z c.args.at c.in_ok-choices.choices.items) c.deref.ensures.value c.in_ok-choices.ensures in
-    let p : LeadsTo c.args.plan.now.depth c.args.plan.now.test.now c.args.plan.now.hidden.now (start c.args.plan.now.test.now) c.in_ok-choices.choices.items (state_of s) =
+    let p : LeadsToForgotten c.args.plan.now.depth c.args.plan.now.test.now c.args.plan.now.hidden.now (start c.args.plan.now.test.now) c.in_ok-choices.choices.items (state_of_snapshot s) =
     path c.args.plan.now.depth c.args.plan.now.test.now c.args.plan.now.hidden.now c.args.found.now.snapshots.keys s c.requires.linked at in
-    let same : state_of c.in_ok-last.last ≡ p.last =
+    let same : state_of_snapshot c.in_ok-last.last ≡ p.last =
     c.in_ok-last.ensures ∙ ap (state_after c.args.plan.now.test.now c.args.plan.now.depth (start c.args.plan.now.test.now)) c.deref-2.ensures.value
     ∙ leads-after c.args.plan.now.depth c.args.plan.now.test.now (start c.args.plan.now.test.now) c.in_ok-choices.choices.items p.last p.leads in
     record {

@@ -1,13 +1,13 @@
-use Rattle.explorer.proofs.Vocabulary.{◌≡◌, ◌<◌, ◌≤◌, ℕ, Some, slice_get, map, length, start, IsCovered, IsExpanded, state_of, HaveCores, AreLinked, Snapshot}
+use Rattle.explorer.proofs.Vocabulary.{◌≡◌, ◌<◌, ◌≤◌, ℕ, Some, slice_get, map, length, start, IsCovered, IsExpanded, state_of_snapshot, HaveCores, AreLinked, Snapshot}
 use Rattle.explorer.proofs.search.expand_all.Given as goal
 
 abbrev pub invariant-loop-at : goal.invariant-loop-at
 invariant-loop-at g l = record {
   cores : HaveCores l.plan.test.now l.found.snapshots.keys;
   linked : AreLinked l.plan.depth l.plan.test.now l.plan.hidden.now l.found.snapshots.keys l.found.links.items;
-  first : IsCovered l.plan.depth l.plan.test.now l.plan.hidden.now l.plan.alike.items (map state_of l.found.snapshots.keys) (start l.plan.test.now);
+  first : IsCovered l.plan.depth l.plan.test.now l.plan.hidden.now l.plan.alike.items (map state_of_snapshot l.found.snapshots.keys) (start l.plan.test.now);
   each : (i : ℕ) (x : Snapshot) → i < l.at → slice_get l.found.snapshots.keys i ≡ Some x
-      → IsExpanded l.plan.depth l.plan.test.now l.plan.hidden.now l.plan.alike.items (map state_of l.found.snapshots.keys) (state_of x);
+      → IsExpanded l.plan.depth l.plan.test.now l.plan.hidden.now l.plan.alike.items (map state_of_snapshot l.found.snapshots.keys) (state_of_snapshot x);
   room : length l.reached.state.cores.items ≡ length l.plan.test.now.programs;
   within : length l.found.snapshots.keys ≤ l.limit;
 }

@@ -1,4 +1,4 @@
-use Rattle.explorer.proofs.Vocabulary.{◌++◌, map, ap, sym, ◌∙◌, subst, IsIn, LeadTo, Made, Exchanged, state_of}
+use Rattle.explorer.proofs.Vocabulary.{◌++◌, map, ap, sym, ◌∙◌, subst, IsAmongStates, LeadToExchanged, Made, Exchanged, state_of_snapshot}
 use Rattle.flat_machine.specs.contracts.snapshot.SnapshotPartialEq.TheImpl as snapshot_eq
 use Rattle.explorer.proofs.Linking.{linked-new}
 use Rattle.explorer.proofs.Same.{snapshots-same}
@@ -12,13 +12,13 @@ returns-then-contains-clause-among c =
 pub returns-in_ok-push-clause-among : goal.returns-in_ok-push-clause-among
 returns-in_ok-push-clause-among c =
     let k = c.in_ok-added.ensures.stored in
-    subst (λ z. IsIn (map state_of c.insert_full.new.self.keys) z) (sym (snapshots-same c.in_ok-state.state k.0 k.2) ∙ c.in_ok-state.ensures.value)
+    subst (λ z. IsAmongStates (map state_of_snapshot c.insert_full.new.self.keys) z) (sym (snapshots-same c.in_ok-state.state k.0 k.2) ∙ c.in_ok-state.ensures.value)
     (in-list c.insert_full.new.self.keys c.in_ok-added.field-0-0 k.0 k.1)
 
 pub returns-else-added-clause-among : goal.returns-else-added-clause-among
 returns-else-added-clause-among c =
     let k = c.in_ok-added.ensures.stored in
-    subst (λ z. IsIn (map state_of c.insert_full.new.self.keys) z) (sym (snapshots-same c.in_ok-state.state k.0 k.2) ∙ c.in_ok-state.ensures.value)
+    subst (λ z. IsAmongStates (map state_of_snapshot c.insert_full.new.self.keys) z) (sym (snapshots-same c.in_ok-state.state k.0 k.2) ∙ c.in_ok-state.ensures.value)
     (in-list c.insert_full.new.self.keys c.in_ok-added.field-0-0 k.0 k.1)
 
 pub returns-else-added-clause-grows : goal.returns-else-added-clause-grows
@@ -39,7 +39,7 @@ returns-in_ok-push-clause-linked c = λ depth t hidden s h at leads.
       exchanges = c.args.reached.now.exchanges.items;
       turns_are = c.in_ok-turns.ensures ∙ ap (λ z. map Made z ++ map Exchanged c.deref-2.result.now) c.deref.ensures.value
           ∙ ap (λ z. map Made c.args.reached.now.choices.items ++ map Exchanged z) c.deref-2.ensures.value;
-      lead = subst (λ z. LeadTo depth t hidden (state_of s) c.args.reached.now.choices.items c.args.reached.now.exchanges.items z) (sym c.in_ok-state.ensures.value) leads;
+      lead = subst (λ z. LeadToExchanged depth t hidden (state_of_snapshot s) c.args.reached.now.choices.items c.args.reached.now.exchanges.items z) (sym c.in_ok-state.ensures.value) leads;
     })
 
 pub returns-then-contains-clause-grows : goal.returns-then-contains-clause-grows

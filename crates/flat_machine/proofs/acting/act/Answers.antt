@@ -1,4 +1,4 @@
-use Rattle.flat_machine.proofs.Vocabulary.{◌≡◌, ◌<◌, ℕ, slice_get, slice_index_or, length, arith, ap, sym, refl, ◌∙◌, effect_by, drain_of, program_of, core_of, step, drain, core_of_processor, state_of, Processor}
+use Rattle.flat_machine.proofs.Vocabulary.{◌≡◌, ◌<◌, ℕ, slice_get, slice_index_or, length, arith, ap, sym, refl, ◌∙◌, effect_by, drain_of, program_of, core_of, step, drain, core_of_processor, state_of_snapshot, Processor}
 use Rattle.flat_machine.proofs.Choosing.{on-ok-2, core-at, draining, acted, beyond, ends, step-is}
 use Rattle.flat_machine.proofs.acting.act.Goals as goal
 
@@ -15,8 +15,8 @@ returns-then-place-program-clause-after c =
     let g = c.program-program.ensures.value in
     let h4 = c.from-place.ensures in
     let h5 = c.if-place-program.true in
-    let place-is : (core_of (state_of c.args.state.now) k).place ≡ c.from-place.result = ap (λ z. z.place) (core-at c.args.test.now c.args.depth c.args.state.now k p l q) ∙ sym h4 in
-    rw c.in-Step.is (ends c.args.test.now c.args.depth (state_of c.args.state.now) k
+    let place-is : (core_of (state_of_snapshot c.args.state.now) k).place ≡ c.from-place.result = ap (λ z. z.place) (core-at c.args.test.now c.args.depth c.args.state.now k p l q) ∙ sym h4 in
+    rw c.in-Step.is (ends c.args.test.now c.args.depth (state_of_snapshot c.args.state.now) k
     (ap (λ z. slice_get (program_of c.args.test.now k) z) place-is ∙ ap (λ z. slice_get z c.from-place.result) (sym g) ∙ beyond c.program-program.result.now c.from-place.result h5))
 
 pub returns-else-place-program-clause-outcome : goal.returns-else-place-program-clause-outcome

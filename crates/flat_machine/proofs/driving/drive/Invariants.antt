@@ -1,4 +1,4 @@
-use Rattle.flat_machine.proofs.Vocabulary.{◌≡◌, length, has_ended, CoresExist, state_of}
+use Rattle.flat_machine.proofs.Vocabulary.{◌≡◌, length, has_ended, CoresExist, state_of_snapshot}
 use Rattle.flat_machine.proofs.Onward.{IsOnItsWay}
 use Rattle.flat_machine.proofs.driving.drive.Given as goal
 
@@ -8,8 +8,8 @@ invariant-loop-ended g l = record {
   cores : length l.state.cores.items ≡ length l.test.programs;
   words : length l.state.memory.items ≡ length l.initial.state.memory.items;
   chosen : CoresExist (length l.test.programs) (g.C.Choices.coming l.choices);
-  over : l.ended ≡ has_ended l.test (state_of l.state);
-  on_its_way : IsOnItsWay l.test l.fn.depth (state_of l.initial.state) (g.C.Choices.coming l.initial.choices) (state_of l.state) (g.C.Choices.coming l.choices);
+  over : l.ended ≡ has_ended l.test (state_of_snapshot l.state);
+  on_its_way : IsOnItsWay l.test l.fn.depth (state_of_snapshot l.initial.state) (g.C.Choices.coming l.initial.choices) (state_of_snapshot l.state) (g.C.Choices.coming l.choices);
 }
 
 abbrev pub decreases-loop-ended : goal.decreases-loop-ended

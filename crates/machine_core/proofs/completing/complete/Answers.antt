@@ -1,4 +1,4 @@
-use Rattle.machine_core.proofs.Vocabulary.{◌++◌, [], ◌∷◌, refl, sym, ap, ◌∙◌, chosen, Write, access_in}
+use Rattle.machine_core.proofs.Vocabulary.{◌++◌, [], ◌∷◌, refl, sym, ap, ◌∙◌, chosen, Write, memory_access_in}
 use Rattle.machine_core.proofs.ChoiceEffects.{within-cores}
 use Rattle.machine_core.proofs.Completions.{performs-first, uses-first}
 use Rattle.machine_core.proofs.Splitting.{held-with}
@@ -10,7 +10,7 @@ returns-in_ok-entry-in-Lock-clause-makes g c =
     let m = c.args.hardware.now in
     let e = c.in_ok-entry-in-Lock.entry in
     let p = c.index.result.now in
-    let locks = sym c.access_of.ensures.value ∙ ap access_in c.in-Lock.is in
+    let locks = sym c.access_of.ensures.value ∙ ap memory_access_in c.in-Lock.is in
     let within = within-cores t m (chosen c.args.choice) c.requires.consistent.fits c.requires.core in
     let at = rw c.core_of-core.ensures.chosen at c.index.ensures in
     record {

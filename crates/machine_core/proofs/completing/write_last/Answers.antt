@@ -1,4 +1,4 @@
-use Rattle.machine_core.proofs.Vocabulary.{◌∙◌, refl, sym, ap, subst, slice_get, slice_set, length, Free, acts, Step, Committed, Unused, words_of, holder_of, Processor, core_state, AreKnown, state_of, held_as, state_in, pending_in, HasUsed, writes_last_in}
+use Rattle.machine_core.proofs.Vocabulary.{◌∙◌, refl, sym, ap, subst, slice_get, slice_set, length, Free, acts, Step, Committed, Unused, words_of, holder_of, Processor, core_state, AreKnown, state_of_cores, held_as, state_in, pending_in, HasUsed, writes_last_in}
 use Rattle.std.proofs.lemmas.List.{length-set}
 use Rattle.machine_core.proofs.ChoiceEffects.{Performs-by, within-cores, IsCore-at, PartsFitTest-next}
 use Rattle.machine_core.proofs.StepCompletions.{next-some, place-within, IsNext, is-next, access-next}
@@ -63,7 +63,7 @@ returns-clause-of_test g c =
           (ap length c.complete_write.ensures.words ∙ length-set (words_of m.bus) e.loc.0 c.written-reg.result.1)
           (ap (λ (q : Processor). q.stores.depth) c.advance.ensures ∙ core.depth_is)
           (subst (λ (q : Processor). AreKnown (length (words_of m.bus)) q.stores) (sym c.advance.ensures) core.known);
-      held = held-freed c.args.test.now m.config.depth (state_of (slice_set m.processors.items e.core.0 c.advance.new.processor) (words_of c.complete_write.new.self)) m.next (holder_of c.complete_write.new.self) c.complete_write.ensures.free;
+      held = held-freed c.args.test.now m.config.depth (state_of_cores (slice_set m.processors.items e.core.0 c.advance.new.processor) (words_of c.complete_write.new.self)) m.next (holder_of c.complete_write.new.self) c.complete_write.ensures.free;
     }
 
 pub returns-clause-makes : goal.returns-clause-makes

@@ -1,4 +1,4 @@
-use Rattle.machine_core.proofs.Vocabulary.{sym, refl, subst, drain_access, Drain, words_of, pending_in, drain_by, SucceedsUnlessCommitting}
+use Rattle.machine_core.proofs.Vocabulary.{sym, refl, subst, drain_access, Drain, words_of, pending_in, effect_of_drain, SucceedsUnlessCommitting}
 use Rattle.machine_core.proofs.ChoiceEffects.{access_of-drain, effect_in-drain, may-make, IfOk-Makes, within-cores}
 use Rattle.machine_core.proofs.Undoing.{acts-holder, undone}
 use Rattle.machine_core.proofs.hardware.act.Goals as goal
@@ -15,7 +15,7 @@ returns-in-Drain-clause-makes g c =
     let core = c.in-Drain.core in
     let within = within-cores c.args.test.now c.args.hardware.now core.0 c.requires.fits (rw c.in-Drain.is at c.requires.core) in
     rw c.in-Drain.is
-    (IfOk-Makes c.args.way c.drain.result c.args.test.now c.args.hardware.now _ (Drain core) (drain_access (pending_in core.0 p)) p c.drain.new.processor (drain_by core.0 p (words_of c.args.hardware.now.bus))
+    (IfOk-Makes c.args.way c.drain.result c.args.test.now c.args.hardware.now _ (Drain core) (drain_access (pending_in core.0 p)) p c.drain.new.processor (effect_of_drain core.0 p (words_of c.args.hardware.now.bus))
     (rw c.in-Drain.is at c.requires.free) (effect_in-drain c.args.test.now c.args.hardware.now core p within c.index_mut-processor.ensures.value)
     (access_of-drain c.args.test.now c.args.hardware.now core p within c.index_mut-processor.ensures.value) within c.index_mut-processor.ensures.value refl refl c.drain.ensures.acts)
 
@@ -33,7 +33,7 @@ returns-in-Drain-clause-err g c =
 pub returns-in-Drain-clause-holder : goal.returns-in-Drain-clause-holder
 returns-in-Drain-clause-holder g c =
     let p = c.index_mut-processor.result.now in
-    acts-holder c.drain.result (record { core = c.in-Drain.core; way = c.args.way }) (drain_access (pending_in c.in-Drain.core.0 p)) drain_by p c.drain.new.processor c.args.hardware.now.bus c.drain.new.bus
+    acts-holder c.drain.result (record { core = c.in-Drain.core; way = c.args.way }) (drain_access (pending_in c.in-Drain.core.0 p)) effect_of_drain p c.drain.new.processor c.args.hardware.now.bus c.drain.new.bus
     c.args.hardware.now.commits c.drain.new.commits c.drain.ensures.acts
 
 pub step-requires-clause-free : goal.step-requires-clause-free

@@ -1,4 +1,4 @@
-use Rattle.machine_core.proofs.Vocabulary.{refl, locked_access, words_of, pending_in, lock_by, Whole}
+use Rattle.machine_core.proofs.Vocabulary.{refl, locked_access, words_of, pending_in, effect_of_lock, Whole}
 use Rattle.tso_model.specs.declared.choice.Stall.TheVariants as stall
 use Rattle.machine_core.proofs.CoreLemmas.{lock-waits}
 use Rattle.machine_core.proofs.Locking.{acts-locks, lock-commits, may-lock}
@@ -9,7 +9,7 @@ pub returns-then-not-is_empty-clause-acts : goal.returns-then-not-is_empty-claus
 returns-then-not-is_empty-clause-acts g c =
     let p = c.args.processor.now in
     let words = words_of c.args.bus.now in
-    acts-stalls Whole (locked_access c.args.locked.loc (pending_in c.args.core.0 p)) c.args.core.0 p c.args.bus.now c.args.commits.now (lock_by c.args.locked.loc c.args.locked.reg c.args.locked.update c.args.core.0 p words) stall.Lock refl
+    acts-stalls Whole (locked_access c.args.locked.loc (pending_in c.args.core.0 p)) c.args.core.0 p c.args.bus.now c.args.commits.now (effect_of_lock c.args.locked.loc c.args.locked.reg c.args.locked.update c.args.core.0 p words) stall.Lock refl
     (lock-waits c.args.core.0 p words c.args.locked.loc c.args.locked.reg c.args.locked.update c.is_empty.result c.is_empty.ensures.1 c.if-not-is_empty.true)
 
 pub returns-clause-acts : goal.returns-clause-acts

@@ -1,4 +1,4 @@
-use Rattle.machine_core.proofs.Vocabulary.{◌∙◌, refl, sym, subst, slice_index, words_of, entries_in, MayMake, writes_to}
+use Rattle.machine_core.proofs.Vocabulary.{◌∙◌, refl, sym, subst, slice_index, words_of, buffered_entries, MayMake, writes_to}
 use Rattle.machine_core.proofs.CoreLemmas.{sees_buffered, sees_memory, index-got}
 use Rattle.machine_core.proofs.ActedLemmas.{whole-none}
 use Rattle.machine_core.proofs.Acting.{reads, forwarded}
@@ -8,7 +8,7 @@ use Rattle.machine_core.proofs.processor.see.Goals as goal
 pub read-requires : goal.read-requires
 read-requires g c =
     let items = c.args.stores.now.items in
-    let pending = entries_in c.args.turn.core.0 c.args.stores.now in
+    let pending = buffered_entries c.args.turn.core.0 c.args.stores.now in
     let none = unanswered c.args.turn.core.0 c.args.loc.0 items c.in-None.ensures in
     record {
       access = record {
@@ -24,14 +24,14 @@ returns-in-Some-clause-value g c =
 
 pub returns-in-Some-clause-caches : goal.returns-in-Some-clause-caches
 returns-in-Some-clause-caches g c =
-    let pending = entries_in c.args.turn.core.0 c.args.stores.now in
+    let pending = buffered_entries c.args.turn.core.0 c.args.stores.now in
     let found = answered c.args.turn.core.0 c.args.loc.0 c.in-Some.value c.args.stores.now.items c.in-Some.ensures in
     let whole = whole-none c.args.turn c.args.bus.now _ (sym (forwarded c.args.loc (writes_to c.args.loc.0) pending found)) c.requires.access.free in
     rw whole (forwards c.args.bus.now pending c.args.turn.core.0 c.args.loc.0 found)
 
 pub returns-in-Some-clause-holder : goal.returns-in-Some-clause-holder
 returns-in-Some-clause-holder g c =
-    let pending = entries_in c.args.turn.core.0 c.args.stores.now in
+    let pending = buffered_entries c.args.turn.core.0 c.args.stores.now in
     let found = answered c.args.turn.core.0 c.args.loc.0 c.in-Some.value c.args.stores.now.items c.in-Some.ensures in
     let whole = whole-none c.args.turn c.args.bus.now _ (sym (forwarded c.args.loc (writes_to c.args.loc.0) pending found)) c.requires.access.free in
     rw whole refl
@@ -43,6 +43,6 @@ returns-in_ok-word-in-None-clause-value g c =
 
 pub returns-in_ok-word-in-None-clause-caches : goal.returns-in_ok-word-in-None-clause-caches
 returns-in_ok-word-in-None-clause-caches g c =
-    let pending = entries_in c.args.turn.core.0 c.args.stores.now in
+    let pending = buffered_entries c.args.turn.core.0 c.args.stores.now in
     let none = unanswered c.args.turn.core.0 c.args.loc.0 c.args.stores.now.items c.in-None.ensures in
     rw (none, ← reads c.args.loc pending none) c.in_ok-word-in-None.ensures.made.caches

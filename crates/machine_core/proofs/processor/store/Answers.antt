@@ -1,4 +1,4 @@
-use Rattle.machine_core.proofs.Vocabulary.{words_of, store_access, store_by}
+use Rattle.machine_core.proofs.Vocabulary.{words_of, store_access, effect_of_store}
 use Rattle.machine_core.proofs.Storing.{buffered, unbuffered, access-at_once, succeeds-at_once, acts-at_once}
 use Rattle.machine_core.proofs.ActedLemmas.{whole-none, acts-waits}
 use Rattle.machine_core.proofs.processor.store.Goals as goal
@@ -9,7 +9,7 @@ returns-then-are_buffered-clause-acts g c =
     let access = store_access c.args.processor.now.stores.depth c.args.loc in
     let whole = whole-none c.args.turn c.args.bus.now access (buffered c.args.processor.now.stores.depth c.args.loc (c.are_buffered.ensures.0 c.if-are_buffered.true)) c.requires.access.free in
     acts-waits c.args.turn.way access c.args.turn.core.0 c.args.processor.now c.buffer.new.processor c.args.bus.now c.args.commits.now
-    (store_by c.args.loc c.args.value c.args.turn.core.0 c.args.processor.now words) c.buffer.result whole (c.buffer.ensures.waits c.args.turn.core.0 words)
+    (effect_of_store c.args.loc c.args.value c.args.turn.core.0 c.args.processor.now words) c.buffer.result whole (c.buffer.ensures.waits c.args.turn.core.0 words)
 
 pub write-requires : goal.write-requires
 write-requires g c = record { access = access-at_once c.args.turn c.args.loc c.args.value c.args.processor.now c.args.bus.now (unbuffered c.args.processor.now.stores.depth c.are_buffered.result c.are_buffered.ensures.1 c.if-are_buffered.false) c.requires.access }

@@ -1,4 +1,4 @@
-use Rattle.outcome_report.proofs.Vocabulary.{◌≡◌, ◌∙◌, [], ◌∷◌, Some, slice_get, length, inl, inr, ap, sym, subst, arith, length-append, named_in, IsHidden, IsNotHidden}
+use Rattle.outcome_report.proofs.Vocabulary.{◌≡◌, ◌∙◌, [], ◌∷◌, Some, slice_get, length, inl, inr, ap, sym, subst, arith, length-append, names_shown, IsHidden, IsNotHidden}
 use Rattle.outcome_report.proofs.Hiding.{core-known, whole, get-or, get-within, lt-or, not-shown}
 use Rattle.outcome_report.proofs.Staying.{AreAllHidden, all_six, six-hidden, one-row-more, got, unnamed}
 use Rattle.outcome_report.proofs.hidden.hidden_registers.Goals as goal
@@ -48,7 +48,7 @@ loop-named-preserved c =
 
 pub returns-clause-not_shown : goal.returns-clause-not_shown
 returns-clause-not_shown c =
-    not-shown (named_in c.args.show c.args.test.now) c.loop-named.hidden.items c.in_ok-names.names.items c.in_ok-names.ensures.list (λ j n at.
+    not-shown (names_shown c.args.show c.args.test.now) c.loop-named.hidden.items c.in_ok-names.names.items c.in_ok-names.ensures.list (λ j n at.
     let l = get-within c.in_ok-names.names.items j n at in
     let m = c.loop-named-test.false in
     let a = ap length c.deref-named-items.ensures.value in

@@ -1,4 +1,4 @@
-use Rattle.outcome_report.proofs.Vocabulary.{◌≡◌, ◌<◌, ℕ, Some, slice_get, length, Named, Reg, register_of, IsHidden, IsNotHidden}
+use Rattle.outcome_report.proofs.Vocabulary.{◌≡◌, ◌<◌, ℕ, Some, slice_get, length, Named, Reg, named_register, IsHidden, IsNotHidden}
 use Rattle.outcome_report.proofs.Staying.{AreAllHidden}
 use Rattle.outcome_report.proofs.hidden.hidden_registers.Given as goal
 
@@ -13,5 +13,5 @@ invariant-loop-named l = record {
   count : length l.hidden.items ≡ length l.test.programs;
   shown : (j : ℕ) (n : Named) → j < l.named-index → slice_get l.named-items j ≡ Some n → IsNotHidden l.hidden.items n;
   unnamed : (core : ℕ) (reg : Reg) → core < length l.test.programs
-      → ((j : ℕ) (n : Named) → slice_get l.named-items j ≡ Some n → n ≡ register_of core reg → ⊥) → IsHidden l.hidden.items core reg;
+      → ((j : ℕ) (n : Named) → slice_get l.named-items j ≡ Some n → n ≡ named_register core reg → ⊥) → IsHidden l.hidden.items core reg;
 }

@@ -1,4 +1,4 @@
-use Rattle.outcome_report.proofs.Vocabulary.{◌∙◌, [], string_bytes, ap, values_of, named_in, outcomes_in, kept_of, kept_after}
+use Rattle.outcome_report.proofs.Vocabulary.{◌∙◌, [], string_bytes, ap, values_of, names_shown, outcomes_in, kept_of, kept_after}
 use Rattle.outcome_report.proofs.Printing.{reached-whole, kept-is-shown, kept-out}
 use Rattle.outcome_report.proofs.report.outcomes_report.Goals as goal
 
@@ -22,7 +22,7 @@ pub returns : goal.returns
 returns c =
     let t = c.args.test.now in
     let kept = kept_of c.in_ok-outcomes.outcomes.entries in
-    kept-out t (named_in c.args.show t) c.in_ok-names.names.items c.args.depth c.args.json c.is_met_in.result c.is_as_claimed.result c.args.finals.now kept
+    kept-out t (names_shown c.args.show t) c.in_ok-names.names.items c.args.depth c.args.json c.is_met_in.result c.is_as_claimed.result c.args.finals.now kept
     (string_bytes c.in_ok-text_of.field-0)
     (reached-whole t c.args.depth c.args.finals.now c.ended_runs_are_executions.ensures c.know_limits.ensures c.requires)
     c.in_ok-names.ensures.list

@@ -1,4 +1,4 @@
-use Rattle.reason_report.proofs.Vocabulary.{◌∙◌, ◌+◌, ◌∷◌, ◌++◌, [], ap, sym, subst, refl, map, known_of, branch_in, AreClosed, closed_branch}
+use Rattle.reason_report.proofs.Vocabulary.{◌∙◌, ◌+◌, ◌∷◌, ◌++◌, [], ap, sym, subst, refl, map, known_of, branch_in, BranchesAreClosed, closed_branch}
 use Rattle.reason_report.specs.Steps as spec
 use Rattle.reason_report.proofs.Cutting.{below-get, closed-more, closed-less}
 use Rattle.reason_report.proofs.Grouping.{closed-push, map-push}
@@ -24,13 +24,13 @@ loop-branch-preserved c =
                 (map (closed_branch tree) c.loop-branch.all.items) (map (closed_branch tree) c.if-is_leaf.all.items) _ c.loop-branch.invariant.branches w.if-is_leaf.true
                 (ap (map (closed_branch tree)) items ∙ (map-push (closed_branch tree) c.loop-branch.all.items w.in_ok-close.field-0
                 ∙ ap (λ b. map (closed_branch tree) c.loop-branch.all.items ++ (b ∷ [])) w.in_ok-close.ensures.branch));
-            closed = subst (AreClosed tree) (sym items) (closed-push tree c.loop-branch.all.items w.in_ok-close.field-0 c.loop-branch.invariant.closed w.in_ok-close.ensures.closed);
+            closed = subst (BranchesAreClosed tree) (sym items) (closed-push tree c.loop-branch.all.items w.in_ok-close.field-0 c.loop-branch.invariant.closed w.in_ok-close.ensures.closed);
           })
       | else-is_leaf w ↦
           record {
             branches = closed-less f c.args.branches.now c.loop-branch.branch-index (c.loop-branch.branch-index + 1) _ c.loop-branch-test.true refl c.is_leaf.result is
                 (map (closed_branch tree) c.loop-branch.all.items) (map (closed_branch tree) c.if-is_leaf.all.items) _ c.loop-branch.invariant.branches w.if-is_leaf.false
                 (ap (λ v. map (closed_branch tree) v.items) w.all-is);
-            closed = subst (λ v. AreClosed tree v.items) (sym w.all-is) c.loop-branch.invariant.closed;
+            closed = subst (λ v. BranchesAreClosed tree v.items) (sym w.all-is) c.loop-branch.invariant.closed;
           }
     ]

@@ -1,4 +1,4 @@
-use Rattle.reason_report.proofs.Vocabulary.{◌∙◌, ◌+◌, ap, sym, refl, arith, map, on_ok_weaker, asked, known_of, step_of, parts_of, root_at, tasks_of}
+use Rattle.reason_report.proofs.Vocabulary.{◌∙◌, ◌+◌, ap, sym, refl, arith, map, on_ok_weaker, asked_claim, known_of, reason_step_of, parts_of_refutation, root_at, tasks_of}
 use Rattle.reason_report.specs.Steps as spec
 use Rattle.reason_report.proofs.Cutting.{cut-part}
 use Rattle.reason_report.proofs.Laying.{leaf-laid, within-more}
@@ -9,9 +9,9 @@ returns-then-is_leaf-clause-left c =
     let tree = c.args.tree in
     let t = tree.test.now in
     on_ok_weaker c.add_leaf.result
-    (λ e. leaf-laid tree.model t (asked t.condition) (parts_of tree c.args.at) (parts_of tree (c.args.at + 1)) (root_at tree c.args.at)
+    (λ e. leaf-laid tree.model t (asked_claim t.condition) (parts_of_refutation tree c.args.at) (parts_of_refutation tree (c.args.at + 1)) (root_at tree c.args.at)
     (cut-part tree.model t tree.nodes.now c.args.at (c.args.at + 1) c.requires.at refl) c.args.depth (known_of c.args.given.answers)
-    (map step_of c.args.steps.now.items) (map step_of c.add_leaf.new.steps.items) (tasks_of c.args.tasks.now.items)
+    (map reason_step_of c.args.steps.now.items) (map reason_step_of c.add_leaf.new.steps.items) (tasks_of c.args.tasks.now.items)
     (sym (ap spec.is_leaf (c.node_at.ensures tree.model t)) ∙ (sym c.is_leaf.ensures ∙ c.if-is_leaf.true)) e) c.add_leaf.ensures
 
 pub returns-then-is_leaf-clause-within : goal.returns-then-is_leaf-clause-within

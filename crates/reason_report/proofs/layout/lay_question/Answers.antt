@@ -1,4 +1,4 @@
-use Rattle.reason_report.proofs.Vocabulary.{◌∙◌, ◌+◌, ◌++◌, ◌==◌, [], ap, sym, subst, refl, arith, map, length, not, filter, flat_map, on_ok_weaker, asked, known_of, step_of, parts_of, root_at, branch_in, closed_branch, AreWithin, tasks_of, branch_tasks}
+use Rattle.reason_report.proofs.Vocabulary.{◌∙◌, ◌+◌, ◌++◌, ◌==◌, [], ap, sym, subst, refl, arith, map, length, not, filter, flat_map, on_ok_weaker, asked_claim, known_of, reason_step_of, parts_of_refutation, root_at, branch_in, closed_branch, TasksAreWithin, tasks_of, branch_tasks}
 use Rattle.reason_report.specs.Steps as spec
 use Rattle.reason_report.proofs.Cutting.{cut-part}
 use Rattle.reason_report.proofs.Laying.{question-laid, within-branches, within-more}
@@ -13,12 +13,12 @@ returns-clause-left c =
     let bs = c.in_ok-branches.branches.items in
     let ts = tasks_of c.args.tasks.now.items in
     on_ok_weaker c.add_tasks.result
-    (λ e. question-laid tree.model t (asked t.condition) (parts_of tree c.args.at) (parts_of tree (c.args.at + 1)) (root_at tree c.args.at)
-    (cut-part tree.model t tree.nodes.now c.args.at (c.args.at + 1) c.requires.at refl) c.args.depth k (map step_of c.args.steps.now.items)
-    (map step_of c.add_closed.new.steps.items) ts c.requires.question (map f bs) (c.in_ok-branches.ensures.branches k) (c.open_count-single.result == 1)
+    (λ e. question-laid tree.model t (asked_claim t.condition) (parts_of_refutation tree c.args.at) (parts_of_refutation tree (c.args.at + 1)) (root_at tree c.args.at)
+    (cut-part tree.model t tree.nodes.now c.args.at (c.args.at + 1) c.requires.at refl) c.args.depth k (map reason_step_of c.args.steps.now.items)
+    (map reason_step_of c.add_closed.new.steps.items) ts c.requires.question (map f bs) (c.in_ok-branches.ensures.branches k) (c.open_count-single.result == 1)
     (ap (λ n. n == 1) (c.open_count-single.ensures k ∙ ap (λ cs. length (filter (λ b. not (spec.is_closed b)) (map f cs))) c.deref-3.ensures.value))
     (c.in_ok-add_closed.ensures
-    ∙ ap (λ cs. map step_of c.args.steps.now.items ++ flat_map (spec.closed_case tree.model t (asked t.condition) c.args.depth k) (spec.groups t (asked t.condition) [] cs))
+    ∙ ap (λ cs. map reason_step_of c.args.steps.now.items ++ flat_map (spec.closed_case tree.model t (asked_claim t.condition) c.args.depth k) (spec.groups t (asked_claim t.condition) [] cs))
     (ap (map (closed_branch tree)) c.deref-2.ensures.value ∙ (c.in_ok-closed.ensures.branches ∙ ap (λ cs. filter spec.is_closed (map f cs)) c.deref.ensures.value)))
     (tasks_of c.add_tasks.new.tasks.items)
     (e ∙ ap (λ cs. branch_tasks (c.open_count-single.result == 1) c.args.depth (map f cs) ++ ts) c.deref-4.ensures.value)) c.add_tasks.ensures
@@ -27,6 +27,6 @@ pub returns-clause-within : goal.returns-clause-within
 returns-clause-within c =
     let ts = tasks_of c.args.tasks.now.items in
     on_ok_weaker c.add_tasks.result
-    (λ e. subst (AreWithin (c.args.at + 1)) (sym e)
+    (λ e. subst (TasksAreWithin (c.args.at + 1)) (sym e)
     (within-branches _ c.args.depth (c.args.at + 1) (omega (arith, c.requires.depth)) _ ts
     (within-more c.args.at (c.args.at + 1) (omega arith) ts c.requires.within))) c.add_tasks.ensures

@@ -1,4 +1,4 @@
-use Rattle.reason_report.proofs.Vocabulary.{◌∙◌, ◌+◌, ◌++◌, ◌<◌, ap, sym, subst, refl, arith, map, drop, length, append-nil, AreBelow, parts_of, branch_in}
+use Rattle.reason_report.proofs.Vocabulary.{◌∙◌, ◌+◌, ◌++◌, ◌<◌, ap, sym, subst, refl, arith, map, drop, length, append-nil, AreBelow, parts_of_refutation, branch_in}
 use Rattle.reason_report.specs.Steps as spec
 use Rattle.reason_report.proofs.Cutting.{branch-added, no-more, below-push}
 use Rattle.reason_report.proofs.parts.branches.Goals as goal
@@ -11,7 +11,7 @@ returns-then-from-tree-clause-branches c = λ k.
     sym (append-nil done)
     ∙ (ap (λ bs. done ++ bs) (sym (no-more tree c.requires.tree c.loop-reply.from c.if-from-tree.true (drop c.loop-reply.reply-index c.deref-reply-items.result.now) k))
     ∙ (c.loop-reply.invariant.branches k
-    ∙ ap (λ rs. spec.branches_with k rs (parts_of tree (c.args.at + 1)))
+    ∙ ap (λ rs. spec.branches_with k rs (parts_of_refutation tree (c.args.at + 1)))
     (c.deref-reply-items.ensures.value ∙ (c.in_ok-answers.ensures ∙ ap (spec.replies t) (c.node_at.ensures tree.model t)))))
 
 pub loop-reply-preserved : goal.loop-reply-preserved

@@ -1,10 +1,10 @@
-use Rattle.reason_report.proofs.Vocabulary.{◌≡◌, ◌≤◌, ◌+◌, drop, map, step_of}
+use Rattle.reason_report.proofs.Vocabulary.{◌≡◌, ◌≤◌, ◌+◌, drop, map, reason_step_of}
 use Rattle.reason_report.specs.Steps as spec
 use Rattle.reason_report.proofs.steps.leaves_in.Given as goal
 
 abbrev pub invariant-loop-step : goal.invariant-loop-step
 invariant-loop-step l =
     record {
-      count : l.leaves + spec.leaves_in (map step_of (drop l.step-index l.steps)) ≡ spec.leaves_in (map step_of l.steps);
+      count : l.leaves + spec.leaves_in (map reason_step_of (drop l.step-index l.steps)) ≡ spec.leaves_in (map reason_step_of l.steps);
       few : l.leaves ≤ l.step-index;
     }

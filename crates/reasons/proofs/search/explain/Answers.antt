@@ -1,4 +1,4 @@
-use Rattle.reasons.proofs.Vocabulary.{◌<◌, ◌+◌, ◌∷◌, arith, map, sym, ap, ◌∙◌, subst, nil_from_length, Vec, node_of, known_of, cases_of, Answers, Node, IsStep}
+use Rattle.reasons.proofs.Vocabulary.{◌<◌, ◌+◌, ◌∷◌, arith, map, sym, ap, ◌∙◌, subst, nil_from_length, Vec, node_of, known_of, cases_of, Answers, Node, IsSearchStep}
 use Rattle.reasons.proofs.Weighing.{total}
 use Rattle.reasons.proofs.Searching.{IsSearch, first-case, its-sound, one-too-many, lighter-by-leaf, lighter-by-question, after-leaf, after-question, all-done}
 use Rattle.reasons.proofs.search.explain.Goals as goal
@@ -22,7 +22,7 @@ pub returns-then-leaves-limit : goal.returns-then-leaves-limit
 returns-then-leaves-limit c =
     one-too-many c.args.model c.args.test.now c.loop-answers.cases.items c.pop.new.self.items c.in-Some-pop.answers c.in-Some-pop.ensures.items
     c.loop-answers.nodes.items c.loop-answers.leaves c.args.limit c.in-Leaf.leaf c.if-leaves-limit.true c.loop-answers.invariant.search
-    (subst (IsStep c.args.model c.args.test.now (known_of c.in-Some-pop.answers)) c.in-Leaf.is c.in_ok-leaf.ensures)
+    (subst (IsSearchStep c.args.model c.args.test.now (known_of c.in-Some-pop.answers)) c.in-Leaf.is c.in_ok-leaf.ensures)
 
 pub overflow_add-leaves : goal.overflow_add-leaves
 overflow_add-leaves c =
@@ -41,7 +41,7 @@ loop-answers-smaller c =
           subst (λ (v : Vec Answers). total 1 c.args.test.now (cases_of v.items) < total 1 c.args.test.now (cases_of c.loop-answers.cases.items)) (sym w.cases-is)
           (lighter-by-question c.args.model c.args.test.now c.loop-answers.cases.items c.pop.new.self.items c.in-Some-pop.answers c.in-Some-pop.ensures.items
           w.in-Question.question w.add_branches.new.cases.items w.in_ok-add_branches-in-Question.ensures
-          (subst (IsStep c.args.model c.args.test.now (known_of c.in-Some-pop.answers)) w.in-Question.is c.in_ok-leaf.ensures))
+          (subst (IsSearchStep c.args.model c.args.test.now (known_of c.in-Some-pop.answers)) w.in-Question.is c.in_ok-leaf.ensures))
     ]
 
 pub loop-answers-preserved : goal.loop-answers-preserved
@@ -58,7 +58,7 @@ loop-answers-preserved c =
             (after-leaf c.args.model c.args.test.now c.loop-answers.cases.items c.pop.new.self.items c.in-Some-pop.answers c.in-Some-pop.ensures.items
             c.loop-answers.nodes.items w.push.new.self.items c.loop-answers.leaves w.in-Leaf.leaf w.in_ok-push-in-Leaf.ensures.items
             c.loop-answers.invariant.search
-            (subst (IsStep c.args.model c.args.test.now (known_of c.in-Some-pop.answers)) w.in-Leaf.is c.in_ok-leaf.ensures))));
+            (subst (IsSearchStep c.args.model c.args.test.now (known_of c.in-Some-pop.answers)) w.in-Leaf.is c.in_ok-leaf.ensures))));
         few =
             let few = c.loop-answers.invariant.few in
             let other = w.if-leaves-limit.false in
@@ -77,7 +77,7 @@ loop-answers-preserved c =
             c.loop-answers.nodes.items w.push-in-Question.new.self.items c.loop-answers.leaves w.in-Question.question
             w.in_ok-push-in-Question.ensures.items w.add_branches.new.cases.items w.in_ok-add_branches-in-Question.ensures
             c.loop-answers.invariant.search
-            (subst (IsStep c.args.model c.args.test.now (known_of c.in-Some-pop.answers)) w.in-Question.is c.in_ok-leaf.ensures))));
+            (subst (IsSearchStep c.args.model c.args.test.now (known_of c.in-Some-pop.answers)) w.in-Question.is c.in_ok-leaf.ensures))));
         few =
             let few = c.loop-answers.invariant.few in
             let now = w.leaves-is in

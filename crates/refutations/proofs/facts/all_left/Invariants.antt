@@ -7,5 +7,5 @@ invariant-loop-number l = record {
   count : length l.left.items ≡ l.number;
   each : (core : ℕ) → core < l.number → slice_index_or l.left.items core []
       ≡ spec.left_of (spec.returned l.test l.known (known_of l.answers).sources) core 0 (slice_index_or l.test.programs core [])
-      (spec.first_registers l.test.registers core);
+      (spec.known_first_registers l.test.registers core);
 }

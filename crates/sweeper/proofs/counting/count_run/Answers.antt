@@ -1,4 +1,4 @@
-use Rattle.sweeper.proofs.Vocabulary.{ℕ, List, ap, sym, subst, ◌∙◌, refl, Litmus, Running, table_in, configuration_of, RunCounts, with_state, with_verdict, values_in, machine_run, verdict, with_one_run, RunLaws, from-new, unfinished-is}
+use Rattle.sweeper.proofs.Vocabulary.{ℕ, List, ap, sym, subst, ◌∙◌, refl, Litmus, Running, table_in, configuration_of, RunCounts, with_state_counted, with_verdict, values_in, machine_run, verdict, with_one_run, RunLaws, from-new, unfinished-is}
 use Rattle.split_laws.specs.BusChoices.{IsPossibleOn}
 use Rattle.sweeper.proofs.SweptRuns.{goes-back, counted-ended, counted-unfinished}
 use Rattle.sweeper.proofs.counting.count_run.Goals as goal
@@ -64,7 +64,7 @@ returns-clause-counts g c =
     let counted = counted-ended (table_in m) (configuration_of m) m.test m _ cs _ _ left.registers.items left.memory.items (verdict m.test left.registers.items left.memory.items) c.args.tally.now.counts laws
     (c.requires.beginning, drives) (sym c.is_ended.ensures ∙ c.if-not-is_ended.false)
     c.in_ok-state.ensures.registers c.in_ok-state.ensures.memory refl in
-    let count : Litmus → List (List ℕ) → List ℕ → RunCounts = λ u r w. with_verdict (verdict u r w) (with_state (values_in u r w) c.args.tally.now.counts) in
+    let count : Litmus → List (List ℕ) → List ℕ → RunCounts = λ u r w. with_verdict (verdict u r w) (with_state_counted (values_in u r w) c.args.tally.now.counts) in
     c.in_ok-count_state.ensures.counts
     ∙ ap (λ r. count t r c.deref-2.result.now) c.deref.ensures.value ∙ ap (λ w. count t left.registers.items w) c.deref-2.ensures.value
     ∙ ap (λ (u : Litmus). count u left.registers.items left.memory.items) (sym c.requires.machine)

@@ -10,7 +10,7 @@ loop-loc-preserved g c =
     let room : c.loop-loc.loc < length before = omega arith in
     let seen : c.loop-loc.loc < length m.state.flat.memory = omega arith in
     let first = one-word m c.args.words (length m.test.programs) c.loop-loc.loc c.is_newer_in-is_newer.result before c.loop-loc.own.items c.push.new.self.items (own_words m before)
-    c.unwrap_or-seen.result c.newer_or.result room seen c.requires.looked.words_are refl c.is_newer_in-is_newer.ensures
-    (c.unwrap_or-seen.ensures ∙ ap (λ o. unwrap_or o 0) c.seen.ensures) c.newer_or.ensures c.in_ok-push.ensures.items c.loop-loc.invariant.0 in
-    let size : length c.push.new.self.items ≡ c.loop-loc.loc + 1 = ap length c.in_ok-push.ensures.items ∙ (length-append c.loop-loc.own.items (c.newer_or.result ∷ []) ∙ ap (λ n. n + 1) c.loop-loc.invariant.1) in
+    c.unwrap_or-seen.result c.memory_word.result room seen c.requires.looked.words_are refl c.is_newer_in-is_newer.ensures
+    (c.unwrap_or-seen.ensures ∙ ap (λ o. unwrap_or o 0) c.seen.ensures) c.memory_word.ensures c.in_ok-push.ensures.items c.loop-loc.invariant.0 in
+    let size : length c.push.new.self.items ≡ c.loop-loc.loc + 1 = ap length c.in_ok-push.ensures.items ∙ (length-append c.loop-loc.own.items (c.memory_word.result ∷ []) ∙ ap (λ n. n + 1) c.loop-loc.invariant.1) in
     (first, size)

@@ -1,4 +1,4 @@
-use Rattle.trace_json.proofs.Vocabulary.{◌∙◌, ap, sym, subst, refl, Configuration, view, IsKnown, shown, some-word, sourced}
+use Rattle.trace_json.proofs.Vocabulary.{◌∙◌, ap, sym, subst, refl, Configuration, view, StepNamesExist, shown_step, some-word, sourced}
 use Rattle.trace_json.proofs.Tracing.{is-shown, one-step}
 use Rattle.trace_json.proofs.trace.step_to.Goals as goal
 
@@ -9,7 +9,7 @@ pub step_value-requires-clause-words : goal.step_value-requires-clause-words
 step_value-requires-clause-words g c = some-word c.words-words.result c.words-words.ensures.within
 
 pub step_value-requires-clause-known : goal.step_value-requires-clause-known
-step_value-requires-clause-known g c = subst (λ n. IsKnown c.args.test.now n (shown c.args.told.now.step)) (sym c.words-words.ensures.value) c.requires.known
+step_value-requires-clause-known g c = subst (λ n. StepNamesExist c.args.test.now n (shown_step c.args.told.now.step)) (sym c.words-words.ensures.value) c.requires.known
 
 pub returns : goal.returns
 returns g c =

@@ -1,4 +1,4 @@
-use Rattle.trace_json.proofs.Vocabulary.{sym, subst, IsLookedAt, IsLineSize, looked-at, shown}
+use Rattle.trace_json.proofs.Vocabulary.{sym, subst, IsLookedAt, IsLineSize, looked-at, shown_step}
 use Rattle.trace_json.proofs.Tracing.{each-after, source-told}
 use Rattle.trace_json.proofs.trace.tell_on.Goals as goal
 
@@ -24,4 +24,4 @@ returns-clause-memory g c = record {
 
 pub returns-clause-step : goal.returns-clause-step
 returns-clause-step g c =
-    source-told c.args.machine.now c.args.choice (shown c.in_ok-step.step) c.found_by-found.result c.supplied_to-supplied.result c.in_ok-step.ensures.step c.found_by-found.ensures c.supplied_to-supplied.ensures
+    source-told c.args.machine.now c.args.choice (shown_step c.in_ok-step.step) c.found_by-found.result c.supplied_to-supplied.result c.in_ok-step.ensures.step c.found_by-found.ensures c.supplied_to-supplied.ensures

@@ -1,5 +1,5 @@
 use Rattle.trace_json.proofs.Vocabulary.{◌∙◌, ap, object, has_float, view-Object, with_trace}
-use Rattle.tso_report.specs.Shown.{shown}
+use Rattle.tso_report.specs.Shown.{shown_run}
 use Rattle.trace_json.proofs.NoFloatsWhole.{ended_has_no_float}
 use Rattle.trace_json.proofs.traced_run.ended_json.Goals as goal
 
@@ -7,4 +7,4 @@ pub line_of-requires : goal.line_of-requires
 line_of-requires c =
     ap has_float (view-Object c.in_ok-members-2.members
     ∙ ap object (c.in_ok-members-2.ensures ∙ ap (with_trace c.args.test.now c.args.protocol c.args.config c.args.choices.now) c.in_ok-members.ensures))
-    ∙ ended_has_no_float c.args.test.now c.args.protocol c.args.config c.args.choices.now (shown c.args.run.now)
+    ∙ ended_has_no_float c.args.test.now c.args.protocol c.args.config c.args.choices.now (shown_run c.args.run.now)

@@ -1,5 +1,5 @@
-use Rattle.trace_report.proofs.Vocabulary.{◌≡◌, ◌∙◌, ◌<◌, length, ap, sym, subst, option_map, Ok, unwrap_or, chosen, core_of, awaited_by, IsLineSize, machine_after, IsKnown, stalled_step, states_of, request_at, sent_on, wrote_back_by, step_of}
-use Rattle.machine_core.specs.inner.Keeping.{access_in}
+use Rattle.trace_report.proofs.Vocabulary.{◌≡◌, ◌∙◌, ◌<◌, length, ap, sym, subst, option_map, Ok, unwrap_or, chosen, core_of, awaited_by, IsLineSize, machine_after, StepNamesExist, stalled_step, states_of, request_at, sent_on, wrote_back_by, trace_step_of}
+use Rattle.machine_core.specs.inner.Keeping.{memory_access_in}
 use Rattle.trace_report.proofs.Looking.{place-of}
 use Rattle.trace_report.proofs.Stalls.{stall-shown}
 use Rattle.trace_report.proofs.Whole.{Leaves, left-looked, WasLookedAt, told-whole, told-next, looked-next, step-known}
@@ -15,7 +15,7 @@ unchanged g c = c.in_ok-outcome.ensures.stall c.in-Stalled.stall c.in_ok-outcome
 same : (g : _) (c : In-Stalled g) → machine_after c.args.machine.now c.args.choice ≡ c.args.machine.now
 same g c = sym c.in_ok-outcome.ensures.after ∙ unchanged g c
 
-bare : (g : _) (c : In-Stalled g) → stalled_step c.args.choice c.in-Stalled.stall ≡ step_of c.args.machine.now c.args.choice
+bare : (g : _) (c : In-Stalled g) → stalled_step c.args.choice c.in-Stalled.stall ≡ trace_step_of c.args.machine.now c.args.choice
 bare g c = stall-shown c.args.machine.now c.args.choice c.in-Stalled.stall (same g c) (sym c.in_ok-outcome.ensures.outcome ∙ c.in-Stalled.is)
 
 pub returns-in-Stalled-clause-step : goal.returns-in-Stalled-clause-step
@@ -23,7 +23,7 @@ returns-in-Stalled-clause-step g c = bare g c
 
 pub returns-in-Stalled-clause-known : goal.returns-in-Stalled-clause-known
 returns-in-Stalled-clause-known g c =
-    subst (IsKnown c.args.test.now c.args.config.shape.words) (sym (bare g c))
+    subst (StepNamesExist c.args.test.now c.args.config.shape.words) (sym (bare g c))
     (step-known c.args.test.now c.args.config c.args.machine.now c.args.choice c.know_test.ensures c.requires.told.machine (subst IsLineSize c.words.ensures.value c.words.ensures.within))
 
 pub returns-in-Stalled-clause-same : goal.returns-in-Stalled-clause-same
@@ -68,7 +68,7 @@ returns-clause-step g c =
       outcome_is = c.in_ok-outcome.ensures.outcome;
       how_is = c.in_ok-outcome.ensures.how;
       place_is = c.unwrap_or-place.ensures ∙ (ap (λ o. unwrap_or o 0) c.place.ensures ∙ (place-of m c.core_of-core.result.0 ∙ ap (λ i. (core_of m.state.flat i).place) core));
-      request_is = c.request_at-request.ensures ∙ (ap (λ n. request_at n (access_in c.access.result)) c.words.ensures.value
+      request_is = c.request_at-request.ensures ∙ (ap (λ n. request_at n (memory_access_in c.access.result)) c.words.ensures.value
           ∙ ap (λ a. request_at c.args.config.shape.words a) c.access.ensures);
       sent_is = c.sent_on-sent.ensures ∙ (ap (λ b. sent_on b c.in_ok-outcome.outcome c.request_at-request.result how (option_map awaited_by c.awaited.result)) c.bus.ensures
           ∙ ap (λ a. sent_on c.args.config.bus c.in_ok-outcome.outcome c.request_at-request.result how a) c.awaited.ensures);
@@ -77,11 +77,11 @@ returns-clause-step g c =
     let wrote_back : c.wrote_back_by-wrote_back.result ≡ wrote_back_by how (chosen choice) left.changes.items =
     c.wrote_back_by-wrote_back.ensures ∙ (ap (λ i. wrote_back_by how i c.deref.result.now) core ∙ ap (λ cs. wrote_back_by how (chosen choice) cs) c.deref.ensures.value) in
     told-whole c.args.test.now c.args.config m next choice how c.in_ok-outcome.outcome c.unwrap_or-place.result c.request_at-request.result c.sent_on-sent.result left
-    c.moved_in.result c.is_forwarded.result c.access_in.result c.wrote_back_by-wrote_back.result looked c.moved_in.ensures c.is_forwarded.ensures c.access_in.ensures wrote_back
+    c.moved_in.result c.is_forwarded.result c.access_kind_in.result c.wrote_back_by-wrote_back.result looked c.moved_in.ensures c.is_forwarded.ensures c.access_kind_in.ensures wrote_back
 
 pub returns-clause-known : goal.returns-clause-known
 returns-clause-known g c =
-    subst (IsKnown c.args.test.now c.args.config.shape.words) (sym (returns-clause-step g c))
+    subst (StepNamesExist c.args.test.now c.args.config.shape.words) (sym (returns-clause-step g c))
     (step-known c.args.test.now c.args.config c.args.machine.now c.args.choice c.know_test.ensures c.requires.told.machine (subst IsLineSize c.words.ensures.value c.words.ensures.within))
 
 -- ---- what the machine's own clauses say

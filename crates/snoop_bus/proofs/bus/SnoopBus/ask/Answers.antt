@@ -1,4 +1,4 @@
-use Rattle.snoop_bus.proofs.Vocabulary.{◌≡◌, refl, ◌/◌, ◌<◌, Some, None, length, ap, ◌∙◌, counted, request_for}
+use Rattle.snoop_bus.proofs.Vocabulary.{◌≡◌, refl, ◌/◌, ◌<◌, Some, None, length, ap, ◌∙◌, counted_copies_of, request_for}
 use Rattle.snoop_bus.proofs.MemoryLemmas.{length-asked}
 use Rattle.snoop_bus.proofs.RowLemmas.{table_of-rows}
 use Rattle.snoop_bus.proofs.HolderLemmas.{free-held, not_here}
@@ -24,7 +24,7 @@ ask-held-requires-clause-misses g c = λ e.
 pub returns-clause-done : goal.returns-clause-done
 returns-clause-done g c =
     let free : c.self.inside.held ≡ None = free-held c.self.inside.held (rw (← c.self.view_is) at c.requires.free) in
-    let within : c.args.loc.0 < c.self.inside.locations = loc_in c.self.inside.shape.words c.self.inside.locations (counted c.self.inside.held c.self.inside.hierarchy.caches.items) c.self.inside.hierarchy.memory.items c.args.loc.0 (rw (← c.self.view_is) at c.requires.loc) in
+    let within : c.args.loc.0 < c.self.inside.locations = loc_in c.self.inside.shape.words c.self.inside.locations (counted_copies_of c.self.inside.held c.self.inside.hierarchy.caches.items) c.self.inside.hierarchy.memory.items c.args.loc.0 (rw (← c.self.view_is) at c.requires.loc) in
     rw (← c.self.view_is, free)
     (ask_done (g.P.Protocol.table c.self.inside.protocol) c.self.inside.shape c.self.inside.locations c.self.inside.hierarchy.caches.items c.ask-held.new.self.caches.items c.self.inside.hierarchy.memory.items c.ask-held.new.self.memory.items c.args.core c.args.loc c.args.write c.ask-held.result
     (record {
@@ -40,7 +40,7 @@ returns-clause-done g c =
 pub invariant_of-self : goal.invariant_of-self
 invariant_of-self g c =
     let free : c.self.inside.held ≡ None = free-held c.self.inside.held (rw (← c.self.view_is) at c.requires.free) in
-    let within : c.args.loc.0 < c.self.inside.locations = loc_in c.self.inside.shape.words c.self.inside.locations (counted c.self.inside.held c.self.inside.hierarchy.caches.items) c.self.inside.hierarchy.memory.items c.args.loc.0 (rw (← c.self.view_is) at c.requires.loc) in
+    let within : c.args.loc.0 < c.self.inside.locations = loc_in c.self.inside.shape.words c.self.inside.locations (counted_copies_of c.self.inside.held c.self.inside.hierarchy.caches.items) c.self.inside.hierarchy.memory.items c.args.loc.0 (rw (← c.self.view_is) at c.requires.loc) in
     (bus-kept c.self.inside.shape c.self.inside.locations c.self.inside.hierarchy c.ask-held.new.self None (Some c.ask-held.result) (rw free at c.self.invariant)
     (ap length c.ask-held.ensures.memory ∙ length-asked (g.P.Protocol.table c.self.inside.protocol) (request_for c.args.write) c.line_of-line.result c.self.inside.hierarchy.caches.items c.self.inside.hierarchy.memory.items)
     c.ask-held.ensures.words c.ask-held.ensures.ways c.ask-held.ensures.awaited

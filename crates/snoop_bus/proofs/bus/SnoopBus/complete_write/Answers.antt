@@ -1,4 +1,4 @@
-use Rattle.snoop_bus.proofs.Vocabulary.{◌≡◌, ◌/◌, ◌%◌, ◌<◌, Option, Some, None, length, refl, ap, ◌∙◌, Locked, Transaction, words_in, copy_at, held_by, current_words}
+use Rattle.snoop_bus.proofs.Vocabulary.{◌≡◌, ◌/◌, ◌%◌, ◌<◌, Option, Some, None, length, refl, ap, ◌∙◌, Locked, Transaction, words_in_lines, copy_at, held_by, current_words}
 use Rattle.snoop_bus.proofs.WordLemmas.{words-set}
 use Rattle.snoop_bus.proofs.LineLemmas.{length-line}
 use Rattle.snoop_bus.proofs.NewLemmas.{same_cores, bus-set}
@@ -14,7 +14,7 @@ returns-clause-words g c =
     let was = rw is at c.self.invariant in
     let copies = rw (c.target_of-target.ensures.value) at c.write.ensures.copies in
     let room : c.args.loc.0 % c.self.inside.shape.words < length (current_words c.self.inside.hierarchy.caches.items c.self.inside.hierarchy.memory.items (c.args.loc.0 / c.self.inside.shape.words)) =
-    rw (was.lines (c.args.loc.0 / c.self.inside.shape.words) held.1.within, length-line c.self.inside.shape.words (words_in c.self.inside.shape.words (current_words c.self.inside.hierarchy.caches.items c.self.inside.hierarchy.memory.items) c.self.inside.locations) (c.args.loc.0 / c.self.inside.shape.words)) (rw c.target_of-target.ensures.value at c.target_of-target.ensures.within) in
+    rw (was.lines (c.args.loc.0 / c.self.inside.shape.words) held.1.within, length-line c.self.inside.shape.words (words_in_lines c.self.inside.shape.words (current_words c.self.inside.hierarchy.caches.items c.self.inside.hierarchy.memory.items) c.self.inside.locations) (c.args.loc.0 / c.self.inside.shape.words)) (rw c.target_of-target.ensures.value at c.target_of-target.ensures.within) in
     let sets = locked_written c.self.inside.hierarchy.caches.items c.write.new.self.caches.items c.self.inside.hierarchy.memory.items c.args.core.0 (c.args.loc.0 / c.self.inside.shape.words) (c.args.loc.0 % c.self.inside.shape.words) c.args.value was.coherent held.1.within room real.1 copies in
     rw (← c.self.view_is, is, c.write.ensures.memory)
     (words-set c.self.inside.shape.words c.self.inside.locations (length c.self.inside.hierarchy.memory.items) (current_words c.self.inside.hierarchy.caches.items c.self.inside.hierarchy.memory.items) (current_words c.write.new.self.caches.items c.self.inside.hierarchy.memory.items) c.args.loc.0 c.args.value
@@ -28,7 +28,7 @@ invariant_of-self g c =
     let was = rw is at c.self.invariant in
     let copies = rw (c.target_of-target.ensures.value) at c.write.ensures.copies in
     let room : c.args.loc.0 % c.self.inside.shape.words < length (current_words c.self.inside.hierarchy.caches.items c.self.inside.hierarchy.memory.items (c.args.loc.0 / c.self.inside.shape.words)) =
-    rw (was.lines (c.args.loc.0 / c.self.inside.shape.words) held.1.within, length-line c.self.inside.shape.words (words_in c.self.inside.shape.words (current_words c.self.inside.hierarchy.caches.items c.self.inside.hierarchy.memory.items) c.self.inside.locations) (c.args.loc.0 / c.self.inside.shape.words)) (rw c.target_of-target.ensures.value at c.target_of-target.ensures.within) in
+    rw (was.lines (c.args.loc.0 / c.self.inside.shape.words) held.1.within, length-line c.self.inside.shape.words (words_in_lines c.self.inside.shape.words (current_words c.self.inside.hierarchy.caches.items c.self.inside.hierarchy.memory.items) c.self.inside.locations) (c.args.loc.0 / c.self.inside.shape.words)) (rw c.target_of-target.ensures.value at c.target_of-target.ensures.within) in
     let sets = locked_written c.self.inside.hierarchy.caches.items c.write.new.self.caches.items c.self.inside.hierarchy.memory.items c.args.core.0 (c.args.loc.0 / c.self.inside.shape.words) (c.args.loc.0 % c.self.inside.shape.words) c.args.value was.coherent held.1.within room real.1 copies in
     bus-set c.self.inside.shape c.self.inside.locations c.self.inside.hierarchy c.write.new.self (Some (held_by c.args.core c.args.loc Locked (c.args.loc.0 / c.self.inside.shape.words) None)) c.args.loc.0 c.args.value was (ap length c.write.ensures.memory) held.1.loc_in (rw c.write.ensures.memory sets) c.write.ensures.ways
 

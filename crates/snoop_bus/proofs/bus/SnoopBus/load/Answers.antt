@@ -1,4 +1,4 @@
-use Rattle.snoop_bus.proofs.Vocabulary.{rules, refl, false, ◌<◌, ◌/◌, counted}
+use Rattle.snoop_bus.proofs.Vocabulary.{rules, refl, false, ◌<◌, ◌/◌, counted_copies_of}
 use Rattle.snoop_bus.proofs.CallLemmas.{bus_ready, free_or_hit, loc_in, load_done}
 use Rattle.snoop_bus.proofs.UpgradeAsk.{free_load}
 use Rattle.snoop_bus.proofs.NewLemmas.{bus-kept, same_cores}
@@ -12,7 +12,7 @@ load-requires-clause-ready g c =
 
 pub returns-clause-done : goal.returns-clause-done
 returns-clause-done g c =
-    let within : c.args.loc.0 < c.self.inside.locations = loc_in c.self.inside.shape.words c.self.inside.locations (counted c.self.inside.held c.self.inside.hierarchy.caches.items) c.self.inside.hierarchy.memory.items c.args.loc.0 (rw (← c.self.view_is) at c.requires.loc) in
+    let within : c.args.loc.0 < c.self.inside.locations = loc_in c.self.inside.shape.words c.self.inside.locations (counted_copies_of c.self.inside.held c.self.inside.hierarchy.caches.items) c.self.inside.hierarchy.memory.items c.args.loc.0 (rw (← c.self.view_is) at c.requires.loc) in
     rw (← c.self.view_is)
     (load_done (g.P.Protocol.table c.self.inside.protocol) c.self.inside.shape c.self.inside.locations c.self.inside.hierarchy c.load.new.self c.self.inside.held c.args.core.0 c.args.loc.0 c.load.result.0 c.load.result.1 c.self.invariant.some_word c.self.invariant.enough_lines within
     (rw (c.target_of-target.ensures.value) at c.load.ensures.ok)

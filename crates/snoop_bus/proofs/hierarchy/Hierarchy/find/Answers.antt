@@ -1,4 +1,4 @@
-use Rattle.snoop_bus.proofs.Vocabulary.{arith, ◌≡◌, ◌<◌, ℕ, [], length, ap, subst, sym, ◌∙◌, get_or_default, asked, Sets, copy_in, copy_at}
+use Rattle.snoop_bus.proofs.Vocabulary.{arith, ◌≡◌, ◌<◌, ℕ, [], length, ap, subst, sym, ◌∙◌, get_or_default, snoop_column, Sets, copy_in, copy_at}
 use Rattle.std.proofs.Common.{option_copied}
 use Rattle.snoop_bus.proofs.FindLemmas.{FoundBelow, nothing-found, passed-by, noted, words-found, shared-found, flushed-found, states-found}
 use Rattle.snoop_bus.proofs.hierarchy.Hierarchy.find.Goals as goal
@@ -6,7 +6,7 @@ use Rattle.snoop_bus.proofs.hierarchy.Hierarchy.find.Goals.{in-Some, in_default}
 
 pub loop-core-preserved : goal.loop-core-preserved
 loop-core-preserved g c =
-    let on = asked (g.P.Protocol.table c.args.protocol.now) c.args.request in
+    let on = snoop_column (g.P.Protocol.table c.args.protocol.now) c.args.request in
     let within : c.loop-core.core < length c.args.self.now.caches.items = omega arith in
     let at = c.index.ensures ∙ get_or_default c.args.self.now.caches.items c.loop-core.core c.index.result.now [] within in
     let here : option_copied c.look.result ≡ copy_at c.args.self.now.caches.items c.loop-core.core c.args.line = c.look.ensures.found ∙ ap (λ (sets : Sets). copy_in sets c.args.line) at in
@@ -19,20 +19,20 @@ loop-core-preserved g c =
     ]
 
 pub loop-core-init : goal.loop-core-init
-loop-core-init g c = rw c.nothing-found.ensures (nothing-found (asked (g.P.Protocol.table c.args.protocol.now) c.args.request) c.args.line c.args.self.now.caches.items)
+loop-core-init g c = rw c.nothing-found.ensures (nothing-found (snoop_column (g.P.Protocol.table c.args.protocol.now) c.args.request) c.args.line c.args.self.now.caches.items)
 
 pub returns-clause-words : goal.returns-clause-words
-returns-clause-words g c = words-found (asked (g.P.Protocol.table c.args.protocol.now) c.args.request) c.args.line c.args.self.now.caches.items c.loop-core.found
-    (subst (λ (n : ℕ). FoundBelow n (asked (g.P.Protocol.table c.args.protocol.now) c.args.request) c.args.line c.args.self.now.caches.items c.loop-core.found) (omega arith) c.loop-core.invariant)
+returns-clause-words g c = words-found (snoop_column (g.P.Protocol.table c.args.protocol.now) c.args.request) c.args.line c.args.self.now.caches.items c.loop-core.found
+    (subst (λ (n : ℕ). FoundBelow n (snoop_column (g.P.Protocol.table c.args.protocol.now) c.args.request) c.args.line c.args.self.now.caches.items c.loop-core.found) (omega arith) c.loop-core.invariant)
 
 pub returns-clause-shared : goal.returns-clause-shared
-returns-clause-shared g c = shared-found (asked (g.P.Protocol.table c.args.protocol.now) c.args.request) c.args.line c.args.self.now.caches.items c.loop-core.found
-    (subst (λ (n : ℕ). FoundBelow n (asked (g.P.Protocol.table c.args.protocol.now) c.args.request) c.args.line c.args.self.now.caches.items c.loop-core.found) (omega arith) c.loop-core.invariant)
+returns-clause-shared g c = shared-found (snoop_column (g.P.Protocol.table c.args.protocol.now) c.args.request) c.args.line c.args.self.now.caches.items c.loop-core.found
+    (subst (λ (n : ℕ). FoundBelow n (snoop_column (g.P.Protocol.table c.args.protocol.now) c.args.request) c.args.line c.args.self.now.caches.items c.loop-core.found) (omega arith) c.loop-core.invariant)
 
 pub returns-clause-flushed : goal.returns-clause-flushed
-returns-clause-flushed g c = flushed-found (asked (g.P.Protocol.table c.args.protocol.now) c.args.request) c.args.line c.args.self.now.caches.items c.loop-core.found
-    (subst (λ (n : ℕ). FoundBelow n (asked (g.P.Protocol.table c.args.protocol.now) c.args.request) c.args.line c.args.self.now.caches.items c.loop-core.found) (omega arith) c.loop-core.invariant)
+returns-clause-flushed g c = flushed-found (snoop_column (g.P.Protocol.table c.args.protocol.now) c.args.request) c.args.line c.args.self.now.caches.items c.loop-core.found
+    (subst (λ (n : ℕ). FoundBelow n (snoop_column (g.P.Protocol.table c.args.protocol.now) c.args.request) c.args.line c.args.self.now.caches.items c.loop-core.found) (omega arith) c.loop-core.invariant)
 
 pub returns-clause-states : goal.returns-clause-states
-returns-clause-states g c = states-found (asked (g.P.Protocol.table c.args.protocol.now) c.args.request) c.args.line c.args.self.now.caches.items c.loop-core.found
-    (subst (λ (n : ℕ). FoundBelow n (asked (g.P.Protocol.table c.args.protocol.now) c.args.request) c.args.line c.args.self.now.caches.items c.loop-core.found) (omega arith) c.loop-core.invariant)
+returns-clause-states g c = states-found (snoop_column (g.P.Protocol.table c.args.protocol.now) c.args.request) c.args.line c.args.self.now.caches.items c.loop-core.found
+    (subst (λ (n : ℕ). FoundBelow n (snoop_column (g.P.Protocol.table c.args.protocol.now) c.args.request) c.args.line c.args.self.now.caches.items c.loop-core.found) (omega arith) c.loop-core.invariant)

@@ -1,0 +1,15 @@
+use Rattle.litmus_reader.proofs.Within.{spelled_is_test}
+use Rattle.litmus_reader.proofs.SpelledWords.{spelled_has_words}
+use Rattle.litmus_reader.proofs.test_texts.test_is_spelled_once.Goals as goal
+
+pub returns-clause-once : goal.returns-clause-once
+returns-clause-once c = λ text t other p q. (c.texts_are_decided.ensures text).one_test t other p q
+
+pub returns-clause-never_both : goal.returns-clause-never_both
+returns-clause-never_both c = λ text t fault p q. (c.texts_are_decided.ensures text).never_both t fault p q
+
+pub returns-clause-one_refusal : goal.returns-clause-one_refusal
+returns-clause-one_refusal c = λ text fault other p q. (c.texts_are_decided.ensures text).one_refusal fault other p q
+
+pub returns-clause-within : goal.returns-clause-within
+returns-clause-within c = λ text t p. spelled_is_test text t (c.texts_are_read_as_they_are_spelled.ensures.again text t p) (spelled_has_words text t p)

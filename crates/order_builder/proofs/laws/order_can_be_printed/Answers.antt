@@ -1,5 +1,0 @@
-use Rattle.order_builder.proofs.ContractLemmas.{all_printable}
-use Rattle.order_builder.proofs.laws.order_can_be_printed.Goals as goal
-
-pub returns : goal.returns
-returns c = all_printable

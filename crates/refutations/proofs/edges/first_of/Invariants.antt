@@ -1,8 +1,0 @@
-use Rattle.refutations.proofs.Vocabulary.{◌≡◌, drop, known_of}
-use Rattle.refutation_laws.specs.Shown as spec
-use Rattle.refutations.proofs.edges.first_of.Given as goal
-
-abbrev pub invariant-loop-relation : goal.invariant-loop-relation
-invariant-loop-relation l =
-    spec.first_of l.test (known_of l.answers) l.relations l.x l.y
-    ≡ spec.first_of l.test (known_of l.answers) (drop l.relation-index l.relations) l.x l.y

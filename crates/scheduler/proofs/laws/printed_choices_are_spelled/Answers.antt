@@ -1,5 +1,0 @@
-use Rattle.scheduler.proofs.PrintedWords.{printed-spells}
-use Rattle.scheduler.proofs.laws.printed_choices_are_spelled.Goals as goal
-
-pub returns : goal.returns
-returns c = printed-spells

@@ -1,5 +1,0 @@
-use Rattle.scheduler.proofs.Cores.{CoresExist-spelled}
-use Rattle.scheduler.proofs.laws.spelled_cores_exist.Goals as goal
-
-pub returns : goal.returns
-returns c = λ cores text choices some spelled. CoresExist-spelled cores text choices some spelled

@@ -1,5 +1,0 @@
-use Rattle.scheduler.proofs.Whole.{is_decided}
-use Rattle.scheduler.proofs.laws.texts_are_decided.Goals as goal
-
-pub returns : goal.returns
-returns c = λ cores text some. is_decided cores text some

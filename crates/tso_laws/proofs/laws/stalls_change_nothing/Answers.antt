@@ -1,5 +1,0 @@
-use Rattle.tso_laws.proofs.Stopping.{stall-nothing}
-use Rattle.tso_laws.proofs.laws.stalls_change_nothing.Goals as goal
-
-pub returns : goal.returns
-returns c = stall-nothing

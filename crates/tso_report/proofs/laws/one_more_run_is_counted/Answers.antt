@@ -1,5 +1,0 @@
-use Rattle.tso_report.proofs.CountLaws.{own-count, other-count, states-ascend}
-use Rattle.tso_report.proofs.laws.one_more_run_is_counted.Goals as goal
-
-pub returns : goal.returns
-returns c = record { own = own-count; others = other-count; order = states-ascend }

@@ -1,5 +1,0 @@
-use Rattle.tso_report.proofs.OrderLaw.{report_spells}
-use Rattle.tso_report.proofs.laws.report_spells_its_order.Goals as goal
-
-pub returns : goal.returns
-returns c = report_spells c.printed_order_is_spelled.ensures.amid
