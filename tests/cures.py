@@ -229,29 +229,29 @@ def leave_out_address(text, name):
 
 
 CURES = [
-    (r"X86_64 tests aren't read: .*; by hand begin with X86 and .*", lambda text: write_header(text, "X86_64")),
+    (r"X86_64 tests aren't read: .*; if you do so by hand, begin with X86 and .*", lambda text: write_header(text, "X86_64")),
     (r"(\w+) is (?:another processor|a language): a test begins with X86, a space and its name; .*", write_header),
     (r"(\w+): write X86, in capitals", write_header),
     (r"'(.*)' is AT&T's order, source first; here the destination stands first, as in MOV EAX,\[y\]: .*", turn_round),
     (r"a register is written without %: EAX", leave_out_percent),
     (r"(\w+): write (\w+), for words of 32 bits", Text.replace),
     (r"(\w+) is none of EAX, EBX, ECX, EDX, ESI, EDI\b.*", rename_register),
-    (r"(\w+) is a part of a register: where all its 32 bits do as well, write EAX, .*", rename_register),
+    (r"(\w+) is a part of a register: if the whole register will do, write EAX, .*", rename_register),
     (r"(0[xX]\w+): numbers are decimal", write_decimal),
-    (r"(\w+) is a type, and items have none here: leave it out, and the whole item where it has no value, .*", leave_out_type),
-    (r"(\w+) isn't read after LOCK: in a cell before it MOV .* here write LOCK XADD \[x\],EAX", add_by_xadd),
-    (r"(\w+) can't be said here: .* Write a load, as MOV EAX,\[x\], and a store of the number that it gives, .*", load_and_store),
-    (r"(\w+) isn't read: programs are straight lines, with no jumps and no compares; .*", leave_out_jump),
+    (r"(\w+) is a type, and items have no types here: leave it out; if the item has no value, leave out the whole item, .*", leave_out_type),
+    (r"(\w+) isn't read after LOCK: in a cell before it, put .* here write LOCK XADD \[x\],EAX", add_by_xadd),
+    (r"(\w+) isn't read: without LOCK .* Write a load, as MOV EAX,\[x\], and a store of the result, .*", load_and_store),
+    (r"(\w+) isn't read: a program has no jumps and no compares; .*", leave_out_jump),
     (r"(\w+) isn't read: it changes .*, so leave it out", leave_out_cell),
     (r"\w+: leave DWORD PTR out, words have 32 bits", leave_out_pointer),
     (r"MOV has the forms .*; from \[y\] to \[x\] go through a register: .*", go_through_register),
     (r"(P\w+): a core is its number alone here, as in 0:EAX", number_core),
-    (r"(\w+) names no location, and addresses in registers aren't read: .*", name_location),
-    (r"(\w+) is no number, and addresses in registers aren't read: .*", leave_out_address),
+    (r"(\w+) names no location, and no register can hold an address here: .*", name_location),
+    (r"(\w+) is no number, and no register can hold an address here: .*", leave_out_address),
     (r"U\+(\w+), in column (\d+), isn't ASCII: (.*)", write_character),
     (r"a comment is written \(\* \.\. \*\)", write_comment),
     (r"the dividing line between a test and its choices is ==== alone", write_divider),
-    (r"a second test begins here: an input has one, .*", leave_out_second_test),
+    (r"a second test begins here: an input has only one, .*", leave_out_second_test),
 ]
 
 

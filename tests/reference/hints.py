@@ -6,7 +6,7 @@ from . import litmus, printing, seen
 
 UNUSED = "hint: line %d: the condition names %s, which no program uses and no initial state sets: it stays 0\n"
 LEFT_OUT = "hint: line %d: locations lists %s, which the states leave out: --show %s shows it\n"
-NEVER = "hint: Never is said of %s only:%s outcomes --depth %d decides\n"
+NEVER = "hint: Never tells of %s only:%s outcomes --depth %d tells of all runs\n"
 MORE_SEEDS = " more seeds (--seeds 1000) take milliseconds, and"
 
 MOST_SEEDS = 1000

@@ -15,7 +15,7 @@ const NO_INSTRUCTION: &str = " is not one of MOV, MFENCE, XCHG, LOCK XADD";
 const NO_REGISTER: &str = " is none of EAX, EBX, ECX, EDX, ESI, EDI; a location is written [x]";
 
 const NO_LOCATION: &str =
-    " names no location, and addresses in registers aren't read: [ ] has a location's own name, as [x]; tools/import turns such a test into this form";
+    " names no location, and no register can hold an address here: write the location's name in [ ], as [x]; tools/import turns such a test into this form";
 
 /// Of the cell at the front of a text.
 ///
@@ -44,7 +44,7 @@ fn cell_words<'a>(cell: &'a [u8], tokens: &[Token<'a>]) -> Words<'a> {
     if !name.eq_ignore_ascii_case(b"LOCK") {
         return instruction_words(cell, &UNLOCKED, name, operands, otherwise);
     }
-    let otherwise = plain("LOCK stands before XCHG or XADD alone");
+    let otherwise = plain("LOCK may stand only before XCHG or XADD");
     match first_name(operands) {
         Some((name, operands)) => instruction_words(cell, &LOCKED, name, operands, otherwise),
         None => otherwise,

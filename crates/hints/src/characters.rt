@@ -34,7 +34,7 @@ static SIGNS: [Alike; 7] = [
     },
     Alike {
         words: &["\u{2212}", "\u{2010}", "\u{2011}", "\u{2013}", "\u{2014}"],
-        said: "a number has no sign, and -1 is written 4294967295",
+        said: "a number has no sign: write -1 as 4294967295",
     },
 ];
 
@@ -48,7 +48,7 @@ static BLANKS: [Alike; 2] = [
     },
     Alike {
         words: &["\u{feff}", "\u{200b}", "\u{200c}", "\u{200d}", "\u{2060}"],
-        said: "leave it out, it shows nothing",
+        said: "leave it out, since it is invisible",
     },
 ];
 
@@ -58,12 +58,12 @@ pub fn foreign_character<'a>(place: Place<'a>, byte: u8) -> Words<'a> {
         Some(character) => cured(
             place,
             character,
-            said_of_front(&SIGNS, place.rest).unwrap_or("only a comment may have it"),
+            said_of_front(&SIGNS, place.rest).unwrap_or("it may stand only in a comment"),
         ),
         None => around(
             "the byte ",
             Piece::Number(usize::from(byte)),
-            " begins nothing that a test has",
+            " can't stand here",
         ),
     }
 }

@@ -47,9 +47,9 @@ fn nth<'a>(words: &[&'a [u8]], number: usize) -> &'a [u8] {
 fn too_many<'a>(word: &'a [u8]) -> Words<'a> {
     listed(
         Piece::Named(word),
-        Piece::Text(" passes the "),
+        Piece::Text(" goes over the limit of "),
         Piece::Number(MAX_CHOICES),
-        Piece::Text(" choices that there may be"),
+        Piece::Text(" choices"),
     )
 }
 
@@ -66,9 +66,9 @@ pub fn too_many_steps<'a>(
     let words = split_words(alloc, text)?;
     let said = listed(
         Piece::Named(nth(&words, number)),
-        Piece::Text(" passes the "),
+        Piece::Text(" goes over the limit of "),
         Piece::Number(most),
-        Piece::Text(" choices that may be used with --json; without it a trace may use more"),
+        Piece::Text(" choices for --json; without --json a trace may use more"),
     );
     Ok((Where::Word(number), said))
 }
@@ -133,7 +133,9 @@ fn bad_word<'a>(words: &[&'a [u8]], number: usize) -> Words<'a> {
 
 fn bad_first<'a>(word: &'a [u8]) -> Words<'a> {
     if word == b"seed".as_slice() {
-        plain("after seed stand two numbers, the seed and how many choices it makes: seed 1 1000")
+        plain(
+            "write two numbers after seed, the seed and how many choices it makes, as in seed 1 1000",
+        )
     } else if word.eq_ignore_ascii_case(b"seed") {
         naming(word, ": write seed, in small letters")
     } else if is_all_digits(word) {
@@ -141,7 +143,7 @@ fn bad_first<'a>(word: &'a [u8]) -> Words<'a> {
     } else if word.starts_with(b"=") {
         naming(
             word,
-            ": one line ==== stands in an input, between the test and the choices",
+            ": an input has only one line ====, between the test and the choices",
         )
     } else if word.starts_with(b"X86") {
         plain(ONE_TEST)

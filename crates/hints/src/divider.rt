@@ -15,7 +15,7 @@ pub fn missing_divider<'a>(asked: Reader, is_divided: bool, rest: &'a [u8]) -> O
     if word.starts_with(b"=") {
         return Some(naming(
             word,
-            " divides nothing: the dividing line is ==== alone, with no space before or after it",
+            " is no dividing line: write ==== alone, with no space before or after it",
         ));
     }
     if is_choice(word) {

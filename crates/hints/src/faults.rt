@@ -62,7 +62,7 @@ fn foreign_line(place: Place<'_>, why: Why) -> Option<&'static str> {
 fn twice_given<'a>(place: Place<'a>) -> Words<'a> {
     naming(
         up_to(place.rest, b'='),
-        " has a value already: one stands for each location and each register",
+        " has a value already: give each location and each register only one",
     )
 }
 
@@ -82,7 +82,7 @@ fn trailing<'a>(asked: Reader, is_divided: bool, place: Place<'a>) -> Words<'a> 
     } else {
         naming(
             place.token(),
-            " stands after the end of the test, where nothing may",
+            " stands after the end of the test: leave it out",
         )
     }
 }
@@ -91,14 +91,14 @@ const FORM: &str =
     ": a condition is exists, ~exists or forall, and then atoms as 0:EAX=1, x=1 or true, joined by /\\ and \\/";
 
 const OTHER_REGISTER: &str =
-    " is none of EAX, EBX, ECX, EDX, ESI, EDI, the registers of 32 bits: tools/import renames others, but no parts as AL";
+    " is none of EAX, EBX, ECX, EDX, ESI, EDI, the registers of 32 bits: tools/import renames others, but not parts such as AL";
 
 /// What is said of a comment of another form.
 pub const COMMENT: &str = "a comment is written (* .. *)";
 
 /// What is said of a second test.
 pub const ONE_TEST: &str =
-    "a second test begins here: an input has one, so make a call for each; tools/campaign takes many";
+    "a second test begins here: an input has only one, so run tso once for each test; tools/campaign takes many";
 
 /// What is said of a sign or a word that other programs write in a condition.
 pub const CONNECTIVES: &str =

@@ -108,5 +108,5 @@ fn too_many_bytes<'a>(most: usize) -> Words<'a> {
 
 /// What is said where nothing more is known.
 fn nothing_known<'a>() -> Words<'a> {
-    plain("standard output has the place of the fault")
+    plain("standard output tells where the fault is")
 }

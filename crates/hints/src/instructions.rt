@@ -4,7 +4,7 @@ use crate::tables::Alike;
 
 /// Of what isn't done one instruction after the other.
 pub const STRAIGHT: &str =
-    " isn't read: programs are straight lines, with no jumps and no compares; XCHG takes a lock; a loop is written as the tries that it makes";
+    " isn't read: a program has no jumps and no compares; use XCHG to take a lock, and write out each try of a loop";
 
 /// By how its name begins, an instruction that isn't read without LOCK.
 pub static UNLOCKED: [Alike; 6] = [
@@ -14,7 +14,7 @@ pub static UNLOCKED: [Alike; 6] = [
     },
     Alike {
         words: &["SFENCE", "LFENCE"],
-        said: " isn't read: it changes nothing between plain loads and stores, so leave it out",
+        said: " isn't read: it changes nothing in the order of plain loads and stores, so leave it out",
     },
     Alike {
         words: &["XADD"],
@@ -32,7 +32,7 @@ pub static UNLOCKED: [Alike; 6] = [
         words: &[
             "ADD", "INC", "SUB", "DEC", "AND", "OR", "XOR", "NOT", "NEG", "SHL", "SHR",
         ],
-        said: " can't be said here: without LOCK it isn't one step. Write a load, as MOV EAX,[x], and a store of the number that it gives, as MOV [x],$1; in a register, MOV EAX,$1",
+        said: " isn't read: without LOCK it isn't one step. Write a load, as MOV EAX,[x], and a store of the result, as MOV [x],$1; to change a register, MOV EAX,$1",
     },
 ];
 
@@ -40,11 +40,11 @@ pub static UNLOCKED: [Alike; 6] = [
 pub static LOCKED: [Alike; 4] = [
     Alike {
         words: &["ADD", "INC"],
-        said: " isn't read after LOCK: in a cell before it MOV the number that it adds into a free register, as MOV EAX,$1, and here write LOCK XADD [x],EAX",
+        said: " isn't read after LOCK: in a cell before it, put the number that it adds into a free register, as MOV EAX,$1; here write LOCK XADD [x],EAX",
     },
     Alike {
         words: &["SUB", "DEC"],
-        said: " isn't read after LOCK: in a cell before it MOV 4294967296 less its number into a free register, as MOV EAX,$4294967295, and here write LOCK XADD [x],EAX",
+        said: " isn't read after LOCK: in a cell before it, put 4294967296 minus its number into a free register, as MOV EAX,$4294967295; here write LOCK XADD [x],EAX",
     },
     Alike {
         words: &["CMP", "BT"],
@@ -52,7 +52,7 @@ pub static LOCKED: [Alike; 4] = [
     },
     Alike {
         words: &["MOV"],
-        said: " can't be locked: LOCK stands before XCHG or XADD alone",
+        said: " can't be locked: LOCK may stand only before XCHG or XADD",
     },
 ];
 
@@ -72,11 +72,11 @@ pub static SIZED: [Alike; 5] = [
     },
     Alike {
         words: &["XADDQ"],
-        said: " isn't read: a sum of 64 bits isn't one of 32",
+        said: " isn't read: it adds 64 bits, and words have only 32 here",
     },
     Alike {
         words: &["MOVB", "MOVW", "XCHGB", "XCHGW", "XADDB", "XADDW"],
-        said: " isn't read: words of 32 bits have no parts here",
+        said: " isn't read: each access is to a whole word of 32 bits",
     },
 ];
 
@@ -88,14 +88,14 @@ pub static SIZES: [Alike; 3] = [
     },
     Alike {
         words: &["QWORD", "WORD", "BYTE"],
-        said: " isn't read: words have 32 bits, and no parts",
+        said: " isn't read: each access is to a whole word of 32 bits",
     },
     Alike {
         words: &[
             "AL", "BL", "CL", "DL", "AH", "BH", "CH", "DH", "SIL", "DIL", "AX", "BX", "CX", "DX",
             "SI", "DI",
         ],
-        said: " is a part of a register: where all its 32 bits do as well, write EAX, EBX, ECX, EDX, ESI or EDI",
+        said: " is a part of a register: if the whole register will do, write EAX, EBX, ECX, EDX, ESI or EDI",
     },
 ];
 

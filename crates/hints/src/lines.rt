@@ -50,7 +50,7 @@ fn no_command<'a>(word: &'a str) -> Option<Words<'a>> {
         return None;
     }
     Some(listed(
-        Piece::Text("a command stands first, and standard input is read: tso run < "),
+        Piece::Text("write a command first; tso reads the test from standard input: tso run < "),
         Piece::Shown(bytes),
         Piece::Text(""),
         Piece::Text(""),
@@ -100,7 +100,7 @@ fn file_named<'a>(command: &'a str, word: &'a str) -> Words<'a> {
         return plain("tables reads no input: tso tables --protocol mesi");
     }
     six([
-        Piece::Text("no file is named on the line, standard input is read: tso "),
+        Piece::Text("tso reads standard input, so don't name a file without <: tso "),
         Piece::Shown(command.as_bytes()),
         Piece::Text(" < "),
         Piece::Shown(word.as_bytes()),

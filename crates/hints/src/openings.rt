@@ -22,17 +22,17 @@ static HEADERS: [Alike; 4] = [
     },
     Alike {
         words: &["X86_64"],
-        said: " tests aren't read: tools/import turns them into X86 tests; by hand begin with X86 and a name, and use EAX, EBX, ECX, EDX, ESI, EDI",
+        said: " tests aren't read: tools/import turns them into X86 tests; if you do so by hand, begin with X86 and a name, and use EAX, EBX, ECX, EDX, ESI, EDI",
     },
     Alike {
         words: &[
             "AArch64", "ARM", "PPC", "Power", "MIPS", "RISCV", "RISC-V", "S390", "Alpha", "SPARC",
         ],
-        said: " is another processor: a test begins with X86, a space and its name; tools/import turns one of X86_64 into such",
+        said: " is another processor: a test begins with X86, a space and its name; tools/import turns an X86_64 test into an X86 test",
     },
     Alike {
         words: &["C", "CPP", "C11", "LISA", "Bell", "LLVM", "JAVA", "ASL"],
-        said: " is a language: a test begins with X86, a space and its name; tools/import turns one of X86_64 into such",
+        said: " is a language: a test begins with X86, a space and its name; tools/import turns an X86_64 test into an X86 test",
     },
 ];
 
@@ -89,12 +89,12 @@ pub fn no_header<'a>(asked: Reader, place: Place<'a>) -> Words<'a> {
     } else if let Some(words) = foreign_in(up_to(rest, b'\n'), "a test's name is in ASCII") {
         words
     } else if word == b"X86".as_slice() {
-        plain("after X86 stands a space and then the test's name, in printable ASCII")
+        plain("write a space and the test's name after X86, in printable ASCII")
     } else if let Some(words) = named_in(&HEADERS, word) {
         words
     } else {
         around(
-            "a test begins with X86, a space and its name: here stands ",
+            "a test begins with X86, a space and its name, and not with ",
             Piece::Named(word),
             "",
         )
@@ -118,7 +118,7 @@ pub fn unclosed<'a>(asked: Reader, is_divided: bool, place: Place<'a>) -> Words<
     let rest = place.rest;
     if rest.is_empty() {
         plain(
-            "the test ends before its initial state: { } stands between the first line and the row P0 | P1 ;",
+            "the test ends before its initial state: write { } between the first line and the row P0 | P1 ;",
         )
     } else if rest.starts_with(b"(*") {
         plain("no *) ends the comment that begins here")
@@ -161,7 +161,7 @@ pub fn bad_token<'a>(place: Place<'a>) -> Words<'a> {
         Some(byte) if !begins_token(place.rest) => bad_byte(place, *byte),
         _ => naming(
             token,
-            " stands before the initial state { }, where only \"..\", KEY=.. and comments may",
+            " stands before the initial state { }: only \"..\", KEY=.. and comments may stand there",
         ),
     }
 }
@@ -179,10 +179,10 @@ fn too_long_name<'a>(name: &'a [u8]) -> Words<'a> {
 
 fn no_brackets<'a>(place: Place<'a>) -> Words<'a> {
     if place.rest.is_empty() {
-        return plain("after locations stands [ .. ]: here stands the end of the test");
+        return plain("write [ .. ] after locations: the test ends here");
     }
     around(
-        "after locations stands [ .. ]: here stands ",
+        "write [ .. ] after locations, in front of ",
         Piece::Named(place.token()),
         "",
     )
@@ -212,7 +212,7 @@ static SIGNS: [Alike; 3] = [
     },
     Alike {
         words: &["*)"],
-        said: "*) ends no comment here: a comment ends at its first *), and has none within it",
+        said: "*) ends no comment here: a comment ends at its first *) and can't contain another comment",
     },
 ];
 
@@ -236,7 +236,7 @@ fn other_byte<'a>(place: Place<'a>, byte: u8) -> Words<'a> {
         b'#' => plain(COMMENT),
         b'%' => percent(place),
         b'&' | b'!' | b'/' | b'\\' | b'<' | b'>' => naming(place.token(), CONNECTIVES),
-        b'!'..=b'~' => naming(place.token(), " begins nothing that a test has"),
+        b'!'..=b'~' => naming(place.token(), " can't stand here"),
         _ => foreign_character(place, byte),
     }
 }
@@ -251,7 +251,7 @@ pub fn bad_init<'a>(place: Place<'a>) -> Words<'a> {
     if is_type(last) {
         return naming(
             last,
-            " is a type, and items have none here: leave it out, and the whole item where it has no value, which begins as 0",
+            " is a type, and items have no types here: leave it out; if the item has no value, leave out the whole item, since 0 is its value",
         );
     }
     if let Some(words) = foreign_register(place) {
@@ -260,7 +260,7 @@ pub fn bad_init<'a>(place: Place<'a>) -> Words<'a> {
     if last == b"=".as_slice() && begins_with_letter(token) {
         return naming(
             token,
-            " is no number, and addresses in registers aren't read: an instruction has its location's own name, as [x]; tools/import turns such a test into this form",
+            " is no number, and no register can hold an address here: write the location's name in the instruction, as [x]; tools/import turns such a test into this form",
         );
     }
     naming(

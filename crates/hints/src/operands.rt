@@ -11,10 +11,10 @@ const SOURCE_FIRST: &str =
 
 /// Signs of AT&T's order stand beside a register or a location as they are written here.
 const BOTH_ORDERS: &str =
-    " mixes AT&T's order, source first, with the order here, where the destination stands first, as in MOV EAX,[y], a load";
+    " mixes two orders of operands: AT&T's has the source first; here the destination stands first, as in the load MOV EAX,[y]";
 
 const IN_REGISTER: &str =
-    " has an address in a register, which isn't read: a location stands by its name, as in [x]";
+    " takes an address from a register, and no register can hold one here: write the location's name, as in [x]";
 
 /// Of two operands in AT&T's order, as far as their tokens tell, which have no `%`: a number with `$` stands first, or one
 /// of them stands in `( )`.

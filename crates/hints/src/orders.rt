@@ -32,7 +32,7 @@ pub fn order_words<'a>(
 fn no_order<'a>(text: &'a [u8]) -> Words<'a> {
     let word = first_word(text);
     if word.is_empty() {
-        plain("no order: give one after a line ====, as run prints it, or use --help")
+        plain("no order: give one after a line ====, as run prints it; --help says more")
     } else if word.starts_with(b"{") {
         plain("no line is Order: give the report that run prints without --json")
     } else if is_choice(word) {
@@ -95,7 +95,7 @@ fn bad_line<'a>(unknown_location: bool, line: &'a [u8]) -> Words<'a> {
     if line.is_empty() {
         return plain("an empty line stands in the order");
     }
-    if let Some(words) = foreign_in(line, "an order has none, as run prints it") {
+    if let Some(words) = foreign_in(line, "an order, as run prints it, is in ASCII") {
         return words;
     }
     if line.starts_with(b"Endorder") {
@@ -190,7 +190,7 @@ fn bad_count<'a>(text: &'a [u8]) -> (Where, Words<'a>) {
     }
     (
         Where::Input,
-        plain("no line Endorder n ends the order, n being the number of its entries"),
+        plain("no line Endorder n ends the order, where n is the number of its entries"),
     )
 }
 

@@ -31,12 +31,12 @@ pub fn wrong_cells<'a>(place: Place<'a>) -> Words<'a> {
     let bars = row.iter().filter(|byte| **byte == b'|').count();
     match bars {
         0 => plain(
-            "this row has 1 cell, and not one for each core: | stands between cells, ; at the row's end",
+            "this row has 1 cell, and not one for each core: put | between cells, and ; at the row's end",
         ),
         _ => around(
             "this row has ",
             Piece::Number(bars.saturating_add(1)),
-            " cells, and not one for each core: | stands between cells, ; at the row's end",
+            " cells, and not one for each core: put | between cells, and ; at the row's end",
         ),
     }
 }
@@ -80,7 +80,7 @@ fn too_deep<'a>(token: &'a [u8]) -> Words<'a> {
         Piece::Named(token),
         Piece::Text(" is one too many: at most "),
         Piece::Number(MAX_OPEN),
-        Piece::Text(" brackets and negations may be open within one another"),
+        Piece::Text(" brackets and negations may be open at once"),
     )
 }
 

@@ -60,18 +60,18 @@ pub fn search_ends<'a>(end: &SearchEnd) -> Words<'a> {
 
 fn limit_words(is_raisable: bool, is_buffered: bool) -> &'static str {
     match (is_raisable, is_buffered) {
-        (true, true) => " states, which is --states: raise it, lower --depth, or ",
-        (true, false) => " states, which is --states: raise it, or ",
-        (false, true) => " states, the most that --states may be: lower --depth, or ",
-        (false, false) => " states, the most that --states may be: ",
+        (true, true) => " states, the limit of --states: raise it, lower --depth, or ",
+        (true, false) => " states, the limit of --states: raise it, or ",
+        (false, true) => " states, the most that --states allows: lower --depth, or ",
+        (false, false) => " states, the most that --states allows: ",
     }
 }
 
 fn condition_words(sighting: &Sighting) -> &'static str {
     match sighting {
-        Sighting::NoCondition => "give a condition, whose atoms alone tell states apart",
+        Sighting::NoCondition => "give a condition, so that only its atoms tell states apart",
         Sighting::None | Sighting::Met(_) => {
-            "name fewer atoms in the condition; why decides it without states"
+            "name fewer atoms in the condition; tso why needs no states"
         }
     }
 }

@@ -22,13 +22,13 @@ pub fn sweep_ends<'a>(length: u32, none_ended: bool) -> Words<'a> {
 /// Of a sweep of so many runs at this depth, in none of which the condition's proposition was true.
 pub fn never_seen<'a>(runs: u32, depth: u8) -> Words<'a> {
     eight([
-        Piece::Text("Never is said of "),
+        Piece::Text("Never tells of "),
         Piece::Number(runs as usize),
         unit_of_runs(runs),
         more_seeds(runs),
         Piece::Text(" outcomes --depth "),
         Piece::Number(usize::from(depth)),
-        Piece::Text(" decides"),
+        Piece::Text(" tells of all runs"),
         Piece::Text(""),
     ])
 }
@@ -51,9 +51,9 @@ fn more_seeds<'a>(runs: u32) -> Piece<'a> {
 /// Of a search that may tell no more than so many cases apart.
 pub fn cases_end<'a>(most: u32) -> Words<'a> {
     around(
-        "the cases to tell apart are more than ",
+        "there are more cases to tell apart than ",
         Piece::Number(most as usize),
-        ", which is --cases: raise it, or use outcomes",
+        ", the limit of --cases: raise it, or use outcomes",
     )
 }
 
