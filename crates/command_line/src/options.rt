@@ -23,7 +23,7 @@ static MACHINE_DEPTH: &str =
 
 /// What the depth of a machine is whose final states are searched for.
 static SEARCH_DEPTH: &str =
-    "How many stores each core's buffer holds, 0 to 32; 32 is TSO's own, 0 sequential consistency";
+    "How many stores each core's buffer holds, 0 to 32; 32 gives all of TSO, 0 sequential consistency";
 
 /// What the depth that a witness may have is.
 static WITNESS_DEPTH: &str = "How many stores each core's buffer holds, 1 to 32";
@@ -106,7 +106,7 @@ fn outcomes_line<'a>(alloc: Global) -> Result<Command<'a>, AllocError> {
 }
 
 fn why_line<'a>(alloc: Global) -> Result<Command<'a>, AllocError> {
-    let about = "Tells why what the condition names can't be, or an execution in which it is";
+    let about = "Tells why no execution has what the condition asks for, or shows one that has it";
     let options = reason_options(alloc)?;
     command(alloc, "why", about, help::WHY).args(options)
 }
@@ -129,7 +129,7 @@ fn tables_line<'a>(alloc: Global) -> Result<Command<'a>, AllocError> {
 /// The options that a machine is built by.
 fn machine_options<'a>(alloc: Global) -> Result<Vec<Arg<'a>>, AllocError> {
     let sets = "How many sets each core's cache has, 1 to 8";
-    let ways = "For how many lines each set has room, 1 to 8";
+    let ways = "How many lines each set has room for, 1 to 8";
     let words = "How many words a cache line has: 1, 2 or 4";
     Ok(vec![in alloc;
         protocol_option(alloc, "Coherence protocol of the caches"),
@@ -245,7 +245,7 @@ fn bus_option<'a>(alloc: Global) -> Arg<'a> {
 }
 
 fn model_option<'a>(alloc: Global) -> Arg<'a> {
-    let help = "Whose executions: those of TSO (tso), or of sequential consistency (sc)";
+    let help = "Which model of memory: TSO (tso), or sequential consistency (sc)";
     value_option(
         alloc,
         "model",
@@ -258,7 +258,7 @@ fn model_option<'a>(alloc: Global) -> Arg<'a> {
 
 fn show_option<'a>(alloc: Global) -> Arg<'a> {
     let help =
-        "Values shown: what the condition names, also registers that are written, also all locations";
+        "Which values to show: what the condition names; also written registers; also all locations";
     value_option(
         alloc,
         "show",
@@ -272,7 +272,7 @@ fn show_option<'a>(alloc: Global) -> Arg<'a> {
 fn assert_option<'a>(alloc: Global) -> Arg<'a> {
     Arg::new(alloc, "assert")
         .long("assert")
-        .help("End with status 4 where the verdict is No")
+        .help("End with status 4 if the verdict is No")
         .action(ArgAction::SetTrue)
 }
 
