@@ -49,7 +49,7 @@ async function copyLink() {
     await navigator.clipboard.writeText(address);
     byId('copied').textContent = 'Copied.';
   } catch {
-    byId('copied').textContent = 'The browser lets no page copy here: copy the address above the page.';
+    byId('copied').textContent = 'This browser doesn\'t let the page copy: copy the address from the address bar.';
   }
 }
 
@@ -59,7 +59,7 @@ function drawShare() {
   byId('share').href = '#' + address;
   byId('too-long').hidden = isShort;
   byId('copy-link').disabled = !isShort;
-  const sentence = `What is shown is too long for an address (${address.length} characters, of at most ${LONGEST_ADDRESS}), so a reload doesn't keep it.`;
+  const sentence = `The address of what is shown would have ${address.length} characters, and at most ${LONGEST_ADDRESS} are possible. So a reload doesn't keep what is shown.`;
   byId('too-long').firstElementChild.textContent = isShort ? '' : sentence;
 }
 

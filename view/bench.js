@@ -75,7 +75,7 @@ function asked(options, input) {
   }
 }
 
-const trapSentence = fault => `The module stopped in the middle (${fault.message}). Its instance is thrown away; the next answer comes of a new one.`;
+const trapSentence = fault => `The module stopped before it gave an answer (${fault.message}). The page discards this instance; a new one gives the next answer.`;
 
 /** Of a long command that isn't begun: what is wrong with its test, or nothing. */
 function showRefusalAlone() {
@@ -132,7 +132,7 @@ function showOpenAnswer(answer) {
 
 const PLAIN_WORDS = {
   [Tso.STATUS.nothingAsked]: 'These settings are outside their limits.',
-  [Tso.STATUS.noMemory]: 'There is no memory for this: the browser refused it.',
+  [Tso.STATUS.noMemory]: 'The browser refused the memory that this needs.',
 };
 
 function showSaid({ status, hint }, said) {
@@ -254,5 +254,5 @@ async function makeBench() {
   bench.tso = tso;
   if (!tellsWhy(tso)) for (const part of document.querySelectorAll('[data-for=why]')) part.remove();
   const { version, tools, sources } = MODULE;
-  byId('version').textContent = `The machine is of version ${version}: made by ${tools}, of sources with the digest ${sources.slice(0, 16)}.`;
+  byId('version').textContent = `The machine has version ${version}. It was made by ${tools}, from sources with the digest ${sources.slice(0, 16)}.`;
 }

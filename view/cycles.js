@@ -78,7 +78,7 @@ function drawEvent({ event, ...box }) {
 function drawEdges(programs, edges, name) {
   const layout = layOutEvents(programs, edges);
   const used = Object.keys(RELATIONS).filter(relation => edges.some(edge => edge.relation === relation));
-  const picture = svg('svg', { class: 'picture', viewBox: `0 0 ${layout.width} ${layout.height}`, role: 'img', 'aria-label': `${name}. What stands beside it says the same.` },
+  const picture = svg('svg', { class: 'picture', viewBox: `0 0 ${layout.width} ${layout.height}`, role: 'img', 'aria-label': `${name}. The text beside it says the same.` },
     svg('defs', {}, ...used.map(drawPoint)), ...edges.map((edge, at) => drawWay(layout, edge, at)), ...programs.map((program, core) => drawLane(layout, program, core)), ...[...layout.boxes.values()].map(drawEvent), ...edges.map((edge, at) => drawLetters(layout, edge, at)));
   picture.style.width = `max(100%, ${EVENTS.smaller * layout.width}px)`;
   const figure = html('figure', { tabindex: 0, 'aria-label': name }, picture);
@@ -98,7 +98,7 @@ class CyclePanel {
     this.cycle = cycle;
     this.picture = drawEdges(programs, cycle, `A cycle of ${cycle.length} edges`);
     this.sentences = html('ol', { class: 'edges', 'aria-label': 'The edges of the cycle' }, ...cycle.map(edge => html('li', {}, html('span', { class: `relation edge-${edge.relation}` }, edge.relation), ` ${edgeSentence(edge)}`)));
-    this.end = html('p', {}, `So ${cycle[0].from} would be before itself. No order has that.`);
+    this.end = html('p', {}, `So ${cycle[0].from} would be before itself. No order allows that.`);
     this.count = html('span', {});
     this.said = html('p', { class: 'unshown', role: 'status' });
     this.buttons = ['First', 'Back', 'Next', 'All'].map(name => html('button', { type: 'button', 'data-edges': name.toLowerCase() }, name));

@@ -112,7 +112,7 @@ function stopBefore() {
 const sayOfDriving = sentence => byId('sentence').textContent = sentence;
 
 function refuseMore() {
-  sayOfDriving(`The machine is shown for at most ${MOST_STEPS} choices, which are made. More go into the field of choices: their run is shown without steps.`);
+  sayOfDriving(`The machine has made ${MOST_STEPS} choices, and the page shows no more steps than that. Write further choices into the field of choices: the page shows their run without steps.`);
   return false;
 }
 
@@ -182,7 +182,7 @@ function drawSeed() {
   if (!history) return sayOfDriving('The machine takes no choices of this seed.');
   beginDrive(history, { test: drive.test, given: null }, drive.count);
   putWords();
-  sayOfDriving(`Drawn of seed ${seed}. Forward makes its choices one by one, and Play goes through them.`);
+  sayOfDriving(`The choices of seed ${seed} are drawn. Forward makes one of them, and Play makes one after the other.`);
 }
 
 // Playing.

@@ -112,7 +112,7 @@ function showPasses(history) {
 }
 
 const conditionSentence = ({ proposition }) => (proposition === null ? 'Condition: the test has none.' :
-  `Condition: ${proposition}. Whether it is true is told when the test has ended.`);
+  `Condition: ${proposition}. When the test has ended, the page tells whether it is true.`);
 
 const showOrder = () => byId('order').replaceChildren(...(shown.run ? [orderTable(shown.run)] : []));
 

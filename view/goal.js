@@ -36,7 +36,7 @@ function showTask(history, count, run) {
   if (!hasTask) return;
   const met = isMet(history, count, run?.condition), task = taskSentence(testName(), proposition);
   const passes = passesOf(history.order.slice(0, history.momentAfter(count).rows), '').filter(sentence => sentence !== '');
-  const after = { true: ` Done. ${passes.join(' ')}`, false: ' Not so this time: go back, or choose otherwise.', null: '' }[met];
+  const after = { true: ` Done. ${passes.join(' ')}`, false: ' Not met this time: go back, or make other choices.', null: '' }[met];
   byId('task').classList.toggle('met', met === true);
   const [said] = byId('task').children, key = `${met ? '✓' : '☐'} Task: ${task}`;
   if (said?.textContent !== key || byId('task').lastChild.textContent !== after) byId('task').replaceChildren(html('strong', {}, key), after);

@@ -4,11 +4,11 @@
 
 /** What an order has to be, by the letter of the axiom that it breaks. */
 const BROKEN = {
-  C1: 'each memory action of the programs has to stand in the order once',
+  C1: 'each memory action of the programs has to stand in the order exactly once',
   C2: 'a write has to have the value that its program gives it',
-  C3: 'entries of one core stand in program order, but that a plain load may stand before an earlier plain store',
+  C3: 'entries of one core have to stand in program order; only a plain load may stand before an earlier plain store',
   C4: 'the two parts of a locked instruction have to stand together',
-  C5: 'a read has to return the last write to its location that is before it in the order or in its own program, else the initial value',
+  C5: 'a read has to return the last of the writes to its location that are before it in the order or in its own program. Without such a write, it has to return the initial value',
 };
 
 const NAMED_ENTRY = /P\d+:\d+ (?:F|(?:R|W|LR|LW) \S+)/g;
@@ -23,13 +23,13 @@ function readCheck(text) {
 
 function checkSentence({ letter, fault, named: [first, second], due }) {
   const said = {
-    C1: () => ({ missing: `${first} stands nowhere in it`, extra: `no program has ${first}`, twice: `${first} stands there twice` })[fault],
+    C1: () => ({ missing: `${first} is missing`, extra: `no program has ${first}`, twice: `${first} stands in it twice` })[fault],
     C2: () => `${first} should write ${due}`,
     C3: () => `${first} stands too late, after ${second}`,
     C4: () => `${first} isn't followed at once by its store part`,
     C5: () => `${first} should return ${due}`,
   };
-  return `This order is none of TSO's: ${said[letter]()}. The axiom that it breaks (${letter}): ${BROKEN[letter]}.`;
+  return `TSO doesn't allow this order: ${said[letter]()}. The axiom that it breaks (${letter}): ${BROKEN[letter]}.`;
 }
 
 /** An order that was refused: a sentence, and the order as a list in which the entries that are named are marked. */
@@ -47,8 +47,8 @@ function protocolTable(text) {
   const rows = lines.map(([, state, onRead, supplies, memory, onWrite, supplies2, memory2, write, evict]) => html('tr', {},
     html('th', { scope: 'row' }, withMeaning({ class: `state state-${state}` }, state, state)),
     ...[seen(onRead, supplies, memory), seen(onWrite, supplies2, memory2), write === 'bus' ? 'asks for the bus (GetM)' : `becomes ${write}, without the bus`,
-      evict === 'dirty' ? 'is written back to memory' : 'leaves without it'].map(words => html('td', { class: 'prose' }, words))));
-  const fills = `A line that no other cache has comes in as ${alone}; one that another has, as ${shared}.`;
+      evict === 'dirty' ? 'is written back to memory' : 'leaves without a write-back'].map(words => html('td', { class: 'prose' }, words))));
+  const fills = `A line that no other cache has comes in as ${alone}. A line that another cache has comes in as ${shared}.`;
   const titles = ['A copy in', 'when another core reads (GetS)', 'when another core writes (GetM)', 'when its own core writes', 'when it has to leave'];
   return [html('p', {}, fills), tableOf(`The protocol ${protocol.toUpperCase()}`, titles, rows)];
 }

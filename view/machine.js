@@ -96,7 +96,7 @@ class CorePanel {
     this.step = button('step', 's');
     this.drain = button('drain', 'd');
     const stall = (way, name) => html('button', { type: 'button', class: 'stall', 'data-stall': `${this.core}${name}`, hidden: '',
-      'aria-label': `P${this.core}: ${way} all the same, which stalls`, title: 'Make this choice all the same: it stalls, and changes nothing.' }, 'stall');
+      'aria-label': `P${this.core}: ${way} anyway, which stalls`, title: 'Make this choice anyway: it stalls, and changes nothing.' }, 'stall');
     this.stalls = { step: stall('step', 's'), drain: stall('drain', 'd') };
     const isLong = this.program.length > MOST_LINES;
     const named = { 'aria-label': `Program of P${this.core}`, ...(isLong ? { tabindex: 0 } : {}) };
@@ -159,7 +159,7 @@ class CorePanel {
 // The bus and memory.
 
 function busItems(kind, bus, step, supply) {
-  const held = bus && `P${bus.core} holds the bus for ${bus.line}` + (bus.state?.length > 1 ? `, which it awaits (${bus.state})` : '');
+  const held = bus && `P${bus.core} holds the bus for ${bus.line}` + (bus.state?.length > 1 ? `, and waits for it (${bus.state})` : '');
   const idle = kind === 'split' ? 'free' : 'free: each access has it for its own step';
   const passed = [step?.transaction, step?.flush && `flush ${step.flush}`, step?.write_back && `write-back ${step.write_back}`].filter(Boolean);
   return [html('span', sourced({ class: held ? 'holder' : '' }, supply), held ?? idle), ...passed.map(text => withMeaning({ class: 'word changed' }, text.split(' ')[0], text))];
@@ -205,7 +205,7 @@ class MachinePanel {
     }));
     this.bus.show(history.options.bus, now.bus, last && { transaction: last.transaction, flush: last.flush, write_back: last.write_back }, suppliedBy('bus'));
     this.memory.show({ memory: now.memory, seen: now.seen }, { memory: before.memory, seen: before.seen }, suppliedBy('memory'));
-    putText(this.said, count > history.steps.length ? 'Its test had ended before: this choice is left over.' : last ? stepSentences(last, before).join(' ') : '');
+    putText(this.said, count > history.steps.length ? 'Its test had ended before this choice, which is left over.' : last ? stepSentences(last, before).join(' ') : '');
   }
 
   offerStall(word) {

@@ -8,13 +8,13 @@ const MEANINGS = {
   E: 'Exclusive: this is the only copy, and memory has the same words.',
   S: 'Shared: others may have copies too.',
   I: 'Invalid: there is no copy here.',
-  IS_D: 'There is no copy yet: GetS is on the bus, and the words are awaited.',
-  IM_D: 'There is no copy yet: GetM is on the bus, and the words are awaited.',
-  SM_D: 'There is a copy: GetM is on the bus, and the core awaits that it may write.',
+  IS_D: 'There is no copy yet: GetS is on the bus, and the core waits for the words.',
+  IM_D: 'There is no copy yet: GetM is on the bus, and the core waits for the words.',
+  SM_D: 'There is a copy: GetM is on the bus, and the core waits until it may write.',
   GetS: 'GetS asks on the bus for a line to read.',
-  GetM: 'GetM asks on the bus for a line to write: all other copies go.',
+  GetM: 'GetM asks on the bus for a line to write: all other copies become invalid.',
   flush: 'A flush: this core sent its copy to memory, since another core reads the line.',
-  'write-back': 'A write-back: the line had to leave the cache, and its words went to memory, which had older ones.',
+  'write-back': 'A write-back: the line had to leave the cache. Memory had older words, so the words went to memory.',
 };
 
 /** A word with its meaning at hover and focus; `shown` is what stands there, and `name` the word of the table. */

@@ -14,7 +14,7 @@ function observationSentence({ states, observation, verdict, depth }) {
   if (observation === null) return `${many} ${where}. The test has no condition.`;
   const { word, true: yes, false: no } = observation;
   const said = { Never: 'No run ends', Always: 'Every run ends', Sometimes: 'Some runs end' }[word];
-  return `${many} ${where}. ${word}: ${said} in a state of which the condition's proposition is true (${yes} of the states, and ${no} not).${verdictWords(verdict)}`;
+  return `${many} ${where}. ${word}: ${said} in a state that makes the condition's proposition true (true in ${yes} of the states, false in ${no}).${verdictWords(verdict)}`;
 }
 
 const valuesText = values => Object.entries(values).map(([name, word]) => `${name}=${word}`).join(' ');

@@ -16,14 +16,14 @@ function askedWords({ asked, model }, proposition) {
 /** What an answer comes to, in sentences. */
 function reasonSentence(told, proposition) {
   const asked = askedWords(told, proposition);
-  const ways = { never: () => `There is none: ${told.leaves === 1 ? 'the one case ends' : `each of the ${told.leaves} cases ends`} in a contradiction.`, allowed: () => 'There is one: this.' };
+  const ways = { never: () => `There is none: ${told.leaves === 1 ? 'the one case ends' : `each of the ${told.leaves} cases ends`} in a contradiction.`, allowed: () => 'There is one, and it is shown here.' };
   return `The test asks for ${asked}. ${ways[told.answer]()}${verdictWords(told.verdict)}`;
 }
 
 /** Herd's word on the whole condition, where there is one; empty where the test has none. */
 function verdictWords(verdict) {
   if (verdict === null || verdict === undefined) return '';
-  return ` Verdict ${verdict}: ${verdict === 'Ok' ? 'it is as the condition says.' : 'it is not as the condition says.'}`;
+  return ` Verdict ${verdict}: ${verdict === 'Ok' ? 'what the condition claims holds.' : 'what the condition claims doesn\'t hold.'}`;
 }
 
 const sourceText = source => (source === 'initial' ? 'the initial value' : `what ${source} writes`);
@@ -34,7 +34,7 @@ const STEP_SENTENCES = {
   case: step => (step.read ? `If ${step.read} reads ${eitherOf(step.from.map(sourceText))}` : `If ${step.first} reaches memory before ${step.second}`),
   so: step => (step.read ? `So ${step.read} reads ${eitherOf(step.from.map(sourceText))}.` : `So ${step.first} reaches memory before ${step.second}.`),
   cycle: ({ cycle }) => `It can't be: ${cycle[0].from} would be before itself.`,
-  uniproc: ({ cycle }) => `It can't be: of one location alone, ${cycle[0].from} would be before itself.`,
+  uniproc: ({ cycle }) => `It can't be: among the accesses to one location, ${cycle[0].from} would be before itself.`,
   between: ({ between, read }) => `It can't be: ${between} would come between the two parts of the locked instruction ${read.split(' ')[0]}.`,
   false: ({ places }) => `Then ${listed(Object.entries(places).map(([place, words]) => `${placeName(place)} ends as ${eitherOf(words.map(String))}`))}, which isn't what is asked for.`,
   endcases: () => 'No other case is left.',

@@ -5,7 +5,7 @@
 /** Of each relation what it is (`means`), and what an edge of it says of its two events (`says`). */
 const RELATIONS = {
   po: {
-    means: 'Program order: what a core does first is before what it does later. TSO keeps it, but where a load comes after a store.',
+    means: 'Program order: what a core does first is before what it does later. TSO keeps this order, except where a load comes after a store.',
     says: (from, to) => `${from} stands before ${to} in the program of its core.`,
   },
   rf: {

@@ -24,7 +24,7 @@ function wordItems(run, entry) {
     return html('li', { class: isChanged ? 'word changed' : 'word' }, `${location}=${word ?? '?'}`);
   });
   const isUntold = words.some(([, word]) => word === undefined);
-  return isUntold ? [...items, html('li', {}, '?: an initial value that no read returned, so that the line doesn\'t tell it')] : items;
+  return isUntold ? [...items, html('li', {}, '?: no read returned this initial value, so the line doesn\'t tell it')] : items;
 }
 
 /** Covers what comes after this step, and marks the entry that was the last. */

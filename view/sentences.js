@@ -39,7 +39,7 @@ function storeSentence(run, store) {
   const seen = `Memory saw ${coreOf(store)}'s store ${store.location}=${store.value}.`;
   const loads = run.order.slice(latest, store.index).filter(entry => entry.kind === 'R' && isBefore(store, entry));
   if (loads.length > 0) return `${seen} It had waited in the store buffer while its core went on with ${listed(loads.map(nameOf))}.`;
-  return latest > earliest ? `${seen} Whether it had waited in the store buffer the order doesn't tell.` : seen;
+  return latest > earliest ? `${seen} The order doesn't tell whether this store had waited in the store buffer.` : seen;
 }
 
 function sentenceOf(run, entry) {
@@ -65,12 +65,12 @@ function verdictSentence({ condition }, proposition = null) {
   const { kind, holds } = condition;
   const outcome = kind === 'exists' ? 'the outcome that is asked for' : 'the outcome that should not exist';
   const shows = `This run ${holds ? 'shows' : 'doesn\'t show'} ${outcome}.`;
-  const ends = `This run ${holds ? 'ended' : 'didn\'t end'} as all should.`;
-  const here = `What it says of a final state is ${holds} here.`;
-  return `Condition: ${kind}${proposition === null ? '' : ` (${proposition})`}. ${here} ${kind === 'forall' ? ends : shows} It tells nothing of other runs.`;
+  const ends = `This run ${holds ? 'ended' : 'didn\'t end'} as every run should.`;
+  const here = `Its proposition is ${holds} in this run's final state.`;
+  return `Condition: ${kind}${proposition === null ? '' : ` (${proposition})`}. ${here} ${kind === 'forall' ? ends : shows} This tells nothing about other runs.`;
 }
 
 function unfinishedSentence(numbers) {
-  return `This run isn't ended. Choices made: ${numbers.get('used')}, stalled of them: ${numbers.get('stalled')}. An instruction or a ` +
+  return `This run hasn't ended. Choices made: ${numbers.get('used')}, stalled of them: ${numbers.get('stalled')}. An instruction or a ` +
     'buffered store is left. The program prints no order of such a run, so there is nothing to draw: give it more choices.';
 }

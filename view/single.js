@@ -43,7 +43,7 @@ const savedAddress = () => document.querySelector('meta[name=shown]')?.content ?
 
 async function savePage() {
   if (!window.crypto?.subtle) {
-    byId('message').textContent = 'The browser makes digests for pages of https or of files alone, so this page can\'t be saved from here.';
+    byId('message').textContent = 'The browser makes digests only for pages from https or from files. So this page can\'t be saved from here.';
     return;
   }
   saveText(fileName(pictureName(), '.html'), await wholePage(addressNow()), 'text/html');

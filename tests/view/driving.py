@@ -71,7 +71,7 @@ def begins_row(bench, folder):
     for count in range(1, 7):
         bench.window.click("[data-move=forward]")
         faults += faults_at(bench, trace, count)
-    said = "Condition: exists (0:EAX=0 /\\ 1:EAX=0). What it says of a final state is true here."
+    said = "Condition: exists (0:EAX=0 /\\ 1:EAX=0). Its proposition is true in this run's final state."
     faults += [] if said in bench.text("#verdict") else ["the verdict: " + bench.text("#verdict")]
     faults += differs("at its end", bench.value("[byId('at-end').hidden, document.querySelector('[data-move=forward]').disabled, byId('play').disabled]"), [False, True, True])
     return faults + safety(bench)
@@ -208,7 +208,7 @@ def trap_row(bench):
         bench.window.press("ArrowRight")
     bench.value("window.own = bench.tso.answer; bench.tso.answer = () => { throw new WebAssembly.RuntimeError('unreachable'); }; true")
     bench.key_choice("0d")
-    faults = [] if "stopped in the middle" in bench.text("#hint") else ["it says " + bench.text("#hint")]
+    faults = [] if "stopped before it gave an answer" in bench.text("#hint") else ["it says " + bench.text("#hint")]
     bench.value("bench.tso.answer = own; true")
     faults += differs("what is left", bench.value("drive.words"), ["0s", "1s"]) + faults_at(bench, bench.trace(), 2)
     bench.key_choice("0d")

@@ -41,7 +41,7 @@ def task_row(bench):
     bench.window.click("[data-move=first]")
     for choice in "0s 0d 0s 1s 1s".split():
         bench.window.click("[data-choice='%s']" % choice)
-    faults += [] if "Not so this time" in bench.text("#task") else ["it says " + bench.text("#task")]
+    faults += [] if "Not met this time" in bench.text("#task") else ["it says " + bench.text("#task")]
     bench.load(SHARED.replace("exists", "~exists"), "", {})
     faults += differs("a task where nothing is to be reached", bench.value("byId('task').hidden"), True)
     return faults + safety(bench)
@@ -154,7 +154,7 @@ def judged_row(bench, folder):
     bench.open()
     faults = []
     for order, marked, said in (("P0:1 R y=0\nP1:0 W y=1\nP0:0 W x=1\nP1:1 R x=0", ["P1:1 R x=0"], "P1:1 R x=0 should return 1"),
-                                ("P0:1 R y=0\nP1:0 W y=1\nP0:0 W x=1", [], "P1:1 R x stands nowhere"),
+                                ("P0:1 R y=0\nP1:0 W y=1\nP0:0 W x=1", [], "P1:1 R x is missing"),
                                 ("P0:1 R y=0\nP1:0 W y=2\nP0:0 W x=1\nP1:1 R x=1", ["P1:0 W y=2"], "P1:0 W y=2 should write 1")):
         bench.value("putCommand('check')")
         bench.fill("given", "Order\n%s\nEndorder %d\n" % (order, order.count("\n") + 1))

@@ -60,7 +60,7 @@ def unfinished_row(page, folder):
     page.open(line)
     page.window.screenshot(os.path.join(folder, "unfinished.png"), whole=False)
     faults = differs("unfinished", json.loads(line), {"unfinished": {"stalled": 1, "used": 4}}) + differs("drawn", page.is_drawn(), False)
-    if not page.message().startswith("This run isn't ended. Choices made: 4, stalled of them: 1."):
+    if not page.message().startswith("This run hasn't ended. Choices made: 4, stalled of them: 1."):
         faults.append(page.message())
     return faults + faults_of_safety(page)
 

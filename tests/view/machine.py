@@ -343,7 +343,7 @@ def trap_row(bench):
     bench.value("window.own = bench.tso.tso ?? bench.tso; window.before = own.exports;"
                 "own.writeAsked = () => { throw new WebAssembly.RuntimeError('unreachable'); }; true")
     bench.fill("choices", "0s")
-    faults = [] if "stopped in the middle" in bench.text("#hint") else ["it says " + bench.text("#hint")]
+    faults = [] if "stopped before it gave an answer" in bench.text("#hint") else ["it says " + bench.text("#hint")]
     faults += differs("the same instance", bench.value("own.exports === before"), False) + differs("drawn", bench.page.is_drawn(), False)
     bench.value("delete own.writeAsked; true")
     bench.fill("choices", "0s 1s 0s 1s 0d 1d")
