@@ -8,9 +8,9 @@
 
 mod arrivals;
 pub mod breach;
-pub mod breaches;
 mod check;
 mod entries;
+pub mod first_breaches;
 mod index;
 mod passing;
 mod programs;

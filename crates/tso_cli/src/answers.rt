@@ -13,7 +13,7 @@ ghost use Rattle.command_line.specs.Search.{Search};
 ghost use Rattle.commands.specs.declared.answer.Status.{Status};
 ghost use Rattle.command_line.specs.declared.settings.Settings.{Settings};
 
-use axiom_checker::breaches::{first_breach_is_one, first_breach_is_real};
+use axiom_checker::first_breaches::{first_breach_is_one, first_breach_is_real};
 use litmus_reader::test_texts::test_is_spelled_once;
 use order_builder::order_texts::{order_can_be_printed, order_is_spelled_once};
 use outcome_laws::{choices_to_an_end_are_counted, ends_are_what_tso_allows};

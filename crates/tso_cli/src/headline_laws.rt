@@ -14,7 +14,7 @@ ghost use Rattle.tso_cli.specs.OneText.{AreOneRun, AreOneTrace, AreOneWitness};
 ghost use Rattle.command_line.specs.declared.settings.Settings.{Settings};
 
 use crate::answers::texts_are_read_one_way;
-use axiom_checker::breaches::each_order_is_judged;
+use axiom_checker::first_breaches::each_order_is_judged;
 use litmus_reader::test_texts::texts_are_decided;
 use order_builder::order_texts::order_is_spelled_once;
 use outcome_report::alike_outcomes::outcomes_of_the_same_values_are_alike;

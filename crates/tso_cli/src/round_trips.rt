@@ -32,7 +32,7 @@ ghost use Rattle.commands.specs.declared.answer.Status.TheVariants.{Good};
 ghost use Rattle.command_line.specs.declared.settings.Settings.{Settings};
 
 use crate::answers::texts_are_read_one_way;
-use axiom_checker::breaches::first_breach_is_real;
+use axiom_checker::first_breaches::first_breach_is_real;
 use outcome_laws::{choices_to_an_end_are_counted, ends_are_what_tso_allows};
 use refutation_laws::{
     no_run_makes_a_refuted_claim_true, refuted_claims_are_false, refuted_questions_are_answered,

@@ -1,6 +1,6 @@
 use Rattle.axiom_checker.proofs.Whole.{whole-from, whole-clean}
 use Rattle.axiom_checker.proofs.Keeps.{keeps-order, none-late, keeps-pairs, none-separated, has-values, none-wrong}
-use Rattle.axiom_checker.proofs.breaches.axioms_fail_by_breaches.Goals as goal
+use Rattle.axiom_checker.proofs.first_breaches.axioms_fail_by_breaches.Goals as goal
 
 pub returns-clause-whole : goal.returns-clause-whole
 returns-clause-whole c t order = (
