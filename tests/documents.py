@@ -16,7 +16,7 @@ Then come the sentences of README.md and the pages of docs/, none of more than 4
 counted), the links of all documents and the files that they name, the names of refusals among the messages, the letters of breaches (each
 beside its axiom's name), the page of what is proved (short cells; each definition with its file where it first has its name), the names
 of definitions, the lists of files that a further protocol or command touches (docs/HACKING.md), and the tables of docs/REFERENCE.md
-(commands, options, limits, statuses) and of docs/INPUT.md (limits), against the program, its help, the manual page and the limits as plain
+(commands, options, statuses) and of docs/INPUT.md (limits), against the program, its help, the manual page and the limits as plain
 numbers (tests/document_tables.py). The last line is 'N passed, M failed'.
 """
 import difflib

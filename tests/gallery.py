@@ -60,12 +60,10 @@ FAMILIES = {
 
 HEAD = """# Gallery
 
-Litmus tests of the literature and of the processor manuals, and what becomes of each under total store order (TSO) and
-under sequential consistency (SC). Made by `tests/gallery.py --write PROGRAM` from the files of `gallery/`: don't change it by
-hand.
+Litmus tests of the literature and of the processor manuals, and what becomes of each under total store order (TSO) and under sequential
+consistency (SC). `tests/gallery.py --write PROGRAM` makes this page of the files of `gallery/`: don't change it by hand.
 
-Each question is of one outcome, which is the test's condition: allowed is a yes, forbidden a no. A fence is MFENCE, a
-locked exchange XCHG, a locked addition LOCK XADD.
+Each question is of one outcome, which is the test's condition. A fence is MFENCE, a locked exchange XCHG, a locked addition LOCK XADD.
 
 **Allowed** means that some run ends in the outcome. `NAME.litmus` has choices that show it, with buffers of the smallest
 depth that the outcome needs. (An outcome that SC allows needs no buffer: its depth is given as 1.)
@@ -73,12 +71,10 @@ depth that the outcome needs. (An outcome that SC allows needs no buffer: its de
     ./tso run --depth 1 < examples/gallery/SB.litmus
 
 Its **picture** is this run, drawn by `view/index.html`: which stores waited, what passed them, and where each value came from.
-After the `#` of its address stands what `./tso run --depth 1 --json` prints. The page draws the runs of all other tests and
-choices as well.
+After the `#` of its address stands what `./tso run --depth 1 --json` prints.
 
 **Forbidden** means that no run ends in it: `./tso outcomes` prints `Never` of it, which is a proof. `NAME.order` is an order that would
-show it, and `check` names the first axiom that this order breaks: C3, program order, where two entries of a core stand against it; C4,
-adjacent, where a locked instruction is in two parts; C5, read value, where a load has another value than is due.
+show it, and `check` names [the first axiom that this order breaks](../docs/MESSAGES.md#breaches). That refuses this order alone.
 
     ./tso check < examples/gallery/MP.order
 
@@ -86,44 +82,39 @@ Its **cycle** says why. `./tso why` prints it, and [the last table](#the-cycles-
 
     ./tso why < examples/gallery/MP.litmus
 
-**Seen** is how many of the seeds 0 to 999 meet the outcome, at the default depth:
+**Seen** is how many of the seeds 0 to 999 meet the outcome, at the default depth. Allowed, and met by none of them: UNSEEN
+([never seen isn't forbidden](../docs/TUTORIAL.md#never-seen-isnt-forbidden)).
 
     ./tso sweep --seeds 1000 < examples/gallery/SB.litmus
 
-That no seed meets an outcome doesn't show that it is forbidden. Allowed, and met by none of these seeds: UNSEEN.
-
-Nor does one refused order: it shows that this order isn't an execution. The **verdicts** are those of
+The **verdicts** are those of `outcomes`, for SC with `--depth 0`: `Verdict Ok` where the outcome is allowed, else `Verdict No`.
 
     ./tso outcomes < examples/gallery/MP.litmus
 
-which prints all final states that TSO allows, and with `--depth 0` all that sequential consistency allows. Its last line is `Verdict Ok`
-where the outcome is allowed, and `Verdict No` where it is forbidden. `tests/gallery.py PROGRAM` holds every row against it, against the
-program's runs, and against a plain program that explores all runs of a machine of its own.
+`tests/gallery.py PROGRAM` holds each row against `outcomes` and `why`, the program's runs, and a plain search of all runs.
 """
 
 CYCLES = """## The cycles of those that are forbidden
 
-The table has, of each test, one line with which `./tso why` closes a case: a cycle of the published model, `x86tso.cat`, or a write between
-the parts of a locked instruction. Lines `False` are left out. If there are several lines, it has one of the global relation if it can. The
-last column says how many there are. [How to read them](../docs/DEFINITIONS.md#what-is-printed-of-reasons).
+Each row has one line with which `./tso why` closes a case ([how to read it](../docs/DEFINITIONS.md#what-is-printed-of-reasons)). It is a
+cycle of the published model, `x86tso.cat`, or a write between the parts of a locked instruction. Lines `False` are left out. Of several
+lines it is one of the global relation if it can. The last column says how many there are.
 """
 
 SOURCES = """## Sources
 
-- x86-TSO: Sewell, Sarkar, Owens, Zappa Nardelli, Myreen: x86-TSO: A Rigorous and Usable Programmer's Model for x86
-  Multiprocessors. Communications of the ACM 53(7), 2010.
+- x86-TSO, Primer: the sources of [the definitions](../docs/DEFINITIONS.md). Herding cats: a source of
+  [the models](../docs/MODELS.md).
 - x86-TSO report: Owens, Sarkar, Sewell: A Better x86 Memory Model: x86-TSO (extended version). University of Cambridge,
   technical report 745, 2009. Its names iwp2.1 to iwp2.8 stand for the sections of Intel's white paper on memory ordering
   of 2007.
-- Intel: Intel 64 and IA-32 Architectures Software Developer's Manual, volume 3A, memory ordering, examples 8-1 to 8-10 (later
-  editions count the chapter as the ninth).
+- Intel: Intel 64 and IA-32 Architectures Software Developer's Manual, volume 3A, memory ordering, examples 8-1 to 8-10. Later
+  editions count the chapter as the ninth.
 - AMD: AMD64 Architecture Programmer's Manual, volume 2, multiprocessor memory access ordering. The examples have no numbers
   there; amd1 to amd10 are the x86-TSO report's names.
-- Primer: Sorin, Hill, Wood: A Primer on Memory Consistency and Cache Coherence, 2011.
 - Power tutorial: Maranget, Sarkar, Sewell: A Tutorial Introduction to the ARM and POWER Relaxed Memory Models, 2012.
-- Herding cats: Alglave, Maranget, Tautschnig: Herding Cats. ACM Transactions on Programming Languages and Systems 36(2), 2014.
 - diy: the names that the tool diy of Alglave and Maranget gives. `+po`, `+mfence` say what stands between the two
-  instructions of each core in turn, `+mfences` that a fence does on each; `rfi` that a core reads its own store.
+  instructions of each core in turn, and `+mfences` that a fence does on each. `rfi` says that a core reads its own store.
 - Lamport 1974: A New Solution of Dijkstra's Concurrent Programming Problem. Lamport 1987: A Fast Mutual Exclusion Algorithm.
 - Dijkstra 1965: Cooperating Sequential Processes, where Dekker's algorithm stands. Peterson 1981: Myths about the Mutual
   Exclusion Problem. Szymanski 1988: A Simple Solution to Lamport's Concurrent Programming Problem with Linear Wait.
@@ -132,9 +123,9 @@ SOURCES = """## Sources
 - Morrison and Afek 2014: Fence-Free Work Stealing on Bounded TSO Processors.
 - A variant is this gallery's own: the named test with something put in or exchanged.
 
-A name that stands in brackets after its source is the source's. Some names are less sure: those from diy were made by the rule
-above and not looked up in a list of diy's, and algorithms have no names as litmus tests, so that `Dekker`, `Szymanski`, `ChaseLev`,
-`Peterson`, `Bakery` and `FastMutex` are names of this gallery.
+A name that stands in brackets after its source is the source's. Those from diy are less sure: they were made by the rule above, and not
+looked up in a list of diy's. Algorithms have no names as litmus tests: `Dekker`, `Szymanski`, `ChaseLev`, `Peterson`, `Bakery` and
+`FastMutex` are names of this gallery.
 """
 
 # What the page lists by the names of the manuals and of the x86-TSO papers.
@@ -205,9 +196,10 @@ def names_of(all_pieces):
 
 
 def picture_of(program, piece):
-    """The address of the picture of an allowed test's run: after the `#` the line of the run, percent-encoded."""
+    """The address of the picture of an allowed test's run: after the `#` the line of the run. What a browser encodes by itself stands as it
+    is, since the addresses are read more easily so."""
     _, line = run_of(program, piece, "--json")
-    return "[picture of %s]: ../view/index.html#%s\n" % (piece.name, urllib.parse.quote(line.strip(), safe=":,="))
+    return "[picture of %s]: ../view/index.html#%s\n" % (piece.name, urllib.parse.quote(line.strip(), safe=':,="{}[]'))
 
 
 def cycles_of(program, piece):
@@ -220,14 +212,15 @@ def cycles_of(program, piece):
 def row_of_cycles(program, piece):
     found = cycles_of(program, piece)
     shown = "`%s`" % found[0] if found else "none: false by its values"
-    return piece.link, shown, str(len(found))
+    return piece.name, shown, str(len(found))
 
 
 def page_of(program, all_pieces):
     allowed = [piece for piece in all_pieces if piece.allowed]
     unseen = ", ".join(piece.link for piece in allowed if piece.seen == 0)
     counts = len(all_pieces), len(allowed), len(all_pieces) - len(allowed)
-    parts = [HEAD.replace("UNSEEN", unseen), "%d tests: TSO allows the outcome of %d and forbids that of %d.\n" % counts]
+    contents = ", ".join("[%s](#%s)" % (family, family.lower().replace(" ", "-")) for family in FAMILIES)
+    parts = [HEAD.replace("UNSEEN", unseen), "%d tests: TSO allows the outcome of %d and forbids that of %d.\n" % counts, contents + ".\n"]
     for family, about in FAMILIES.items():
         rows = [row_of(piece) for piece in all_pieces if piece.facts["Family"] == family]
         parts += ["## " + family + "\n", about + "\n", table(TITLES, rows)]
