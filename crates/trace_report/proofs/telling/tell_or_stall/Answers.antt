@@ -42,7 +42,7 @@ left_behind-requires g c =
     c.in_ok-outcome.ensures.after (subst IsLineSize c.words.ensures.value c.words.ensures.within)
 
 -- what was looked at again
-leaves : (g : _) (c : goal.After-access_in g) → Leaves c.args.machine.now c.args.choice c.in_ok-left.left
+leaves : (g : _) (c : goal.After-access_kind_in g) → Leaves c.args.machine.now c.args.choice c.in_ok-left.left
 leaves g c =
     let m = c.args.machine.now in
     let there : chosen c.args.choice < length m.state.flat.cores = subst (λ n. chosen c.args.choice < n) (sym c.requires.told.machine.cores) c.requires.core in
