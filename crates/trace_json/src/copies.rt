@@ -83,7 +83,7 @@ fn copies_value<P: Protocol>(
 }
 
 /// The copies of a core's set, the most recently used first.
-fn copies_in<P: Protocol>(
+fn cached_lines_in<P: Protocol>(
     alloc: Global,
     machine: &Machine<P>,
     core: Core,
