@@ -1,5 +1,5 @@
 -- A whole text is read as it is spelled.
-use Rattle.litmus_reader.proofs.Vocabulary.{◌≡◌, ℕ, suc, ◌≤◌, ◌+◌, true, false, ltb, List, [], ◌∷◌, ◌++◌, length, map, drop, Option, Result, Ok, Err, IfOk, refl, sym, ap, subst, ◌∙◌, inl, inr, append_assoc, arith, IsTrue, ltb-false, le-ltb, length-map-range_with_len, range_with_len, Litmus, Instr, Stop, Term, Piece, pieces_of, longest_text, sized, header_at, braces_at, Initial, words_of, registers_of, initial_at, columns_at, Rows, Table, table, table_at, rows_at, programs_from, test_of, tail_at, body_of, reading_of, terms, Passes, numbered, with_name, IsHeaderLine, AreInformationLines, IsInitialState, Fits, has_cores, names_in, first_words, first_registers, IsHeaderRow, AreRows, condition, says_exists, says_forall, says_not_exists, MayAsk, nothing, a_condition, IsEnding, at_once, after_locations, names_asked, condition_of, IsAskedWithin, IsBody, first_names, test_written, KeepsLimits, SpellsTest, Shape, Setting, WrittenCondition, Written}
+use Rattle.litmus_reader.proofs.Vocabulary.{◌≡◌, ℕ, suc, ◌≤◌, ◌+◌, true, false, ltb, List, [], ◌∷◌, ◌++◌, length, map, drop, Option, Result, Ok, Err, IfOk, refl, sym, ap, subst, ◌∙◌, inl, inr, append_assoc, arith, IsTrue, ltb-false, le-ltb, length-map-range_with_len, range_with_len, Litmus, Instr, Stop, Term, Piece, pieces_of, longest_text, sized, header_at, braces_at, Initial, words_of, registers_of, initial_at, columns_at, Rows, Table, table, table_at, rows_at, programs_from, test_of, tail_at, body_of, reading_of, terms, Passes, numbered, with_name, IsHeaderLine, AreInformationLines, IsInitialState, Fits, has_cores, names_in, first_words, first_registers, IsHeaderRow, AreRows, condition, says_exists, says_forall, says_not_exists, MayAsk, nothing, a_condition, IsEnding, at_once, after_locations, names_asked, condition_of, IsAskedWithin, IsBody, first_names, test_written, KeepsLimits, FollowsGrammar, Shape, Setting, WrittenCondition, Written}
 use Rattle.std.proofs.Common.{length-append}
 use Rattle.litmus_reader.proofs.Placed.{placed_in, instrs_with, locations_of, EntriesWithin}
 use Rattle.litmus_reader.proofs.Columnwise.{named-same, programs-columns, entries_within, columns_within, program}
@@ -166,7 +166,7 @@ body_found braces w laws b limits =
 pub sized_found : (text : List ℕ) → length text ≤ longest_text → sized text ≡ Ok text
 sized_found text small = let fits : ltb longest_text (length text) ≡ false = le-ltb _ _ small in rw fits refl
 
-pub text_again : (text : List ℕ) (t : Litmus) → Parts → SpellsTest text t → reading_of text ≡ Ok t
+pub text_again : (text : List ℕ) (t : Litmus) → Parts → FollowsGrammar text t → reading_of text ≡ Ok t
 unfolding reading_of
 text_again text t laws s =
     let is = s.is in
@@ -257,7 +257,7 @@ sized_taken text bytes e =
       | inr miss ↦ (ltb-false _ _ miss.0, ok_is text bytes miss.1)
     ]
 
-pub text_takes : (text : List ℕ) (t : Litmus) → Parts → reading_of text ≡ Ok t → SpellsTest text t
+pub text_takes : (text : List ℕ) (t : Litmus) → Parts → reading_of text ≡ Ok t → FollowsGrammar text t
 unfolding reading_of
 text_takes text t laws e =
     let s = bind_ok (sized text) _ t e in
@@ -279,8 +279,3 @@ text_takes text t laws e =
       limits = k.limits;
       says = k.says;
     }
-
-pub spelled_where_read : {E : Type 0} (r : Result Litmus E) (text : List ℕ) → ((text : List ℕ) (t : Litmus) → reading_of text ≡ Ok t → SpellsTest text t)
-    → IfOk r (λ t. reading_of text ≡ Ok t) → IfOk r (λ t. SpellsTest text t)
-spelled_where_read (Ok t) text law is = law text t is
-spelled_where_read (Err e) text law is = tt

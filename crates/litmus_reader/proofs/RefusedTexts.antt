@@ -1,9 +1,9 @@
 -- Texts are refused as what is at fault in them says.
-use Rattle.litmus_reader.proofs.Vocabulary.{◌≡◌, ℕ, ◌≤◌, ◌<◌, true, ltb, List, [], ◌∷◌, length, None, Result, Ok, Err, refl, sym, ap, subst, ◌∙◌, inl, inr, arith, ltb-true, lt-ltb, most_cores, Litmus, OpenCurly, symbols, symbol_of, term_at, symbol, is_space, gap_end, Piece, piece_at, pieces_within, pieces_of, TooLarge, Fault, longest_text, ◌>>=◌, sized, header_at, braces_at, initial_at, registers_of, columns_at, Rows, Table, table, table_at, rows_at, test_of, tail_at, body_of, reading_of, AreInformationLines, IsHeaderLine, Fits, names_in, first_registers, numbered, IsInitialFault, IsCoreFault, HasColumns, first_names, located_in_rows, IsFault, fault, Written}
+use Rattle.litmus_reader.proofs.Vocabulary.{◌≡◌, ℕ, ◌≤◌, ◌<◌, true, ltb, List, [], ◌∷◌, length, None, Result, Ok, Err, refl, sym, ap, subst, ◌∙◌, inl, inr, arith, ltb-true, lt-ltb, most_cores, Litmus, OpenCurly, symbols, symbol_of, term_at, symbol, is_space, gap_end, Piece, piece_at, pieces_within, pieces_of, TooLarge, Fault, longest_text, ◌>>=◌, sized, header_at, braces_at, initial_at, registers_of, columns_at, Rows, Table, table, table_at, rows_at, test_of, tail_at, body_of, reading_of, AreInformationLines, IsHeaderLine, Fits, names_in, first_registers, numbered, IsInitialFault, IsCoreFault, HasColumns, first_names, located_in_rows, fault, Written}
 use Rattle.litmus_reader.specs.GrammarText.{none, more}
 use Rattle.litmus_reader.proofs.Placed.{placed_in, locations_of}
 use Rattle.litmus_reader.proofs.Columnwise.{named-same}
-use Rattle.litmus_reader.specs.Refusals.{IsBodyFault, in_initial, in_header_row, of_core, in_rows, in_ending, too_large, in_header, in_information, in_body}
+use Rattle.litmus_reader.specs.Refusals.{IsBodyFault, in_initial, in_header_row, of_core, in_rows, in_ending, IsFaultByCase, too_large, in_header, in_information, in_body}
 use Rattle.litmus_reader.proofs.GrammarTokens.{chosen, ok_is, bind_ok}
 use Rattle.litmus_reader.proofs.GrammarHeader.{header_again, header_takes}
 use Rattle.litmus_reader.proofs.GrammarInformation.{lines_again, lines_take}
@@ -129,7 +129,7 @@ body_refused called braces f o e =
 sized_large : (text : List ℕ) → longest_text < length text → sized text ≡ Err (fault TooLarge (length text))
 sized_large text past = let big : ltb longest_text (length text) ≡ true = lt-ltb _ _ past in rw big refl
 
-pub text_refuses : (text : List ℕ) (f : Fault) → IsFault text f → reading_of text ≡ Err f
+pub text_refuses : (text : List ℕ) (f : Fault) → IsFaultByCase text f → reading_of text ≡ Err f
 unfolding reading_of
 text_refuses text _ (too_large past) = rw (sized_large text past) refl
 text_refuses text _ (in_header f small bad) = rw (sized_found text small, header_refuses text f bad) refl
@@ -151,11 +151,11 @@ sized_refused text f e =
       | inr miss ↦ let never = miss.1 in absurd cc
     ]
 
-pub text_refused : (text : List ℕ) (f : Fault) → reading_of text ≡ Err f → IsFault text f
+pub text_refused : (text : List ℕ) (f : Fault) → reading_of text ≡ Err f → IsFaultByCase text f
 unfolding reading_of
 text_refused text f e =
     elim (bind_err (sized text) _ f e) [
-      | inl bad ↦ let s = sized_refused text f bad in subst (IsFault text) s.1 (too_large s.0)
+      | inl bad ↦ let s = sized_refused text f bad in subst (IsFaultByCase text) s.1 (too_large s.0)
       | inr s ↦
           let small = sized_taken text s.0 s.1 in
           let whole = after_size text s.0 f small.1 s.2 in
@@ -172,5 +172,5 @@ text_refused text f e =
           ]
     ]
   where
-    in_lines : (called after_it : List ℕ) → length text ≤ longest_text → IsHeaderLine text called after_it → IsInformationFault after_it f → IsFault text f
+    in_lines : (called after_it : List ℕ) → length text ≤ longest_text → IsHeaderLine text called after_it → IsInformationFault after_it f → IsFaultByCase text f
     in_lines called after_it small header (after_lines rest _ passes bad) = in_information called after_it rest f small header passes bad

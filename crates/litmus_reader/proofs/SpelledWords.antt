@@ -1,5 +1,5 @@
 -- The values of what a text spells are words: a word has room for each number that is written, and all else begins as 0.
-use Rattle.litmus_reader.proofs.Vocabulary.{ℕ, ◌^◌, zero, suc, Bool, true, false, cond, ltb, ◌==◌, ◌&&◌, IsTrue, List, [], ◌∷◌, ◌++◌, Option, Some, None, All, refl, subst, sym, arith, list_all, range_with_len, bytes_eq, and_parts, ltb-true, All-nil, All-cons, All-head, All-tail, All-append, All-map, All-weaker, Litmus, HasWords, ConstantIsWord, IsWord, AreRegisters, index_of, Reg, Eax, Ebx, Ecx, Edx, Esi, Edi, Instr, decimal_value, Shape, store_imm, store_reg, load, set_imm, set_reg, fence, xchg, xadd, Written, Setting, of_register, of_location, given_value, first_registers_of, in_field, in_rows, column, instr_with, ValueFits, test_written, KeepsLimits, SpellsTest}
+use Rattle.litmus_reader.proofs.Vocabulary.{ℕ, ◌^◌, zero, suc, Bool, true, false, cond, ltb, ◌==◌, ◌&&◌, IsTrue, List, [], ◌∷◌, ◌++◌, Option, Some, None, All, refl, subst, sym, arith, list_all, range_with_len, bytes_eq, and_parts, ltb-true, All-nil, All-cons, All-head, All-tail, All-append, All-map, All-weaker, Litmus, HasWords, ConstantIsWord, IsWord, AreRegisters, index_of, Reg, Eax, Ebx, Ecx, Edx, Esi, Edi, Instr, decimal_value, Shape, store_imm, store_reg, load, set_imm, set_reg, fence, xchg, xadd, Written, Setting, of_register, of_location, given_value, first_registers_of, in_field, in_rows, column, instr_with, ValueFits, test_written, KeepsLimits, FollowsGrammar}
 use Rattle.litmus_reader.proofs.GrammarInitialSaid.{first_word, first_register}
 use Rattle.litmus_reader.specs.GrammarTest.{located}
 use Rattle.litmus_reader.proofs.Columnwise.{in_row, program, field_of, field-there}
@@ -77,5 +77,5 @@ written-words w limits =
           (All-weaker ValueFits (λ s. ConstantIsWord (instr_with (located w) s)) (instr-word (located w)) (column _ w.table) (column-each ValueFits _ w.table limits.rows.values)));
     }
 
-pub spelled_has_words : (text : List ℕ) (t : Litmus) → SpellsTest text t → HasWords t
+pub spelled_has_words : (text : List ℕ) (t : Litmus) → FollowsGrammar text t → HasWords t
 spelled_has_words text t spells = subst HasWords (sym spells.says) (written-words spells.written spells.limits)

@@ -105,12 +105,10 @@ pub use Rattle.tso_model.specs.declared.register.Reg.TheVariants.{Eax, Ebx, Ecx,
 pub use Rattle.litmus_tokens.specs.declared.token.Stop.TheVariants.{End}
 pub use Rattle.litmus_reader.specs.GrammarEnding.{MayAsk, nothing, a_condition, IsEnding, at_once, after_locations, names_asked, condition_of, IsAskedWithin}
 pub use Rattle.litmus_reader.specs.Limits.{longest_text}
-pub use Rattle.litmus_reader.specs.GrammarTest.{IsBody, first_names, test_written, KeepsLimits, HasColumns, located_in_rows}
-pub use Rattle.litmus_reader.specs.Spelling.{SpellsTest, IsRefused, IsDecided}
+pub use Rattle.litmus_reader.specs.GrammarTest.{IsBody, first_names, test_written, KeepsLimits, FollowsGrammar, HasColumns, located_in_rows}
 pub use Rattle.litmus_reader.specs.RefusedConditions.{begins_unit, joins, IsConditionFault, no_exists}
 pub use Rattle.litmus_reader.specs.RefusedInitial.{IsEndedItem, ended, AreEnded, IsSettingFault, bad_number, one_too_many, twice, IsItemFault, unfit_token, IsInitialFault, in_item, IsCoreFault, no_such_core}
 pub use Rattle.litmus_reader.specs.RefusedBytes.{IsBracketsFault}
 pub use Rattle.litmus_reader.specs.RefusedEnding.{IsLastFault, no_bracket, IsEndingFault, after_brackets, begins_asking, goes_on}
-pub use Rattle.litmus_reader.specs.Refusals.{IsFault}
 pub use Rattle.litmus_reader.specs.inner.Sections.{tokens_in, stop_of, is_one_of, Through, IsSection, opened, LastOr, item_ends, row_ends}
 pub use Rattle.std.proofs.lemmas.Result.{err_from_is_err_and}

@@ -1,6 +1,6 @@
 -- Which text spells which test: the whole grammar, part by part. What a text means is said here, apart from how it is read,
 -- so that a slip of the reader can't change the meaning.
-use Rattle.std.specs.Prelude.{◌≤◌, ℕ, List, [], length, IsTrue, map}
+use Rattle.std.specs.Prelude.{◌≡◌, ◌≤◌, ℕ, List, [], length, IsTrue, map}
 use Rattle.std.specs.List.{range_with_len}
 use Rattle.tso_model.specs.Litmus.{Litmus}
 use Rattle.litmus_tokens.specs.Pieces.{Piece, pieces_of}
@@ -70,3 +70,10 @@ pub record KeepsLimits (w : Written) : Type 0 where
   pub cores : IsTrue (has_cores w.cores w.settings)
   pub rows : AreWithin (first_names w) w.table
   pub condition : IsAskedWithin w.cores (located_in_rows w) w.asked
+
+-- the text follows the grammar, within the limits, and says this test
+pub record FollowsGrammar (text : List ℕ) (t : Litmus) : Type 0 where
+  pub written : Written
+  pub is : IsText text written
+  pub limits : KeepsLimits written
+  pub says : t ≡ test_written written

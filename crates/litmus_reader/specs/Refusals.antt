@@ -34,11 +34,12 @@ pub data IsBodyFault (braces : List ℕ) (stop : Stop) (ps : List Piece) (f : Fa
       → AreWithin (first_names w) w.table → IsTrue (ends_rows rest)
       → IsEndingFault braces stop w.cores (located_in_rows w) rest f → IsBodyFault braces stop ps f
 
-pub data IsFault (text : List ℕ) : Fault → Type 0 where
-  too_large : longest_text < length text → IsFault text (fault TooLarge (length text))
-  in_header : (f : Fault) → length text ≤ longest_text → IsHeaderFault text f → IsFault text f
+-- what is at fault, case by case: as a text is refused
+pub data IsFaultByCase (text : List ℕ) : Fault → Type 0 where
+  too_large : longest_text < length text → IsFaultByCase text (fault TooLarge (length text))
+  in_header : (f : Fault) → length text ≤ longest_text → IsHeaderFault text f → IsFaultByCase text f
   in_information : (x bs cs : List ℕ) (f : Fault) → length text ≤ longest_text
-      → IsHeaderLine text x bs → PassesInformation bs cs → IsLineFault cs f → IsFault text f
+      → IsHeaderLine text x bs → PassesInformation bs cs → IsLineFault cs f → IsFaultByCase text f
   in_body : (name after braces : List ℕ) (f : Fault) → length text ≤ longest_text
       → IsHeaderLine text name after → AreInformationLines after braces
-      → IsBodyFault braces (pieces_of braces).1 (pieces_of braces).0 f → IsFault text f
+      → IsBodyFault braces (pieces_of braces).1 (pieces_of braces).0 f → IsFaultByCase text f

@@ -1,21 +1,21 @@
--- Which text spells which test, and which refusal every other text gets: each text has one of the two, and never both.
-use Rattle.std.specs.Prelude.{◌≡◌, ◌⊎◌, ℕ, List}
+-- Which text spells which test, and which refusal every other text gets: both are what one reading gives, which goes through the
+-- parts of a text in their order. Each text has one of the two, and never both.
+use Rattle.std.specs.Prelude.{◌≡◌, ◌⊎◌, ℕ, List, Ok, Err}
 use Rattle.tso_model.specs.Litmus.{Litmus}
 use Rattle.litmus_tokens.specs.Line.{line_of}
 use Rattle.litmus_cells.specs.declared.fault.Fault.{Fault}
 use Rattle.litmus_reader.specs.declared.fault.TextFault.{TextFault}
-use Rattle.litmus_reader.specs.GrammarTest.{IsText, KeepsLimits, test_written}
-use Rattle.litmus_reader.specs.Refusals.{IsFault}
-use Rattle.litmus_reader.specs.Written.{Written}
+use Rattle.litmus_reader.specs.inner.Reading.{reading_of}
 
--- the text spells this test: by the grammar of texts, within the limits
-pub record SpellsTest (text : List ℕ) (t : Litmus) : Type 0 where
-  pub written : Written
-  pub is : IsText text written
-  pub limits : KeepsLimits written
-  pub says : t ≡ test_written written
+-- the text spells this test
+abbrev pub SpellsTest : List ℕ → Litmus → Type 0
+SpellsTest text t = reading_of text ≡ Ok t
 
--- the text is refused so: something is at fault where nothing before it is, and the line is that of its place
+-- this is at fault in the text, and nothing before it
+abbrev pub IsFault : List ℕ → Fault → Type 0
+IsFault text f = reading_of text ≡ Err f
+
+-- the text is refused so: for what is at fault in it, with the line of its place
 pub record IsRefused (text : List ℕ) (refusal : TextFault) : Type 0 where
   pub at_fault : Fault
   pub is : IsFault text at_fault

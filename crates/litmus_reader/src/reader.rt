@@ -8,7 +8,6 @@ ghost use Rattle.tso_model.specs.Limits.{most_cores};
 ghost use Rattle.tso_model.specs.Litmus.{Litmus, IsTest};
 ghost use Rattle.litmus_cells.specs.declared.fault.Fault.{Fault};
 ghost use Rattle.litmus_reader.specs.declared.fault.TextFault.{TextFault};
-ghost use Rattle.litmus_reader.specs.Refusals.{IsFault};
 ghost use Rattle.tso_model.specs.Condition.{condition_of};
 ghost use Rattle.tso_model.specs.LitmusParts.{litmus_of};
 ghost use Rattle.litmus_tokens.specs.inner.Pieces.{pieces};
@@ -19,7 +18,7 @@ ghost use Rattle.litmus_reader.specs.inner.Reading as spec;
 ghost use Rattle.litmus_reader.specs.Reading.{refusal};
 ghost use Rattle.litmus_reader.specs.inner.Sections.{tokens_in, stop_of};
 ghost use Rattle.litmus_reader.specs.inner.Returned.{GivesEnding, IsUnlessMemory, so_far, table_read};
-ghost use Rattle.litmus_reader.specs.Spelling.{SpellsTest, IsRefused};
+ghost use Rattle.litmus_reader.specs.Spelling.{SpellsTest, IsFault, IsRefused};
 
 use crate::assembling::parts_of;
 use crate::condition::condition_at;
@@ -29,7 +28,7 @@ use crate::information::braces_at;
 use crate::initial::{Initial, read_initial};
 use crate::observed::after_observed;
 use crate::row::{Table, read_table};
-use crate::test_texts::{texts_are_read_as_they_are_spelled, texts_are_refused_as_they_are_read};
+use crate::test_texts::spelled_tests_follow_the_grammar;
 use indexmap::IndexSet;
 use litmus_cells::{Fault, ReadError, Why};
 use litmus_tokens::{Stop, Token, line_of, tokens_of};
@@ -182,9 +181,7 @@ pub fn read_test(alloc: Global, text: &[u8]) -> Result<Test, TextFault>
     // Out of memory stands at no line.
     ensures no_memory { IfErr result (λ f. f.why ≡ Why.NoMemory → f.line ≡ 0) }
 {
-    texts_are_read_as_they_are_spelled();
-    texts_are_refused_as_they_are_read();
-    with_line(text, test_or_fault(alloc, text))
+    with_line(text, read_whole(alloc, text))
 }
 
 /// The test that a text spells, or the first thing in it that is at fault, with its place.
@@ -198,8 +195,6 @@ pub fn test_or_fault(alloc: Global, text: &[u8]) -> Result<Test, ReadError>
     ensures faults { (fault : Fault) → IsFault text.now fault
         → MatchResult result (λ _. ⊥) (λ e. e ≢ ReadError.NoMemory → e ≡ ReadError.Fault fault) }
 {
-    texts_are_read_as_they_are_spelled();
-    texts_are_refused_as_they_are_read();
     read_whole(alloc, text)
 }
 
@@ -207,7 +202,7 @@ pub fn test_or_fault(alloc: Global, text: &[u8]) -> Result<Test, ReadError>
 fn read_whole(alloc: Global, text: &[u8]) -> Result<Test, ReadError>
     ensures { Gives (λ test. test) result (spec.reading_of text.now) }
 {
-    texts_are_read_as_they_are_spelled();
+    spelled_tests_follow_the_grammar();
     let parts = read_parts(alloc, text)?;
     Ok(Test::new(parts).unwrap())
 }

@@ -4,8 +4,7 @@ ghost use Rattle.std.specs.Prelude.{◌≡◌, ◌≢◌, ◌<◌, List, Ok, Err
 ghost use Rattle.tso_model.specs.Litmus.{Litmus};
 ghost use Rattle.tso_model.specs.declared.choice.Choice.{Choice as ChoiceMade};
 ghost use Rattle.tso_model.specs.declared.execution.Entry.{Entry};
-ghost use Rattle.litmus_reader.specs.Refusals.{IsFault};
-ghost use Rattle.litmus_reader.specs.Spelling.{SpellsTest, IsRefused};
+ghost use Rattle.litmus_reader.specs.Spelling.{SpellsTest, IsFault, IsRefused};
 ghost use Rattle.litmus_cells.specs.declared.fault.Fault.{Fault as FaultFound};
 ghost use Rattle.litmus_reader.specs.declared.fault.TextFault.{TextFault as TextRefused};
 ghost use Rattle.order_builder.specs.Reading.{entries_of_order, Gives};

@@ -4,4 +4,4 @@ use Rattle.litmus_reader.proofs.reader.read_whole.Goals as goal
 
 pub unwrap-requires : goal.unwrap-requires
 unwrap-requires c =
-    c.new.ensures.valid.1 (spelled_is_test c.args.text.now _ c.in_ok-parts.ensures (spelled_has_words c.args.text.now _ (c.texts_are_read_as_they_are_spelled.ensures.takes c.args.text.now _ c.in_ok-parts.ensures)))
+    c.new.ensures.valid.1 (spelled_is_test c.args.text.now _ c.in_ok-parts.ensures (spelled_has_words c.args.text.now _ (c.spelled_tests_follow_the_grammar.ensures.follows c.args.text.now _ c.in_ok-parts.ensures)))

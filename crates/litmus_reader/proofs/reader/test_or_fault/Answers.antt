@@ -2,4 +2,4 @@ use Rattle.litmus_reader.proofs.Decided.{read_only}
 use Rattle.litmus_reader.proofs.reader.test_or_fault.Goals as goal
 
 pub returns-clause-only : goal.returns-clause-only
-returns-clause-only c = λ t spelled. read_only c.read_whole.result t _ (c.texts_are_read_as_they_are_spelled.ensures.again c.args.text.now t spelled) c.read_whole.ensures
+returns-clause-only c = λ t spelled. read_only c.read_whole.result t _ spelled c.read_whole.ensures

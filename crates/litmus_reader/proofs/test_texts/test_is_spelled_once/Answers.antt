@@ -12,4 +12,4 @@ pub returns-clause-one_refusal : goal.returns-clause-one_refusal
 returns-clause-one_refusal c = λ text fault other p q. (c.texts_are_decided.ensures text).one_refusal fault other p q
 
 pub returns-clause-within : goal.returns-clause-within
-returns-clause-within c = λ text t p. spelled_is_test text t (c.texts_are_read_as_they_are_spelled.ensures.again text t p) (spelled_has_words text t p)
+returns-clause-within c = λ text t p. spelled_is_test text t p (spelled_has_words text t (c.spelled_tests_follow_the_grammar.ensures.follows text t p))

@@ -1,5 +1,5 @@
 use Rattle.litmus_reader.proofs.RefusedTexts.{text_refused, text_refuses}
-use Rattle.litmus_reader.proofs.test_texts.texts_are_refused_as_they_are_read.Goals as goal
+use Rattle.litmus_reader.proofs.test_texts.texts_are_at_fault_case_by_case.Goals as goal
 
 pub returns-clause-refuses : goal.returns-clause-refuses
 returns-clause-refuses c = text_refuses
