@@ -5,10 +5,6 @@ use Rattle.std.specs.List.{position_or_len, list_any}
 use Rattle.std.specs.Str.{bytes_eq}
 use Rattle.tso_model.specs.declared.instruction.Loc.{Loc}
 
--- names of locations, each at its number
-abbrev pub Names : Type 0
-Names = List (List ℕ)
-
 -- the number of a name: its place among the names so far, or the next
 abbrev pub number_of : List (List ℕ) → List ℕ → ℕ
 number_of names x = position_or_len (bytes_eq x) names

@@ -3,7 +3,7 @@
 ghost use Rattle.std.specs.Prelude.{◌≡◌};
 ghost use Rattle.std.specs.Option.{option_map};
 ghost use Rattle.litmus_tokens.specs.inner.Pieces.{pieces};
-ghost use Rattle.litmus_cells.specs.inner.Arguments as spec;
+ghost use Rattle.litmus_cells.specs.Arguments as spec;
 ghost use Rattle.litmus_cells.specs.inner.Arguments.{argument_of};
 
 use crate::names::{location_at, register_at};
@@ -19,7 +19,7 @@ pub enum Argument<'a> {
 }
 
 /// The operand at the front, and the tokens after it.
-#[tactic(auto, unfolding(crate::specs::inner::Arguments::argument_at))]
+#[tactic(auto, unfolding(crate::specs::Arguments::argument_at))]
 pub fn argument_at<'a, 'b>(tokens: &'b [Token<'a>]) -> Option<(Argument<'a>, &'b [Token<'a>])>
     ensures { option_map (λ x. (argument_of x.0, pieces x.1.now)) result ≡ spec.argument_at (pieces tokens.now) }
 {
@@ -47,7 +47,7 @@ pub fn argument_at<'a, 'b>(tokens: &'b [Token<'a>]) -> Option<(Argument<'a>, &'b
 }
 
 /// Two operands with a comma between them, and nothing more.
-#[tactic(auto, unfolding(crate::specs::inner::Arguments::two_arguments))]
+#[tactic(auto, unfolding(crate::specs::Arguments::two_arguments))]
 pub fn two_arguments<'a>(tokens: &[Token<'a>]) -> Option<(Argument<'a>, Argument<'a>)>
     ensures { option_map (λ x. (argument_of x.0, argument_of x.1)) result ≡ spec.two_arguments (pieces tokens.now) }
 {

@@ -5,7 +5,7 @@ ghost use Rattle.std.specs.Prelude.{◌≡◌};
 ghost use Rattle.litmus_cells.specs.inner.Returned.{GivesNamed, GivesCells};
 ghost use Rattle.litmus_cells.specs.Locations.{texts};
 ghost use Rattle.litmus_cells.specs.inner.Forms.{shape_of};
-ghost use Rattle.litmus_cells.specs.inner.Cells as spec;
+ghost use Rattle.litmus_cells.specs.Cells as spec;
 
 use crate::fault::{Fault, ReadError, Why};
 use crate::form::{Form, form_of};
@@ -26,7 +26,7 @@ pub struct CoreInstr {
 /// The instruction of a form, with its location's number.
 ///
 /// `BadNumber` for a value over a word, `TooLarge` for a location too many, both at `remaining`.
-#[tactic(auto, unfolding(crate::specs::inner::Cells::instr_of))]
+#[tactic(auto, unfolding(crate::specs::Cells::instr_of))]
 fn instr_of<'a>(
     names: &mut IndexSet<&'a [u8]>,
     remaining: usize,
@@ -74,7 +74,7 @@ fn count_of(core: usize, instrs: &[CoreInstr]) -> usize
 /// Reads a core's cell: its instruction goes after the others.
 ///
 /// `BadInstruction`, then `BadNumber`, then `TooLarge`, at the cell's first token.
-#[tactic(auto, unfolding(crate::specs::inner::Cells::cell_in))]
+#[tactic(auto, unfolding(crate::specs::Cells::cell_in))]
 pub fn read_cell<'a>(
     core: usize,
     instrs: &mut Vec<CoreInstr>,

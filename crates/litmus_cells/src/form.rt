@@ -6,7 +6,7 @@ ghost use Rattle.std.specs.Option.{option_map};
 ghost use Rattle.tso_model.specs.Registers.{same_letters};
 ghost use Rattle.litmus_tokens.specs.inner.Pieces.{pieces};
 ghost use Rattle.litmus_cells.specs.inner.Arguments.{argument_of};
-ghost use Rattle.litmus_cells.specs.inner.Forms as spec;
+ghost use Rattle.litmus_cells.specs.Forms as spec;
 ghost use Rattle.litmus_cells.specs.inner.Forms.{shape_of};
 
 use crate::argument::{Argument, two_arguments};
@@ -65,7 +65,7 @@ fn xadd_of<'a>(first: Argument<'a>, second: Argument<'a>) -> Option<Form<'a>>
 }
 
 /// What may stand after `LOCK`.
-#[tactic(auto, unfolding(crate::specs::inner::Forms::locked_at))]
+#[tactic(auto, unfolding(crate::specs::Forms::locked_at))]
 fn locked_form<'a>(tokens: &[Token<'a>]) -> Option<Form<'a>>
     ensures { option_map shape_of result ≡ spec.locked_at (pieces tokens.now) }
 {
@@ -83,7 +83,7 @@ fn locked_form<'a>(tokens: &[Token<'a>]) -> Option<Form<'a>>
 }
 
 /// The instruction that a whole cell spells.
-#[tactic(auto, unfolding(crate::specs::inner::Forms::spelled_in))]
+#[tactic(auto, unfolding(crate::specs::Forms::spelled_in))]
 pub fn form_of<'a>(cell: &[Token<'a>]) -> Option<Form<'a>>
     ensures { option_map shape_of result ≡ spec.spelled_in (pieces cell.now) }
 {

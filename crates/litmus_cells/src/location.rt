@@ -3,7 +3,7 @@
 
 ghost use Rattle.std.specs.Prelude.{◌≡◌, OnOk};
 ghost use Rattle.litmus_cells.specs.inner.Faults.{Gives};
-ghost use Rattle.litmus_cells.specs.inner.Locations as spec;
+ghost use Rattle.litmus_cells.specs.Locations as spec;
 ghost use Rattle.litmus_cells.specs.Locations.{texts};
 ghost use Rattle.litmus_cells.specs.GrammarNames as grammar;
 
@@ -33,7 +33,7 @@ fn note<'a>(names: &mut IndexSet<&'a [u8]>, name: &'a [u8]) -> Result<(), NoMemo
 /// The location of a name, which is put after the other names where it is new.
 ///
 /// `TooLarge` at `remaining` for one location too many.
-#[tactic(auto, unfolding(crate::specs::inner::Locations::located))]
+#[tactic(auto, unfolding(crate::specs::Locations::located))]
 pub fn located<'a>(
     names: &mut IndexSet<&'a [u8]>,
     remaining: usize,

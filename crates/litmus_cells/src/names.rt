@@ -3,14 +3,14 @@
 ghost use Rattle.std.specs.Prelude.{◌≡◌, ◌<◌, length, IfSome};
 ghost use Rattle.std.specs.Option.{option_map};
 ghost use Rattle.litmus_tokens.specs.inner.Pieces.{pieces};
-ghost use Rattle.litmus_cells.specs.inner.Names as spec;
+ghost use Rattle.litmus_cells.specs.Names as spec;
 
 use litmus_tokens::{Token, name_at};
 use tso_model::Reg;
 use tso_model::names::is_location_name;
 
 /// The name of a location at the front, and the tokens after it.
-#[tactic(auto, unfolding(crate::specs::inner::Names::location_at))]
+#[tactic(auto, unfolding(crate::specs::Names::location_at))]
 pub fn location_at<'a, 'b>(tokens: &'b [Token<'a>]) -> Option<(&'a [u8], &'b [Token<'a>])>
     ensures value { option_map (λ x. (x.0.now, pieces x.1.now)) result ≡ spec.location_at (pieces tokens.now) }
     ensures shorter { IfSome result (λ x. length x.1.now < length tokens.now) }
@@ -24,7 +24,7 @@ pub fn location_at<'a, 'b>(tokens: &'b [Token<'a>]) -> Option<(&'a [u8], &'b [To
 }
 
 /// The register whose name is at the front, and the tokens after it.
-#[tactic(auto, unfolding(crate::specs::inner::Names::register_at))]
+#[tactic(auto, unfolding(crate::specs::Names::register_at))]
 pub fn register_at<'a, 'b>(tokens: &'b [Token<'a>]) -> Option<(Reg, &'b [Token<'a>])>
     ensures value { option_map (λ x. (x.0, pieces x.1.now)) result ≡ spec.register_at (pieces tokens.now) }
     ensures shorter { IfSome result (λ x. length x.1.now < length tokens.now) }

@@ -2,7 +2,7 @@
 
 ghost use Rattle.std.specs.Prelude.{◌≡◌};
 ghost use Rattle.decimals.specs.Decimals.{decimal_value};
-ghost use Rattle.litmus_cells.specs.inner.Numbers as spec;
+ghost use Rattle.litmus_cells.specs.Numbers as spec;
 
 use crate::fault::{Fault, Why};
 use litmus_tokens::word;

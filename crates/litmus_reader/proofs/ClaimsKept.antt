@@ -1,8 +1,7 @@
 -- What a condition gives stays within the limits of a test.
-use Rattle.litmus_reader.proofs.Vocabulary.{◌≡◌, ℕ, zero, suc, ◌+◌, ◌≤◌, ◌<◌, ltb, List, length, Some, Result, Ok, IfOk, refl, subst, arith, codes, ltb-true, Claim, TruthClaim, RegClaim, LocClaim, NotClaim, AndClaim, OrClaim, Condition, NamesExist, atoms_in, negations_in, Quantifier, Exists, NotExists, Forall, Stop, Symbol, OpenRound, CloseRound, And, Or, Tilde, Piece, symbol_at, Fault, ◌>>=◌, or_unfit, located, word_at, setting_at, core_of, claim_in, Claimed, claimed, one_more, truth_at, truth_atom, setting_atom, atom_at, Proposition, joined_to, chain, chain_of, both, conjunction, disjunction, negation_at, opens_unit, negated, bracketed, unit_by, unit_at, proposition_at, Conditioned, with_claim, quantified, not_exists, condition_at, in_condition, word_after, remaining_of, Setting, of_register, of_location}
+use Rattle.litmus_reader.proofs.Vocabulary.{◌≡◌, ℕ, zero, suc, ◌+◌, ◌≤◌, ◌<◌, ltb, List, length, Some, Result, Ok, IfOk, refl, subst, arith, codes, ltb-true, Claim, TruthClaim, RegClaim, LocClaim, NotClaim, AndClaim, OrClaim, Condition, NamesExist, atoms_in, negations_in, Quantifier, Exists, NotExists, Forall, Stop, Symbol, OpenRound, CloseRound, And, Or, Tilde, Piece, symbol_at, Fault, ◌>>=◌, or_unfit, located, word_at, setting_at, core_of, claim_in, Claimed, claimed, one_more, truth_at, truth_atom, setting_atom, atom_at, Proposition, joined_to, chain, chain_of, both, either, conjunction, disjunction, negation_at, opens_unit, negated, bracketed, unit_by, unit_at, proposition_at, Conditioned, with_claim, quantified, not_exists, condition_at, in_condition, word_after, remaining_of, Setting, of_register, of_location}
 use Rattle.std.specs.Option.{ForSome}
 use Rattle.tso_model.specs.Litmus.{IsCondition}
-use Rattle.litmus_reader.specs.inner.Conditions.{either}
 use Rattle.litmus_reader.proofs.Keeps.{Any, ok_any, some_any, bind_keeps, there_keeps, cond_keeps, core_keeps}
 use Rattle.litmus_reader.proofs.Named.{NamedSetting, setting_named}
 use Rattle.litmus_reader.proofs.Known.{AreNames, Grown, same_names, grown_further, LocatesIn, located_keeps}

@@ -1,10 +1,6 @@
 -- Rows by their columns, and as one list of instructions with their cores.
-use Rattle.litmus_reader.proofs.Vocabulary.{◌≡◌, ℕ, zero, suc, ◌+◌, ◌<◌, ◌≤◌, Bool, true, false, cond, eqb, eqb-true, eq-eqb, List, [], ◌∷◌, ◌++◌, length, map, filter, All, Option, Some, None, refl, sym, ap, subst, ◌∙◌, append_assoc, arith, count_by, slice_index_or, range_with_len, flat_map, map-append, sum_by-append, All-nil, All-cons, All-head, All-tail, Instr, Stop, Piece, CoreInstr, Why, Fault, of_core, program_of, programs_from, numbered, in_rows, column, location_in, instr_with, ValueFits, AreWithin, in_field, AreSpelled, none, more, add_cells, IsCellFault, IsRowFault, Shape}
-use Rattle.std.proofs.Common.{append-nil}
-use Rattle.litmus_reader.specs.RefusedTable as refused
-use Rattle.litmus_reader.proofs.Placed.{Placed, placed, placed_from, placed_in, locations_of, instrs_with, ValuesFit, EntriesWithin}
-use Rattle.litmus_reader.proofs.PlacedFaults.{IsEntryFault, IsEntriesFault}
-use Rattle.litmus_reader.proofs.PlacedFaults as read
+use Rattle.litmus_reader.proofs.Vocabulary.{◌≡◌, ℕ, zero, suc, ◌+◌, ◌<◌, ◌≤◌, Bool, true, false, cond, eqb, eqb-true, eq-eqb, List, [], ◌∷◌, ◌++◌, length, map, filter, All, Option, Some, None, refl, sym, ap, subst, ◌∙◌, arith, count_by, slice_index_or, range_with_len, flat_map, map-append, sum_by-append, All-nil, All-cons, All-head, All-tail, Instr, CoreInstr, of_core, program_of, programs_from, numbered, in_rows, column, location_in, instr_with, ValueFits, AreWithin, in_field, Shape}
+use Rattle.litmus_reader.proofs.Placed.{Placed, placed_from, placed_in, locations_of, instrs_with, ValuesFit, EntriesWithin}
 
 -- ---- all instructions
 
@@ -143,53 +139,4 @@ columns_within names table h = record {
 
 -- ---- one row more, and one cell more
 
-placed-more : (table : List (List (Option Shape))) (cells : List (Option Shape)) → placed_in (add_cells table cells) ≡ placed_in table ++ placed_from 0 cells
-placed-more [] cells = append-nil (placed_from 0 cells)
-placed-more (row ∷ others) cells = ap (λ (l : List Placed). placed_from 0 row ++ l) (placed-more others cells) ∙ sym (append_assoc (placed_from 0 row) (placed_in others) (placed_from 0 cells))
-
-placed-further : (core other : ℕ) (cells : List (Option Shape)) (shape : Shape) → other ≡ core + length cells → placed_from core (cells ++ Some shape ∷ []) ≡ placed_from core cells ++ placed other shape ∷ []
-placed-further core other [] shape e = let same : core ≡ other = omega arith in ap (λ (k : ℕ). (let l : List Placed = placed k shape ∷ [] in l)) same
-placed-further core other (None ∷ cells) shape e = placed-further (core + 1) other cells shape (omega arith)
-placed-further core other (Some s ∷ cells) shape e = ap (λ (l : List Placed). placed core s ∷ l) (placed-further (core + 1) other cells shape (omega arith))
-
-with-cell : (table : List (List (Option Shape))) (cells : List (Option Shape)) (shape : Shape) (core : ℕ) → core ≡ length cells
-    → (placed_in table ++ placed_from 0 cells) ++ placed core shape ∷ [] ≡ placed_in (add_cells table (cells ++ Some shape ∷ []))
-with-cell table cells shape core e =
-    append_assoc (placed_in table) (placed_from 0 cells) (placed core shape ∷ [])
-    ∙ ap (λ (l : List Placed). placed_in table ++ l) (sym (placed-further 0 core cells shape (omega arith))) ∙ sym (placed-more table (cells ++ Some shape ∷ []))
-
-spelled_count : (parts : List (List Piece)) (cells : List (Option Shape)) → AreSpelled parts cells → length parts ≡ length cells
-spelled_count _ _ none = refl
-spelled_count _ _ (more cell rest c cs is are) = ap (λ (n : ℕ). suc n) (spelled_count rest cs are)
-
 -- ---- faults
-
-entry_fault : (names : List (List ℕ)) (table : List (List (Option Shape))) (before : List (Option Shape)) (core : ℕ) (cell : List Piece) (why : Why) → core ≡ length before
-    → IsCellFault names table before cell why → IsEntryFault names (placed_in table ++ placed_from 0 before) core cell why
-entry_fault names table before core cell _ e (refused.bad_instruction never) = read.bad_instruction never
-entry_fault names table before core cell _ e (refused.bad_number shape is big) = read.bad_number shape is big
-entry_fault names table before core cell _ e (refused.one_too_many shape is fits past) =
-    read.one_too_many shape is fits (λ within. past (columns_within names (add_cells table (before ++ Some shape ∷ [])) (subst (EntriesWithin names) (with-cell table before shape core e) within)))
-
-cell_fault : (names : List (List ℕ)) (table : List (List (Option Shape))) (before : List (Option Shape)) (core : ℕ) (cell : List Piece) (why : Why) → core ≡ length before
-    → IsEntryFault names (placed_in table ++ placed_from 0 before) core cell why → IsCellFault names table before cell why
-cell_fault names table before core cell _ e (read.bad_instruction never) = refused.bad_instruction never
-cell_fault names table before core cell _ e (read.bad_number shape is big) = refused.bad_number shape is big
-cell_fault names table before core cell _ e (read.one_too_many shape is fits past) =
-    refused.one_too_many shape is fits (λ within. past (subst (EntriesWithin names) (sym (with-cell table before shape core e)) (entries_within names (add_cells table (before ++ Some shape ∷ [])) within)))
-
-pub entries_fault : (stop : Stop) (cores : ℕ) (names : List (List ℕ)) (table : List (List (Option Shape))) (ps : List Piece) (f : Fault) → IsRowFault stop cores names table ps f
-    → IsEntriesFault stop cores names (placed_in table) ps f
-entries_fault stop cores names table ps _ (refused.unclosed lacks) = read.unclosed lacks
-entries_fault stop cores names table ps _ (refused.wrong_cells some differs) = read.wrong_cells some differs
-entries_fault stop cores names table ps _ (refused.in_cell done after first cell spelled why some count cells are within bad) =
-    read.in_cell done after first cell spelled why some count cells are (subst (EntriesWithin names) (placed-more table spelled) (entries_within names (add_cells table spelled) within))
-    (entry_fault names table spelled (length done) (first ∷ cell) why (spelled_count done spelled are) bad)
-
-pub row_fault : (stop : Stop) (cores : ℕ) (names : List (List ℕ)) (table : List (List (Option Shape))) (ps : List Piece) (f : Fault) → IsEntriesFault stop cores names (placed_in table) ps f
-    → IsRowFault stop cores names table ps f
-row_fault stop cores names table ps _ (read.unclosed lacks) = refused.unclosed lacks
-row_fault stop cores names table ps _ (read.wrong_cells some differs) = refused.wrong_cells some differs
-row_fault stop cores names table ps _ (read.in_cell done after first cell spelled why some count cells are within bad) =
-    refused.in_cell done after first cell spelled why some count cells are (columns_within names (add_cells table spelled) (subst (EntriesWithin names) (sym (placed-more table spelled)) within))
-    (cell_fault names table spelled (length done) (first ∷ cell) why (spelled_count done spelled are) bad)

@@ -1,11 +1,12 @@
 -- Units and propositions are read as they are spelled.
-use Rattle.litmus_reader.proofs.Vocabulary.{◌≡◌, ℕ, zero, suc, ◌+◌, ◌≤◌, Bool, true, false, ◌||◌, List, [], ◌∷◌, ◌++◌, length, Some, None, Ok, Err, refl, sym, ap, subst, ◌∙◌, ◌⊎◌, inl, inr, append_assoc, arith, codes, Claim, NotClaim, Stop, OpenRound, CloseRound, And, Or, Tilde, Term, name, symbol, number, Piece, is_symbol, is_symbol_term, symbol_at, name_at, TooLarge, there, or_unfit, word_after, Claimed, claimed, atom_at, Proposition, disjunction, negation_at, opens_unit, negated, bracketed, unit_by, unit_at, proposition_at, in_condition, terms, numbered, IsAtom, says_true, says_false, says_setting, IsProposition, is_negation, IsUnit, locations_in, atoms_of, claim_by, IsWithin, fault, remaining_of, Phrase, negation, begins_with, Symbol, bytes_eq}
-use Rattle.litmus_reader.specs.GrammarConditions.{plain, negated as negated_by, in_brackets}
+use Rattle.litmus_reader.proofs.Vocabulary.{◌≡◌, ℕ, zero, suc, ◌+◌, ◌≤◌, Bool, true, false, ◌||◌, List, [], ◌∷◌, ◌++◌, length, Some, None, Ok, Err, refl, sym, ap, subst, ◌∙◌, ◌⊎◌, inl, inr, append_assoc, arith, codes, Claim, NotClaim, Stop, OpenRound, CloseRound, And, Or, Tilde, Term, name, symbol, number, Piece, is_symbol, is_symbol_term, symbol_at, name_at, TooLarge, there, or_unfit, word_after, Claimed, claimed, atom_at, Proposition, disjunction, negation_at, opens_unit, negated, bracketed, unit_by, unit_at, proposition_at, in_condition, terms, numbered, IsAtom, says_true, says_false, says_setting, IsProposition, in_brackets, is_negation, IsUnit, locations_in, atoms_of, claim_by, IsWithin, fault, remaining_of, Phrase, negation, Symbol, bytes_eq}
+use Rattle.litmus_reader.specs.GrammarConditions.{plain, negated as negated_by}
 use Rattle.litmus_reader.proofs.GrammarTokens.{chosen, there_is, some_is, ok_is, bind_ok, or_unfit_ok, front, opened, symbol_takes}
 use Rattle.litmus_reader.proofs.GrammarPhrases.{Finds, Taken, Takes, Anything, proposition_takes, proposition_finds}
 use Rattle.litmus_reader.proofs.GrammarLast.{unit_leaves}
 use Rattle.litmus_reader.proofs.GrammarAtoms.{word_taken, setting_plain, atom_found, atom_taken}
 use Rattle.litmus_reader.proofs.Readings.{given_by, ReadsPhrase, SpellsPhrase}
+use Rattle.litmus_reader.proofs.GrammarPhrases.{begins_with}
 
 -- ---- units found
 
@@ -197,14 +198,6 @@ spelled_by cores Is atoms names ps c le t =
       given = ap (λ (x : Claim). claimed x c.atoms c.names c.rest) t.claim_is ∙ ap (λ (n : ℕ). claimed (claim_by new t.phrase) n c.names c.rest) t.atoms_are
           ∙ ap (λ (l : List (List ℕ)). claimed (claim_by new t.phrase) (atoms + atoms_of t.phrase) l c.rest) t.names_are;
     }
-
-pub unit_again : (stop : Stop) (cores opens atoms : ℕ) (names : List (List ℕ)) (ps : List Piece) (ts back : List Term) (p : Phrase)
-    → IsUnit opens ts p → IsWithin cores atoms names p → terms ps ≡ ts ++ back → ReadsPhrase (unit_at stop cores opens) atoms names p back ps
-unit_again stop cores opens atoms names ps ts back p is within e = unit_finds stop cores opens ts p is atoms names within back tt ps e
-
-pub unit_spelled : (stop : Stop) (cores opens atoms : ℕ) (names : List (List ℕ)) (ps : List Piece) (c : Claimed)
-    → length names ≤ 16 → unit_at stop cores opens atoms names ps ≡ Ok c → SpellsPhrase (IsUnit opens) cores atoms names ps c
-unit_spelled stop cores opens atoms names ps c le e = spelled_by cores (IsUnit opens) atoms names ps c le (unit_takes stop cores opens atoms names ps c e)
 
 pub proposition_again : (stop : Stop) (cores opens atoms : ℕ) (names : List (List ℕ)) (ps : List Piece) (ts back : List Term) (p : Phrase)
     → IsProposition (IsUnit opens) ts p → IsWithin cores atoms names p → terms ps ≡ ts ++ back → begins_with (is_symbol_term And) back ≡ false → begins_with (is_symbol_term Or) back ≡ false

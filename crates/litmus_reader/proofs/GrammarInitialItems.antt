@@ -1,6 +1,6 @@
 -- Initial states are read as they are spelled.
-use Rattle.litmus_reader.proofs.Vocabulary.{◌≡◌, ℕ, zero, suc, ◌<◌, Bool, true, false, cond, ◌||◌, List, [], ◌∷◌, ◌++◌, length, Some, None, Ok, Err, refl, sym, ap, subst, ◌∙◌, inl, inr, append_assoc, arith, length-append, length-map, append-nil, Stop, OpenCurly, CloseCurly, Semicolon, Term, number, name, symbol, Piece, is_symbol, symbol_at, Part, ◌>>=◌, setting_at, Initial, initial, judged, item_in, step_in, items_within, items_at, before_initial, opened_at, initial_at, ends_item, terms, IsSetting, sets_register, sets_location, sets_in_squares, IsInitialItem, empty, given, AreInitialItems, last, IsInitialState, in_braces, Fits, unfit, remaining_of, in_initial, Setting}
-use Rattle.litmus_reader.specs.GrammarInitial.{more}
+use Rattle.litmus_reader.proofs.Vocabulary.{◌≡◌, ℕ, zero, suc, ◌<◌, Bool, true, false, cond, ◌||◌, List, [], ◌∷◌, ◌++◌, length, Some, None, Ok, Err, refl, sym, ap, subst, ◌∙◌, inl, inr, append_assoc, arith, length-append, length-map, append-nil, Stop, OpenCurly, CloseCurly, Semicolon, Term, number, name, symbol, Piece, is_symbol, symbol_at, Part, ◌>>=◌, setting_at, Initial, initial, judged, item_in, step_in, items_within, items_at, before_initial, opened_at, initial_at, ends_item, terms, IsSetting, sets_register, sets_location, sets_in_squares, IsInitialItem, AreInitialItems, last, more, IsInitialState, in_braces, Fits, unfit, remaining_of, in_initial, Setting}
+use Rattle.litmus_reader.specs.GrammarInitial.{empty, given}
 use Rattle.litmus_reader.proofs.ItemSteps.{ReadItems, ItemsAfter, items_start, items_end, items_go_on}
 use Rattle.litmus_reader.proofs.GrammarTokens.{chosen, there_is, bind_ok, or_unfit_ok, ok_pair, opened, symbol_takes}
 use Rattle.litmus_reader.proofs.GrammarItems.{setting_found, setting_taken}

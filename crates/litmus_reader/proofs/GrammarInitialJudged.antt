@@ -1,6 +1,5 @@
 -- An item more of the initial state, and what is given so far.
-use Rattle.litmus_reader.proofs.Vocabulary.{◌≡◌, ℕ, suc, ◌+◌, ◌≤◌, ◌<◌, ◌^◌, Bool, true, false, cond, ltb, not, ◌||◌, List, [], ◌∷◌, ◌++◌, length, map, Some, None, Ok, Err, refl, sym, ap, subst, ◌∙◌, inl, inr, arith, list_any, list_all, bytes_eq, ltb-true, ltb-false, and_parts, or_parts, not-true, length-append, map-append, list_any-append, list_all-append, Reg, Loc, TwiceInit, located, or_bad_number, word_at, Given, Initial, initial, gives, judged, given_value, same_place, each_once, names_in, Fits, fault, number_of, with_name, location, Setting, of_register, of_location}
-use Rattle.litmus_reader.specs.inner.Initial.{given}
+use Rattle.litmus_reader.proofs.Vocabulary.{◌≡◌, ℕ, suc, ◌+◌, ◌≤◌, ◌<◌, ◌^◌, Bool, true, false, cond, ltb, not, ◌||◌, List, [], ◌∷◌, ◌++◌, length, map, Some, None, Ok, Err, refl, sym, ap, subst, ◌∙◌, inl, inr, arith, list_any, list_all, bytes_eq, ltb-true, ltb-false, and_parts, or_parts, not-true, length-append, map-append, list_any-append, list_all-append, Reg, Loc, TwiceInit, located, or_bad_number, word_at, Given, given, Initial, initial, gives, judged, given_value, same_place, each_once, names_in, Fits, fault, number_of, with_name, location, Setting, of_register, of_location}
 use Rattle.litmus_reader.proofs.Maps.{list_any_map}
 use Rattle.litmus_reader.proofs.GrammarNames.{place_below, place_none}
 use Rattle.litmus_reader.proofs.GrammarTokens.{chosen, ok_is, bind_ok}

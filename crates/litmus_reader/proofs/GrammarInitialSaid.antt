@@ -1,6 +1,5 @@
 -- What has been read of the initial state is what its settings say.
-use Rattle.litmus_reader.proofs.Vocabulary.{◌≡◌, ℕ, zero, suc, ◌+◌, ◌-◌, ◌<◌, Bool, true, false, cond, eqb, eqb-true, ltb, not, ◌||◌, ◌&&◌, List, [], ◌∷◌, ◌++◌, length, map, get_or, replicate, Result, Ok, Err, refl, sym, ap, subst, ◌∙◌, append_assoc, arith, list_any, list_all, range_with_len, bytes_eq, ltb-true, eqb-false, and_parts, or_parts, not-true, bytes_eq-Decides, length-append, append-nil, map-append, length-set, ext_get_or, get_or-set_same, get_or-set_other, length-map-range_with_len, get_or-map-range_with_len, list_any-append, list_all-append, index_of, Reg, Eax, Ebx, Ecx, Edx, Esi, Edi, decimal_value, Fault, NoSuchCore, ◌>>=◌, core_of, Given, Initial, no_registers, with_register, registers_with, words_of, same_place, each_once, names_in, Fits, has_core, value_in, names_register, first_words, first_registers_of, first_registers, numbered, with_name, fault, Setting, of_register, of_location}
-use Rattle.tso_model.specs.Thread.{with_value}
+use Rattle.litmus_reader.proofs.Vocabulary.{◌≡◌, ℕ, zero, suc, ◌+◌, ◌-◌, ◌<◌, Bool, true, false, cond, eqb, eqb-true, ltb, not, ◌||◌, ◌&&◌, List, [], ◌∷◌, ◌++◌, length, map, get_or, replicate, Result, Ok, Err, refl, sym, ap, subst, ◌∙◌, append_assoc, arith, list_any, list_all, range_with_len, bytes_eq, ltb-true, eqb-false, and_parts, or_parts, not-true, bytes_eq-Decides, length-append, append-nil, map-append, length-set, ext_get_or, get_or-set_same, get_or-set_other, length-map-range_with_len, get_or-map-range_with_len, list_any-append, list_all-append, index_of, with_value, Reg, Eax, Ebx, Ecx, Edx, Esi, Edi, decimal_value, Fault, NoSuchCore, ◌>>=◌, core_of, Given, Initial, no_registers, with_register, registers_with, words_of, same_place, each_once, names_in, Fits, has_core, value_in, names_register, first_words, first_registers_of, first_registers, numbered, with_name, fault, Setting, of_register, of_location}
 use Rattle.litmus_reader.proofs.GrammarTokens.{bind_ok}
 use Rattle.litmus_reader.proofs.GrammarNames.{same_bytes}
 use Rattle.litmus_reader.proofs.GrammarInitialJudged.{words_in, settings_of_registers, unplaced, Holds, names_in-append, a_word_each, location_given, once_apart}

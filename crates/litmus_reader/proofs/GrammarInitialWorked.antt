@@ -1,7 +1,7 @@
 -- `{ x=1; ; 1:eax=2; [y]=3 }`, an initial state with an item of each form.
-use Rattle.litmus_reader.proofs.Vocabulary.{◌≡◌, List, [], ◌∷◌, refl, arith, codes, Eax, Equals, Colon, OpenSquare, CloseSquare, OpenCurly, CloseCurly, Semicolon, Term, number, name, symbol, sets_register, sets_location, sets_in_squares, empty, given, last, IsInitialState, in_braces, Fits, first_words, first_registers, Setting, of_register, of_location}
+use Rattle.litmus_reader.proofs.Vocabulary.{◌≡◌, List, [], ◌∷◌, refl, arith, codes, Eax, Equals, Colon, OpenSquare, CloseSquare, OpenCurly, CloseCurly, Semicolon, Term, number, name, symbol, sets_register, sets_location, sets_in_squares, last, more, IsInitialState, in_braces, Fits, first_words, first_registers, Setting, of_register, of_location}
 use Rattle.decimals.specs.Decimals.{decimal_from}
-use Rattle.litmus_reader.specs.GrammarInitial.{more}
+use Rattle.litmus_reader.specs.GrammarInitial.{empty, given}
 
 abbrev tokens : List Term
 tokens =

@@ -1,6 +1,6 @@
 -- What readings of conditions leave are the last tokens.
-use Rattle.litmus_reader.proofs.Vocabulary.{ℕ, zero, suc, Bool, true, false, List, length, Option, Some, None, Result, Ok, Err, IfOk, IfSome, codes, bytes_eq, Claim, Quantifier, Exists, NotExists, Forall, Stop, Symbol, OpenRound, CloseRound, And, Or, Tilde, Piece, symbol_at, name_at, Fault, most_open, ◌>>=◌, or_unfit, if_word, word_after, setting_at, claim_in, Claimed, one_more, truth_at, truth_atom, setting_atom, atom_at, Proposition, joined_to, chain, chain_of, conjunction, disjunction, negation_at, opens_unit, negated, bracketed, unit_by, unit_at, proposition_at, Conditioned, quantified, not_exists, condition_at, in_condition, remaining_of}
-use Rattle.litmus_reader.specs.inner.Conditions as reading
+use Rattle.litmus_reader.proofs.Vocabulary.{ℕ, zero, suc, Bool, true, false, List, length, Option, Some, None, Result, Ok, Err, IfOk, IfSome, codes, bytes_eq, Claim, Stop, Symbol, OpenRound, CloseRound, And, Or, Tilde, Piece, symbol_at, name_at, Fault, ◌>>=◌, or_unfit, if_word, word_after, setting_at, claim_in, Claimed, one_more, truth_at, truth_atom, setting_atom, atom_at, Proposition, joined_to, chain, chain_of, conjunction, disjunction, negation_at, opens_unit, negated, bracketed, unit_by, unit_at, proposition_at, Conditioned, quantified, not_exists, condition_at, in_condition, remaining_of}
+use Rattle.litmus_reader.specs.Conditions as reading
 use Rattle.litmus_reader.proofs.Keeps.{Any, ok_any, bind_keeps, there_keeps, cond_keeps, or_unfit_keeps}
 use Rattle.litmus_reader.proofs.GrammarAfter.{all_last, last_further, Leaves, symbol_leaves, name_leaves, setting_leaves}
 use Rattle.litmus_reader.proofs.Readings.{AreLast}
@@ -75,29 +75,3 @@ pub unit_leaves : (stop : Stop) (cores n : ℕ) → LeavesLast (unit_at stop cor
 unfolding unit_at
 unit_leaves stop cores zero atoms names ps = cond_keeps (LeavesClaim ps) (opens_unit ps) _ (atom_at stop cores atoms names ps) (λ _. tt) (λ _. atom_leaves stop cores atoms names ps)
 unit_leaves stop cores (suc n) atoms names ps = unit_by_leaves stop cores (unit_at stop cores n) (unit_leaves stop cores n) atoms names ps
-
-abbrev LeavesCondition : List Piece → Result Conditioned Fault → Type 0
-LeavesCondition ps r = IfOk r (λ c. AreLast ps c.rest)
-
-condition_after : (ps qs : List Piece) (r : Result Conditioned Fault) → AreLast ps qs → LeavesCondition qs r → LeavesCondition ps r
-condition_after ps qs (Ok c) a b = last_further ps qs c.rest a b
-condition_after ps qs (Err e) a b = tt
-
-quantified_leaves : (stop : Stop) (cores : ℕ) (quantifier : Quantifier) (names : List (List ℕ)) (ps : List Piece) → LeavesCondition ps (quantified stop cores quantifier names ps)
-unfolding quantified
-quantified_leaves stop cores quantifier names ps =
-    bind_keeps (λ c. AreLast ps c.rest) (λ c. AreLast ps c.rest) (proposition_at stop cores most_open 0 names ps) _
-    (disjunction_leaves (unit_at stop cores most_open) (unit_leaves stop cores most_open) 0 names ps) (λ c a. a)
-
-pub condition_leaves : (stop : Stop) (cores : ℕ) (names : List (List ℕ)) (ps : List Piece) → LeavesCondition ps (condition_at stop cores names ps)
-unfolding condition_at not_exists
-condition_leaves stop cores names ps =
-    there_keeps (AreLast ps) (LeavesCondition ps) (word_after (codes "exists") ps) (quantified stop cores Exists names) _ (word_leaves (codes "exists") ps)
-    (λ rest a. condition_after ps rest (quantified stop cores Exists names rest) a (quantified_leaves stop cores Exists names rest))
-    (there_keeps (AreLast ps) (LeavesCondition ps) (word_after (codes "forall") ps) (quantified stop cores Forall names) _ (word_leaves (codes "forall") ps)
-    (λ rest a. condition_after ps rest (quantified stop cores Forall names rest) a (quantified_leaves stop cores Forall names rest))
-    (there_keeps (AreLast ps) (LeavesCondition ps) (symbol_at Tilde ps) (not_exists stop cores names) _ (symbol_leaves Tilde ps)
-    (λ rest a. bind_keeps (AreLast rest) (λ c. AreLast ps c.rest) (or_unfit (in_condition stop) rest (word_after (codes "exists") rest)) _
-    (or_unfit_keeps (AreLast rest) (in_condition stop) rest (word_after (codes "exists") rest) (word_leaves (codes "exists") rest))
-    (λ back b. condition_after ps back (quantified stop cores NotExists names back) (last_further ps rest back a b) (quantified_leaves stop cores NotExists names back)))
-    (all_last ps)))

@@ -1,14 +1,14 @@
 -- Propositions by their phrases: claims as names appear, and parts with a symbol between them.
-use Rattle.litmus_reader.proofs.Vocabulary.{◌≡◌, ℕ, zero, suc, ◌+◌, ◌≤◌, true, false, List, [], ◌∷◌, ◌++◌, length, Some, None, Ok, refl, sym, ap, subst, ◌∙◌, inl, inr, append_assoc, arith, list_all, and_from, and_parts, length-append, length-map, list_all-append, Claim, LocClaim, NotClaim, Symbol, And, Or, Term, symbol, Piece, is_symbol, is_symbol_term, symbol_at, ◌>>=◌, claim_in, Claimed, claimed, one_more, truth_at, truth_atom, setting_atom, atom_at, Proposition, joined_to, chain, chain_of, conjunction, disjunction, negation_at, opens_unit, negated, bracketed, unit_by, unit_at, proposition_at, terms, numbered, names_in, is_allowed, AreJoined, one, IsConjunction, IsProposition, locations_in, atoms_of, PhraseFits, claim_by, IsWithin, Setting, of_register, of_location, Phrase, truth, atom, negation, either, begins_with}
-use Rattle.litmus_reader.specs.inner.Conditions as reading
-use Rattle.litmus_reader.specs.GrammarConditions.{more, settings_in}
+use Rattle.litmus_reader.proofs.Vocabulary.{◌≡◌, ℕ, zero, suc, ◌+◌, ◌≤◌, Bool, true, false, List, [], ◌∷◌, ◌++◌, length, Some, None, Ok, refl, sym, ap, subst, ◌∙◌, inl, inr, append_assoc, arith, list_all, and_from, and_parts, length-append, length-map, list_all-append, Claim, LocClaim, NotClaim, Symbol, And, Or, Term, symbol, Piece, is_symbol, is_symbol_term, symbol_at, ◌>>=◌, claim_in, Claimed, claimed, one_more, truth_at, truth_atom, setting_atom, atom_at, Proposition, joined_to, chain, chain_of, conjunction, disjunction, negation_at, opens_unit, negated, bracketed, unit_by, unit_at, proposition_at, terms, numbered, names_in, is_allowed, AreJoined, one, IsConjunction, IsProposition, settings_in, locations_in, atoms_of, PhraseFits, claim_by, IsWithin, Setting, of_register, of_location, Phrase, truth, atom, negation}
+use Rattle.litmus_reader.specs.Conditions as reading
+use Rattle.litmus_reader.specs.GrammarConditions.{more}
 use Rattle.litmus_reader.proofs.Keeps.{ok_is as keeps_ok, some_is as keeps_some}
 use Rattle.litmus_reader.proofs.GrammarAfter.{last_further, symbol_leaves}
 use Rattle.litmus_reader.proofs.GrammarLast.{LeavesLast, chain_leaves}
 use Rattle.litmus_reader.proofs.GrammarTokens.{there_is, ok_is, bind_ok, front, symbol_takes, spelled_so}
 use Rattle.litmus_reader.proofs.GrammarNames.{Known, known_with, known_more, number_more, numbered_append, grows}
 use Rattle.litmus_reader.proofs.Readings.{given_by, ReadsPhrase, AreLast}
-use Rattle.litmus_reader.specs.Written.{both}
+use Rattle.litmus_reader.specs.Written.{both, either}
 
 -- ---- claims stay as more names appear
 
@@ -225,6 +225,11 @@ terms_length ps ts e = sym (length-map ps (λ p. p.term)) ∙ ap length e
 pub symbol_there : (s : Symbol) (ps rest : List Piece) (p : Piece) → ps ≡ p ∷ rest → p.term ≡ symbol s → symbol_at s ps ≡ Some rest
 unfolding symbol_at is_symbol
 symbol_there s ps rest p parts is = rw (parts, is, spelled_so s) refl
+
+-- whether such a token is at the front
+abbrev pub begins_with : (Term → Bool) → List Term → Bool
+begins_with is [] = false
+begins_with is (t ∷ ts) = is t
 
 pub no_symbol : (s : Symbol) (ps : List Piece) → begins_with (is_symbol_term s) (terms ps) ≡ false → symbol_at s ps ≡ None
 unfolding symbol_at is_symbol

@@ -1,9 +1,10 @@
 -- Conditions are read as they are spelled.
-use Rattle.litmus_reader.proofs.Vocabulary.{◌≡◌, ℕ, ◌≤◌, false, List, [], ◌∷◌, ◌++◌, length, None, Ok, refl, sym, ap, subst, ◌∙◌, ◌⊎◌, inl, inr, append_assoc, codes, Quantifier, Exists, NotExists, Forall, Stop, And, Or, Tilde, Term, name, symbol, Piece, is_symbol, is_symbol_term, symbol_at, name_at, most_open, there, or_unfit, word_after, Conditioned, conditioned, with_claim, quantified, not_exists, condition_at, proposition_at, in_condition, terms, IsUnit, IsProposition, IsWithin, IsQuantifier, says_exists, says_forall, says_not_exists, IsCondition, condition, Phrase, begins_with}
+use Rattle.litmus_reader.proofs.Vocabulary.{◌≡◌, ℕ, ◌≤◌, false, List, [], ◌∷◌, ◌++◌, length, None, Ok, refl, sym, ap, subst, ◌∙◌, ◌⊎◌, inl, inr, append_assoc, codes, Quantifier, Exists, NotExists, Forall, Stop, And, Or, Tilde, Term, name, symbol, Piece, is_symbol, is_symbol_term, symbol_at, name_at, most_open, there, or_unfit, word_after, Conditioned, conditioned, with_claim, quantified, not_exists, condition_at, proposition_at, in_condition, terms, IsUnit, IsProposition, IsWithin, IsQuantifier, says_exists, says_forall, says_not_exists, IsCondition, condition, Phrase}
 use Rattle.litmus_reader.proofs.GrammarTokens.{there_is, ok_is, bind_ok, or_unfit_ok, opened, symbol_takes}
 use Rattle.litmus_reader.proofs.GrammarAtoms.{word_taken}
 use Rattle.litmus_reader.proofs.GrammarConditions.{proposition_again, proposition_spelled}
 use Rattle.litmus_reader.proofs.Readings.{condition_by, ReadsCondition, SpellsCondition, ReadsNone}
+use Rattle.litmus_reader.proofs.GrammarPhrases.{begins_with}
 
 -- ---- found
 

@@ -1,7 +1,7 @@
 -- Rows are separated into cells as they are spelled.
-use Rattle.litmus_reader.proofs.Vocabulary.{◌≡◌, ℕ, suc, ◌+◌, ◌<◌, Bool, true, false, ltb, List, [], ◌∷◌, ◌++◌, length, Option, Some, None, Ok, Err, refl, sym, ap, subst, ◌∙◌, inl, inr, append_assoc, arith, slice_split, onto_first, position_or_len, before_first, after_first, ltb-true, lt-ltb, append-nil, slice_split-cons_yes, slice_split-cons_no, Stop, Symbol, OpenSquare, CloseSquare, Comma, Dollar, Semicolon, Bar, Term, symbol, Piece, is_symbol_term, is_symbol, name_at, Reg, Unclosed, spelled_in, row_at, terms, IsConstant, plain, with_dollar, IsMemory, in_squares, IsRegister, named, IsMnemonic, spelled, separated, IsExchange, memory_first, register_first, IsCell, stores_constant, stores_register, loads, sets_constant, fences, exchanges, locks_exchange, locks_add, moves, IsField, full, AreFields, IsRow, row, fault, at_stop, remaining_of, Shape, cells_of}
+use Rattle.litmus_reader.proofs.Vocabulary.{◌≡◌, ℕ, suc, ◌+◌, ◌<◌, Bool, true, false, ltb, List, [], ◌∷◌, ◌++◌, length, Option, Some, None, Ok, Err, refl, sym, ap, subst, ◌∙◌, inl, inr, append_assoc, arith, slice_split, onto_first, position_or_len, before_first, after_first, ltb-true, lt-ltb, append-nil, slice_split-cons_yes, slice_split-cons_no, Stop, Symbol, OpenSquare, CloseSquare, Comma, Dollar, Semicolon, Bar, Term, symbol, Piece, is_symbol_term, is_symbol, name_at, Reg, Unclosed, spelled_in, row_at, terms, IsConstant, plain, with_dollar, IsMemory, in_squares, IsRegister, named, IsMnemonic, spelled, separated, IsExchange, memory_first, register_first, IsCell, stores_constant, stores_register, loads, sets_constant, fences, exchanges, locks_exchange, locks_add, moves, IsField, empty, full, AreFields, IsRow, row, fault, at_stop, remaining_of, Shape, cells_of}
 use Rattle.litmus_reader.specs.GrammarCells.{sets_register}
-use Rattle.litmus_reader.specs.GrammarRows.{empty, last, more}
+use Rattle.litmus_reader.specs.GrammarRows.{last, more}
 use Rattle.litmus_reader.proofs.GrammarTokens.{chosen, ok_pair, symbol_is, spelled_so}
 use Rattle.litmus_reader.proofs.GrammarCells.{cell_again, cell_takes}
 use Rattle.litmus_reader.proofs.Readings.{Begins, ReadsRow, IsReadAs, AreReadAs}

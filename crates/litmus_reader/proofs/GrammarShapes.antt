@@ -49,10 +49,6 @@ abbrev pub EntriesKnown : List (List ℕ) → List Placed → Type 0
 EntriesKnown names [] = Unit {0}
 EntriesKnown names (e ∷ es) = ShapeKnown names e.shape × EntriesKnown names es
 
-pub entries_known_more : (es : List Placed) (xs names : List (List ℕ)) → EntriesKnown names es → EntriesKnown (numbered names xs) es
-entries_known_more [] xs names are = tt
-entries_known_more (e ∷ es) xs names are = (shape_known_more e.shape xs names are.0, entries_known_more es xs names are.1)
-
 pub entries_known : (es : List Placed) (names : List (List ℕ)) → EntriesKnown (numbered names (locations_of es)) es
 entries_known [] names = tt
 entries_known (e ∷ es) names =

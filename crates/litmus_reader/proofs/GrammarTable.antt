@@ -1,8 +1,7 @@
 -- Rows one after the other are read as they are spelled.
-use Rattle.litmus_reader.proofs.Vocabulary.{◌≡◌, ℕ, zero, suc, ◌≤◌, ◌<◌, Bool, true, false, eqb, eqb-true, eq-eqb, IsTrue, List, [], ◌∷◌, ◌++◌, length, Option, Ok, Err, refl, sym, ap, subst, ◌∙◌, inl, inr, append_assoc, arith, codes, bytes_eq, bytes_eq-Decides, length-append, length-map, append-nil, same_letters, Stop, Semicolon, Bar, Term, symbol, Piece, is_symbol, WrongCells, CoreInstr, ◌>>=◌, cells_in, row_at, counted, row_in, Rows, rows, rows_within, rows_at, terms, IsMnemonic, spelled, separated, IsExchange, memory_first, register_first, IsCell, stores_constant, stores_register, loads, sets_constant, fences, exchanges, locks_exchange, locks_add, moves, numbered, IsField, full, AreFields, IsRow, row, AreRows, ends_rows, fault, remaining_of, Shape, cells_of}
+use Rattle.litmus_reader.proofs.Vocabulary.{◌≡◌, ℕ, zero, suc, ◌≤◌, ◌<◌, Bool, true, false, eqb, eqb-true, eq-eqb, IsTrue, List, [], ◌∷◌, ◌++◌, length, Option, Ok, Err, refl, sym, ap, subst, ◌∙◌, inl, inr, append_assoc, arith, codes, bytes_eq, bytes_eq-Decides, length-append, length-map, append-nil, same_letters, Stop, Semicolon, Bar, Term, symbol, Piece, is_symbol, WrongCells, CoreInstr, ◌>>=◌, cells_in, cells_of, row_at, counted, row_in, Rows, rows, rows_within, rows_at, terms, IsMnemonic, spelled, separated, IsExchange, memory_first, register_first, IsCell, stores_constant, stores_register, loads, sets_constant, fences, exchanges, locks_exchange, locks_add, moves, numbered, IsField, empty, full, AreFields, IsRow, row, AreRows, ends_rows, fault, remaining_of, Shape}
 use Rattle.litmus_reader.specs.GrammarCells.{sets_register}
 use Rattle.litmus_reader.specs.GrammarRows as grammar
-use Rattle.litmus_reader.specs.GrammarRows.{empty}
 use Rattle.litmus_reader.specs.GrammarTable.{none, more}
 use Rattle.litmus_reader.proofs.Placed.{Placed, placed_from, placed_in, EntriesWithin}
 use Rattle.litmus_reader.proofs.GrammarTokens.{chosen, ok_is, bind_ok}

@@ -1,7 +1,9 @@
 -- A whole text is read as it is spelled.
-use Rattle.litmus_reader.proofs.Vocabulary.{◌≡◌, ℕ, suc, ◌≤◌, ◌+◌, true, false, ltb, List, [], ◌∷◌, ◌++◌, length, map, drop, Option, Result, Ok, Err, IfOk, refl, sym, ap, subst, ◌∙◌, inl, inr, append_assoc, arith, IsTrue, ltb-false, le-ltb, length-map-range_with_len, range_with_len, Litmus, Instr, Stop, Term, Piece, pieces_of, longest_text, sized, header_at, braces_at, Initial, words_of, registers_of, initial_at, columns_at, Rows, Table, table, table_at, rows_at, programs_from, test_of, tail_at, body_of, reading_of, terms, Passes, numbered, with_name, IsHeaderLine, AreInformationLines, IsInitialState, Fits, has_cores, names_in, first_words, first_registers, IsHeaderRow, AreRows, condition, says_exists, says_forall, says_not_exists, MayAsk, nothing, a_condition, IsEnding, at_once, after_locations, names_asked, condition_of, IsAskedWithin, IsBody, first_names, test_written, KeepsLimits, FollowsGrammar, Shape, Setting, WrittenCondition, Written}
+use Rattle.litmus_reader.proofs.Vocabulary.{◌≡◌, ℕ, suc, ◌≤◌, ◌+◌, true, false, ltb, List, [], ◌∷◌, ◌++◌, length, map, drop, Option, Ok, refl, sym, ap, subst, ◌∙◌, inl, inr, append_assoc, arith, IsTrue, ltb-false, le-ltb, length-map-range_with_len, range_with_len, Litmus, Instr, Stop, Term, Piece, pieces_of, sized, header_at, braces_at, Initial, words_of, registers_of, initial_at, columns_at, Rows, Table, table, table_at, rows_at, programs_from, test_of, tail_at, body_of, reading_of, terms, Passes, numbered, with_name, IsHeaderLine, AreInformationLines, IsInitialState, Fits, has_cores, names_in, first_words, first_registers, IsHeaderRow, AreRows, condition, says_exists, says_forall, says_not_exists, MayAsk, nothing, a_condition, IsEnding, at_once, after_locations, names_asked, condition_of, IsAskedWithin, Shape, Setting, WrittenCondition, Written}
 use Rattle.std.proofs.Common.{length-append}
+use Rattle.litmus_reader.specs.Limits.{longest_text}
 use Rattle.litmus_reader.proofs.Placed.{placed_in, instrs_with, locations_of, EntriesWithin}
+use Rattle.litmus_reader.specs.GrammarTest.{IsBody, first_names, test_written, KeepsLimits, FollowsGrammar}
 use Rattle.litmus_reader.proofs.Columnwise.{named-same, programs-columns, entries_within, columns_within, program}
 use Rattle.litmus_reader.proofs.GrammarTokens.{chosen, bind_ok, ok_is}
 use Rattle.litmus_reader.proofs.GrammarNames.{numbered_append, with_name_by}

@@ -1,5 +1,5 @@
 -- All items of the initial state, one after the other.
-use Rattle.litmus_reader.proofs.Vocabulary.{◌≡◌, ℕ, zero, suc, ◌≤◌, ◌<◌, List, [], ◌∷◌, length, Some, None, Result, Ok, Err, refl, sym, ap, ◌∙◌, arith, Stop, Symbol, CloseCurly, Piece, symbol_at, name_at, number_at, Fault, Part, ReadError, ◌>>=◌, Fails, location_at, plain_setting, setting_at, Initial, initial, item_in, step_in, items_within, items_at, opened_at, initial_at, unfit, remaining_of, in_initial}
+use Rattle.litmus_reader.proofs.Vocabulary.{◌≡◌, ℕ, zero, suc, ◌≤◌, ◌<◌, List, [], ◌∷◌, length, Some, None, Result, Ok, Err, refl, sym, ap, ◌∙◌, arith, Stop, Symbol, CloseCurly, Piece, symbol_at, name_at, number_at, Fault, Part, ReadError, Fails, ◌>>=◌, location_at, plain_setting, setting_at, Initial, initial, item_in, step_in, items_within, items_at, opened_at, initial_at, unfit, remaining_of, in_initial}
 use Rattle.litmus_cells.specs.declared.fault.ReadError.TheVariants as errors
 
 abbrev pub ReadItems : Type 0

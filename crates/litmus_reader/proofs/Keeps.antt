@@ -1,5 +1,5 @@
 -- What holds of whatever a reading answers.
-use Rattle.litmus_reader.proofs.Vocabulary.{◌≡◌, ◌<◌, ℕ, ltb, Bool, true, false, cond, List, Option, Some, None, Result, Ok, Err, IfOk, IfSome, refl, ltb-true, decimal_value, Piece, Fault, Part, ◌>>=◌, there, or_unfit, core_of}
+use Rattle.litmus_reader.proofs.Vocabulary.{◌≡◌, ◌<◌, ◌^◌, ℕ, ltb, Bool, true, false, cond, List, Option, Some, None, Result, Ok, Err, IfOk, IfSome, refl, ltb-true, IsWord, decimal_value, Piece, Fault, Part, ◌>>=◌, there, or_bad_number, word_at, or_unfit, core_of}
 
 pub bind_keeps : {A B : Type 0} (R : A → Type 0) (Q : B → Type 0) (r : Result A Fault) (f : A → Result B Fault)
     → IfOk r R → ((x : A) → R x → IfOk (f x) Q) → IfOk (r >>= f) Q
@@ -38,6 +38,19 @@ ok_is Q (Ok y) x h e = let same : y ≡ x = cc in subst_by same h
     subst_by : y ≡ x → Q y → Q x
     subst_by e q = rw (← e) q
 ok_is Q (Err f) x h e = absurd cc
+
+-- a word has room for a number that was taken for one
+pub word_keeps : (remaining n : ℕ) → IfOk (word_at remaining n) (λ value. IsWord value)
+word_keeps remaining n = by_test (ltb n (2 ^ 32)) refl
+  where
+    by_test : (b : Bool) → ltb n (2 ^ 32) ≡ b → IfOk (or_bad_number remaining (cond b (Some n) None)) (λ value. IsWord value)
+    by_test true e = ltb-true _ _ e
+    by_test false e = tt
+
+-- what is so of an answer, where something stronger is
+pub ok_weaker : {A : Type 0} (P Q : A → Type 0) (r : Result A Fault) → ((x : A) → P x → Q x) → IfOk r P → IfOk r Q
+ok_weaker P Q (Ok x) so h = so x h
+ok_weaker P Q (Err f) so h = tt
 
 pub core_keeps : (cores remaining : ℕ) (digits : List ℕ) → IfOk (core_of cores remaining digits) (λ core. core < cores)
 core_keeps cores remaining digits = cond_keeps (λ (r : Result ℕ Fault). IfOk r (λ core. core < cores)) (ltb (decimal_value digits) cores) _ _ (λ lt. ltb-true _ _ lt) (λ _. tt)

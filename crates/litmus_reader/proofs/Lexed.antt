@@ -39,10 +39,6 @@ piece_read bytes p after e = by_gap (gap_end None bytes) refl
 piece_stop : (x y : Stop) → (let q : Result (Piece × List ℕ) Stop = Err x in q) ≡ Err y → x ≡ y
 piece_stop x y e = cc
 
-token_end : (at : List ℕ) (t : Term) (after : List ℕ) → TokenRead at t after → AreEnd at after
-token_end at t after (closing parts is) = record { front = 93 ∷ []; parts = parts }
-token_end at t after (other b more parts differs plain none) = record { front = b ∷ more; parts = parts }
-
 token_shorter : (at : List ℕ) (t : Term) (after : List ℕ) → TokenRead at t after → length after < length at
 token_shorter at t after (closing parts is) = let n : length at ≡ length (93 ∷ after) = ap (λ (l : List ℕ). length l) parts in omega (arith, n)
 token_shorter at t after (other b more parts differs plain none) =

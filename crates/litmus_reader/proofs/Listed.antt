@@ -1,5 +1,5 @@
 -- The first registers of a test, one more at a time.
-use Rattle.litmus_reader.proofs.Vocabulary.{◌≡◌, ◌==◌, ◌&&◌, cond, true, false, ℕ, Bor, ◌+◌, ◌≤◌, ◌<◌, List, [], ◌∷◌, ◌++◌, length, map, drop, get_or, Result, Ok, Err, refl, sym, ap, ◌∙◌, add-one, drop-cons, arith, list_any, bytes_eq, index_of, nil_from_length, length-drop, map_push, Reg, TwiceInit, Fault, word_at, core_of, Given, given_of, named_by_key, named_by_word, initial, gives, judged, with_register, registers_with, fault, of_register}
+use Rattle.litmus_reader.proofs.Vocabulary.{◌≡◌, ◌==◌, ◌&&◌, cond, true, false, ℕ, Bor, ◌+◌, ◌≤◌, ◌<◌, List, [], ◌∷◌, ◌++◌, length, map, drop, get_or, Result, Ok, Err, refl, sym, ap, ◌∙◌, add-one, drop-cons, arith, list_any, bytes_eq, index_of, nil_from_length, length-drop, map_push, Reg, TwiceInit, Fault, word_at, core_of, given_of, named_by_key, named_by_word, Given, initial, gives, judged, with_register, registers_with, fault, of_register}
 use Rattle.std.specs.Cmp.{nat_eq_equiv}
 use Rattle.std.specs.Cmp.Lexicographic.{nat_list_eq_equiv}
 use Rattle.litmus_reader.specs.declared.initial.RegisterWord.{RegisterWord}

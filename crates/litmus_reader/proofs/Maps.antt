@@ -32,7 +32,3 @@ slice_split-map p f (x ∷ xs) = rw (slice_split-map p f xs) (choice (p (f x)))
     choice : (b : Bool) → cond b ([] ∷ map (map f) (slice_split (λ y. p (f y)) xs)) (onto_first (f x) (map (map f) (slice_split (λ y. p (f y)) xs))) ≡ map (map f) (cond b ([] ∷ slice_split (λ y. p (f y)) xs) (onto_first x (slice_split (λ y. p (f y)) xs)))
     choice true = refl
     choice false = onto_first-map f x (slice_split (λ y. p (f y)) xs)
-
-pub map-map : {X Y Z : Type 0} (g : Y → Z) (f : X → Y) (xs : List X) → map g (map f xs) ≡ map (λ x. g (f x)) xs
-map-map g f [] = refl
-map-map g f (x ∷ xs) = ap (λ (l : _). g (f x) ∷ l) (map-map g f xs)

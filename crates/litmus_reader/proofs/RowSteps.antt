@@ -1,5 +1,5 @@
 -- All rows, one after the other.
-use Rattle.litmus_reader.proofs.Vocabulary.{◌≡◌, ℕ, zero, suc, ◌≤◌, ◌<◌, true, false, List, [], ◌∷◌, length, Result, Ok, Err, refl, sym, ap, ◌∙◌, arith, Stop, Piece, Fault, ReadError, CoreInstr, ◌>>=◌, Fails, Given, registers_of, columns_at, Rows, rows, row_at, row_in, rows_within, rows_at, table, table_at, remaining_of, ends_rows}
+use Rattle.litmus_reader.proofs.Vocabulary.{◌≡◌, ℕ, zero, suc, ◌≤◌, ◌<◌, true, false, List, [], ◌∷◌, length, Result, Ok, Err, refl, sym, ap, ◌∙◌, arith, Stop, Piece, Fault, ReadError, CoreInstr, Fails, ◌>>=◌, Given, registers_of, columns_at, Rows, rows, row_at, row_in, rows_within, rows_at, table, table_at, remaining_of, ends_rows}
 use Rattle.litmus_cells.specs.declared.fault.ReadError.TheVariants as errors
 
 -- the total is what the rest gives, in some number of rows that is enough

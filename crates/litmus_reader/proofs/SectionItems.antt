@@ -1,5 +1,5 @@
 -- The initial state, section by section.
-use Rattle.litmus_reader.proofs.Vocabulary.{◌≡◌, ◌<◌, Bool, true, false, ◌||◌, List, [], ◌∷◌, ◌++◌, length, Some, None, Result, Ok, Err, refl, sym, ap, ◌∙◌, inl, inr, arith, length-append, Equals, Semicolon, Colon, OpenSquare, CloseSquare, CloseCurly, Term, Piece, is_symbol, symbol_at, name_at, number_at, Fault, Part, ReadError, terms, unfit, remaining_of, ◌>>=◌, Fails, Initial, judged, ends_item, item_in, step_in, item_or_none, closes, section_in, is_one_of, item_ends, location_at, setting_at, plain_setting}
+use Rattle.litmus_reader.proofs.Vocabulary.{◌≡◌, ◌<◌, Bool, true, false, ◌||◌, List, [], ◌∷◌, ◌++◌, length, Some, None, Result, Ok, Err, refl, sym, ap, ◌∙◌, inl, inr, arith, length-append, Equals, Semicolon, Colon, OpenSquare, CloseSquare, CloseCurly, Term, Piece, is_symbol, symbol_at, name_at, number_at, Fault, Part, ReadError, terms, unfit, remaining_of, Fails, ◌>>=◌, item_or_none, closes, section_in, Initial, judged, ends_item, item_in, step_in, is_one_of, item_ends, location_at, setting_at, plain_setting}
 use Rattle.litmus_cells.specs.declared.fault.ReadError.TheVariants as errors
 use Rattle.litmus_reader.proofs.Cuts.{Section, Cut, CutAfter, Alike}
 use Rattle.litmus_reader.proofs.GrammarInitialItems.{length-terms, setting_some}

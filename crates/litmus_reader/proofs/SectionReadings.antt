@@ -1,5 +1,5 @@
 -- The initial state and the rows of a text, as their sections are read one after the other.
-use Rattle.litmus_reader.proofs.Vocabulary.{◌≡◌, ℕ, ◌<◌, Bool, true, false, List, length, Ok, refl, sym, arith, length-map, Stop, Token, Piece, piece_of, pieces, Part, ReadError, in_initial, Fails, Initial, section_in, tokens_in, stop_of, item_ends, IsSection}
+use Rattle.litmus_reader.proofs.Vocabulary.{◌≡◌, ℕ, ◌<◌, Bool, true, false, List, length, Ok, refl, sym, arith, length-map, Stop, Token, Piece, piece_of, pieces, Part, ReadError, in_initial, Fails, section_in, Initial, tokens_in, stop_of, item_ends, IsSection}
 use Rattle.litmus_reader.proofs.ItemSteps.{ReadItems, ItemsAfter}
 use Rattle.litmus_reader.proofs.SectionItems.{section_done, section_goes_on, section_fails, section_some}
 use Rattle.litmus_reader.proofs.SectionRows.{item_section, item_section_cut}

@@ -1,6 +1,6 @@
 -- Sections of a text, one token after the other.
-use Rattle.litmus_reader.proofs.Vocabulary.{◌||◌, ◌≡◌, ℕ, ◌+◌, ◌≤◌, ◌<◌, true, false, cond, List, [], ◌∷◌, ◌++◌, length, Some, None, Ok, Err, refl, sym, ap, ◌∙◌, append_assoc, arith, length-append, Stop, End, Symbol, Tilde, Term, number, name, symbol, Piece, piece_at, is_symbol, symbol_at, name_then, name_at, there, if_word, word_after, Why, BadToken, ends_rows_term, ends_rows, fault, at_stop, remaining_of, tokens_in, stop_of, is_one_of, Through, IsSection, opened}
-use Rattle.litmus_reader.specs.inner.Keywords.{is_word}
+use Rattle.litmus_reader.proofs.Vocabulary.{◌||◌, ◌≡◌, ℕ, ◌+◌, ◌≤◌, ◌<◌, true, false, cond, List, [], ◌∷◌, ◌++◌, length, Some, None, Ok, Err, refl, sym, ap, ◌∙◌, append_assoc, arith, length-append, Stop, End, Symbol, Tilde, Term, number, name, symbol, Piece, piece_at, is_symbol, symbol_at, name_then, name_at, there, if_word, word_after, is_word, Why, ends_rows_term, ends_rows, fault, at_stop, remaining_of, tokens_in, stop_of, is_one_of, Through, IsSection, opened}
+use Rattle.litmus_cells.specs.declared.fault.Why.TheVariants.{BadToken}
 use Rattle.litmus_reader.proofs.Lexed.{first_again, none_again}
 
 -- none of the tokens is one of these symbols

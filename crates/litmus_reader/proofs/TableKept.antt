@@ -1,9 +1,9 @@
 -- What the rows give stays within the limits of a test.
-use Rattle.litmus_reader.proofs.Vocabulary.{◌≡◌, ℕ, zero, suc, ◌+◌, ◌≤◌, ◌<◌, ◌==◌, Bool, true, false, cond, ltb, eqb, List, [], ◌∷◌, ◌++◌, length, filter, All, Option, Some, None, Result, Ok, Err, IfOk, refl, sym, ap, subst, ◌∙◌, arith, count_by, ltb-true, length-map, length-filter, sum_by-append, All-append, All-nil, All-weaker, All-filter, All-map, most_cores, KnownLocation, IsProgram, Loc, Instr, StoreImm, StoreReg, Load, SetImm, SetReg, Fence, Xchg, Xadd, Stop, Piece, Fault, CoreInstr, ◌>>=◌, or_unfit, located, word_at, spelled_in, core_at, separator_at, columns, in_columns, instr_of, count_of, or_bad_instruction, cell_in, of_core, cells_in, row_at, counted, row_in, Rows, rows_within, rows_at, Table, table_at, Given, registers_of, remaining_of, Shape, store_imm, store_reg, load, set_imm, set_reg, fence, xchg, xadd, ends_rows, cells_of, program_of, programs_from}
+use Rattle.litmus_reader.proofs.Vocabulary.{◌≡◌, ℕ, zero, suc, ◌+◌, ◌≤◌, ◌<◌, ◌==◌, Bool, true, false, cond, ltb, eqb, List, [], ◌∷◌, ◌++◌, length, filter, replicate, All, Option, Some, None, Result, Ok, Err, IfOk, refl, sym, ap, subst, ◌∙◌, arith, count_by, ltb-true, length-map, length-filter, sum_by-append, All-append, All-nil, All-weaker, All-filter, All-map, most_cores, KnownLocation, ConstantIsWord, IsProgram, IsWord, Loc, Instr, StoreImm, StoreReg, Load, SetImm, SetReg, Fence, Xchg, Xadd, Stop, Piece, Fault, CoreInstr, ◌>>=◌, or_unfit, located, word_at, spelled_in, core_at, separator_at, columns, in_columns, instr_of, count_of, or_bad_instruction, cell_in, of_core, cells_in, cells_of, row_at, counted, row_in, Rows, rows_within, rows_at, Table, table_at, Given, registers_of, no_registers, remaining_of, Shape, store_imm, store_reg, load, set_imm, set_reg, fence, xchg, xadd, ends_rows, program_of, programs_from}
 use Rattle.std.proofs.lemmas.Bool.{eqb-true}
-use Rattle.litmus_reader.proofs.Keeps.{Any, ok_any, bind_keeps, cond_keeps}
+use Rattle.litmus_reader.proofs.Keeps.{Any, ok_any, bind_keeps, cond_keeps, word_keeps}
 use Rattle.litmus_reader.proofs.Named.{NamedShape, IfNamed, spelled_named}
-use Rattle.litmus_reader.proofs.InitialKept.{HasLength, all_registers_keep}
+use Rattle.litmus_reader.proofs.InitialKept.{GivenFrom, all_registers_keep}
 use Rattle.litmus_reader.proofs.Known.{AreNames, Grown, same_names, LocatesIn, located_keeps, All-one}
 
 -- ---- the header row
@@ -30,28 +30,29 @@ columns_few stop (suc n) core ps =
 record IsRead (old : List (List ℕ)) (instr : Instr) (new : List (List ℕ)) : Type 0 where
   pub grown : Grown old new
   pub known : KnownLocation (length new) instr
+  pub constant : ConstantIsWord instr
 
 abbrev IsReadIn : List (List ℕ) → Instr × List (List ℕ) → Type 0
 IsReadIn old r = IsRead old r.0 r.1
 
 located_instr : (remaining : ℕ) (names : List (List ℕ)) (x : List ℕ) (make : Loc → Instr) → ((n : ℕ) (loc : Loc) → loc.0 < n → KnownLocation n (make loc))
-    → AreNames names → NamedShape (store_imm x 0) → IfOk (located remaining names x >>= λ loc. Ok (make loc.0, loc.1)) (IsReadIn names)
-located_instr remaining names x make knows h is =
+    → ((loc : Loc) → ConstantIsWord (make loc)) → AreNames names → NamedShape (store_imm x 0) → IfOk (located remaining names x >>= λ loc. Ok (make loc.0, loc.1)) (IsReadIn names)
+located_instr remaining names x make knows constant h is =
     bind_keeps (LocatesIn names) (IsReadIn names) (located remaining names x) _ (located_keeps remaining names x h is)
-    (λ loc l. record { grown = l.grown; known = knows (length loc.1) loc.0 l.below })
+    (λ loc l. record { grown = l.grown; known = knows (length loc.1) loc.0 l.below; constant = constant loc.0 })
 
 instr_keeps : (remaining : ℕ) (names : List (List ℕ)) (shape : Shape) → AreNames names → NamedShape shape → IfOk (instr_of remaining names shape) (IsReadIn names)
 unfolding instr_of
 instr_keeps remaining names (store_imm x v) h is =
-    bind_keeps (λ n. Any n) (IsReadIn names) (word_at remaining v) _ (ok_any _) (λ value _. located_instr remaining names x (λ loc. StoreImm loc value) (λ n loc lt. lt) h is)
-instr_keeps remaining names (store_reg x reg) h is = located_instr remaining names x (λ loc. StoreReg loc reg) (λ n loc lt. lt) h is
-instr_keeps remaining names (load reg x) h is = located_instr remaining names x (λ loc. Load reg loc) (λ n loc lt. lt) h is
+    bind_keeps (λ n. IsWord n) (IsReadIn names) (word_at remaining v) _ (word_keeps remaining v) (λ value word. located_instr remaining names x (λ loc. StoreImm loc value) (λ n loc lt. lt) (λ loc. word) h is)
+instr_keeps remaining names (store_reg x reg) h is = located_instr remaining names x (λ loc. StoreReg loc reg) (λ n loc lt. lt) (λ loc. tt) h is
+instr_keeps remaining names (load reg x) h is = located_instr remaining names x (λ loc. Load reg loc) (λ n loc lt. lt) (λ loc. tt) h is
 instr_keeps remaining names (set_imm reg v) h is =
-    bind_keeps (λ n. Any n) (IsReadIn names) (word_at remaining v) _ (ok_any _) (λ value _. record { grown = same_names names h; known = tt })
-instr_keeps remaining names (set_reg reg other) h is = record { grown = same_names names h; known = tt }
-instr_keeps remaining names fence h is = record { grown = same_names names h; known = tt }
-instr_keeps remaining names (xchg x reg) h is = located_instr remaining names x (λ loc. Xchg loc reg) (λ n loc lt. lt) h is
-instr_keeps remaining names (xadd x reg) h is = located_instr remaining names x (λ loc. Xadd loc reg) (λ n loc lt. lt) h is
+    bind_keeps (λ n. IsWord n) (IsReadIn names) (word_at remaining v) _ (word_keeps remaining v) (λ value word. record { grown = same_names names h; known = tt; constant = word })
+instr_keeps remaining names (set_reg reg other) h is = record { grown = same_names names h; known = tt; constant = tt }
+instr_keeps remaining names fence h is = record { grown = same_names names h; known = tt; constant = tt }
+instr_keeps remaining names (xchg x reg) h is = located_instr remaining names x (λ loc. Xchg loc reg) (λ n loc lt. lt) (λ loc. tt) h is
+instr_keeps remaining names (xadd x reg) h is = located_instr remaining names x (λ loc. Xadd loc reg) (λ n loc lt. lt) (λ loc. tt) h is
 
 pub known_further : (m n : ℕ) (i : Instr) → m ≤ n → KnownLocation m i → KnownLocation n i
 known_further m n (StoreImm loc value) le h = omega arith
@@ -70,6 +71,7 @@ pub record Kept (least : ℕ) (instrs : List CoreInstr) (locations : List (List 
   pub names : AreNames locations
   pub more : least ≤ length locations
   pub known : All (λ i. KnownLocation (length locations) i.instr) instrs
+  pub constants : All (λ i. ConstantIsWord i.instr) instrs
   pub room : (core : ℕ) → count_of core instrs ≤ 32
 
 abbrev pub KeptIn : ℕ → List CoreInstr × List (List ℕ) → Type 0
@@ -98,6 +100,7 @@ cell_keeps least core instrs names (p ∷ ps) h =
       known = All-append (λ i. KnownLocation (length instr.1) i.instr) instrs (of_core core instr.0 ∷ [])
           (All-weaker (λ i. KnownLocation (length names) i.instr) (λ i. KnownLocation (length instr.1) i.instr) (λ i k. known_further _ _ i.instr is.grown.grown k) instrs h.known)
           (All-one (λ i. KnownLocation (length instr.1) i.instr) (of_core core instr.0) is.known);
+      constants = All-append (λ i. ConstantIsWord i.instr) instrs (of_core core instr.0 ∷ []) h.constants (All-one (λ i. ConstantIsWord i.instr) (of_core core instr.0) is.constant);
       room = λ other. room-push core other instrs instr.0 (ltb-true _ _ room) (h.room other);
     })
     (λ _. tt)))
@@ -130,24 +133,32 @@ rows_keep least (suc n) stop cores instrs names ps h =
     (λ read k. rows_keep least n stop cores read.0 read.1 row.1 k)))
 
 none_yet : (names : List (List ℕ)) → AreNames names → Kept (length names) [] names
-none_yet names h = record { names = h; more = omega arith; known = All-nil _; room = λ core. omega arith }
+none_yet names h = record { names = h; more = omega arith; known = All-nil _; constants = All-nil _; room = λ core. omega arith }
 
 -- what the header row and the rows give, after so many names or more
-pub record KeptTable (least : ℕ) (t : Table) : Type 0 where
+pub record KeptTable (least : ℕ) (given : List Given) (t : Table) : Type 0 where
   pub some : 0 < t.cores
   pub few : t.cores ≤ most_cores
-  pub each : length t.registers ≡ t.cores
+  pub registers : GivenFrom t.cores given (replicate t.cores no_registers) t.registers
   pub kept : Kept least t.rows.instrs t.rows.names
 
-pub table_keeps : (stop : Stop) (given : List Given) (names : List (List ℕ)) (ps : List Piece) → AreNames names → IfOk (table_at stop given names ps) (KeptTable (length names))
+pub table_keeps : (stop : Stop) (given : List Given) (names : List (List ℕ)) (ps : List Piece) → AreNames names → IfOk (table_at stop given names ps) (KeptTable (length names) given)
 unfolding table_at rows_at
 table_keeps stop given names ps h =
-    bind_keeps (FewCores 0 most_cores) (KeptTable (length names)) (columns stop most_cores 0 ps) _ (columns_few stop most_cores 0 ps)
-    (λ columns few. bind_keeps (HasLength columns.0) (KeptTable (length names)) (registers_of columns.0 given) _ (all_registers_keep columns.0 given)
-    (λ registers each. bind_keeps (KeptRows (length names)) (KeptTable (length names)) (rows_within (length columns.1) stop columns.0 [] names columns.1) _ (rows_keep (length names) (length columns.1) stop columns.0 [] names columns.1 (none_yet names h))
-    (λ r kept. record { some = few.0; few = omega (arith, few.1); each = each; kept = kept })))
+    bind_keeps (FewCores 0 most_cores) (KeptTable (length names) given) (columns stop most_cores 0 ps) _ (columns_few stop most_cores 0 ps)
+    (λ columns few. bind_keeps (GivenFrom columns.0 given (replicate columns.0 no_registers)) (KeptTable (length names) given) (registers_of columns.0 given) _ (all_registers_keep columns.0 given)
+    (λ read registers. bind_keeps (KeptRows (length names)) (KeptTable (length names) given) (rows_within (length columns.1) stop columns.0 [] names columns.1) _ (rows_keep (length names) (length columns.1) stop columns.0 [] names columns.1 (none_yet names h))
+    (λ r kept. record { some = few.0; few = omega (arith, few.1); registers = registers; kept = kept })))
 
 -- ---- programs
+
+pub programs_constants : (instrs : List CoreInstr) → All (λ i. ConstantIsWord i.instr) instrs → (cores core : ℕ) → All (λ program. All ConstantIsWord program) (programs_from core cores instrs)
+programs_constants instrs words zero core = All-nil _
+programs_constants instrs words (suc cores) core =
+    All-append (λ program. All ConstantIsWord program) (program_of instrs core ∷ []) (programs_from (core + 1) cores instrs)
+    (All-one (λ program. All ConstantIsWord program) (program_of instrs core)
+    (All-map ConstantIsWord (λ (i : CoreInstr). i.instr) (filter (λ (i : CoreInstr). i.core == core) instrs) (All-filter (λ (i : CoreInstr). i.core == core) (λ i. ConstantIsWord i.instr) instrs words)))
+    (programs_constants instrs words cores (core + 1))
 
 pub programs_fit : (n : ℕ) (instrs : List CoreInstr) → All (λ i. KnownLocation n i.instr) instrs → ((core : ℕ) → count_of core instrs ≤ 32) → (cores core : ℕ) → All (IsProgram n) (programs_from core cores instrs)
 programs_fit n instrs known room zero core = All-nil _

@@ -1,13 +1,13 @@
 -- What a text spells is within the limits of a test.
-use Rattle.litmus_reader.proofs.Vocabulary.{◌≡◌, ℕ, ◌≤◌, ◌<◌, Bool, true, not, eqb, ltb, ◌&&◌, List, [], ◌∷◌, length, All, Option, Some, None, Result, Ok, IfOk, sym, arith, list_all, IsUtf8, and_parts, and_from, nat_tests, AllPass-from_list_all, list_all-from_AllPass, All-weaker, most_cores, Litmus, IsTest, HasWords, KnownLocation, Condition, is_name, is_location_name, is_register_word, is_test_name, is_printable, begins_name, continues_name, last_byte, Stop, Piece, pieces_of, gap_end, Fault, CoreInstr, sized, from_gap, header_at, braces_at, Initial, Given, initial_at, Table, table_at, ending_tokens, conditioned, condition_at, end_at, ending_at, tail_at, test_of, body_of, reading_of, programs_from, first_line, name_in}
+use Rattle.litmus_reader.proofs.Vocabulary.{◌≡◌, ℕ, ◌≤◌, ◌<◌, Bool, true, not, eqb, ltb, ◌&&◌, List, [], ◌∷◌, length, All, Option, Some, None, Result, Ok, IfOk, sym, arith, list_all, IsUtf8, and_parts, and_from, nat_tests, AllPass-from_list_all, list_all-from_AllPass, All-weaker, most_cores, Litmus, IsTest, KnownLocation, IsWord, AreRegisters, Condition, is_name, is_location_name, is_register_word, is_test_name, is_printable, begins_name, continues_name, last_byte, Stop, Piece, pieces_of, gap_end, Fault, CoreInstr, sized, from_gap, header_at, braces_at, Initial, Given, initial_at, Table, table_at, ending_tokens, conditioned, condition_at, end_at, ending_at, tail_at, test_of, body_of, reading_of, programs_from, first_line, name_in}
 use Rattle.std.proofs.lemmas.Str.{IsUtf8-from_ascii}
 use Rattle.std.proofs.lemmas.Str.Ascii.{IsAscii-from_all}
-use Rattle.litmus_reader.specs.inner.Header.{judged}
+use Rattle.litmus_reader.specs.Header.{judged}
 use Rattle.litmus_reader.proofs.Keeps.{Any, ok_any, bind_keeps, cond_keeps, ok_is}
 use Rattle.litmus_reader.proofs.Named.{IsLocation}
 use Rattle.litmus_reader.proofs.Known.{AreNames}
-use Rattle.litmus_reader.proofs.InitialKept.{KeptInitial, initial_keeps, length-words}
-use Rattle.litmus_reader.proofs.TableKept.{Kept, KeptTable, table_keeps, known_further, programs_fit, length-programs}
+use Rattle.litmus_reader.proofs.InitialKept.{KeptInitial, initial_keeps, length-words, words-of, registers-words}
+use Rattle.litmus_reader.proofs.TableKept.{Kept, KeptTable, table_keeps, known_further, programs_fit, programs_constants, length-programs}
 use Rattle.litmus_reader.proofs.ClaimsKept.{KeptCondition, condition_keeps}
 
 -- ---- names are text
@@ -82,18 +82,14 @@ pub names_are_text : (text : List ℕ) (stop : Stop) (start rest : List Piece) (
     → initial_at stop [] start ≡ Ok (i, rest) → table_at stop given i.names rest ≡ Ok t → tail_at text stop t.cores t.rows.names t.rows.rest ≡ Ok (condition, names) → All (λ name. IsUtf8 name) names
 names_are_text text stop start rest i given t condition names initial table ending =
     let first : KeptInitial i = ok_is (λ (x : Initial × List Piece). KeptInitial x.0) (initial_at stop [] start) (i, rest) (initial_keeps stop start) initial in
-    let kept : KeptTable (length i.names) t = ok_is (KeptTable (length i.names)) (table_at stop given i.names rest) t (table_keeps stop given i.names rest first.names) table in
+    let kept : KeptTable (length i.names) given t = ok_is (KeptTable (length i.names) given) (table_at stop given i.names rest) t (table_keeps stop given i.names rest first.names) table in
     let after : EndingKept t.cores t.rows.names (condition, names) = ok_is (EndingKept t.cores t.rows.names) (tail_at text stop t.cores t.rows.names t.rows.rest) (condition, names) (tail_keeps text stop t.cores t.rows.names t.rows.rest kept.kept.names) ending in
     All-weaker (λ name. IsLocation name) (λ name. IsUtf8 name) location_text names after.grown.names.spelled
 
--- a test within the limits, once its values are words
-abbrev pub IsTestOfWords : Litmus → Type 0
-IsTestOfWords t = HasWords t → IsTest t
-
 test_fits : (name : List ℕ) (cores least : ℕ) (old : List (List ℕ)) (words : List ℕ) (registers : List (List ℕ)) (instrs : List CoreInstr) (condition : Option Condition) (names : List (List ℕ))
-    → is_test_name name ≡ true → 0 < cores → cores ≤ most_cores → length registers ≡ cores → length words ≤ least → Kept least instrs old → EndingKept cores old (condition, names)
-    → IsTestOfWords (test_of name names words registers instrs condition)
-test_fits name cores least old words registers instrs condition names is some few each given kept after = λ values.
+    → is_test_name name ≡ true → 0 < cores → cores ≤ most_cores → length registers ≡ cores → All AreRegisters registers → length words ≤ least → All IsWord words → Kept least instrs old → EndingKept cores old (condition, names)
+    → IsTest (test_of name names words registers instrs condition)
+test_fits name cores least old words registers instrs condition names is some few each registers_are given words_are kept after =
     let n : length (programs_from 0 (length registers) instrs) ≡ length registers = length-programs 0 (length registers) instrs in
     record {
       name_spelled = is;
@@ -103,7 +99,7 @@ test_fits name cores least old words registers instrs condition names is some fe
       location_count = after.grown.names.count;
       locations_spelled = list_all-from_AllPass is_location_name names after.grown.names.spelled;
       locations_differ = after.grown.names.differ;
-      values = values;
+      values = record { words = words-of (length names) words words_are; registers = registers_are; constants = programs_constants instrs kept.constants (length registers) 0 };
       words_given = length-words (length names) words (omega (arith, given, kept.more, after.grown.grown));
       programs_fit = programs_fit (length names) instrs
           (All-weaker (λ i. KnownLocation (length old) i.instr) (λ i. KnownLocation (length names) i.instr) (λ i k. known_further _ _ i.instr after.grown.grown k) instrs kept.known)
@@ -111,18 +107,18 @@ test_fits name cores least old words registers instrs condition names is some fe
       condition_fits = λ x e. rw (n, each) (after.fits x e);
     }
 
-body_keeps : (name text : List ℕ) (stop : Stop) (ps : List Piece) → is_test_name name ≡ true → IfOk (body_of name text stop ps) IsTestOfWords
+body_keeps : (name text : List ℕ) (stop : Stop) (ps : List Piece) → is_test_name name ≡ true → IfOk (body_of name text stop ps) IsTest
 unfolding body_of
 body_keeps name text stop ps is =
-    bind_keeps (λ (x : Initial × List Piece). KeptInitial x.0) IsTestOfWords (initial_at stop [] ps) _ (initial_keeps stop ps)
-    (λ i first. bind_keeps (KeptTable (length i.0.names)) IsTestOfWords (table_at stop i.0.registers i.0.names i.1) _ (table_keeps stop i.0.registers i.0.names i.1 first.names)
-    (λ t kept. bind_keeps (EndingKept t.cores t.rows.names) IsTestOfWords (tail_at text stop t.cores t.rows.names t.rows.rest) _ (tail_keeps text stop t.cores t.rows.names t.rows.rest kept.kept.names)
-    (λ ending after. test_fits name t.cores (length i.0.names) t.rows.names i.0.words t.registers t.rows.instrs ending.0 ending.1 is kept.some kept.few kept.each first.few kept.kept after)))
+    bind_keeps (λ (x : Initial × List Piece). KeptInitial x.0) IsTest (initial_at stop [] ps) _ (initial_keeps stop ps)
+    (λ i first. bind_keeps (KeptTable (length i.0.names) i.0.registers) IsTest (table_at stop i.0.registers i.0.names i.1) _ (table_keeps stop i.0.registers i.0.names i.1 first.names)
+    (λ t kept. bind_keeps (EndingKept t.cores t.rows.names) IsTest (tail_at text stop t.cores t.rows.names t.rows.rest) _ (tail_keeps text stop t.cores t.rows.names t.rows.rest kept.kept.names)
+    (λ ending after. test_fits name t.cores (length i.0.names) t.rows.names i.0.words t.registers t.rows.instrs ending.0 ending.1 is kept.some kept.few kept.registers.each (registers-words t.cores i.0.registers t.registers kept.registers first.given) first.few first.words kept.kept after)))
 
-pub spelled_is_test : (text : List ℕ) (t : Litmus) → reading_of text ≡ Ok t → HasWords t → IsTest t
+pub spelled_is_test : (text : List ℕ) (t : Litmus) → reading_of text ≡ Ok t → IsTest t
 unfolding reading_of
-spelled_is_test text t is = ok_is IsTestOfWords _ t
-    (bind_keeps (λ x. Any x) IsTestOfWords (sized text) _ (ok_any _)
-    (λ bytes _. bind_keeps IsNamed IsTestOfWords (header_at bytes) _ (header_named bytes)
-    (λ header named. bind_keeps (λ x. Any x) IsTestOfWords (braces_at header.1) _ (ok_any _)
+spelled_is_test text t is = ok_is IsTest _ t
+    (bind_keeps (λ x. Any x) IsTest (sized text) _ (ok_any _)
+    (λ bytes _. bind_keeps IsNamed IsTest (header_at bytes) _ (header_named bytes)
+    (λ header named. bind_keeps (λ x. Any x) IsTest (braces_at header.1) _ (ok_any _)
     (λ braces _. body_keeps header.0 braces (pieces_of braces).1 (pieces_of braces).0 named)))) is

@@ -13,7 +13,7 @@ use Rattle.litmus_cells.specs.GrammarNames.{numbered, number_of}
 use Rattle.litmus_reader.specs.GrammarItems.{IsSetting}
 use Rattle.litmus_reader.specs.GrammarInitial.{names_in, is_allowed}
 use Rattle.litmus_reader.specs.Written.{Setting, of_register, of_location, Phrase, truth, atom, negation, both, either}
-use Rattle.litmus_reader.specs.Misfits.{is_word}
+use Rattle.litmus_reader.specs.Keywords.{is_word}
 use Rattle.litmus_tokens.specs.Front.{is_symbol_term}
 
 -- `true`, `false`, `c:REG=v`, `x=v` or `[x]=v`

@@ -5,7 +5,7 @@ use Rattle.tso_model.specs.Litmus.{Litmus}
 use Rattle.litmus_tokens.specs.Line.{line_of}
 use Rattle.litmus_cells.specs.declared.fault.Fault.{Fault}
 use Rattle.litmus_reader.specs.declared.fault.TextFault.{TextFault}
-use Rattle.litmus_reader.specs.inner.Reading.{reading_of}
+use Rattle.litmus_reader.specs.Reading.{reading_of}
 
 -- the text spells this test
 abbrev pub SpellsTest : List ℕ → Litmus → Type 0

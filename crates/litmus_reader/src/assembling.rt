@@ -4,8 +4,8 @@ ghost use Rattle.std.specs.Prelude.{◌≡◌, IfOk, All, map, replicate, string
 ghost use Rattle.std.specs.Str.{IsUtf8};
 ghost use Rattle.tso_model.specs.Names as names;
 ghost use Rattle.litmus_cells.specs.Locations.{texts};
-ghost use Rattle.litmus_reader.specs.inner.Initial as initial;
-ghost use Rattle.litmus_reader.specs.inner.Reading as spec;
+ghost use Rattle.litmus_reader.specs.Initial as initial;
+ghost use Rattle.litmus_reader.specs.Reading as spec;
 ghost use Rattle.litmus_reader.specs.Returned.{AreParts, asked_of};
 
 use crate::row::Table;

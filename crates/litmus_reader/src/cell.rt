@@ -7,7 +7,7 @@ ghost use Rattle.litmus_tokens.specs.Front as front;
 ghost use Rattle.litmus_cells.specs.inner.Returned.{GivesCells};
 ghost use Rattle.litmus_reader.specs.inner.Cells as spec;
 ghost use Rattle.litmus_reader.specs.inner.Cells.{cells_after};
-ghost use Rattle.litmus_reader.specs.RefusedTable.{cells_of};
+ghost use Rattle.litmus_reader.specs.Cells.{cells_of};
 
 use indexmap::IndexSet;
 use litmus_cells::{CoreInstr, ReadError, read_cell};

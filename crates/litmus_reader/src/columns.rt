@@ -6,7 +6,7 @@ ghost use Rattle.std.specs.Option.{option_map};
 ghost use Rattle.tso_model.specs.Limits.{most_cores};
 ghost use Rattle.litmus_tokens.specs.inner.Pieces.{pieces};
 ghost use Rattle.litmus_tokens.specs.inner.Mapped.{mapped};
-ghost use Rattle.litmus_reader.specs.inner.Columns as spec;
+ghost use Rattle.litmus_reader.specs.Columns as spec;
 
 use crate::fault::{Part, at_stop, remaining_of};
 use litmus_cells::{Fault, Why};
@@ -27,7 +27,7 @@ fn in_columns(stop: Stop) -> Part
 }
 
 /// What stands after the name of this core.
-#[tactic(auto, unfolding(crate::specs::inner::Columns::core_at))]
+#[tactic(auto, unfolding(crate::specs::Columns::core_at))]
 fn after_core<'a, 'b>(core: usize, tokens: &'b [Token<'a>]) -> Option<&'b [Token<'a>]>
     requires { core ≤ most_cores }
     ensures { option_map (λ x. pieces x.now) result ≡ spec.core_at core (pieces tokens.now) }
@@ -41,7 +41,7 @@ fn after_core<'a, 'b>(core: usize, tokens: &'b [Token<'a>]) -> Option<&'b [Token
 }
 
 /// Whether another core follows, and what stands after the vertical bar or the `;`.
-#[tactic(auto, unfolding(crate::specs::inner::Columns::separator_at))]
+#[tactic(auto, unfolding(crate::specs::Columns::separator_at))]
 fn after_separator<'a, 'b>(tokens: &'b [Token<'a>]) -> Option<(bool, &'b [Token<'a>])>
     ensures { option_map (λ x. (x.0, pieces x.1.now)) result ≡ spec.separator_at (pieces tokens.now) }
 {

@@ -11,6 +11,7 @@ ghost use Rattle.litmus_tokens.specs.inner.Mapped.{mapped};
 ghost use Rattle.litmus_cells.specs.Locations.{texts};
 ghost use Rattle.litmus_reader.specs.inner.Settings.{setting_of};
 ghost use Rattle.litmus_reader.specs.inner.Conditions as spec;
+ghost use Rattle.litmus_reader.specs.Conditions as inner;
 ghost use Rattle.litmus_cells.specs.inner.Returned.{GivesNamed};
 ghost use Rattle.litmus_reader.specs.inner.Returned.{GivesClaim, GivesCondition};
 
@@ -26,7 +27,7 @@ use tso_model::limits::MAX_ATOMS;
 use tso_model::{Cond, Prop, Quantifier};
 
 fn in_condition(stop: Stop) -> Part
-    ensures { result ≡ spec.in_condition stop }
+    ensures { result ≡ inner.in_condition stop }
 {
     let end = Fault {
         why: Why::BadCondition,
@@ -41,7 +42,7 @@ fn in_condition(stop: Stop) -> Part
 /// The proposition of an atom.
 ///
 /// `NoSuchCore`, then `BadNumber`, then `TooLarge` for a location too many, at `remaining`.
-#[tactic(auto, unfolding(crate::specs::inner::Conditions::claim_in))]
+#[tactic(auto, unfolding(crate::specs::Conditions::claim_in))]
 fn prop_of<'a>(
     cores: usize,
     remaining: usize,
@@ -49,7 +50,7 @@ fn prop_of<'a>(
     item: SpelledSetting<'a>,
 ) -> Result<Prop, ReadError>
     requires { cores ≤ most_cores }
-    ensures { GivesNamed (λ p. claim_of p) result names.new.keys (spec.claim_in cores remaining (texts names.old.keys) (setting_of item.entry)) }
+    ensures { GivesNamed (λ p. claim_of p) result names.new.keys (inner.claim_in cores remaining (texts names.old.keys) (setting_of item.entry)) }
 {
     match item {
         SpelledSetting::Register(digits, reg, value) => {
@@ -67,7 +68,7 @@ fn prop_of<'a>(
 
 /// Counts one atom more; `TooLarge` at `remaining` for one too many.
 fn count_atom(remaining: usize, atoms: &mut usize) -> Result<(), Fault>
-    ensures { mapped (λ _. atoms.new) result ≡ spec.one_more remaining atoms.old }
+    ensures { mapped (λ _. atoms.new) result ≡ inner.one_more remaining atoms.old }
 {
     if *atoms >= MAX_ATOMS {
         return Err(Fault {
@@ -80,9 +81,9 @@ fn count_atom(remaining: usize, atoms: &mut usize) -> Result<(), Fault>
 }
 
 /// Whether `true` or `false` is at the front, and the tokens after it.
-#[tactic(auto, unfolding(crate::specs::inner::Conditions::truth_at))]
+#[tactic(auto, unfolding(crate::specs::Conditions::truth_at))]
 fn truth_at<'a, 'b>(tokens: &'b [Token<'a>]) -> Option<(bool, &'b [Token<'a>])>
-    ensures value { option_map (λ x. (x.0, pieces x.1.now)) result ≡ spec.truth_at (pieces tokens.now) }
+    ensures value { option_map (λ x. (x.0, pieces x.1.now)) result ≡ inner.truth_at (pieces tokens.now) }
     ensures shorter { IfSome result (λ x. length x.1.now < length tokens.now) }
 {
     if let Some(rest) = after_word(b"true", tokens) {
@@ -93,7 +94,7 @@ fn truth_at<'a, 'b>(tokens: &'b [Token<'a>]) -> Option<(bool, &'b [Token<'a>])>
 }
 
 /// The atom of a register or a location at the front, and the tokens after it.
-#[tactic(auto, unfolding(crate::specs::inner::Conditions::setting_atom))]
+#[tactic(auto, unfolding(crate::specs::Conditions::setting_atom))]
 fn setting_atom<'a, 'b>(
     stop: Stop,
     cores: usize,
@@ -102,7 +103,7 @@ fn setting_atom<'a, 'b>(
     tokens: &'b [Token<'a>],
 ) -> Result<(Prop, &'b [Token<'a>]), ReadError>
     requires { cores ≤ most_cores }
-    ensures value { GivesClaim (spec.setting_atom stop cores) atoms.old names.old.keys tokens.now result atoms.new names.new.keys }
+    ensures value { GivesClaim (inner.setting_atom stop cores) atoms.old names.old.keys tokens.now result atoms.new names.new.keys }
     ensures shorter { IfOk result (λ x. length x.1.now < length tokens.now) }
 {
     let remaining = remaining_of(tokens);
@@ -116,7 +117,7 @@ fn setting_atom<'a, 'b>(
 ///
 /// `BadCondition` at a token that doesn't fit; then, at the atom's first token, `NoSuchCore`,
 /// `BadNumber`, and `TooLarge` for a location or an atom too many.
-#[tactic(auto, unfolding(crate::specs::inner::Conditions::atom_at))]
+#[tactic(auto, unfolding(crate::specs::Conditions::atom_at))]
 fn atom_at<'a, 'b>(
     stop: Stop,
     cores: usize,
@@ -125,7 +126,7 @@ fn atom_at<'a, 'b>(
     tokens: &'b [Token<'a>],
 ) -> Result<(Prop, &'b [Token<'a>]), ReadError>
     requires { cores ≤ most_cores }
-    ensures value { GivesClaim (spec.atom_at stop cores) atoms.old names.old.keys tokens.now result atoms.new names.new.keys }
+    ensures value { GivesClaim (inner.atom_at stop cores) atoms.old names.old.keys tokens.now result atoms.new names.new.keys }
     ensures shorter { IfOk result (λ x. length x.1.now < length tokens.now) }
 {
     if let Some((truth, rest)) = truth_at(tokens) {
@@ -144,22 +145,22 @@ fn not(alloc: Global, inner: Prop) -> Result<Prop, ReadError>
 
 /// Two propositions joined by `/\`.
 fn and(alloc: Global, left: Prop, right: Prop) -> Result<Prop, ReadError>
-    ensures { Gives (λ p. claim_of p) result (Ok (spec.both (claim_of left) (claim_of right))) }
+    ensures { Gives (λ p. claim_of p) result (Ok (inner.both (claim_of left) (claim_of right))) }
 {
     Ok(Prop::And(Box::new(alloc, left)?, Box::new(alloc, right)?))
 }
 
 /// Two propositions joined by `\/`.
 fn or(alloc: Global, left: Prop, right: Prop) -> Result<Prop, ReadError>
-    ensures { Gives (λ p. claim_of p) result (Ok (spec.either (claim_of left) (claim_of right))) }
+    ensures { Gives (λ p. claim_of p) result (Ok (inner.either (claim_of left) (claim_of right))) }
 {
     Ok(Prop::Or(Box::new(alloc, left)?, Box::new(alloc, right)?))
 }
 
 /// What stands after a `~` or a `not`.
-#[tactic(auto, unfolding(crate::specs::inner::Conditions::negation_at))]
+#[tactic(auto, unfolding(crate::specs::Conditions::negation_at))]
 fn after_negation<'a, 'b>(tokens: &'b [Token<'a>]) -> Option<&'b [Token<'a>]>
-    ensures value { option_map (λ x. pieces x.now) result ≡ spec.negation_at (pieces tokens.now) }
+    ensures value { option_map (λ x. pieces x.now) result ≡ inner.negation_at (pieces tokens.now) }
     ensures shorter { IfSome result (λ x. length x.now < length tokens.now) }
 {
     if let Some(rest) = after_symbol(Symbol::Tilde, tokens) {
@@ -169,9 +170,9 @@ fn after_negation<'a, 'b>(tokens: &'b [Token<'a>]) -> Option<&'b [Token<'a>]>
 }
 
 /// Whether a negation or a bracket begins here.
-#[tactic(auto, unfolding(crate::specs::inner::Conditions::opens_unit))]
+#[tactic(auto, unfolding(crate::specs::Conditions::opens_unit))]
 fn opens_unit(tokens: &[Token<'_>]) -> bool
-    ensures { result ≡ spec.opens_unit (pieces tokens.now) }
+    ensures { result ≡ inner.opens_unit (pieces tokens.now) }
 {
     after_negation(tokens).is_some() || after_symbol(Symbol::OpenRound, tokens).is_some()
 }
@@ -188,7 +189,7 @@ struct Surroundings {
 ///
 /// `TooLarge` at a negation or a bracket too many.
 #[cycle(condition)]
-#[tactic(auto, using(crate::proofs::Units::unit_last, crate::proofs::Units::unit_next), unfolding(crate::specs::inner::Conditions::unit_by))]
+#[tactic(auto, using(crate::proofs::Units::unit_last, crate::proofs::Units::unit_next), unfolding(crate::specs::Conditions::unit_by))]
 fn unit_at<'a, 'b>(
     alloc: Global,
     around: Surroundings,
@@ -198,7 +199,7 @@ fn unit_at<'a, 'b>(
     tokens: &'b [Token<'a>],
 ) -> Result<(Prop, &'b [Token<'a>]), ReadError>
     requires { around.cores ≤ most_cores }
-    ensures value { GivesClaim (spec.unit_at around.stop around.cores opens) atoms.old names.old.keys tokens.now result atoms.new names.new.keys }
+    ensures value { GivesClaim (inner.unit_at around.stop around.cores opens) atoms.old names.old.keys tokens.now result atoms.new names.new.keys }
     ensures shorter { IfOk result (λ x. length x.1.now < length tokens.now) }
 {
     if opens == 0 {
@@ -256,7 +257,7 @@ fn proposition_at<'a, 'b>(
     tokens: &'b [Token<'a>],
 ) -> Result<(Prop, &'b [Token<'a>]), ReadError>
     requires { around.cores ≤ most_cores }
-    ensures value { GivesClaim (spec.proposition_at around.stop around.cores opens) atoms.old names.old.keys tokens.now result atoms.new names.new.keys }
+    ensures value { GivesClaim (inner.proposition_at around.stop around.cores opens) atoms.old names.old.keys tokens.now result atoms.new names.new.keys }
     ensures shorter { IfOk result (λ x. length x.1.now < length tokens.now) }
 {
     let (mut prop, mut rest) = conjunction_at(alloc, around, opens, atoms, names, tokens)?;
@@ -269,7 +270,7 @@ fn proposition_at<'a, 'b>(
 }
 
 /// The condition of this quantifier, and the tokens after it.
-#[tactic(auto, unfolding(crate::specs::inner::Conditions::quantified))]
+#[tactic(auto, unfolding(crate::specs::Conditions::quantified))]
 fn quantified<'a, 'b>(
     alloc: Global,
     stop: Stop,
@@ -279,7 +280,7 @@ fn quantified<'a, 'b>(
     tokens: &'b [Token<'a>],
 ) -> Result<(Option<Cond>, &'b [Token<'a>]), ReadError>
     requires { cores ≤ most_cores }
-    ensures { GivesCondition result names.new.keys (spec.quantified stop cores quantifier (texts names.old.keys) (pieces tokens.now)) }
+    ensures { GivesCondition result names.new.keys (inner.quantified stop cores quantifier (texts names.old.keys) (pieces tokens.now)) }
 {
     let mut atoms = 0;
     let around = Surroundings { stop, cores };
@@ -290,7 +291,7 @@ fn quantified<'a, 'b>(
 /// The condition, if there is one, and the tokens after it.
 ///
 /// What stands in a condition and doesn't fit is `BadCondition`.
-#[tactic(auto, unfolding(crate::specs::inner::Conditions::condition_at, crate::specs::inner::Conditions::not_exists))]
+#[tactic(auto, unfolding(crate::specs::Conditions::condition_at, crate::specs::Conditions::not_exists))]
 pub fn condition_at<'a, 'b>(
     alloc: Global,
     stop: Stop,
@@ -299,7 +300,7 @@ pub fn condition_at<'a, 'b>(
     tokens: &'b [Token<'a>],
 ) -> Result<(Option<Cond>, &'b [Token<'a>]), ReadError>
     requires { cores ≤ most_cores }
-    ensures { GivesCondition result names.new.keys (spec.condition_at stop cores (texts names.old.keys) (pieces tokens.now)) }
+    ensures { GivesCondition result names.new.keys (inner.condition_at stop cores (texts names.old.keys) (pieces tokens.now)) }
 {
     if let Some(rest) = after_word(b"exists", tokens) {
         return quantified(alloc, stop, cores, Quantifier::Exists, names, rest);

@@ -3,7 +3,7 @@
 
 ghost use Rattle.std.specs.Prelude.{◌≡◌};
 ghost use Rattle.litmus_tokens.specs.inner.Pieces.{pieces};
-ghost use Rattle.litmus_reader.specs.inner.Faults as spec;
+ghost use Rattle.litmus_reader.specs.Faults as spec;
 ghost use Rattle.litmus_reader.specs.Places as places;
 
 use litmus_cells::{Fault, Why};

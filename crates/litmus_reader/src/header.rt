@@ -7,7 +7,7 @@ ghost use Rattle.std.specs.List.{prefix_len, suffix_len, list_all};
 ghost use Rattle.tso_model.specs.Limits.{longest_test_name};
 ghost use Rattle.tso_model.specs.Names as names;
 ghost use Rattle.litmus_tokens.specs.Gap.{gap_end};
-ghost use Rattle.litmus_reader.specs.inner.Header as header;
+ghost use Rattle.litmus_reader.specs.Header as header;
 ghost use Rattle.litmus_tokens.specs.inner.Mapped.{mapped};
 ghost use Rattle.litmus_reader.specs.GrammarText as grammar;
 
@@ -143,7 +143,7 @@ fn is_long_name(name: &[u8]) -> bool
     name.len() > MAX_TEST_NAME && is_all_printable(name)
 }
 
-#[tactic(auto, unfolding(crate::specs::inner::Header::judged))]
+#[tactic(auto, unfolding(crate::specs::Header::judged))]
 fn judged<'a>(remaining: usize, name: Option<&'a [u8]>) -> Result<&'a [u8], Fault>
     ensures { mapped (λ x. x.now) result ≡ header.judged remaining (option_map (λ x. x.now) name.entry) }
 {
@@ -172,7 +172,7 @@ fn judged<'a>(remaining: usize, name: Option<&'a [u8]>) -> Result<&'a [u8], Faul
 ///
 /// `NoHeader` and, for a name of more than 64 bytes, `TooLarge`, at the first byte that isn't white
 /// space; `Unclosed` at a comment before it that doesn't end.
-#[tactic(auto, unfolding(crate::specs::inner::Header::header_at))]
+#[tactic(auto, unfolding(crate::specs::Header::header_at))]
 pub fn header_at(text: &[u8]) -> Result<(&[u8], &[u8]), Fault>
     ensures { mapped (λ x. (x.0.now, x.1.now)) result ≡ header.header_at text.now }
 {

@@ -5,14 +5,14 @@ ghost use Rattle.std.specs.Prelude.{◌≡◌, ◌≤◌, ◌<◌, length, IfOk,
 ghost use Rattle.std.specs.Option.{option_map};
 ghost use Rattle.std.specs.List.{prefix_len};
 ghost use Rattle.litmus_tokens.specs.inner.Mapped.{mapped};
-ghost use Rattle.litmus_reader.specs.inner.Information as spec;
+ghost use Rattle.litmus_reader.specs.Information as spec;
 ghost use Rattle.litmus_reader.specs.GrammarText as grammar;
 
 use crate::header::{first_line, past_gap};
 use litmus_cells::{Fault, Why};
 
 /// What stands after the next quotation mark.
-#[tactic(auto, unfolding(crate::specs::inner::Information::quotation_end))]
+#[tactic(auto, unfolding(crate::specs::Information::quotation_end))]
 fn after_quotation(bytes: &[u8]) -> Option<&[u8]>
     ensures value { option_map (λ x. x.now) result ≡ spec.quotation_end bytes.now }
     ensures shorter { IfSome result (λ x. length x.now < length bytes.now) }
@@ -63,7 +63,7 @@ fn after_key_line(bytes: &[u8]) -> Result<&[u8], Fault>
 ///
 /// `Unclosed` at a quotation that doesn't end and at the end of the text, `BadToken` at a key
 /// without its `=` and at anything else.
-#[tactic(auto, unfolding(crate::specs::inner::Information::information_end))]
+#[tactic(auto, unfolding(crate::specs::Information::information_end))]
 fn after_information(bytes: &[u8]) -> Result<&[u8], Fault>
     ensures value { mapped (λ x. x.now) result ≡ spec.information_end bytes.now }
     ensures shorter { IfOk result (λ x. length x.now < length bytes.now) }
@@ -93,7 +93,7 @@ fn after_information(bytes: &[u8]) -> Result<&[u8], Fault>
     })
 }
 
-#[tactic(auto, unfolding(crate::specs::inner::Information::begins_initial))]
+#[tactic(auto, unfolding(crate::specs::Information::begins_initial))]
 fn begins_initial(bytes: &[u8]) -> bool
     ensures { result ≡ spec.begins_initial bytes.now }
 {

@@ -9,6 +9,7 @@ ghost use Rattle.litmus_cells.specs.inner.Faults.{Gives};
 ghost use Rattle.litmus_cells.specs.Locations.{texts};
 ghost use Rattle.litmus_reader.specs.inner.Settings.{setting_of};
 ghost use Rattle.litmus_reader.specs.inner.Initial as spec;
+ghost use Rattle.litmus_reader.specs.Initial as inner;
 ghost use Rattle.litmus_reader.specs.inner.Initial.{given_of, KnowsGiven};
 ghost use Rattle.litmus_reader.specs.inner.Returned.{GivesJudged, GivesItem, GivesSection, GivesInitial, so_far};
 ghost use Rattle.litmus_reader.specs.inner.Sections.{tokens_in, stop_of};
@@ -62,7 +63,7 @@ fn in_initial(remaining: usize, stop: Stop) -> Part
 /// Whether this register of this core was given a word.
 fn is_given<'a>(state: &Initial<'a>, core: &'a [u8], reg: Reg) -> bool
     requires { KnowsGiven state.now }
-    ensures { result ≡ list_any (λ r. spec.gives core.now reg (given_of r)) state.now.registers.items }
+    ensures { result ≡ list_any (λ r. inner.gives core.now reg (given_of r)) state.now.registers.items }
 {
     state.given.contains(&(core, reg.index()))
 }
@@ -70,7 +71,7 @@ fn is_given<'a>(state: &Initial<'a>, core: &'a [u8], reg: Reg) -> bool
 /// Notes a register's first word.
 fn note_register<'a>(state: &mut Initial<'a>, word: RegisterWord<'a>) -> Result<(), NoMemory>
     requires knows { KnowsGiven state.old }
-    requires once { list_any (λ r. spec.gives word.core.now word.reg (given_of r)) state.old.registers.items ≡ false }
+    requires once { list_any (λ r. inner.gives word.core.now word.reg (given_of r)) state.old.registers.items ≡ false }
     ensures registers { OnOk result (state.new.registers.items ≡ state.old.registers.items ++ word.entry ∷ []) }
     ensures words { OnOk result (state.new.words ≡ state.old.words) }
     ensures knows { OnOk result (KnowsGiven state.new) }
@@ -83,7 +84,7 @@ fn note_register<'a>(state: &mut Initial<'a>, word: RegisterWord<'a>) -> Result<
 /// Notes an item whose first token stands at `remaining`.
 ///
 /// `BadNumber`, then `TooLarge` for a location too many, then `TwiceInit`, all at `remaining`.
-#[tactic(auto, using(crate::proofs::Listed::judged_twice, crate::proofs::Listed::judged_new), unfolding(crate::specs::inner::Initial::judged))]
+#[tactic(auto, using(crate::proofs::Listed::judged_twice, crate::proofs::Listed::judged_new), unfolding(crate::specs::Initial::judged))]
 fn note_item<'a>(
     remaining: usize,
     state: &mut Initial<'a>,
@@ -124,9 +125,9 @@ fn note_item<'a>(
     Ok(())
 }
 
-#[tactic(auto, unfolding(crate::specs::inner::Initial::ends_item))]
+#[tactic(auto, unfolding(crate::specs::Initial::ends_item))]
 fn ends_item(tokens: &[Token<'_>]) -> bool
-    ensures { result ≡ spec.ends_item (pieces tokens.now) }
+    ensures { result ≡ inner.ends_item (pieces tokens.now) }
 {
     match tokens.first() {
         Some(first) => {
@@ -137,7 +138,7 @@ fn ends_item(tokens: &[Token<'_>]) -> bool
 }
 
 /// Reads the item at the front, and answers the tokens from its `;` or `}` on.
-#[tactic(auto, unfolding(crate::specs::inner::Initial::item_in))]
+#[tactic(auto, unfolding(crate::specs::Initial::item_in))]
 fn read_item<'a, 'b>(
     part: Part,
     state: &mut Initial<'a>,
@@ -146,7 +147,7 @@ fn read_item<'a, 'b>(
 ) -> Result<&'b [Token<'a>], ReadError>
     requires { KnowsGiven state.old }
     ensures knows { OnOk result (KnowsGiven state.new) }
-    ensures value { GivesItem result names.new.keys state.new (spec.item_in part (so_far names.old.keys state.old) (pieces tokens.now)) }
+    ensures value { GivesItem result names.new.keys state.new (inner.item_in part (so_far names.old.keys state.old) (pieces tokens.now)) }
     ensures shorter { IfOk result (λ rest. length rest.now < length tokens.now) }
 {
     let (item, rest) = setting_at(part, tokens)?;
@@ -212,7 +213,7 @@ pub fn read_initial<'a>(
     names: &mut IndexSet<&'a [u8]>,
     text: &'a [u8],
 ) -> Result<(Initial<'a>, &'a [u8]), ReadError>
-    ensures value { GivesInitial result names.new.keys (spec.initial_at (stop_of text.now) (texts names.old.keys) (tokens_in text.now)) }
+    ensures value { GivesInitial result names.new.keys (inner.initial_at (stop_of text.now) (texts names.old.keys) (tokens_in text.now)) }
     ensures stop { IfOk result (λ x. stop_of x.1.now ≡ stop_of text.now) }
 {
     let (remaining, mut rest) = after_opening(Symbol::OpenCurly, Why::Unclosed, text)?;
@@ -234,7 +235,7 @@ pub fn read_initial<'a>(
 }
 
 fn no_registers(alloc: Global, cores: usize) -> Result<Vec<[u32; 6]>, NoMemory>
-    ensures { IfOk result (λ v. v.items ≡ replicate cores spec.no_registers) }
+    ensures { IfOk result (λ v. v.items ≡ replicate cores inner.no_registers) }
 {
     Ok(vec![in alloc; [0; 6]; cores]?)
 }
@@ -248,7 +249,7 @@ pub fn registers_of(
     given: &[RegisterWord<'_>],
 ) -> Result<Vec<[u32; 6]>, ReadError>
     requires { cores ≤ most_cores }
-    ensures { Gives (λ v. v.items) result (spec.registers_of cores (map given_of given.now)) }
+    ensures { Gives (λ v. v.items) result (inner.registers_of cores (map given_of given.now)) }
 {
     let mut registers = no_registers(alloc, cores)?;
     for word in given {

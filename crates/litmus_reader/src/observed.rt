@@ -6,8 +6,8 @@ ghost use Rattle.std.specs.Option.{option_map};
 ghost use Rattle.litmus_tokens.specs.Pieces.{pieces_of};
 ghost use Rattle.litmus_tokens.specs.inner.Mapped.{mapped};
 ghost use Rattle.litmus_tokens.specs.inner.Terms.{term_of};
-ghost use Rattle.litmus_reader.specs.inner.Keywords as keywords;
-ghost use Rattle.litmus_reader.specs.inner.Observed as spec;
+ghost use Rattle.litmus_reader.specs.Keywords as keywords;
+ghost use Rattle.litmus_reader.specs.Observed as spec;
 ghost use Rattle.litmus_reader.specs.inner.Sections.{tokens_in, stop_of};
 ghost use Rattle.litmus_reader.specs.Places as places;
 
@@ -45,7 +45,7 @@ fn from_place(text: &[u8], remaining: usize) -> &[u8]
 }
 
 /// What stands after the brackets with which `rest` has to begin.
-#[tactic(auto, unfolding(crate::specs::inner::Observed::brackets_end))]
+#[tactic(auto, unfolding(crate::specs::Observed::brackets_end))]
 fn after_brackets<'a>(text: &'a [u8], rest: &[u8]) -> Result<&'a [u8], Fault>
     ensures { mapped (λ x. x.now) result ≡ spec.brackets_end text.now (stop_of rest.now) (tokens_in rest.now) }
 {
@@ -85,7 +85,7 @@ fn after_locations(text: &[u8]) -> Option<&[u8]>
 ///
 /// `BadToken` where no `[` stands after the word, `Unclosed` at a `[` that doesn't end and at a
 /// comment that doesn't.
-#[tactic(auto, unfolding(crate::specs::inner::Observed::ending_tokens))]
+#[tactic(auto, unfolding(crate::specs::Observed::ending_tokens))]
 pub fn after_observed<'a>(text: &'a [u8], rest: &'a [u8]) -> Result<&'a [u8], Fault>
     ensures { mapped (λ x. pieces_of x.now) result ≡ spec.ending_tokens text.now (stop_of rest.now) (tokens_in rest.now) }
 {

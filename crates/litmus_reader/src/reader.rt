@@ -15,6 +15,7 @@ ghost use Rattle.litmus_cells.specs.inner.Faults.{Gives};
 ghost use Rattle.litmus_tokens.specs.inner.Mapped.{mapped};
 ghost use Rattle.litmus_cells.specs.Locations.{texts};
 ghost use Rattle.litmus_reader.specs.inner.Reading as spec;
+ghost use Rattle.litmus_reader.specs.Reading as inner;
 ghost use Rattle.litmus_reader.specs.Reading.{refusal};
 ghost use Rattle.litmus_reader.specs.inner.Sections.{tokens_in, stop_of};
 ghost use Rattle.litmus_reader.specs.inner.Returned.{GivesEnding, IsUnlessMemory, so_far, table_read};
@@ -28,7 +29,6 @@ use crate::information::braces_at;
 use crate::initial::{Initial, read_initial};
 use crate::observed::after_observed;
 use crate::row::{Table, read_table};
-use crate::test_texts::spelled_tests_follow_the_grammar;
 use indexmap::IndexSet;
 use litmus_cells::{Fault, ReadError, Why};
 use litmus_tokens::{Stop, Token, line_of, tokens_of};
@@ -36,9 +36,9 @@ use std::alloc::Global;
 use tso_model::{Cond, NoMemory, Test, TestParts};
 
 /// The end of the text has to follow.
-#[tactic(auto, unfolding(crate::specs::inner::Reading::end_at))]
+#[tactic(auto, unfolding(crate::specs::Reading::end_at))]
 fn end_at(stop: Stop, tokens: &[Token<'_>]) -> Result<(), Fault>
-    ensures { result ≡ spec.end_at stop (pieces tokens.now) }
+    ensures { result ≡ inner.end_at stop (pieces tokens.now) }
 {
     if let Some(first) = tokens.first() {
         return Err(Fault {
@@ -60,7 +60,7 @@ fn end_at(stop: Stop, tokens: &[Token<'_>]) -> Result<(), Fault>
 }
 
 /// The condition, if there is one; the end of the text has to follow.
-#[tactic(auto, unfolding(crate::specs::inner::Reading::ending_at))]
+#[tactic(auto, unfolding(crate::specs::Reading::ending_at))]
 fn ending_at<'a>(
     alloc: Global,
     stop: Stop,
@@ -69,7 +69,7 @@ fn ending_at<'a>(
     tokens: &[Token<'a>],
 ) -> Result<Option<Cond>, ReadError>
     requires { cores ≤ most_cores }
-    ensures { GivesEnding result names.new.keys (spec.ending_at stop cores (texts names.old.keys) (pieces tokens.now)) }
+    ensures { GivesEnding result names.new.keys (inner.ending_at stop cores (texts names.old.keys) (pieces tokens.now)) }
 {
     let (cond, rest) = condition_at(alloc, stop, cores, names, tokens)?;
     end_at(stop, rest)?;
@@ -77,7 +77,7 @@ fn ending_at<'a>(
 }
 
 /// What stands after the rows of a text: `locations [..]`, the condition and the end.
-#[tactic(auto, unfolding(crate::specs::inner::Reading::tail_at))]
+#[tactic(auto, unfolding(crate::specs::Reading::tail_at))]
 fn tail_at<'a>(
     alloc: Global,
     text: &'a [u8],
@@ -86,7 +86,7 @@ fn tail_at<'a>(
     rest: &'a [u8],
 ) -> Result<Option<Cond>, ReadError>
     requires cores { cores ≤ most_cores }
-    ensures { GivesEnding result names.new.keys (spec.tail_at text.now (stop_of rest.now) cores (texts names.old.keys) (tokens_in rest.now)) }
+    ensures { GivesEnding result names.new.keys (inner.tail_at text.now (stop_of rest.now) cores (texts names.old.keys) (tokens_in rest.now)) }
 {
     let bytes = after_observed(text, rest)?;
     let tokens = tokens_of(alloc, bytes)?;
@@ -106,7 +106,7 @@ fn parts_after<'a>(
     requires name { IsUtf8 name.now }
     requires cores { table.cores ≤ most_cores }
     requires names { spec.NamesAreText text.now (stop_of rest.now) (table_read table names.old.keys rest.now) }
-    ensures { Gives (λ parts. litmus_of parts) result (spec.with_ending name.now text.now (stop_of rest.now) words.items (table_read table names.old.keys rest.now)) }
+    ensures { Gives (λ parts. litmus_of parts) result (inner.with_ending name.now text.now (stop_of rest.now) words.items (table_read table names.old.keys rest.now)) }
 {
     let cond = tail_at(alloc, text, table.cores, names, rest)?;
     let parts = parts_of(alloc, name, names.as_slice(), words, table, cond)?;
@@ -124,14 +124,14 @@ fn parts_with<'a>(
 ) -> Result<TestParts, ReadError>
     requires name { IsUtf8 name.now }
     requires names { spec.NamesStayText text.now (stop_of rest.now) (so_far names.old.keys initial) (tokens_in rest.now) }
-    ensures { Gives (λ parts. litmus_of parts) result (spec.with_table name.now text.now (stop_of rest.now) (so_far names.old.keys initial.entry) (tokens_in rest.now)) }
+    ensures { Gives (λ parts. litmus_of parts) result (inner.with_table name.now text.now (stop_of rest.now) (so_far names.old.keys initial.entry) (tokens_in rest.now)) }
 {
     let (table, rest) = read_table(alloc, &initial.registers, names, rest)?;
     parts_after(alloc, name, text, names, initial.words, table, rest)
 }
 
 /// The initial state, the table and what stands after it.
-#[tactic(auto, unfolding(crate::specs::inner::Reading::body_of))]
+#[tactic(auto, unfolding(crate::specs::Reading::body_of))]
 fn body_with<'a>(
     alloc: Global,
     name: &[u8],
@@ -140,7 +140,7 @@ fn body_with<'a>(
 ) -> Result<TestParts, ReadError>
     requires name { IsUtf8 name.now }
     requires names { texts names.old.keys ≡ [] }
-    ensures { Gives (λ parts. litmus_of parts) result (spec.body_of name.now text.now (stop_of text.now) (tokens_in text.now)) }
+    ensures { Gives (λ parts. litmus_of parts) result (inner.body_of name.now text.now (stop_of text.now) (tokens_in text.now)) }
 {
     let (initial, rest) = read_initial(alloc, names, text)?;
     parts_with(alloc, name, text, names, initial, rest)
@@ -149,16 +149,16 @@ fn body_with<'a>(
 /// The test without its header and its information lines.
 fn body_of(alloc: Global, name: &[u8], text: &[u8]) -> Result<TestParts, ReadError>
     requires { IsUtf8 name.now }
-    ensures { Gives (λ parts. litmus_of parts) result (spec.body_of name.now text.now (stop_of text.now) (tokens_in text.now)) }
+    ensures { Gives (λ parts. litmus_of parts) result (inner.body_of name.now text.now (stop_of text.now) (tokens_in text.now)) }
 {
     let mut names = IndexSet::new(alloc);
     body_with(alloc, name, text, &mut names)
 }
 
 /// The parts of the test that the text spells.
-#[tactic(auto, using(crate::proofs::Within::name_is_text), unfolding(crate::specs::inner::Reading::reading_of))]
+#[tactic(auto, using(crate::proofs::Within::name_is_text), unfolding(crate::specs::Reading::reading_of))]
 fn read_parts(alloc: Global, text: &[u8]) -> Result<TestParts, ReadError>
-    ensures { Gives (λ parts. litmus_of parts) result (spec.reading_of text.now) }
+    ensures { Gives (λ parts. litmus_of parts) result (inner.reading_of text.now) }
 {
     let text = sized(text)?;
     let (name, rest) = header_at(text)?;
@@ -200,9 +200,8 @@ pub fn test_or_fault(alloc: Global, text: &[u8]) -> Result<Test, ReadError>
 
 #[tactic(auto, using(crate::proofs::Within::spelled_is_test))]
 fn read_whole(alloc: Global, text: &[u8]) -> Result<Test, ReadError>
-    ensures { Gives (λ test. test) result (spec.reading_of text.now) }
+    ensures { Gives (λ test. test) result (inner.reading_of text.now) }
 {
-    spelled_tests_follow_the_grammar();
     let parts = read_parts(alloc, text)?;
     Ok(Test::new(parts).unwrap())
 }
@@ -210,9 +209,9 @@ fn read_whole(alloc: Global, text: &[u8]) -> Result<Test, ReadError>
 /// What a reading of a text answers, with the line of a refusal.
 #[tactic(auto, unfolding(crate::specs::inner::Reading::refusal_of))]
 fn with_line(text: &[u8], read: Result<Test, ReadError>) -> Result<Test, TextFault>
-    requires { Gives (λ test. test) read (spec.reading_of text.now) }
-    ensures found { IfOk result (λ test. spec.reading_of text.now ≡ Ok test) }
-    ensures only { (t : Litmus) → spec.reading_of text.now ≡ Ok t → MatchResult result (λ test. test ≡ t) (λ f. f.why ≡ Why.NoMemory) }
+    requires { Gives (λ test. test) read (inner.reading_of text.now) }
+    ensures found { IfOk result (λ test. inner.reading_of text.now ≡ Ok test) }
+    ensures only { (t : Litmus) → inner.reading_of text.now ≡ Ok t → MatchResult result (λ test. test ≡ t) (λ f. f.why ≡ Why.NoMemory) }
     ensures refused { IfErr result (λ f. f.why ≢ Why.NoMemory → spec.refusal_of text.now ≡ Some f) }
     ensures refuses { (fault : TextFault) → spec.refusal_of text.now ≡ Some fault → MatchResult result (λ _. ⊥) (IsUnlessMemory fault) }
     ensures no_memory { IfErr result (λ f. f.why ≡ Why.NoMemory → f.line ≡ 0) }

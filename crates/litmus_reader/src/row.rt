@@ -8,12 +8,12 @@ ghost use Rattle.litmus_tokens.specs.inner.Terms.{term_of};
 ghost use Rattle.litmus_tokens.specs.inner.Mapped.{mapped};
 ghost use Rattle.litmus_cells.specs.Locations.{texts};
 ghost use Rattle.litmus_reader.specs.inner.Initial.{given_of};
-ghost use Rattle.litmus_reader.specs.inner.Rows as spec;
+ghost use Rattle.litmus_reader.specs.Rows as spec;
 ghost use Rattle.litmus_reader.specs.inner.Sections.{tokens_in, stop_of};
 ghost use Rattle.litmus_cells.specs.inner.Returned.{GivesCells};
 ghost use Rattle.litmus_reader.specs.inner.Returned.{GivesTable};
 ghost use Rattle.litmus_reader.specs.Places.{remaining_of};
-ghost use Rattle.litmus_reader.specs.RefusedTable as refused;
+ghost use Rattle.litmus_reader.specs.Cells.{cells_of};
 ghost use Rattle.litmus_reader.specs.GrammarTable as grammar;
 
 use crate::cell::{argument_of, read_cells};
@@ -50,7 +50,7 @@ fn row_at<'a, 'b>(
 /// How many cells a row has: one more than bars.
 #[tactic(auto, using(crate::proofs::Cells::cells_counted))]
 fn cell_count(row: &[Token<'_>]) -> usize
-    ensures { result ≡ length (refused.cells_of (pieces row.now)) }
+    ensures { result ≡ length (cells_of (pieces row.now)) }
 {
     row.iter().filter(|t| is_symbol(Symbol::Bar, t)).count() + 1
 }
@@ -58,7 +58,7 @@ fn cell_count(row: &[Token<'_>]) -> usize
 /// Reads a row whose first token stands at `remaining`.
 ///
 /// `WrongCells` at `remaining` where it hasn't a cell for each core, and then what its cells refuse.
-#[tactic(auto, unfolding(crate::specs::inner::Rows::row_in))]
+#[tactic(auto, unfolding(crate::specs::Rows::row_in))]
 fn read_row<'a>(
     cores: usize,
     remaining: usize,

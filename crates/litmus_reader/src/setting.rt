@@ -6,7 +6,7 @@ ghost use Rattle.tso_model.specs.Limits.{most_cores};
 ghost use Rattle.decimals.specs.Decimals.{decimal_value};
 ghost use Rattle.litmus_tokens.specs.inner.Pieces.{pieces};
 ghost use Rattle.litmus_tokens.specs.inner.Mapped.{mapped};
-ghost use Rattle.litmus_reader.specs.inner.Settings as spec;
+ghost use Rattle.litmus_reader.specs.Settings as spec;
 ghost use Rattle.litmus_reader.specs.inner.Settings.{setting_of};
 
 use crate::fault::Part;
@@ -23,7 +23,7 @@ pub enum SpelledSetting<'a> {
 }
 
 /// `=v`: the digits of the value, and the tokens after them.
-#[tactic(auto, unfolding(crate::specs::inner::Settings::value_at))]
+#[tactic(auto, unfolding(crate::specs::Settings::value_at))]
 fn value_at<'a, 'b>(
     part: Part,
     tokens: &'b [Token<'a>],
@@ -35,7 +35,7 @@ fn value_at<'a, 'b>(
     part.expect(rest, number_at(rest))
 }
 
-#[tactic(auto, unfolding(crate::specs::inner::Settings::register_setting))]
+#[tactic(auto, unfolding(crate::specs::Settings::register_setting))]
 fn register_setting<'a, 'b>(
     part: Part,
     core: &'a [u8],
@@ -50,7 +50,7 @@ fn register_setting<'a, 'b>(
     Ok((SpelledSetting::Register(core, reg, value), rest))
 }
 
-#[tactic(auto, unfolding(crate::specs::inner::Settings::square_setting))]
+#[tactic(auto, unfolding(crate::specs::Settings::square_setting))]
 fn square_setting<'a, 'b>(
     part: Part,
     tokens: &'b [Token<'a>],
@@ -64,7 +64,7 @@ fn square_setting<'a, 'b>(
     Ok((SpelledSetting::Location(name, value), rest))
 }
 
-#[tactic(auto, unfolding(crate::specs::inner::Settings::plain_setting))]
+#[tactic(auto, unfolding(crate::specs::Settings::plain_setting))]
 fn plain_setting<'a, 'b>(
     part: Part,
     tokens: &'b [Token<'a>],
@@ -80,7 +80,7 @@ fn plain_setting<'a, 'b>(
 /// `c:REG=v`, `[x]=v` or `x=v` at the front, and the tokens after it.
 ///
 /// What doesn't fit is refused as `part` says.
-#[tactic(auto, unfolding(crate::specs::inner::Settings::setting_at))]
+#[tactic(auto, unfolding(crate::specs::Settings::setting_at))]
 pub fn setting_at<'a, 'b>(
     part: Part,
     tokens: &'b [Token<'a>],

@@ -3,23 +3,15 @@
 
 ghost use Rattle.std.specs.Prelude.{◌≡◌, ℕ, List};
 ghost use Rattle.tso_model.specs.Litmus.{Litmus, IsTest};
-ghost use Rattle.litmus_cells.specs.declared.fault.Fault.{Fault};
 ghost use Rattle.litmus_reader.specs.declared.fault.TextFault.{TextFault};
 ghost use Rattle.litmus_reader.specs.GrammarTest.{FollowsGrammar};
-ghost use Rattle.litmus_reader.specs.Refusals.{IsFaultByCase};
-ghost use Rattle.litmus_reader.specs.Spelling.{SpellsTest, IsFault, IsRefused, IsDecided};
+ghost use Rattle.litmus_reader.specs.Spelling.{SpellsTest, IsRefused, IsDecided};
 
 /// A text spells the test that it has by the grammar, and no other; what spells a test follows the
 /// grammar. The grammar says no order of reading, and nothing of refusals.
 pub fn spelled_tests_follow_the_grammar()
     ensures spells { (text : List ℕ) (t : Litmus) → FollowsGrammar text t → SpellsTest text t }
     ensures follows { (text : List ℕ) (t : Litmus) → SpellsTest text t → FollowsGrammar text t }
-{}
-
-/// What is at fault in a text is so by one of the cases, and by each of them something is at fault.
-pub fn texts_are_at_fault_case_by_case()
-    ensures refuses { (text : List ℕ) (f : Fault) → IsFaultByCase text f → IsFault text f }
-    ensures refused { (text : List ℕ) (f : Fault) → IsFault text f → IsFaultByCase text f }
 {}
 
 /// Each text spells one test or gets one refusal, and never both: a law of the definitions, with
@@ -36,6 +28,5 @@ pub fn test_is_spelled_once()
     ensures one_refusal { (text : List ℕ) (fault other : TextFault) → IsRefused text fault → IsRefused text other → fault ≡ other }
     ensures within { (text : List ℕ) (t : Litmus) → SpellsTest text t → IsTest t }
 {
-    spelled_tests_follow_the_grammar();
     texts_are_decided();
 }

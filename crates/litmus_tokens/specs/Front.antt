@@ -1,8 +1,8 @@
--- Whether a token is a given symbol: by such tests it is said what may stand at the front of some tokens.
-use Rattle.std.specs.Prelude.{Bool, false}
+-- Which token stands at the front of some tokens, and what stands after it.
+use Rattle.std.specs.Prelude.{Bool, false, ℕ, List, [], ◌∷◌, Option, Some, None, if◌then◌else◌}
 use Rattle.std.specs.Str.{bytes_eq}
 use Rattle.litmus_tokens.specs.declared.token.Symbol.{Symbol}
-use Rattle.litmus_tokens.specs.Terms.{Term, symbol, spelling_of}
+use Rattle.litmus_tokens.specs.Terms.{Term, symbol, spelling_of, number, name}
 use Rattle.litmus_tokens.specs.Pieces.{Piece}
 
 abbrev pub is_symbol_term : Symbol → Term → Bool
@@ -12,3 +12,28 @@ is_symbol_term s other = false
 -- whether the token is this symbol
 unfoldable pub is_symbol : Symbol → Piece → Bool
 is_symbol s p = is_symbol_term s p.term
+
+-- what stands after this symbol, if it is at the front
+unfoldable pub symbol_at : Symbol → List Piece → Option (List Piece)
+symbol_at s [] = None
+symbol_at s (p ∷ ps) = if is_symbol s p then Some ps else None
+
+abbrev pub name_then : Term → List Piece → Option (List ℕ × List Piece)
+name_then (number digits) ps = None
+name_then (name x) ps = Some (x, ps)
+name_then (symbol s) ps = None
+
+-- the name at the front, and what stands after it
+unfoldable pub name_at : List Piece → Option (List ℕ × List Piece)
+name_at [] = None
+name_at (p ∷ ps) = name_then p.term ps
+
+abbrev pub number_then : Term → List Piece → Option (List ℕ × List Piece)
+number_then (number digits) ps = Some (digits, ps)
+number_then (name x) ps = None
+number_then (symbol s) ps = None
+
+-- the digits of the number at the front, and what stands after it
+unfoldable pub number_at : List Piece → Option (List ℕ × List Piece)
+number_at [] = None
+number_at (p ∷ ps) = number_then p.term ps

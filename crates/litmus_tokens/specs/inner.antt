@@ -1,5 +1,4 @@
 -- Words of contracts inside the project.
-pub mod Front
 pub mod Gap
 pub mod Mapped
 pub mod Pieces

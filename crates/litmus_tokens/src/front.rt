@@ -4,7 +4,6 @@ ghost use Rattle.std.specs.Prelude.{◌≡◌, ◌<◌, length, IfSome};
 ghost use Rattle.std.specs.Option.{option_map};
 ghost use Rattle.litmus_tokens.specs.inner.Pieces.{piece_of, pieces};
 ghost use Rattle.litmus_tokens.specs.Front as front;
-ghost use Rattle.litmus_tokens.specs.inner.Front as inner;
 
 use crate::token::{Lexeme, Symbol, Token};
 
@@ -20,9 +19,9 @@ pub fn is_symbol(symbol: Symbol, token: &Token<'_>) -> bool
 }
 
 /// The tokens after this symbol, if it is at the front.
-#[tactic(auto, unfolding(crate::specs::inner::Front::symbol_at))]
+#[tactic(auto, unfolding(crate::specs::Front::symbol_at))]
 pub fn after_symbol<'a, 'b>(symbol: Symbol, tokens: &'b [Token<'a>]) -> Option<&'b [Token<'a>]>
-    ensures value { option_map (λ x. pieces x.now) result ≡ inner.symbol_at symbol (pieces tokens.now) }
+    ensures value { option_map (λ x. pieces x.now) result ≡ front.symbol_at symbol (pieces tokens.now) }
     ensures shorter { IfSome result (λ x. length x.now < length tokens.now) }
 {
     let (first, rest) = tokens.split_first()?;
@@ -34,9 +33,9 @@ pub fn after_symbol<'a, 'b>(symbol: Symbol, tokens: &'b [Token<'a>]) -> Option<&
 }
 
 /// The name at the front, and the tokens after it.
-#[tactic(auto, unfolding(crate::specs::inner::Front::name_at))]
+#[tactic(auto, unfolding(crate::specs::Front::name_at))]
 pub fn name_at<'a, 'b>(tokens: &'b [Token<'a>]) -> Option<(&'a [u8], &'b [Token<'a>])>
-    ensures value { option_map (λ x. (x.0.now, pieces x.1.now)) result ≡ inner.name_at (pieces tokens.now) }
+    ensures value { option_map (λ x. (x.0.now, pieces x.1.now)) result ≡ front.name_at (pieces tokens.now) }
     ensures shorter { IfSome result (λ x. length x.1.now < length tokens.now) }
 {
     let (first, rest) = tokens.split_first()?;
@@ -47,9 +46,9 @@ pub fn name_at<'a, 'b>(tokens: &'b [Token<'a>]) -> Option<(&'a [u8], &'b [Token<
 }
 
 /// The digits of the number at the front, without leading zeros, and the tokens after it.
-#[tactic(auto, unfolding(crate::specs::inner::Front::number_at))]
+#[tactic(auto, unfolding(crate::specs::Front::number_at))]
 pub fn number_at<'a, 'b>(tokens: &'b [Token<'a>]) -> Option<(&'a [u8], &'b [Token<'a>])>
-    ensures value { option_map (λ x. (x.0.now, pieces x.1.now)) result ≡ inner.number_at (pieces tokens.now) }
+    ensures value { option_map (λ x. (x.0.now, pieces x.1.now)) result ≡ front.number_at (pieces tokens.now) }
     ensures shorter { IfSome result (λ x. length x.1.now < length tokens.now) }
 {
     let (first, rest) = tokens.split_first()?;

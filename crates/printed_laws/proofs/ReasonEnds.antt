@@ -53,13 +53,13 @@ allowed-end model t condition c choices =
 
 never-text : (model : Model) (t : Litmus) (condition : Condition) (steps : List ReasonStep)
     → line (compact_text (object (member (codes "answer") (string (codes "never"))
-    (member (codes "asked_claim") (asked_value (Some condition))
+    (member (codes "asked") (asked_value (Some condition))
     (member (codes "leaves") (count (leaves_in steps))
     (member (codes "model") (string (model_name model))
     (member (codes "steps") (array (items_of (map (step_value t) steps)))
     (member (codes "test") (string t.name)
     (member (codes "verdict") (outcomes_verdict_value (Some condition) false) no_members)))))))))
-    ≡ line (codes "{\"answer\":\"never\",\"asked_claim\":" ++ (compact_text (asked_value (Some condition)) ++ (codes ",\"leaves\":" ++ (decimal (leaves_in steps) ++ (codes ",\"model\":" ++ (compact_text (string (model_name model))
+    ≡ line (codes "{\"answer\":\"never\",\"asked\":" ++ (compact_text (asked_value (Some condition)) ++ (codes ",\"leaves\":" ++ (decimal (leaves_in steps) ++ (codes ",\"model\":" ++ (compact_text (string (model_name model))
     ++ (codes ",\"steps\":" ++ (compact_text (array (items_of (map (step_value t) steps))) ++ (codes ",\"test\":" ++ (compact_text (string t.name)
     ++ last_member (is_well condition.quantifier false)))))))))))
 unfolding escape_byte
@@ -67,7 +67,7 @@ never-text model t condition steps = refl
 
 never-object-end : (model : Model) (t : Litmus) (condition : Condition) (steps : List ReasonStep)
     → EndsIn (verdict_tail true (is_well condition.quantifier false)) (line (compact_text (object (member (codes "answer") (string (codes "never"))
-    (member (codes "asked_claim") (asked_value (Some condition))
+    (member (codes "asked") (asked_value (Some condition))
     (member (codes "leaves") (count (leaves_in steps))
     (member (codes "model") (string (model_name model))
     (member (codes "steps") (array (items_of (map (step_value t) steps)))
@@ -78,7 +78,7 @@ never-object-end model t condition steps =
     let tail = last_member verdict in
     subst (EndsIn (verdict_tail true verdict)) (sym (never-text model t condition steps))
     (member-end verdict _
-    (behind (codes "{\"answer\":\"never\",\"asked_claim\":") _ tail (behind (compact_text (asked_value (Some condition))) _ tail
+    (behind (codes "{\"answer\":\"never\",\"asked\":") _ tail (behind (compact_text (asked_value (Some condition))) _ tail
     (behind (codes ",\"leaves\":") _ tail (behind (decimal (leaves_in steps)) _ tail
     (behind (codes ",\"model\":") _ tail (behind (compact_text (string (model_name model))) _ tail
     (behind (codes ",\"steps\":") _ tail (behind (compact_text (array (items_of (map (step_value t) steps)))) _ tail
@@ -96,7 +96,7 @@ module _ (model : Model) (t : Litmus) (condition : Condition) (c : Candidate) (c
 
   abbrev allowed_object : Data
   allowed_object = object (member (codes "answer") (string (codes "allowed"))
-      (member (codes "asked_claim") (asked_value (Some condition))
+      (member (codes "asked") (asked_value (Some condition))
       (member (codes "choices") (string (printed_choices choices))
       (member (codes "coherence") (object (coherence_members t c 0 t.locations))
       (member (codes "model") (string (model_name model))
@@ -106,7 +106,7 @@ module _ (model : Model) (t : Litmus) (condition : Condition) (c : Candidate) (c
       (member (codes "verdict") (outcomes_verdict_value (Some condition) true) no_members)))))))))
 
   allowed-text : line (compact_text allowed_object)
-      ≡ line (codes "{\"answer\":\"allowed\",\"asked_claim\":" ++ (compact_text (asked_value (Some condition)) ++ (codes ",\"choices\":" ++ (compact_text (string (printed_choices choices))
+      ≡ line (codes "{\"answer\":\"allowed\",\"asked\":" ++ (compact_text (asked_value (Some condition)) ++ (codes ",\"choices\":" ++ (compact_text (string (printed_choices choices))
       ++ (codes ",\"coherence\":" ++ (coherence ++ (codes ",\"model\":" ++ (compact_text (string (model_name model)) ++ (codes ",\"sources\":" ++ (sources
       ++ (codes ",\"test\":" ++ (compact_text (string t.name) ++ (codes ",\"values\":" ++ (values ++ last_member (is_well condition.quantifier true)))))))))))))))
   unfolding escape_byte
@@ -118,7 +118,7 @@ module _ (model : Model) (t : Litmus) (condition : Condition) (c : Candidate) (c
       let tail = last_member verdict in
       subst (EndsIn (verdict_tail true verdict)) (sym allowed-text)
       (member-end verdict _
-      (behind (codes "{\"answer\":\"allowed\",\"asked_claim\":") _ tail (behind (compact_text (asked_value (Some condition))) _ tail
+      (behind (codes "{\"answer\":\"allowed\",\"asked\":") _ tail (behind (compact_text (asked_value (Some condition))) _ tail
       (behind (codes ",\"choices\":") _ tail (behind (compact_text (string (printed_choices choices))) _ tail
       (behind (codes ",\"coherence\":") _ tail (behind coherence _ tail
       (behind (codes ",\"model\":") _ tail (behind (compact_text (string (model_name model))) _ tail
@@ -138,7 +138,7 @@ refutation-end false model t condition nodes is =
 refutation-end true model t condition nodes is =
     let steps = steps_of model t (asked_claim t.condition) nodes in
     subst (λ c. EndsIn (verdict_tail true (is_well condition.quantifier false)) (line (compact_text (object (member (codes "answer") (string (codes "never"))
-    (member (codes "asked_claim") (asked_value c)
+    (member (codes "asked") (asked_value c)
     (member (codes "leaves") (count (leaves_in steps))
     (member (codes "model") (string (model_name model))
     (member (codes "steps") (array (items_of (map (step_value t) steps)))
@@ -156,7 +156,7 @@ execution-end false model t condition c choices is =
     (sym is) (allowed-end model t condition c choices)
 execution-end true model t condition c choices is =
     subst (λ o. EndsIn (verdict_tail true (is_well condition.quantifier true)) (line (compact_text (object (member (codes "answer") (string (codes "allowed"))
-    (member (codes "asked_claim") (asked_value o)
+    (member (codes "asked") (asked_value o)
     (member (codes "choices") (string (printed_choices choices))
     (member (codes "coherence") (object (coherence_members t c 0 t.locations))
     (member (codes "model") (string (model_name model))

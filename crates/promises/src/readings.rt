@@ -4,6 +4,7 @@ ghost use Rattle.std.specs.Prelude.{◌≡◌, ◌≢◌, ◌<◌, List, Ok, Err
 ghost use Rattle.tso_model.specs.Litmus.{Litmus};
 ghost use Rattle.tso_model.specs.declared.choice.Choice.{Choice as ChoiceMade};
 ghost use Rattle.tso_model.specs.declared.execution.Entry.{Entry};
+ghost use Rattle.litmus_reader.specs.GrammarTest.{FollowsGrammar};
 ghost use Rattle.litmus_reader.specs.Spelling.{SpellsTest, IsFault, IsRefused};
 ghost use Rattle.litmus_cells.specs.declared.fault.Fault.{Fault as FaultFound};
 ghost use Rattle.litmus_reader.specs.declared.fault.TextFault.{TextFault as TextRefused};
@@ -15,6 +16,7 @@ ghost use Rattle.scheduler.specs.Refusals.{IsRefusedAsChoices};
 ghost use Rattle.scheduler.specs.Seeds.{seeded_choices};
 ghost use Rattle.scheduler.specs.declared.fault.ChoiceFault.{ChoiceFault as ChoicesRefused};
 
+use litmus_reader::test_texts::spelled_tests_follow_the_grammar;
 use litmus_reader::{ReadError, TextFault, Why, read_test, test_or_fault};
 use order_builder::{OrderFault, read_order};
 use scheduler::{ChoiceFault, read_choices, seeded_choices};
@@ -30,6 +32,15 @@ pub fn a_test_is_read(alloc: Global, text: &[u8]) -> Result<Test, TextFault>
         → MatchResult result (λ _. ⊥) (λ f. f.why ≢ Why.NoMemory → f ≡ fault) }
     ensures no_memory { IfErr result (λ f. f.why ≡ Why.NoMemory → f.line ≡ 0) }
 {
+    read_test(alloc, text)
+}
+
+/// A test is read exactly where a text follows the grammar, keeps the limits and says this test.
+pub fn a_test_is_read_by_the_grammar(alloc: Global, text: &[u8]) -> Result<Test, TextFault>
+    ensures found { IfOk result (λ test. FollowsGrammar text.now test) }
+    ensures only { (t : Litmus) → FollowsGrammar text.now t → MatchResult result (λ test. test ≡ t) (λ f. f.why ≡ Why.NoMemory) }
+{
+    spelled_tests_follow_the_grammar();
     read_test(alloc, text)
 }
 

@@ -100,7 +100,7 @@ step_value t (Endcases depth) =
 abbrev pub never_value_of : Model → Litmus → List ReasonStep → Data
 never_value_of model t steps =
     object (member (codes "answer") (string (codes "never"))
-    (member (codes "asked_claim") (asked_value t.condition)
+    (member (codes "asked") (asked_value t.condition)
     (member (codes "leaves") (count (leaves_in steps))
     (member (codes "model") (string (model_name model))
     (member (codes "steps") (array (items_of (map (step_value t) steps)))
@@ -126,7 +126,7 @@ coherence_members t c loc (name ∷ names) = with_coherence t name (c.coherence 
 abbrev pub allowed_value : Model → Litmus → Candidate → List Choice → Data
 allowed_value model t c choices =
     object (member (codes "answer") (string (codes "allowed"))
-    (member (codes "asked_claim") (asked_value t.condition)
+    (member (codes "asked") (asked_value t.condition)
     (member (codes "choices") (string (printed_choices choices))
     (member (codes "coherence") (object (coherence_members t c 0 t.locations))
     (member (codes "model") (string (model_name model))

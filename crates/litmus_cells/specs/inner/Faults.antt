@@ -1,18 +1,8 @@
 -- Readings that may refuse, and what a function that reads returns.
-use Rattle.std.specs.Prelude.{◌≡◌, Option, Some, None, Result, Ok, Err}
+use Rattle.std.specs.Prelude.{◌≡◌, Result, Ok, Err}
 use Rattle.litmus_cells.specs.declared.fault.Fault.{Fault}
 use Rattle.litmus_cells.specs.declared.fault.ReadError.{ReadError}
 use Rattle.litmus_cells.specs.declared.fault.ReadError.TheVariants as errors
-
-infixl 10 ◌>>=◌
-abbrev pub ◌>>=◌ : {A B : Type 0} → Result A Fault → (A → Result B Fault) → Result B Fault
-(Ok x) >>= f = f x
-(Err e) >>= f = Err e
-
--- what comes of a reading that is there, and else another
-abbrev pub there : {A B : Type 0} → Option A → (A → B) → B → B
-there (Some x) f other = f x
-there None f other = other
 
 abbrev pub Fails : {Y : Type 0} → ReadError → Result Y Fault → Type 0
 Fails errors.NoMemory read = Unit {0}

@@ -1,26 +1,17 @@
 -- The cells of a row, read from left to right: in this order names get their numbers, and the first fault is found.
-use Rattle.std.specs.Prelude.{ℕ, ◌+◌, List, [], ◌∷◌, Option, Some, None, Result, Ok}
+use Rattle.std.specs.Prelude.{ℕ, List, [], Option, Some, None, Result}
 use Rattle.litmus_tokens.specs.Pieces.{Piece}
 use Rattle.litmus_tokens.specs.inner.Pieces.{pieces}
 use Rattle.litmus_tokens.specs.declared.token.Token.{Token}
 use denote.Ref.{Bor}
 use Rattle.litmus_cells.specs.declared.fault.Fault.{Fault}
 use Rattle.litmus_cells.specs.declared.cell.CoreInstr.{CoreInstr}
-use Rattle.litmus_cells.specs.inner.Cells.{cell_in}
-use Rattle.litmus_cells.specs.inner.Faults.{◌>>=◌}
-use Rattle.litmus_reader.specs.RefusedTable.{cells_of}
+use Rattle.litmus_reader.specs.Cells.{cells_in, cells_of}
 
 -- the cells after a bar, if there is one
 abbrev pub cells_after : Option (Bor (List Token)) → List (List Piece)
 cells_after None = []
 cells_after (Some after) = cells_of (pieces after.now)
-
--- the cells of a row from this core on
-unfoldable pub cells_in : ℕ → List CoreInstr → List (List ℕ) → List (List Piece) → Result (List CoreInstr × List (List ℕ)) Fault
-cells_in core instrs names [] = Ok (instrs, names)
-cells_in core instrs names (c ∷ cs) = do
-  read ← cell_in core instrs names c
-  cells_in (core + 1) read.0 read.1 cs
 
 -- all cells of a row
 abbrev pub row_cells : List CoreInstr → List (List ℕ) → List Piece → Result (List CoreInstr × List (List ℕ)) Fault

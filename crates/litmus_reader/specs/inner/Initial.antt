@@ -1,44 +1,16 @@
 -- The initial state, as it is read: its items one after the other, each refused where it gives a second value.
-use Rattle.std.specs.Prelude.{ℕ, ◌≡◌, map, ◌-◌, zero, suc, Bool, List, [], ◌∷◌, ◌++◌, length, replicate, Result, Ok}
-use Rattle.std.specs.Prelude.{Err, nat_lt, slice_index_or, slice_set, ◌==◌, ◌&&◌, if◌then◌else◌, false, ◌||◌}
-use Rattle.std.specs.List.{list_any}
-use Rattle.std.specs.Str.{bytes_eq}
+use Rattle.std.specs.Prelude.{ℕ, ◌≡◌, map, Bool, List, [], ◌∷◌, Result, Ok, if◌then◌else◌, false}
 use denote.Ref.{Bor}
 use Rattle.tso_model.specs.Registers.{index_of}
-use Rattle.tso_model.specs.Thread.{with_value}
-use Rattle.tso_model.specs.declared.register.Reg.{Reg}
-use Rattle.litmus_tokens.specs.declared.token.Stop.{Stop}
-use Rattle.litmus_tokens.specs.declared.token.Symbol.TheVariants.{OpenCurly, CloseCurly, Semicolon}
+use Rattle.litmus_tokens.specs.declared.token.Symbol.TheVariants.{CloseCurly}
 use Rattle.litmus_tokens.specs.Pieces.{Piece}
 use Rattle.litmus_tokens.specs.Front.{is_symbol}
-use Rattle.litmus_tokens.specs.inner.Front.{symbol_at}
-use Rattle.litmus_cells.specs.declared.fault.Why.TheVariants.{BadToken, Unclosed, TwiceInit}
 use Rattle.litmus_cells.specs.declared.fault.Fault.{Fault}
 use Rattle.litmus_reader.specs.declared.fault.Part.{Part}
 use Rattle.litmus_reader.specs.declared.initial.RegisterWord.{RegisterWord}
-use Rattle.litmus_cells.specs.inner.Faults.{◌>>=◌, there}
-use Rattle.litmus_reader.specs.inner.Faults.{or_unfit}
-use Rattle.litmus_cells.specs.inner.Locations.{located}
-use Rattle.litmus_cells.specs.inner.Numbers.{word_at}
-use Rattle.litmus_reader.specs.inner.Settings.{setting_at, core_of}
-use Rattle.litmus_cells.specs.Places.{fault}
-use Rattle.litmus_reader.specs.Places.{at_stop, remaining_of, unfit, in_initial}
-use Rattle.litmus_reader.specs.Written.{Setting, of_register, of_location}
+use Rattle.litmus_cells.specs.Faults.{◌>>=◌}
+use Rattle.litmus_reader.specs.Initial.{Given, Initial, ends_item, given, item_in}
 use Rattle.litmus_reader.specs.declared.initial.Initial as code
-
--- before its `{`
-abbrev pub before_initial : Stop → Part
-before_initial stop = record { why = BadToken; missing = at_stop (fault Unclosed 0) stop }
-
--- a register's first word, and the place of the item that gives it; the core is its digits
-pub record Given : Type 0 where
-  pub remaining : ℕ
-  pub core : List ℕ
-  pub reg : Reg
-  pub value : ℕ
-
-abbrev pub given : ℕ → List ℕ → Reg → ℕ → Given
-given remaining core reg value = record { remaining = remaining; core = core; reg = reg; value = value }
 
 abbrev pub given_of : RegisterWord → Given
 given_of r = given r.remaining r.core.now r.reg r.value
@@ -57,48 +29,6 @@ named_by_word r = (r.core.now, index_of r.reg)
 abbrev pub KnowsGiven : code.Initial → Type 0
 KnowsGiven i = map named_by_key i.given.keys ≡ map named_by_word i.registers.items
 
--- what has been read: the names of the locations, their first words, and the registers' first words
-pub record Initial : Type 0 where
-  pub names : List (List ℕ)
-  pub words : List ℕ
-  pub registers : List Given
-
-abbrev pub initial : List (List ℕ) → List ℕ → List Given → Initial
-initial names words registers = record { names = names; words = words; registers = registers }
-
--- whether this register of this core is given there
-abbrev pub gives : List ℕ → Reg → Given → Bool
-gives core reg g = bytes_eq g.core core && (index_of g.reg == index_of reg)
-
--- An item at `remaining`, judged for its number, then its location, then whether an item before it gave the same a word.
--- Each location so far has been given one.
-unfoldable pub judged : ℕ → Initial → Setting → Result Initial Fault
-judged remaining i (of_register core reg v) =
-    word_at remaining v >>= λ value.
-    if list_any (gives core reg) i.registers then Err (fault TwiceInit remaining)
-    else Ok (initial i.names i.words (i.registers ++ given remaining core reg value ∷ []))
-judged remaining i (of_location x v) =
-    word_at remaining v >>= λ value.
-    located remaining i.names x >>= λ loc.
-    if nat_lt loc.0.0 (length i.words) then Err (fault TwiceInit remaining)
-    else Ok (initial loc.1 (i.words ++ value ∷ []) i.registers)
-
--- whether an item ends here, by `;` or `}`
-unfoldable pub ends_item : List Piece → Bool
-ends_item [] = false
-ends_item (p ∷ ps) = is_symbol Semicolon p || is_symbol CloseCurly p
-
--- the item at the front, judged once its end is there, and what stands from that end on
-unfoldable pub item_in : Part → Initial → List Piece → Result (Initial × List Piece) Fault
-item_in part i ps =
-    setting_at part ps >>= λ setting.
-    if ends_item setting.1 then (judged (remaining_of ps) i setting.0 >>= λ after. Ok (after, setting.1))
-    else Err (unfit part setting.1)
-
--- a `;`, or else an item
-unfoldable pub step_in : Part → Initial → List Piece → Result (Initial × List Piece) Fault
-step_in part i ps = there (symbol_at Semicolon ps) (λ rest. Ok (i, rest)) (item_in part i ps)
-
 -- the item at the front, unless an item ends there, and what stands from that end on
 unfoldable pub item_or_none : Part → Initial → List Piece → Result (Initial × List Piece) Fault
 item_or_none part i ps = if ends_item ps then Ok (i, ps) else item_in part i ps
@@ -111,47 +41,3 @@ closes (p ∷ ps) = is_symbol CloseCurly p
 -- what a section of the initial state gives, which ends as an item does, and whether the initial state ends with it
 unfoldable pub section_in : Part → Initial → List Piece → Result (Initial × Bool) Fault
 section_in part i ps = item_or_none part i ps >>= λ read. Ok (read.0, closes read.1)
-
--- what stands before the `}`, in at most n steps, and what stands after it
-unfoldable pub items_within : ℕ → Part → Initial → List Piece → Result (Initial × List Piece) Fault
-items_within zero part i ps = Err (unfit part ps)
-items_within (suc n) part i ps =
-    there (symbol_at CloseCurly ps) (λ rest. Ok (i, rest))
-    (step_in part i ps >>= λ read. items_within n part read.0 read.1)
-
--- all items, separated by `;`, and what stands after the `}`; each step takes a token or more
-unfoldable pub items_at : Part → List (List ℕ) → List Piece → Result (Initial × List Piece) Fault
-items_at part names ps = items_within (length ps) part (initial names [] []) ps
-
--- what stands after its `{`
-abbrev pub opened_at : Stop → List Piece → Result (List Piece) Fault
-opened_at stop ps = or_unfit (before_initial stop) ps (symbol_at OpenCurly ps)
-
--- the initial state, and what stands after it; there are no names before it
-unfoldable pub initial_at : Stop → List (List ℕ) → List Piece → Result (Initial × List Piece) Fault
-initial_at stop names ps = do
-  rest ← opened_at stop ps
-  items_at (in_initial (remaining_of ps) stop) names rest
-
--- the six registers of a core begin as 0
-abbrev pub no_registers : List ℕ
-no_registers = 0 ∷ 0 ∷ 0 ∷ 0 ∷ 0 ∷ 0 ∷ []
-
--- all registers, with this one's first word
-abbrev pub with_register : List (List ℕ) → ℕ → Reg → ℕ → List (List ℕ)
-with_register registers core reg value = slice_set registers core (with_value (slice_index_or registers core []) reg value)
-
--- the registers with these first words; the first of a core that isn't there is refused
-unfoldable pub registers_with : ℕ → List (List ℕ) → List Given → Result (List (List ℕ)) Fault
-registers_with cores registers [] = Ok registers
-registers_with cores registers (g ∷ gs) = do
-  core ← core_of cores g.remaining g.core
-  registers_with cores (with_register registers core g.reg g.value) gs
-
--- each core's first registers
-abbrev pub registers_of : ℕ → List Given → Result (List (List ℕ)) Fault
-registers_of cores all = registers_with cores (replicate cores no_registers) all
-
--- each location's first word; one that the initial state doesn't name begins as 0
-abbrev pub words_of : ℕ → List ℕ → List ℕ
-words_of locations words = words ++ replicate (locations - length words) 0

@@ -1,60 +1,9 @@
 -- `c:REG=v`, `x=v` and `[x]=v`, as they stand in the initial state and in conditions.
-use Rattle.std.specs.Prelude.{ℕ, List, Result, Ok, Err, nat_lt, if◌then◌else◌}
-use Rattle.litmus_tokens.specs.declared.token.Symbol.TheVariants.{Equals, Colon, OpenSquare, CloseSquare}
 use Rattle.decimals.specs.Decimals.{decimal_value}
-use Rattle.litmus_tokens.specs.Pieces.{Piece}
-use Rattle.litmus_tokens.specs.inner.Front.{symbol_at, number_at}
-use Rattle.litmus_cells.specs.declared.fault.Why.TheVariants.{NoSuchCore}
-use Rattle.litmus_cells.specs.declared.fault.Fault.{Fault}
-use Rattle.litmus_cells.specs.inner.Names.{location_at, register_at}
-use Rattle.litmus_reader.specs.declared.fault.Part.{Part}
 use Rattle.litmus_reader.specs.declared.setting.SpelledSetting.{SpelledSetting}
-use Rattle.litmus_cells.specs.inner.Faults.{◌>>=◌, there}
-use Rattle.litmus_reader.specs.inner.Faults.{or_unfit}
-use Rattle.litmus_cells.specs.Places.{fault}
 use Rattle.litmus_reader.specs.Written.{Setting, of_register, of_location}
 use Rattle.litmus_reader.specs.declared.setting.SpelledSetting.TheVariants as code
 
 abbrev pub setting_of : SpelledSetting → Setting
 setting_of (code.Register core reg value) = of_register core.now reg (decimal_value value.now)
 setting_of (code.Location name value) = of_location name.now (decimal_value value.now)
-
--- `=v`
-unfoldable pub value_at : Part → List Piece → Result (ℕ × List Piece) Fault
-value_at part ps = do
-  rest ← or_unfit part ps (symbol_at Equals ps)
-  digits ← or_unfit part rest (number_at rest)
-  Ok (decimal_value digits.0, digits.1)
-
--- `:REG=v`, after its core
-unfoldable pub register_setting : Part → List ℕ → List Piece → Result (Setting × List Piece) Fault
-register_setting part core ps = do
-  rest ← or_unfit part ps (symbol_at Colon ps)
-  reg ← or_unfit part rest (register_at rest)
-  value ← value_at part reg.1
-  Ok (of_register core reg.0 value.0, value.1)
-
--- `x]=v`, after its `[`
-unfoldable pub square_setting : Part → List Piece → Result (Setting × List Piece) Fault
-square_setting part ps = do
-  x ← or_unfit part ps (location_at ps)
-  rest ← or_unfit part x.1 (symbol_at CloseSquare x.1)
-  value ← value_at part rest
-  Ok (of_location x.0 value.0, value.1)
-
--- `x=v`
-unfoldable pub plain_setting : Part → List Piece → Result (Setting × List Piece) Fault
-plain_setting part ps = do
-  x ← or_unfit part ps (location_at ps)
-  value ← value_at part x.1
-  Ok (of_location x.0 value.0, value.1)
-
--- one of the three, by its first token
-unfoldable pub setting_at : Part → List Piece → Result (Setting × List Piece) Fault
-setting_at part ps =
-    there (number_at ps) (λ core. register_setting part core.0 core.1)
-    (there (symbol_at OpenSquare ps) (square_setting part) (plain_setting part ps))
-
--- a core of the test; any other, of whatever size, is refused
-abbrev pub core_of : ℕ → ℕ → List ℕ → Result ℕ Fault
-core_of cores remaining digits = if nat_lt (decimal_value digits) cores then Ok (decimal_value digits) else Err (fault NoSuchCore remaining)

@@ -1,5 +1,4 @@
-use Rattle.litmus_reader.proofs.Vocabulary.{◌<◌, length, sym, arith, err_from_is_err_and, length-map, claim_of, And, Or, pieces, texts, claimed, both, unit_at, conjunction}
-use Rattle.litmus_reader.specs.inner.Conditions.{either}
+use Rattle.litmus_reader.proofs.Vocabulary.{◌<◌, length, sym, arith, err_from_is_err_and, length-map, claim_of, And, Or, pieces, texts, claimed, both, either, unit_at, conjunction}
 use Rattle.litmus_reader.proofs.Chains.{chain_start, chain_end, chain_joined, chain_fails, chain_never_starts}
 use Rattle.litmus_reader.proofs.condition.+condition.Goals as goal
 

@@ -1,5 +1,4 @@
-use Rattle.litmus_reader.proofs.Vocabulary.{◌+◌, ◌*◌, ◌<◌, length, claim_of, And, Or, pieces, texts, claimed, both, unit_at, conjunction, proposition_at}
-use Rattle.litmus_reader.specs.inner.Conditions.{either}
+use Rattle.litmus_reader.proofs.Vocabulary.{◌+◌, ◌*◌, ◌<◌, length, claim_of, And, Or, pieces, texts, claimed, both, either, unit_at, conjunction, proposition_at}
 use Rattle.litmus_reader.proofs.Chains.{ChainAfter}
 use Rattle.litmus_reader.proofs.condition.+condition.Given as goal
 

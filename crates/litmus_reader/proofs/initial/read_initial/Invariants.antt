@@ -1,4 +1,4 @@
-use Rattle.litmus_reader.proofs.Vocabulary.{◌≡◌, length, map, texts, in_initial, initial, given_of, items_at, KnowsGiven, tokens_in, stop_of}
+use Rattle.litmus_reader.proofs.Vocabulary.{◌≡◌, length, map, texts, in_initial, given_of, KnowsGiven, initial, items_at, tokens_in, stop_of}
 use Rattle.litmus_reader.proofs.ItemSteps.{ItemsAfter}
 use Rattle.litmus_reader.proofs.initial.read_initial.Given as goal
 

@@ -1,7 +1,5 @@
 use Rattle.litmus_reader.proofs.Within.{spelled_is_test}
-use Rattle.litmus_reader.proofs.SpelledWords.{spelled_has_words}
 use Rattle.litmus_reader.proofs.reader.read_whole.Goals as goal
 
 pub unwrap-requires : goal.unwrap-requires
-unwrap-requires c =
-    c.new.ensures.valid.1 (spelled_is_test c.args.text.now _ c.in_ok-parts.ensures (spelled_has_words c.args.text.now _ (c.spelled_tests_follow_the_grammar.ensures.follows c.args.text.now _ c.in_ok-parts.ensures)))
+unwrap-requires c = c.new.ensures.valid.1 (spelled_is_test c.args.text.now _ c.in_ok-parts.ensures)

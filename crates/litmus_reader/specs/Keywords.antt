@@ -3,8 +3,8 @@ use Rattle.std.specs.Prelude.{ℕ, Bool, false, List, Option, Some, None, if◌t
 use Rattle.std.specs.Str.{bytes_eq}
 use Rattle.litmus_tokens.specs.Terms.{Term, name}
 use Rattle.litmus_tokens.specs.Pieces.{Piece}
-use Rattle.litmus_tokens.specs.inner.Front.{name_at}
-use Rattle.litmus_cells.specs.inner.Faults.{there}
+use Rattle.litmus_tokens.specs.Front.{name_at}
+use Rattle.litmus_cells.specs.Faults.{there}
 
 abbrev pub if_word : List ℕ → List ℕ × List Piece → Option (List Piece)
 if_word word found = if bytes_eq found.0 word then Some found.1 else None

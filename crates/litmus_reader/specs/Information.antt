@@ -7,8 +7,8 @@ use Rattle.std.specs.Char.{is_ascii_alphabetic}
 use Rattle.litmus_tokens.specs.Gap.{gap_end}
 use Rattle.litmus_cells.specs.declared.fault.Why.TheVariants.{Unclosed, BadToken}
 use Rattle.litmus_cells.specs.declared.fault.Fault.{Fault}
-use Rattle.litmus_cells.specs.inner.Faults.{◌>>=◌}
-use Rattle.litmus_reader.specs.inner.Header.{from_gap}
+use Rattle.litmus_cells.specs.Faults.{◌>>=◌}
+use Rattle.litmus_reader.specs.Header.{from_gap}
 use Rattle.litmus_cells.specs.Places.{fault}
 use Rattle.litmus_reader.specs.GrammarText.{first_line, continues_key}
 

@@ -8,13 +8,12 @@ use Rattle.litmus_tokens.specs.Front.{is_symbol}
 use Rattle.litmus_cells.specs.declared.fault.Why.TheVariants.{Unclosed, WrongCells}
 use Rattle.litmus_cells.specs.declared.fault.Fault.{Fault}
 use Rattle.litmus_cells.specs.declared.cell.CoreInstr.{CoreInstr}
-use Rattle.litmus_cells.specs.inner.Faults.{◌>>=◌}
-use Rattle.litmus_reader.specs.inner.Initial.{Given, registers_of}
-use Rattle.litmus_reader.specs.inner.Columns.{columns_at}
-use Rattle.litmus_reader.specs.inner.Cells.{cells_in}
+use Rattle.litmus_cells.specs.Faults.{◌>>=◌}
+use Rattle.litmus_reader.specs.Initial.{Given, registers_of}
+use Rattle.litmus_reader.specs.Columns.{columns_at}
+use Rattle.litmus_reader.specs.Cells.{cells_of, cells_in}
 use Rattle.litmus_cells.specs.Places.{fault}
 use Rattle.litmus_reader.specs.Places.{at_stop, remaining_of}
-use Rattle.litmus_reader.specs.RefusedTable.{cells_of}
 use Rattle.litmus_reader.specs.GrammarTable.{ends_rows}
 
 -- a row, and what stands after its `;`; one without a `;` is unclosed

@@ -4,13 +4,13 @@ use Rattle.litmus_tokens.specs.declared.token.Stop.{Stop}
 use Rattle.litmus_tokens.specs.declared.token.Symbol.TheVariants.{OpenSquare}
 use Rattle.litmus_tokens.specs.Gap.{gap_end}
 use Rattle.litmus_tokens.specs.Pieces.{Piece, pieces_of}
-use Rattle.litmus_tokens.specs.inner.Front.{symbol_at}
+use Rattle.litmus_tokens.specs.Front.{symbol_at}
 use Rattle.litmus_cells.specs.declared.fault.Why.TheVariants.{Unclosed, BadToken}
 use Rattle.litmus_cells.specs.declared.fault.Fault.{Fault}
-use Rattle.litmus_cells.specs.inner.Faults.{◌>>=◌, there}
-use Rattle.litmus_reader.specs.inner.Faults.{or_unfit}
-use Rattle.litmus_reader.specs.inner.Header.{from_gap}
-use Rattle.litmus_reader.specs.inner.Keywords.{word_after}
+use Rattle.litmus_cells.specs.Faults.{◌>>=◌, there}
+use Rattle.litmus_reader.specs.Faults.{or_unfit}
+use Rattle.litmus_reader.specs.Header.{from_gap}
+use Rattle.litmus_reader.specs.Keywords.{word_after}
 use Rattle.litmus_cells.specs.Places.{fault}
 use Rattle.litmus_reader.specs.Places.{remaining_of, from_place, part_of}
 use Rattle.litmus_reader.specs.declared.fault.Part.{Part}

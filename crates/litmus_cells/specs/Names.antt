@@ -4,8 +4,8 @@ use Rattle.tso_model.specs.Names.{is_location_name}
 use Rattle.tso_model.specs.Registers.{register_named}
 use Rattle.tso_model.specs.declared.register.Reg.{Reg}
 use Rattle.litmus_tokens.specs.Pieces.{Piece}
-use Rattle.litmus_tokens.specs.inner.Front.{name_at}
-use Rattle.litmus_cells.specs.inner.Faults.{there}
+use Rattle.litmus_tokens.specs.Front.{name_at}
+use Rattle.litmus_cells.specs.Faults.{there}
 
 abbrev pub if_location : List ℕ × List Piece → Option (List ℕ × List Piece)
 if_location found = if is_location_name found.0 then Some found else None

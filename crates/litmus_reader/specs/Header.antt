@@ -8,7 +8,7 @@ use Rattle.litmus_tokens.specs.Gap.{gap_end}
 use Rattle.litmus_reader.specs.Limits.{longest_text}
 use Rattle.litmus_cells.specs.declared.fault.Why.TheVariants.{NoHeader, Unclosed, TooLarge}
 use Rattle.litmus_cells.specs.declared.fault.Fault.{Fault}
-use Rattle.litmus_cells.specs.inner.Faults.{◌>>=◌}
+use Rattle.litmus_cells.specs.Faults.{◌>>=◌}
 use Rattle.litmus_cells.specs.Places.{fault}
 use Rattle.litmus_reader.specs.Places.{at_stop}
 use Rattle.litmus_reader.specs.GrammarText.{first_line, name_in}

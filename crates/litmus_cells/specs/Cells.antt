@@ -1,5 +1,6 @@
 -- A cell of a row: its instruction, its location's number, and the first fault in it.
-use Rattle.std.specs.Prelude.{ℕ, List, [], ◌∷◌, ◌++◌, count_by, Option, Some, None, Result, Ok, Err, nat_lt, ◌==◌, if◌then◌else◌}
+use Rattle.std.specs.Prelude.{ℕ, List, [], ◌∷◌, ◌++◌, count_by, Option, Some, None, Result, Ok, Err, nat_lt, ◌==◌}
+use Rattle.std.specs.Prelude.{if◌then◌else◌}
 use Rattle.tso_model.specs.declared.instruction.Instr.{Instr}
 use Rattle.tso_model.specs.declared.instruction.Instr.TheVariants.{StoreImm, StoreReg, Load, SetImm, SetReg, Fence}
 use Rattle.tso_model.specs.declared.instruction.Instr.TheVariants.{Xchg, Xadd}
@@ -8,10 +9,10 @@ use Rattle.litmus_tokens.specs.Pieces.{Piece}
 use Rattle.litmus_cells.specs.declared.fault.Why.TheVariants.{BadInstruction, TooLarge}
 use Rattle.litmus_cells.specs.declared.fault.Fault.{Fault}
 use Rattle.litmus_cells.specs.declared.cell.CoreInstr.{CoreInstr}
-use Rattle.litmus_cells.specs.inner.Faults.{◌>>=◌}
-use Rattle.litmus_cells.specs.inner.Locations.{located}
-use Rattle.litmus_cells.specs.inner.Numbers.{word_at}
-use Rattle.litmus_cells.specs.inner.Forms.{spelled_in}
+use Rattle.litmus_cells.specs.Faults.{◌>>=◌}
+use Rattle.litmus_cells.specs.Locations.{located}
+use Rattle.litmus_cells.specs.Numbers.{word_at}
+use Rattle.litmus_cells.specs.Forms.{spelled_in}
 use Rattle.litmus_cells.specs.Places.{fault}
 use Rattle.litmus_cells.specs.Shapes.{Shape, store_imm, store_reg, load, set_imm, set_reg, fence, xchg, xadd}
 

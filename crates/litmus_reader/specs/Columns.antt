@@ -5,12 +5,12 @@ use Rattle.std.specs.Str.{bytes_eq}
 use Rattle.litmus_tokens.specs.declared.token.Stop.{Stop}
 use Rattle.litmus_tokens.specs.declared.token.Symbol.TheVariants.{Semicolon, Bar}
 use Rattle.litmus_tokens.specs.Pieces.{Piece}
-use Rattle.litmus_tokens.specs.inner.Front.{symbol_at, name_at}
+use Rattle.litmus_tokens.specs.Front.{symbol_at, name_at}
 use Rattle.tso_model.specs.Limits.{most_cores}
 use Rattle.litmus_cells.specs.declared.fault.Why.TheVariants.{TooLarge, BadHeaderRow}
 use Rattle.litmus_cells.specs.declared.fault.Fault.{Fault}
-use Rattle.litmus_cells.specs.inner.Faults.{◌>>=◌, there}
-use Rattle.litmus_reader.specs.inner.Faults.{or_unfit}
+use Rattle.litmus_cells.specs.Faults.{◌>>=◌, there}
+use Rattle.litmus_reader.specs.Faults.{or_unfit}
 use Rattle.litmus_cells.specs.Places.{fault}
 use Rattle.litmus_reader.specs.Places.{remaining_of, part_of}
 use Rattle.litmus_reader.specs.GrammarColumns.{core_name}

@@ -1,0 +1,13 @@
+-- Readings that may refuse, and what a function that reads returns.
+use Rattle.std.specs.Prelude.{Option, Some, None, Result, Ok, Err}
+use Rattle.litmus_cells.specs.declared.fault.Fault.{Fault}
+
+infixl 10 ◌>>=◌
+abbrev pub ◌>>=◌ : {A B : Type 0} → Result A Fault → (A → Result B Fault) → Result B Fault
+(Ok x) >>= f = f x
+(Err e) >>= f = Err e
+
+-- what comes of a reading that is there, and else another
+abbrev pub there : {A B : Type 0} → Option A → (A → B) → B → B
+there (Some x) f other = f x
+there None f other = other

@@ -1,0 +1,21 @@
+-- The cells of a row, read from left to right: in this order names get their numbers, and the first fault is found.
+use Rattle.std.specs.Prelude.{ℕ, ◌+◌, List, [], ◌∷◌, Result, Ok}
+use Rattle.litmus_tokens.specs.Pieces.{Piece}
+use Rattle.litmus_cells.specs.declared.fault.Fault.{Fault}
+use Rattle.litmus_cells.specs.declared.cell.CoreInstr.{CoreInstr}
+use Rattle.litmus_cells.specs.Cells.{cell_in}
+use Rattle.litmus_cells.specs.Faults.{◌>>=◌}
+use Rattle.std.specs.List.{slice_split}
+use Rattle.litmus_tokens.specs.Front.{is_symbol}
+use Rattle.litmus_tokens.specs.declared.token.Symbol.TheVariants.{Bar}
+
+-- the cells of a row: what stands between its bars
+abbrev pub cells_of : List Piece → List (List Piece)
+cells_of row = slice_split (is_symbol Bar) row
+
+-- the cells of a row from this core on
+unfoldable pub cells_in : ℕ → List CoreInstr → List (List ℕ) → List (List Piece) → Result (List CoreInstr × List (List ℕ)) Fault
+cells_in core instrs names [] = Ok (instrs, names)
+cells_in core instrs names (c ∷ cs) = do
+  read ← cell_in core instrs names c
+  cells_in (core + 1) read.0 read.1 cs
