@@ -49,6 +49,9 @@ pub struct Victim {
 ///
 /// Each call says what it makes of the whole list (`exact`), what is then found at each line
 /// (`copies`), and that the above still holds (`valid`).
+///
+/// A call that changes a way asks for the number of ways first, and makes nothing of the answer: the map tells with it that
+/// each way stands there once, without which the way that is found by its number could be another one.
 #[derive(Drop)]
 pub struct CacheSet {
     ways: Ways,

@@ -31,7 +31,7 @@ set-apart (x ∷ xs) (suc k) zero v w n = refl
 set-apart (x ∷ xs) (suc k) (suc j) v w n = ap (λ z. x ∷ z) (set-apart xs k j v w (λ q. n (ap suc q)))
 
 -- a victim of another line goes to memory before or after the words that are sent
-victim-apart : (t : Table) (line : ℕ) (words : Option Words) (v : Option Victim) (memory : List Words) → ((e : Victim) → v ≡ Some e → line ≢ e.line)
+pub victim-apart : (t : Table) (line : ℕ) (words : Option Words) (v : Option Victim) (memory : List Words) → ((e : Victim) → v ≡ Some e → line ≢ e.line)
     → flushed line words (written_back t v memory) ≡ written_back t v (flushed line words memory)
 victim-apart t line words None memory apart = refl
 victim-apart t line None (Some v) memory apart = refl
@@ -42,7 +42,7 @@ victim-apart t line (Some words) (Some v) memory apart = by_dirty (t.evicts_dirt
     by_dirty true = sym (set-apart memory line v.line words v.content.words (apart v refl))
     by_dirty false = refl
 
-victim-of-another : (s : Contents) (line : ℕ) (e : Victim) → lookup (nat_eq line) s.copies ≡ None → victim_of s ≡ Some e → line ≢ e.line
+pub victim-of-another : (s : Contents) (line : ℕ) (e : Victim) → lookup (nat_eq line) s.copies ≡ None → victim_of s ≡ Some e → line ≢ e.line
 victim-of-another s line e none is = by_entry (slice_get s.copies (s.ways - 1)) refl is
   where
     by_entry : (o : Option (ℕ × Line)) → slice_get s.copies (s.ways - 1) ≡ o → option_map as_victim o ≡ Some e → line ≢ e.line

@@ -13,7 +13,7 @@ own_stays zero f (c ∷ cs) = refl
 own_stays (suc core) f (c ∷ cs) = own_stays core f cs
 
 -- a miss fills before or after what the others see
-missed : (t : Table) (on : State → Snoop) (core line : ℕ) (state : State) (sender : Option Core) (caches : List TagSets) →
+pub missed : (t : Table) (on : State → Snoop) (core line : ℕ) (state : State) (sender : Option Core) (caches : List TagSets) →
     accessed Miss (writes_back t core line caches) sender (requested on core line (filled_by core line state caches))
     ≡ accessed Miss (writes_back t core line (requested on core line caches)) sender (filled_by core line state (requested on core line caches))
 missed t on core line state sender caches =

@@ -16,7 +16,7 @@ use Rattle.snoop_bus.specs.declared.holding.Transaction.{Transaction}
 use Rattle.snoop_bus.specs.Lines.{Words}
 use Rattle.snoop_bus.specs.CacheContents.{TagSets, tag_in, sets_of, requested, is_held, flusher_from, writes_back}
 use Rattle.snoop_bus.specs.CacheContents.{used_by, filled_by, Accessed, accessed, loaded, written}
-use Rattle.snoop_bus.specs.Copies.{Sets}
+use Rattle.snoop_bus.specs.Copies.{Sets, tags_of}
 use Rattle.snoop_bus.specs.Requests.{snoop_column}
 use Rattle.snoop_bus.specs.MemoryAfter.{written_back, flushed, sent_words, victim_at}
 
@@ -132,3 +132,40 @@ completed_memory_in t core line SmD caches memory = memory
 abbrev pub completed_memory : Table → ℕ → ℕ → Option Awaited → List Sets → List Words → List Words
 completed_memory t core line None caches memory = memory
 completed_memory t core line (Some x) caches memory = completed_memory_in t core line x.transient caches memory
+
+-- the state in which an access that needs no bus leaves its core's copy: a load leaves it as it is, and what a write makes of
+-- it the table tells; none where the access needs the bus
+abbrev pub next_in_place : Table → Bool → Option State → Option State
+next_in_place t write None = None
+next_in_place t false (Some state) = Some state
+next_in_place t true (Some state) = t.written state
+
+-- what a core's line is in once an access that needs the bus has asked for it
+abbrev pub awaited_as : Bool → Option State → Transient
+awaited_as false copy = IsD
+awaited_as true None = ImD
+awaited_as true (Some state) = SmD
+
+-- an access that has asked for its line, and is completed at once
+abbrev pub asked_at_once : Table → Request → ℕ → ℕ → Transient → List TagSets → Accessed
+asked_at_once t request core line transient caches =
+    completed t core line (Some (awaiting t request line caches transient)) (requested (snoop_column t request) core line caches)
+
+abbrev pub whole_in : Table → Bool → ℕ → ℕ → List TagSets → Option State → Option State → Accessed
+whole_in t write core line caches copy (Some next) = accessed Hit false None (used_by core line next caches)
+whole_in t write core line caches copy None = asked_at_once t (request_for write) core line (awaited_as write copy) caches
+
+-- an access that is made whole, a load or a write access: a hit, which needs no bus, or its two halves one after the other
+abbrev pub whole_access : Table → Bool → ℕ → ℕ → List TagSets → Accessed
+whole_access t write core line caches =
+    whole_in t write core line caches (tag_at core line caches) (next_in_place t write (tag_at core line caches))
+
+abbrev pub whole_memory_in : Table → Bool → ℕ → ℕ → List Sets → Option State → Option State → List Words → List Words
+whole_memory_in t write core line caches copy (Some next) memory = memory
+whole_memory_in t write core line caches copy None memory =
+    completed_memory_in t core line (awaited_as write copy) caches (asked_memory t (request_for write) line caches memory)
+
+-- memory after it: an ask leaves the core's own copies as they are, so the line that gives way is the one that would before it
+abbrev pub whole_memory : Table → Bool → ℕ → ℕ → List Sets → List Words → List Words
+whole_memory t write core line caches memory =
+    whole_memory_in t write core line caches (tag_at core line (tags_of caches)) (next_in_place t write (tag_at core line (tags_of caches))) memory
