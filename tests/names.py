@@ -30,7 +30,6 @@ STAY = {
     "is_leaf": "a node that asks nothing",
     "is_space": "the bytes of white space",
     "last_or": "the last of a list, or this one",
-    "loaded": "what a load leaves, of a core and of the caches",
     "onto": "one put before what is read after it",
     "would_hit": "whether an access is a hit, of a machine's caches and of a bus",
     "◌>>=◌": "what goes on where nothing failed",

@@ -1,9 +1,10 @@
 -- A call of a bus, and memory's words after it: those that are seen, but where a copy is dirty those of before.
-use Rattle.bus_laws.proofs.Vocabulary.{◌≡◌, ◌≢◌, ◌∙◌, ◌⊎◌, ◌<◌, ◌/◌, ◌&&◌, ℕ, Bool, true, false, if◌then◌else◌, IfSome, List, length, Option, Some, None, option_map, nat_eq, inl, inr, refl, sym, ap, subst, eqb_tells, Loc, is_dirty, Table, table_of, ProtocolKind, GetS, State, Line, table_of_rows, rows_of, line_in, state_of_copy, may_share, TagSets, tag_in, loaded_in, write_in, requested, filled_by, Sets, copy_at, cache_of, tags_of, BusModel, AllCoherent, counted_copies, holder_of, IsFree, written_back, victim_at, loaded_memory_in, written_memory_in, tag_at, or_invalid, hit_in, asked_caches_in, awaiting, awaited_by, awaited_in, Awaited, completed, completed_in, completed_memory, completed_memory_in, contents_of, memory_of, would_hit, line_of_location, awaited_of, LoadsAt, WritesAt, AsksFor, CompletesAt, tag_at-copy, IsOwner}
+use Rattle.bus_laws.proofs.Vocabulary.{◌≡◌, ◌≢◌, ◌∙◌, ◌⊎◌, ◌<◌, ◌/◌, ◌&&◌, ℕ, Bool, true, false, if◌then◌else◌, IfSome, List, length, Option, Some, None, option_map, nat_eq, inl, inr, refl, sym, ap, subst, eqb_tells, Loc, is_dirty, Table, table_of, ProtocolKind, GetS, State, Line, table_of_rows, rows_of, line_in, state_of_copy, may_share, TagSets, tag_in, requested, filled_by, Sets, copy_at, cache_of, tags_of, BusModel, AllCoherent, counted_copies, holder_of, IsFree, written_back, victim_at, tag_at, or_invalid, asked_caches_in, awaiting, awaited_by, awaited_in, Awaited, completed, completed_in, completed_memory, completed_memory_in, contents_of, memory_of, would_hit, line_of_location, awaited_of, AsksFor, CompletesAt, tag_at-copy, IsOwner, is_some, next_in_place, request_for, to_fill, asked_memory, whole_in, whole_access, whole_memory, whole_memory_in, Words}
 use Rattle.tso_model.specs.declared.instruction.Core.{Core}
 use Rattle.protocol_tables.specs.Transients.{transient_of}
 use Rattle.protocol_tables.specs.declared.requests.Transient.{Transient}
 use Rattle.protocol_tables.specs.declared.requests.Transient.TheVariants.{IsD, ImD, SmD}
+use Rattle.snoop_bus.specs.Requests.{snoop_column}
 use Rattle.snoop_bus.specs.Held.{counted_copies_of, counted_in, transaction_in, holder_in, holder}
 use Rattle.snoop_bus.specs.inner.Bus.{IsBus}
 use Rattle.snoop_bus.specs.inner.Held.{IsHeld, IsPlaced, Awaits, AskedOf}
@@ -18,7 +19,7 @@ use Rattle.snoop_bus.proofs.HolderLemmas.{free-held}
 use Rattle.bus_laws.specs.inner.Calls.{IsCalled, loads, writes, asks, completes, keeps}
 use Rattle.bus_laws.proofs.Victims.{AllNeat, own-kept}
 use Rattle.bus_laws.proofs.Unowned.{SettlesMemory, settles, IsDirtyAt, never, not_absent, state-of}
-use Rattle.bus_laws.proofs.Stale.{AreApart, coherent-apart, load-stale, write-stale, complete-stale, ask-stale}
+use Rattle.bus_laws.proofs.Stale.{AreApart, coherent-apart, miss-stale, fill-stale, ask-stale}
 
 -- what every bus keeps
 abbrev pub IsSound : BusModel → Type 0
@@ -56,7 +57,7 @@ tag-none caches core line q = tag_at-copy caches core line ∙ ap (option_map (�
 missing-free : (b : BusModel) (core loc : ℕ) (write : Bool) → MayGoOn b core loc write → tag_at core (line_of_location b loc) (contents_of b) ≡ None → IsFree b
 missing-free b core loc write (inl free) none = free
 missing-free b core loc write (inr hit) none =
-    let misses : would_hit b core loc write ≡ false = ap (hit_in (table_of_rows b.rows) write) none in
+    let misses : would_hit b core loc write ≡ false = ap (λ o. is_some (next_in_place (table_of_rows b.rows) write o)) none in
     absurd (let z : ⊥ = cc in z)
 
 -- ---- each call
@@ -65,10 +66,29 @@ missing-free b core loc write (inr hit) none =
 abbrev IsStale : BusModel → BusModel → ℕ → Type 0
 IsStale old new k = line_in (memory_of new) k ≡ line_in (memory_of old) k
 
-load-call : (lines : ℕ) (old new : BusModel) (core loc word : ℕ) (access : Access) (k i : ℕ) → SettlesMemory (table_of_rows old.rows) → IsSound old → AllNeat lines (contents_of old)
-    → MayGoOn old core loc false → LoadsAt old new core loc word access → IsOwner (counted_copies new) k i → IsStale old new k
-load-call lines old new core loc word access k i h sound neat may at owner =
-    ap (λ m. line_in m k) at.memory ∙ by_copy (copy_at old.caches core line) refl
+-- an access that finds a copy leaves memory as it is
+found-memory : (t : Table) (write : Bool) (core line : ℕ) (caches : List Sets) (memory : List Words) (s : State) (next : Option State) → next_in_place t write (Some s) ≡ next
+    → whole_memory_in t write core line caches (Some s) next memory ≡ memory
+found-memory t write core line caches memory s (Some next) q = refl
+found-memory t false core line caches memory s None q = absurd (let z : ⊥ = cc in z)
+found-memory t true core line caches memory s None q = refl
+
+-- one that finds none fills it in once it has asked
+miss-memory : (t : Table) (write : Bool) (core line : ℕ) (caches : List Sets) (memory : List Words)
+    → whole_memory_in t write core line caches None None memory ≡ written_back t (victim_at caches core line) (asked_memory t (request_for write) line caches memory)
+miss-memory t false core line caches memory = refl
+miss-memory t true core line caches memory = refl
+
+miss-caches : (t : Table) (write : Bool) (core line : ℕ) (caches : List TagSets)
+    → (whole_in t write core line caches None None).caches ≡ filled_by core line (to_fill t (request_for write) line caches) (requested (snoop_column t (request_for write)) core line caches)
+unfolding awaiting
+miss-caches t false core line caches = refl
+miss-caches t true core line caches = refl
+
+access-call : (lines : ℕ) (old new : BusModel) (core loc : ℕ) (write : Bool) (k i : ℕ) → SettlesMemory (table_of_rows old.rows) → IsSound old → AllNeat lines (contents_of old) → MayGoOn old core loc write
+    → memory_of new ≡ whole_memory (table_of_rows old.rows) write core (line_of_location old loc) old.caches old.memory → contents_of new ≡ (whole_access (table_of_rows old.rows) write core (line_of_location old loc) (contents_of old)).caches
+    → awaited_of new ≡ awaited_of old → IsOwner (counted_copies new) k i → IsStale old new k
+access-call lines old new core loc write k i h sound neat may memory contents awaited owner = ap (λ m. line_in m k) memory ∙ by_tag (tag_at core line (contents_of old)) refl
   where
     t : Table
     t = table_of_rows old.rows
@@ -76,34 +96,16 @@ load-call lines old new core loc word access k i h sound neat may at owner =
     line : ℕ
     line = line_of_location old loc
 
-    by_copy : (o : Option Line) → copy_at old.caches core line ≡ o → line_in (loaded_memory_in t core line old.caches o old.memory) k ≡ line_in old.memory k
-    by_copy (Some copy) q = refl
-    by_copy None q =
-        let none = tag-none old.caches core line q in
-        let quiet = free-quiet old (missing-free old core loc false may none) in
-        let after = at.contents ∙ ap (λ o. (loaded_in t core line (contents_of old) o).caches) none in
-        load-stale t lines core line old.caches old.memory k i h neat (free-apart old sound quiet) none
-        (subst (IsDirtyAt i k) after (quiet-dirty new i k (at.held.awaited_is ∙ quiet) owner))
-
-write-call : (lines : ℕ) (old new : BusModel) (core loc word : ℕ) (access : Access) (k i : ℕ) → SettlesMemory (table_of_rows old.rows) → IsSound old → AllNeat lines (contents_of old)
-    → MayGoOn old core loc true → WritesAt old new core loc word access → IsOwner (counted_copies new) k i → IsStale old new k
-write-call lines old new core loc word access k i h sound neat may at owner =
-    ap (λ m. line_in m k) at.memory ∙ by_copy (copy_at old.caches core line) refl
-  where
-    t : Table
-    t = table_of_rows old.rows
-
-    line : ℕ
-    line = line_of_location old loc
-
-    by_copy : (o : Option Line) → copy_at old.caches core line ≡ o → line_in (written_memory_in t core line old.caches o old.memory) k ≡ line_in old.memory k
-    by_copy (Some copy) q = refl
-    by_copy None q =
-        let none = tag-none old.caches core line q in
-        let quiet = free-quiet old (missing-free old core loc true may none) in
-        let after = at.contents ∙ ap (λ o. (write_in t core line (contents_of old) o).caches) none in
-        write-stale t lines core line old.caches old.memory k i h neat (free-apart old sound quiet) none
-        (subst (IsDirtyAt i k) after (quiet-dirty new i k (at.held.awaited_is ∙ quiet) owner))
+    by_tag : (o : Option State) → tag_at core line (contents_of old) ≡ o → line_in (whole_memory t write core line old.caches old.memory) k ≡ line_in old.memory k
+    by_tag (Some s) q =
+        ap (λ o. line_in (whole_memory_in t write core line old.caches o (next_in_place t write o) old.memory) k) q
+        ∙ ap (λ m. line_in m k) (found-memory t write core line old.caches old.memory s (next_in_place t write (Some s)) refl)
+    by_tag None q =
+        let quiet = free-quiet old (missing-free old core loc write may q) in
+        let after = contents ∙ ap (λ o. (whole_in t write core line (contents_of old) o (next_in_place t write o)).caches) q ∙ miss-caches t write core line (contents_of old) in
+        ap (λ o. line_in (whole_memory_in t write core line old.caches o (next_in_place t write o) old.memory) k) q
+        ∙ ap (λ m. line_in m k) (miss-memory t write core line old.caches old.memory)
+        ∙ miss-stale t write lines core line old.caches old.memory k i h neat (free-apart old sound quiet) q (subst (IsDirtyAt i k) after (quiet-dirty new i k (awaited ∙ quiet) owner))
 
 -- of an ask: among the copies that count, the holder's is the one that comes in, which is clean, or what it has
 ask-owner : (caches : List Sets) (h : HeldBus) (x : Option Transaction) (core line i : ℕ) → h.holder.core.0 ≡ core → h.holder.core.0 < length caches → 0 < length (cache_of caches h.holder.core.0)
@@ -124,7 +126,8 @@ load-asks : (lines : ℕ) (old new : BusModel) (core : Core) (loc : Loc) (k i : 
     → would_hit old core.0 loc.0 false ≡ false → AsksFor old new core loc false → IsOwner (counted_copies new) k i → IsStale old new k
 load-asks lines old new core loc k i h sound after neat free misses at owner =
     ap (λ m. line_in m k) at.memory
-    ∙ ask-stale t lines core.0 line old.caches old.memory k i h neat (free-apart old sound (free-quiet old free)) other found
+    ∙ ask-stale t lines core.0 line old.caches old.memory k i h neat (free-apart old sound (free-quiet old free))
+    (λ same. (λ e. other e same, subst (λ n. IsDirtyAt i n (requested t.on_get_s core.0 line (contents_of old))) same found))
   where
     t : Table
     t = table_of_rows old.rows
@@ -135,7 +138,7 @@ load-asks lines old new core loc k i h sound after neat free misses at owner =
     none : tag_at core.0 line (contents_of old) ≡ None
     none = by_tag (tag_at core.0 line (contents_of old)) refl misses
       where
-        by_tag : (o : Option State) → tag_at core.0 line (contents_of old) ≡ o → hit_in t false o ≡ false → tag_at core.0 line (contents_of old) ≡ None
+        by_tag : (o : Option State) → tag_at core.0 line (contents_of old) ≡ o → is_some (next_in_place t false o) ≡ false → tag_at core.0 line (contents_of old) ≡ None
         by_tag None q missed = q
         by_tag (Some s) q missed = absurd (let z : ⊥ = cc in z)
 
@@ -238,7 +241,7 @@ complete-call lines old new core loc stage access k i h sound neat holds quiet a
             let awaited : Awaits x.holder.stage (Some y) (copy_at old.caches x.holder.core.0 x.line) = subst (λ o. Awaits x.holder.stage o (copy_at old.caches x.holder.core.0 x.line)) e is.awaits in
             let absent : copy_at old.caches core.0 line ≡ None =
             subst (λ c. copy_at old.caches c line ≡ None) own (subst (λ l. copy_at old.caches x.holder.core.0 l ≡ None) here (awaited-none x.holder.stage y _ awaited n)) in
-            complete-stale t lines core.0 line y.copy.state old.caches old.memory k i h neat alone (tag-none old.caches core.0 line absent) dirty
+            fill-stale t lines core.0 line y.copy.state old.caches (tags_of old.caches) old.memory k i h neat refl alone (tag-none old.caches core.0 line absent) dirty
 
         by_transient : (y : Transaction) (τ : Transient) → x.transaction ≡ Some y → y.transient ≡ τ
             → IsDirtyAt i k (completed_in t core.0 line τ y.copy.state y.flushed (tags_of old.caches)).caches
@@ -266,8 +269,8 @@ called-stale kind lines old new k i rows sound after neat called owner = by_call
     by_asks core loc false free misses at = load-asks lines old new core loc k i facts sound after neat free (misses refl) at owner
 
     by_call : IsCalled old new → line_in (memory_of new) k ≡ line_in (memory_of old) k
-    by_call (loads core loc word access may at) = load-call lines old new core loc word access k i facts sound neat may at owner
-    by_call (writes core loc word access may at) = write-call lines old new core loc word access k i facts sound neat may at owner
+    by_call (loads core loc word access may at) = access-call lines old new core loc false k i facts sound neat may at.memory at.contents at.held.awaited_is owner
+    by_call (writes core loc word access may at) = access-call lines old new core loc true k i facts sound neat may at.memory at.contents at.held.awaited_is owner
     by_call (asks core loc write free misses at) = by_asks core loc write free misses at
     by_call (completes core loc stage access holds quiet at) = complete-call lines old new core loc stage access k i facts sound neat holds quiet at owner
     by_call (keeps same) = ap (λ m. line_in m k) same

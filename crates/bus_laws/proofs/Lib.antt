@@ -2,6 +2,7 @@ pub mod Vocabulary
 pub mod Told
 pub mod Dirty
 pub mod Counted
+pub mod Changed
 pub mod Victims
 pub mod Snooped
 pub mod Unowned

@@ -1,5 +1,6 @@
 -- What becomes of the states of a line in the caches where another core's request is seen, and where a line comes in.
-use Rattle.bus_laws.proofs.Vocabulary.{◌≡◌, ◌≢◌, ◌∙◌, ◌⊎◌, ◌≤◌, ◌%◌, ℕ, zero, suc, true, false, List, [], ◌∷◌, length, map, slice_set, slice_index_or, Option, Some, None, nat_eq, if◌then◌else◌, inl, inr, refl, sym, ap, subst, get_or-set_same, get_or-set_other, eqb_tells, get_or_past, length-set, lookup, remove_entry, decide, lt-or, State, I, S, E, O, M, Snoop, tag_at, or_invalid, TagSet, tag_of, in_next, snooped, snooped_in, TagSets, tags_at, tag_in, at_line, sets_of, at_core, at_others, requested}
+use Rattle.bus_laws.proofs.Vocabulary.{◌≡◌, ◌≢◌, ◌∙◌, ◌⊎◌, ◌%◌, ℕ, zero, suc, true, false, List, [], ◌∷◌, length, map, slice_index_or, Option, Some, None, nat_eq, if◌then◌else◌, inl, inr, refl, sym, ap, subst, get_or-set_other, eqb_tells, get_or_past, lookup, remove_entry, State, I, S, E, O, M, Snoop, tag_at, or_invalid, TagSet, tag_of, in_next, snooped, snooped_in, TagSets, tags_at, tag_in, at_line, sets_of, at_core, at_others, requested}
+use Rattle.bus_laws.proofs.Changed.{set-at}
 use Rattle.bus_laws.proofs.Victims.{Once, no_set, AreNeat, gone-remove}
 
 -- ---- one set
@@ -73,37 +74,13 @@ snooped-beside on line other s n = by_tag (tag_of s line)
 -- of the set in which a line lies, once it was changed
 set-here : {A : Type 0} (line : ℕ) (change : TagSet → TagSet) (sets : TagSets) (read : TagSet → A) → change no_set ≡ no_set → read (tags_at (at_line line change sets) line) ≡ read (change (tags_at sets line))
 set-here line change sets read none =
-    subst (λ n. read (slice_index_or (slice_set sets place new) (line % n) no_set) ≡ read new) (sym (length-set sets place new)) (elim (lt-or (length sets) place) [
-      | inl l ↦ ap read (get_or-set_same sets place new no_set l)
-      | inr past ↦
-          let nothing : new ≡ no_set = ap change (get_or_past sets place no_set past) ∙ none in
-          ap read (get_or_past (slice_set sets place new) place no_set (subst (λ n. n ≤ place) (sym (length-set sets place new)) past) ∙ sym nothing)
-    ])
-  where
-    place : ℕ
-    place = line % length sets
-
-    new : TagSet
-    new = change (tags_at sets line)
+    set-at (λ s. read s ≡ read (change (tags_at sets line))) line line change sets (λ q l. refl) (λ q past. sym (ap read (ap change (get_or_past sets (line % length sets) no_set past) ∙ none))) (λ n. absurd (n refl))
 
 -- and of any set, where the change leaves another line as it is
 set-beside : (line other : ℕ) (change : TagSet → TagSet) (sets : TagSets) → tag_of (change (tags_at sets line)) other ≡ tag_of (tags_at sets line) other → tag_in (at_line line change sets) other ≡ tag_in sets other
 set-beside line other change sets keeps =
-    subst (λ n. tag_of (slice_index_or (slice_set sets place new) (other % n) no_set) other ≡ tag_in sets other) (sym (length-set sets place new)) (elim (decide (other % length sets) place) [
-      | inl q ↦ elim (lt-or (length sets) place) [
-        | inl l ↦ subst (λ k. tag_of (slice_index_or (slice_set sets place new) k no_set) other ≡ tag_of (slice_index_or sets k no_set) other) (sym q)
-            (ap (λ s. tag_of s other) (get_or-set_same sets place new no_set l) ∙ keeps)
-        | inr past ↦ subst (λ k. tag_of (slice_index_or (slice_set sets place new) k no_set) other ≡ tag_of (slice_index_or sets k no_set) other) (sym q)
-            (ap (λ s. tag_of s other) (get_or_past (slice_set sets place new) place no_set (subst (λ n. n ≤ place) (sym (length-set sets place new)) past) ∙ sym (get_or_past sets place no_set past)))
-      ]
-      | inr n ↦ ap (λ s. tag_of s other) (get_or-set_other sets place (other % length sets) new no_set n)
-    ])
-  where
-    place : ℕ
-    place = line % length sets
-
-    new : TagSet
-    new = change (tags_at sets line)
+    set-at (λ s. tag_of s other ≡ tag_in sets other) line other change sets (λ q l. keeps ∙ ap (λ k. tag_of (slice_index_or sets k no_set) other) (sym q))
+    (λ q past. sym (ap (λ s. tag_of s other) (ap (λ k. slice_index_or sets k no_set) q ∙ get_or_past sets (line % length sets) no_set past))) (λ n. refl)
 
 -- ---- all caches
 

@@ -1,24 +1,21 @@
 -- Accesses, by the state of the core's own copy.
-use Rattle.bus_laws.proofs.Vocabulary.{◌≡◌, ◌↔◌, ℕ, Bool, true, false, List, Option, Some, None, refl, sym, ap, ◌∙◌, is_some, State, Table, TagSets, Accessed, loaded, loaded_in, written, written_in, write_in, hits, hit_in, tag_at}
+use Rattle.bus_laws.proofs.Vocabulary.{◌≡◌, ◌↔◌, ℕ, Bool, true, false, List, Option, Some, None, refl, sym, ap, ◌∙◌, is_some, State, Table, TagSets, Accessed, hits, tag_at, next_in_place, awaited_as, request_for, whole_in, whole_access, asked_at_once, awaiting}
+use Rattle.protocol_tables.specs.declared.requests.Transient.{Transient}
+use Rattle.protocol_tables.specs.declared.requests.Transient.TheVariants.{IsD, ImD, SmD}
 use Rattle.bus_laws.specs.Hits.{IsHit}
 
-pub load-told : (t : Table) (core line : ℕ) (caches : List TagSets) → IsHit (loaded t core line caches) ↔ (hits t core line false caches ≡ true)
-load-told t core line caches = by_tag (tag_at core line caches)
+pub access-told : (t : Table) (write : Bool) (core line : ℕ) (caches : List TagSets) → IsHit (whole_access t write core line caches) ↔ (hits t core line write caches ≡ true)
+unfolding awaiting
+access-told t write core line caches = by_next (tag_at core line caches) (next_in_place t write (tag_at core line caches))
   where
-    by_tag : (o : Option State) → IsHit (loaded_in t core line caches o) ↔ (hit_in t false o ≡ true)
-    by_tag None = ((λ h. absurd (let z : ⊥ = cc in z)), (λ h. absurd (let z : ⊥ = cc in z)))
-    by_tag (Some state) = ((λ h. refl), (λ h. refl))
+    not_hit : (x : Transient) → IsHit (asked_at_once t (request_for write) core line x caches) → ⊥
+    not_hit IsD h = let z : ⊥ = cc in z
+    not_hit ImD h = let z : ⊥ = cc in z
+    not_hit SmD h = let z : ⊥ = cc in z
 
-pub write-told : (t : Table) (core line : ℕ) (caches : List TagSets) → IsHit (written t core line caches) ↔ (hits t core line true caches ≡ true)
-write-told t core line caches = by_tag (tag_at core line caches)
-  where
-    by_next : (o : Option State) → IsHit (written_in t core line caches o) ↔ (is_some o ≡ true)
-    by_next None = ((λ h. absurd (let z : ⊥ = cc in z)), (λ h. absurd (let z : ⊥ = cc in z)))
-    by_next (Some next) = ((λ h. refl), (λ h. refl))
-
-    by_tag : (o : Option State) → IsHit (write_in t core line caches o) ↔ (hit_in t true o ≡ true)
-    by_tag None = ((λ h. absurd (let z : ⊥ = cc in z)), (λ h. absurd (let z : ⊥ = cc in z)))
-    by_tag (Some state) = by_next (t.written state)
+    by_next : (copy next : Option State) → IsHit (whole_in t write core line caches copy next) ↔ (is_some next ≡ true)
+    by_next copy None = ((λ h. absurd (not_hit (awaited_as write copy) h)), (λ h. absurd (let z : ⊥ = cc in z)))
+    by_next copy (Some next) = ((λ h. refl), (λ h. refl))
 
 -- the same of an access that is this one in another form
 pub told-as : (a b : Accessed) (P : Type 0) → a ≡ b → IsHit a ↔ P → IsHit b ↔ P

@@ -1,6 +1,9 @@
 -- A line of memory that changes has no dirty copy then: the one that was sent or written back was the only one.
-use Rattle.bus_laws.proofs.Vocabulary.{◌≡◌, ◌≢◌, ◌∙◌, ℕ, suc, Bool, true, false, if◌then◌else◌, List, [], ◌∷◌, length, slice_set, Option, Some, None, option_map, inl, inr, refl, sym, ap, subst, get_or-set_same, get_or-set_other, get_or_past, decide, lt-or, is_dirty, Table, table_of, ProtocolKind, State, I, S, E, O, M, Snoop, Line, Victim, table_of_rows, rows_of, Words, line_in, state_of_copy, may_share, leaving, filled, TagSets, tags_at, tag_in, at_line, sets_of, requested, filled_by, Sets, copy_at, copy_in, tags_of, written_back, flushed, sent_of, first_of_two, sent_words, tag_at, or_invalid, tag_at-copy}
+use Rattle.bus_laws.proofs.Vocabulary.{◌≡◌, ◌≢◌, ◌∙◌, ℕ, suc, Bool, true, false, if◌then◌else◌, List, [], ◌∷◌, slice_set, Option, Some, None, option_map, inl, inr, refl, sym, ap, subst, get_or-set_other, decide, is_dirty, Table, table_of, ProtocolKind, State, I, S, E, O, M, Snoop, Line, Victim, table_of_rows, rows_of, Words, line_in, state_of_copy, may_share, leaving, filled, TagSets, tags_at, tag_in, at_line, sets_of, requested, filled_by, Sets, copy_at, copy_in, tags_of, written_back, flushed, sent_of, first_of_two, sent_words, tag_at, or_invalid, tag_at-copy}
+use Rattle.bus_laws.proofs.Changed.{core-at}
+use Rattle.protocol_tables.specs.Tables.{is_written_back}
 use Rattle.protocol_tables.specs.declared.kind.ProtocolKind.TheVariants.{Msi, Mesi, Moesi, Mosi}
+use Rattle.snoop_bus.proofs.RowLemmas.{table_of-rows}
 use Rattle.bus_laws.proofs.Victims.{AreNeat, AllNeat, sets-leave}
 use Rattle.bus_laws.proofs.Snooped.{left_of, requested-here, own-alone}
 use Rattle.bus_laws.proofs.Dirty.{apart}
@@ -12,26 +15,20 @@ abbrev pub kept_table : ProtocolKind → Table
 kept_table kind = table_of_rows (rows_of (table_of kind))
 
 written_if_dirty : (kind : ProtocolKind) (s : State) → (kept_table kind).evicts_dirty s ≡ is_dirty s
-written_if_dirty Msi I = refl
-written_if_dirty Msi S = refl
-written_if_dirty Msi E = refl
-written_if_dirty Msi O = refl
-written_if_dirty Msi M = refl
-written_if_dirty Mesi I = refl
-written_if_dirty Mesi S = refl
-written_if_dirty Mesi E = refl
-written_if_dirty Mesi O = refl
-written_if_dirty Mesi M = refl
-written_if_dirty Moesi I = refl
-written_if_dirty Moesi S = refl
-written_if_dirty Moesi E = refl
-written_if_dirty Moesi O = refl
-written_if_dirty Moesi M = refl
-written_if_dirty Mosi I = refl
-written_if_dirty Mosi S = refl
-written_if_dirty Mosi E = refl
-written_if_dirty Mosi O = refl
-written_if_dirty Mosi M = refl
+written_if_dirty kind s = ap (λ (t : Table). t.evicts_dirty s) (table_of-rows (table_of kind)) ∙ by_protocol kind
+  where
+    by_state : (s : State) → is_written_back s ≡ is_dirty s
+    by_state I = refl
+    by_state S = refl
+    by_state E = refl
+    by_state O = refl
+    by_state M = refl
+
+    by_protocol : (kind : ProtocolKind) → (table_of kind).evicts_dirty s ≡ is_dirty s
+    by_protocol Msi = by_state s
+    by_protocol Mesi = by_state s
+    by_protocol Moesi = by_state s
+    by_protocol Mosi = by_state s
 
 -- a load fills in a clean state
 filled_clean : (kind : ProtocolKind) (shared : Bool) → is_dirty ((kept_table kind).filled shared) ≡ false
@@ -121,21 +118,10 @@ pub victim-unowned : (lines core line : ℕ) (state : State) (caches : List TagS
     → ((other : ℕ) → other ≢ core → may_share victim.1 (or_invalid (tag_at other victim.0 caches)) ≡ true)
     → tag_at core line caches ≡ None → leaving (tags_at (sets_of caches core) line) ≡ Some victim → is_dirty victim.1 ≡ true
     → IsDirtyAt i victim.0 (filled_by core line state caches) → ⊥
-victim-unowned lines core line state caches victim i neat alone none leaves dirty found = elim (decide i core) [
-  | inl q ↦ own (subst (λ k. IsDirtyAt k victim.0 (filled_by core line state caches)) q found)
-  | inr n ↦ apart victim.1 (or_invalid (tag_at i victim.0 caches)) (alone i n) dirty
-      (subst (λ sets. is_dirty (or_invalid (tag_in sets victim.0)) ≡ true) (own-alone core (at_line line (filled line state)) caches i n) found)
-]
-  where
-    own : IsDirtyAt core victim.0 (filled_by core line state caches) → ⊥
-    own h = elim (lt-or (length caches) core) [
-      | inl l ↦ not_absent (tag_in (at_line line (filled line state) (sets_of caches core)) victim.0)
-          (sets-leave lines line state (sets_of caches core) victim (neat core) none leaves).after
-          (subst (λ sets. is_dirty (or_invalid (tag_in sets victim.0)) ≡ true) (get_or-set_same caches core (at_line line (filled line state) (sets_of caches core)) [] l) h)
-      | inr past ↦
-          let nothing : leaving (tags_at (sets_of caches core) line) ≡ None = ap (λ (sets : TagSets). leaving (tags_at sets line)) (get_or_past caches core [] past) in
-          let z : ⊥ = cc in z
-    ]
+victim-unowned lines core line state caches victim i neat alone none leaves dirty =
+    core-at (λ sets. is_dirty (or_invalid (tag_in sets victim.0)) ≡ true → ⊥) core i (at_line line (filled line state)) caches
+    (λ q l. not_absent _ (sets-leave lines line state (sets_of caches core) victim (neat core) none leaves).after) (λ q past. not_absent None refl)
+    (λ n. apart victim.1 (or_invalid (tag_at i victim.0 caches)) (alone i n) dirty)
 
 -- the line that leaves is another than the one that comes in
 pub victim-other : (lines core line : ℕ) (caches : List TagSets) (victim : ℕ × State) → AllNeat lines caches

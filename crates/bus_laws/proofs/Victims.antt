@@ -1,5 +1,6 @@
 -- Sets of tags under accesses: each line lies in one set alone and once, none is in I, and the line that leaves a set is gone.
-use Rattle.bus_laws.proofs.Vocabulary.{arith, ◌≡◌, ◌≢◌, ◌<◌, ◌≤◌, ◌-◌, ◌%◌, ℕ, zero, suc, false, List, [], ◌∷◌, length, take, map, slice_get, slice_set, slice_index_or, Option, Some, None, nat_eq, if◌then◌else◌, ◌⊎◌, inl, inr, refl, sym, subst, get_or-set_same, get_or-set_other, eqb_tells, eq-eqb, get_or_past, length-set, lookup, remove_entry, decide, lt-or, State, I, S, E, O, M, Snoop, TagSet, tag_set, tag_of, used, filled, leaving, restated, in_next, snooped, snooped_in, TagSets, tags_at, tag_in, at_line, sets_of, at_core, at_others, requested, used_by, filled_by}
+use Rattle.bus_laws.proofs.Vocabulary.{arith, ◌≡◌, ◌≢◌, ◌<◌, ◌-◌, ◌%◌, ℕ, zero, suc, false, List, [], ◌∷◌, length, take, map, slice_get, slice_set, slice_index_or, Option, Some, None, nat_eq, if◌then◌else◌, inl, inr, refl, sym, subst, eqb_tells, eq-eqb, length-set, lookup, remove_entry, State, I, S, E, O, M, Snoop, TagSet, tag_set, tag_of, used, filled, leaving, restated, in_next, snooped, snooped_in, TagSets, tags_at, tag_in, at_line, sets_of, at_core, at_others, requested, used_by, filled_by}
+use Rattle.bus_laws.proofs.Changed.{slot, set-at, core-at}
 
 -- ---- the tags of one set
 
@@ -215,17 +216,8 @@ set-changed : (lines line : ℕ) (change : TagSet → TagSet) (sets : TagSets) �
 set-changed lines line change sets h changed i =
     let there = line % length sets in
     let new = change (tags_at sets line) in
-    let size : length (slice_set sets there new) ≡ length sets = length-set sets there new in
-    subst (λ n. IsNeat (Lies lines n i) (slice_index_or (slice_set sets there new) i no_set)) (sym size) (elim (decide i there) [
-      | inl q ↦ elim (lt-or (length sets) there) [
-        | inl l ↦ subst (λ k. IsNeat (Lies lines (length sets) k) (slice_index_or (slice_set sets there new) k no_set)) (sym q)
-            (subst (λ s. IsNeat (Lies lines (length sets) there) s) (sym (get_or-set_same sets there new no_set l)) (changed (h there)))
-        | inr past ↦
-            let far : length (slice_set sets there new) ≤ i = subst (λ k. length (slice_set sets there new) ≤ k) (sym q) (subst (λ n. n ≤ there) (sym size) past) in
-            subst (λ s. IsNeat (Lies lines (length sets) i) s) (sym (get_or_past (slice_set sets there new) i no_set far)) (none-neat (Lies lines (length sets) i))
-      ]
-      | inr n ↦ subst (λ s. IsNeat (Lies lines (length sets) i) s) (sym (get_or-set_other sets there i new no_set n)) (h i)
-    ])
+    subst (λ n. IsNeat (Lies lines n i) (slice_index_or (slice_set sets there new) i no_set)) (sym (length-set sets there new))
+    (slot (IsNeat (Lies lines (length sets) i)) sets there i new no_set (λ q l. subst (λ k. IsNeat (Lies lines (length sets) k) new) (sym q) (changed (h there))) (λ q past. none-neat (Lies lines (length sets) i)) (λ n. h i))
 
 -- a copy that is found is in a state other than I
 pub found-valid : (lines line : ℕ) (state : State) (sets : TagSets) → AreNeat lines sets → tag_in sets line ≡ Some state → state ≢ I
@@ -259,23 +251,13 @@ pub sets-leave : (lines line : ℕ) (state : State) (sets : TagSets) (victim : �
 sets-leave lines line state sets victim h none leaves =
     let there = line % length sets in
     let left = has-left (Lies lines (length sets) there) line state (tags_at sets line) victim (h there) none leaves in
-    let new = filled line state (tags_at sets line) in
     let place : victim.0 % length sets ≡ there = left.kind.place in
-    let size : length (at_line line (filled line state) sets) ≡ length sets = length-set sets there new in
     record {
       within = left.kind.within;
       valid = left.kind.valid;
       before = subst (λ k. tag_of (slice_index_or sets k no_set) victim.0 ≡ Some victim.1) (sym place) left.before;
-      after = subst (λ n. tag_of (slice_index_or (slice_set sets there new) (victim.0 % n) no_set) victim.0 ≡ None) (sym size)
-          (subst (λ k. tag_of (slice_index_or (slice_set sets there new) k no_set) victim.0 ≡ None) (sym place) (in_place (lt-or (length sets) there) left.after));
+      after = set-at (λ s. tag_of s victim.0 ≡ None) line victim.0 (filled line state) sets (λ q l. left.after) (λ q past. refl) (λ n. absurd (n place));
     }
-  where
-    in_place : (line % length sets < length sets) ⊎ (length sets ≤ line % length sets) → tag_of (filled line state (tags_at sets line)) victim.0 ≡ None
-        → tag_of (slice_index_or (slice_set sets (line % length sets) (filled line state (tags_at sets line))) (line % length sets) no_set) victim.0 ≡ None
-    in_place (inl l) gone = subst (λ s. tag_of s victim.0 ≡ None) (sym (get_or-set_same sets (line % length sets) (filled line state (tags_at sets line)) no_set l)) gone
-    in_place (inr past) gone = subst (λ s. tag_of s victim.0 ≡ None)
-        (sym (get_or_past (slice_set sets (line % length sets) (filled line state (tags_at sets line))) (line % length sets) no_set
-        (subst (λ n. n ≤ line % length sets) (sym (length-set sets (line % length sets) (filled line state (tags_at sets line)))) past))) refl
 
 -- ---- all caches
 
@@ -284,15 +266,7 @@ AllNeat lines caches = (core : ℕ) → AreNeat lines (sets_of caches core)
 
 own-changed : (lines core : ℕ) (change : TagSets → TagSets) (caches : List TagSets) → AllNeat lines caches → (AreNeat lines (sets_of caches core) → AreNeat lines (change (sets_of caches core)))
     → AllNeat lines (at_core core change caches)
-own-changed lines core change caches h changed k = elim (decide k core) [
-  | inl q ↦ elim (lt-or (length caches) core) [
-    | inl l ↦ subst (λ j. AreNeat lines (sets_of (at_core core change caches) j)) (sym q)
-        (subst (AreNeat lines) (sym (get_or-set_same caches core (change (sets_of caches core)) [] l)) (changed (h core)))
-    | inr past ↦ subst (AreNeat lines) (sym (get_or_past (at_core core change caches) k []
-        (subst (λ j. length (at_core core change caches) ≤ j) (sym q) (subst (λ n. n ≤ core) (sym (length-set caches core (change (sets_of caches core)))) past)))) (no-sets lines)
-  ]
-  | inr n ↦ subst (AreNeat lines) (sym (get_or-set_other caches core k (change (sets_of caches core)) [] n)) (h k)
-]
+own-changed lines core change caches h changed k = core-at (AreNeat lines) core k change caches (λ q l. changed (h core)) (λ q past. no-sets lines) (λ n. h k)
 
 -- of the others a change that keeps no sets as they are
 each-changed : (lines : ℕ) (change : TagSets → TagSets) (caches : List TagSets) → ((sets : TagSets) → AreNeat lines sets → AreNeat lines (change sets)) → AllNeat lines caches → AllNeat lines (map change caches)

@@ -2,8 +2,8 @@
 pub use Rattle.std.proofs.Common.{◌≡◌, ◌↔◌, ℕ, Bool, true, false, List, Option, Some, None, refl, sym, ap, ◌∙◌, is_some, ◌≢◌, length, inl, inr, ◌||◌, zero, suc, if◌then◌else◌, [], ◌∷◌, filter, slice_get, nat_lt, ◌/◌, ◌⊎◌, subst, arith, ◌<◌, ◌≤◌, ◌-◌, ◌%◌, take, map, slice_set, slice_index_or, nat_eq, get_or-set_same, get_or-set_other, option_map, ◌&&◌, IfSome}
 pub use Rattle.protocol_tables.specs.declared.state.State.{State}
 pub use Rattle.protocol_tables.specs.Tables.{Table, table_of}
-pub use Rattle.snoop_bus.specs.CacheContents.{TagSets, Accessed, loaded, loaded_in, written, written_in, write_in, tags_at, tag_in, at_line, sets_of, at_core, at_others, requested, used_by, filled_by, is_held}
-pub use Rattle.snoop_bus.specs.Asks.{hits, hit_in, tag_at, or_invalid, asked_caches_in, awaited_by, awaited_in, Awaited, completed, completed_in, completed_memory, completed_memory_in, in_halves}
+pub use Rattle.snoop_bus.specs.CacheContents.{TagSets, Accessed, tags_at, tag_in, at_line, sets_of, at_core, at_others, requested, used_by, filled_by, is_held}
+pub use Rattle.snoop_bus.specs.Asks.{hits, tag_at, or_invalid, asked_caches_in, awaited_by, awaited_in, Awaited, completed, completed_in, completed_memory, completed_memory_in, in_halves, next_in_place, awaited_as, request_for, to_fill, asked_memory, whole_in, whole_access, whole_memory, whole_memory_in, asked_at_once}
 unfoldable pub use Rattle.snoop_bus.specs.Asks.{awaiting}
 pub use Rattle.protocol_tables.specs.Laws.{is_dirty}
 pub use Rattle.protocol_tables.specs.declared.state.State.TheVariants.{I, S, E, O, M}
@@ -28,7 +28,7 @@ pub use Rattle.snoop_bus.specs.Tags.{TagSet, tag_set, tag_of, used, filled, leav
 pub use Rattle.protocol_tables.specs.declared.kind.ProtocolKind.{ProtocolKind}
 pub use Rattle.cache_set.specs.declared.Line.{Line}
 pub use Rattle.cache_set.specs.declared.Victim.{Victim}
-pub use Rattle.snoop_bus.specs.MemoryAfter.{written_back, flushed, sent_of, first_of_two, sent_words, victim_at, loaded_memory_in, written_memory_in}
+pub use Rattle.snoop_bus.specs.MemoryAfter.{written_back, flushed, sent_of, first_of_two, sent_words, victim_at}
 pub use Rattle.snoop_bus.proofs.StateLemmas.{tag_at-copy}
 pub use Rattle.protocol_tables.specs.declared.requests.Request.TheVariants.{GetS, GetM}
 pub use Rattle.snoop_bus.specs.Accesses.{contents_of, memory_of, would_hit, line_of_location, awaited_of, LoadsAt, WritesAt, AsksFor, CompletesAt}

@@ -1,5 +1,5 @@
 -- What a choice asks the caches for, and what is counted of it: the statistics count accesses that were made, each once.
-use Rattle.std.specs.Prelude.{ℕ, ◌≡◌, ◌↔◌, ◌⊎◌, true, List}
+use Rattle.std.specs.Prelude.{ℕ, ◌≡◌, ◌↔◌, ◌⊎◌, true, false, List}
 use Rattle.tso_model.specs.Litmus.{Litmus}
 use Rattle.tso_model.specs.FlatMachine.{State, chosen, core_of, effect_of}
 use Rattle.tso_model.specs.MemoryAccess.{MemoryAccess, NoAccess, Reads, Writes, Locks, access_of}
@@ -11,15 +11,15 @@ use Rattle.split_laws.specs.BusChoices.{IsPossibleOn}
 use Rattle.snoop_bus.specs.declared.access.AccessKind.TheVariants.{Hit}
 use Rattle.machine_core.specs.declared.accesses.CacheUse.{CacheUse}
 use Rattle.machine_core.specs.declared.accesses.CacheUse.TheVariants.{Unused, Forwarded, Through}
-use Rattle.machine_core.specs.Caches.{Caches, Used, not_through, load_by, write_by, use_of, hits_by}
+use Rattle.machine_core.specs.Caches.{Caches, Used, not_through, whole_by, use_of, hits_by}
 
 -- a core's use of the caches is this access: no use, or a load that its own pending stores answer, where there is none; else one
--- load or one write access at the location
+-- access at the location that is made whole, a load or a write access
 abbrev pub IsUseFor : Caches → ℕ → MemoryAccess → Used → Type 0
 IsUseFor c core NoAccess u = (u ≡ not_through Unused c) ⊎ (u ≡ not_through Forwarded c)
-IsUseFor c core (Reads loc) u = u ≡ load_by c core loc.0
-IsUseFor c core (Writes loc) u = u ≡ write_by c core loc.0
-IsUseFor c core (Locks loc) u = u ≡ write_by c core loc.0
+IsUseFor c core (Reads loc) u = u ≡ whole_by c core loc.0 false
+IsUseFor c core (Writes loc) u = u ≡ whole_by c core loc.0 true
+IsUseFor c core (Locks loc) u = u ≡ whole_by c core loc.0 true
 
 -- a use that is a hit
 abbrev pub IsHitUse : CacheUse → Type 0

@@ -28,13 +28,6 @@ is_invalid-valid E h = refl
 is_invalid-valid O h = refl
 is_invalid-valid M h = refl
 
-pub valid-is_invalid : (s : State) → is_invalid s ≡ false → s ≢ I
-valid-is_invalid I h = cc
-valid-is_invalid S h = λ e. cc
-valid-is_invalid E h = λ e. cc
-valid-is_invalid O h = λ e. cc
-valid-is_invalid M h = λ e. cc
-
 absent-all : (k : ℕ) (es : List (ℕ × Way)) → AllByRecursion (λ y. nat_eq k y ≡ false) (keys_of es) → lookup (nat_eq k) es ≡ None
 absent-all k [] h = refl
 absent-all k (e ∷ es) h = rw h.0 (absent-all k es h.1)
@@ -360,7 +353,3 @@ length-emptied w new (e ∷ es) d h empty = elim (tells (is_empty e.1)) [
       let same : w ≡ e.0 = cc in
       rw (eq-eqb w e.0 same, empty, p) refl
 ]
-
-pub empty-list : {X : Type 0} (xs : List X) → length xs ≤ 0 → xs ≡ []
-empty-list [] h = refl
-empty-list (x ∷ xs) h = absurd (omega arith)

@@ -1,5 +1,5 @@
 -- What an action of one core does, from what the calls in it say.
-use Rattle.machine_core.proofs.Vocabulary.{◌≡◌, ◌++◌, ℕ, List, [], ◌∷◌, map, drop, Some, slice_get, append-nil, refl, sym, ap, ◌∙◌, subst, MemoryAccess, NoAccess, Writes, drain_access, Core, CoreState, Effect, stalled, memory_after, Outcome, Committed, Stalled, Pending, Noted, BusModel, words_of, Processor, Unused, Through, Way, Whole, Asked, Turn, store_of, core_state, pending_in, effect_of_drain, write_by, MayMakeBy, MayMake, HasAsked, HasActed, Waits, IsMade, IsStored, drain_with}
+use Rattle.machine_core.proofs.Vocabulary.{◌≡◌, ◌++◌, ℕ, List, [], ◌∷◌, map, drop, Some, slice_get, append-nil, refl, sym, ap, ◌∙◌, subst, MemoryAccess, NoAccess, Writes, drain_access, Core, CoreState, Effect, stalled, memory_after, Outcome, Committed, Stalled, Pending, Noted, BusModel, words_of, Processor, Unused, Through, Way, Whole, Asked, Turn, store_of, core_state, pending_in, effect_of_drain, MayMakeBy, MayMake, HasAsked, HasActed, Waits, IsMade, IsStored, drain_with, true}
 use Rattle.tso_model.specs.declared.choice.Stall.{Stall}
 use Rattle.store_buffer.specs.Stores.{Stores}
 use Rattle.machine_core.proofs.Acting.{writes-oldest}
@@ -48,7 +48,7 @@ drained core s (x ∷ xs) store h =
     }) (sym e)
 
 pub acts-drains : (turn : Turn) (p : Processor) (left : Stores) (b b' : BusModel) (noted noted' : Noted) (store : Pending) (access : bus_access.Access) → Some store ≡ slice_get p.stores.items 0
-    → left.items ≡ drop 1 p.stores.items → IsStored turn.core.0 store b b' noted noted' → IsMade turn write_by store.loc b b' access
+    → left.items ≡ drop 1 p.stores.items → IsStored turn.core.0 store b b' noted noted' → IsMade turn true store.loc b b' access
     → HasActed turn.way (drain_access (pending_in turn.core.0 p)) turn.core.0 p (record { place = p.place; registers = p.registers; stores = left }) b b' noted noted' (effect_of_drain turn.core.0 p (words_of b)) (Committed, Through access)
 acts-drains turn p left b b' noted noted' store access h rest stored_is made =
     let core : ℕ = turn.core.0 in

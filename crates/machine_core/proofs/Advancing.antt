@@ -1,5 +1,6 @@
 -- Each choice on either bus counts an access only where one more instruction has made its own.
-use Rattle.machine_core.proofs.Vocabulary.{◌≡◌, ◌≢◌, ◌<◌, ℕ, Bool, true, false, if◌then◌else◌, List, [], ◌∷◌, drop, length, Option, None, Some, slice_get, refl, sym, ap, ◌∙◌, subst, arith, nat_tests, Litmus, IsTest, action_of, CoreState, State, effect_by, step_of, effect_of, core_of, chosen, program_of, MemoryAccess, NoAccess, Reads, Writes, Locks, access_by, step_access, access_of, Holder, Free, HeldBy, HeldBetween, Attempt, BusEffect, acts, asks, begins, needs_bus, same_choice, completes, writes_last, as_read, effect_on, Bus, Atomic, Split, Reg, Loc, Instr, Action, Store, Load, Move, Fence, Lock, Entry, Choice, Step, Drain, HasRead, HolderFits, Unused, Caches, is_awaited, use_of, use_with, at_access, ask_by, not_through, HasIssuedItsStores, locked_with}
+use Rattle.machine_core.proofs.Vocabulary.{◌≡◌, ◌≢◌, ◌<◌, ℕ, Bool, true, false, if◌then◌else◌, List, [], ◌∷◌, drop, length, Option, None, Some, slice_get, refl, sym, ap, ◌∙◌, subst, arith, nat_tests, Litmus, IsTest, action_of, CoreState, State, effect_by, step_of, effect_of, core_of, chosen, program_of, MemoryAccess, NoAccess, Reads, Writes, Locks, access_by, step_access, access_of, Holder, Free, HeldBy, HeldBetween, Attempt, BusEffect, acts, asks, begins, needs_bus, same_choice, completes, writes_last, as_read, effect_on, Bus, Atomic, Split, Reg, Loc, Instr, Action, Store, Load, Move, Fence, Lock, Entry, Choice, Step, Drain, HasRead, HolderFits, Unused, Caches, is_awaited, use_of, use_with, HasIssuedItsStores, locked_with}
+use Rattle.machine_core.proofs.EachUse.{asks-nothing}
 use Rattle.machine_core.proofs.CountBounds.{effect-advances}
 use Rattle.machine_core.proofs.CountsOnBus.{AdvancesOn, advances-acts, advances-frees, advances-reads, advances-writes, advances-rests}
 use Rattle.machine_core.proofs.Accessing.{commits-at-once}
@@ -23,12 +24,6 @@ step-last : (c : Caches) (before : List Entry) (depth : ℕ) (memory : List ℕ)
     → (use_of c before (drop 1 (step_of depth memory core o s).commits)).how ≡ Unused
 step-last c before depth memory core None s at h = absurd (let z : ⊥ = cc in z)
 step-last c before depth memory core (Some instr) s at h = action-last c before depth memory core (action_of instr) s at h
-
-asks-nothing : (c : Caches) (core : ℕ) (what : MemoryAccess) → (at_access (not_through Unused c) (λ loc write. ask_by c core loc.0 write) what).how ≡ Unused
-asks-nothing c core NoAccess = refl
-asks-nothing c core (Reads loc) = refl
-asks-nothing c core (Writes loc) = refl
-asks-nothing c core (Locks loc) = refl
 
 -- the same choice
 pub same-is : (a b : Choice) → same_choice a b ≡ true → a ≡ b

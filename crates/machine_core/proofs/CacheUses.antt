@@ -1,5 +1,5 @@
 -- What a choice has to do with the caches, from what its core did.
-use Rattle.machine_core.proofs.Vocabulary.{◌≡◌, ◌||◌, ◌==◌, ℕ, Bool, true, false, if◌then◌else◌, List, [], ◌∷◌, map, filter, Option, None, Some, is_some, slice_get, refl, sym, ap, ◌∙◌, subst, option_map, last_or, list_any, writes_to, CoreState, Reg, Loc, Update, Entry, Pending, newest_for, Access, BusModel, words_of, IsSameMachine, LoadsAt, WritesAt, Processor, CacheUse, Unused, Forwarded, Through, store_of, core_state, pending_in, effect_of_lock, effect_of_drain, Caches, caches_of, not_through, load_after, write_by, use_of, HasUsed, drain_with, fenced_with, locked_with}
+use Rattle.machine_core.proofs.Vocabulary.{◌≡◌, ◌||◌, ◌==◌, ℕ, Bool, true, false, if◌then◌else◌, List, [], ◌∷◌, map, filter, Option, None, Some, is_some, slice_get, refl, sym, ap, ◌∙◌, subst, option_map, last_or, list_any, writes_to, CoreState, Reg, Loc, Update, Entry, Pending, newest_for, Access, BusModel, words_of, IsSameMachine, LoadsAt, WritesAt, Processor, CacheUse, Unused, Forwarded, Through, store_of, core_state, pending_in, effect_of_lock, effect_of_drain, Caches, caches_of, not_through, load_after, use_of, HasUsed, drain_with, fenced_with, locked_with, whole_by}
 
 or_true : (b : Bool) → true ≡ (b || true)
 or_true true = refl
@@ -31,7 +31,7 @@ loads old new pending core loc word access h done machine =
     rw h (record { how_is = ap Through done.access_is; caches = rw (machine.rows, machine.shape, done.contents, done.held.awaited_is) refl })
 
 pub writes : (old new : BusModel) (core loc word : ℕ) (access : Access) → WritesAt old new core loc word access → IsSameMachine old new
-    → HasUsed (write_by (caches_of old) core loc) new (Through access)
+    → HasUsed (whole_by (caches_of old) core loc true) new (Through access)
 writes old new core loc word access done machine =
     record { how_is = ap Through done.access_is; caches = rw (machine.rows, machine.shape, done.contents, done.held.awaited_is) refl }
 
@@ -48,7 +48,7 @@ fences b pending core s waiting =
     subst (λ u. HasUsed u b Unused) (sym (fenced-uses (caches_of b) pending core s waiting)) (record { how_is = refl; caches = refl })
 
 locked-uses : (c : Caches) (pending : List Entry) (core : ℕ) (s : CoreState) (loc : Loc) (reg : Reg) (word value : ℕ) (items : List Pending) → items ≡ []
-    → use_of c pending (locked_with core s loc reg word value (map (store_of core) items)).commits ≡ write_by c core loc.0
+    → use_of c pending (locked_with core s loc reg word value (map (store_of core) items)).commits ≡ whole_by c core loc.0 true
 locked-uses c pending core s loc reg word value [] h = refl
 locked-uses c pending core s loc reg word value (p ∷ ps) h = absurd (let z : ⊥ = cc in z)
 
@@ -60,11 +60,11 @@ locks core p old new loc reg update word access h done machine =
     (writes old new core loc.0 word access done machine)
 
 drained-uses : (c : Caches) (pending : List Entry) (core : ℕ) (s : CoreState) (items : List Pending) (store : Pending) → Some store ≡ slice_get items 0
-    → use_of c pending (drain_with s (map (store_of core) items)).commits ≡ write_by c core store.loc.0
+    → use_of c pending (drain_with s (map (store_of core) items)).commits ≡ whole_by c core store.loc.0 true
 drained-uses c pending core s [] store h = absurd (let z : ⊥ = cc in z)
-drained-uses c pending core s (p ∷ ps) store h = let e : store ≡ p = cc in ap (λ q. write_by c core q.loc.0) (sym e)
+drained-uses c pending core s (p ∷ ps) store h = let e : store ≡ p = cc in ap (λ q. whole_by c core q.loc.0 true) (sym e)
 
 pub drains : (core : ℕ) (p : Processor) (old new : BusModel) (store : Pending) (how : CacheUse) → Some store ≡ slice_get p.stores.items 0
-    → HasUsed (write_by (caches_of old) core store.loc.0) new how → HasUsed (use_of (caches_of old) (pending_in core p) (effect_of_drain core p (words_of old)).commits) new how
+    → HasUsed (whole_by (caches_of old) core store.loc.0 true) new how → HasUsed (use_of (caches_of old) (pending_in core p) (effect_of_drain core p (words_of old)).commits) new how
 drains core p old new store how h used =
     subst (λ u. HasUsed u new how) (sym (drained-uses (caches_of old) (pending_in core p) core (core_state core p) p.stores.items store h)) used

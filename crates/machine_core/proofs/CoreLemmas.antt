@@ -1,5 +1,5 @@
 -- The machine's cores as the flat machine has them.
-use Rattle.machine_core.proofs.Vocabulary.{◌≡◌, ◌<◌, ℕ, zero, suc, ◌+◌, ◌==◌, ◌&&◌, Bool, true, false, IsTrue, if◌then◌else◌, List, [], ◌∷◌, ◌++◌, map, filter, Option, None, Some, unwrap_or, length, slice_get, slice_set, slice_index, slice_index_or, take, drop, drop-cons, add-one, append_assoc, refl, sym, ap, ◌∙◌, arith, subst, All, All-append, option_map, last_or, writes_to, is_none_pending, CoreState, stalled, started, idle, is_done, all_done, Reg, Loc, Instr, Update, Pending, newest_for, Processor, stores, store_of, core_state, core_states, effect_of_lock, IsCore, drain_with, fenced_with, locked_with}
+use Rattle.machine_core.proofs.Vocabulary.{◌≡◌, ◌<◌, ℕ, zero, suc, ◌+◌, ◌==◌, Bool, true, false, IsTrue, if◌then◌else◌, List, [], ◌∷◌, ◌++◌, map, filter, Option, None, Some, unwrap_or, length, slice_get, slice_set, slice_index, slice_index_or, take, drop, drop-cons, add-one, append_assoc, refl, sym, ap, ◌∙◌, arith, subst, All, All-append, option_map, last_or, writes_to, is_none_pending, CoreState, stalled, started, idle, Reg, Loc, Instr, Update, Pending, newest_for, Processor, stores, store_of, core_state, core_states, effect_of_lock, IsCore, drain_with, fenced_with, locked_with}
 use Rattle.tso_model.specs.Axioms.{last_value}
 use Rattle.tso_model.specs.declared.choice.Stall.TheVariants as stall
 
@@ -104,16 +104,6 @@ started-next ps p core programs registers h place regs none =
 pub registers-core_states : (k : ℕ) (ps : List Processor) → map (λ p. p.registers) ps ≡ map (λ c. c.registers) (core_states k ps)
 registers-core_states k [] = refl
 registers-core_states k (p ∷ ps) = ap (λ r. p.registers ∷ r) (registers-core_states (k + 1) ps)
-
--- one more core that is done, or one that isn't
-pub all_done-next : (programs : List (List Instr)) (ps : List Processor) (core : ℕ) (p : Processor) → core < length programs → core < length ps
-    → p ≡ slice_index_or ps core p
-    → all_done (drop core programs) (core_states core (drop core ps))
-    ≡ (is_done (slice_index_or programs core []) (core_state core p) && all_done (drop (core + 1) programs) (core_states (core + 1) (drop (core + 1) ps)))
-all_done-next programs ps core p h l q =
-    let first : drop core programs ≡ slice_index_or programs core [] ∷ drop (core + 1) programs = rw add-one (drop-cons programs core [] h) in
-    let second : drop core ps ≡ p ∷ drop (core + 1) ps = rw add-one (drop-cons ps core p l ∙ ap (λ x. x ∷ drop (suc core) ps) (sym q)) in
-    rw (first, second) refl
 
 -- a core with an empty buffer
 no_stores : (n : ℕ) → All (λ (s : Pending). s.loc.0 < n) []

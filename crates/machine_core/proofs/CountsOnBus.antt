@@ -1,13 +1,26 @@
 -- The counts after a choice on either bus.
-use Rattle.machine_core.proofs.Vocabulary.{◌≡◌, ◌≢◌, ◌≤◌, ◌<◌, ◌+◌, ◌*◌, ◌⊎◌, inl, inr, ℕ, Bool, true, false, if◌then◌else◌, List, [], ◌∷◌, length, slice_set, Option, Some, None, All, refl, sym, ap, ◌∙◌, subst, arith, list_any, sum_by, option_map, All-set, most_instructions, Litmus, writes_to, CoreState, Effect, chosen, core_of, idle, MemoryAccess, NoAccess, Reads, Writes, Locks, Holder, Free, HeldBy, HeldBetween, BusEffect, acts, BusState, Entry, Kind, R, W, F, LR, LW, Choice, Table, table_of_rows, TagSets, flusher_from, Awaited, asking, asked_for, awaiting, completed, completed_in, flusher_of, Counts, CacheUse, Unused, Forwarded, Caches, Used, not_through, load_by, use_by_kind, use_of, used_between, Statistics, with_use_counted, IsAtMost, HasIssuedItsStores, IsAmong, IsFlusherAmong, IsSenderAmong, IsTallied, done_by, done_in, half_done, most_counted}
+use Rattle.machine_core.proofs.Vocabulary.{◌≡◌, ◌≢◌, ◌≤◌, ◌<◌, ◌+◌, ◌*◌, ◌⊎◌, inl, inr, ℕ, Bool, true, false, if◌then◌else◌, List, [], ◌∷◌, length, slice_set, Option, Some, None, All, refl, sym, ap, ◌∙◌, subst, arith, sum_by, option_map, All-set, most_instructions, Litmus, CoreState, Effect, chosen, core_of, idle, MemoryAccess, Holder, Free, HeldBy, HeldBetween, BusEffect, acts, BusState, Entry, Choice, Table, table_of_rows, TagSets, flusher_from, Awaited, asking, asked_for, awaiting, completed, completed_in, flusher_of, Counts, CacheUse, Unused, Caches, Used, use_of, used_between, Statistics, with_use_counted, IsAtMost, HasIssuedItsStores, IsAmong, IsFlusherAmong, IsSenderAmong, IsTallied, done_by, done_in, half_done, most_counted, suc, request_for, awaited_as, whole_in, sends_in, tags_at}
 use Rattle.std.proofs.lemmas.List.Sums.{sum_by-set, sum_by-le}
+use Rattle.protocol_tables.specs.declared.state.State as protocol
+use Rattle.protocol_tables.specs.declared.state.Snoop.{Snoop}
+use Rattle.snoop_bus.specs.Tags.{tag_of}
 use Rattle.protocol_tables.specs.declared.requests.Request.{Request}
 use Rattle.protocol_tables.specs.declared.requests.Request.TheVariants.{GetS, GetM}
 use Rattle.protocol_tables.specs.declared.requests.Transient.{Transient}
 use Rattle.protocol_tables.specs.declared.requests.Transient.TheVariants.{IsD, ImD, SmD}
-use Rattle.machine_core.proofs.CountBounds.{Advances, IsAtMost-more, counted-within, length-counted, flusher-among, use_of-among}
+use Rattle.machine_core.proofs.CountBounds.{Advances, IsAtMost-more, use-counted, length-counted}
+use Rattle.machine_core.proofs.EachUse.{each-use}
 
--- who sent what is awaited
+-- the core whose copy is sent to memory is on the bus
+flusher-among : (k : ℕ) (f : protocol.State → Snoop) (line : ℕ) (caches : List TagSets) → IsAmong (k + length caches) (flusher_from k f line caches)
+flusher-among k f line [] = tt
+flusher-among k f line (sets ∷ caches) =
+    elim (sends_in f (tag_of (tags_at sets line) line)) as (λ b. IsAmong (k + length (sets ∷ caches)) (if b then Some (record { 0 = k }) else flusher_from (k + 1) f line caches)) [
+      | true ↦ (let z : k < k + suc (length caches) = omega arith in z)
+      | false ↦ subst (λ n. IsAmong n (flusher_from (k + 1) f line caches)) (let z : k + 1 + length caches ≡ k + suc (length caches) = omega arith in z) (flusher-among (k + 1) f line caches)
+    ]
+
+-- and so is who sent what is awaited
 completed-among : (t : Table) (core line n : ℕ) (o : Option Awaited) (caches : List TagSets) → IsSenderAmong n o → IsAmong n (completed t core line o caches).access.flushed
 completed-among t core line n None caches h = tt
 completed-among t core line n (Some x) caches h = by_transient x.transient
@@ -28,34 +41,22 @@ asked-among t request core line caches =
     elim (asked_for request core line caches) as (λ o. IsSenderAmong (length caches) (option_map (awaiting t request line caches) o))
     [ None ↦ tt | Some tr ↦ sender-among t request line caches ]
 
+whole-among : (t : Table) (write : Bool) (core line : ℕ) (caches : List TagSets) (copy next : Option protocol.State) → IsAmong (length caches) (whole_in t write core line caches copy next).access.flushed
+unfolding awaiting
+whole-among t write core line caches copy (Some state) = tt
+whole-among t write core line caches copy None =
+    completed-among t core line (length caches) (Some (awaiting t (request_for write) line caches (awaited_as write copy))) _ (sender-among t (request_for write) line caches)
+
 -- what a choice makes of that, and the core whose copy was sent
 abbrev SendersAmong : ℕ → Used → Type 0
 SendersAmong n u = IsFlusherAmong n u.how × IsSenderAmong n u.caches.awaited
 
-whole-keeps : (n : ℕ) (c : Caches) (pending : List Entry) (e : Entry) (k : Kind) → IsSenderAmong n c.awaited → IsSenderAmong n (use_by_kind c pending e k).caches.awaited
-whole-keeps n c pending e R h =
-    elim (list_any (writes_to e.loc.0) pending) as (λ b. IsSenderAmong n (if b then not_through Forwarded c else load_by c e.core.0 e.loc.0).caches.awaited) [ true ↦ h | false ↦ h ]
-whole-keeps n c pending e W h = h
-whole-keeps n c pending e F h = h
-whole-keeps n c pending e LR h = h
-whole-keeps n c pending e LW h = h
-
-whole-senders : (c : Caches) (pending commits : List Entry) → IsSenderAmong (length c.contents) c.awaited → SendersAmong (length c.contents) (use_of c pending commits)
-whole-senders c pending [] h = (tt, h)
-whole-senders c pending (e ∷ es) h = (use_of-among c pending (e ∷ es), whole-keeps (length c.contents) c pending e e.kind h)
-
 pub senders : (before after : Bool) (c : Caches) (core : ℕ) (what : MemoryAccess) (pending commits : List Entry) → IsSenderAmong (length c.contents) c.awaited
     → SendersAmong (length c.contents) (used_between before after c core what pending commits)
-senders false true c core NoAccess pending commits h = (tt, h)
-senders false true c core (Reads loc) pending commits h = (tt, asked-among (table_of_rows c.rows) _ core _ c.contents)
-senders false true c core (Writes loc) pending commits h = (tt, asked-among (table_of_rows c.rows) _ core _ c.contents)
-senders false true c core (Locks loc) pending commits h = (tt, asked-among (table_of_rows c.rows) _ core _ c.contents)
-senders true false c core NoAccess pending commits h = (tt, h)
-senders true false c core (Reads loc) pending commits h = (completed-among (table_of_rows c.rows) core _ (length c.contents) c.awaited c.contents h, tt)
-senders true false c core (Writes loc) pending commits h = (completed-among (table_of_rows c.rows) core _ (length c.contents) c.awaited c.contents h, tt)
-senders true false c core (Locks loc) pending commits h = (completed-among (table_of_rows c.rows) core _ (length c.contents) c.awaited c.contents h, tt)
-senders false false c core what pending commits h = whole-senders c pending commits h
-senders true true c core what pending commits h = whole-senders c pending commits h
+senders before after c core what pending commits h =
+    each-use (SendersAmong (length c.contents)) c (tt, h) (tt, h) (λ k loc write. (whole-among (table_of_rows c.rows) write k _ c.contents _ _, h)) core
+    (λ loc write. (tt, asked-among (table_of_rows c.rows) (request_for write) core _ c.contents))
+    (λ loc. (completed-among (table_of_rows c.rows) core _ (length c.contents) c.awaited c.contents h, tt)) before after what pending commits
 
 -- a core after an effect on either bus: no fewer instructions have made their accesses, and one more where an access is counted
 pub record AdvancesOn (s : CoreState) (holder : Holder) (f : BusEffect) (how : CacheUse) : Type 0 where
@@ -81,12 +82,12 @@ few-counted t state s size tallied =
     λ k d l. IsAtMost-more (done_in state) most_counted _ few (tallied.done k d l)
 
 -- the counts after a choice
-counts-after : (n m core : ℕ) (how : CacheUse) (cs : List Counts) → core < length cs → IsFlusherAmong (length cs) how → n ≤ m → (how ≡ Unused) ⊎ (n + 1 ≤ m)
+counts-after : (n m core : ℕ) (how : CacheUse) (cs : List Counts) → n ≤ m → (how ≡ Unused) ⊎ (n + 1 ≤ m)
     → All (IsAtMost n) cs → All (IsAtMost m) (with_use_counted core how cs)
-counts-after n m core how cs h among le (inl none) all =
+counts-after n m core how cs le (inl none) all =
     subst (λ u. All (IsAtMost m) (with_use_counted core u cs)) (sym none) (λ k d l. IsAtMost-more n m _ le (all k d l))
-counts-after n m core how cs h among le (inr more) all =
-    let next : All (IsAtMost (n + 1)) (with_use_counted core how cs) = counted-within n core how cs h among all in
+counts-after n m core how cs le (inr more) all =
+    let next : All (IsAtMost (n + 1)) (with_use_counted core how cs) = use-counted n core how cs all in
     λ k d l. IsAtMost-more (n + 1) m _ more (next k d l)
 
 pub tallied-after : (t : Litmus) (state next : BusState) (choice : Choice) (f : BusEffect) (s : Statistics) (u : Used) → length state.flat.cores ≡ length t.programs → length s.caches.contents ≡ length t.programs
@@ -105,8 +106,7 @@ tallied-after t state next choice f s u cores contents h tallied go among after 
       test = tallied.test;
       cores = length-counted i u.how s.counts ∙ tallied.cores;
       issued = rw after (All-set HasIssuedItsStores state.flat.cores i f.effect.after go.issued tallied.issued);
-      done = counts-after (done_in state) (done_in next) i u.how s.counts (subst (λ n. i < n) (sym tallied.cores) h)
-          (subst (λ n. IsFlusherAmong n u.how) (contents ∙ sym tallied.cores) among.0) le
+      done = counts-after (done_in state) (done_in next) i u.how s.counts le
           (one-more (done_in state) (done_in next) (sum_by done_by state.flat.cores) (sum_by done_by (slice_set state.flat.cores i f.effect.after)) (done_by c) (done_by f.effect.after) (half_done state.holder) (half_done f.holder)
           u.how refl is sums go.more) tallied.done;
       sender = subst (λ n. IsSenderAmong n u.caches.awaited) contents among.1;

@@ -9,6 +9,7 @@ pub mod Splitting
 pub mod EitherBus
 pub mod Finishing
 pub mod Accessing
+pub mod EachUse
 pub mod CountBounds
 pub mod CountsOnBus
 pub mod Advancing

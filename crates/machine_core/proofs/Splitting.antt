@@ -1,5 +1,6 @@
 -- A choice on a split bus that isn't the holder's next one.
 use Rattle.machine_core.proofs.Vocabulary.{◌≡◌, ◌≢◌, ℕ, ◌++◌, Bool, true, false, List, [], Option, None, Some, Result, Ok, Err, IfOk, OnOk, OnErr, inr, length, slice_set, append-nil, refl, sym, ap, ◌∙◌, subst, set-get_or, Litmus, CoreState, State, Effect, stalled, after_choice, chosen, core_of, idle, MemoryAccess, NoAccess, Reads, Writes, Locks, access_of, Holder, Free, HeldBy, HeldBetween, Attempt, BusEffect, acts, asks, needs_bus, same_choice, BusState, HitFits, NoMemory, Split, Core, Loc, Entry, Choice, Outcome, HolderFits, BusModel, words_of, cores_of, holder_of, IsSameMachine, AsksFor, Locked, Unused, Next, Complete, Write, Hardware, Way, by_way, Caches, Used, caches_of, at_access, ask_by, not_through, hits_by, is_awaited, used_between, completing_by, use_of, HardwareFitsTest, IsHeldForAccess, held_as, held_for, core_in, holder_by, state_in, ChoiceAnswer, HasUsed, HasEffect, MayAct, attempt_in, flat_effect_in, use_by, IsOther, begins_in, HasMade, IsUndone, effect_made_in}
+use Rattle.machine_core.proofs.EachUse.{asks-nothing}
 use Rattle.std.proofs.Common.{option_map}
 use Rattle.tso_model.specs.declared.choice.Stall.TheVariants as stall
 use Rattle.tso_model.specs.declared.choice.Outcome.TheVariants.{Asked}
@@ -39,13 +40,7 @@ use-frees t m choice f asked free =
     ap (λ h. used_between (is_awaited h) (is_awaited f.holder) (caches_of m.bus) (chosen choice) what pending f.effect.commits) asked
     ∙ ap (λ b. used_between true b (caches_of m.bus) (chosen choice) what pending f.effect.commits) free
 
--- an ask is no access
-asks-unused : (c : Caches) (core : ℕ) (access : MemoryAccess) → Unused ≡ (at_access (not_through Unused c) (λ loc write. ask_by c core loc.0 write) access).how
-asks-unused c core NoAccess = refl
-asks-unused c core (Reads loc) = refl
-asks-unused c core (Writes loc) = refl
-asks-unused c core (Locks loc) = refl
-
+-- the caches after an ask
 pub asked-caches : (old new : BusModel) (core : Core) (loc : Loc) (write : Bool) → AsksFor old new core loc write → IsSameMachine old new
     → caches_of new ≡ (ask_by (caches_of old) core.0 loc.0 write).caches
 asked-caches old new core loc write done machine = rw (machine.rows, machine.shape, done.contents, done.awaited_is) refl
@@ -123,7 +118,7 @@ use-ask t m bus choice core access needs free is at caches =
     ap (use_by t m choice) (begins-asks t m choice needs ∙ ap (asks (core_of (state_in m).flat (chosen choice)) choice) free)
     ∙ ap (λ h. used_between (is_awaited h) true (caches_of m.bus) (chosen choice) (access_of t m.config.depth (state_in m).flat choice) (core_of (state_in m).flat (chosen choice)).pending []) free in
     subst (λ u. HasUsed u bus Unused) (sym same) (record {
-      how_is = asks-unused (caches_of m.bus) (chosen choice) (access_of t m.config.depth (state_in m).flat choice);
+      how_is = sym (asks-nothing (caches_of m.bus) (chosen choice) (access_of t m.config.depth (state_in m).flat choice));
       caches = caches ∙ rw (is, at) refl;
     })
 

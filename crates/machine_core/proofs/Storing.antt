@@ -1,5 +1,5 @@
 -- A plain store: one that waits in the buffer makes no access, and one without a buffer goes to memory at once.
-use Rattle.machine_core.proofs.Vocabulary.{◌≡◌, ◌+◌, ◌<◌, ℕ, zero, suc, Bool, true, false, IsTrue, List, Result, refl, sym, ap, subst, arith, NoAccess, Writes, store_access, stored, entry, Loc, Committed, W, NoMemory, Noted, Access, BusModel, Through, Processor, Turn, write_by, core_state, effect_of_store, MayAccess, Acts, HasActed, IsMade, IsStored, SucceedsUnlessCommitting}
+use Rattle.machine_core.proofs.Vocabulary.{◌≡◌, ◌+◌, ◌<◌, ℕ, zero, suc, Bool, true, false, IsTrue, List, Result, refl, sym, ap, subst, arith, NoAccess, Writes, store_access, stored, entry, Loc, Committed, W, NoMemory, Noted, Access, BusModel, Through, Processor, Turn, core_state, effect_of_store, MayAccess, Acts, HasActed, IsMade, IsStored, SucceedsUnlessCommitting}
 
 pub buffered : (depth : ℕ) (loc : Loc) → 0 < depth → store_access depth loc ≡ NoAccess
 buffered zero loc some = absurd (omega arith)
@@ -17,7 +17,7 @@ module _ (turn : Turn) (loc : Loc) (value : ℕ) (p : Processor) (b : BusModel) 
   pub succeeds-at_once : {A : Type 0} (r : Result A NoMemory) (words : List ℕ) → SucceedsUnlessCommitting r (effect_of_store loc value turn.core.0 p words)
   succeeds-at_once r words = λ other. absurd (other (ap (λ (d : ℕ). (stored d (core_state turn.core.0 p) (entry turn.core.0 p.place W loc value)).outcome) none))
 
-  pub acts-at_once : (b' : BusModel) (noted noted' : Noted) (access : Access) → IsStored turn.core.0 (record { place = p.place; loc = loc; value = value }) b b' noted noted' → IsMade turn write_by loc b b' access
+  pub acts-at_once : (b' : BusModel) (noted noted' : Noted) (access : Access) → IsStored turn.core.0 (record { place = p.place; loc = loc; value = value }) b b' noted noted' → IsMade turn true loc b b' access
       → Acts turn (store_access p.stores.depth loc) (effect_of_store loc value) p (record { place = p.place + 1; registers = p.registers; stores = p.stores }) b b' noted noted' (Committed, Through access)
   acts-at_once b' noted noted' access stored_is made =
       let q : Processor = record { place = p.place + 1; registers = p.registers; stores = p.stores } in

@@ -1,9 +1,9 @@
 -- The counts of a machine's hardware from choice to choice.
-use Rattle.machine_core.proofs.Vocabulary.{◌≡◌, ◌<◌, ◌+◌, ℕ, zero, suc, List, [], ◌∷◌, ◌++◌, None, length, replicate, take, All, sym, ap, ◌∙◌, subst, arith, length-map, length-replicate, Litmus, IsTest, chosen, core_of, started, idle, access_of, Free, BusState, Instr, Choice, Outcome, HolderFits, BusModel, contents_of, Counts, CacheUse, Hardware, caches_of, is_awaited, Statistics, with_use_counted, no_counts, HardwareFitsTest, IsAtMost, state_in, HasIssuedItsStores, IsTallied, IsFlusherAmong, done_in, most_counted, statistics_in, HasUsed, HasEffect, attempt_in, effect_in, use_by}
+use Rattle.machine_core.proofs.Vocabulary.{◌≡◌, ◌<◌, ◌+◌, ℕ, zero, suc, List, [], ◌∷◌, ◌++◌, None, length, replicate, take, All, sym, ap, ◌∙◌, subst, arith, length-map, length-replicate, Litmus, IsTest, chosen, core_of, started, idle, access_of, BusState, Instr, Choice, Outcome, HolderFits, BusModel, contents_of, Counts, CacheUse, Hardware, caches_of, is_awaited, Statistics, with_use_counted, no_counts, HardwareFitsTest, IsAtMost, state_in, HasIssuedItsStores, IsTallied, IsFlusherAmong, done_in, most_counted, statistics_in, HasUsed, HasEffect, attempt_in, effect_in, use_by, All-replicate}
 use Rattle.std.proofs.Math.Seq.{take-append_seam}
 use Rattle.machine_core.proofs.Advancing.{advances-on}
 use Rattle.machine_core.proofs.CoreLemmas.{length-core_states}
-use Rattle.machine_core.proofs.CountBounds.{length-counted, nothing-counted}
+use Rattle.machine_core.proofs.CountBounds.{length-counted, none-counted}
 use Rattle.machine_core.proofs.CountsOnBus.{senders, few-counted, tallied-after}
 
 length-cores : {P : Type 0} (t : Litmus) (m : Hardware P) → HardwareFitsTest t m → length (state_in m).flat.cores ≡ length t.programs
@@ -58,6 +58,6 @@ tallied-first t state s test first none waits = record {
   test = test;
   cores = ap length none ∙ length-replicate (length t.programs) no_counts;
   issued = subst (All HasIssuedItsStores) (sym first) (started-issued 0 t.programs t.registers);
-  done = subst (All (IsAtMost (done_in state))) (sym none) (nothing-counted (done_in state) (length t.programs));
+  done = subst (All (IsAtMost (done_in state))) (sym none) (All-replicate (IsAtMost (done_in state)) (length t.programs) no_counts (none-counted (done_in state)));
   sender = rw waits tt;
 }

@@ -20,7 +20,7 @@ pub use Rattle.snoop_bus.specs.Accesses.{LoadsAt, WritesAt, AsksFor, CompletesAt
 pub use Rattle.machine_core.specs.declared.accesses.CacheUse.{CacheUse}
 pub use Rattle.machine_core.specs.declared.accesses.CacheUse.TheVariants.{Unused, Forwarded, Through}
 pub use Rattle.machine_core.specs.inner.Cores.{pending_in, effect_of_lock, effect_of_drain, effect_of_store, action_by, both_parts, at_next, word_on_bus, own_access, step_by, effect_of_fence, at_start, buffered_entries}
-pub use Rattle.machine_core.specs.Caches.{Caches, caches_of, not_through, load_after, write_by, use_of, Used, at_access, ask_by, hits_by, is_awaited, used_between, completing_by, completion_by, load_by, use_by_kind, use_with, attempt_of}
+pub use Rattle.machine_core.specs.Caches.{Caches, caches_of, not_through, load_after, use_of, Used, at_access, ask_by, hits_by, is_awaited, used_between, completing_by, completion_by, use_by_kind, use_with, attempt_of, whole_by, asking_by}
 pub use Rattle.machine_core.specs.Effects.{HasUsed, ChoiceAnswer, HasEffect}
 pub use Rattle.basic_laws.proofs.WithPending.{drain_with, fenced_with, locked_with}
 pub use Rattle.tso_model.specs.MemoryAccess.{MemoryAccess, NoAccess, Writes, drain_access, store_access, Reads, load_access, locked_access, Locks, access_of, access_by, step_access}
@@ -55,19 +55,19 @@ pub use Rattle.machine_core.specs.OneChoice.{HasMade, IsUndone, AreConsistent}
 pub use Rattle.machine_core.specs.inner.OneChoice.{effect_made_in, AnswerFitsIn, use_in, statistics_next, IsAloneIn}
 pub use Rattle.tso_model.specs.declared.choice.Bus.{Bus}
 pub use Rattle.snoop_bus.specs.Held.{holder_in, transaction_in, holder}
-pub use Rattle.snoop_bus.specs.Asks.{awaited_in, Awaited, asking, asked_for, completed, completed_in, flusher_of}
+pub use Rattle.snoop_bus.specs.Asks.{awaited_in, Awaited, asking, asked_for, completed, completed_in, flusher_of, request_for, awaited_as, whole_in}
 unfoldable pub use Rattle.snoop_bus.specs.Asks.{awaiting}
 pub use Rattle.tso_model.specs.Actions.{action_of}
 pub use Rattle.tso_model.specs.declared.instruction.Instr.{Instr}
 pub use Rattle.tso_model.specs.declared.action.Action.{Action}
 pub use Rattle.tso_model.specs.declared.action.Action.TheVariants.{Store, Load, Move, Fence, Lock}
 pub use Rattle.tso_model.specs.declared.choice.Choice.TheVariants.{Step, Drain}
-pub use Rattle.std.proofs.lemmas.List.Elements.{All-set, All-append, All-drop}
+pub use Rattle.std.proofs.lemmas.List.Elements.{All-set, All-append, All-drop, All-replicate, All-head, All-tail, All-weaker}
 pub use Rattle.tso_model.specs.Limits.{most_instructions}
 pub use Rattle.tso_model.specs.declared.execution.Kind.{Kind}
 pub use Rattle.protocol_tables.specs.Tables.{Table}
 pub use Rattle.snoop_bus.specs.Rows.{table_of_rows}
-pub use Rattle.snoop_bus.specs.CacheContents.{TagSets, loaded_in, written_in, write_in, sends_in, flusher_from, tags_at}
+pub use Rattle.snoop_bus.specs.CacheContents.{TagSets, sends_in, flusher_from, tags_at}
 pub use Rattle.machine_core.specs.declared.counts.Counts.{Counts}
 pub use Rattle.machine_core.specs.Statistics.{no_counts, with_access, with_write_back, with_forward, with_flush, counts_at_core, flush_counted, with_use_counted, Statistics, no_statistics, statistics_with, statistics_after}
 pub use Rattle.machine_core.specs.inner.Keeping.{HasIssuedItsStores, IsAmong, IsFlusherAmong, done_by, IsSenderAmong, IsTallied, done_in, half_done, most_counted, statistics_in, memory_access_in}

@@ -1,5 +1,5 @@
 -- The caches of a run, without their words, and what the choices have to do with them: they go along by the bus's own
--- definitions of a load, of a write access, and of their two halves on a split bus. (Primer, chapters 2, 6 and 7; which
+-- definitions of an access that is made whole, and of its two halves on a split bus. (Primer, chapters 2, 6 and 7; which
 -- copies are sent to memory is this project's profile.)
 use Rattle.std.specs.Prelude.{ℕ, ◌/◌, Bool, true, false, if◌then◌else◌, List, [], ◌∷◌, Option, None}
 use Rattle.std.specs.List.{list_any}
@@ -16,8 +16,8 @@ use Rattle.tso_model.specs.declared.execution.Kind.TheVariants.{R, W, F, LR, LW}
 use Rattle.tso_model.specs.declared.choice.Choice.{Choice}
 use Rattle.snoop_bus.specs.Geometry.{Geometry}
 use Rattle.snoop_bus.specs.Rows.{TableColumns, table_of_rows}
-use Rattle.snoop_bus.specs.CacheContents.{TagSets, Accessed, loaded, written}
-use Rattle.snoop_bus.specs.Asks.{Awaited, AskedAccess, hits, request_for, asking, completed}
+use Rattle.snoop_bus.specs.CacheContents.{TagSets, Accessed}
+use Rattle.snoop_bus.specs.Asks.{Awaited, AskedAccess, hits, request_for, asking, completed, whole_access}
 use Rattle.snoop_bus.specs.Bus.{BusModel}
 use Rattle.snoop_bus.specs.Accesses.{contents_of, awaited_of}
 use Rattle.machine_core.specs.declared.accesses.CacheUse.{CacheUse}
@@ -48,14 +48,11 @@ abbrev pub through : Caches → Option Awaited → Accessed → Used
 through c awaited a =
     record { how = Through a.access; caches = record { rows = c.rows; shape = c.shape; contents = a.caches; awaited = awaited } }
 
--- a core's load at a location, and its write access
-abbrev pub load_by : Caches → ℕ → ℕ → Used
-load_by c core loc = through c c.awaited (loaded (table_of_rows c.rows) core (loc / c.shape.words) c.contents)
+-- a core's access at a location that is made whole, a load or a write access
+abbrev pub whole_by : Caches → ℕ → ℕ → Bool → Used
+whole_by c core loc write = through c c.awaited (whole_access (table_of_rows c.rows) write core (loc / c.shape.words) c.contents)
 
-abbrev pub write_by : Caches → ℕ → ℕ → Used
-write_by c core loc = through c c.awaited (written (table_of_rows c.rows) core (loc / c.shape.words) c.contents)
-
--- whether such an access, a load or a write access, is a hit
+-- whether such an access is a hit
 abbrev pub would_hit : Caches → ℕ → ℕ → Bool → Bool
 would_hit c core loc write = hits (table_of_rows c.rows) core (loc / c.shape.words) write c.contents
 
@@ -88,13 +85,13 @@ completing_by c core what = at_access (not_through Unused c) (λ loc write. comp
 
 -- a load is answered by the core's own pending stores where one of them is to its location
 abbrev pub load_after : Caches → List Entry → ℕ → ℕ → Used
-load_after c pending core loc = if list_any (writes_to loc) pending then not_through Forwarded c else load_by c core loc
+load_after c pending core loc = if list_any (writes_to loc) pending then not_through Forwarded c else whole_by c core loc false
 
 abbrev pub use_by_kind : Caches → List Entry → Entry → Kind → Used
 use_by_kind c pending e R = load_after c pending e.core.0 e.loc.0
-use_by_kind c pending e W = write_by c e.core.0 e.loc.0
+use_by_kind c pending e W = whole_by c e.core.0 e.loc.0 true
 use_by_kind c pending e F = not_through Unused c
-use_by_kind c pending e LR = write_by c e.core.0 e.loc.0
+use_by_kind c pending e LR = whole_by c e.core.0 e.loc.0 true
 use_by_kind c pending e LW = not_through Unused c
 
 -- what is committed at one choice goes through the cache of its core: a load that none of the core's pending stores

@@ -2,7 +2,7 @@
 //! (forwarding), a drain takes the oldest (first in, first out), and a fence or a locked instruction waits until nothing is
 //! pending. (x86-TSO, section 3; Primer, chapter 4.)
 
-ghost use Rattle.std.specs.Prelude.{◌≡◌, ℕ, ◌<◌, List, [], None, IfOk, OnOk, OnErr, length, filter, slice_get, slice_set};
+ghost use Rattle.std.specs.Prelude.{◌≡◌, ℕ, ◌<◌, List, [], None, true, false, IfOk, OnOk, OnErr, length, filter, slice_get, slice_set};
 ghost use Rattle.tso_model.specs.Limits.{most_instructions};
 ghost use Rattle.tso_model.specs.Actions.{action_of};
 ghost use Rattle.tso_model.specs.Litmus.{KnownLocation};
@@ -17,8 +17,7 @@ ghost use Rattle.machine_core.specs.inner.Cores.{effect_of_load, effect_of_store
 ghost use Rattle.machine_core.specs.Effects.{HasUsed};
 ghost use Rattle.machine_core.specs.inner.Effects.{MayAccess, MayMake};
 ghost use Rattle.machine_core.specs.inner.Turns.{by_way, whole};
-ghost use Rattle.machine_core.specs.Caches.{caches_of, load_after, write_by, completing_by};
-ghost use Rattle.machine_core.specs.Caches as caches;
+ghost use Rattle.machine_core.specs.Caches.{caches_of, load_after, completing_by};
 ghost use Rattle.machine_core.specs.inner.OneCore.{Acts, Waits, IsMade, IsStored, SucceedsUnlessCommitting, AreUnchanged, HasSameSizes};
 
 use crate::accesses::CacheUse;
@@ -228,7 +227,7 @@ fn read<P: Protocol>(turn: Turn, loc: Loc, bus: &mut SnoopBus<P>) -> Result<(u32
 
     ensures word { IfOk result (λ r. IsCurrentWord bus.old loc.0 r.0) }
     ensures words { words_of bus.new ≡ words_of bus.old }
-    ensures made { IfOk result (λ r. IsMade turn caches.load_by loc bus.old bus.new r.1) }
+    ensures made { IfOk result (λ r. IsMade turn false loc bus.old bus.new r.1) }
     ensures cores { cores_of bus.new ≡ cores_of bus.old }
     ensures err { OnErr result (bus.new ≡ bus.old) }
 {
@@ -322,7 +321,7 @@ fn write<P: Protocol>(
     requires access { MayAccess turn bus.old store.loc (Writes store.loc) }
 
     ensures stored { OnOk result (IsStored turn.core.0 store bus.old bus.new commits.old commits.new) }
-    ensures made { IfOk result (IsMade turn write_by store.loc bus.old bus.new) }
+    ensures made { IfOk result (IsMade turn true store.loc bus.old bus.new) }
 
     ensures err_bus { OnErr result (bus.new ≡ bus.old) }
     ensures err_commits { OnErr result (commits.new.entries ≡ commits.old.entries) }
@@ -345,7 +344,7 @@ fn write_word<P: Protocol>(
     requires access { MayAccess turn bus.old loc (Writes loc) }
 
     ensures words { OnOk result (words_of bus.new ≡ slice_set (words_of bus.old) loc.0 value) }
-    ensures made { IfOk result (IsMade turn write_by loc bus.old bus.new) }
+    ensures made { IfOk result (IsMade turn true loc bus.old bus.new) }
 
     ensures err { OnErr result (bus.new ≡ bus.old) }
     ensures sizes { HasSameSizes bus.old bus.new }

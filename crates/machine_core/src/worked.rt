@@ -12,6 +12,7 @@ ghost use Rattle.machine_core.specs.WorkedCounts.{beside_load, load_waits, besid
 ghost use Rattle.machine_core.specs.WorkedCounts.{store_exchange, store_exchange_choices};
 
 /// Counts of worked runs: hits, misses, upgrades, forwards, write-backs and flushes, in this order.
+#[tactic(auto, unfolding(snoop_bus::specs::Asks::awaiting))]
 pub fn worked_counts()
     // Store buffering: each core misses at its load and at its store.
     ensures each_misses_twice { counts_of Atomic msi two_lines sb 4 sb_choices ≡ missed 2 ∷ (missed 2 ∷ []) }

@@ -1,18 +1,21 @@
 -- Which access it is, by the core's own copy.
-use Rattle.snoop_bus.proofs.Vocabulary.{◌≡◌, ℕ, Bool, false, sym, Option, Some, None, option_map, List, refl, ap, ◌∙◌, Table, Line, Victim, Hit, tag_of, leaving, TagSets, accessed, tags_at, sets_of, loaded, loaded_in, written, written_in, write_in, used_by, writes_back, dirty_in, Sets, set_at, copy_at, cache_of, tags_of, victim_at}
+use Rattle.snoop_bus.proofs.Vocabulary.{◌≡◌, ℕ, Bool, sym, Option, option_map, List, refl, ap, ◌∙◌, Table, Line, Victim, tag_of, leaving, TagSets, tags_at, sets_of, writes_back, dirty_in, Sets, set_at, copy_at, cache_of, tags_of, victim_at, Words, next_in_place, whole_access, whole_in, whole_memory, whole_memory_in, State}
 use Rattle.snoop_bus.proofs.TagLemmas.{victim_tag, leaving-tags}
 use Rattle.snoop_bus.proofs.CacheTags.{sets_of-tags, tag_at-tags, tags_at-tags}
 
 pub tag_here : (caches : List Sets) (core line : ℕ) → tag_of (tags_at (sets_of (tags_of caches) core) line) line ≡ option_map (λ copy. copy.state) (copy_at caches core line)
 tag_here caches core line = ap (λ (sets : TagSets). tag_of (tags_at sets line) line) (sets_of-tags caches core) ∙ tag_at-tags (cache_of caches core) line
 
-pub loaded-hit : (t : Table) (caches : List Sets) (core line : ℕ) (copy : Line) → copy_at caches core line ≡ Some copy →
-    loaded t core line (tags_of caches) ≡ accessed Hit false None (used_by core line copy.state (tags_of caches))
-loaded-hit t caches core line copy found = ap (loaded_in t core line (tags_of caches)) (tag_here caches core line ∙ ap (option_map (λ copy. copy.state)) found)
+-- a whole access, and memory after it, by that copy
+pub whole-here : (t : Table) (write : Bool) (caches : List Sets) (core line : ℕ) (o : Option Line) → copy_at caches core line ≡ o →
+    whole_access t write core line (tags_of caches) ≡ whole_in t write core line (tags_of caches) (option_map (λ copy. copy.state) o) (next_in_place t write (option_map (λ copy. copy.state) o))
+whole-here t write caches core line o found =
+    ap (λ (x : Option State). whole_in t write core line (tags_of caches) x (next_in_place t write x)) (tag_here caches core line ∙ ap (option_map (λ copy. copy.state)) found)
 
-pub written-here : (t : Table) (caches : List Sets) (core line : ℕ) (copy : Line) → copy_at caches core line ≡ Some copy →
-    written t core line (tags_of caches) ≡ written_in t core line (tags_of caches) (t.written copy.state)
-written-here t caches core line copy found = ap (write_in t core line (tags_of caches)) (tag_here caches core line ∙ ap (option_map (λ copy. copy.state)) found)
+pub memory-here : (t : Table) (write : Bool) (caches : List Sets) (core line : ℕ) (memory : List Words) (o : Option Line) → copy_at caches core line ≡ o →
+    whole_memory t write core line caches memory ≡ whole_memory_in t write core line caches (option_map (λ copy. copy.state) o) (next_in_place t write (option_map (λ copy. copy.state) o)) memory
+memory-here t write caches core line memory o found =
+    ap (λ (x : Option State). whole_memory_in t write core line caches x (next_in_place t write x) memory) (tag_here caches core line ∙ ap (option_map (λ copy. copy.state)) found)
 
 pub writes_back-tags : (t : Table) (caches : List Sets) (core line : ℕ) → writes_back t core line (tags_of caches) ≡ dirty_in t (victim_tag (victim_at caches core line))
 writes_back-tags t caches core line =

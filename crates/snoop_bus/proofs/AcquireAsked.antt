@@ -86,10 +86,5 @@ locked_written c0 c2 m core line offset value h within offset_in state to = by_c
     by_copy : (o : Option Line) → copy_at c0 core line ≡ o → state_of_copy o ≡ M → SetsWord line offset value c0 c2 m m
     by_copy None e s = cc
     by_copy (Some copy) e s =
-        let is : copy.words ≡ current_words c0 m line = (h.each line within).same core copy e in
-        let own : Owned c0 c2 m core line (slice_set copy.words offset value) = write_owned c0 c2 m core line offset value copy.words h within (e ∙ rw (← s) refl) to in
-        record {
-          coherent = owned-coherent c0 c2 m core line (slice_set copy.words offset value) own;
-          offset_in = offset_in;
-          lines = λ k b. owned-seen c0 c2 m core line (slice_set copy.words offset value) own k b ∙ ap (λ (w : Words). if nat_eq k line then slice_set w offset value else current_words c0 m k) is;
-        }
+        completed_written c0 c0 c2 m m core line offset value copy.words within offset_in refl (e ∙ rw (← s) refl) ((h.each line within).same core copy e)
+        (record { coherent = h; words = λ k b. refl; ways = refl }) to

@@ -1,5 +1,5 @@
 -- What the calls of a write access rest on, and what it leaves where nobody else holds the bus.
-use Rattle.snoop_bus.proofs.Vocabulary.{get_or_default, ◌≡◌, ℕ, ◌<◌, true, false, is_some, Option, Some, None, IsSome, IfSome, List, [], length, slice_index_or, refl, sym, ap, ◌∙◌, WritesInPlace, Table, State, M, Line, Access, Hierarchy, HeldBus, Words, Sets, copy_in, copy_at, IsHeld, IsReady, Acquires, KeepsWords, counted_copies_of}
+use Rattle.snoop_bus.proofs.Vocabulary.{get_or_default, ◌≡◌, ℕ, ◌<◌, true, false, is_some, Option, Some, None, IsSome, List, [], length, slice_index_or, refl, sym, ap, ◌∙◌, WritesInPlace, Table, State, M, Line, Access, Hierarchy, HeldBus, Words, Sets, copy_in, copy_at, IsReady, Acquires, KeepsWords, KeepsBeside}
 use Rattle.snoop_bus.proofs.WriteLemmas.{written_m}
 
 -- what a look at a core's own sets found
@@ -32,11 +32,8 @@ module _ (held : Option HeldBus) (free : held ≡ None) where
   pub ready_alone : (core line : ℕ) (h : Hierarchy) → IsReady held core line h → IsReady None core line h
   ready_alone core line h ready = rw free at ready
 
-  pub nothing_awaited : (caches : List Sets) (memory : List Words) → IfSome held (IsHeld caches memory)
-  nothing_awaited caches memory = rw free tt
-
-  pub words_alone : (c0 c2 : List Sets) (m0 m2 : List Words) → KeepsWords c0 c2 m0 m2 → KeepsWords (counted_copies_of held c0) (counted_copies_of held c2) m0 m2
-  words_alone c0 c2 m0 m2 keeps = rw free keeps
+  pub kept_alone : (c0 c2 : List Sets) (m0 m2 : List Words) → KeepsWords c0 c2 m0 m2 → KeepsBeside held c0 c2 m0 m2
+  kept_alone c0 c2 m0 m2 keeps = rw free (record { words = keeps; awaited = tt; ways = keeps.ways })
 
   pub acquired_alone : (t : Table) (core line : ℕ) (c0 c2 : List Sets) (m0 m2 : List Words) (words : Words) (access : Access) →
       Acquires t None core line c0 c2 m0 m2 words access → Acquires t held core line c0 c2 m0 m2 words access

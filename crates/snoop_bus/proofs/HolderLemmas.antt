@@ -1,5 +1,5 @@
 -- What the action that holds the bus tells of all copies of its line.
-use Rattle.snoop_bus.proofs.Vocabulary.{◌≡◌, ◌≢◌, ℕ, ◌<◌, ◌/◌, Bool, true, false, Option, Some, None, IfSome, option_map, List, length, refl, sym, ap, ◌∙◌, Core, Loc, in_place, Table, M, Line, Geometry, Words, Coherent, state_of_copy, Sets, copy_at, cache_of, tags_of, AllCoherent, bus_with, StandsAlone, HeldBus, Stage, Load, Write, Locked, Transaction, with_counted_copy, counted_copies_of, holder, holder_in, IsHeld, IsPlaced, Awaits, held_by, hits, hit_in}
+use Rattle.snoop_bus.proofs.Vocabulary.{◌≡◌, ◌≢◌, ℕ, ◌<◌, ◌/◌, Bool, true, false, Option, Some, None, IfSome, option_map, List, length, refl, sym, ap, ◌∙◌, Core, Loc, in_place, Table, M, Line, Geometry, Words, Coherent, state_of_copy, Sets, copy_at, cache_of, tags_of, AllCoherent, bus_with, StandsAlone, HeldBus, Stage, Load, Write, Locked, Transaction, with_counted_copy, counted_copies_of, holder, holder_in, IsHeld, IsPlaced, Awaits, held_by, hits, is_some, next_in_place}
 use Rattle.snoop_bus.specs.declared.holding.BusAction.{BusAction}
 use Rattle.snoop_bus.proofs.Numbers.{differ, itself}
 use Rattle.snoop_bus.proofs.Coherence.{alone}
@@ -64,7 +64,7 @@ not_here t caches core line misses = by_copy (copy_at caches core line) refl
     by_copy : (o : Option Line) → copy_at caches core line ≡ o → copy_at caches core line ≡ None
     by_copy None e = e
     by_copy (Some copy) e =
-        let yes : hits t core line false (tags_of caches) ≡ true = ap (hit_in t false) (tag_here caches core line ∙ ap (option_map (λ copy. copy.state)) e) in
+        let yes : hits t core line false (tags_of caches) ≡ true = ap (λ o. is_some (next_in_place t false o)) (tag_here caches core line ∙ ap (option_map (λ copy. copy.state)) e) in
         cc
 
 -- nobody holds the bus

@@ -39,6 +39,5 @@ pub mod Emptied
 pub mod CallLemmas
 pub mod AskCalls
 pub mod BothWays
-pub mod OneDefinition
 pub mod TwoHalves
 pub mod LookingLemmas

@@ -1,9 +1,8 @@
 -- A whole access, from what its ask and its completion leave, one after the other.
-use Rattle.snoop_bus.proofs.Vocabulary.{◌≡◌, ◌≢◌, ℕ, ◌<◌, false, length, slice_index, Option, Some, None, sym, ap, refl, ◌∙◌, WritesInPlace, Table, I, M, Request, GetS, GetM, copy_with, Access, Hierarchy, Transaction, Words, Accessed, cache_of, copy_at, tags_of, current_words, counted_in, tag_at, asking, asked_caches, asked_memory, awaited_in, completed_memory, in_halves, transaction_at, KeepsWords, Loads, Acquires, Completes, words_due, completion_at}
+use Rattle.snoop_bus.proofs.Vocabulary.{◌≡◌, ◌≢◌, ℕ, ◌<◌, false, length, slice_index, Option, Some, None, sym, ap, refl, ◌∙◌, WritesInPlace, Table, I, M, Request, GetS, GetM, copy_with, Access, Hierarchy, Transaction, Words, Accessed, cache_of, copy_at, tags_of, current_words, counted_in, tag_at, asking, asked_caches, asked_memory, awaited_in, completed_memory, in_halves, transaction_at, KeepsWords, Loads, Acquires, Completes, words_due, completion_at, true, Bool, whole_access, whole_memory, IsMadeWhole}
 use Rattle.snoop_bus.proofs.AskCalls.{awaited-for}
-use Rattle.snoop_bus.proofs.BothWays.{load-memory, write-memory}
 use Rattle.snoop_bus.proofs.UpgradeAsk.{hits-absent}
-use Rattle.snoop_bus.proofs.WholeAccess.{load_halves, write_halves}
+use Rattle.snoop_bus.proofs.WholeAccess.{load_halves, write_halves, load-memory, write-memory}
 
 module _ (t : Table) (request : Request) (core line : ℕ) (x : Option Transaction) (old mid new : Hierarchy) (access : Access) where
   -- a core asked for a line, and completed its access at once
@@ -26,26 +25,32 @@ module _ (t : Table) (request : Request) (core line : ℕ) (x : Option Transacti
     pub memory_is : new.memory.items ≡ completed_memory t core line (asking t request core line (tags_of old.caches.items)).awaited mid.caches.items (asked_memory t request line old.caches.items old.memory.items)
     memory_is = h.completes.memory ∙ rw (awaited_is, h.memory) refl
 
+    -- where the whole access is both, so is memory after it
+    pub made-whole : (write : Bool) → whole_access t write core line (tags_of old.caches.items) ≡ in_halves t request core line (tags_of old.caches.items)
+        → whole_memory t write core line old.caches.items old.memory.items ≡ completed_memory t core line (asking t request core line (tags_of old.caches.items)).awaited mid.caches.items (asked_memory t request line old.caches.items old.memory.items)
+        → IsMadeWhole t write core line old.caches.items new.caches.items old.memory.items new.memory.items access
+    made-whole write halves memory = record {
+      access_is = h.completes.access_is ∙ ap (λ (a : Accessed). a.access) (completion_is ∙ sym halves);
+      tags = h.completes.tags ∙ ap (λ (a : Accessed). a.caches) (completion_is ∙ sym halves);
+      memory = memory_is ∙ sym memory;
+    }
+
 module _ (t : Table) (core line : ℕ) (x : Option Transaction) (old mid new : Hierarchy) (access : Access) (within : line < length old.memory.items) where
   pub load-in_halves : (offset word : ℕ) → Halves t GetS core line x old mid new access → copy_at old.caches.items core line ≡ None → word ≡ slice_index (words_due x core line mid) offset
       → Loads t None core line offset old.caches.items new.caches.items old.memory.items new.memory.items word access
   load-in_halves offset word h absent is =
-      let halves = load_halves t core line (tags_of old.caches.items) (sym (hits-absent t old.caches.items core line false absent)) in
+      let misses = sym (hits-absent t old.caches.items core line false absent) in
       record {
         word_is = is ∙ ap (λ (w : Words). slice_index w offset) (h.asked.words line within);
-        access_is = h.completes.access_is ∙ ap (λ (a : Accessed). a.access) (completion_is t GetS core line x old mid new access h) ∙ sym (ap (λ (a : Accessed). a.access) halves);
-        tags = h.completes.tags ∙ ap (λ (a : Accessed). a.caches) (completion_is t GetS core line x old mid new access h) ∙ sym (ap (λ (a : Accessed). a.caches) halves);
-        memory = memory_is t GetS core line x old mid new access h ∙ sym (load-memory t core line old.caches.items mid.caches.items old.memory.items absent h.own);
+        made = made-whole t GetS core line x old mid new access h false (load_halves t core line (tags_of old.caches.items) misses)
+            (load-memory t core line old.caches.items mid.caches.items old.memory.items h.own misses);
       }
 
   pub write-in_halves : WritesInPlace t.written → (words : Words) → Halves t GetM core line x old mid new access → tag_at core line (tags_of old.caches.items) ≢ Some I → words ≡ words_due x core line mid
       → copy_at new.caches.items core line ≡ Some (copy_with M (words_due x core line mid)) → Acquires t None core line old.caches.items new.caches.items old.memory.items new.memory.items words access
-  write-in_halves law words h valid is own =
-      let halves = write_halves t law core line (tags_of old.caches.items) valid in
-      record {
-        words_are = is ∙ h.asked.words line within;
-        own = own ∙ ap (λ (w : Words). Some (copy_with M w)) (sym is);
-        access_is = h.completes.access_is ∙ ap (λ (a : Accessed). a.access) (completion_is t GetM core line x old mid new access h) ∙ sym (ap (λ (a : Accessed). a.access) halves);
-        tags = h.completes.tags ∙ ap (λ (a : Accessed). a.caches) (completion_is t GetM core line x old mid new access h) ∙ sym (ap (λ (a : Accessed). a.caches) halves);
-        memory = memory_is t GetM core line x old mid new access h ∙ sym (write-memory t core line old.caches.items mid.caches.items old.memory.items valid h.own);
-      }
+  write-in_halves law words h valid is own = record {
+    words_are = is ∙ h.asked.words line within;
+    own = own ∙ ap (λ (w : Words). Some (copy_with M w)) (sym is);
+    made = made-whole t GetM core line x old mid new access h true (write_halves t law core line (tags_of old.caches.items) valid)
+        (write-memory t core line old.caches.items mid.caches.items old.memory.items h.own law valid);
+  }

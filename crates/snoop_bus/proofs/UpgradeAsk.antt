@@ -1,5 +1,5 @@
 -- An ask for a write access to a line that the core has.
-use Rattle.snoop_bus.proofs.Vocabulary.{◌≡◌, ◌⊎◌, inl, inr, ℕ, ◌<◌, Bool, true, false, not, IsTrue, IsSome, is_some, Option, Some, None, option_map, List, length, refl, sym, ap, ◌∙◌, Core, Loc, Table, transient_of, State, M, GetS, GetM, Transient, IsD, ImD, Line, copy_with, Words, state_of_copy, TagSets, requested, Sets, copy_at, cache_of, tags_of, ways_of, current_words, HeldBus, Transaction, Stage, Load, Write, stage_for, Awaits, IsHeld, held_by, hits, hit_in, request_for, asked_for, asked_caches, or_invalid, transacting, transaction_of}
+use Rattle.snoop_bus.proofs.Vocabulary.{◌≡◌, ◌⊎◌, inl, inr, ℕ, ◌<◌, Bool, true, false, not, IsTrue, IsSome, is_some, Option, Some, None, option_map, List, length, refl, sym, ap, ◌∙◌, Core, Loc, Table, transient_of, State, M, GetS, GetM, Transient, IsD, ImD, Line, copy_with, Words, state_of_copy, TagSets, requested, Sets, copy_at, cache_of, tags_of, ways_of, current_words, HeldBus, Transaction, Stage, Load, Write, stage_for, Awaits, IsHeld, held_by, hits, request_for, asked_for, asked_caches, or_invalid, transacting, transaction_of, next_in_place}
 use Rattle.snoop_bus.proofs.NewLemmas.{same_cores}
 use Rattle.snoop_bus.proofs.AccessLemmas.{tag_here}
 use Rattle.snoop_bus.proofs.HeldLemmas.{same_sets}
@@ -61,10 +61,10 @@ now_held c0 c1 m0 m1 core loc stage line x ways within some line_in size awaits 
 
 -- which accesses would be hits
 pub hits-absent : (t : Table) (caches : List Sets) (core line : ℕ) (write : Bool) → copy_at caches core line ≡ None → false ≡ hits t core line write (tags_of caches)
-hits-absent t caches core line write absent = sym (ap (hit_in t write) (tag_here caches core line ∙ ap (option_map (λ copy. copy.state)) absent))
+hits-absent t caches core line write absent = sym (ap (λ o. is_some (next_in_place t write o)) (tag_here caches core line ∙ ap (option_map (λ copy. copy.state)) absent))
 
-pub hits-found : (t : Table) (caches : List Sets) (core line : ℕ) (write : Bool) (copy : Line) → copy_at caches core line ≡ Some copy → hits t core line write (tags_of caches) ≡ hit_in t write (Some copy.state)
-hits-found t caches core line write copy found = ap (hit_in t write) (tag_here caches core line ∙ ap (option_map (λ copy. copy.state)) found)
+pub hits-found : (t : Table) (caches : List Sets) (core line : ℕ) (write : Bool) (copy : Line) → copy_at caches core line ≡ Some copy → hits t core line write (tags_of caches) ≡ is_some (next_in_place t write (Some copy.state))
+hits-found t caches core line write copy found = ap (λ o. is_some (next_in_place t write o)) (tag_here caches core line ∙ ap (option_map (λ copy. copy.state)) found)
 
 pub hits-read : (t : Table) (caches : List Sets) (core line : ℕ) (write : Bool) (copy : Line) → copy_at caches core line ≡ Some copy → write ≡ false → not write ≡ hits t core line write (tags_of caches)
 hits-read t caches core line true copy found e = cc

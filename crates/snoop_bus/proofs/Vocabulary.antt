@@ -16,8 +16,8 @@ pub use Rattle.snoop_bus.specs.inner.Requests.{copy_if, copy_left_by, with_next_
 pub use Rattle.std.proofs.lemmas.List.{get_or-set_same, get_or-set_other, take-map, map-set, set-get_or, length-map, ext_get_or, set-set, length-set, get_or_past, drop_more, get_or_default, with_items_is, replicate_more, take_all, drop_all, append-nil}
 pub use Rattle.snoop_bus.specs.Copies.{Sets, copy_in, copy_at, cache_of, tags_of, tags_in, set_at, in_set}
 pub use Rattle.snoop_bus.specs.Bus.{current_words, words_among, AllCoherent, empty_caches, bus_with, BusModel, words_of, holder_of, program_words, IsSameMachine, IsFree, IsCoherent, cores_of}
-pub use Rattle.snoop_bus.specs.CacheContents.{TagSets, tag_in, tags_at, at_line, sets_of, at_others, requested, is_held, used_by, filled_by, flusher_from, sends_in, accessed, loaded, loaded_in, written, written_in, write_in, writes_back, dirty_in, Accessed, at_core}
-pub use Rattle.snoop_bus.specs.Asks.{tag_at, asked_memory, hits, hit_in, request_for, asked_for, asked_caches, or_invalid, awaited_in, completed_memory, completed_memory_in, asking, completed, in_halves}
+pub use Rattle.snoop_bus.specs.CacheContents.{TagSets, tag_in, tags_at, at_line, sets_of, at_others, requested, is_held, used_by, filled_by, flusher_from, sends_in, accessed, writes_back, dirty_in, Accessed, at_core}
+pub use Rattle.snoop_bus.specs.Asks.{tag_at, asked_memory, hits, request_for, asked_for, asked_caches, or_invalid, awaited_in, completed_memory, completed_memory_in, asking, completed, in_halves, next_in_place, awaited_as, whole_access, whole_in, whole_memory, whole_memory_in}
 unfoldable pub use Rattle.snoop_bus.specs.Asks.{awaiting}
 pub use Rattle.std.specs.Map.{remove_entry, lookup}
 pub use Rattle.std.proofs.lemmas.Option.{slice_get-map, slice_get-get_or}
@@ -34,7 +34,7 @@ pub use Rattle.std.specs.Option.{option_or, option_copied}
 pub use Rattle.tso_model.specs.declared.instruction.Core.{Core}
 pub use Rattle.tso_model.specs.Limits.{most_cores}
 pub use Rattle.snoop_bus.specs.declared.access.AccessKind.TheVariants.{Hit, Miss}
-pub use Rattle.snoop_bus.specs.MemoryAfter.{victim_at, written_back, flushed, sent_words, written_memory, written_memory_in, sent_of, loaded_memory, loaded_memory_in}
+pub use Rattle.snoop_bus.specs.MemoryAfter.{victim_at, written_back, flushed, sent_words, sent_of}
 pub use Rattle.protocol_tables.specs.declared.requests.Request.{Request}
 pub use Rattle.protocol_tables.specs.declared.requests.Request.TheVariants.{GetS, GetM}
 pub use Rattle.std.proofs.lemmas.List.FromFn.{length-map-range_with_len, get_or-map-range_with_len, map-range_with_len_more, fill_by_all}
@@ -48,7 +48,7 @@ pub use Rattle.snoop_bus.specs.declared.hierarchy.Hierarchy.{Hierarchy}
 pub use Rattle.snoop_bus.specs.declared.holding.HeldBus.{HeldBus}
 pub use Rattle.snoop_bus.specs.Held.{counted_copies_of, with_copy, with_counted_copy, stage_for, holder, holder_in, counted_in}
 pub use Rattle.snoop_bus.specs.inner.Held.{IsHeld, IsPlaced, Awaits, held_by, AskedOf, kept_by, kept_words}
-pub use Rattle.snoop_bus.specs.inner.Accessing.{KeepsWords, SetsWord, Updates, IsReady, Acquires, Loads, Writes}
+pub use Rattle.snoop_bus.specs.inner.Accessing.{KeepsWords, SetsWord, Updates, IsReady, Acquires, Loads, Writes, IsMadeWhole, KeepsBeside}
 pub use Rattle.snoop_bus.specs.declared.access.Access.{Access}
 pub use Rattle.snoop_bus.specs.inner.Tags.{clean, cleaned}
 pub use Rattle.protocol_tables.specs.declared.requests.Transient.TheVariants.{IsD, ImD, SmD}

@@ -1,6 +1,6 @@
 -- What each call makes of a bus, in words of the bus's own: whoever stands above it needs no others. (Primer,
 -- chapters 2, 6 and 7; which line gives way, and which copies are sent to memory, is this project's profile.)
-use Rattle.std.specs.Prelude.{◌≡◌, ℕ, ◌/◌, Bool, Option, Some, None, List, length, slice_get, slice_set}
+use Rattle.std.specs.Prelude.{◌≡◌, ℕ, ◌/◌, Bool, true, false, Option, Some, None, List, length, slice_get, slice_set}
 use Rattle.std.specs.Int.{div_ceil}
 use Rattle.tso_model.specs.declared.instruction.Core.{Core}
 use Rattle.tso_model.specs.declared.instruction.Loc.{Loc}
@@ -9,13 +9,12 @@ use Rattle.snoop_bus.specs.declared.access.Access.{Access}
 use Rattle.snoop_bus.specs.Geometry.{Geometry}
 use Rattle.snoop_bus.specs.Rows.{table_of_rows}
 use Rattle.snoop_bus.specs.Lines.{Words, lines_of_words, line_of_words}
-use Rattle.snoop_bus.specs.CacheContents.{TagSets, Accessed, loaded, written}
+use Rattle.snoop_bus.specs.CacheContents.{TagSets, Accessed}
 use Rattle.snoop_bus.specs.Copies.{cache_of, tags_of}
 use Rattle.snoop_bus.specs.Bus.{BusModel, bus_with, words_of, holder_of, empty_caches}
-use Rattle.snoop_bus.specs.MemoryAfter.{loaded_memory, written_memory}
 use Rattle.snoop_bus.specs.Held.{transaction_in, holder, stage_for}
 use Rattle.snoop_bus.specs.Asks.{Awaited, AskedAccess, hits, request_for, asking, asked_memory, awaited_in, completed}
-use Rattle.snoop_bus.specs.Asks.{completed_memory}
+use Rattle.snoop_bus.specs.Asks.{completed_memory, whole_access, whole_memory}
 use Rattle.protocol_tables.specs.declared.state.State.{State}
 use Rattle.snoop_bus.specs.declared.looking.CachedLine.{CachedLine}
 
@@ -42,18 +41,18 @@ line_of_location b loc = loc / b.shape.words
 
 -- a core's load at a location: what access it is, and the contents after it
 abbrev pub load_of : BusModel → ℕ → ℕ → Accessed
-load_of b core loc = loaded (table_of_rows b.rows) core (line_of_location b loc) (contents_of b)
+load_of b core loc = whole_access (table_of_rows b.rows) false core (line_of_location b loc) (contents_of b)
 
 -- a core's write access at a location
 abbrev pub write_of : BusModel → ℕ → ℕ → Accessed
-write_of b core loc = written (table_of_rows b.rows) core (line_of_location b loc) (contents_of b)
+write_of b core loc = whole_access (table_of_rows b.rows) true core (line_of_location b loc) (contents_of b)
 
 -- memory after each of them
 abbrev pub memory_after_load : BusModel → ℕ → ℕ → List Words
-memory_after_load b core loc = loaded_memory (table_of_rows b.rows) core (line_of_location b loc) b.caches b.memory
+memory_after_load b core loc = whole_memory (table_of_rows b.rows) false core (line_of_location b loc) b.caches b.memory
 
 abbrev pub memory_after_write : BusModel → ℕ → ℕ → List Words
-memory_after_write b core loc = written_memory (table_of_rows b.rows) core (line_of_location b loc) b.caches b.memory
+memory_after_write b core loc = whole_memory (table_of_rows b.rows) true core (line_of_location b loc) b.caches b.memory
 
 -- whether a core's access at a location is a hit, which needs no bus
 abbrev pub would_hit : BusModel → ℕ → ℕ → Bool → Bool

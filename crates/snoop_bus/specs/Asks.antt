@@ -1,6 +1,6 @@
 -- An access in two halves: at the ask the other caches see the request, and the bus keeps the words; at the
--- completion the core's own line is filled. Lines and states alone, as for whole accesses. (Primer, chapter 7;
--- which copies are sent or written to memory, and when, is this project's profile.)
+-- completion the core's own line is filled. One that is made whole is a hit, or one half after the other. Lines and states
+-- alone, and memory. (Primer, chapter 7; which copies are sent or written to memory, and when, is this project's profile.)
 use Rattle.std.specs.Prelude.{◌≡◌, ◌≢◌, ℕ, Bool, true, false, List, Option, Some, None, is_some, option_map}
 use Rattle.tso_model.specs.declared.instruction.Core.{Core}
 use Rattle.protocol_tables.specs.declared.state.State.{State}
@@ -15,7 +15,7 @@ use Rattle.snoop_bus.specs.declared.access.AccessKind.TheVariants.{Hit, Upgrade,
 use Rattle.snoop_bus.specs.declared.holding.Transaction.{Transaction}
 use Rattle.snoop_bus.specs.Lines.{Words}
 use Rattle.snoop_bus.specs.CacheContents.{TagSets, tag_in, sets_of, requested, is_held, flusher_from, writes_back}
-use Rattle.snoop_bus.specs.CacheContents.{used_by, filled_by, Accessed, accessed, loaded, written}
+use Rattle.snoop_bus.specs.CacheContents.{used_by, filled_by, Accessed, accessed}
 use Rattle.snoop_bus.specs.Copies.{Sets, tags_of}
 use Rattle.snoop_bus.specs.Requests.{snoop_column}
 use Rattle.snoop_bus.specs.MemoryAfter.{written_back, flushed, sent_words, victim_at}
@@ -24,15 +24,17 @@ use Rattle.snoop_bus.specs.MemoryAfter.{written_back, flushed, sent_words, victi
 abbrev pub tag_at : ℕ → ℕ → List TagSets → Option State
 tag_at core line caches = tag_in (sets_of caches core) line
 
-abbrev pub hit_in : Table → Bool → Option State → Bool
-hit_in t write None = false
-hit_in t false (Some state) = true
-hit_in t true (Some state) = is_some (t.written state)
+-- the state in which an access that needs no bus leaves its core's copy: a load leaves it as it is, and what a write makes of
+-- it the table tells; none where the access needs the bus
+abbrev pub next_in_place : Table → Bool → Option State → Option State
+next_in_place t write None = None
+next_in_place t false (Some state) = Some state
+next_in_place t true (Some state) = t.written state
 
 -- whether an access is a hit: a load where the core has the line, a write access where the table lets the copy be
 -- written in place
 abbrev pub hits : Table → ℕ → ℕ → Bool → List TagSets → Bool
-hits t core line write caches = hit_in t write (tag_at core line caches)
+hits t core line write caches = is_some (next_in_place t write (tag_at core line caches))
 
 abbrev pub request_for : Bool → Request
 request_for false = GetS
@@ -102,14 +104,35 @@ abbrev pub in_halves : Table → Request → ℕ → ℕ → List TagSets → Ac
 in_halves t request core line caches =
     completed t core line (asking t request core line caches).awaited (asking t request core line caches).caches
 
+-- what a core's line is in once an access that needs the bus has asked for it
+abbrev pub awaited_as : Bool → Option State → Transient
+awaited_as false copy = IsD
+awaited_as true None = ImD
+awaited_as true (Some state) = SmD
+
+-- an access that has asked for its line, and is completed at once
+abbrev pub asked_at_once : Table → Request → ℕ → ℕ → Transient → List TagSets → Accessed
+asked_at_once t request core line transient caches =
+    completed t core line (Some (awaiting t request line caches transient)) (requested (snoop_column t request) core line caches)
+
+abbrev pub whole_in : Table → Bool → ℕ → ℕ → List TagSets → Option State → Option State → Accessed
+whole_in t write core line caches copy (Some next) = accessed Hit false None (used_by core line next caches)
+whole_in t write core line caches copy None = asked_at_once t (request_for write) core line (awaited_as write copy) caches
+
+-- an access that is made whole, a load or a write access: a hit, which needs no bus; else its two halves, an upgrade where the
+-- core has a copy, and a miss where it has none
+abbrev pub whole_access : Table → Bool → ℕ → ℕ → List TagSets → Accessed
+whole_access t write core line caches =
+    whole_in t write core line caches (tag_at core line caches) (next_in_place t write (tag_at core line caches))
+
 -- a load that misses, and a write access, is its two halves
 abbrev pub LoadsAreHalves : Table → Type 0
 LoadsAreHalves t = (core line : ℕ) (caches : List TagSets) → hits t core line false caches ≡ false →
-    loaded t core line caches ≡ in_halves t GetS core line caches
+    whole_access t false core line caches ≡ in_halves t GetS core line caches
 
 abbrev pub WritesAreHalves : Table → Type 0
 WritesAreHalves t = (core line : ℕ) (caches : List TagSets) → tag_at core line caches ≢ Some I →
-    written t core line caches ≡ in_halves t GetM core line caches
+    whole_access t true core line caches ≡ in_halves t GetM core line caches
 
 abbrev pub awaited_by : Transaction → Awaited
 awaited_by x = record { transient = x.transient; state = x.copy.state; flushed = x.flushed }
@@ -133,39 +156,13 @@ abbrev pub completed_memory : Table → ℕ → ℕ → Option Awaited → List 
 completed_memory t core line None caches memory = memory
 completed_memory t core line (Some x) caches memory = completed_memory_in t core line x.transient caches memory
 
--- the state in which an access that needs no bus leaves its core's copy: a load leaves it as it is, and what a write makes of
--- it the table tells; none where the access needs the bus
-abbrev pub next_in_place : Table → Bool → Option State → Option State
-next_in_place t write None = None
-next_in_place t false (Some state) = Some state
-next_in_place t true (Some state) = t.written state
-
--- what a core's line is in once an access that needs the bus has asked for it
-abbrev pub awaited_as : Bool → Option State → Transient
-awaited_as false copy = IsD
-awaited_as true None = ImD
-awaited_as true (Some state) = SmD
-
--- an access that has asked for its line, and is completed at once
-abbrev pub asked_at_once : Table → Request → ℕ → ℕ → Transient → List TagSets → Accessed
-asked_at_once t request core line transient caches =
-    completed t core line (Some (awaiting t request line caches transient)) (requested (snoop_column t request) core line caches)
-
-abbrev pub whole_in : Table → Bool → ℕ → ℕ → List TagSets → Option State → Option State → Accessed
-whole_in t write core line caches copy (Some next) = accessed Hit false None (used_by core line next caches)
-whole_in t write core line caches copy None = asked_at_once t (request_for write) core line (awaited_as write copy) caches
-
--- an access that is made whole, a load or a write access: a hit, which needs no bus, or its two halves one after the other
-abbrev pub whole_access : Table → Bool → ℕ → ℕ → List TagSets → Accessed
-whole_access t write core line caches =
-    whole_in t write core line caches (tag_at core line caches) (next_in_place t write (tag_at core line caches))
-
 abbrev pub whole_memory_in : Table → Bool → ℕ → ℕ → List Sets → Option State → Option State → List Words → List Words
 whole_memory_in t write core line caches copy (Some next) memory = memory
 whole_memory_in t write core line caches copy None memory =
     completed_memory_in t core line (awaited_as write copy) caches (asked_memory t (request_for write) line caches memory)
 
--- memory after it: an ask leaves the core's own copies as they are, so the line that gives way is the one that would before it
+-- memory after an access that is made whole: the ask leaves the core's own copies as they are, so what gives way at the
+-- completion is what gave way before the ask
 abbrev pub whole_memory : Table → Bool → ℕ → ℕ → List Sets → List Words → List Words
 whole_memory t write core line caches memory =
     whole_memory_in t write core line caches (tag_at core line (tags_of caches)) (next_in_place t write (tag_at core line (tags_of caches))) memory

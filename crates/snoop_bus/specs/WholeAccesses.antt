@@ -1,18 +1,11 @@
 -- A whole access beside the same access in its two halves, made from one bus on: the words, memory, the lines and states. (Primer,
 -- chapter 7.)
-use Rattle.std.specs.Prelude.{◌≡◌, ℕ, Bool, true, false, List, Option, is_some, slice_set}
+use Rattle.std.specs.Prelude.{◌≡◌, ℕ, Bool, true, false, slice_set}
 use Rattle.tso_model.specs.declared.instruction.Core.{Core}
 use Rattle.tso_model.specs.declared.instruction.Loc.{Loc}
 use Rattle.protocol_tables.specs.Laws.{WritesInPlace}
-use Rattle.protocol_tables.specs.Tables.{Table}
-use Rattle.protocol_tables.specs.declared.state.State.{State}
 use Rattle.snoop_bus.specs.declared.access.Access.{Access}
 use Rattle.snoop_bus.specs.Rows.{table_of_rows}
-use Rattle.snoop_bus.specs.Lines.{Words}
-use Rattle.snoop_bus.specs.CacheContents.{loaded, written}
-use Rattle.snoop_bus.specs.Copies.{Sets, tags_of}
-use Rattle.snoop_bus.specs.MemoryAfter.{loaded_memory, written_memory}
-use Rattle.snoop_bus.specs.Asks.{hit_in, next_in_place, whole_access, whole_memory}
 use Rattle.snoop_bus.specs.Bus.{BusModel, IsFree, IsCoherent, IsSameMachine, words_of}
 use Rattle.snoop_bus.specs.Accesses.{contents_of, memory_of, would_hit, IsCurrentWord, LoadsAt, WritesAt, AsksFor, CompletesAt}
 
@@ -58,11 +51,3 @@ WritesAgreeWithHalves =
     (old whole between new : BusModel) (core : Core) (loc : Loc) (word : ℕ) (a b : Access)
     → WritesInPlace (table_of_rows old.rows).written → IsFree old → IsCoherent old → WritesAt old whole core.0 loc.0 word a
     → WritesInHalves old between new core loc word b → AccessesLeaveTheSame whole new a b
-
--- a load and a write access by the core's own copy, and memory after them, are a whole access and memory after it
-pub record IsOneDefinition (t : Table) (core line : ℕ) (caches : List Sets) (memory : List Words) : Type 0 where
-  pub load : whole_access t false core line (tags_of caches) ≡ loaded t core line (tags_of caches)
-  pub write : whole_access t true core line (tags_of caches) ≡ written t core line (tags_of caches)
-  pub hits : (copy : Option State) (write : Bool) → is_some (next_in_place t write copy) ≡ hit_in t write copy
-  pub load_memory : whole_memory t false core line caches memory ≡ loaded_memory t core line caches memory
-  pub write_memory : whole_memory t true core line caches memory ≡ written_memory t core line caches memory

@@ -2,13 +2,10 @@
 //! words, and whether it goes to memory too, is the protocol's table to say; a load that took stale memory's word in its
 //! place would break coherence.
 
-ghost use Rattle.std.specs.Prelude.{◌≡◌, ◌<◌, ◌⊎◌, None, IsSome, IfSome};
+ghost use Rattle.std.specs.Prelude.{◌≡◌, ◌<◌, ◌⊎◌, None, IsSome};
 ghost use Rattle.cache_set.specs.Limits.{most_words};
 ghost use Rattle.snoop_bus.specs.Copies.{copy_at};
-ghost use Rattle.snoop_bus.specs.inner.Copies.{ways_of};
-ghost use Rattle.snoop_bus.specs.Held.{counted_copies_of};
-ghost use Rattle.snoop_bus.specs.inner.Held.{IsHeld};
-ghost use Rattle.snoop_bus.specs.inner.Accessing.{IsReady, Loads, KeepsWords};
+ghost use Rattle.snoop_bus.specs.inner.Accessing.{IsReady, Loads, KeepsWords, KeepsBeside};
 
 use crate::access::{Access, AccessKind};
 use crate::cache::know_sets;
@@ -31,9 +28,7 @@ impl Hierarchy {
         requires free { (held ≡ None) ⊎ IsSome (copy_at self.old.caches.items target.core target.line) }
 
         ensures ok { Loads (P.table protocol.now) held target.core target.line target.offset self.old.caches.items self.new.caches.items self.old.memory.items self.new.memory.items result.0 result.1 }
-        ensures words { KeepsWords (counted_copies_of held self.old.caches.items) (counted_copies_of held self.new.caches.items) self.old.memory.items self.new.memory.items }
-        ensures awaited { IfSome held (IsHeld self.new.caches.items self.new.memory.items) }
-        ensures ways { ways_of self.new.caches.items ≡ ways_of self.old.caches.items }
+        ensures kept { KeepsBeside held self.old.caches.items self.new.caches.items self.old.memory.items self.new.memory.items }
     {
         let Target { core, line, offset } = target;
         if let Some(copy) = self.caches[core].look(line).copied() {

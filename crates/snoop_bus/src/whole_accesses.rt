@@ -4,10 +4,7 @@
 ghost use Rattle.protocol_tables.specs.Laws.{WritesInPlace};
 ghost use Rattle.protocol_tables.specs.Tables.{Table};
 ghost use Rattle.snoop_bus.specs.Asks.{LoadsAreHalves, WritesAreHalves};
-ghost use Rattle.snoop_bus.specs.WholeAccesses.{LoadsAgreeWithHalves, WritesAgreeWithHalves, IsOneDefinition};
-ghost use Rattle.snoop_bus.specs.Lines.{Words};
-ghost use Rattle.snoop_bus.specs.Copies.{Sets};
-ghost use Rattle.std.specs.Prelude.{ℕ, List};
+ghost use Rattle.snoop_bus.specs.WholeAccesses.{LoadsAgreeWithHalves, WritesAgreeWithHalves};
 
 /// An access that is whole when its call returns leaves the lines and states that its ask and its completion
 /// leave, one after the other, and is the same access.
@@ -21,10 +18,4 @@ pub fn whole_accesses_are_two_halves()
 pub fn halves_leave_what_whole_accesses_do()
     ensures loads { LoadsAgreeWithHalves }
     ensures writes { WritesAgreeWithHalves }
-{}
-
-/// A load and a write access, said case by case of the core's own copy, are what a whole access is that asks and is completed
-/// at once; and so is memory after them.
-pub fn whole_accesses_have_one_definition()
-    ensures { (t : Table) (core line : ℕ) (caches : List Sets) (memory : List Words) → IsOneDefinition t core line caches memory }
 {}

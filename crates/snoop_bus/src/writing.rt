@@ -13,7 +13,7 @@ ghost use Rattle.snoop_bus.specs.Held.{counted_copies_of};
 ghost use Rattle.snoop_bus.specs.inner.Held.{IsHeld};
 ghost use Rattle.snoop_bus.specs.Bus.{AllCoherent};
 ghost use Rattle.snoop_bus.specs.inner.Requests.{ChangesCopy};
-ghost use Rattle.snoop_bus.specs.inner.Accessing.{IsReady, MayWrite, Acquires, Updates, KeepsWords};
+ghost use Rattle.snoop_bus.specs.inner.Accessing.{IsReady, MayWrite, Acquires, Updates, KeepsWords, KeepsBeside};
 
 use crate::access::{Access, AccessKind, Updated};
 use crate::cache::know_sets;
@@ -68,9 +68,7 @@ impl Hierarchy {
         requires free { MayWrite (P.table protocol.now) held core line (tags_of self.old.caches.items) }
 
         ensures ok { Acquires (P.table protocol.now) held core line self.old.caches.items self.new.caches.items self.old.memory.items self.new.memory.items result.0 result.1 }
-        ensures words { KeepsWords (counted_copies_of held self.old.caches.items) (counted_copies_of held self.new.caches.items) self.old.memory.items self.new.memory.items }
-        ensures awaited { IfSome held (IsHeld self.new.caches.items self.new.memory.items) }
-        ensures ways { ways_of self.new.caches.items ≡ ways_of self.old.caches.items }
+        ensures kept { KeepsBeside held self.old.caches.items self.new.caches.items self.old.memory.items self.new.memory.items }
     {
         if let Some(copy) = self.copy_in_place(protocol, core, line) {
             let words = copy.words;

@@ -1,16 +1,12 @@
 -- A machine that makes one run after the other: what it counts of each, and that it goes back to where it began.
-use Rattle.sweeper.proofs.Vocabulary.{◌≡◌, ℕ, Bool, true, false, if◌then◌else◌, List, [], ◌∷◌, Option, refl, sym, ap, subst, ◌∙◌, list_any, Litmus, State, chosen, core_of, registers_in, Run, has_ended, BusState, effect_on, after_on, Bus, Atomic, Split, Choice, Table, ProtocolKind, Configuration, Running, new_machine, restarted, RunCounts, with_state_counted, with_verdict, with_unfinished, values_in, run_by, run_under, AnswersFit, AnswersFitBy, machine_run, AnswersFitOn, verdict, with_one_run, RunLaws, IsDriven, from-new, ended-as-driven}
-use Rattle.tso_model.specs.ProgramOrder.{writes_to}
-use Rattle.tso_model.specs.MemoryAccess.{MemoryAccess, NoAccess, Reads, Writes, Locks, access_of}
+use Rattle.sweeper.proofs.Vocabulary.{◌≡◌, ℕ, Bool, true, false, if◌then◌else◌, List, [], ◌∷◌, Option, refl, sym, ap, subst, ◌∙◌, Litmus, State, chosen, core_of, registers_in, Run, has_ended, BusState, effect_on, after_on, Bus, Atomic, Split, Choice, Table, ProtocolKind, Configuration, Running, new_machine, restarted, RunCounts, with_state_counted, with_verdict, with_unfinished, values_in, run_by, run_under, AnswersFit, AnswersFitBy, machine_run, AnswersFitOn, verdict, with_one_run, RunLaws, IsDriven, from-new, ended-as-driven}
+use Rattle.tso_model.specs.MemoryAccess.{access_of}
 use Rattle.tso_model.specs.Together.{together}
-use Rattle.tso_model.specs.declared.execution.Entry.{Entry}
-use Rattle.tso_model.specs.declared.execution.Kind.{Kind}
-use Rattle.tso_model.specs.declared.execution.Kind.TheVariants.{R, W, F, LR, LW}
 use Rattle.protocol_tables.specs.Tables.{table_of as table_of_kind}
 use Rattle.snoop_bus.specs.Rows.{TableColumns, rows_of, table_of_rows}
 use Rattle.snoop_bus.specs.Geometry.{Geometry}
-use Rattle.machine_core.specs.declared.accesses.CacheUse.TheVariants.{Forwarded}
-use Rattle.machine_core.specs.Caches.{Caches, not_through, load_by, use_by_kind, use_of, attempt_of, is_awaited, used_between}
+use Rattle.machine_core.specs.Caches.{Caches, attempt_of, is_awaited}
+use Rattle.machine_core.proofs.EachUse.{used-machine}
 use Rattle.machine_core.specs.Statistics.{Statistics, statistics_from, statistics_after}
 use Rattle.machine_core.specs.inner.Running.{is_ended}
 use Rattle.simulator.specs.inner.Simulation.{Drives}
@@ -22,33 +18,6 @@ record SameTable (old new : Caches) : Type 0 where
   rows : new.rows ≡ old.rows
   shape : new.shape ≡ old.shape
 
-by-kind : (c : Caches) (pending : List Entry) (e : Entry) (k : Kind) → SameTable c (use_by_kind c pending e k).caches
-by-kind c pending e R = by_answer (list_any (writes_to e.loc.0) pending)
-  where
-    by_answer : (b : Bool) → SameTable c (if b then not_through Forwarded c else load_by c e.core.0 e.loc.0).caches
-    by_answer true = record { rows = refl; shape = refl }
-    by_answer false = record { rows = refl; shape = refl }
-by-kind c pending e W = record { rows = refl; shape = refl }
-by-kind c pending e F = record { rows = refl; shape = refl }
-by-kind c pending e LR = record { rows = refl; shape = refl }
-by-kind c pending e LW = record { rows = refl; shape = refl }
-
-by-commits : (c : Caches) (pending es : List Entry) → SameTable c (use_of c pending es).caches
-by-commits c pending [] = record { rows = refl; shape = refl }
-by-commits c pending (e ∷ es) = by-kind c pending e e.kind
-
-by-use : (before after : Bool) (c : Caches) (core : ℕ) (what : MemoryAccess) (pending es : List Entry) → SameTable c (used_between before after c core what pending es).caches
-by-use false true c core NoAccess pending es = record { rows = refl; shape = refl }
-by-use false true c core (Reads loc) pending es = record { rows = refl; shape = refl }
-by-use false true c core (Writes loc) pending es = record { rows = refl; shape = refl }
-by-use false true c core (Locks loc) pending es = record { rows = refl; shape = refl }
-by-use true false c core NoAccess pending es = record { rows = refl; shape = refl }
-by-use true false c core (Reads loc) pending es = record { rows = refl; shape = refl }
-by-use true false c core (Writes loc) pending es = record { rows = refl; shape = refl }
-by-use true false c core (Locks loc) pending es = record { rows = refl; shape = refl }
-by-use false false c core what pending es = by-commits c pending es
-by-use true true c core what pending es = by-commits c pending es
-
 by-choices : (bus : Bus) (t : Litmus) (depth : ℕ) (state : BusState) (choices : List Choice) (s : Statistics)
     → SameTable s.caches (statistics_from bus t depth state choices s).caches
 by-choices bus t depth state [] s = record { rows = refl; shape = refl }
@@ -57,7 +26,8 @@ by-choices bus t depth state (c ∷ cs) s =
     let later = after_on bus t depth state (attempt_of t depth state.flat s.caches c) in
     let f = effect_on bus t depth state (attempt_of t depth state.flat s.caches c) in
     let one : SameTable s.caches next.caches =
-    by-use (is_awaited state.holder) (is_awaited f.holder) s.caches (chosen c) (access_of t depth state.flat c) (core_of state.flat (chosen c)).pending f.effect.commits in
+    let same = used-machine (is_awaited state.holder) (is_awaited f.holder) s.caches (chosen c) (access_of t depth state.flat c) (core_of state.flat (chosen c)).pending f.effect.commits in
+    record { rows = same.0; shape = same.1 } in
     by_end (has_ended t state.flat) next (statistics_from bus t depth later cs next) one (by-choices bus t depth later cs next)
   where
     by_end : (b : Bool) (next last : Statistics) → SameTable s.caches next.caches → SameTable next.caches last.caches → SameTable s.caches (if b then s else last).caches

@@ -1,5 +1,6 @@
 -- The accesses that a trace tells, and those that are counted.
-use Rattle.trace_report.proofs.Vocabulary.{◌≡◌, ◌≢◌, ◌∙◌, ℕ, zero, suc, ◌+◌, ◌<◌, ◌≤◌, ◌==◌, ◌&&◌, Bool, true, false, List, [], ◌∷◌, length, replicate, slice_index_or, Option, Some, None, refl, sym, ap, subst, arith, inl, inr, get_or-set_same, get_or-set_other, get_or_past, length-set, decide, lt-or, test-true, test-false, chosen, has_ended, CoresExist, Core, Choice, AccessKind, Hit, Upgrade, Miss, Running, machine_use, machine_after, Statistics, no_counts, with_access, with_forward, with_write_back, with_flush, counts_at_core, flush_counted, with_use_counted, statistics_from, Counts, CacheUse, Unused, Forwarded, Through, length-counted, ShownStep, is_forwarded, access_kind_in, trace_step_of, steps_from, count_of_accesses, is_kind, is_access_of_kind, tells_access, tells_forward, one_if, steps_that}
+use Rattle.trace_report.proofs.Vocabulary.{◌≡◌, ◌∙◌, ℕ, zero, suc, ◌+◌, ◌<◌, ◌==◌, ◌&&◌, Bool, true, false, List, [], ◌∷◌, length, replicate, slice_index_or, Option, Some, None, refl, sym, ap, subst, arith, get_or_past, test-true, test-false, chosen, has_ended, CoresExist, Core, Choice, AccessKind, Hit, Upgrade, Miss, Running, machine_use, machine_after, Statistics, no_counts, with_access, with_forward, with_write_back, with_flush, counts_at_core, flush_counted, with_use_counted, statistics_from, Counts, CacheUse, Unused, Forwarded, Through, length-counted, ShownStep, is_forwarded, access_kind_in, trace_step_of, steps_from, count_of_accesses, is_kind, is_access_of_kind, tells_access, tells_forward, one_if, steps_that, if◌then◌else◌}
+use Rattle.bus_laws.proofs.Changed.{slot}
 
 -- the counts of one core among those of all
 abbrev pub of : List Counts → ℕ → Counts
@@ -7,31 +8,20 @@ of cs k = slice_index_or cs k no_counts
 
 -- ---- one core's counts changed
 
-pub changed-same : (core : ℕ) (change : Counts → Counts) (cs : List Counts) → core < length cs → of (counts_at_core core change cs) core ≡ change (of cs core)
-changed-same core change cs h = get_or-set_same cs core (change (of cs core)) no_counts h
-
-changed-other : (core k : ℕ) (change : Counts → Counts) (cs : List Counts) → k ≢ core → of (counts_at_core core change cs) k ≡ of cs k
-changed-other core k change cs n = get_or-set_other cs core k (change (of cs core)) no_counts n
-
 -- a change that leaves a count
 pub kept : (what : Counts → ℕ) (core k : ℕ) (change : Counts → Counts) (cs : List Counts) → ((n : Counts) → what (change n) ≡ what n) → what (of (counts_at_core core change cs) k) ≡ what (of cs k)
-kept what core k change cs same = elim (decide k core) [
-  | inl q ↦ elim (lt-or (length cs) core) [
-    | inl l ↦ subst (λ j. what (of (counts_at_core core change cs) j) ≡ what (of cs j)) (sym q) (ap what (changed-same core change cs l) ∙ same (of cs core))
-    | inr past ↦ subst (λ j. what (of (counts_at_core core change cs) j) ≡ what (of cs j)) (sym q)
-        (ap what (get_or_past (counts_at_core core change cs) core no_counts (subst (λ n. n ≤ core) (sym (length-set cs core (change (of cs core)))) past) ∙ sym (get_or_past cs core no_counts past)))
-  ]
-  | inr n ↦ ap what (changed-other core k change cs n)
-]
+kept what core k change cs same =
+    slot (λ n. what n ≡ what (of cs k)) cs core k (change (of cs core)) no_counts (λ q l. same (of cs core) ∙ sym (ap (λ j. what (of cs j)) q))
+    (λ q past. sym (ap what (ap (of cs) q ∙ get_or_past cs core no_counts past))) (λ n. refl)
 
 -- a change that adds so many
 pub added : (what : Counts → ℕ) (core k : ℕ) (change : Counts → Counts) (cs : List Counts) (b : Bool) → core < length cs → ((n : Counts) → what (change n) ≡ what n + one_if b)
     → what (of (counts_at_core core change cs) k) ≡ what (of cs k) + one_if ((core == k) && b)
-added what core k change cs b h adds = elim (decide k core) [
-  | inl q ↦ subst (λ j. what (of (counts_at_core core change cs) j) ≡ what (of cs j) + one_if ((core == j) && b)) (sym q)
-      (ap what (changed-same core change cs h) ∙ (adds (of cs core) ∙ sym (ap (λ t. what (of cs core) + one_if (t && b)) (test-true core core refl))))
-  | inr n ↦ ap what (changed-other core k change cs n) ∙ (plus-none (what (of cs k)) ∙ sym (ap (λ t. what (of cs k) + one_if (t && b)) (test-false core k (λ e. n (sym e)))))
-]
+added what core k change cs b h adds =
+    slot (λ n. what n ≡ what (of cs k) + one_if ((core == k) && b)) cs core k (change (of cs core)) no_counts
+    (λ q l. adds (of cs core) ∙ ap (λ j. what (of cs j) + one_if b) (sym q) ∙ sym (ap (λ t. what (of cs k) + one_if (t && b)) (test-true core k (sym q))))
+    (λ q past. absurd (let z : ⊥ = omega (arith, h, past) in z))
+    (λ n. plus-none (what (of cs k)) ∙ sym (ap (λ t. what (of cs k) + one_if (t && b)) (test-false core k (λ e. n (sym e)))))
   where
     plus-none : (n : ℕ) → n ≡ n + 0
     plus-none n = omega arith
@@ -120,30 +110,37 @@ step-tells-forward : (k : ℕ) (m : Running) (c : Choice) → tells_forward k (t
 unfolding trace_step_of
 step-tells-forward k m c = refl
 
--- a count that each choice adds to where its step tells so
-summed : (what : Counts → ℕ) (test : ShownStep → Bool) (k : ℕ) (m : Running) (choices : List Choice)
-    → ((m : Running) (c : Choice) → chosen c < length m.statistics.counts → what (of (machine_after m c).statistics.counts k) ≡ what (of m.statistics.counts k) + one_if (test (trace_step_of m c)))
-    → CoresExist (length m.statistics.counts) choices → what (of (counts_after m choices) k) ≡ what (of m.statistics.counts k) + steps_that test (steps_from m choices)
-summed what test k m [] adds cores = omega arith
-summed what test k m (c ∷ cs) adds cores =
-    go (has_ended m.test m.state.flat) refl (summed what test k (machine_after m c) cs adds (subst (λ n. CoresExist n cs) (sym (length-counted (chosen c) (machine_use m c).how m.statistics.counts)) cores.1))
+-- the machine once those of the choices were made that are used
+abbrev pub end_of : Running → List Choice → Running
+end_of m [] = m
+end_of m (c ∷ cs) = if has_ended m.test m.state.flat then m else end_of (machine_after m c) cs
+
+-- a count that each choice adds to where its step tells so, or where an earlier one told it and it waits
+pub summed : (P : Running → Type 0) (what : Counts → ℕ) (waits : Running → ℕ) (test : ShownStep → Bool) (k : ℕ) → ((m : Running) (c : Choice) → P m → P (machine_after m c))
+    → ((m : Running) (c : Choice) → P m → chosen c < length m.statistics.counts
+    → what (of (machine_after m c).statistics.counts k) + waits (machine_after m c) ≡ what (of m.statistics.counts k) + waits m + one_if (test (trace_step_of m c)))
+    → (m : Running) (choices : List Choice) → P m → CoresExist (length m.statistics.counts) choices
+    → what (of (counts_after m choices) k) + waits (end_of m choices) ≡ what (of m.statistics.counts k) + waits m + steps_that test (steps_from m choices)
+summed P what waits test k keeps adds m [] p cores = omega arith
+summed P what waits test k keeps adds m (c ∷ cs) p cores =
+    go (has_ended m.test m.state.flat) refl
+    (summed P what waits test k keeps adds (machine_after m c) cs (keeps m c p) (subst (λ n. CoresExist n cs) (sym (length-counted (chosen c) (machine_use m c).how m.statistics.counts)) cores.1))
   where
     go : (b : Bool) → has_ended m.test m.state.flat ≡ b
-        → what (of (counts_after (machine_after m c) cs) k) ≡ what (of (machine_after m c).statistics.counts k) + steps_that test (steps_from (machine_after m c) cs)
-        → what (of (counts_after m (c ∷ cs)) k) ≡ what (of m.statistics.counts k) + steps_that test (steps_from m (c ∷ cs))
+        → what (of (counts_after (machine_after m c) cs) k) + waits (end_of (machine_after m c) cs)
+        ≡ what (of (machine_after m c).statistics.counts k) + waits (machine_after m c) + steps_that test (steps_from (machine_after m c) cs)
+        → what (of (counts_after m (c ∷ cs)) k) + waits (end_of m (c ∷ cs)) ≡ what (of m.statistics.counts k) + waits m + steps_that test (steps_from m (c ∷ cs))
     go true over rest =
-        let steps : steps_from m (c ∷ cs) ≡ [] = rw over refl in
-        let counts : counts_after m (c ∷ cs) ≡ m.statistics.counts = ap (λ (x : Statistics). x.counts) (stopped m c cs over) in
-        ap (λ ns. what (of ns k)) counts ∙ (plus-none (what (of m.statistics.counts k)) ∙ sym (ap (λ ss. what (of m.statistics.counts k) + steps_that test ss) steps))
-      where
-        plus-none : (n : ℕ) → n ≡ n + 0
-        plus-none n = omega arith
+        let steps : steps_that test (steps_from m (c ∷ cs)) ≡ 0 = rw over refl in
+        let counts : what (of (counts_after m (c ∷ cs)) k) ≡ what (of m.statistics.counts k) = ap (λ (x : Statistics). what (of x.counts k)) (stopped m c cs over) in
+        let last : waits (end_of m (c ∷ cs)) ≡ waits m = rw over refl in
+        omega arith
     go false live rest =
-        let steps : steps_from m (c ∷ cs) ≡ trace_step_of m c ∷ steps_from (machine_after m c) cs = rw live refl in
-        let counts : counts_after m (c ∷ cs) ≡ counts_after (machine_after m c) cs = ap (λ (x : Statistics). x.counts) (counting m c cs live) in
-        let one = adds m c cores.0 in
-        let whole : what (of (counts_after (machine_after m c) cs) k) ≡ what (of m.statistics.counts k) + (one_if (test (trace_step_of m c)) + steps_that test (steps_from (machine_after m c) cs)) = omega arith in
-        ap (λ ns. what (of ns k)) counts ∙ (whole ∙ sym (ap (λ ss. what (of m.statistics.counts k) + steps_that test ss) steps))
+        let steps : steps_that test (steps_from m (c ∷ cs)) ≡ one_if (test (trace_step_of m c)) + steps_that test (steps_from (machine_after m c) cs) = rw live refl in
+        let counts : what (of (counts_after m (c ∷ cs)) k) ≡ what (of (counts_after (machine_after m c) cs) k) = ap (λ (x : Statistics). what (of x.counts k)) (counting m c cs live) in
+        let last : waits (end_of m (c ∷ cs)) ≡ waits (end_of (machine_after m c) cs) = rw live refl in
+        let one = adds m c p cores.0 in
+        omega arith
 
 pub no-counts : (n k : ℕ) → of (replicate n no_counts) k ≡ no_counts
 no-counts zero k = refl
@@ -156,13 +153,19 @@ none-of Miss = refl
 none-of Upgrade = refl
 
 pub accesses-told : (kind : AccessKind) (m : Running) (choices : List Choice) (k : ℕ) → CoresExist (length m.statistics.counts) choices
-    → count_of_accesses kind (of (counts_after m choices) k) ≡ count_of_accesses kind (of m.statistics.counts k) + steps_that (tells_access kind k) (steps_from m choices)
+    → count_of_accesses kind (of (counts_after m choices) k) + 0 ≡ count_of_accesses kind (of m.statistics.counts k) + 0 + steps_that (tells_access kind k) (steps_from m choices)
 accesses-told kind m choices k there =
-    summed (count_of_accesses kind) (tells_access kind k) k m choices
-    (λ m c h. counted-access kind (chosen c) k (machine_use m c).how m.statistics.counts h ∙ sym (ap (λ b. count_of_accesses kind (of m.statistics.counts k) + one_if b) (step-tells-access kind k m c))) there
+    summed (λ m. Unit {0}) (count_of_accesses kind) (λ m. 0) (tells_access kind k) k (λ m c p. tt)
+    (λ m c p h. (
+    let told : one_if (tells_access kind k (trace_step_of m c)) ≡ one_if ((chosen c == k) && is_access_of_kind kind (access_kind_in (machine_use m c).how)) = ap one_if (step-tells-access kind k m c) in
+    let one = counted-access kind (chosen c) k (machine_use m c).how m.statistics.counts h in
+    omega arith)) m choices tt there
 
 pub forwards-told : (m : Running) (choices : List Choice) (k : ℕ) → CoresExist (length m.statistics.counts) choices
-    → (of (counts_after m choices) k).forwards ≡ (of m.statistics.counts k).forwards + steps_that (tells_forward k) (steps_from m choices)
+    → (of (counts_after m choices) k).forwards + 0 ≡ (of m.statistics.counts k).forwards + 0 + steps_that (tells_forward k) (steps_from m choices)
 forwards-told m choices k there =
-    summed (λ (n : Counts). n.forwards) (tells_forward k) k m choices
-    (λ m c h. counted-forward (chosen c) k (machine_use m c).how m.statistics.counts h ∙ sym (ap (λ b. (of m.statistics.counts k).forwards + one_if b) (step-tells-forward k m c))) there
+    summed (λ m. Unit {0}) (λ (n : Counts). n.forwards) (λ m. 0) (tells_forward k) k (λ m c p. tt)
+    (λ m c p h. (
+    let told : one_if (tells_forward k (trace_step_of m c)) ≡ one_if ((chosen c == k) && is_forwarded (machine_use m c).how) = ap one_if (step-tells-forward k m c) in
+    let one = counted-forward (chosen c) k (machine_use m c).how m.statistics.counts h in
+    omega arith)) m choices tt there

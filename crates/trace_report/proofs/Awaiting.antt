@@ -1,22 +1,14 @@
--- A line that its core awaits isn't in the core's cache, but for an upgrade: so the line that leaves for it is another.
-use Rattle.trace_report.proofs.Vocabulary.{◌≡◌, ◌≢◌, ◌∙◌, ◌⊎◌, ◌<◌, ◌≤◌, ◌%◌, ◌/◌, ℕ, Bool, true, false, not, List, [], length, slice_set, slice_index_or, Option, Some, None, is_some, inl, inr, refl, sym, ap, subst, get_or-set_same, get_or-set_other, eqb_tells, get_or_past, length-set, decide, lt-or, MemoryAccess, NoAccess, Reads, Writes, Locks, Holder, Free, HeldBy, HeldBetween, needs_bus, chosen, Choice, Table, transient_of, I, S, E, O, M, Request, GetS, GetM, Transient, IsD, ImD, SmD, Geometry, table_of_rows, TagSet, tag_of, used, TagSets, tags_at, tag_in, at_line, sets_of, used_by, loaded_in, written_in, write_in, snoop_column, Awaited, tag_at, hit_in, or_invalid, awaiting, asking, asked_caches_in, completed, completed_in, Caches, Used, not_through, load_by, write_by, hits_by, is_awaited, asking_by, completing_by, Unused, IsUseFor, KeepsNoCopyInI, no_set, absent-remove, AllNeat, found-valid, all-requested, all-used, all-filled, own-kept}
+-- A line that its core awaits isn't in the core's cache, but for an upgrade: so the line that leaves for it is another. What a use of
+-- the caches on either bus makes of them.
+use Rattle.trace_report.proofs.Vocabulary.{◌≡◌, ◌≢◌, ◌∙◌, ◌⊎◌, ◌<◌, ◌/◌, ℕ, Bool, true, false, List, Option, Some, None, inl, inr, refl, sym, ap, subst, MemoryAccess, NoAccess, Reads, Writes, Locks, Holder, Free, HeldBy, HeldBetween, chosen, Choice, Table, transient_of, I, S, E, O, M, Request, GetS, GetM, Transient, Geometry, table_of_rows, TagSets, tag_in, sets_of, snoop_column, Awaited, tag_at, or_invalid, awaiting, asking, asked_caches_in, Caches, Used, is_awaited, asking_by, completing_by, Unused, IsUseFor, KeepsNoCopyInI, AllNeat, found-valid, all-requested, own-kept, ◌-◌, Loc, at_access, whole_by, Bus, Outcome}
 use Rattle.std.specs.Option.{option_map}
 use Rattle.protocol_tables.specs.declared.state.State.{State}
-use Rattle.trace_report.proofs.VictimsLeave.{wrote_in, HasGone, filled-gone, modified, IsWithin, NeatAfter, GoneBy, use-neat, use-gone, use-rows}
-use Rattle.trace_report.proofs.UsesOnBus.{StaysHeld, UsesOn, made, unused, begun, ended}
+use Rattle.machine_core.proofs.EachUse.{asks-nothing}
+use Rattle.trace_report.proofs.InPlace.{wrote_in, IsStill, none-still, use-still, use-keeps}
+use Rattle.trace_report.proofs.VictimsLeave.{MayComplete, FillsIn, modified, completed-neat, completed-fills, whole-neat, whole-fills}
+use Rattle.trace_report.proofs.UsesOnBus.{Stays, UsesOn, made, unused, begun, ended}
 
--- ---- what is awaited
-
--- it fills a line in a state other than I, and but for an upgrade the core has no copy of that line
-pub record MayFill (x : Awaited) (core line : ℕ) (caches : List TagSets) : Type 0 where
-  pub valid : x.state ≢ I
-  pub absent : x.transient ≢ SmD → tag_at core line caches ≡ None
-
-abbrev pub MayComplete : Option Awaited → ℕ → ℕ → List TagSets → Type 0
-MayComplete None core line caches = Unit {0}
-MayComplete (Some x) core line caches = MayFill x core line caches
-
--- for the line of this access
+-- what is awaited may come in, for the line of this access
 abbrev pub MayMake : Caches → ℕ → MemoryAccess → Type 0
 MayMake c core NoAccess = Unit {0}
 MayMake c core (Reads loc) = MayComplete c.awaited core (loc.0 / c.shape.words) c.contents
@@ -28,6 +20,25 @@ abbrev pub HolderMayMake : (Choice → MemoryAccess) → Holder → Caches → T
 HolderMayMake access Free c = Unit {0}
 HolderMayMake access (HeldBy choice) c = MayMake c (chosen choice) (access choice)
 HolderMayMake access (HeldBetween e) c = Unit {0}
+
+-- the access is to one of so many lines, of so many words
+abbrev pub IsWithin : ℕ → ℕ → MemoryAccess → Type 0
+IsWithin lines words NoAccess = Unit {0}
+IsWithin lines words (Reads loc) = loc.0 / words < lines
+IsWithin lines words (Writes loc) = loc.0 / words < lines
+IsWithin lines words (Locks loc) = loc.0 / words < lines
+
+abbrev pub NeatAfter : ℕ → Used → Type 0
+NeatAfter lines u = AllNeat lines u.caches.contents
+
+-- the access filled its line in, for which a dirty one gave way
+pub record Fills (c : Caches) (core : ℕ) (what : MemoryAccess) (u : Used) : Type 0 where
+  pub came : ℕ
+  pub accessed : at_access None (λ loc write. Some (loc.0 / c.shape.words)) what ≡ Some came
+  pub line : FillsIn (table_of_rows c.rows) core came c.contents u.caches.contents
+
+abbrev FillsIf : Caches → ℕ → MemoryAccess → Used → Type 0
+FillsIf c core what u = wrote_in u.how ≡ true → Fills c core what u
 
 -- ---- it is asked for
 
@@ -68,34 +79,10 @@ asks-neat lines c core (Reads loc) h = asked-neat lines (table_of_rows c.rows) G
 asks-neat lines c core (Writes loc) h = asked-neat lines (table_of_rows c.rows) GetM core (loc.0 / c.shape.words) _ c.contents h
 asks-neat lines c core (Locks loc) h = asked-neat lines (table_of_rows c.rows) GetM core (loc.0 / c.shape.words) _ c.contents h
 
-pub asks-quiet : (c : Caches) (core : ℕ) (what : MemoryAccess) → wrote_in (asking_by c core what).how ≡ false
-asks-quiet c core NoAccess = refl
-asks-quiet c core (Reads loc) = refl
-asks-quiet c core (Writes loc) = refl
-asks-quiet c core (Locks loc) = refl
+asks-clean : (c : Caches) (core : ℕ) (what : MemoryAccess) → wrote_in (asking_by c core what).how ≡ false
+asks-clean c core what = ap wrote_in (asks-nothing c core what)
 
 -- ---- it is completed
-
-completed-neat : (lines : ℕ) (t : Table) (core line : ℕ) (w : Option Awaited) (caches : List TagSets) → line < lines → MayComplete w core line caches → AllNeat lines caches
-    → AllNeat lines (completed t core line w caches).caches
-completed-neat lines t core line None caches l may h = all-used lines core line M caches l modified h
-completed-neat lines t core line (Some x) caches l may h = by_transient x.transient may.absent
-  where
-    by_transient : (transient : Transient) → (transient ≢ SmD → tag_at core line caches ≡ None) → AllNeat lines (completed_in t core line transient x.state x.flushed caches).caches
-    by_transient IsD absent = all-filled lines core line x.state caches l may.valid (absent (λ q. let z : ⊥ = cc in z)) h
-    by_transient ImD absent = all-filled lines core line x.state caches l may.valid (absent (λ q. let z : ⊥ = cc in z)) h
-    by_transient SmD absent = all-used lines core line x.state caches l may.valid h
-
-completed-gone : (lines : ℕ) (t : Table) (core line : ℕ) (w : Option Awaited) (caches : List TagSets) → core < length caches → MayComplete w core line caches → AllNeat lines caches
-    → (completed t core line w caches).access.wrote_back ≡ true → HasGone lines core caches (completed t core line w caches).caches
-completed-gone lines t core line None caches l may h dirty = absurd (let z : ⊥ = cc in z)
-completed-gone lines t core line (Some x) caches l may h dirty = by_transient x.transient may.absent dirty
-  where
-    by_transient : (transient : Transient) → (transient ≢ SmD → tag_at core line caches ≡ None) → (completed_in t core line transient x.state x.flushed caches).access.wrote_back ≡ true
-        → HasGone lines core caches (completed_in t core line transient x.state x.flushed caches).caches
-    by_transient IsD absent dirty = filled-gone lines core line x.state t caches _ l h (absent (λ q. let z : ⊥ = cc in z)) refl dirty
-    by_transient ImD absent dirty = filled-gone lines core line x.state t caches _ l h (absent (λ q. let z : ⊥ = cc in z)) refl dirty
-    by_transient SmD absent dirty = absurd (let z : ⊥ = cc in z)
 
 completes-neat : (lines : ℕ) (c : Caches) (core : ℕ) (what : MemoryAccess) → IsWithin lines c.shape.words what → MayMake c core what → AllNeat lines c.contents → NeatAfter lines (completing_by c core what)
 completes-neat lines c core NoAccess l may h = h
@@ -103,11 +90,11 @@ completes-neat lines c core (Reads loc) l may h = completed-neat lines (table_of
 completes-neat lines c core (Writes loc) l may h = completed-neat lines (table_of_rows c.rows) core (loc.0 / c.shape.words) c.awaited c.contents l may h
 completes-neat lines c core (Locks loc) l may h = completed-neat lines (table_of_rows c.rows) core (loc.0 / c.shape.words) c.awaited c.contents l may h
 
-completes-gone : (lines : ℕ) (c : Caches) (core : ℕ) (what : MemoryAccess) → core < length c.contents → MayMake c core what → AllNeat lines c.contents → GoneBy lines c core (completing_by c core what)
-completes-gone lines c core NoAccess l may h = λ dirty. absurd (let z : ⊥ = cc in z)
-completes-gone lines c core (Reads loc) l may h = completed-gone lines (table_of_rows c.rows) core (loc.0 / c.shape.words) c.awaited c.contents l may h
-completes-gone lines c core (Writes loc) l may h = completed-gone lines (table_of_rows c.rows) core (loc.0 / c.shape.words) c.awaited c.contents l may h
-completes-gone lines c core (Locks loc) l may h = completed-gone lines (table_of_rows c.rows) core (loc.0 / c.shape.words) c.awaited c.contents l may h
+completes-fills : (c : Caches) (core : ℕ) (what : MemoryAccess) → MayMake c core what → FillsIf c core what (completing_by c core what)
+completes-fills c core NoAccess may dirty = absurd (let z : ⊥ = cc in z)
+completes-fills c core (Reads loc) may dirty = record { came = loc.0 / c.shape.words; accessed = refl; line = completed-fills (table_of_rows c.rows) core (loc.0 / c.shape.words) c.awaited c.contents may dirty }
+completes-fills c core (Writes loc) may dirty = record { came = loc.0 / c.shape.words; accessed = refl; line = completed-fills (table_of_rows c.rows) core (loc.0 / c.shape.words) c.awaited c.contents may dirty }
+completes-fills c core (Locks loc) may dirty = record { came = loc.0 / c.shape.words; accessed = refl; line = completed-fills (table_of_rows c.rows) core (loc.0 / c.shape.words) c.awaited c.contents may dirty }
 
 -- where a line is written back nothing is awaited afterwards
 completes-rest : (c : Caches) (core : ℕ) (what : MemoryAccess) → wrote_in (completing_by c core what).how ≡ true → (completing_by c core what).caches.awaited ≡ None
@@ -116,111 +103,31 @@ completes-rest c core (Reads loc) dirty = refl
 completes-rest c core (Writes loc) dirty = refl
 completes-rest c core (Locks loc) dirty = refl
 
+-- ---- it is made whole
+
+use-neat : (lines : ℕ) (c : Caches) (core : ℕ) (what : MemoryAccess) (u : Used) → IsUseFor c core what u → IsWithin lines c.shape.words what → KeepsNoCopyInI (table_of_rows c.rows) → AllNeat lines c.contents
+    → NeatAfter lines u
+use-neat lines c core NoAccess u (inl is) within keeps h = subst (NeatAfter lines) (sym is) h
+use-neat lines c core NoAccess u (inr is) within keeps h = subst (NeatAfter lines) (sym is) h
+use-neat lines c core (Reads loc) u is within keeps h = subst (NeatAfter lines) (sym is) (whole-neat (table_of_rows c.rows) false core (loc.0 / c.shape.words) c.contents keeps lines within h)
+use-neat lines c core (Writes loc) u is within keeps h = subst (NeatAfter lines) (sym is) (whole-neat (table_of_rows c.rows) true core (loc.0 / c.shape.words) c.contents keeps lines within h)
+use-neat lines c core (Locks loc) u is within keeps h = subst (NeatAfter lines) (sym is) (whole-neat (table_of_rows c.rows) true core (loc.0 / c.shape.words) c.contents keeps lines within h)
+
+whole-fills-by : (c : Caches) (core : ℕ) (loc : Loc) (write : Bool) (what : MemoryAccess) → KeepsNoCopyInI (table_of_rows c.rows) → at_access None (λ at write. Some (at.0 / c.shape.words)) what ≡ Some (loc.0 / c.shape.words)
+    → FillsIf c core what (whole_by c core loc.0 write)
+whole-fills-by c core loc write what keeps at dirty = record { came = loc.0 / c.shape.words; accessed = at; line = whole-fills (table_of_rows c.rows) write core (loc.0 / c.shape.words) c.contents keeps dirty }
+
+use-fills : (c : Caches) (core : ℕ) (what : MemoryAccess) (u : Used) → IsUseFor c core what u → KeepsNoCopyInI (table_of_rows c.rows) → FillsIf c core what u
+use-fills c core NoAccess u (inl is) keeps = subst (FillsIf c core NoAccess) (sym is) (λ dirty. absurd (let z : ⊥ = cc in z))
+use-fills c core NoAccess u (inr is) keeps = subst (FillsIf c core NoAccess) (sym is) (λ dirty. absurd (let z : ⊥ = cc in z))
+use-fills c core (Reads loc) u is keeps = subst (FillsIf c core (Reads loc)) (sym is) (whole-fills-by c core loc false (Reads loc) keeps refl)
+use-fills c core (Writes loc) u is keeps = subst (FillsIf c core (Writes loc)) (sym is) (whole-fills-by c core loc true (Writes loc) keeps refl)
+use-fills c core (Locks loc) u is keeps = subst (FillsIf c core (Locks loc)) (sym is) (whole-fills-by c core loc true (Locks loc) keeps refl)
+
 -- ---- meanwhile others hit
 
--- where a line is used that is there, a line that isn't there stays away
-tags-absent : (other line : ℕ) (state found : State) (s : TagSet) → tag_of s line ≡ Some found → tag_of s other ≡ None → tag_of (used line state s) other ≡ None
-tags-absent other line state found s there none = elim (eqb_tells other line) [
-  | inl p ↦ let z : Some found ≡ None = sym there ∙ subst (λ k. tag_of s k ≡ None) p.1 none in absurd (let y : ⊥ = cc in y)
-  | inr p ↦ rw p.0 (absent-remove line other s.tags none)
-]
-
-sets-absent : (other line : ℕ) (state found : State) (sets : TagSets) → tag_in sets line ≡ Some found → tag_in sets other ≡ None → tag_in (at_line line (used line state) sets) other ≡ None
-sets-absent other line state found sets there none =
-    subst (λ n. tag_of (slice_index_or (slice_set sets place new) (other % n) no_set) other ≡ None) (sym (length-set sets place new)) (elim (decide (other % length sets) place) [
-      | inl q ↦ subst (λ k. tag_of (slice_index_or (slice_set sets place new) k no_set) other ≡ None) (sym q) (elim (lt-or (length sets) place) [
-        | inl l ↦ subst (λ s. tag_of s other ≡ None) (sym (get_or-set_same sets place new no_set l))
-            (tags-absent other line state found (tags_at sets line) there (subst (λ k. tag_of (slice_index_or sets k no_set) other ≡ None) q none))
-        | inr past ↦ subst (λ s. tag_of s other ≡ None) (sym (get_or_past (slice_set sets place new) place no_set (subst (λ n. n ≤ place) (sym (length-set sets place new)) past))) refl
-      ])
-      | inr n ↦ subst (λ s. tag_of s other ≡ None) (sym (get_or-set_other sets place (other % length sets) new no_set n)) none
-    ])
-  where
-    place : ℕ
-    place = line % length sets
-
-    new : TagSet
-    new = used line state (tags_at sets line)
-
-used-absent : (k other core line : ℕ) (state found : State) (caches : List TagSets) → tag_at core line caches ≡ Some found → tag_at k other caches ≡ None → tag_at k other (used_by core line state caches) ≡ None
-used-absent k other core line state found caches there none = elim (decide k core) [
-  | inl q ↦ subst (λ j. tag_at j other (used_by core line state caches) ≡ None) (sym q) (elim (lt-or (length caches) core) [
-    | inl l ↦ subst (λ sets. tag_in sets other ≡ None) (sym (get_or-set_same caches core new [] l))
-        (sets-absent other line state found (sets_of caches core) there (subst (λ j. tag_at j other caches ≡ None) q none))
-    | inr past ↦ subst (λ sets. tag_in sets other ≡ None) (sym (get_or_past (used_by core line state caches) core [] (subst (λ n. n ≤ core) (sym (length-set caches core new)) past))) refl
-  ])
-  | inr n ↦ subst (λ sets. tag_in sets other ≡ None) (sym (get_or-set_other caches core k new [] n)) none
-]
-  where
-    new : TagSets
-    new = at_line line (used line state) (sets_of caches core)
-
--- what is awaited, and the shape of the caches, are as before; what wasn't there isn't there; and nothing is written back
-pub record IsStill (c : Caches) (u : Used) : Type 0 where
-  shape : u.caches.shape ≡ c.shape
-  awaited : u.caches.awaited ≡ c.awaited
-  absent : (k line : ℕ) → tag_at k line c.contents ≡ None → tag_at k line u.caches.contents ≡ None
-  pub clean : wrote_in u.how ≡ false
-
-none-still : (c : Caches) → IsStill c (not_through Unused c)
-none-still c = record { shape = refl; awaited = refl; absent = λ k line none. none; clean = refl }
-
-not-hit : (b : Bool) → not b ≡ false → b ≡ true
-not-hit true h = refl
-not-hit false h = absurd (let z : ⊥ = cc in z)
-
-load-still : (c : Caches) (core loc : ℕ) → hit_in (table_of_rows c.rows) false (tag_at core (loc / c.shape.words) c.contents) ≡ true → IsStill c (load_by c core loc)
-load-still c core loc hit = by_tag (tag_at core line c.contents) refl hit
-  where
-    t : Table
-    t = table_of_rows c.rows
-
-    line : ℕ
-    line = loc / c.shape.words
-
-    by_tag : (o : Option State) → tag_at core line c.contents ≡ o → hit_in t false o ≡ true → IsStill c (load_by c core loc)
-    by_tag None q hit = absurd (let z : ⊥ = cc in z)
-    by_tag (Some state) q hit = record {
-      shape = refl;
-      awaited = refl;
-      absent = λ k other none. subst (λ o. tag_at k other (loaded_in t core line c.contents o).caches ≡ None) (sym q) (used-absent k other core line state state c.contents q none);
-      clean = subst (λ o. (loaded_in t core line c.contents o).access.wrote_back ≡ false) (sym q) refl;
-    }
-
-write-still : (c : Caches) (core loc : ℕ) → hit_in (table_of_rows c.rows) true (tag_at core (loc / c.shape.words) c.contents) ≡ true → IsStill c (write_by c core loc)
-write-still c core loc hit = by_tag (tag_at core line c.contents) refl hit
-  where
-    t : Table
-    t = table_of_rows c.rows
-
-    line : ℕ
-    line = loc / c.shape.words
-
-    in_place : (state : State) (o : Option State) → tag_at core line c.contents ≡ Some state → t.written state ≡ o → is_some o ≡ true → IsStill c (write_by c core loc)
-    in_place state None q w hit = absurd (let z : ⊥ = cc in z)
-    in_place state (Some next) q w hit = record {
-      shape = refl;
-      awaited = refl;
-      absent = λ k other none. subst (λ o. tag_at k other (write_in t core line c.contents o).caches ≡ None) (sym q)
-          (subst (λ o. tag_at k other (written_in t core line c.contents o).caches ≡ None) (sym w) (used-absent k other core line next state c.contents q none));
-      clean = subst (λ o. (write_in t core line c.contents o).access.wrote_back ≡ false) (sym q)
-          (subst (λ o. (written_in t core line c.contents o).access.wrote_back ≡ false) (sym w) refl);
-    }
-
-    by_tag : (o : Option State) → tag_at core line c.contents ≡ o → hit_in t true o ≡ true → IsStill c (write_by c core loc)
-    by_tag None q hit = absurd (let z : ⊥ = cc in z)
-    by_tag (Some state) q hit = in_place state (t.written state) q refl hit
-
--- an access that needs no bus
-pub use-still : (c : Caches) (core : ℕ) (what : MemoryAccess) (u : Used) → IsUseFor c core what u → needs_bus what (hits_by c core what) ≡ false → IsStill c u
-use-still c core NoAccess u (inl is) free = subst (IsStill c) (sym is) (none-still c)
-use-still c core NoAccess u (inr is) free = subst (IsStill c) (sym is) (record { shape = refl; awaited = refl; absent = λ k line none. none; clean = refl })
-use-still c core (Reads loc) u is free = subst (IsStill c) (sym is) (load-still c core loc.0 (not-hit (hits_by c core (Reads loc)) free))
-use-still c core (Writes loc) u is free = subst (IsStill c) (sym is) (write-still c core loc.0 (not-hit (hits_by c core (Writes loc)) free))
-use-still c core (Locks loc) u is free = absurd (let z : ⊥ = cc in z)
-
-still-complete : (c : Caches) (u : Used) (k loc : ℕ) → IsStill c u → MayComplete c.awaited k (loc / c.shape.words) c.contents → MayComplete u.caches.awaited k (loc / u.caches.shape.words) u.caches.contents
-still-complete c u k loc s may =
+still-complete : (c : Caches) (core : ℕ) (u : Used) (k loc : ℕ) → IsStill c core u → MayComplete c.awaited k (loc / c.shape.words) c.contents → MayComplete u.caches.awaited k (loc / u.caches.shape.words) u.caches.contents
+still-complete c core u k loc s may =
     subst (λ (g : Geometry). MayComplete u.caches.awaited k (loc / g.words) u.caches.contents) (sym s.shape)
     (subst (λ w. MayComplete w k (loc / c.shape.words) u.caches.contents) (sym s.awaited) (kept c.awaited may))
   where
@@ -228,11 +135,11 @@ still-complete c u k loc s may =
     kept None may = tt
     kept (Some x) may = record { valid = may.valid; absent = λ n. s.absent k (loc / c.shape.words) (may.absent n) }
 
-still-may : (c : Caches) (u : Used) (k : ℕ) (what : MemoryAccess) → IsStill c u → MayMake c k what → MayMake u.caches k what
-still-may c u k NoAccess s may = tt
-still-may c u k (Reads loc) s may = still-complete c u k loc.0 s may
-still-may c u k (Writes loc) s may = still-complete c u k loc.0 s may
-still-may c u k (Locks loc) s may = still-complete c u k loc.0 s may
+still-may : (c : Caches) (core : ℕ) (u : Used) (k : ℕ) (what : MemoryAccess) → IsStill c core u → MayMake c k what → MayMake u.caches k what
+still-may c core u k NoAccess s may = tt
+still-may c core u k (Reads loc) s may = still-complete c core u k loc.0 s may
+still-may c core u k (Writes loc) s may = still-complete c core u k loc.0 s may
+still-may c core u k (Locks loc) s may = still-complete c core u k loc.0 s may
 
 -- ---- a choice on either bus
 
@@ -242,59 +149,62 @@ half-rows c core (Reads loc) = (refl, refl)
 half-rows c core (Writes loc) = (refl, refl)
 half-rows c core (Locks loc) = (refl, refl)
 
-module _ (c : Caches) (a : Choice) (before after : Choice → MemoryAccess) (holder next : Holder) (u : Used) where
-  pub rows-after : UsesOn c a before after holder next u → u.caches.rows ≡ c.rows
-  rows-after (made it why stays) = use-rows c (chosen a) (before a) u it
-  rows-after (unused is stays) = ap (λ (x : Used). x.caches.rows) is
-  rows-after (begun is held same) = ap (λ (x : Used). x.caches.rows) is ∙ (half-rows c (chosen a) (before a)).0
-  rows-after (ended is held rest) = ap (λ (x : Used). x.caches.rows) is ∙ (half-rows c (chosen a) (before a)).1
+-- a choice that writes a line back: it filled its own in, nobody but it held the bus before it, and nothing is awaited after it
+pub record WritesBack (c : Caches) (a : Choice) (what : MemoryAccess) (holder next : Holder) (u : Used) : Type 0 where
+  pub fills : Fills c (chosen a) what u
+  pub alone : (holder ≡ Free) ⊎ (holder ≡ HeldBy a)
+  pub rest : (next ≡ Free) ⊎ (u.caches.awaited ≡ None)
 
-  pub neat-after : (lines : ℕ) → UsesOn c a before after holder next u → IsWithin lines c.shape.words (before a) → KeepsNoCopyInI (table_of_rows c.rows) → HolderMayMake before holder c → AllNeat lines c.contents
-      → NeatAfter lines u
-  neat-after lines (made it why stays) within keeps may h = use-neat lines c (chosen a) (before a) u it within keeps h
-  neat-after lines (unused is stays) within keeps may h = subst (NeatAfter lines) (sym is) h
-  neat-after lines (begun is held same) within keeps may h = subst (NeatAfter lines) (sym is) (asks-neat lines c (chosen a) (before a) h)
-  neat-after lines (ended is held rest) within keeps may h =
-      subst (NeatAfter lines) (sym is) (completes-neat lines c (chosen a) (before a) within (subst (λ x. HolderMayMake before x c) held may) h)
+module _ (on : Bus) (c : Caches) (a : Choice) (before after : Choice → MemoryAccess) (holder next : Holder) (o : Outcome) (u : Used) where
+  pub rows-after : UsesOn on c a before after holder next o u → u.caches.rows ≡ c.rows
+  rows-after (made it why stays nothing) = (use-keeps c (chosen a) (before a) u it).0
+  rows-after (unused is stays nothing) = ap (λ (x : Used). x.caches.rows) is
+  rows-after (begun split is snoop_column free held same) = ap (λ (x : Used). x.caches.rows) is ∙ (half-rows c (chosen a) (before a)).0
+  rows-after (ended split is some held rest) = ap (λ (x : Used). x.caches.rows) is ∙ (half-rows c (chosen a) (before a)).1
 
-  -- what holds the bus after it
-  pub may-after : (lines : ℕ) → UsesOn c a before after holder next u → KeepsNoCopyInI (table_of_rows c.rows) → HolderMayMake before holder c → AllNeat lines c.contents → HolderMayMake after next u.caches
-  may-after lines uses keeps may h = by_next next refl
-    where
-      kept : (other : Choice) → StaysHeld before after holder next → next ≡ HeldBy other → IsStill c u → MayMake u.caches (chosen other) (after other)
-      kept other stays q still =
-          let held = stays other q in
-          subst (MayMake u.caches (chosen other)) (sym held.1) (still-may c u (chosen other) (before other) still (subst (λ x. HolderMayMake before x c) held.0 may))
+  module _ (keeps : KeepsNoCopyInI (table_of_rows c.rows)) (may : HolderMayMake before holder c) where
+    -- what the holder awaits
+    own-may : holder ≡ HeldBy a → MayMake c (chosen a) (before a)
+    own-may held = subst (λ x. HolderMayMake before x c) held may
 
-      by_use : (other : Choice) → next ≡ HeldBy other → UsesOn c a before after holder next u → MayMake u.caches (chosen other) (after other)
-      by_use other q (made it (inl free) stays) = let f = free.1 in absurd (let z : ⊥ = cc in z)
-      by_use other q (made it (inr free) stays) = kept other stays q (use-still c (chosen a) (before a) u it free)
-      by_use other q (unused is stays) = kept other stays q (subst (IsStill c) (sym is) (none-still c))
-      by_use other q (begun is held same) =
-          let this : a ≡ other = cc in
-          subst (λ k. MayMake u.caches (chosen k) (after k)) this
-          (subst (MayMake u.caches (chosen a)) (sym same) (subst (λ (x : Used). MayMake x.caches (chosen a) (before a)) (sym is) (asks-may lines c (chosen a) (before a) keeps h)))
-      by_use other q (ended is held rest) = let z : true ≡ false = subst (λ x. is_awaited x ≡ false) q rest in absurd (let y : ⊥ = cc in y)
+    pub neat-after : (lines : ℕ) → UsesOn on c a before after holder next o u → IsWithin lines c.shape.words (before a) → AllNeat lines c.contents → NeatAfter lines u
+    neat-after lines (made it why stays nothing) within h = use-neat lines c (chosen a) (before a) u it within keeps h
+    neat-after lines (unused is stays nothing) within h = subst (NeatAfter lines) (sym is) h
+    neat-after lines (begun split is snoop_column free held same) within h = subst (NeatAfter lines) (sym is) (asks-neat lines c (chosen a) (before a) h)
+    neat-after lines (ended split is some held rest) within h = subst (NeatAfter lines) (sym is) (completes-neat lines c (chosen a) (before a) within (own-may held) h)
 
-      by_next : (n : Holder) → next ≡ n → HolderMayMake after n u.caches
-      by_next Free q = tt
-      by_next (HeldBy other) q = by_use other q uses
-      by_next (HeldBetween e) q = tt
+    -- what holds the bus after it
+    pub may-after : (lines : ℕ) → UsesOn on c a before after holder next o u → AllNeat lines c.contents → HolderMayMake after next u.caches
+    may-after lines uses h = by_next next refl
+      where
+        kept : (other : Choice) → Stays before after holder next → next ≡ HeldBy other → IsStill c (chosen a) u → MayMake u.caches (chosen other) (after other)
+        kept other stays q still =
+            let held = stays.held other q in
+            subst (MayMake u.caches (chosen other)) (sym held.1) (still-may c (chosen a) u (chosen other) (before other) still (subst (λ x. HolderMayMake before x c) held.0 may))
 
-  pub gone-after : (lines : ℕ) → UsesOn c a before after holder next u → chosen a < length c.contents → HolderMayMake before holder c → AllNeat lines c.contents → GoneBy lines c (chosen a) u
-  gone-after lines (made it why stays) l may h = use-gone lines c (chosen a) (before a) u it l h
-  gone-after lines (unused is stays) l may h = subst (GoneBy lines c (chosen a)) (sym is) (λ dirty. absurd (let z : ⊥ = cc in z))
-  gone-after lines (begun is held same) l may h =
-      subst (GoneBy lines c (chosen a)) (sym is) (λ dirty. absurd (let quiet = asks-quiet c (chosen a) (before a) in let z : ⊥ = cc in z))
-  gone-after lines (ended is held rest) l may h =
-      subst (GoneBy lines c (chosen a)) (sym is) (completes-gone lines c (chosen a) (before a) l (subst (λ x. HolderMayMake before x c) held may) h)
+        by_use : (other : Choice) → next ≡ HeldBy other → UsesOn on c a before after holder next o u → MayMake u.caches (chosen other) (after other)
+        by_use other q (made it (inl free) stays nothing) = let f = free.2 in absurd (let z : ⊥ = cc in z)
+        by_use other q (made it (inr free) stays nothing) = kept other stays q (use-still c (chosen a) (before a) u it free)
+        by_use other q (unused is stays nothing) = kept other stays q (subst (IsStill c (chosen a)) (sym is) (none-still c (chosen a) Unused refl refl))
+        by_use other q (begun split is snoop_column free held same) =
+            let this : a ≡ other = cc in
+            subst (λ k. MayMake u.caches (chosen k) (after k)) this
+            (subst (MayMake u.caches (chosen a)) (sym same) (subst (λ (x : Used). MayMake x.caches (chosen a) (before a)) (sym is) (asks-may lines c (chosen a) (before a) keeps h)))
+        by_use other q (ended split is some held rest) = let z : true ≡ false = subst (λ x. is_awaited x ≡ false) q rest in absurd (let y : ⊥ = cc in y)
 
-  -- where a line is written back, nothing is awaited after it
-  pub rest-after : UsesOn c a before after holder next u → wrote_in u.how ≡ true → (next ≡ Free) ⊎ (u.caches.awaited ≡ None)
-  rest-after (made it (inl free) stays) dirty = inl free.1
-  rest-after (made it (inr free) stays) dirty = let clean = (use-still c (chosen a) (before a) u it free).clean in absurd (let z : ⊥ = cc in z)
-  rest-after (unused is stays) dirty = let z : false ≡ true = subst (λ (x : Used). wrote_in x.how ≡ true) is dirty in absurd (let y : ⊥ = cc in y)
-  rest-after (begun is held same) dirty =
-      let z : false ≡ true = sym (asks-quiet c (chosen a) (before a)) ∙ subst (λ (x : Used). wrote_in x.how ≡ true) is dirty in absurd (let y : ⊥ = cc in y)
-  rest-after (ended is held rest) dirty =
-      inr (ap (λ (x : Used). x.caches.awaited) is ∙ completes-rest c (chosen a) (before a) (subst (λ (x : Used). wrote_in x.how ≡ true) is dirty))
+        by_next : (n : Holder) → next ≡ n → HolderMayMake after n u.caches
+        by_next Free q = tt
+        by_next (HeldBy other) q = by_use other q uses
+        by_next (HeldBetween e) q = tt
+
+    pub writes-back-by : UsesOn on c a before after holder next o u → wrote_in u.how ≡ true → WritesBack c a (before a) holder next u
+    writes-back-by (made it (inl free) stays nothing) dirty = record { fills = use-fills c (chosen a) (before a) u it keeps dirty; alone = inl free.1; rest = inl free.2 }
+    writes-back-by (made it (inr free) stays nothing) dirty = let clean = (use-still c (chosen a) (before a) u it free).clean in absurd (let z : ⊥ = cc in z)
+    writes-back-by (unused is stays nothing) dirty = let z : false ≡ true = subst (λ (x : Used). wrote_in x.how ≡ true) is dirty in absurd (let y : ⊥ = cc in y)
+    writes-back-by (begun split is snoop_column free held same) dirty =
+        let z : false ≡ true = sym (asks-clean c (chosen a) (before a)) ∙ subst (λ (x : Used). wrote_in x.how ≡ true) is dirty in absurd (let y : ⊥ = cc in y)
+    writes-back-by (ended split is some held rest) dirty = record {
+      fills = subst (FillsIf c (chosen a) (before a)) (sym is) (completes-fills c (chosen a) (before a) (own-may held)) dirty;
+      alone = inr held;
+      rest = inr (ap (λ (x : Used). x.caches.awaited) is ∙ completes-rest c (chosen a) (before a) (subst (λ (x : Used). wrote_in x.how ≡ true) is dirty));
+    }

@@ -1,6 +1,5 @@
 pub mod Vocabulary
 pub mod LineNames
-pub mod Shapes
 pub mod Effects
 pub mod Places
 pub mod Named
@@ -12,9 +11,10 @@ pub mod Traced
 pub mod RunsTold
 pub mod LaidIn
 pub mod AccessesTold
+pub mod UsesOnBus
+pub mod InPlace
 pub mod Flushes
 pub mod VictimsLeave
-pub mod UsesOnBus
 pub mod Awaiting
 pub mod LinesLeft
 pub mod FlushesTold

@@ -1,16 +1,17 @@
 -- The line that a step tells as written back is the one that gave way in its set.
-use Rattle.trace_report.proofs.Vocabulary.{arith, ◌≡◌, ◌≢◌, ◌∙◌, ◌⊎◌, ◌+◌, ◌-◌, ◌<◌, ◌≤◌, ◌/◌, ◌%◌, ◌==◌, ◌&&◌, ℕ, zero, suc, Bool, true, false, if◌then◌else◌, List, [], ◌∷◌, ◌++◌, length, take, slice_get, slice_set, slice_index_or, Option, Some, None, nat_eq, inl, inr, refl, sym, ap, subst, get_or-set_same, get_or-set_other, eqb_tells, nat_tests, get_or_past, length-set, decide, lt-or, Litmus, IsTest, chosen, MemoryAccess, NoAccess, Reads, Writes, Locks, access_of, Holder, Free, HeldBy, Loc, Choice, Table, Transient, IsD, ImD, SmD, table_of_rows, TagSet, tag_of, leaving, filled, TagSets, tags_at, tag_in, at_line, sets_of, is_held, dirty_in, writes_back, filled_by, loaded_in, written_in, write_in, Awaited, tag_at, completed, completed_in, Configuration, Caches, Used, through, load_by, write_by, completion_by, completing_by, at_access, bus_holder, bus_holder_as, bus_holder_of, Running, new_machine, machine_use, machine_after, CacheUse, Unused, Forwarded, Through, IsUseFor, no_set, found-valid, own-kept, state_with, awaited_at, line_state, line_states, placed, number_of_lines, states_of, number_of_state, change_of, changes_in, is_absent, line_that_left, wrote_back_by, WriteBacksAreTold, KeepsWays, after_choices, KeepsNoCopyInI, StateChange, PlacedState}
+use Rattle.trace_report.proofs.Vocabulary.{arith, ◌≡◌, ◌≢◌, ◌∙◌, ◌⊎◌, ◌+◌, ◌-◌, ◌<◌, ◌≤◌, ◌/◌, ◌%◌, ◌==◌, ◌&&◌, ℕ, zero, suc, Bool, true, false, if◌then◌else◌, List, [], ◌∷◌, ◌++◌, length, take, slice_get, slice_index_or, Option, Some, None, nat_eq, inl, inr, refl, sym, ap, subst, get_or-set_same, eqb_tells, nat_tests, get_or_past, Litmus, IsTest, chosen, MemoryAccess, NoAccess, Reads, Writes, Locks, access_of, Holder, Free, HeldBy, Choice, Table, Transient, IsD, ImD, SmD, table_of_rows, TagSet, tag_of, leaving, filled, TagSets, tags_at, tag_in, at_line, sets_of, dirty_in, tag_at, Configuration, Caches, at_access, bus_holder, bus_holder_as, bus_holder_of, Running, new_machine, machine_use, machine_after, CacheUse, Unused, Forwarded, Through, no_set, found-valid, state_with, awaited_at, line_state, line_states, number_of_lines, states_of, number_of_state, changes_in, is_absent, line_that_left, wrote_back_by, WriteBacksAreTold, KeepsWays, after_choices, KeepsNoCopyInI, StateChange, PlacedState}
 use Rattle.std.specs.Map.{lookup}
 use Rattle.std.proofs.lemmas.Bool.{eq-eqb}
 use Rattle.protocol_tables.specs.declared.state.State as protocol
 use Rattle.protocol_tables.specs.declared.state.State.TheVariants as tag
 use Rattle.trace_report.specs.Steps as steps
-use Rattle.trace_report.proofs.Awaiting.{MayComplete, MayMake, HolderMayMake, asks-quiet, use-still}
+use Rattle.bus_laws.proofs.Changed.{set-at}
+use Rattle.trace_report.proofs.Awaiting.{WritesBack}
+use Rattle.trace_report.proofs.InPlace.{wrote_in}
 use Rattle.trace_report.proofs.LaidIn.{grid, grid-is}
 use Rattle.trace_report.proofs.LinesLeft.{LeavesLine}
-use Rattle.trace_report.proofs.UsesOnBus.{UsesOn, made, unused, begun, ended}
-use Rattle.trace_report.proofs.VictimsLeave.{wrote_in}
-use Rattle.trace_report.proofs.VictimsTold.{IsKept, uses-of, kept-first, kept-after, lines-kept}
+use Rattle.trace_report.proofs.VictimsLeave.{FillsIn}
+use Rattle.trace_report.proofs.VictimsTold.{IsKept, writes-back-of, kept-first, kept-after, lines-kept}
 
 -- there is one
 abbrev Has : {A : Type 0} → Option A → Type 0
@@ -61,98 +62,6 @@ left-sound m n core line test lines h =
     let second : states_of n ≡ grid n (number_of_lines m) 0 cores =
     grid-is n 0 (length n.test.programs) ∙ (ap (λ (t : Litmus). grid n (number_of_lines n) 0 (length t.programs)) test ∙ ap (λ k. grid n k 0 cores) lines) in
     grid-sound m n core (number_of_lines m) 0 cores line (subst (λ b. line_that_left core (changes_in b (grid n (number_of_lines m) 0 cores)) ≡ Some line) (grid-is m 0 cores) (subst (λ a. line_that_left core (changes_in (states_of m) a) ≡ Some line) second h))
-
--- ---- an access that writes back fills a line in
-
-record Fills (c : Caches) (core : ℕ) (what : MemoryAccess) (u : Used) : Type 0 where
-  came : ℕ
-  state : protocol.State
-  accessed : at_access None (λ loc write. Some (loc.0 / c.shape.words)) what ≡ Some came
-  absent : tag_at core came c.contents ≡ None
-  own : sets_of u.caches.contents core ≡ sets_of (filled_by core came state c.contents) core
-  writes : writes_back (table_of_rows c.rows) core came c.contents ≡ true
-
-abbrev FillsIf : Caches → ℕ → MemoryAccess → Used → Type 0
-FillsIf c core what u = wrote_in u.how ≡ true → Fills c core what u
-
-load-fills : (c : Caches) (core : ℕ) (loc : Loc) → FillsIf c core (Reads loc) (load_by c core loc.0)
-load-fills c core loc = by_tag (tag_in (sets_of c.contents core) line) refl
-  where
-    line : ℕ
-    line = loc.0 / c.shape.words
-
-    t : Table
-    t = table_of_rows c.rows
-
-    by_tag : (o : Option protocol.State) → tag_in (sets_of c.contents core) line ≡ o → FillsIf c core (Reads loc) (through c c.awaited (loaded_in t core line c.contents o))
-    by_tag (Some s) q dirty = absurd (let z : ⊥ = cc in z)
-    by_tag None q dirty = record { came = line; state = t.filled (is_held line c.contents); accessed = refl; absent = q; own = own-kept core _ _; writes = dirty }
-
-write-fills : (c : Caches) (core : ℕ) (loc : Loc) (what : MemoryAccess) → at_access None (λ at write. Some (at.0 / c.shape.words)) what ≡ Some (loc.0 / c.shape.words) → FillsIf c core what (write_by c core loc.0)
-write-fills c core loc what at = by_tag (tag_in (sets_of c.contents core) line) refl
-  where
-    line : ℕ
-    line = loc.0 / c.shape.words
-
-    t : Table
-    t = table_of_rows c.rows
-
-    in_place : (o : Option protocol.State) → FillsIf c core what (through c c.awaited (written_in t core line c.contents o))
-    in_place None dirty = absurd (let z : ⊥ = cc in z)
-    in_place (Some next) dirty = absurd (let z : ⊥ = cc in z)
-
-    by_tag : (o : Option protocol.State) → tag_in (sets_of c.contents core) line ≡ o → FillsIf c core what (through c c.awaited (write_in t core line c.contents o))
-    by_tag (Some s) q dirty = in_place (t.written s) dirty
-    by_tag None q dirty = record { came = line; state = tag.M; accessed = at; absent = q; own = own-kept core _ _; writes = dirty }
-
-use-fills : (c : Caches) (core : ℕ) (what : MemoryAccess) (u : Used) → IsUseFor c core what u → FillsIf c core what u
-use-fills c core NoAccess u (inl is) = subst (FillsIf c core NoAccess) (sym is) (λ dirty. absurd (let z : ⊥ = cc in z))
-use-fills c core NoAccess u (inr is) = subst (FillsIf c core NoAccess) (sym is) (λ dirty. absurd (let z : ⊥ = cc in z))
-use-fills c core (Reads loc) u is = subst (FillsIf c core (Reads loc)) (sym is) (load-fills c core loc)
-use-fills c core (Writes loc) u is = subst (FillsIf c core (Writes loc)) (sym is) (write-fills c core loc (Writes loc) refl)
-use-fills c core (Locks loc) u is = subst (FillsIf c core (Locks loc)) (sym is) (write-fills c core loc (Locks loc) refl)
-
-completion-fills : (c : Caches) (core : ℕ) (loc : Loc) (what : MemoryAccess) → at_access None (λ at write. Some (at.0 / c.shape.words)) what ≡ Some (loc.0 / c.shape.words)
-    → MayComplete c.awaited core (loc.0 / c.shape.words) c.contents → FillsIf c core what (completion_by c core loc.0)
-completion-fills c core loc what at = by_awaited c.awaited
-  where
-    line : ℕ
-    line = loc.0 / c.shape.words
-
-    t : Table
-    t = table_of_rows c.rows
-
-    by_transient : (x : Awaited) (y : Transient) → (y ≢ SmD → tag_at core line c.contents ≡ None) → FillsIf c core what (through c None (completed_in t core line y x.state x.flushed c.contents))
-    by_transient x IsD absent dirty = record { came = line; state = x.state; accessed = at; absent = absent (λ z. (let y : ⊥ = cc in y)); own = refl; writes = dirty }
-    by_transient x ImD absent dirty = record { came = line; state = x.state; accessed = at; absent = absent (λ z. (let y : ⊥ = cc in y)); own = refl; writes = dirty }
-    by_transient x SmD absent dirty = absurd (let z : ⊥ = cc in z)
-
-    by_awaited : (w : Option Awaited) → MayComplete w core line c.contents → FillsIf c core what (through c None (completed t core line w c.contents))
-    by_awaited None may = λ dirty. absurd (let z : ⊥ = cc in z)
-    by_awaited (Some x) may = by_transient x x.transient may.absent
-
-completes-fills : (c : Caches) (core : ℕ) (what : MemoryAccess) → MayMake c core what → FillsIf c core what (completing_by c core what)
-completes-fills c core NoAccess may = λ dirty. absurd (let z : ⊥ = cc in z)
-completes-fills c core (Reads loc) may = completion-fills c core loc (Reads loc) refl may
-completes-fills c core (Writes loc) may = completion-fills c core loc (Writes loc) refl may
-completes-fills c core (Locks loc) may = completion-fills c core loc (Locks loc) refl may
-
--- and nobody but this choice holds the bus before it
-record FillsAlone (c : Caches) (a : Choice) (what : MemoryAccess) (holder : Holder) (u : Used) : Type 0 where
-  fills : Fills c (chosen a) what u
-  alone : (holder ≡ Free) ⊎ (holder ≡ HeldBy a)
-
-fills-alone : (c : Caches) (a : Choice) (before after : Choice → MemoryAccess) (holder next : Holder) (u : Used) → UsesOn c a before after holder next u → HolderMayMake before holder c → wrote_in u.how ≡ true
-    → FillsAlone c a (before a) holder u
-fills-alone c a before after holder next u (made it (inl free) stays) may dirty = record { fills = use-fills c (chosen a) (before a) u it dirty; alone = inl free.0 }
-fills-alone c a before after holder next u (made it (inr free) stays) may dirty = let clean = (use-still c (chosen a) (before a) u it free).clean in absurd (let z : ⊥ = cc in z)
-fills-alone c a before after holder next u (unused is stays) may dirty = let z : false ≡ true = subst (λ (x : Used). wrote_in x.how ≡ true) is dirty in absurd (let y : ⊥ = cc in y)
-fills-alone c a before after holder next u (begun is held same) may dirty =
-    let z : false ≡ true = sym (asks-quiet c (chosen a) (before a)) ∙ subst (λ (x : Used). wrote_in x.how ≡ true) is dirty in absurd (let y : ⊥ = cc in y)
-fills-alone c a before after holder next u (ended is held rest) may dirty = record {
-  fills = subst (FillsIf c (chosen a) (before a)) (sym is) (completes-fills c (chosen a) (before a) (subst (λ x. HolderMayMake before x c) held may)) dirty;
-  alone = inr held;
-}
 
 -- ---- what is awaited, of another line than the one that comes in
 
@@ -219,27 +128,11 @@ set-last line came s state set size apart there gone = by_ways set.ways size gon
 -- among the sets of a cache
 sets-last : (line came : ℕ) (s state : protocol.State) (sets : TagSets) → length (tags_at sets came).tags ≤ (tags_at sets came).ways → nat_eq line came ≡ false → tag_in sets line ≡ Some s
     → tag_in (at_line came (filled came state) sets) line ≡ None → leaving (tags_at sets came) ≡ Some (line, s)
-sets-last line came s state sets size apart there gone = elim (decide (line % length sets) place) [
-  | inl q ↦
-      let here : tag_of (tags_at sets came) line ≡ Some s = subst (λ k. tag_of (slice_index_or sets k no_set) line ≡ Some s) q there in
-      elim (lt-or (length sets) place) [
-        | inl l ↦ set-last line came s state (tags_at sets came) size apart here
-            (subst (λ set. tag_of set line ≡ None) (get_or-set_same sets place new no_set l) (subst (λ k. tag_of (slice_index_or (slice_set sets place new) k no_set) line ≡ None) q moved))
-        | inr past ↦ let none : None ≡ Some s = subst (λ set. tag_of set line ≡ Some s) (get_or_past sets place no_set past) here in absurd (let z : ⊥ = cc in z)
-      ]
-  | inr n ↦
-      let same : Some s ≡ None = sym there ∙ subst (λ set. tag_of set line ≡ None) (get_or-set_other sets place (line % length sets) new no_set n) moved in
-      absurd (let z : ⊥ = cc in z)
-]
-  where
-    place : ℕ
-    place = came % length sets
-
-    new : TagSet
-    new = filled came state (tags_at sets came)
-
-    moved : tag_of (slice_index_or (slice_set sets place new) (line % length sets) no_set) line ≡ None
-    moved = subst (λ n. tag_of (slice_index_or (slice_set sets place new) (line % n) no_set) line ≡ None) (length-set sets place new) gone
+sets-last line came s state sets size apart there =
+    set-at (λ set. tag_of set line ≡ None → leaving (tags_at sets came) ≡ Some (line, s)) came line (filled came state) sets
+    (λ q l. set-last line came s state (tags_at sets came) size apart (subst (λ k. tag_of (slice_index_or sets k no_set) line ≡ Some s) q there))
+    (λ q past gone. absurd (let none : None ≡ Some s = subst (λ set. tag_of set line ≡ Some s) (get_or_past sets (came % length sets) no_set past) (subst (λ k. tag_of (slice_index_or sets k no_set) line ≡ Some s) q there) in let z : ⊥ = cc in z))
+    (λ n gone. absurd (let same : Some s ≡ None = sym there ∙ gone in let z : ⊥ = cc in z))
 
 -- ---- the choice
 
@@ -287,23 +180,15 @@ came-in came state set v size leaves = by_ways set.ways size
 came-there : (came : ℕ) (state : protocol.State) (sets : TagSets) (v : ℕ × protocol.State) → length (tags_at sets came).tags ≤ (tags_at sets came).ways → leaving (tags_at sets came) ≡ Some v
     → tag_in (at_line came (filled came state) sets) came ≡ Some state
 came-there came state sets v size leaves =
-    subst (λ n. tag_of (slice_index_or (slice_set sets place new) (came % n) no_set) came ≡ Some state) (sym (length-set sets place new)) (elim (lt-or (length sets) place) [
-      | inl l ↦ subst (λ set. tag_of set came ≡ Some state) (sym (get_or-set_same sets place new no_set l)) (came-in came state (tags_at sets came) v size leaves)
-      | inr past ↦ let none : leaving no_set ≡ Some v = subst (λ set. leaving set ≡ Some v) (get_or_past sets place no_set past) leaves in absurd (let z : ⊥ = cc in z)
-    ])
-  where
-    place : ℕ
-    place = came % length sets
-
-    new : TagSet
-    new = filled came state (tags_at sets came)
+    set-at (λ set. tag_of set came ≡ Some state) came came (filled came state) sets (λ q l. came-in came state (tags_at sets came) v size leaves)
+    (λ q past. absurd (let none : leaving no_set ≡ Some v = subst (λ set. leaving set ≡ Some v) (get_or_past sets (came % length sets) no_set past) leaves in let z : ⊥ = cc in z)) (λ n. absurd (n refl))
 
 gave-way : (m : Running) (choice : Choice) → IsKept m → chosen choice < length m.statistics.counts → KeepsWays m (chosen choice) → WriteBacksAreTold m choice
 unfolding steps.trace_step_of
 gave-way m choice kept within ways line told = record {
-  came = f.came;
+  came = back.fills.came;
   state = there.0;
-  accessed = f.accessed;
+  accessed = back.fills.accessed;
   absent = f.absent;
   last = last;
   dirty = subst (λ o. dirty_in (table_of_rows caches.rows) o ≡ true) last f.writes;
@@ -324,42 +209,45 @@ gave-way m choice kept within ways line told = record {
     left : LeavesLine m next core line
     left = left-sound m next core line refl (lines-kept m choice) parts.1
 
-    alone : FillsAlone caches choice (access_of m.test m.depth m.state.flat choice) m.state.holder (machine_use m choice)
-    alone = fills-alone caches choice (access_of m.test m.depth m.state.flat) (access_of m.test m.depth next.state.flat) m.state.holder next.state.holder (machine_use m choice) (uses-of m choice kept) kept.may parts.0
+    back : WritesBack caches choice (access_of m.test m.depth m.state.flat choice) m.state.holder next.state.holder (machine_use m choice)
+    back = writes-back-of m choice kept parts.0
 
-    f : Fills caches core (access_of m.test m.depth m.state.flat choice) (machine_use m choice)
-    f = alone.fills
+    came : ℕ
+    came = back.fills.came
+
+    f : FillsIn (table_of_rows caches.rows) core came caches.contents (machine_use m choice).caches.contents
+    f = back.fills.line
 
     sets : TagSets
     sets = sets_of caches.contents core
 
-    own : sets_of next.statistics.caches.contents core ≡ at_line f.came (filled f.came f.state) sets
-    own = f.own ∙ get_or-set_same caches.contents core (at_line f.came (filled f.came f.state) sets) [] (subst (λ n. core < n) kept.sound.size within)
+    own : sets_of next.statistics.caches.contents core ≡ at_line came (filled came f.state) sets
+    own = f.own ∙ get_or-set_same caches.contents core (at_line came (filled came f.state) sets) [] (subst (λ n. core < n) kept.sound.size within)
 
-    gives : Has (leaving (tags_at sets f.came))
-    gives = dirty-some (table_of_rows caches.rows) (leaving (tags_at sets f.came)) f.writes
+    gives : Has (leaving (tags_at sets came))
+    gives = dirty-some (table_of_rows caches.rows) (leaving (tags_at sets came)) f.writes
 
-    gone : tag_in (at_line f.came (filled f.came f.state) sets) line ≡ None
+    gone : tag_in (at_line came (filled came f.state) sets) line ≡ None
     gone = subst (λ s. tag_in s line ≡ None) own (absent-copy (awaited_at (bus_holder_of next) next.statistics.caches.shape.words core line) (tag_at core line next.statistics.caches.contents)
         (λ q. found-valid (number_of_lines next) line tag.I (sets_of next.statistics.caches.contents core) ((kept-after m choice kept).neat core) q refl) left.is)
 
-    apart : line ≢ f.came
+    apart : line ≢ came
     apart same =
-        let here : tag_in (at_line f.came (filled f.came f.state) sets) line ≡ Some f.state =
-        subst (λ k. tag_in (at_line f.came (filled f.came f.state) sets) k ≡ Some f.state) (sym same) (came-there f.came f.state sets gives.0 (ways f.came) gives.1) in
+        let here : tag_in (at_line came (filled came f.state) sets) line ≡ Some f.state =
+        subst (λ k. tag_in (at_line came (filled came f.state) sets) k ≡ Some f.state) (sym same) (came-there came f.state sets gives.0 (ways came) gives.1) in
         let z : None ≡ Some f.state = sym gone ∙ here in
         let y : ⊥ = cc in y
 
     there : Has (tag_in sets line)
     there = present-copy (tag_in sets line) (subst (λ x. number_of_state (state_with x (tag_in sets line)) ≢ 0)
-        (beside-awaited m choice m.state.holder caches.shape.words core f.came line alone.alone f.accessed apart) left.was)
+        (beside-awaited m choice m.state.holder caches.shape.words core came line back.alone back.fills.accessed apart) left.was)
 
-    beside : (nat_eq line f.came ≡ true) × (line ≡ f.came) ⊎ (nat_eq line f.came ≡ false) × (line ≢ f.came) → nat_eq line f.came ≡ false
+    beside : (nat_eq line came ≡ true) × (line ≡ came) ⊎ (nat_eq line came ≡ false) × (line ≢ came) → nat_eq line came ≡ false
     beside (inl p) = absurd (apart p.1)
     beside (inr p) = p.0
 
-    last : leaving (tags_at sets f.came) ≡ Some (line, there.0)
-    last = sets-last line f.came there.0 f.state sets (ways f.came) (beside (eqb_tells line f.came)) there.1 gone
+    last : leaving (tags_at sets came) ≡ Some (line, there.0)
+    last = sets-last line came there.0 f.state sets (ways came) (beside (eqb_tells line came)) there.1 gone
 
 -- ---- along the choices
 

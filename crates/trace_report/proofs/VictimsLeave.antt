@@ -1,12 +1,117 @@
--- The line that an access sends away: it was in the core's cache before the access, and isn't after it.
-use Rattle.trace_report.proofs.Vocabulary.{◌≡◌, ◌≢◌, ◌∙◌, ◌<◌, ◌/◌, ℕ, Bool, true, false, List, [], length, Option, Some, None, inl, inr, refl, sym, ap, subst, get_or-set_same, MemoryAccess, NoAccess, Reads, Writes, Locks, Table, I, M, table_of_rows, leaving, filled, TagSets, tags_at, tag_in, at_line, sets_of, dirty_in, writes_back, filled_by, loaded_in, loaded, written_in, write_in, written, tag_at, Caches, Used, CacheUse, Unused, Forwarded, Through, IsUseFor, KeepsNoCopyInI, AllNeat, found-valid, all-requested, all-used, all-filled, own-kept, sets-leave}
+-- What an access makes of the lines of its core's cache: they stay neat, and the line that it sends away was there before it and
+-- isn't after it.
+use Rattle.trace_report.proofs.Vocabulary.{◌≡◌, ◌≢◌, ◌∙◌, ◌<◌, ℕ, Bool, true, false, List, [], length, Option, Some, None, refl, sym, ap, subst, get_or-set_same, Table, I, M, leaving, filled, TagSets, tags_at, tag_in, at_line, sets_of, dirty_in, writes_back, filled_by, tag_at, KeepsNoCopyInI, AllNeat, found-valid, all-requested, all-used, all-filled, own-kept, sets-leave, Request, Transient, IsD, ImD, SmD, snoop_column, Awaited, awaiting, completed, completed_in, ◌∷◌, zero, suc, next_in_place, awaited_as, request_for, whole_in, whole_access, at_others, requested, snooped}
 use Rattle.protocol_tables.specs.declared.state.State.{State}
+use Rattle.snoop_bus.specs.CacheContents.{at_core}
 
--- whether a dirty line is written back as the caches are used
-abbrev pub wrote_in : CacheUse → Bool
-wrote_in Unused = false
-wrote_in Forwarded = false
-wrote_in (Through a) = a.wrote_back
+-- ---- a completion
+
+-- what is awaited fills a line in a state other than I, and but for an upgrade the core has no copy of that line
+pub record MayFill (x : Awaited) (core line : ℕ) (caches : List TagSets) : Type 0 where
+  pub valid : x.state ≢ I
+  pub absent : x.transient ≢ SmD → tag_at core line caches ≡ None
+
+abbrev pub MayComplete : Option Awaited → ℕ → ℕ → List TagSets → Type 0
+MayComplete None core line caches = Unit {0}
+MayComplete (Some x) core line caches = MayFill x core line caches
+
+-- M isn't I
+pub modified : M ≢ I
+modified = λ q. let z : ⊥ = cc in z
+
+pub completed-neat : (lines : ℕ) (t : Table) (core line : ℕ) (w : Option Awaited) (caches : List TagSets) → line < lines → MayComplete w core line caches → AllNeat lines caches
+    → AllNeat lines (completed t core line w caches).caches
+completed-neat lines t core line None caches l may h = all-used lines core line M caches l modified h
+completed-neat lines t core line (Some x) caches l may h = by_transient x.transient may.absent
+  where
+    by_transient : (transient : Transient) → (transient ≢ SmD → tag_at core line caches ≡ None) → AllNeat lines (completed_in t core line transient x.state x.flushed caches).caches
+    by_transient IsD absent = all-filled lines core line x.state caches l may.valid (absent (λ q. let z : ⊥ = cc in z)) h
+    by_transient ImD absent = all-filled lines core line x.state caches l may.valid (absent (λ q. let z : ⊥ = cc in z)) h
+    by_transient SmD absent = all-used lines core line x.state caches l may.valid h
+
+-- a line that the core hadn't was filled in, and a dirty one gave way to it
+pub record FillsIn (t : Table) (core line : ℕ) (before after : List TagSets) : Type 0 where
+  pub state : State
+  pub absent : tag_at core line before ≡ None
+  pub own : sets_of after core ≡ sets_of (filled_by core line state before) core
+  pub writes : writes_back t core line before ≡ true
+
+pub completed-fills : (t : Table) (core line : ℕ) (w : Option Awaited) (caches : List TagSets) → MayComplete w core line caches → (completed t core line w caches).access.wrote_back ≡ true
+    → FillsIn t core line caches (completed t core line w caches).caches
+completed-fills t core line None caches may dirty = absurd (let z : ⊥ = cc in z)
+completed-fills t core line (Some x) caches may dirty = by_transient x.transient may.absent dirty
+  where
+    by_transient : (y : Transient) → (y ≢ SmD → tag_at core line caches ≡ None) → (completed_in t core line y x.state x.flushed caches).access.wrote_back ≡ true
+        → FillsIn t core line caches (completed_in t core line y x.state x.flushed caches).caches
+    by_transient IsD absent dirty = record { state = x.state; absent = absent (λ q. let z : ⊥ = cc in z); own = refl; writes = dirty }
+    by_transient ImD absent dirty = record { state = x.state; absent = absent (λ q. let z : ⊥ = cc in z); own = refl; writes = dirty }
+    by_transient SmD absent dirty = absurd (let z : ⊥ = cc in z)
+
+-- ---- an access that is made whole
+
+-- the core's own lines are filled in as before the others have seen the request
+fills-own : (core : ℕ) (seen change : TagSets → TagSets) (caches : List TagSets) → sets_of (at_core core change (at_others core seen caches)) core ≡ sets_of (at_core core change caches) core
+fills-own core seen change [] = refl
+fills-own zero seen change (sets ∷ caches) = refl
+fills-own (suc core) seen change (sets ∷ caches) = fills-own core seen change caches
+
+module _ (t : Table) (write : Bool) (core line : ℕ) (caches : List TagSets) (keeps : KeepsNoCopyInI t) where
+  abbrev request : Request
+  request = request_for write
+
+  -- all caches once it has asked, and what it awaits then
+  abbrev seen : List TagSets
+  seen = requested (snoop_column t request) core line caches
+
+  abbrev awaits : Option State → Option Awaited
+  awaits copy = Some (awaiting t request line caches (awaited_as write copy))
+
+  kept : tag_at core line seen ≡ tag_at core line caches
+  kept = ap (λ (sets : TagSets). tag_in sets line) (own-kept core _ caches)
+
+  asked-may : (copy : Option State) → tag_at core line caches ≡ copy → next_in_place t write copy ≡ None → MayComplete (awaits copy) core line seen
+  unfolding awaiting
+  asked-may copy at none = by_write write copy at none
+    where
+      by_write : (b : Bool) (o : Option State) → tag_at core line caches ≡ o → next_in_place t b o ≡ None
+          → MayComplete (Some (awaiting t (request_for b) line caches (awaited_as b o))) core line seen
+      by_write false None at none = record { valid = keeps.filled _; absent = λ n. kept ∙ at }
+      by_write true None at none = record { valid = modified; absent = λ n. kept ∙ at }
+      by_write false (Some s) at none = absurd (let z : ⊥ = cc in z)
+      by_write true (Some s) at none = record { valid = modified; absent = λ n. absurd (n refl) }
+
+  pub whole-fills : (whole_access t write core line caches).access.wrote_back ≡ true → FillsIn t core line caches (whole_access t write core line caches).caches
+  whole-fills = by_next (tag_at core line caches) (next_in_place t write (tag_at core line caches)) refl refl
+    where
+      by_next : (copy next : Option State) → tag_at core line caches ≡ copy → next_in_place t write copy ≡ next → (whole_in t write core line caches copy next).access.wrote_back ≡ true
+          → FillsIn t core line caches (whole_in t write core line caches copy next).caches
+      by_next copy (Some next) at is dirty = absurd (let z : ⊥ = cc in z)
+      by_next copy None at is dirty =
+          let f = completed-fills t core line (awaits copy) seen (asked-may copy at is) dirty in
+          record {
+            state = f.state;
+            absent = sym kept ∙ f.absent;
+            own = f.own ∙ fills-own core (at_line line (snooped (snoop_column t request) line)) (at_line line (filled line f.state)) caches;
+            writes = ap (λ (sets : TagSets). dirty_in t (leaving (tags_at sets line))) (sym (own-kept core _ caches)) ∙ f.writes;
+          }
+
+  module _ (lines : ℕ) (within : line < lines) (h : AllNeat lines caches) where
+    valid-in-place : (copy : Option State) (next : State) → tag_at core line caches ≡ copy → next_in_place t write copy ≡ Some next → next ≢ I
+    valid-in-place copy next at is = by_write write copy at is
+      where
+        by_write : (b : Bool) (o : Option State) → tag_at core line caches ≡ o → next_in_place t b o ≡ Some next → next ≢ I
+        by_write b None at is = absurd (let z : ⊥ = cc in z)
+        by_write false (Some s) at is = let same : s ≡ next = cc in found-valid lines line next (sets_of caches core) (h core) (at ∙ ap Some same)
+        by_write true (Some s) at is = λ q. keeps.written s (is ∙ ap Some q)
+
+    pub whole-neat : AllNeat lines (whole_access t write core line caches).caches
+    whole-neat = by_next (tag_at core line caches) (next_in_place t write (tag_at core line caches)) refl refl
+      where
+        by_next : (copy next : Option State) → tag_at core line caches ≡ copy → next_in_place t write copy ≡ next → AllNeat lines (whole_in t write core line caches copy next).caches
+        by_next copy (Some next) at is = all-used lines core line next caches within (valid-in-place copy next at is) h
+        by_next copy None at is = completed-neat lines t core line (awaits copy) seen within (asked-may copy at is) (all-requested lines (snoop_column t request) core line caches h)
+
+-- ---- the line that gives way
 
 -- a line of a core's that is among these caches, and not among those
 pub record HasGone (lines core : ℕ) (before after : List TagSets) : Type 0 where
@@ -17,18 +122,14 @@ pub record HasGone (lines core : ℕ) (before after : List TagSets) : Type 0 whe
   pub was : tag_at core line before ≡ Some state
   pub gone : tag_at core line after ≡ None
 
--- ---- a line is filled
-
--- by the caches after the access, in which this core's are as they are once the line is filled
-pub filled-gone : (lines core line : ℕ) (state : State) (t : Table) (caches after : List TagSets) → core < length caches → AllNeat lines caches → tag_in (sets_of caches core) line ≡ None
-    → sets_of after core ≡ sets_of (filled_by core line state caches) core → writes_back t core line caches ≡ true → HasGone lines core caches after
-filled-gone lines core line state t caches after l h none same dirty = by_victim (leaving (tags_at (sets_of caches core) line)) refl
+pub fills-gone : (lines core line : ℕ) (t : Table) (caches after : List TagSets) → core < length caches → AllNeat lines caches → FillsIn t core line caches after → HasGone lines core caches after
+fills-gone lines core line t caches after l h f = by_victim (leaving (tags_at (sets_of caches core) line)) refl
   where
     by_victim : (o : Option (ℕ × State)) → leaving (tags_at (sets_of caches core) line) ≡ o → HasGone lines core caches after
-    by_victim None q = let no : writes_back t core line caches ≡ false = ap (dirty_in t) q in absurd (let z : ⊥ = cc in z)
+    by_victim None q = let no : writes_back t core line caches ≡ false = ap (dirty_in t) q in absurd (let dirty = f.writes in let z : ⊥ = cc in z)
     by_victim (Some victim) q =
-        let left = sets-leave lines line state (sets_of caches core) victim (h core) none q in
-        let own = same ∙ get_or-set_same caches core (at_line line (filled line state) (sets_of caches core)) [] l in
+        let left = sets-leave lines line f.state (sets_of caches core) victim (h core) f.absent q in
+        let own = f.own ∙ get_or-set_same caches core (at_line line (filled line f.state) (sets_of caches core)) [] l in
         record {
           line = victim.0;
           state = victim.1;
@@ -37,86 +138,3 @@ filled-gone lines core line state t caches after l h none same dirty = by_victim
           was = left.before;
           gone = subst (λ sets. tag_in sets victim.0 ≡ None) (sym own) left.after;
         }
-
--- ---- a load, and a write access
-
-loaded-neat : (lines : ℕ) (t : Table) (core line : ℕ) (caches : List TagSets) → line < lines → KeepsNoCopyInI t → AllNeat lines caches → AllNeat lines (loaded t core line caches).caches
-loaded-neat lines t core line caches l keeps h = by_tag (tag_in (sets_of caches core) line) refl
-  where
-    by_tag : (o : Option State) → tag_in (sets_of caches core) line ≡ o → AllNeat lines (loaded_in t core line caches o).caches
-    by_tag None q = all-requested lines t.on_get_s core line _ (all-filled lines core line _ caches l (keeps.filled _) q h)
-    by_tag (Some state) q = all-used lines core line state caches l (found-valid lines line state (sets_of caches core) (h core) q) h
-
-loaded-gone : (lines : ℕ) (t : Table) (core line : ℕ) (caches : List TagSets) → core < length caches → AllNeat lines caches → (loaded t core line caches).access.wrote_back ≡ true
-    → HasGone lines core caches (loaded t core line caches).caches
-loaded-gone lines t core line caches l h = by_tag (tag_in (sets_of caches core) line) refl
-  where
-    by_tag : (o : Option State) → tag_in (sets_of caches core) line ≡ o → (loaded_in t core line caches o).access.wrote_back ≡ true
-        → HasGone lines core caches (loaded_in t core line caches o).caches
-    by_tag None q dirty = filled-gone lines core line _ t caches _ l h q (own-kept core _ _) dirty
-    by_tag (Some state) q dirty = absurd (let z : ⊥ = cc in z)
-
--- M isn't I
-pub modified : M ≢ I
-modified = λ q. let z : ⊥ = cc in z
-
-written-neat : (lines : ℕ) (t : Table) (core line : ℕ) (caches : List TagSets) → line < lines → KeepsNoCopyInI t → AllNeat lines caches → AllNeat lines (written t core line caches).caches
-written-neat lines t core line caches l keeps h = by_tag (tag_in (sets_of caches core) line) refl
-  where
-    in_place : (o : Option State) → o ≢ Some I → AllNeat lines (written_in t core line caches o).caches
-    in_place None valid = all-used lines core line M _ l modified (all-requested lines t.on_get_m core line caches h)
-    in_place (Some next) valid = all-used lines core line next caches l (λ q. valid (ap Some q)) h
-
-    by_tag : (o : Option State) → tag_in (sets_of caches core) line ≡ o → AllNeat lines (write_in t core line caches o).caches
-    by_tag None q = all-requested lines t.on_get_m core line _ (all-filled lines core line M caches l modified q h)
-    by_tag (Some state) q = in_place (t.written state) (keeps.written state)
-
-written-gone : (lines : ℕ) (t : Table) (core line : ℕ) (caches : List TagSets) → core < length caches → AllNeat lines caches → (written t core line caches).access.wrote_back ≡ true
-    → HasGone lines core caches (written t core line caches).caches
-written-gone lines t core line caches l h = by_tag (tag_in (sets_of caches core) line) refl
-  where
-    in_place : (o : Option State) → (written_in t core line caches o).access.wrote_back ≡ true → HasGone lines core caches (written_in t core line caches o).caches
-    in_place None dirty = absurd (let z : ⊥ = cc in z)
-    in_place (Some next) dirty = absurd (let z : ⊥ = cc in z)
-
-    by_tag : (o : Option State) → tag_in (sets_of caches core) line ≡ o → (write_in t core line caches o).access.wrote_back ≡ true
-        → HasGone lines core caches (write_in t core line caches o).caches
-    by_tag None q dirty = filled-gone lines core line M t caches _ l h q (own-kept core _ _) dirty
-    by_tag (Some state) q dirty = in_place (t.written state) dirty
-
--- ---- a use of the caches
-
--- the access is to one of so many lines, of so many words
-abbrev pub IsWithin : ℕ → ℕ → MemoryAccess → Type 0
-IsWithin lines words NoAccess = Unit {0}
-IsWithin lines words (Reads loc) = loc.0 / words < lines
-IsWithin lines words (Writes loc) = loc.0 / words < lines
-IsWithin lines words (Locks loc) = loc.0 / words < lines
-
-abbrev pub NeatAfter : ℕ → Used → Type 0
-NeatAfter lines u = AllNeat lines u.caches.contents
-
-pub use-neat : (lines : ℕ) (c : Caches) (core : ℕ) (what : MemoryAccess) (u : Used) → IsUseFor c core what u → IsWithin lines c.shape.words what → KeepsNoCopyInI (table_of_rows c.rows) → AllNeat lines c.contents
-    → NeatAfter lines u
-use-neat lines c core NoAccess u (inl is) within keeps h = subst (NeatAfter lines) (sym is) h
-use-neat lines c core NoAccess u (inr is) within keeps h = subst (NeatAfter lines) (sym is) h
-use-neat lines c core (Reads loc) u is within keeps h = subst (NeatAfter lines) (sym is) (loaded-neat lines (table_of_rows c.rows) core (loc.0 / c.shape.words) c.contents within keeps h)
-use-neat lines c core (Writes loc) u is within keeps h = subst (NeatAfter lines) (sym is) (written-neat lines (table_of_rows c.rows) core (loc.0 / c.shape.words) c.contents within keeps h)
-use-neat lines c core (Locks loc) u is within keeps h = subst (NeatAfter lines) (sym is) (written-neat lines (table_of_rows c.rows) core (loc.0 / c.shape.words) c.contents within keeps h)
-
-abbrev pub GoneBy : ℕ → Caches → ℕ → Used → Type 0
-GoneBy lines c core u = wrote_in u.how ≡ true → HasGone lines core c.contents u.caches.contents
-
-pub use-gone : (lines : ℕ) (c : Caches) (core : ℕ) (what : MemoryAccess) (u : Used) → IsUseFor c core what u → core < length c.contents → AllNeat lines c.contents → GoneBy lines c core u
-use-gone lines c core NoAccess u (inl is) l h = subst (GoneBy lines c core) (sym is) (λ dirty. absurd (let z : ⊥ = cc in z))
-use-gone lines c core NoAccess u (inr is) l h = subst (GoneBy lines c core) (sym is) (λ dirty. absurd (let z : ⊥ = cc in z))
-use-gone lines c core (Reads loc) u is l h = subst (GoneBy lines c core) (sym is) (loaded-gone lines (table_of_rows c.rows) core (loc.0 / c.shape.words) c.contents l h)
-use-gone lines c core (Writes loc) u is l h = subst (GoneBy lines c core) (sym is) (written-gone lines (table_of_rows c.rows) core (loc.0 / c.shape.words) c.contents l h)
-use-gone lines c core (Locks loc) u is l h = subst (GoneBy lines c core) (sym is) (written-gone lines (table_of_rows c.rows) core (loc.0 / c.shape.words) c.contents l h)
-
-pub use-rows : (c : Caches) (core : ℕ) (what : MemoryAccess) (u : Used) → IsUseFor c core what u → u.caches.rows ≡ c.rows
-use-rows c core NoAccess u (inl is) = ap (λ (x : Used). x.caches.rows) is
-use-rows c core NoAccess u (inr is) = ap (λ (x : Used). x.caches.rows) is
-use-rows c core (Reads loc) u is = ap (λ (x : Used). x.caches.rows) is
-use-rows c core (Writes loc) u is = ap (λ (x : Used). x.caches.rows) is
-use-rows c core (Locks loc) u is = ap (λ (x : Used). x.caches.rows) is

@@ -2,12 +2,13 @@
 use Rattle.trace_report.proofs.Vocabulary.{arith, ◌≡◌, ◌≢◌, ◌∙◌, ◌⊎◌, ◌/◌, ◌<◌, ◌==◌, ◌&&◌, ℕ, zero, suc, Bool, true, false, if◌then◌else◌, List, length, map, replicate, slice_index_or, Option, Some, None, is_some, inl, inr, refl, sym, ap, subst, div_ceil, div_ceil_times, length-replicate, div-mul-le_self, mul-le-mul_right, lt-or, Litmus, IsTest, chosen, MemoryAccess, NoAccess, Reads, Writes, Locks, access_of, Holder, Free, HeldBy, HeldBetween, Choice, Table, Transient, table_of_rows, rows_of, tags_in, tag_at, TagSet, Configuration, at_access, bus_holder, bus_holder_as, bus_holder_of, no_counts, CacheUse, Unused, Forwarded, Through, Running, new_machine, machine_use, machine_after, length-counted, AreStoresKnown, state_with, awaited_at, number_of_lines, states_of, number_of_state, changes_in, line_that_left, wrote_back_by, trace_step_of, tells_write_back, KeepsNoCopyInI, StateChange, IsNeat, none-neat, no-sets, no_set, AllNeat}
 use Rattle.protocol_tables.specs.declared.state.State as protocol
 use Rattle.protocol_tables.specs.declared.state.State.TheVariants as tag
-use Rattle.trace_report.proofs.Awaiting.{HolderMayMake, rows-after, neat-after, may-after, gone-after, rest-after}
-use Rattle.trace_report.proofs.FlushesTold.{IsSound, sound-first, sound-after}
+use Rattle.trace_report.proofs.Awaiting.{HolderMayMake, IsWithin, WritesBack, rows-after, neat-after, may-after, writes-back-by}
+use Rattle.trace_report.proofs.FlushesTold.{IsSound, sound-first, sound-after, uses-of}
+use Rattle.machine_core.specs.Running.{machine_effect}
+use Rattle.trace_report.proofs.InPlace.{wrote_in}
 use Rattle.trace_report.proofs.LinesLeft.{present, left-found}
 use Rattle.trace_report.proofs.Places.{AccessKnown, access-known, stores-first}
-use Rattle.trace_report.proofs.UsesOnBus.{UsesOn, choice-uses}
-use Rattle.trace_report.proofs.VictimsLeave.{wrote_in, IsWithin}
+use Rattle.trace_report.proofs.VictimsLeave.{fills-gone}
 use Rattle.trace_report.proofs.Whole.{words-kept, stores-kept}
 
 -- ---- the lines of a test
@@ -42,14 +43,6 @@ pub record IsKept (m : Running) : Type 0 where
   pub neat : AllNeat (number_of_lines m) m.statistics.caches.contents
   pub may : HolderMayMake (access_of m.test m.depth m.state.flat) m.state.holder m.statistics.caches
 
--- what a choice has to do with the caches
-abbrev pub UsesOf : Running → Choice → Type 0
-UsesOf m c =
-    UsesOn m.statistics.caches c (access_of m.test m.depth m.state.flat) (access_of m.test m.depth (machine_after m c).state.flat) m.state.holder (machine_after m c).state.holder (machine_use m c)
-
-pub uses-of : (m : Running) (c : Choice) → IsKept m → UsesOf m c
-uses-of m c k = choice-uses m.bus m.test m.depth m.state m.statistics.caches c k.sound.live.holding k.sound.stores
-
 pub lines-kept : (m : Running) (c : Choice) → number_of_lines (machine_after m c) ≡ number_of_lines m
 lines-kept m c = ap (λ n. div_ceil (length m.test.locations) n) (words-kept m c)
 
@@ -59,7 +52,7 @@ kept-after m c k =
     let before : Choice → MemoryAccess = access_of m.test m.depth m.state.flat in
     let after : Choice → MemoryAccess = access_of m.test m.depth (machine_after m c).state.flat in
     let next = (machine_after m c).state.holder in
-    let uses = uses-of m c k in
+    let uses = (uses-of m c k.sound).0 in
     let within = within-lines m.test caches.shape.words (before c) k.words (access-known m.test m.depth m.state.flat c k.test k.known) in
     record {
       sound = sound-after m c k.sound;
@@ -67,15 +60,23 @@ kept-after m c k =
       known = stores-kept m c k.test k.known;
       words = subst (λ n. 0 < n) (sym (words-kept m c)) k.words;
       cores = length-counted (chosen c) (machine_use m c).how m.statistics.counts ∙ k.cores;
-      keeps = subst (λ rows. KeepsNoCopyInI (table_of_rows rows)) (sym (rows-after caches c before after m.state.holder next (machine_use m c) uses)) k.keeps;
-      neat = subst (λ n. AllNeat n (machine_use m c).caches.contents) (sym (lines-kept m c)) (neat-after caches c before after m.state.holder next (machine_use m c) (number_of_lines m) uses within k.keeps k.may k.neat);
-      may = may-after caches c before after m.state.holder next (machine_use m c) (number_of_lines m) uses k.keeps k.may k.neat;
+      keeps = subst (λ rows. KeepsNoCopyInI (table_of_rows rows)) (sym (rows-after m.bus caches c before after m.state.holder next (machine_effect m c).effect.outcome (machine_use m c) uses)) k.keeps;
+      neat = subst (λ n. AllNeat n (machine_use m c).caches.contents) (sym (lines-kept m c)) (neat-after m.bus caches c before after m.state.holder next (machine_effect m c).effect.outcome (machine_use m c) k.keeps k.may (number_of_lines m) uses within k.neat);
+      may = may-after m.bus caches c before after m.state.holder next (machine_effect m c).effect.outcome (machine_use m c) k.keeps k.may (number_of_lines m) uses k.neat;
     }
 
 -- the rows of the protocol's table stay
 pub rows-kept : (m : Running) (c : Choice) → IsKept m → (machine_after m c).statistics.caches.rows ≡ m.statistics.caches.rows
 rows-kept m c k =
-    rows-after m.statistics.caches c (access_of m.test m.depth m.state.flat) (access_of m.test m.depth (machine_after m c).state.flat) m.state.holder (machine_after m c).state.holder (machine_use m c) (uses-of m c k)
+    rows-after m.bus m.statistics.caches c (access_of m.test m.depth m.state.flat) (access_of m.test m.depth (machine_after m c).state.flat) m.state.holder (machine_after m c).state.holder
+    (machine_effect m c).effect.outcome (machine_use m c) (uses-of m c k.sound).0
+
+-- what a choice does that writes a line back
+pub writes-back-of : (m : Running) (c : Choice) → IsKept m → wrote_in (machine_use m c).how ≡ true
+    → WritesBack m.statistics.caches c (access_of m.test m.depth m.state.flat c) m.state.holder (machine_after m c).state.holder (machine_use m c)
+writes-back-of m c k =
+    writes-back-by m.bus m.statistics.caches c (access_of m.test m.depth m.state.flat) (access_of m.test m.depth (machine_after m c).state.flat) m.state.holder (machine_after m c).state.holder
+    (machine_effect m c).effect.outcome (machine_use m c) k.keeps k.may (uses-of m c k.sound).0
 
 -- the caches are empty at the beginning
 empty-sets : {A : Type 0} (P : ℕ → protocol.State → Type 0) (f : A → TagSet) (x : A) (count i : ℕ) → IsNeat P (f x) → IsNeat P (slice_index_or (map f (replicate count x)) i no_set)
@@ -144,15 +145,12 @@ victim-told m c k there wrote =
     let next = machine_after m c in
     let caches = m.statistics.caches in
     let words = caches.shape.words in
-    let before : Choice → MemoryAccess = access_of m.test m.depth m.state.flat in
-    let after : Choice → MemoryAccess = access_of m.test m.depth next.state.flat in
-    let uses = uses-of m c k in
     let within : core < length caches.contents = subst (λ n. core < n) k.sound.size there in
-    let gone = gone-after caches c before after m.state.holder next.state.holder (machine_use m c) (number_of_lines m) uses within k.may k.neat wrote in
-    let rest = rest-after caches c before after m.state.holder next.state.holder (machine_use m c) uses wrote in
+    let back = writes-back-of m c k wrote in
+    let gone = fills-gone (number_of_lines m) core back.fills.came (table_of_rows caches.rows) caches.contents next.statistics.caches.contents within k.neat back.fills.line in
     left-found m next core gone.line refl (lines-kept m c) (subst (λ n. core < n) k.cores there) gone.within
     (subst (λ o. number_of_state (state_with (awaited_at (bus_holder_of m) words core gone.line) o) ≢ 0) (sym gone.was) (present (awaited_at (bus_holder_of m) words core gone.line) gone.state gone.valid))
-    (ap (λ x. number_of_state (state_with x (tag_at core gone.line next.statistics.caches.contents))) (none-awaited next next.state.holder next.statistics.caches.shape.words core gone.line rest)
+    (ap (λ x. number_of_state (state_with x (tag_at core gone.line next.statistics.caches.contents))) (none-awaited next next.state.holder next.statistics.caches.shape.words core gone.line back.rest)
     ∙ ap (λ o. number_of_state (state_with None o)) gone.gone)
 
 told-where : (how : CacheUse) (core : ℕ) (changes : List StateChange) → (wrote_in how ≡ true → is_some (line_that_left core changes) ≡ true) → is_some (wrote_back_by how core changes) ≡ wrote_in how

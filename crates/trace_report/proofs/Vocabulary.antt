@@ -10,7 +10,7 @@ pub use Rattle.tso_model.specs.MemoryAccess.{MemoryAccess, NoAccess, Reads, Writ
 pub use Rattle.tso_model.specs.declared.execution.Entry.{Entry}
 pub use Rattle.tso_model.specs.declared.execution.Kind.{Kind}
 pub use Rattle.tso_model.specs.declared.execution.Kind.TheVariants.{R, W, F, LR, LW}
-pub use Rattle.machine_core.specs.Caches.{Caches, load_by, not_through, asking_by, completing_by, use_by_kind, use_of, used_between, is_awaited, use_on, state_after_on, Used, write_by, load_after, hits_by, would_hit, attempt_of, at_access, through, completion_by}
+pub use Rattle.machine_core.specs.Caches.{Caches, not_through, asking_by, completing_by, use_by_kind, use_of, used_between, is_awaited, use_on, state_after_on, Used, load_after, hits_by, would_hit, attempt_of, at_access, through, completion_by, whole_by}
 pub use Rattle.machine_core.specs.declared.accesses.CacheUse.TheVariants.{Forwarded, Unused, Through}
 pub use Rattle.tso_model.specs.Actions.{action_of, location_of}
 pub use Rattle.tso_model.specs.FlatMachine.{CoreState, State, Effect, is_none_pending, stalled, stored, effect_by, effect_of, core_of, chosen, program_of, applied, start, idle}
@@ -40,7 +40,7 @@ pub use Rattle.tso_model.specs.declared.instruction.Loc.{Loc}
 pub use Rattle.order_builder.specs.PrintedOrder.{HasLocation, IsLocationFor}
 pub use Rattle.split_laws.proofs.Cores.{core-cases, starts-idle, length-starts, quiet-same, done-next, done-pending, done-anywhere}
 pub use Rattle.trace_report.specs.Known.{IsAt, IsLine, AreStoresKnown, StepNamesExist}
-pub use Rattle.snoop_bus.specs.Asks.{Awaited, tag_at, or_invalid, hit_in, asking, completed, completed_in, asked_caches_in, asked_for, awaited_by}
+pub use Rattle.snoop_bus.specs.Asks.{Awaited, tag_at, or_invalid, asking, completed, completed_in, asked_caches_in, asked_for, awaited_by, next_in_place, awaited_as, request_for, whole_in, whole_access, asked_at_once}
 unfoldable pub use Rattle.snoop_bus.specs.Asks.{awaiting}
 pub use Rattle.machine_core.specs.Running.{Running, attempt_on, machine_use, machine_after, new_machine}
 pub use Rattle.machine_core.specs.declared.accesses.CacheUse.{CacheUse}
@@ -75,7 +75,7 @@ pub use Rattle.protocol_tables.specs.declared.requests.Request.{Request}
 pub use Rattle.protocol_tables.specs.declared.requests.Request.TheVariants.{GetS, GetM}
 pub use Rattle.protocol_tables.specs.declared.requests.Transient.{Transient}
 pub use Rattle.snoop_bus.specs.Rows.{table_of_rows, rows_of}
-pub use Rattle.snoop_bus.specs.CacheContents.{TagSets, loaded_in, written_in, write_in, tags_at, tag_in, at_line, sets_of, dirty_in, writes_back, filled_by, loaded, written, used_by, at_others, is_held, requested}
+pub use Rattle.snoop_bus.specs.CacheContents.{TagSets, tags_at, tag_in, at_line, sets_of, dirty_in, writes_back, filled_by, used_by, at_others, is_held, requested}
 pub use Rattle.split_laws.proofs.Waiting.{AllStores, access-kept, choice-stores, start-stores}
 pub use Rattle.split_laws.proofs.Effects.{HolderWaits, Live, LiveIn, live-after, live-start}
 pub use Rattle.protocol_tables.specs.declared.state.State.TheVariants.{I, M, S, E, O}

@@ -5,7 +5,7 @@ use Rattle.trace_report.specs.inner.Told.{IsLookedAt}
 use Rattle.trace_report.proofs.Effects.{Form, effect-form, waited-is}
 use Rattle.trace_report.proofs.Places.{effect-places, stores-next, access-known, at-place}
 use Rattle.trace_report.proofs.Named.{sent-known, request-known, written-back-known, changes-known, states-known, buffer-known}
-use Rattle.trace_report.proofs.Shapes.{used-shape}
+use Rattle.machine_core.proofs.EachUse.{used-machine}
 use Rattle.trace_report.specs.declared.step.Moved.{Moved}
 use Rattle.trace_report.specs.declared.telling.Left.{Left}
 
@@ -123,8 +123,8 @@ configuration-kept : (m : Running) (choice : Choice) → configuration_of (machi
 configuration-kept m choice =
     let f = machine_effect m choice in
     let made : Geometry → Configuration = λ s. record { depth = m.depth; shape = s; bus = m.bus } in
-    ap made (used-shape (is_awaited m.state.holder) (is_awaited f.holder) m.statistics.caches (chosen choice) (access_of m.test m.depth m.state.flat choice)
-    (core_of m.state.flat (chosen choice)).pending f.effect.commits)
+    ap made (used-machine (is_awaited m.state.holder) (is_awaited f.holder) m.statistics.caches (chosen choice) (access_of m.test m.depth m.state.flat choice)
+    (core_of m.state.flat (chosen choice)).pending f.effect.commits).1
 
 pub words-kept : (m : Running) (choice : Choice) → (machine_after m choice).statistics.caches.shape.words ≡ m.statistics.caches.shape.words
 words-kept m choice = ap (λ (c : Configuration). c.shape.words) (configuration-kept m choice)

@@ -1,11 +1,11 @@
 -- The write-backs that a trace tells are those that are counted; and all that it tells of the accesses.
-use Rattle.trace_report.proofs.Vocabulary.{◌≡◌, ◌≢◌, ◌∙◌, ℕ, ◌+◌, ◌<◌, ◌==◌, ◌&&◌, Bool, true, false, List, [], ◌∷◌, length, Some, refl, sym, ap, subst, arith, length-replicate, chosen, has_ended, CoresExist, Choice, filled_shared, filled_by_sharing, written_in_place, I, S, E, O, M, AccessKind, Hit, Upgrade, Miss, Running, new_machine, machine_use, machine_after, Statistics, no_counts, with_access, with_forward, with_write_back, counts_at_core, with_use_counted, Counts, CacheUse, Unused, Forwarded, Through, length-counted, trace_step_of, steps_from, count_of_accesses, is_sender, tells_write_back, one_if, steps_that, ProtocolsKeepNoCopyInI, AccessesAreTold}
+use Rattle.trace_report.proofs.Vocabulary.{◌≡◌, ◌≢◌, ◌∙◌, ℕ, ◌+◌, ◌<◌, ◌==◌, ◌&&◌, Bool, true, false, List, length, Some, refl, sym, ap, subst, arith, length-replicate, chosen, CoresExist, Choice, filled_shared, filled_by_sharing, written_in_place, I, S, E, O, M, AccessKind, Hit, Upgrade, Miss, Running, new_machine, machine_use, no_counts, with_access, with_forward, with_write_back, counts_at_core, with_use_counted, Counts, CacheUse, Unused, Forwarded, Through, trace_step_of, steps_from, count_of_accesses, is_sender, tells_write_back, one_if, steps_that, ProtocolsKeepNoCopyInI, AccessesAreTold}
 use Rattle.protocol_tables.specs.declared.kind.ProtocolKind.TheVariants.{Msi, Mesi, Moesi, Mosi}
 use Rattle.protocol_tables.specs.declared.state.State.{State}
-use Rattle.trace_report.proofs.AccessesTold.{of, kept, added, flushed-kept, none-told, counts_after, counting, stopped, no-counts, none-of, accesses-told, forwards-told}
+use Rattle.trace_report.proofs.AccessesTold.{of, kept, added, flushed-kept, none-told, counts_after, summed, no-counts, none-of, accesses-told, forwards-told}
 use Rattle.trace_report.proofs.Flushes.{flush_awaited}
 use Rattle.trace_report.proofs.FlushesTold.{sound-first, flushes-told}
-use Rattle.trace_report.proofs.VictimsLeave.{wrote_in}
+use Rattle.trace_report.proofs.InPlace.{wrote_in}
 use Rattle.trace_report.proofs.VictimsTold.{IsKept, kept-first, kept-after, step-told}
 
 adds : (wrote_back : Bool) (kind : AccessKind) (n : Counts) → (with_write_back wrote_back (with_access kind n)).write_backs ≡ n.write_backs + one_if wrote_back
@@ -25,26 +25,13 @@ counted-write-back core k (Through a) cs h =
     ∙ added (λ (n : Counts). n.write_backs) core k (λ n. with_write_back a.wrote_back (with_access a.kind n)) cs a.wrote_back h (adds a.wrote_back a.kind)
 
 write-backs-counted : (m : Running) (choices : List Choice) (k : ℕ) → IsKept m → CoresExist (length m.statistics.counts) choices
-    → (of (counts_after m choices) k).write_backs ≡ (of m.statistics.counts k).write_backs + steps_that (tells_write_back k) (steps_from m choices)
-write-backs-counted m [] k kept cores = omega arith
-write-backs-counted m (c ∷ cs) k kept cores =
-    go (has_ended m.test m.state.flat) refl
-    (write-backs-counted (machine_after m c) cs k (kept-after m c kept) (subst (λ n. CoresExist n cs) (sym (length-counted (chosen c) (machine_use m c).how m.statistics.counts)) cores.1))
-  where
-    go : (b : Bool) → has_ended m.test m.state.flat ≡ b
-        → (of (counts_after (machine_after m c) cs) k).write_backs ≡ (of (machine_after m c).statistics.counts k).write_backs + steps_that (tells_write_back k) (steps_from (machine_after m c) cs)
-        → (of (counts_after m (c ∷ cs)) k).write_backs ≡ (of m.statistics.counts k).write_backs + steps_that (tells_write_back k) (steps_from m (c ∷ cs))
-    go true over rest =
-        let steps : steps_that (tells_write_back k) (steps_from m (c ∷ cs)) ≡ 0 = rw over refl in
-        let counts : (of (counts_after m (c ∷ cs)) k).write_backs ≡ (of m.statistics.counts k).write_backs = ap (λ (x : Statistics). (of x.counts k).write_backs) (stopped m c cs over) in
-        omega arith
-    go false live rest =
-        let steps : steps_that (tells_write_back k) (steps_from m (c ∷ cs)) ≡ one_if (tells_write_back k (trace_step_of m c)) + steps_that (tells_write_back k) (steps_from (machine_after m c) cs) = rw live refl in
-        let counts : (of (counts_after m (c ∷ cs)) k).write_backs ≡ (of (counts_after (machine_after m c) cs) k).write_backs = ap (λ (x : Statistics). (of x.counts k).write_backs) (counting m c cs live) in
-        let one : (of (machine_after m c).statistics.counts k).write_backs ≡ (of m.statistics.counts k).write_backs + one_if ((chosen c == k) && wrote_in (machine_use m c).how) =
-        counted-write-back (chosen c) k (machine_use m c).how m.statistics.counts cores.0 in
-        let told : one_if (tells_write_back k (trace_step_of m c)) ≡ one_if ((chosen c == k) && wrote_in (machine_use m c).how) = ap one_if (step-told k m c kept cores.0) in
-        omega arith
+    → (of (counts_after m choices) k).write_backs + 0 ≡ (of m.statistics.counts k).write_backs + 0 + steps_that (tells_write_back k) (steps_from m choices)
+write-backs-counted m choices k kept there =
+    summed IsKept (λ (n : Counts). n.write_backs) (λ m. 0) (tells_write_back k) k kept-after
+    (λ m c kept h. (
+    let told : one_if (tells_write_back k (trace_step_of m c)) ≡ one_if ((chosen c == k) && wrote_in (machine_use m c).how) = ap one_if (step-told k m c kept h) in
+    let one = counted-write-back (chosen c) k (machine_use m c).how m.statistics.counts h in
+    omega arith)) m choices kept there
 
 -- ---- all of it
 
@@ -65,7 +52,7 @@ all-told table c t choices k cores =
           omega arith;
       write_backs = λ test words keeps. let all = write-backs-counted m choices k (kept-first table c t test words keeps) there in omega arith;
       flushes = λ ended.
-          let all = flushes-told m choices k (sound-first table c t) ended in
+          let all = flushes-told m choices k (sound-first table c t) there ended in
           let first : (of m.statistics.counts k).flushes ≡ 0 = ap (λ (n : Counts). n.flushes) none in
           let nothing : one_if (is_sender k (flush_awaited m.statistics.caches.awaited)) ≡ 0 = refl in
           omega arith;

@@ -1,6 +1,6 @@
 -- What an action of one core does to the core, to the bus and to the commits. (This project's profile; what an action does
 -- is the flat machine's.)
-use Rattle.std.specs.Prelude.{◌≡◌, ◌≢◌, ◌++◌, ◌∷◌, [], ℕ, List, None, Result, IsOk, length, slice_set}
+use Rattle.std.specs.Prelude.{◌≡◌, ◌≢◌, ◌++◌, ◌∷◌, [], ℕ, Bool, List, None, Result, IsOk, length, slice_set}
 use Rattle.tso_model.specs.FlatMachine.{Effect, memory_after}
 use Rattle.tso_model.specs.MemoryAccess.{MemoryAccess}
 use Rattle.tso_model.specs.declared.out_of_memory.NoMemory.{NoMemory}
@@ -18,7 +18,7 @@ use Rattle.machine_core.specs.declared.turn.Turn.{Turn}
 use Rattle.machine_core.specs.Cores.{core_state, store_of}
 use Rattle.machine_core.specs.inner.Cores.{pending_in}
 use Rattle.machine_core.specs.inner.Turns.{by_way}
-use Rattle.machine_core.specs.Caches.{Caches, Used, caches_of, completing_by, completion_by, use_of}
+use Rattle.machine_core.specs.Caches.{caches_of, whole_by, completing_by, completion_by, use_of}
 use Rattle.machine_core.specs.Effects.{ChoiceAnswer, HasUsed}
 use Rattle.snoop_bus.specs.declared.access.Access as bus_access
 
@@ -68,7 +68,7 @@ pub record IsStored (core : ℕ) (store : Pending) (bus bus' : BusModel) (noted 
   pub words : words_of bus' ≡ slice_set (words_of bus) store.loc.0 store.value
   pub commits : Notes noted noted' (store_of core store)
 
--- an access made in this turn was this one, by what a load or a write access is or by its completion; the latter frees the bus
-pub record IsMade (turn : Turn) (how : Caches → ℕ → ℕ → Used) (loc : Loc) (old new : BusModel) (access : bus_access.Access) : Type 0 where
-  pub caches : HasUsed (by_way turn.way (how (caches_of old) turn.core.0 loc.0) (completion_by (caches_of old) turn.core.0 loc.0)) new (Through access)
+-- an access made in this turn, a load or a write access, was this one, whole or by its completion; the latter frees the bus
+pub record IsMade (turn : Turn) (write : Bool) (loc : Loc) (old new : BusModel) (access : bus_access.Access) : Type 0 where
+  pub caches : HasUsed (by_way turn.way (whole_by (caches_of old) turn.core.0 loc.0 write) (completion_by (caches_of old) turn.core.0 loc.0)) new (Through access)
   pub holder : holder_of new ≡ by_way turn.way (holder_of old) None

@@ -1,5 +1,5 @@
 -- The caches of all cores and memory at an access that is made whole: what it rests on, and what it leaves.
-use Rattle.std.specs.Prelude.{◌≡◌, ◌<◌, ◌≤◌, ◌⊎◌, ℕ, true, IsTrue, nat_eq, if◌then◌else◌, List, length, slice_set}
+use Rattle.std.specs.Prelude.{◌≡◌, ◌<◌, ◌≤◌, ◌⊎◌, ℕ, Bool, true, false, IsTrue, nat_eq, if◌then◌else◌, List, length, slice_set}
 use Rattle.std.specs.Prelude.{slice_index, Option, Some, None, IfSome}
 use Rattle.protocol_tables.specs.declared.state.State.TheVariants.{M}
 use Rattle.protocol_tables.specs.Tables.{Table}
@@ -10,14 +10,13 @@ use Rattle.snoop_bus.specs.declared.hierarchy.Hierarchy.{Hierarchy}
 use Rattle.snoop_bus.specs.declared.holding.HeldBus.{HeldBus}
 use Rattle.tso_model.specs.Limits.{most_cores}
 use Rattle.snoop_bus.specs.Lines.{Words}
-use Rattle.snoop_bus.specs.CacheContents.{TagSets, loaded, written}
+use Rattle.snoop_bus.specs.CacheContents.{TagSets}
 use Rattle.snoop_bus.specs.Copies.{Sets, copy_at, tags_of}
 use Rattle.snoop_bus.specs.inner.Copies.{ways_of}
-use Rattle.snoop_bus.specs.MemoryAfter.{loaded_memory, written_memory}
 use Rattle.snoop_bus.specs.Held.{counted_copies_of}
 use Rattle.snoop_bus.specs.inner.Held.{IsHeld}
 use Rattle.snoop_bus.specs.Bus.{AllCoherent, current_words}
-use Rattle.snoop_bus.specs.Asks.{hits}
+use Rattle.snoop_bus.specs.Asks.{hits, whole_access, whole_memory}
 
 -- a core may ask for a line of memory, or hit it beside an action that holds the bus: the copies that count are
 -- coherent, and the holder's own copy is as its action has left it
@@ -43,6 +42,13 @@ abbrev pub OnlyWordAt : ℕ → ℕ → ℕ → ℕ → (ℕ → Words) → (ℕ
 OnlyWordAt line offset value count old new =
     (k : ℕ) → k < count → new k ≡ (if nat_eq k line then slice_set (old line) offset value else old k)
 
+-- the same beside an action that holds the bus: the copies that count keep their words, and the holder's own copy stays as its
+-- action has left it
+pub record KeepsBeside (held : Option HeldBus) (old_caches new_caches : List Sets) (old_memory new_memory : List Words) : Type 0 where
+  pub words : KeepsWords (counted_copies_of held old_caches) (counted_copies_of held new_caches) old_memory new_memory
+  pub awaited : IfSome held (IsHeld new_caches new_memory)
+  pub ways : ways_of new_caches ≡ ways_of old_caches
+
 -- the caches and memory are coherent, and the word at this offset in a line alone is seen to change
 pub record SetsWord (line offset value : ℕ) (old_caches new_caches : List Sets) (old_memory new_memory : List Words) : Type 0 where
   pub coherent : AllCoherent new_caches new_memory
@@ -53,32 +59,31 @@ pub record SetsWord (line offset value : ℕ) (old_caches new_caches : List Sets
 abbrev pub counted_words : Option HeldBus → List Sets → List Words → ℕ → Words
 counted_words held caches memory line = current_words (counted_copies_of held caches) memory line
 
+-- an access that is made whole was this one, and what it leaves goes by the protocol's table
+pub record IsMadeWhole (t : Table) (write : Bool) (core line : ℕ) (old new : List Sets) (before after : List Words) (access : Access) : Type 0 where
+  pub access_is : access ≡ (whole_access t write core line (tags_of old)).access
+  pub tags : tags_of new ≡ (whole_access t write core line (tags_of old)).caches
+  pub memory : after ≡ whole_memory t write core line old before
+
 module _ (t : Table) (held : Option HeldBus) (core line : ℕ) where
-  -- a load answered the word at this offset in a line and was this access: what it leaves goes by the protocol's table
+  -- a load answered the word at this offset in a line and was this access
   pub record Loads (offset : ℕ) (old new : List Sets) (before after : List Words) (word : ℕ) (access : Access) : Type 0 where
     pub word_is : word ≡ slice_index (counted_words held old before line) offset
-    pub access_is : access ≡ (loaded t core line (tags_of old)).access
-    pub tags : tags_of new ≡ (loaded t core line (tags_of old)).caches
-    pub memory : after ≡ loaded_memory t core line old before
+    pub made : IsMadeWhole t false core line old new before after access
 
-  -- a write access found these words and was this access: the core has the line in M, and what is left goes by
-  -- the protocol's table
+  -- a write access found these words and was this access: the core has the line in M
   pub record Acquires (old new : List Sets) (before after : List Words) (words : Words) (access : Access) : Type 0 where
     pub words_are : words ≡ counted_words held old before line
     pub own : copy_at new core line ≡ Some (copy_with M words)
-    pub access_is : access ≡ (written t core line (tags_of old)).access
-    pub tags : tags_of new ≡ (written t core line (tags_of old)).caches
-    pub memory : after ≡ written_memory t core line old before
+    pub made : IsMadeWhole t true core line old new before after access
 
   -- a write access wrote this value at an offset in a line, found that word there and was this access: that word alone
-  -- is seen to change, and what is left goes by the protocol's table
+  -- is seen to change
   pub record Writes (offset value : ℕ) (old new : List Sets) (before after : List Words) (word : ℕ) (access : Access) : Type 0 where
     pub offset_in : offset < length (counted_words held old before line)
     pub word_is : word ≡ slice_index (counted_words held old before line) offset
     pub lines : OnlyWordAt line offset value (length before) (counted_words held old before) (counted_words held new after)
-    pub access_is : access ≡ (written t core line (tags_of old)).access
-    pub tags : tags_of new ≡ (written t core line (tags_of old)).caches
-    pub memory : after ≡ written_memory t core line old before
+    pub made : IsMadeWhole t true core line old new before after access
 
   -- a write access made this of the word that it found
   abbrev pub Updates : ℕ → List Sets → List Sets → List Words → List Words → Updated → Type 0

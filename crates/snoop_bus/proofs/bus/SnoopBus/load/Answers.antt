@@ -1,4 +1,5 @@
-use Rattle.snoop_bus.proofs.Vocabulary.{rules, refl, false, ◌<◌, ◌/◌, counted_copies_of}
+use Rattle.snoop_bus.proofs.Vocabulary.{refl, false, ◌<◌, ◌/◌, counted_copies_of, ap, length, ◌∙◌}
+use Rattle.snoop_bus.proofs.MemoryLemmas.{length-whole}
 use Rattle.snoop_bus.proofs.CallLemmas.{bus_ready, free_or_hit, loc_in, load_done}
 use Rattle.snoop_bus.proofs.UpgradeAsk.{free_load}
 use Rattle.snoop_bus.proofs.NewLemmas.{bus-kept, same_cores}
@@ -16,12 +17,13 @@ returns-clause-done g c =
     rw (← c.self.view_is)
     (load_done (g.P.Protocol.table c.self.inside.protocol) c.self.inside.shape c.self.inside.locations c.self.inside.hierarchy c.load.new.self c.self.inside.held c.args.core.0 c.args.loc.0 c.load.result.0 c.load.result.1 c.self.invariant.some_word c.self.invariant.enough_lines within
     (rw (c.target_of-target.ensures.value) at c.load.ensures.ok)
-    c.load.ensures.words)
+    c.load.ensures.kept.words)
 
 pub invariant_of-self : goal.invariant_of-self
 invariant_of-self g c =
-    (bus-kept c.self.inside.shape c.self.inside.locations c.self.inside.hierarchy c.load.new.self c.self.inside.held c.self.inside.held c.self.invariant (search rules)
-    c.load.ensures.words c.load.ensures.ways c.load.ensures.awaited c.self.invariant.placed)
+    (bus-kept c.self.inside.shape c.self.inside.locations c.self.inside.hierarchy c.load.new.self c.self.inside.held c.self.inside.held c.self.invariant
+    (ap length c.load.ensures.ok.made.memory ∙ length-whole (g.P.Protocol.table c.self.inside.protocol) false c.target_of-target.result.core c.target_of-target.result.line c.self.inside.hierarchy.caches.items c.self.inside.hierarchy.memory.items)
+    c.load.ensures.kept.words c.load.ensures.kept.ways c.load.ensures.kept.awaited c.self.invariant.placed)
 
 pub load-requires-clause-free : goal.load-requires-clause-free
 load-requires-clause-free g c =
@@ -35,4 +37,4 @@ returns-clause-coherent g c = (invariant_of-self g c).coherent
 pub returns-clause-machine : goal.returns-clause-machine
 returns-clause-machine g c =
     rw (← c.self.view_is)
-    (record { rows = refl; shape = refl; cores = same_cores c.self.inside.hierarchy.caches.items c.load.new.self.caches.items c.load.ensures.ways; locations = refl })
+    (record { rows = refl; shape = refl; cores = same_cores c.self.inside.hierarchy.caches.items c.load.new.self.caches.items c.load.ensures.kept.ways; locations = refl })

@@ -1,5 +1,5 @@
-use Rattle.snoop_bus.proofs.Vocabulary.{rules, length, ap, ◌∙◌}
-use Rattle.snoop_bus.proofs.MemoryLemmas.{length-written}
+use Rattle.snoop_bus.proofs.Vocabulary.{rules, length, ap, ◌∙◌, true}
+use Rattle.snoop_bus.proofs.MemoryLemmas.{length-whole}
 use Rattle.snoop_bus.proofs.WordWritten.{present_own, word_written}
 use Rattle.snoop_bus.proofs.hierarchy.Hierarchy.update.Goals as goal
 
@@ -8,16 +8,16 @@ write-requires-clause-present g c = present_own c.acquire.new.self.caches.items 
 
 pub returns-clause-ok : goal.returns-clause-ok
 returns-clause-ok g c = rw (c.from.ensures, c.write.ensures.memory) (word_written (g.P.Protocol.table c.args.protocol.now) c.args.held c.args.self.now.caches.items c.acquire.new.self.caches.items c.write.new.self.caches.items c.args.self.now.memory.items c.acquire.new.self.memory.items c.args.target.core c.args.target.line c.args.target.offset c.apply-after.result c.acquire.result.0 c.acquire.result.1
-    c.requires.ready.line_in (search rules) (ap length c.acquire.ensures.ok.memory ∙ length-written (g.P.Protocol.table c.args.protocol.now) c.args.target.core c.args.target.line c.args.self.now.caches.items c.args.self.now.memory.items) c.acquire.ensures.ok c.acquire.ensures.words c.acquire.ensures.awaited c.acquire.ensures.ways c.write.ensures.copies c.write.ensures.tags c.write.ensures.ways).0
+    c.requires.ready.line_in (search rules) (ap length c.acquire.ensures.ok.made.memory ∙ length-whole (g.P.Protocol.table c.args.protocol.now) true c.args.target.core c.args.target.line c.args.self.now.caches.items c.args.self.now.memory.items) c.acquire.ensures.ok c.acquire.ensures.kept.words c.acquire.ensures.kept.awaited c.acquire.ensures.kept.ways c.write.ensures.copies c.write.ensures.tags c.write.ensures.ways).0
 
 pub returns-clause-coherent : goal.returns-clause-coherent
 returns-clause-coherent g c = rw c.write.ensures.memory (word_written (g.P.Protocol.table c.args.protocol.now) c.args.held c.args.self.now.caches.items c.acquire.new.self.caches.items c.write.new.self.caches.items c.args.self.now.memory.items c.acquire.new.self.memory.items c.args.target.core c.args.target.line c.args.target.offset c.apply-after.result c.acquire.result.0 c.acquire.result.1
-    c.requires.ready.line_in (search rules) (ap length c.acquire.ensures.ok.memory ∙ length-written (g.P.Protocol.table c.args.protocol.now) c.args.target.core c.args.target.line c.args.self.now.caches.items c.args.self.now.memory.items) c.acquire.ensures.ok c.acquire.ensures.words c.acquire.ensures.awaited c.acquire.ensures.ways c.write.ensures.copies c.write.ensures.tags c.write.ensures.ways).1
+    c.requires.ready.line_in (search rules) (ap length c.acquire.ensures.ok.made.memory ∙ length-whole (g.P.Protocol.table c.args.protocol.now) true c.args.target.core c.args.target.line c.args.self.now.caches.items c.args.self.now.memory.items) c.acquire.ensures.ok c.acquire.ensures.kept.words c.acquire.ensures.kept.awaited c.acquire.ensures.kept.ways c.write.ensures.copies c.write.ensures.tags c.write.ensures.ways).1
 
 pub returns-clause-ways : goal.returns-clause-ways
 returns-clause-ways g c = (word_written (g.P.Protocol.table c.args.protocol.now) c.args.held c.args.self.now.caches.items c.acquire.new.self.caches.items c.write.new.self.caches.items c.args.self.now.memory.items c.acquire.new.self.memory.items c.args.target.core c.args.target.line c.args.target.offset c.apply-after.result c.acquire.result.0 c.acquire.result.1
-    c.requires.ready.line_in (search rules) (ap length c.acquire.ensures.ok.memory ∙ length-written (g.P.Protocol.table c.args.protocol.now) c.args.target.core c.args.target.line c.args.self.now.caches.items c.args.self.now.memory.items) c.acquire.ensures.ok c.acquire.ensures.words c.acquire.ensures.awaited c.acquire.ensures.ways c.write.ensures.copies c.write.ensures.tags c.write.ensures.ways).2
+    c.requires.ready.line_in (search rules) (ap length c.acquire.ensures.ok.made.memory ∙ length-whole (g.P.Protocol.table c.args.protocol.now) true c.args.target.core c.args.target.line c.args.self.now.caches.items c.args.self.now.memory.items) c.acquire.ensures.ok c.acquire.ensures.kept.words c.acquire.ensures.kept.awaited c.acquire.ensures.kept.ways c.write.ensures.copies c.write.ensures.tags c.write.ensures.ways).2
 
 pub returns-clause-awaited : goal.returns-clause-awaited
 returns-clause-awaited g c = rw c.write.ensures.memory (word_written (g.P.Protocol.table c.args.protocol.now) c.args.held c.args.self.now.caches.items c.acquire.new.self.caches.items c.write.new.self.caches.items c.args.self.now.memory.items c.acquire.new.self.memory.items c.args.target.core c.args.target.line c.args.target.offset c.apply-after.result c.acquire.result.0 c.acquire.result.1
-    c.requires.ready.line_in (search rules) (ap length c.acquire.ensures.ok.memory ∙ length-written (g.P.Protocol.table c.args.protocol.now) c.args.target.core c.args.target.line c.args.self.now.caches.items c.args.self.now.memory.items) c.acquire.ensures.ok c.acquire.ensures.words c.acquire.ensures.awaited c.acquire.ensures.ways c.write.ensures.copies c.write.ensures.tags c.write.ensures.ways).3
+    c.requires.ready.line_in (search rules) (ap length c.acquire.ensures.ok.made.memory ∙ length-whole (g.P.Protocol.table c.args.protocol.now) true c.args.target.core c.args.target.line c.args.self.now.caches.items c.args.self.now.memory.items) c.acquire.ensures.ok c.acquire.ensures.kept.words c.acquire.ensures.kept.awaited c.acquire.ensures.kept.ways c.write.ensures.copies c.write.ensures.tags c.write.ensures.ways).3

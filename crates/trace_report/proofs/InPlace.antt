@@ -1,0 +1,87 @@
+-- An access that needs no bus: no other cache sees it, nothing is sent to memory, and no line leaves.
+use Rattle.trace_report.proofs.Vocabulary.{◌≡◌, ◌≢◌, ◌∙◌, ◌/◌, ℕ, Bool, true, false, not, List, slice_index_or, Option, Some, None, is_some, inl, inr, refl, sym, subst, eqb_tells, MemoryAccess, NoAccess, Reads, Writes, Locks, needs_bus, Table, table_of_rows, TagSet, tag_of, used, TagSets, tags_at, tag_in, at_line, sets_of, used_by, tag_at, Caches, Used, not_through, hits_by, Unused, IsUseFor, no_set, absent-remove, would_hit, through, whole_by, Forwarded, Through, next_in_place, whole_in, CacheUse, Core}
+use Rattle.protocol_tables.specs.declared.state.State.{State}
+use Rattle.bus_laws.proofs.Changed.{set-at, core-at}
+use Rattle.bus_laws.proofs.Snooped.{own-alone}
+
+-- whether a dirty line is written back as the caches are used, and whose copy is sent to memory
+abbrev pub wrote_in : CacheUse → Bool
+wrote_in Unused = false
+wrote_in Forwarded = false
+wrote_in (Through a) = a.wrote_back
+
+abbrev pub flush_in : CacheUse → Option Core
+flush_in Unused = None
+flush_in Forwarded = None
+flush_in (Through a) = a.flushed
+
+-- where a line is used that is there, a line that isn't there stays away
+tags-absent : (other line : ℕ) (state found : State) (s : TagSet) → tag_of s line ≡ Some found → tag_of s other ≡ None → tag_of (used line state s) other ≡ None
+tags-absent other line state found s there none = elim (eqb_tells other line) [
+  | inl p ↦ let z : Some found ≡ None = sym there ∙ subst (λ k. tag_of s k ≡ None) p.1 none in absurd (let y : ⊥ = cc in y)
+  | inr p ↦ rw p.0 (absent-remove line other s.tags none)
+]
+
+sets-absent : (other line : ℕ) (state found : State) (sets : TagSets) → tag_in sets line ≡ Some found → tag_in sets other ≡ None → tag_in (at_line line (used line state) sets) other ≡ None
+sets-absent other line state found sets there none =
+    set-at (λ s. tag_of s other ≡ None) line other (used line state) sets (λ q l. tags-absent other line state found (tags_at sets line) there (subst (λ k. tag_of (slice_index_or sets k no_set) other ≡ None) q none))
+    (λ q past. refl) (λ n. none)
+
+used-absent : (k other core line : ℕ) (state found : State) (caches : List TagSets) → tag_at core line caches ≡ Some found → tag_at k other caches ≡ None → tag_at k other (used_by core line state caches) ≡ None
+used-absent k other core line state found caches there none =
+    core-at (λ sets. tag_in sets other ≡ None) core k (at_line line (used line state)) caches
+    (λ q l. sets-absent other line state found (sets_of caches core) there (subst (λ j. tag_at j other caches ≡ None) q none)) (λ q past. refl) (λ n. none)
+
+-- the shape of the caches, what is awaited, and the lines of other cores are as before; what wasn't there isn't there; and
+-- nothing is written back or sent
+pub record IsStill (c : Caches) (core : ℕ) (u : Used) : Type 0 where
+  pub shape : u.caches.shape ≡ c.shape
+  pub awaited : u.caches.awaited ≡ c.awaited
+  pub beside : (k : ℕ) → k ≢ core → sets_of u.caches.contents k ≡ sets_of c.contents k
+  pub absent : (k line : ℕ) → tag_at k line c.contents ≡ None → tag_at k line u.caches.contents ≡ None
+  pub clean : wrote_in u.how ≡ false
+  pub unsent : flush_in u.how ≡ None
+
+pub none-still : (c : Caches) (core : ℕ) (how : CacheUse) → wrote_in how ≡ false → flush_in how ≡ None → IsStill c core (not_through how c)
+none-still c core how clean unsent = record { shape = refl; awaited = refl; beside = λ k n. refl; absent = λ k line none. none; clean = clean; unsent = unsent }
+
+there : (t : Table) (write : Bool) (copy : Option State) (next : State) → next_in_place t write copy ≡ Some next → (s : State) × (copy ≡ Some s)
+there t write None next q = absurd (let z : ⊥ = cc in z)
+there t write (Some s) next q = (s, refl)
+
+hit-still : (c : Caches) (core loc : ℕ) (write : Bool) → not (would_hit c core loc write) ≡ false → IsStill c core (whole_by c core loc write)
+hit-still c core loc write hit = by_next (next_in_place t write (tag_at core line c.contents)) refl hit
+  where
+    t : Table
+    t = table_of_rows c.rows
+
+    line : ℕ
+    line = loc / c.shape.words
+
+    by_next : (o : Option State) → next_in_place t write (tag_at core line c.contents) ≡ o → not (is_some o) ≡ false → IsStill c core (whole_by c core loc write)
+    by_next None q hit = absurd (let z : ⊥ = cc in z)
+    by_next (Some next) q hit =
+        let found = there t write (tag_at core line c.contents) next q in
+        subst (λ o. IsStill c core (through c c.awaited (whole_in t write core line c.contents (tag_at core line c.contents) o))) (sym q) (record {
+          shape = refl;
+          awaited = refl;
+          beside = λ k n. own-alone core (at_line line (used line next)) c.contents k n;
+          absent = λ k other none. used-absent k other core line next found.0 c.contents found.1 none;
+          clean = refl;
+          unsent = refl;
+        })
+
+pub use-still : (c : Caches) (core : ℕ) (what : MemoryAccess) (u : Used) → IsUseFor c core what u → needs_bus what (hits_by c core what) ≡ false → IsStill c core u
+use-still c core NoAccess u (inl is) free = subst (IsStill c core) (sym is) (none-still c core Unused refl refl)
+use-still c core NoAccess u (inr is) free = subst (IsStill c core) (sym is) (none-still c core Forwarded refl refl)
+use-still c core (Reads loc) u is free = subst (IsStill c core) (sym is) (hit-still c core loc.0 false free)
+use-still c core (Writes loc) u is free = subst (IsStill c core) (sym is) (hit-still c core loc.0 true free)
+use-still c core (Locks loc) u is free = absurd (let z : ⊥ = cc in z)
+
+-- whatever access it is, the protocol's table and what is awaited stay
+pub use-keeps : (c : Caches) (core : ℕ) (what : MemoryAccess) (u : Used) → IsUseFor c core what u → (u.caches.rows ≡ c.rows) × (u.caches.awaited ≡ c.awaited)
+use-keeps c core NoAccess u (inl is) = rw is (refl, refl)
+use-keeps c core NoAccess u (inr is) = rw is (refl, refl)
+use-keeps c core (Reads loc) u is = rw is (refl, refl)
+use-keeps c core (Writes loc) u is = rw is (refl, refl)
+use-keeps c core (Locks loc) u is = rw is (refl, refl)
