@@ -139,7 +139,7 @@ checked : (test out input answer : List ℕ) (status : Status) (t : Litmus) (ord
     → parts_of (joined_parts test out) ≡ record { test = test; rest = out } → length out ≤ longest_report → SpellsTest test t → SpellsOrder t out order → IsTsoExecution t order
     → IsInputAnswer settings.Check input answer status → (answer ≡ valid_line) × (status ≡ Good)
 checked test out input _ _ t order laws same separated short spelled spells execution (too_large large) =
-    let size : length test ≤ 65536 = spelled.is.small in
+    let size : length test ≤ 65536 = laws.short test t spelled in
     absurd (omega (arith, ap (λ (l : List ℕ). length l) same, length-append test (codes "====\n" ++ out), length-append (codes "====\n") out))
 checked test out input _ _ t order laws same separated short spelled spells execution (refused fault small is) =
     let first : (parts_of input).test ≡ test = ap (λ i. (parts_of i).test) same ∙ ap (λ (p : Parts). p.test) separated in

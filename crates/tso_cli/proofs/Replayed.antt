@@ -89,7 +89,7 @@ pub replayed-joined : (kind : ProtocolKind) (c : Configuration) (json : Bool) (t
     → SpellsChoices (length t.programs) out choices → c.bus ≡ Atomic → (run t c.depth choices).ended ≡ true
     → IsInputAnswer (settings.Run kind c json) input answer status → Replays kind c json t choices answer status
 replayed-joined kind c json test out input _ _ t choices laws same separated short spelled spells atomic ended (too_large large) =
-    let size : length test ≤ 65536 = spelled.is.small in
+    let size : length test ≤ 65536 = laws.short test t spelled in
     absurd (omega (arith, ap (λ (l : List ℕ). length l) same, length-append test (codes "====\n" ++ out), length-append (codes "====\n") out))
 replayed-joined kind c json test out input _ _ t choices laws same separated short spelled spells atomic ended (refused fault small is) =
     let first : (parts_of input).test ≡ test = ap (λ i. (parts_of i).test) same ∙ ap (λ (p : Parts). p.test) separated in

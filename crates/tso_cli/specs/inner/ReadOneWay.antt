@@ -3,6 +3,7 @@ use Rattle.std.specs.Prelude.{ℕ, ◌≡◌, ◌<◌, ◌^◌, List, length}
 use Rattle.tso_model.specs.Litmus.{Litmus, IsTest}
 use Rattle.tso_model.specs.Axioms.{IsTsoExecution}
 use Rattle.tso_model.specs.declared.execution.Entry.{Entry}
+use Rattle.litmus_reader.specs.Limits.{longest_text}
 use Rattle.litmus_reader.specs.Spelling.{SpellsTest, IsRefused as IsRefusedTest}
 use Rattle.litmus_reader.specs.declared.fault.TextFault.{TextFault}
 use Rattle.scheduler.specs.Refusals.{IsDecidedAsChoices}
@@ -17,6 +18,7 @@ pub record AreReadOneWay : Type 0 where
   pub refused_or_not : (text : List ℕ) (t : Litmus) (fault : TextFault) → SpellsTest text t → IsRefusedTest text fault → ⊥
   pub one_refusal : (text : List ℕ) (fault other : TextFault) → IsRefusedTest text fault → IsRefusedTest text other → fault ≡ other
   pub test : (text : List ℕ) (t : Litmus) → SpellsTest text t → IsTest t
+  pub short : (text : List ℕ) (t : Litmus) → SpellsTest text t → length text ≤ longest_text
   -- a text spells one list of choices, or gets one refusal
   pub decided : (cores : ℕ) (text : List ℕ) → 0 < cores → IsDecidedAsChoices cores text
   -- a text spells one order of a test, or has one fault

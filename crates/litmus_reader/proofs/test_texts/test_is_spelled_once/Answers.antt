@@ -12,3 +12,6 @@ returns-clause-one_refusal c = λ text fault other p q. (c.texts_are_decided.ens
 
 pub returns-clause-within : goal.returns-clause-within
 returns-clause-within c = λ text t p. spelled_is_test text t p
+
+pub returns-clause-short : goal.returns-clause-short
+returns-clause-short c = λ text t p. (c.spelled_tests_follow_the_grammar.ensures.follows text t p).is.small

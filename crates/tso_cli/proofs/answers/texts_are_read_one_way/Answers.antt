@@ -6,6 +6,7 @@ returns c = record {
   refused_or_not = c.test_is_spelled_once.ensures.never_both;
   one_refusal = c.test_is_spelled_once.ensures.one_refusal;
   test = c.test_is_spelled_once.ensures.within;
+  short = c.test_is_spelled_once.ensures.short;
   decided = c.texts_are_decided.ensures;
   once = c.order_is_spelled_once.ensures.once;
   never_both = c.order_is_spelled_once.ensures.never_both;
