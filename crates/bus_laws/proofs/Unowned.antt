@@ -1,7 +1,7 @@
 -- A line of memory that changes has no dirty copy then: the one that was sent or written back was the only one.
 use Rattle.bus_laws.proofs.Vocabulary.{◌≡◌, ◌≢◌, ◌∙◌, ℕ, suc, Bool, true, false, if◌then◌else◌, List, [], ◌∷◌, slice_set, Option, Some, None, option_map, inl, inr, refl, sym, ap, subst, get_or-set_other, decide, is_dirty, Table, table_of, ProtocolKind, State, I, S, E, O, M, Snoop, Line, Victim, table_of_rows, rows_of, Words, line_in, state_of_copy, may_share, leaving, filled, TagSets, tags_at, tag_in, at_line, sets_of, requested, filled_by, Sets, copy_at, copy_in, tags_of, written_back, flushed, sent_of, first_of_two, sent_words, tag_at, or_invalid, tag_at-copy}
 use Rattle.bus_laws.proofs.Changed.{core-at}
-use Rattle.protocol_tables.specs.Tables.{is_written_back}
+use Rattle.protocol_tables.specs.Tables.{is_written_back, filled_by_sharing, get_s_flushing, get_s_owning}
 use Rattle.protocol_tables.specs.declared.kind.ProtocolKind.TheVariants.{Msi, Mesi, Moesi, Mosi}
 use Rattle.snoop_bus.proofs.RowLemmas.{table_of-rows}
 use Rattle.bus_laws.proofs.Victims.{AreNeat, AllNeat, sets-leave}
@@ -13,68 +13,6 @@ use Rattle.bus_laws.proofs.Dirty.{apart}
 -- the table of a protocol, as a bus has it
 abbrev pub kept_table : ProtocolKind → Table
 kept_table kind = table_of_rows (rows_of (table_of kind))
-
-written_if_dirty : (kind : ProtocolKind) (s : State) → (kept_table kind).evicts_dirty s ≡ is_dirty s
-written_if_dirty kind s = ap (λ (t : Table). t.evicts_dirty s) (table_of-rows (table_of kind)) ∙ by_protocol kind
-  where
-    by_state : (s : State) → is_written_back s ≡ is_dirty s
-    by_state I = refl
-    by_state S = refl
-    by_state E = refl
-    by_state O = refl
-    by_state M = refl
-
-    by_protocol : (kind : ProtocolKind) → (table_of kind).evicts_dirty s ≡ is_dirty s
-    by_protocol Msi = by_state s
-    by_protocol Mesi = by_state s
-    by_protocol Moesi = by_state s
-    by_protocol Mosi = by_state s
-
--- a load fills in a clean state
-filled_clean : (kind : ProtocolKind) (shared : Bool) → is_dirty ((kept_table kind).filled shared) ≡ false
-filled_clean Msi true = refl
-filled_clean Msi false = refl
-filled_clean Mesi true = refl
-filled_clean Mesi false = refl
-filled_clean Moesi true = refl
-filled_clean Moesi false = refl
-filled_clean Mosi true = refl
-filled_clean Mosi false = refl
-
--- a copy in M alone is sent to memory
-sent_in_m : (kind : ProtocolKind) (s : State) → ((kept_table kind).on_get_s s).to_memory ≡ true → s ≡ M
-sent_in_m Msi I h = absurd (let z : ⊥ = cc in z)
-sent_in_m Msi S h = absurd (let z : ⊥ = cc in z)
-sent_in_m Msi E h = absurd (let z : ⊥ = cc in z)
-sent_in_m Msi O h = absurd (let z : ⊥ = cc in z)
-sent_in_m Msi M h = refl
-sent_in_m Mesi I h = absurd (let z : ⊥ = cc in z)
-sent_in_m Mesi S h = absurd (let z : ⊥ = cc in z)
-sent_in_m Mesi E h = absurd (let z : ⊥ = cc in z)
-sent_in_m Mesi O h = absurd (let z : ⊥ = cc in z)
-sent_in_m Mesi M h = refl
-sent_in_m Moesi I h = absurd (let z : ⊥ = cc in z)
-sent_in_m Moesi S h = absurd (let z : ⊥ = cc in z)
-sent_in_m Moesi E h = absurd (let z : ⊥ = cc in z)
-sent_in_m Moesi O h = absurd (let z : ⊥ = cc in z)
-sent_in_m Moesi M h = absurd (let z : ⊥ = cc in z)
-sent_in_m Mosi I h = absurd (let z : ⊥ = cc in z)
-sent_in_m Mosi S h = absurd (let z : ⊥ = cc in z)
-sent_in_m Mosi E h = absurd (let z : ⊥ = cc in z)
-sent_in_m Mosi O h = absurd (let z : ⊥ = cc in z)
-sent_in_m Mosi M h = absurd (let z : ⊥ = cc in z)
-
-sent_clean : (kind : ProtocolKind) → ((kept_table kind).on_get_s M).to_memory ≡ true → is_dirty ((kept_table kind).on_get_s M).next ≡ false
-sent_clean Msi h = refl
-sent_clean Mesi h = refl
-sent_clean Moesi h = absurd (let z : ⊥ = cc in z)
-sent_clean Mosi h = absurd (let z : ⊥ = cc in z)
-
-absent_clean : (kind : ProtocolKind) → is_dirty ((kept_table kind).on_get_s I).next ≡ false
-absent_clean Msi = refl
-absent_clean Mesi = refl
-absent_clean Moesi = refl
-absent_clean Mosi = refl
 
 -- beside a copy in M there is none
 beside_m : (s : State) → may_share M s ≡ true → s ≡ I
@@ -93,9 +31,39 @@ pub record SettlesMemory (t : Table) : Type 0 where
   pub clean : (t.on_get_s M).to_memory ≡ true → is_dirty (t.on_get_s M).next ≡ false
   pub absent : is_dirty (t.on_get_s I).next ≡ false
 
+back-dirty : (s : State) → is_written_back s ≡ is_dirty s
+back-dirty I = refl
+back-dirty S = refl
+back-dirty E = refl
+back-dirty O = refl
+back-dirty M = refl
+
+sharing-clean : (shared : Bool) → is_dirty (filled_by_sharing shared) ≡ false
+sharing-clean true = refl
+sharing-clean false = refl
+
+flushes-m : (s : State) → (get_s_flushing s).to_memory ≡ true → s ≡ M
+flushes-m I h = absurd (let z : ⊥ = cc in z)
+flushes-m S h = absurd (let z : ⊥ = cc in z)
+flushes-m E h = absurd (let z : ⊥ = cc in z)
+flushes-m O h = absurd (let z : ⊥ = cc in z)
+flushes-m M h = refl
+
+owning-keeps : (s : State) → (get_s_owning s).to_memory ≡ true → ⊥
+owning-keeps I h = let z : ⊥ = cc in z
+owning-keeps S h = let z : ⊥ = cc in z
+owning-keeps E h = let z : ⊥ = cc in z
+owning-keeps O h = let z : ⊥ = cc in z
+owning-keeps M h = let z : ⊥ = cc in z
+
 pub settles : (kind : ProtocolKind) → SettlesMemory (kept_table kind)
-settles kind =
-    record { written = written_if_dirty kind; filled = filled_clean kind; sent = sent_in_m kind; clean = sent_clean kind; absent = absent_clean kind }
+settles kind = subst SettlesMemory (sym (table_of-rows (table_of kind))) (by_protocol kind)
+  where
+    by_protocol : (kind : ProtocolKind) → SettlesMemory (table_of kind)
+    by_protocol Msi = record { written = back-dirty; filled = λ shared. refl; sent = flushes-m; clean = λ h. refl; absent = refl }
+    by_protocol Mesi = record { written = back-dirty; filled = sharing-clean; sent = flushes-m; clean = λ h. refl; absent = refl }
+    by_protocol Moesi = record { written = back-dirty; filled = sharing-clean; sent = λ s h. absurd (owning-keeps s h); clean = λ h. absurd (owning-keeps M h); absent = refl }
+    by_protocol Mosi = record { written = back-dirty; filled = λ shared. refl; sent = λ s h. absurd (owning-keeps s h); clean = λ h. absurd (owning-keeps M h); absent = refl }
 
 left-clean : (t : Table) (o : Option State) → SettlesMemory t → or_invalid o ≡ I → is_dirty (left_of t.on_get_s o) ≡ false
 left-clean t None h q = refl

@@ -1,29 +1,34 @@
 -- Each choice on either bus counts an access only where one more instruction has made its own.
-use Rattle.machine_core.proofs.Vocabulary.{◌≡◌, ◌≢◌, ◌<◌, ℕ, Bool, true, false, if◌then◌else◌, List, [], ◌∷◌, drop, length, Option, None, Some, slice_get, refl, sym, ap, ◌∙◌, subst, arith, nat_tests, Litmus, IsTest, action_of, CoreState, State, effect_by, step_of, effect_of, core_of, chosen, program_of, MemoryAccess, NoAccess, Reads, Writes, Locks, access_by, step_access, access_of, Holder, Free, HeldBy, HeldBetween, Attempt, BusEffect, acts, asks, begins, needs_bus, same_choice, completes, writes_last, as_read, effect_on, Bus, Atomic, Split, Reg, Loc, Instr, Action, Store, Load, Move, Fence, Lock, Entry, Choice, Step, Drain, HasRead, HolderFits, Unused, Caches, is_awaited, use_of, use_with, HasIssuedItsStores, locked_with}
+use Rattle.machine_core.proofs.Vocabulary.{◌≡◌, ◌≢◌, ◌<◌, ℕ, Bool, true, false, if◌then◌else◌, List, drop, length, Option, None, Some, slice_get, refl, sym, ap, ◌∙◌, subst, arith, nat_tests, Litmus, IsTest, action_of, CoreState, State, effect_by, step_of, effect_of, core_of, chosen, program_of, MemoryAccess, NoAccess, Reads, Writes, Locks, access_of, Holder, Free, HeldBy, HeldBetween, Attempt, BusEffect, acts, asks, begins, needs_bus, same_choice, completes, writes_last, as_read, effect_on, Bus, Atomic, Split, Instr, Action, Store, Load, Move, Fence, Lock, Entry, Choice, Step, Drain, HasRead, HolderFits, Unused, Caches, is_awaited, use_of, use_with, HasIssuedItsStores, zero, suc, nat_lt, Effect, stalled, stored, is_none_pending, not_through}
+use Rattle.tso_model.specs.declared.choice.Stall.{Stall}
+use Rattle.tso_model.specs.declared.choice.Stall.TheVariants as stall
 use Rattle.machine_core.proofs.EachUse.{asks-nothing}
 use Rattle.machine_core.proofs.CountBounds.{effect-advances}
 use Rattle.machine_core.proofs.CountsOnBus.{AdvancesOn, advances-acts, advances-frees, advances-reads, advances-writes, advances-rests}
 use Rattle.machine_core.proofs.Accessing.{commits-at-once}
-use Rattle.machine_core.proofs.LastWrites.{no-load, no-store}
 
--- of the two entries of a locked instruction, the store part uses no cache
-last-unused : (c : Caches) (before : List Entry) (core : ℕ) (s : CoreState) (loc : Loc) (reg : Reg) (word value : ℕ) (pending : List Entry)
-    → (use_of c before (drop 1 (locked_with core s loc reg word value pending).commits)).how ≡ Unused
-last-unused c before core s loc reg word value [] = refl
-last-unused c before core s loc reg word value (p ∷ ps) = refl
+-- the store part of a locked instruction makes no access
+abbrev IsNoUse : Caches → List Entry → List Entry → Type 0
+IsNoUse c pending commits = use_of c pending commits ≡ not_through Unused c
 
-action-last : (c : Caches) (before : List Entry) (depth : ℕ) (memory : List ℕ) (core : ℕ) (a : Action) (s : CoreState) (at : Loc) → access_by depth a s.pending ≡ Locks at
-    → (use_of c before (drop 1 (effect_by depth memory core a s).commits)).how ≡ Unused
-action-last c before depth memory core (Store loc operand) s at h = absurd (no-store depth loc at h)
-action-last c before depth memory core (Load reg loc) s at h = absurd (no-load loc at _ h)
-action-last c before depth memory core (Move reg operand) s at h = absurd (let z : ⊥ = cc in z)
-action-last c before depth memory core Fence s at h = absurd (let z : ⊥ = cc in z)
-action-last c before depth memory core (Lock loc reg update) s at h = last-unused c before core s loc reg _ _ s.pending
+last-when : (c : Caches) (pending : List Entry) (s : CoreState) (why : Stall) (f : Effect) (b : Bool) → IsNoUse c pending (drop 1 f.commits) → IsNoUse c pending (drop 1 (if b then f else stalled why s).commits)
+last-when c pending s why f true h = h
+last-when c pending s why f false h = refl
 
-step-last : (c : Caches) (before : List Entry) (depth : ℕ) (memory : List ℕ) (core : ℕ) (o : Option Instr) (s : CoreState) (at : Loc) → step_access depth o s.pending ≡ Locks at
-    → (use_of c before (drop 1 (step_of depth memory core o s).commits)).how ≡ Unused
-step-last c before depth memory core None s at h = absurd (let z : ⊥ = cc in z)
-step-last c before depth memory core (Some instr) s at h = action-last c before depth memory core (action_of instr) s at h
+last-stored : (c : Caches) (pending : List Entry) (depth : ℕ) (s : CoreState) (e : Entry) → IsNoUse c pending (drop 1 (stored depth s e).commits)
+last-stored c pending zero s e = refl
+last-stored c pending (suc n) s e = last-when c pending s stall.Full _ (nat_lt (length s.pending) (suc n)) refl
+
+pub last-unused : (c : Caches) (pending : List Entry) (depth core : ℕ) (memory : List ℕ) (i : Option Instr) (s : CoreState) → IsNoUse c pending (drop 1 (step_of depth memory core i s).commits)
+last-unused c pending depth core memory None s = refl
+last-unused c pending depth core memory (Some x) s = by_action (action_of x)
+  where
+    by_action : (a : Action) → IsNoUse c pending (drop 1 (effect_by depth memory core a s).commits)
+    by_action (Store loc operand) = last-stored c pending depth s _
+    by_action (Load reg loc) = refl
+    by_action (Move reg operand) = refl
+    by_action Fence = last-when c pending s stall.Fence _ (is_none_pending s.pending) refl
+    by_action (Lock loc reg update) = last-when c pending s stall.Lock _ (is_none_pending s.pending) refl
 
 -- the same choice
 pub same-is : (a b : Choice) → same_choice a b ≡ true → a ≡ b
@@ -70,7 +75,7 @@ goes-writes t depth state e c read test h issued =
     let f = effect_of t depth (as_read state e) (Step e.core) in
     let some : access_of t depth (as_read state e) (Step e.core) ≢ NoAccess = λ none. (let z : NoAccess ≡ Locks e.loc = sym none ∙ read.access in let w : ⊥ = cc in w) in
     advances-writes (core_of state e.core.0) e f _ _
-    (step-last c (core_of state e.core.0).pending depth (as_read state e).memory e.core.0 (slice_get (program_of t e.core.0) (core_of state e.core.0).place) (core_of state e.core.0) e.loc read.access)
+    (ap (λ u. u.how) (last-unused c (core_of state e.core.0).pending depth e.core.0 (as_read state e).memory (slice_get (program_of t e.core.0) (core_of state e.core.0).place) (core_of state e.core.0)))
     (commits-at-once t depth (as_read state e) (Step e.core) some).some (effect-advances t depth (as_read state e) (Step e.core) test h issued) refl refl
 
 -- every choice on either bus

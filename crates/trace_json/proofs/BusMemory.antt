@@ -34,7 +34,7 @@ record IsAlong (kind : ProtocolKind) (m : Running) : Type 0 where
 
 along : (kind : ProtocolKind) (m : Running) (choices : List Choice) → IsAlong kind m → IsAlong kind (after_choices m choices)
 along kind m [] h = h
-along kind m (c ∷ cs) h = along kind (machine_after m c) cs (record { kept = kept-after m c h.kept; rows = rows-kept m c h.kept ∙ h.rows })
+along kind m (c ∷ cs) h = along kind (machine_after m c) cs (record { kept = kept-after m c h.kept; rows = rows-kept m c ∙ h.rows })
 
 -- ---- where a copy may have newer words
 

@@ -1,19 +1,20 @@
 -- A line that its core awaits isn't in the core's cache, but for an upgrade: so the line that leaves for it is another. What a use of
 -- the caches on either bus makes of them.
-use Rattle.trace_report.proofs.Vocabulary.{◌≡◌, ◌≢◌, ◌∙◌, ◌⊎◌, ◌<◌, ◌/◌, ℕ, Bool, true, false, List, Option, Some, None, inl, inr, refl, sym, ap, subst, MemoryAccess, NoAccess, Reads, Writes, Locks, Holder, Free, HeldBy, HeldBetween, chosen, Choice, Table, transient_of, I, S, E, O, M, Request, GetS, GetM, Transient, Geometry, table_of_rows, TagSets, tag_in, sets_of, snoop_column, Awaited, tag_at, or_invalid, awaiting, asking, asked_caches_in, Caches, Used, is_awaited, asking_by, completing_by, Unused, IsUseFor, KeepsNoCopyInI, AllNeat, found-valid, all-requested, own-kept, ◌-◌, Loc, at_access, whole_by, Bus, Outcome}
+use Rattle.trace_report.proofs.Vocabulary.{◌≡◌, ◌≢◌, ◌∙◌, ◌⊎◌, ◌<◌, ◌/◌, ℕ, Bool, true, false, List, Option, Some, None, inl, inr, refl, sym, ap, subst, MemoryAccess, NoAccess, Reads, Writes, Locks, Holder, Free, HeldBy, HeldBetween, chosen, Choice, Table, transient_of, I, S, E, O, M, Request, GetS, GetM, Transient, Geometry, table_of_rows, TagSets, tag_in, sets_of, snoop_column, Awaited, tag_at, or_invalid, awaiting, asking, asked_caches_in, Caches, Used, is_awaited, asking_by, completing_by, Unused, IsUseFor, KeepsNoCopyInI, AllNeat, found-valid, all-requested, own-kept, ◌-◌, Loc, at_access, whole_by, Bus, Outcome, IfSome}
 use Rattle.std.specs.Option.{option_map}
 use Rattle.protocol_tables.specs.declared.state.State.{State}
 use Rattle.machine_core.proofs.EachUse.{asks-nothing}
-use Rattle.trace_report.proofs.InPlace.{wrote_in, IsStill, none-still, use-still, use-keeps}
+use Rattle.trace_report.proofs.InPlace.{wrote_in, IsStill, none-still, use-still}
 use Rattle.trace_report.proofs.VictimsLeave.{MayComplete, FillsIn, modified, completed-neat, completed-fills, whole-neat, whole-fills}
 use Rattle.trace_report.proofs.UsesOnBus.{Stays, UsesOn, made, unused, begun, ended}
 
+-- the line of an access, where lines have so many words
+abbrev pub line_at : ℕ → MemoryAccess → Option ℕ
+line_at words what = at_access None (λ loc write. Some (loc.0 / words)) what
+
 -- what is awaited may come in, for the line of this access
 abbrev pub MayMake : Caches → ℕ → MemoryAccess → Type 0
-MayMake c core NoAccess = Unit {0}
-MayMake c core (Reads loc) = MayComplete c.awaited core (loc.0 / c.shape.words) c.contents
-MayMake c core (Writes loc) = MayComplete c.awaited core (loc.0 / c.shape.words) c.contents
-MayMake c core (Locks loc) = MayComplete c.awaited core (loc.0 / c.shape.words) c.contents
+MayMake c core what = IfSome (line_at c.shape.words what) (λ line. MayComplete c.awaited core line c.contents)
 
 -- for the access of the action that holds the bus
 abbrev pub HolderMayMake : (Choice → MemoryAccess) → Holder → Caches → Type 0
@@ -23,10 +24,7 @@ HolderMayMake access (HeldBetween e) c = Unit {0}
 
 -- the access is to one of so many lines, of so many words
 abbrev pub IsWithin : ℕ → ℕ → MemoryAccess → Type 0
-IsWithin lines words NoAccess = Unit {0}
-IsWithin lines words (Reads loc) = loc.0 / words < lines
-IsWithin lines words (Writes loc) = loc.0 / words < lines
-IsWithin lines words (Locks loc) = loc.0 / words < lines
+IsWithin lines words what = IfSome (line_at words what) (λ line. line < lines)
 
 abbrev pub NeatAfter : ℕ → Used → Type 0
 NeatAfter lines u = AllNeat lines u.caches.contents
@@ -34,7 +32,7 @@ NeatAfter lines u = AllNeat lines u.caches.contents
 -- the access filled its line in, for which a dirty one gave way
 pub record Fills (c : Caches) (core : ℕ) (what : MemoryAccess) (u : Used) : Type 0 where
   pub came : ℕ
-  pub accessed : at_access None (λ loc write. Some (loc.0 / c.shape.words)) what ≡ Some came
+  pub accessed : line_at c.shape.words what ≡ Some came
   pub line : FillsIn (table_of_rows c.rows) core came c.contents u.caches.contents
 
 abbrev FillsIf : Caches → ℕ → MemoryAccess → Used → Type 0
@@ -143,12 +141,6 @@ still-may c core u k (Locks loc) s may = still-complete c core u k loc.0 s may
 
 -- ---- a choice on either bus
 
-half-rows : (c : Caches) (core : ℕ) (what : MemoryAccess) → ((asking_by c core what).caches.rows ≡ c.rows) × ((completing_by c core what).caches.rows ≡ c.rows)
-half-rows c core NoAccess = (refl, refl)
-half-rows c core (Reads loc) = (refl, refl)
-half-rows c core (Writes loc) = (refl, refl)
-half-rows c core (Locks loc) = (refl, refl)
-
 -- a choice that writes a line back: it filled its own in, nobody but it held the bus before it, and nothing is awaited after it
 pub record WritesBack (c : Caches) (a : Choice) (what : MemoryAccess) (holder next : Holder) (u : Used) : Type 0 where
   pub fills : Fills c (chosen a) what u
@@ -156,12 +148,6 @@ pub record WritesBack (c : Caches) (a : Choice) (what : MemoryAccess) (holder ne
   pub rest : (next ≡ Free) ⊎ (u.caches.awaited ≡ None)
 
 module _ (on : Bus) (c : Caches) (a : Choice) (before after : Choice → MemoryAccess) (holder next : Holder) (o : Outcome) (u : Used) where
-  pub rows-after : UsesOn on c a before after holder next o u → u.caches.rows ≡ c.rows
-  rows-after (made it why stays nothing) = (use-keeps c (chosen a) (before a) u it).0
-  rows-after (unused is stays nothing) = ap (λ (x : Used). x.caches.rows) is
-  rows-after (begun split is snoop_column free held same) = ap (λ (x : Used). x.caches.rows) is ∙ (half-rows c (chosen a) (before a)).0
-  rows-after (ended split is some held rest) = ap (λ (x : Used). x.caches.rows) is ∙ (half-rows c (chosen a) (before a)).1
-
   module _ (keeps : KeepsNoCopyInI (table_of_rows c.rows)) (may : HolderMayMake before holder c) where
     -- what the holder awaits
     own-may : holder ≡ HeldBy a → MayMake c (chosen a) (before a)

@@ -1,10 +1,11 @@
 -- Where a dirty line is written back it is told.
-use Rattle.trace_report.proofs.Vocabulary.{arith, ◌≡◌, ◌≢◌, ◌∙◌, ◌⊎◌, ◌/◌, ◌<◌, ◌==◌, ◌&&◌, ℕ, zero, suc, Bool, true, false, if◌then◌else◌, List, length, map, replicate, slice_index_or, Option, Some, None, is_some, inl, inr, refl, sym, ap, subst, div_ceil, div_ceil_times, length-replicate, div-mul-le_self, mul-le-mul_right, lt-or, Litmus, IsTest, chosen, MemoryAccess, NoAccess, Reads, Writes, Locks, access_of, Holder, Free, HeldBy, HeldBetween, Choice, Table, Transient, table_of_rows, rows_of, tags_in, tag_at, TagSet, Configuration, at_access, bus_holder, bus_holder_as, bus_holder_of, no_counts, CacheUse, Unused, Forwarded, Through, Running, new_machine, machine_use, machine_after, length-counted, AreStoresKnown, state_with, awaited_at, number_of_lines, states_of, number_of_state, changes_in, line_that_left, wrote_back_by, trace_step_of, tells_write_back, KeepsNoCopyInI, StateChange, IsNeat, none-neat, no-sets, no_set, AllNeat}
+use Rattle.trace_report.proofs.Vocabulary.{arith, ◌≡◌, ◌≢◌, ◌∙◌, ◌⊎◌, ◌/◌, ◌<◌, ◌==◌, ◌&&◌, ℕ, zero, suc, Bool, true, false, if◌then◌else◌, List, length, map, replicate, slice_index_or, Option, Some, None, is_some, inl, inr, refl, sym, ap, subst, div_ceil, div_ceil_times, length-replicate, div-mul-le_self, mul-le-mul_right, lt-or, Litmus, IsTest, chosen, MemoryAccess, NoAccess, Reads, Writes, Locks, access_of, Holder, Free, HeldBy, HeldBetween, Choice, Table, Transient, table_of_rows, rows_of, tags_in, tag_at, TagSet, Configuration, at_access, bus_holder, bus_holder_as, bus_holder_of, no_counts, CacheUse, Unused, Forwarded, Through, Running, new_machine, machine_use, machine_after, length-counted, AreStoresKnown, state_with, awaited_at, number_of_lines, states_of, number_of_state, changes_in, line_that_left, wrote_back_by, trace_step_of, tells_write_back, KeepsNoCopyInI, StateChange, IsNeat, none-neat, no-sets, no_set, AllNeat, is_awaited, core_of}
 use Rattle.protocol_tables.specs.declared.state.State as protocol
 use Rattle.protocol_tables.specs.declared.state.State.TheVariants as tag
-use Rattle.trace_report.proofs.Awaiting.{HolderMayMake, IsWithin, WritesBack, rows-after, neat-after, may-after, writes-back-by}
+use Rattle.trace_report.proofs.Awaiting.{HolderMayMake, IsWithin, WritesBack, neat-after, may-after, writes-back-by}
 use Rattle.trace_report.proofs.FlushesTold.{IsSound, sound-first, sound-after, uses-of}
 use Rattle.machine_core.specs.Running.{machine_effect}
+use Rattle.machine_core.proofs.EachUse.{used-machine}
 use Rattle.trace_report.proofs.InPlace.{wrote_in}
 use Rattle.trace_report.proofs.LinesLeft.{present, left-found}
 use Rattle.trace_report.proofs.Places.{AccessKnown, access-known, stores-first}
@@ -46,6 +47,11 @@ pub record IsKept (m : Running) : Type 0 where
 pub lines-kept : (m : Running) (c : Choice) → number_of_lines (machine_after m c) ≡ number_of_lines m
 lines-kept m c = ap (λ n. div_ceil (length m.test.locations) n) (words-kept m c)
 
+-- the rows of the protocol's table stay
+pub rows-kept : (m : Running) (c : Choice) → (machine_after m c).statistics.caches.rows ≡ m.statistics.caches.rows
+rows-kept m c =
+    (used-machine (is_awaited m.state.holder) (is_awaited (machine_effect m c).holder) m.statistics.caches (chosen c) (access_of m.test m.depth m.state.flat c) (core_of m.state.flat (chosen c)).pending (machine_effect m c).effect.commits).0
+
 pub kept-after : (m : Running) (c : Choice) → IsKept m → IsKept (machine_after m c)
 kept-after m c k =
     let caches = m.statistics.caches in
@@ -60,16 +66,10 @@ kept-after m c k =
       known = stores-kept m c k.test k.known;
       words = subst (λ n. 0 < n) (sym (words-kept m c)) k.words;
       cores = length-counted (chosen c) (machine_use m c).how m.statistics.counts ∙ k.cores;
-      keeps = subst (λ rows. KeepsNoCopyInI (table_of_rows rows)) (sym (rows-after m.bus caches c before after m.state.holder next (machine_effect m c).effect.outcome (machine_use m c) uses)) k.keeps;
+      keeps = subst (λ rows. KeepsNoCopyInI (table_of_rows rows)) (sym (rows-kept m c)) k.keeps;
       neat = subst (λ n. AllNeat n (machine_use m c).caches.contents) (sym (lines-kept m c)) (neat-after m.bus caches c before after m.state.holder next (machine_effect m c).effect.outcome (machine_use m c) k.keeps k.may (number_of_lines m) uses within k.neat);
       may = may-after m.bus caches c before after m.state.holder next (machine_effect m c).effect.outcome (machine_use m c) k.keeps k.may (number_of_lines m) uses k.neat;
     }
-
--- the rows of the protocol's table stay
-pub rows-kept : (m : Running) (c : Choice) → IsKept m → (machine_after m c).statistics.caches.rows ≡ m.statistics.caches.rows
-rows-kept m c k =
-    rows-after m.bus m.statistics.caches c (access_of m.test m.depth m.state.flat) (access_of m.test m.depth (machine_after m c).state.flat) m.state.holder (machine_after m c).state.holder
-    (machine_effect m c).effect.outcome (machine_use m c) (uses-of m c k.sound).0
 
 -- what a choice does that writes a line back
 pub writes-back-of : (m : Running) (c : Choice) → IsKept m → wrote_in (machine_use m c).how ≡ true

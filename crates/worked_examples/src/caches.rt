@@ -10,9 +10,8 @@ ghost use Rattle.snoop_bus.specs.declared.access.AccessKind.TheVariants.{Hit, Up
 ghost use Rattle.protocol_tables.specs.Laws.{is_dirty, in_place};
 ghost use Rattle.snoop_bus.specs.Coherent.{may_share};
 ghost use Rattle.snoop_bus.specs.Lines.{line_of_words, lines_of_words};
-ghost use Rattle.snoop_bus.specs.CacheContents.{loaded, written};
 ghost use Rattle.snoop_bus.specs.inner.CacheContents.{settled};
-ghost use Rattle.snoop_bus.specs.Asks.{hits, asking, completed};
+ghost use Rattle.snoop_bus.specs.Asks.{hits, asking, completed, whole_access};
 ghost use Rattle.snoop_bus.specs.Bus.{words_of};
 ghost use Rattle.snoop_bus.specs.Accesses.{line_of_location, lines_with, load_of, memory_after_load, memory_after_write};
 ghost use Rattle.snoop_bus.specs.inner.Accesses.{memory_words_of};
@@ -57,6 +56,7 @@ pub fn worked_lines()
 {}
 
 /// The words that are seen where P1 has modified a line, memory's own, and what accesses make of memory.
+#[tactic(auto, unfolding(snoop_bus::specs::Asks::awaiting))]
 pub fn worked_words()
     ensures seen { words_of (stale msi) ≡ 10 ∷ 11 ∷ 12 ∷ 13 ∷ 54 ∷ 55 ∷ 16 ∷ 17 ∷ [] }
     ensures own_of_memory { memory_words_of (stale msi) ≡ 10 ∷ 11 ∷ 12 ∷ 13 ∷ 14 ∷ 15 ∷ 16 ∷ 17 ∷ [] }
@@ -77,39 +77,40 @@ pub fn worked_words()
 {}
 
 /// Which line stands at the front after a whole access, and what the other core's set is left with.
+#[tactic(auto, unfolding(snoop_bus::specs::Asks::awaiting))]
 pub fn worked_fronts()
     // A load that hits, and writes that hit, on M and on E.
-    ensures load_hit { loaded msi 0 4 (two_sets (four_second S) shares_both) ≡ was Hit false None (two_sets (four_first S) shares_both) }
-    ensures write_hit_on_modified { written msi 0 4 (two_sets (four_second M) shares_seven)
+    ensures load_hit { whole_access msi false 0 4 (two_sets (four_second S) shares_both) ≡ was Hit false None (two_sets (four_first S) shares_both) }
+    ensures write_hit_on_modified { whole_access msi true 0 4 (two_sets (four_second M) shares_seven)
         ≡ was Hit false None (two_sets (four_first M) shares_seven) }
-    ensures write_hit_on_exclusive { written mesi 0 4 (two_sets (four_second E) shares_seven)
+    ensures write_hit_on_exclusive { whole_access mesi true 0 4 (two_sets (four_second E) shares_seven)
         ≡ was Hit false None (two_sets (four_first M) shares_seven) }
 
     // Upgrades, of S and of O: the other copy is gone.
-    ensures upgrade_of_shared { written msi 0 4 (two_sets (four_second S) shares_both)
+    ensures upgrade_of_shared { whole_access msi true 0 4 (two_sets (four_second S) shares_both)
         ≡ was Upgrade false None (two_sets (four_first M) shares_seven) }
-    ensures upgrade_of_owned { written moesi 0 4 (two_sets (four_second O) shares_both)
+    ensures upgrade_of_owned { whole_access moesi true 0 4 (two_sets (four_second O) shares_both)
         ≡ was Upgrade false None (two_sets (four_first M) shares_seven) }
 
     // Misses of a line that P1 has modified: P1's copy changes where it stands.
-    ensures load_miss { loaded msi 0 5 (two_sets (four_second S) (has_five M))
+    ensures load_miss { whole_access msi false 0 5 (two_sets (four_second S) (has_five M))
         ≡ was Miss false (Some p1) (two_sets ((5, S) ∷ four_second S) (has_five S)) }
-    ensures load_miss_in_moesi { loaded moesi 0 5 (two_sets (four_second S) (has_five M))
+    ensures load_miss_in_moesi { whole_access moesi false 0 5 (two_sets (four_second S) (has_five M))
         ≡ was Miss false None (two_sets ((5, S) ∷ four_second S) (has_five O)) }
-    ensures write_miss { written msi 0 5 (two_sets (four_second S) (has_five M))
+    ensures write_miss { whole_access msi true 0 5 (two_sets (four_second S) (has_five M))
         ≡ was Miss false None (two_sets ((5, M) ∷ four_second S) shares_seven) }
 
     // P1 has the line alone, and clean: it is filled in S beside it.
-    ensures load_miss_in_mesi { loaded mesi 0 5 (two_sets (four_second S) (has_five E))
+    ensures load_miss_in_mesi { whole_access mesi false 0 5 (two_sets (four_second S) (has_five E))
         ≡ was Miss false None (two_sets ((5, S) ∷ four_second S) (has_five S)) }
 
     // P1 writes: the copies of P0 and P2 are gone.
-    ensures upgrade_among_three { written msi 1 4 (three_sets shares_both (four_second S) shares_both)
+    ensures upgrade_among_three { whole_access msi true 1 4 (three_sets shares_both (four_second S) shares_both)
         ≡ was Upgrade false None (three_sets shares_seven (four_first M) shares_seven) }
 
     // A miss where the set is full: the line used longest ago leaves, and is written back.
-    ensures load_miss_alone { loaded mesi 0 5 (full dirty_last) ≡ was Miss true None (full ((5, E) ∷ (7, S) ∷ (4, S) ∷ [])) }
-    ensures write_miss_alone { written mesi 0 5 (full dirty_last) ≡ was Miss true None (full ((5, M) ∷ (7, S) ∷ (4, S) ∷ [])) }
+    ensures load_miss_alone { whole_access mesi false 0 5 (full dirty_last) ≡ was Miss true None (full ((5, E) ∷ (7, S) ∷ (4, S) ∷ [])) }
+    ensures write_miss_alone { whole_access mesi true 0 5 (full dirty_last) ≡ was Miss true None (full ((5, M) ∷ (7, S) ∷ (4, S) ∷ [])) }
 {}
 
 /// Which accesses hit, by the state of the line.
@@ -124,6 +125,7 @@ pub fn worked_hits()
 {}
 
 /// An access in its two halves: what the ask leaves and awaits, and which line stands at the front after the completion.
+#[tactic(auto, unfolding(snoop_bus::specs::Asks::awaiting))]
 pub fn worked_halves()
     // For an upgrade: the own line stays where it stands until the completion.
     ensures upgrade_is_asked { asking msi GetM 0 4 (two_sets (four_second S) shares_both)

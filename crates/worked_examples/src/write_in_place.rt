@@ -10,6 +10,7 @@ ghost use Rattle.worked_examples.specs.WriteHits.{outcomes, two_lines, these, tw
 ghost use Rattle.worked_examples.specs.WriteHits.{steps, steps_hit, steps_come_to, first_asks, first_comes_to};
 
 /// Two writes of a word that was loaded alone: what the caches answer, what each choice comes to, and what was counted.
+#[tactic(auto, unfolding(snoop_bus::specs::Asks::awaiting))]
 pub fn worked_write_hits()
     // Drains, while another core's load holds the bus.
     ensures drains_are_answered { answered Split mesi two_lines twice 2 drains ≡ drains_hit }

@@ -5,7 +5,7 @@ use Rattle.trace_report.specs.Steps.{trace_step_of}
 use Rattle.worked_examples.proofs.traces.worked_traces.Goals as goal
 
 pub returns-clause-handed_on : goal.returns-clause-handed_on
-unfolding digits trace_step_of
+unfolding digits awaiting trace_step_of
 returns-clause-handed_on c = refl
 
 pub returns-clause-awaited : goal.returns-clause-awaited
