@@ -1,1 +1,2 @@
 mod NineStates
+mod TextsRead

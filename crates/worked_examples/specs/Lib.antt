@@ -8,4 +8,6 @@ pub mod TableRows
 pub mod LinesInSets
 pub mod WriteHits
 pub mod PrintedTraces
+pub mod RefusedTexts
+pub mod SpelledTexts
 pub mod inner

@@ -14,10 +14,12 @@ pub mod names;
 pub mod order;
 pub mod outcomes;
 pub mod printed_outcomes;
+pub mod refusals;
 pub mod searches;
 pub mod sets;
 pub mod split_outcomes;
 pub mod tables;
+pub mod texts;
 pub mod threads;
 pub mod traces;
 pub mod write_in_place;
@@ -33,12 +35,17 @@ pub use names::{worked_location_names, worked_register_names, worked_test_names}
 pub use order::{worked_due_values, worked_kinds_of_entries, worked_pairs, worked_program_order};
 pub use outcomes::{worked_outcomes, worked_stalls};
 pub use printed_outcomes::{worked_printed_states, worked_shown_values, worked_verdicts};
+pub use refusals::{
+    worked_ending_refusals, worked_header_refusals, worked_initial_refusals,
+    worked_limits_of_texts, worked_table_refusals,
+};
 pub use searches::worked_reachable_states;
 pub use sets::{worked_fills, worked_set_calls};
 pub use split_outcomes::{worked_split_outcomes, worked_split_stalls};
 pub use tables::{
     worked_kinds, worked_mesi, worked_moesi, worked_mosi, worked_msi, worked_transients,
 };
+pub use texts::worked_texts;
 pub use threads::{worked_actions, worked_run, worked_thread};
 pub use traces::worked_traces;
 pub use write_in_place::worked_write_hits;

@@ -1,0 +1,15 @@
+use Rattle.std.proofs.Common.{refl}
+use Rattle.worked_examples.proofs.TextsRead.{computed_reading}
+use Rattle.worked_examples.proofs.texts.worked_texts.Goals as goal
+
+pub returns-clause-whole : goal.returns-clause-whole
+unfolding computed_reading
+returns-clause-whole c = refl
+
+pub returns-clause-least : goal.returns-clause-least
+unfolding computed_reading
+returns-clause-least c = refl
+
+pub returns-clause-eight : goal.returns-clause-eight
+unfolding computed_reading
+returns-clause-eight c = refl

@@ -1,0 +1,57 @@
+-- Texts and the tests that they spell.
+use Rattle.std.specs.Prelude.{ℕ, true, List, [], ◌∷◌, ◌++◌, codes, Some, None}
+use Rattle.tso_model.specs.Litmus.{Litmus}
+use Rattle.tso_model.specs.Condition.{TruthClaim, RegClaim, LocClaim, NotClaim, AndClaim, OrClaim}
+use Rattle.tso_model.specs.declared.condition.Quantifier.TheVariants.{Exists}
+use Rattle.tso_model.specs.declared.instruction.Instr.TheVariants.{StoreImm, Load, Fence, Xadd}
+use Rattle.tso_model.specs.declared.register.Reg.TheVariants.{Eax, Ebx}
+use Rattle.worked_examples.specs.Written.{loc_x, loc_y, loc_z, six}
+
+-- each section of a test, with comments, an empty item and empty cells
+abbrev pub whole_text : List ℕ
+whole_text =
+    codes "(* first *) X86 two cores\r\n\"PodWR Fre\"\nCom=Fr (* Rf\n"
+    ++ (codes "{ x=1; ; 1:ebx=007; [y]=3 }\n"
+    ++ (codes " P0         | P1                ;\n"
+    ++ (codes " MOV [z],$5 | mov eax,[y]       ;\n"
+    ++ (codes " MFENCE     | (* none *)        ;\n"
+    ++ (codes "            | lock xadd [x],ebx ;\n"
+    ++ (codes "locations [ x; 1:eax; ]\n"
+    ++ codes "exists (1:EAX=3 /\\ ~z=0 \\/ true)\n"))))))
+
+abbrev pub whole_test : Litmus
+whole_test = record {
+  name = codes "two cores";
+  locations = codes "x" ∷ codes "y" ∷ codes "z" ∷ [];
+  words = 1 ∷ 3 ∷ 0 ∷ [];
+  registers = six 0 0 0 0 0 0 ∷ six 0 7 0 0 0 0 ∷ [];
+  programs = (StoreImm loc_z 5 ∷ Fence ∷ []) ∷ (Load Eax loc_y ∷ Xadd loc_x Ebx ∷ []) ∷ [];
+  condition = Some (record {
+    quantifier = Exists;
+    claim = OrClaim (AndClaim (RegClaim 1 Eax 3) (NotClaim (LocClaim 2 0))) (TruthClaim true);
+  });
+}
+
+-- the shortest text with a core
+abbrev pub least_text : List ℕ
+least_text = codes "X86 T\n{}P0;"
+
+abbrev pub least_test : Litmus
+least_test = record { name = codes "T"; locations = []; words = []; registers = six 0 0 0 0 0 0 ∷ []; programs = [] ∷ []; condition = None }
+
+-- the thread of all eight instructions
+abbrev pub eight_text : List ℕ
+eight_text =
+    codes "X86 eight\n"
+    ++ (codes "{ x=3; y=4; z=5;\n"
+    ++ (codes "  0:EAX=1;  0:EBX=2;  0:ECX=7;  0:EDX=8;  0:ESI=9;  0:EDI=10;\n"
+    ++ (codes "  1:EAX=11; 1:EBX=12; 1:ECX=13; 1:EDX=14; 1:ESI=15; 1:EDI=16; }\n"
+    ++ (codes " P0         | P1                ;\n"
+    ++ (codes " MOV [z],$6 | MOV [x],$21       ;\n"
+    ++ (codes "            | MOV [y],EBX       ;\n"
+    ++ (codes "            | MOV ECX,[z]       ;\n"
+    ++ (codes "            | MOV EDX,$22       ;\n"
+    ++ (codes "            | MOV ESI,EDI       ;\n"
+    ++ (codes "            | MFENCE            ;\n"
+    ++ (codes "            | XCHG [x],EAX      ;\n"
+    ++ codes "            | LOCK XADD [y],EDI ;\n")))))))))))
