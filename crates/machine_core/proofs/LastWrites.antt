@@ -12,11 +12,11 @@ pub locks-some : (what : MemoryAccess) (loc : Loc) → what ≡ Locks loc → wh
 locks-some what loc locks = λ none. (let z : NoAccess ≡ Locks loc = sym none ∙ locks in let w : ⊥ = cc in w)
 
 -- only a locked instruction locks
-pub no-store : (depth : ℕ) (loc at : Loc) → store_access depth loc ≡ Locks at → ⊥
+no-store : (depth : ℕ) (loc at : Loc) → store_access depth loc ≡ Locks at → ⊥
 no-store zero loc at h = (let z : ⊥ = cc in z)
 no-store (suc n) loc at h = (let z : ⊥ = cc in z)
 
-pub no-load : (loc at : Loc) (pending : List Entry) → load_access loc pending ≡ Locks at → ⊥
+no-load : (loc at : Loc) (pending : List Entry) → load_access loc pending ≡ Locks at → ⊥
 no-load loc at [] h = (let z : ⊥ = cc in z)
 no-load loc at (p ∷ ps) h = (let z : ⊥ = cc in z)
 
