@@ -24,6 +24,7 @@ ghost use Rattle.worked_examples.specs.LinesInSets.{shares_both, shares_seven, h
 ghost use Rattle.worked_examples.specs.inner.LinesInSets.{by_state, under_way};
 
 /// In which line and which set a location lies: where P1 loads it, that set of P1 has that line.
+#[tactic(auto, unfolding(snoop_bus::specs::Asks::awaiting))]
 pub fn worked_places()
     // Lines of two words, in two sets: the third line lies in the first set again.
     ensures line_of_location_5 { line_of_location (eight_locations (shape 2 3 2)) 5 ≡ 2 }
