@@ -16,7 +16,7 @@ ghost use Rattle.tso_model.specs.declared.choice.Choice.{Choice};
 ghost use Rattle.tso_model.specs.declared.choice.Outcome.TheVariants.{Moved, Stalled};
 ghost use Rattle.tso_model.specs.declared.choice.Stall.{Stall};
 ghost use Rattle.trace_report.specs.Lines.{stall_name};
-ghost use Rattle.trace_report.specs.StepLaws.{GaveWay, IsWordOfStallOn, KeepsWays, after_choices, pending_told, with_moved, with_seen};
+ghost use Rattle.trace_report.specs.StepLaws.{GaveWay, IsWordOfStallOn, after_choices, pending_told, with_moved, with_seen};
 ghost use Rattle.trace_report.specs.Steps.{trace_step_of};
 ghost use Rattle.trace_report.specs.TraceLaws.{KeepsNoCopyInI};
 
@@ -54,7 +54,6 @@ pub fn a_step_tells_the_caches()
         (sets_of (after_choices (new_machine table c t) choices).statistics.caches.contents core) }
     ensures gave_way { (table : Table) (c : Configuration) (t : Litmus) (choices : List Choice) (choice : Choice) (line : ℕ)
         → IsTest t → 0 < c.shape.words → KeepsNoCopyInI table → chosen choice < length t.programs
-        → KeepsWays (after_choices (new_machine table c t) choices) (chosen choice)
         → (trace_step_of (after_choices (new_machine table c t) choices) choice).wrote_back ≡ Some line
         → GaveWay (after_choices (new_machine table c t) choices) choice line }
 {

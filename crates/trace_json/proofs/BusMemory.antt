@@ -21,7 +21,7 @@ use Rattle.bus_laws.proofs.Called.{called-stale}
 use Rattle.trace_report.specs.StepLaws.{after_choices}
 use Rattle.trace_report.specs.declared.step.LineState.{LineState}
 use Rattle.trace_report.specs.declared.step.LineState.TheVariants.{Stable, Transient}
-use Rattle.trace_report.proofs.VictimsTold.{IsKept, kept-first, kept-after, rows-kept, line-below}
+use Rattle.trace_report.proofs.Kept.{IsKept, kept-first, kept-after, rows-kept, line-below}
 use Rattle.trace_report.proofs.WriteBacksTold.{protocols-keep}
 use Rattle.trace_json.specs.inner.BusMemory.{ShowsAs, IsBusOf, ToldMemoryIsTheBuses}
 

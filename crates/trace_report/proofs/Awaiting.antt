@@ -1,20 +1,19 @@
--- A line that its core awaits isn't in the core's cache, but for an upgrade: so the line that leaves for it is another. What a use of
+-- A line that its core awaits isn't in the core's cache, but for an upgrade: so another line may give way to it. What a use of
 -- the caches on either bus makes of them.
-use Rattle.trace_report.proofs.Vocabulary.{◌≡◌, ◌≢◌, ◌∙◌, ◌⊎◌, ◌<◌, ◌/◌, ℕ, Bool, true, false, List, Option, Some, None, inl, inr, refl, sym, ap, subst, MemoryAccess, NoAccess, Reads, Writes, Locks, Holder, Free, HeldBy, HeldBetween, chosen, Choice, Table, transient_of, I, S, E, O, M, Request, GetS, GetM, Transient, Geometry, table_of_rows, TagSets, tag_in, sets_of, snoop_column, Awaited, tag_at, or_invalid, awaiting, asking, asked_caches_in, Caches, Used, is_awaited, asking_by, completing_by, Unused, IsUseFor, KeepsNoCopyInI, AllNeat, found-valid, all-requested, own-kept, ◌-◌, Loc, at_access, whole_by, Bus, Outcome, IfSome}
+use Rattle.trace_report.proofs.Vocabulary.{◌≡◌, ◌≢◌, ◌∙◌, ◌<◌, ◌/◌, ℕ, Bool, true, false, List, Option, Some, None, inl, inr, refl, sym, ap, subst, MemoryAccess, NoAccess, Reads, Writes, Locks, Holder, Free, HeldBy, HeldBetween, chosen, Choice, Table, transient_of, I, S, E, O, M, Request, GetS, GetM, Transient, Geometry, table_of_rows, TagSets, tag_in, sets_of, snoop_column, Awaited, tag_at, or_invalid, awaiting, asking, asked_caches_in, Caches, Used, is_awaited, asking_by, completing_by, Unused, IsUseFor, KeepsNoCopyInI, AllNeat, found-valid, all-requested, own-kept, Loc, at_access, whole_by, Bus, Outcome}
 use Rattle.std.specs.Option.{option_map}
 use Rattle.protocol_tables.specs.declared.state.State.{State}
 use Rattle.machine_core.proofs.EachUse.{asks-nothing}
 use Rattle.trace_report.proofs.InPlace.{wrote_in, IsStill, none-still, use-still}
-use Rattle.trace_report.proofs.VictimsLeave.{MayComplete, FillsIn, modified, completed-neat, completed-fills, whole-neat, whole-fills}
+use Rattle.trace_report.proofs.VictimsLeave.{MayComplete, ComesIn, modified, completed-neat, completed-fills, whole-neat, whole-fills}
 use Rattle.trace_report.proofs.UsesOnBus.{Stays, UsesOn, made, unused, begun, ended}
-
--- the line of an access, where lines have so many words
-abbrev pub line_at : ℕ → MemoryAccess → Option ℕ
-line_at words what = at_access None (λ loc write. Some (loc.0 / words)) what
 
 -- what is awaited may come in, for the line of this access
 abbrev pub MayMake : Caches → ℕ → MemoryAccess → Type 0
-MayMake c core what = IfSome (line_at c.shape.words what) (λ line. MayComplete c.awaited core line c.contents)
+MayMake c core NoAccess = Unit {0}
+MayMake c core (Reads loc) = MayComplete c.awaited core (loc.0 / c.shape.words) c.contents
+MayMake c core (Writes loc) = MayComplete c.awaited core (loc.0 / c.shape.words) c.contents
+MayMake c core (Locks loc) = MayComplete c.awaited core (loc.0 / c.shape.words) c.contents
 
 -- for the access of the action that holds the bus
 abbrev pub HolderMayMake : (Choice → MemoryAccess) → Holder → Caches → Type 0
@@ -24,19 +23,22 @@ HolderMayMake access (HeldBetween e) c = Unit {0}
 
 -- the access is to one of so many lines, of so many words
 abbrev pub IsWithin : ℕ → ℕ → MemoryAccess → Type 0
-IsWithin lines words what = IfSome (line_at words what) (λ line. line < lines)
+IsWithin lines words NoAccess = Unit {0}
+IsWithin lines words (Reads loc) = loc.0 / words < lines
+IsWithin lines words (Writes loc) = loc.0 / words < lines
+IsWithin lines words (Locks loc) = loc.0 / words < lines
 
 abbrev pub NeatAfter : ℕ → Used → Type 0
 NeatAfter lines u = AllNeat lines u.caches.contents
 
--- the access filled its line in, for which a dirty one gave way
-pub record Fills (c : Caches) (core : ℕ) (what : MemoryAccess) (u : Used) : Type 0 where
+-- the line of the access comes in, and a dirty one gives way to it
+pub record Fills (c : Caches) (core : ℕ) (what : MemoryAccess) : Type 0 where
   pub came : ℕ
-  pub accessed : line_at c.shape.words what ≡ Some came
-  pub line : FillsIn (table_of_rows c.rows) core came c.contents u.caches.contents
+  pub accessed : at_access None (λ loc write. Some (loc.0 / c.shape.words)) what ≡ Some came
+  pub line : ComesIn (table_of_rows c.rows) core came c.contents
 
-abbrev FillsIf : Caches → ℕ → MemoryAccess → Used → Type 0
-FillsIf c core what u = wrote_in u.how ≡ true → Fills c core what u
+abbrev pub FillsIf : Caches → ℕ → MemoryAccess → Used → Type 0
+FillsIf c core what u = wrote_in u.how ≡ true → Fills c core what
 
 -- ---- it is asked for
 
@@ -94,13 +96,6 @@ completes-fills c core (Reads loc) may dirty = record { came = loc.0 / c.shape.w
 completes-fills c core (Writes loc) may dirty = record { came = loc.0 / c.shape.words; accessed = refl; line = completed-fills (table_of_rows c.rows) core (loc.0 / c.shape.words) c.awaited c.contents may dirty }
 completes-fills c core (Locks loc) may dirty = record { came = loc.0 / c.shape.words; accessed = refl; line = completed-fills (table_of_rows c.rows) core (loc.0 / c.shape.words) c.awaited c.contents may dirty }
 
--- where a line is written back nothing is awaited afterwards
-completes-rest : (c : Caches) (core : ℕ) (what : MemoryAccess) → wrote_in (completing_by c core what).how ≡ true → (completing_by c core what).caches.awaited ≡ None
-completes-rest c core NoAccess dirty = absurd (let z : ⊥ = cc in z)
-completes-rest c core (Reads loc) dirty = refl
-completes-rest c core (Writes loc) dirty = refl
-completes-rest c core (Locks loc) dirty = refl
-
 -- ---- it is made whole
 
 use-neat : (lines : ℕ) (c : Caches) (core : ℕ) (what : MemoryAccess) (u : Used) → IsUseFor c core what u → IsWithin lines c.shape.words what → KeepsNoCopyInI (table_of_rows c.rows) → AllNeat lines c.contents
@@ -141,12 +136,6 @@ still-may c core u k (Locks loc) s may = still-complete c core u k loc.0 s may
 
 -- ---- a choice on either bus
 
--- a choice that writes a line back: it filled its own in, nobody but it held the bus before it, and nothing is awaited after it
-pub record WritesBack (c : Caches) (a : Choice) (what : MemoryAccess) (holder next : Holder) (u : Used) : Type 0 where
-  pub fills : Fills c (chosen a) what u
-  pub alone : (holder ≡ Free) ⊎ (holder ≡ HeldBy a)
-  pub rest : (next ≡ Free) ⊎ (u.caches.awaited ≡ None)
-
 module _ (on : Bus) (c : Caches) (a : Choice) (before after : Choice → MemoryAccess) (holder next : Holder) (o : Outcome) (u : Used) where
   module _ (keeps : KeepsNoCopyInI (table_of_rows c.rows)) (may : HolderMayMake before holder c) where
     -- what the holder awaits
@@ -183,14 +172,10 @@ module _ (on : Bus) (c : Caches) (a : Choice) (before after : Choice → MemoryA
         by_next (HeldBy other) q = by_use other q uses
         by_next (HeldBetween e) q = tt
 
-    pub writes-back-by : UsesOn on c a before after holder next o u → wrote_in u.how ≡ true → WritesBack c a (before a) holder next u
-    writes-back-by (made it (inl free) stays nothing) dirty = record { fills = use-fills c (chosen a) (before a) u it keeps dirty; alone = inl free.1; rest = inl free.2 }
-    writes-back-by (made it (inr free) stays nothing) dirty = let clean = (use-still c (chosen a) (before a) u it free).clean in absurd (let z : ⊥ = cc in z)
-    writes-back-by (unused is stays nothing) dirty = let z : false ≡ true = subst (λ (x : Used). wrote_in x.how ≡ true) is dirty in absurd (let y : ⊥ = cc in y)
-    writes-back-by (begun split is snoop_column free held same) dirty =
-        let z : false ≡ true = sym (asks-clean c (chosen a) (before a)) ∙ subst (λ (x : Used). wrote_in x.how ≡ true) is dirty in absurd (let y : ⊥ = cc in y)
-    writes-back-by (ended split is some held rest) dirty = record {
-      fills = subst (FillsIf c (chosen a) (before a)) (sym is) (completes-fills c (chosen a) (before a) (own-may held)) dirty;
-      alone = inr held;
-      rest = inr (ap (λ (x : Used). x.caches.awaited) is ∙ completes-rest c (chosen a) (before a) (subst (λ (x : Used). wrote_in x.how ≡ true) is dirty));
-    }
+    -- a choice that writes a line back
+    pub fills-by : UsesOn on c a before after holder next o u → FillsIf c (chosen a) (before a) u
+    fills-by (made it why stays nothing) = use-fills c (chosen a) (before a) u it keeps
+    fills-by (unused is stays nothing) = subst (FillsIf c (chosen a) (before a)) (sym is) (λ dirty. absurd (let z : ⊥ = cc in z))
+    fills-by (begun split is snoop free held same) = λ dirty.
+        (let z : false ≡ true = sym (asks-clean c (chosen a) (before a)) ∙ subst (λ (x : Used). wrote_in x.how ≡ true) is dirty in absurd (let y : ⊥ = cc in y))
+    fills-by (ended split is some held rest) = subst (FillsIf c (chosen a) (before a)) (sym is) (completes-fills c (chosen a) (before a) (own-may held))

@@ -5,7 +5,7 @@ use Rattle.std.specs.Option.{option_map}
 use Rattle.tso_model.specs.declared.choice.Outcome.TheVariants as out
 use Rattle.protocol_tables.specs.declared.state.State.TheVariants as tag
 use Rattle.protocol_tables.specs.declared.state.State as protocol
-use Rattle.trace_report.proofs.InPlace.{flush_in, use-still, use-awaits}
+use Rattle.trace_report.proofs.InPlace.{flush_in, use-still, use-keeps}
 use Rattle.trace_report.proofs.UsesOnBus.{UsesOn, made, unused, begun, ended}
 
 -- whose copy was sent for what is awaited
@@ -90,7 +90,7 @@ module _ (r : Option LineRequest) (c : Caches) (a : Choice) (before after : Choi
   TurnsOn on = Turns (is_awaited holder) (is_awaited next) c.awaited u.caches.awaited (sent_on on o r u.how u.caches.awaited).flushed (flush_in u.how)
 
   pub choice-turn : (on : Bus) → UsesOn on c a before after holder next o u → TurnsOn on
-  choice-turn Atomic (made it why stays nothing) = whole (whole-told r u.how) (use-awaits c (chosen a) (before a) u it) stays.waits
+  choice-turn Atomic (made it why stays nothing) = whole (whole-told r u.how) (use-keeps c (chosen a) (before a) u it).1 stays.waits
   choice-turn Split (made it (inl free) stays nothing) = absurd (let q = free.0 in let z : ⊥ = cc in z)
   choice-turn Split (made it (inr free) stays nothing) =
       let still = use-still c (chosen a) (before a) u it free in

@@ -1,8 +1,6 @@
 -- The flushes that a trace tells, and those that are counted.
 use Rattle.trace_report.proofs.Vocabulary.{◌≡◌, ◌∙◌, ℕ, zero, suc, ◌+◌, ◌==◌, ◌&&◌, Bool, true, false, List, [], ◌∷◌, length, map, Option, Some, None, refl, sym, ap, subst, arith, length-replicate, length-map, Litmus, State, program_of, chosen, core_of, has_ended, is_done, MemoryAccess, NoAccess, step_access, drain_access, access_of, Holder, Free, HeldBy, HeldBetween, BusRun, Bus, Atomic, Split, Core, Choice, Step, Drain, Table, Transient, IsD, ImD, SmD, Entry, Request, AccessKind, Hit, Upgrade, Miss, tags_in, Configuration, TagSets, at_others, Awaited, asked_caches_in, completed, completed_in, table_of_rows, done-next, done-pending, done-anywhere, AllStores, start-stores, Live, LiveIn, live-after, live-start, Caches, is_awaited, used_between, no_counts, with_access, with_forward, with_write_back, with_flush, counts_at_core, flush_counted, with_use_counted, Counts, CacheUse, Unused, Forwarded, Through, Running, new_machine, attempt_on, machine_use, machine_after, length-counted, trace_step_of, steps_from, request_at, is_sender, tells_flush, one_if, steps_that, awaited_as, request_for, whole_in, awaiting, CoresExist}
 use Rattle.std.proofs.Common.{length-set}
-use Rattle.tso_model.specs.declared.choice.Outcome.TheVariants as out
-use Rattle.tso_model.specs.declared.choice.Stall.TheVariants as stall
 use Rattle.protocol_tables.specs.declared.state.State as protocol
 use Rattle.snoop_bus.specs.Bus.{empty_caches}
 use Rattle.machine_core.specs.Running.{machine_effect}

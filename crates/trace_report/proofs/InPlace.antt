@@ -78,10 +78,10 @@ use-still c core (Reads loc) u is free = subst (IsStill c core) (sym is) (hit-st
 use-still c core (Writes loc) u is free = subst (IsStill c core) (sym is) (hit-still c core loc.0 true free)
 use-still c core (Locks loc) u is free = absurd (let z : ⊥ = cc in z)
 
--- whatever access it is, what is awaited stays
-pub use-awaits : (c : Caches) (core : ℕ) (what : MemoryAccess) (u : Used) → IsUseFor c core what u → u.caches.awaited ≡ c.awaited
-use-awaits c core NoAccess u (inl is) = rw is refl
-use-awaits c core NoAccess u (inr is) = rw is refl
-use-awaits c core (Reads loc) u is = rw is refl
-use-awaits c core (Writes loc) u is = rw is refl
-use-awaits c core (Locks loc) u is = rw is refl
+-- whatever access it is, the protocol's table and what is awaited stay
+pub use-keeps : (c : Caches) (core : ℕ) (what : MemoryAccess) (u : Used) → IsUseFor c core what u → (u.caches.rows ≡ c.rows) × (u.caches.awaited ≡ c.awaited)
+use-keeps c core NoAccess u (inl is) = rw is (refl, refl)
+use-keeps c core NoAccess u (inr is) = rw is (refl, refl)
+use-keeps c core (Reads loc) u is = rw is (refl, refl)
+use-keeps c core (Writes loc) u is = rw is (refl, refl)
+use-keeps c core (Locks loc) u is = rw is (refl, refl)

@@ -16,10 +16,10 @@ pub mod InPlace
 pub mod Flushes
 pub mod VictimsLeave
 pub mod Awaiting
-pub mod LinesLeft
 pub mod FlushesTold
-pub mod VictimsTold
+pub mod Rooms
+pub mod Kept
+pub mod GaveWay
 pub mod WriteBacksTold
 pub mod CoresTold
 pub mod OthersSee
-pub mod VictimIs

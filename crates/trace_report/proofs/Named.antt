@@ -1,5 +1,5 @@
 -- The lines and stores that a step names are the test's.
-use Rattle.trace_report.proofs.Vocabulary.{ℕ, zero, suc, ◌+◌, ◌<◌, ◌≤◌, Bool, true, false, ◌&&◌, ◌==◌, if◌then◌else◌, List, [], ◌∷◌, length, Option, Some, None, IfSome, All, arith, All-nil, All-cons, All-head, All-tail, All-append, Litmus, MemoryAccess, NoAccess, Reads, Writes, Locks, Bus, Atomic, Split, Outcome, Committed, Buffered, Moved, Asked, Stalled, Entry, Awaited, Running, CacheUse, Unused, Forwarded, Through, IsAt, IsLine, goes_on_bus, request_at, sent_on, line_states, placed_states_from, number_of_lines, states_of, number_of_state, is_absent, change_of, changes_in, line_that_left, wrote_back_by, buffer_if_changed, LineRequest, StateChange, PlacedState}
+use Rattle.trace_report.proofs.Vocabulary.{ℕ, zero, suc, ◌+◌, ◌<◌, ◌≤◌, Bool, true, false, ◌==◌, ◌%◌, ◌≡◌, nat_lt, if◌then◌else◌, refl, List, [], ◌∷◌, length, Option, Some, None, IfSome, All, arith, All-nil, All-cons, All-head, All-tail, All-append, nat_tests, Litmus, MemoryAccess, NoAccess, Reads, Writes, Locks, Bus, Atomic, Split, Outcome, Committed, Buffered, Moved, Asked, Stalled, Entry, Awaited, Running, CacheUse, Unused, Forwarded, Through, IsAt, IsLine, goes_on_bus, request_at, sent_on, line_states, placed_states_from, number_of_lines, states_of, number_of_state, change_of, changes_in, last_line, among, giving_way, wrote_back_by, buffer_if_changed, LineRequest, StateChange, PlacedState}
 use Rattle.trace_report.proofs.Places.{AccessKnown, line-at, line-within}
 
 -- ---- requests
@@ -67,22 +67,27 @@ changes-known t words (b ∷ bs) (a ∷ rest) k =
     All-append (IsChangeOnLine t words) (change_of b a) (changes_in bs rest) (change-known t words b a (All-head (IsOnLine t words) b bs k))
     (changes-known t words bs rest (All-tail (IsOnLine t words) b bs k))
 
-left-known : (t : Litmus) (words core : ℕ) (cs : List StateChange) → All (IsChangeOnLine t words) cs → IfSome (line_that_left core cs) (IsLine t words)
-left-known t words core [] k = tt
-left-known t words core (c ∷ cs) k = by_test ((c.core.0 == core) && is_absent c.after) (left-known t words core cs (All-tail (IsChangeOnLine t words) c cs k))
-  where
-    by_test : (b : Bool) → IfSome (line_that_left core cs) (IsLine t words) → IfSome (if b then Some c.line else line_that_left core cs) (IsLine t words)
-    by_test true rest = All-head (IsChangeOnLine t words) c cs k
-    by_test false rest = rest
+-- ---- the line that gives way
 
-pub written-back-known : (t : Litmus) (words : ℕ) (how : CacheUse) (core : ℕ) (cs : List StateChange) → All (λ (c : StateChange). IsLine t words c.line) cs
-    → IfSome (wrote_back_by how core cs) (IsLine t words)
-written-back-known t words Unused core cs k = tt
-written-back-known t words Forwarded core cs k = tt
-written-back-known t words (Through a) core cs k = by_test a.wrote_back
+pub victim-known : (m : Running) (core : ℕ) (request : Option LineRequest) → 0 < m.statistics.caches.shape.words → IfSome (giving_way m core request) (IsLine m.test m.statistics.caches.shape.words)
+victim-known m core None some = tt
+victim-known m core (Some r) some = by_line (last_line m core (r.line % m.statistics.caches.shape.sets))
   where
-    by_test : (b : Bool) → IfSome (if b then line_that_left core cs else None) (IsLine t words)
-    by_test true = left-known t words core cs k
+    by_test : (line : ℕ) (b : Bool) → nat_lt line (number_of_lines m) ≡ b → IfSome (if b then Some line else None) (IsLine m.test m.statistics.caches.shape.words)
+    by_test line true q = line-within m.test m.statistics.caches.shape.words line some (let h : line < number_of_lines m = grind (arith, nat_tests, q) in h)
+    by_test line false q = tt
+
+    by_line : (o : Option ℕ) → IfSome (among (number_of_lines m) o) (IsLine m.test m.statistics.caches.shape.words)
+    by_line None = tt
+    by_line (Some line) = by_test line (nat_lt line (number_of_lines m)) refl
+
+pub written-back-known : (t : Litmus) (words : ℕ) (how : CacheUse) (victim : Option ℕ) → IfSome victim (IsLine t words) → IfSome (wrote_back_by how victim) (IsLine t words)
+written-back-known t words Unused victim k = tt
+written-back-known t words Forwarded victim k = tt
+written-back-known t words (Through a) victim k = by_test a.wrote_back
+  where
+    by_test : (b : Bool) → IfSome (if b then victim else None) (IsLine t words)
+    by_test true = k
     by_test false = tt
 
 -- ---- the buffer

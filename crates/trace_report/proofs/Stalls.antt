@@ -1,6 +1,5 @@
 -- A choice that stalled: nothing else is told of it.
-use Rattle.trace_report.proofs.Vocabulary.{◌≡◌, ◌⊎◌, inl, inr, ◌∙◌, ℕ, Bool, true, false, if◌then◌else◌, List, [], ◌++◌, length, drop, Option, Some, None, refl, sym, ap, subst, Litmus, action_of, CoreState, State, effect_by, effect_of, core_of, chosen, MemoryAccess, NoAccess, Reads, Writes, Locks, access_by, step_access, access_of, next_of, Holder, Free, HeldBy, HeldBetween, Attempt, same_choice, needs_bus, acts, asks, begins, completes, as_read, writes_last, split_effect, BusState, effect_on, Bus, Atomic, Split, Instr, Action, Store, Load, Move, Fence, Lock, Entry, Choice, Step, Drain, Outcome, Moved, Stalled, Stall, Awaited, same-is, Caches, is_awaited, used_between, Running, machine_use, machine_after, CacheUse, Unused, states_of, changes_in, is_forwarded, access_kind_in, request_at, nothing_sent, sent_on, moved_at, moved_by, moved_from, wrote_back_by, buffer_if_changed, stores_on, stalled_step, LineRequest, Sent}
-use Rattle.tso_model.specs.FlatMachine.{step_of}
+use Rattle.trace_report.proofs.Vocabulary.{◌≡◌, ◌⊎◌, inl, inr, ◌∙◌, ℕ, Bool, true, false, if◌then◌else◌, List, [], ◌++◌, length, drop, Option, Some, None, refl, sym, ap, subst, Litmus, action_of, CoreState, State, effect_by, effect_of, core_of, chosen, MemoryAccess, NoAccess, Reads, Writes, Locks, access_by, step_access, access_of, next_of, Holder, Free, HeldBy, HeldBetween, Attempt, same_choice, needs_bus, acts, asks, begins, completes, as_read, writes_last, split_effect, BusState, effect_on, Bus, Atomic, Split, Instr, Action, Store, Load, Move, Fence, Lock, Entry, Choice, Step, Drain, Outcome, Moved, Stalled, Stall, Awaited, same-is, Caches, is_awaited, used_between, Running, machine_use, machine_after, CacheUse, Unused, states_of, changes_in, is_forwarded, access_kind_in, request_at, nothing_sent, sent_on, moved_at, moved_by, moved_from, giving_way, wrote_back_by, buffer_if_changed, stores_on, stalled_step, LineRequest, Sent, step_of}
 use Rattle.machine_core.specs.Running as running
 use Rattle.trace_report.specs.Steps as steps
 use Rattle.trace_report.proofs.Effects.{stall-rests, drop-all}
@@ -135,5 +134,5 @@ stall-shown m choice why same stalls =
     (stall-moves m.test (core_of m.state.flat core).place choice f.effect.outcome why (core_of end.state.flat core).registers stalls
     (effect-moves m.bus m.test m.depth m.state (running.attempt_on m choice)))
     (ap is_forwarded how) (ap access_kind_in how) (ap (λ (s : Sent). s.request) sent) (ap (λ (s : Sent). s.flushed) sent)
-    (ap (λ h. wrote_back_by h core (changes_in (states_of m) (states_of end))) how) changes
+    (ap (λ h. wrote_back_by h (giving_way m core request)) how) changes
     (ap (λ es. buffer_if_changed (length (stores_on m choice)) es) stores ∙ rw (same-test (length (stores_on m choice))) refl))

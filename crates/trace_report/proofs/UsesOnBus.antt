@@ -1,7 +1,6 @@
 -- What a choice has to do with the caches on either bus, and who holds the bus after it.
-use Rattle.trace_report.proofs.Vocabulary.{◌≡◌, ◌≢◌, ◌⊎◌, ℕ, Bool, true, false, if◌then◌else◌, inl, inr, refl, ap, subst, each-at, Litmus, State, chosen, core_of, effect_of, applied, MemoryAccess, NoAccess, Reads, Writes, Locks, access_of, next_of, Holder, Free, HeldBy, HeldBetween, BusEffect, same_choice, needs_bus, acts, asks, begins, completes, as_read, writes_last, split_effect, BusState, Bus, Atomic, Split, Choice, Step, Entry, quiet-same, IsStore, AllStores, access-kept, same-is, IsOther, HolderWaits, Unused, Caches, Used, not_through, asking_by, completing_by, hits_by, attempt_of, is_awaited, used_between, use_on, state_after_on, IsUseFor, choice-use, zero, suc, nat_lt, List, [], ◌∷◌, length, Option, Some, None, sym, Each, action_of, CoreState, Effect, is_none_pending, stalled, stored, effect_by, effect_on, Instr, Action, Store, Load, Move, Fence, Lock, Drain, Outcome, Stall, Awaited, nothing_sent, sent_at, LineRequest, slice_index_or, set-get_or, idle, choice-stores}
+use Rattle.trace_report.proofs.Vocabulary.{◌≡◌, ◌≢◌, ◌⊎◌, ℕ, Bool, true, false, if◌then◌else◌, inl, inr, refl, ap, subst, each-at, Litmus, State, chosen, core_of, effect_of, applied, MemoryAccess, NoAccess, Reads, Writes, Locks, access_of, next_of, Holder, Free, HeldBy, HeldBetween, BusEffect, same_choice, needs_bus, acts, asks, begins, completes, as_read, writes_last, split_effect, BusState, Bus, Atomic, Split, Choice, Step, Entry, quiet-same, IsStore, AllStores, access-kept, same-is, IsOther, HolderWaits, Unused, Caches, Used, not_through, asking_by, completing_by, hits_by, attempt_of, is_awaited, used_between, use_on, state_after_on, IsUseFor, choice-use, zero, suc, nat_lt, List, [], ◌∷◌, length, drop, Option, Some, None, sym, Each, action_of, CoreState, Effect, is_none_pending, stalled, stored, effect_by, effect_on, Instr, Action, Store, Load, Move, Fence, Lock, Drain, Outcome, Stall, Awaited, use_of, nothing_sent, sent_at, LineRequest, slice_index_or, set-get_or, idle, choice-stores}
 use Rattle.basic_laws.proofs.WithPending.{drain_with}
-use Rattle.machine_core.proofs.Advancing.{last-unused}
 use Rattle.tso_model.specs.FlatMachine.{step_of}
 use Rattle.tso_model.specs.declared.choice.Stall.TheVariants as stall
 use Rattle.tso_model.specs.declared.choice.Outcome.TheVariants as out
@@ -40,6 +39,29 @@ drain-nothing s (p ∷ ps) = λ r w. refl
 pub flat-nothing : (t : Litmus) (depth : ℕ) (state : State) (a : Choice) → AsksNothing (effect_of t depth state a).outcome
 flat-nothing t depth state (Step core) = step-nothing depth core.0 state.memory (next_of t state core.0) (core_of state core.0)
 flat-nothing t depth state (Drain core) = drain-nothing (core_of state core.0) (core_of state core.0).pending
+
+-- the store part of a locked instruction makes no access
+abbrev IsNoUse : Caches → List Entry → List Entry → Type 0
+IsNoUse c pending commits = use_of c pending commits ≡ not_through Unused c
+
+last-when : (c : Caches) (pending : List Entry) (s : CoreState) (why : Stall) (f : Effect) (b : Bool) → IsNoUse c pending (drop 1 f.commits) → IsNoUse c pending (drop 1 (if b then f else stalled why s).commits)
+last-when c pending s why f true h = h
+last-when c pending s why f false h = refl
+
+last-stored : (c : Caches) (pending : List Entry) (depth : ℕ) (s : CoreState) (e : Entry) → IsNoUse c pending (drop 1 (stored depth s e).commits)
+last-stored c pending zero s e = refl
+last-stored c pending (suc n) s e = last-when c pending s stall.Full _ (nat_lt (length s.pending) (suc n)) refl
+
+pub last-unused : (c : Caches) (pending : List Entry) (depth core : ℕ) (memory : List ℕ) (i : Option Instr) (s : CoreState) → IsNoUse c pending (drop 1 (step_of depth memory core i s).commits)
+last-unused c pending depth core memory None s = refl
+last-unused c pending depth core memory (Some x) s = by_action (action_of x)
+  where
+    by_action : (a : Action) → IsNoUse c pending (drop 1 (effect_by depth memory core a s).commits)
+    by_action (Store loc operand) = last-stored c pending depth s _
+    by_action (Load reg loc) = refl
+    by_action (Move reg operand) = refl
+    by_action Fence = last-when c pending s stall.Fence _ (is_none_pending s.pending) refl
+    by_action (Lock loc reg update) = last-when c pending s stall.Lock _ (is_none_pending s.pending) refl
 
 -- ---- on either bus
 

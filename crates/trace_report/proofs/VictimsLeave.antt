@@ -1,8 +1,6 @@
--- What an access makes of the lines of its core's cache: they stay neat, and the line that it sends away was there before it and
--- isn't after it.
-use Rattle.trace_report.proofs.Vocabulary.{◌≡◌, ◌≢◌, ◌∙◌, ◌<◌, ℕ, Bool, true, false, List, [], length, Option, Some, None, refl, sym, ap, subst, get_or-set_same, Table, I, M, leaving, filled, TagSets, tags_at, tag_in, at_line, sets_of, dirty_in, writes_back, filled_by, tag_at, KeepsNoCopyInI, AllNeat, found-valid, all-requested, all-used, all-filled, own-kept, sets-leave, Request, Transient, IsD, ImD, SmD, snoop_column, Awaited, awaiting, completed, completed_in, ◌∷◌, zero, suc, next_in_place, awaited_as, request_for, whole_in, whole_access, at_others, requested, snooped}
+-- What an access makes of the lines of its core's cache: they stay neat, and where it sends a dirty one away its own line comes in.
+use Rattle.trace_report.proofs.Vocabulary.{◌≡◌, ◌≢◌, ◌∙◌, ◌<◌, ℕ, Bool, true, false, List, Option, Some, None, refl, sym, ap, Table, I, M, leaving, TagSets, tags_at, tag_in, sets_of, dirty_in, writes_back, tag_at, KeepsNoCopyInI, AllNeat, found-valid, all-requested, all-used, all-filled, own-kept, Request, Transient, IsD, ImD, SmD, snoop_column, Awaited, awaiting, completed, completed_in, next_in_place, awaited_as, request_for, whole_in, whole_access, requested}
 use Rattle.protocol_tables.specs.declared.state.State.{State}
-use Rattle.snoop_bus.specs.CacheContents.{at_core}
 
 -- ---- a completion
 
@@ -29,31 +27,22 @@ completed-neat lines t core line (Some x) caches l may h = by_transient x.transi
     by_transient ImD absent = all-filled lines core line x.state caches l may.valid (absent (λ q. let z : ⊥ = cc in z)) h
     by_transient SmD absent = all-used lines core line x.state caches l may.valid h
 
--- a line that the core hadn't was filled in, and a dirty one gave way to it
-pub record FillsIn (t : Table) (core line : ℕ) (before after : List TagSets) : Type 0 where
-  pub state : State
-  pub absent : tag_at core line before ≡ None
-  pub own : sets_of after core ≡ sets_of (filled_by core line state before) core
-  pub writes : writes_back t core line before ≡ true
+-- a line comes in that the core hadn't, and a dirty one gives way to it
+pub record ComesIn (t : Table) (core line : ℕ) (caches : List TagSets) : Type 0 where
+  pub absent : tag_at core line caches ≡ None
+  pub writes : writes_back t core line caches ≡ true
 
 pub completed-fills : (t : Table) (core line : ℕ) (w : Option Awaited) (caches : List TagSets) → MayComplete w core line caches → (completed t core line w caches).access.wrote_back ≡ true
-    → FillsIn t core line caches (completed t core line w caches).caches
+    → ComesIn t core line caches
 completed-fills t core line None caches may dirty = absurd (let z : ⊥ = cc in z)
 completed-fills t core line (Some x) caches may dirty = by_transient x.transient may.absent dirty
   where
-    by_transient : (y : Transient) → (y ≢ SmD → tag_at core line caches ≡ None) → (completed_in t core line y x.state x.flushed caches).access.wrote_back ≡ true
-        → FillsIn t core line caches (completed_in t core line y x.state x.flushed caches).caches
-    by_transient IsD absent dirty = record { state = x.state; absent = absent (λ q. let z : ⊥ = cc in z); own = refl; writes = dirty }
-    by_transient ImD absent dirty = record { state = x.state; absent = absent (λ q. let z : ⊥ = cc in z); own = refl; writes = dirty }
+    by_transient : (y : Transient) → (y ≢ SmD → tag_at core line caches ≡ None) → (completed_in t core line y x.state x.flushed caches).access.wrote_back ≡ true → ComesIn t core line caches
+    by_transient IsD absent dirty = record { absent = absent (λ q. let z : ⊥ = cc in z); writes = dirty }
+    by_transient ImD absent dirty = record { absent = absent (λ q. let z : ⊥ = cc in z); writes = dirty }
     by_transient SmD absent dirty = absurd (let z : ⊥ = cc in z)
 
 -- ---- an access that is made whole
-
--- the core's own lines are filled in as before the others have seen the request
-fills-own : (core : ℕ) (seen change : TagSets → TagSets) (caches : List TagSets) → sets_of (at_core core change (at_others core seen caches)) core ≡ sets_of (at_core core change caches) core
-fills-own core seen change [] = refl
-fills-own zero seen change (sets ∷ caches) = refl
-fills-own (suc core) seen change (sets ∷ caches) = fills-own core seen change caches
 
 module _ (t : Table) (write : Bool) (core line : ℕ) (caches : List TagSets) (keeps : KeepsNoCopyInI t) where
   abbrev request : Request
@@ -80,18 +69,16 @@ module _ (t : Table) (write : Bool) (core line : ℕ) (caches : List TagSets) (k
       by_write false (Some s) at none = absurd (let z : ⊥ = cc in z)
       by_write true (Some s) at none = record { valid = modified; absent = λ n. absurd (n refl) }
 
-  pub whole-fills : (whole_access t write core line caches).access.wrote_back ≡ true → FillsIn t core line caches (whole_access t write core line caches).caches
+  pub whole-fills : (whole_access t write core line caches).access.wrote_back ≡ true → ComesIn t core line caches
   whole-fills = by_next (tag_at core line caches) (next_in_place t write (tag_at core line caches)) refl refl
     where
       by_next : (copy next : Option State) → tag_at core line caches ≡ copy → next_in_place t write copy ≡ next → (whole_in t write core line caches copy next).access.wrote_back ≡ true
-          → FillsIn t core line caches (whole_in t write core line caches copy next).caches
+          → ComesIn t core line caches
       by_next copy (Some next) at is dirty = absurd (let z : ⊥ = cc in z)
       by_next copy None at is dirty =
           let f = completed-fills t core line (awaits copy) seen (asked-may copy at is) dirty in
           record {
-            state = f.state;
             absent = sym kept ∙ f.absent;
-            own = f.own ∙ fills-own core (at_line line (snooped (snoop_column t request) line)) (at_line line (filled line f.state)) caches;
             writes = ap (λ (sets : TagSets). dirty_in t (leaving (tags_at sets line))) (sym (own-kept core _ caches)) ∙ f.writes;
           }
 
@@ -110,31 +97,3 @@ module _ (t : Table) (write : Bool) (core line : ℕ) (caches : List TagSets) (k
         by_next : (copy next : Option State) → tag_at core line caches ≡ copy → next_in_place t write copy ≡ next → AllNeat lines (whole_in t write core line caches copy next).caches
         by_next copy (Some next) at is = all-used lines core line next caches within (valid-in-place copy next at is) h
         by_next copy None at is = completed-neat lines t core line (awaits copy) seen within (asked-may copy at is) (all-requested lines (snoop_column t request) core line caches h)
-
--- ---- the line that gives way
-
--- a line of a core's that is among these caches, and not among those
-pub record HasGone (lines core : ℕ) (before after : List TagSets) : Type 0 where
-  pub line : ℕ
-  pub state : State
-  pub within : line < lines
-  pub valid : state ≢ I
-  pub was : tag_at core line before ≡ Some state
-  pub gone : tag_at core line after ≡ None
-
-pub fills-gone : (lines core line : ℕ) (t : Table) (caches after : List TagSets) → core < length caches → AllNeat lines caches → FillsIn t core line caches after → HasGone lines core caches after
-fills-gone lines core line t caches after l h f = by_victim (leaving (tags_at (sets_of caches core) line)) refl
-  where
-    by_victim : (o : Option (ℕ × State)) → leaving (tags_at (sets_of caches core) line) ≡ o → HasGone lines core caches after
-    by_victim None q = let no : writes_back t core line caches ≡ false = ap (dirty_in t) q in absurd (let dirty = f.writes in let z : ⊥ = cc in z)
-    by_victim (Some victim) q =
-        let left = sets-leave lines line f.state (sets_of caches core) victim (h core) f.absent q in
-        let own = f.own ∙ get_or-set_same caches core (at_line line (filled line f.state) (sets_of caches core)) [] l in
-        record {
-          line = victim.0;
-          state = victim.1;
-          within = left.within;
-          valid = left.valid;
-          was = left.before;
-          gone = subst (λ sets. tag_in sets victim.0 ≡ None) (sym own) left.after;
-        }

@@ -1,7 +1,7 @@
 -- The names that the proofs of this crate bring in from definitions and from crates below; each file takes its own from here.
-pub use Rattle.std.proofs.Common.{◌≡◌, ◌∙◌, ℕ, ◌+◌, ◌<◌, ◌≤◌, List, [], ◌∷◌, ◌++◌, length, take, drop, get_or, codes, Option, Some, sym, ap, append_assoc, append-nil, arith, Bool, true, false, if◌then◌else◌, refl, zero, suc, nat_lt, None, subst, length-append, ◌*◌, ◌/◌, IfSome, All, slice_get, slice_index, slice_index_or, inl, inr, ◌&&◌, ◌==◌, ◌-◌, option_map, min, get_or-set_same, ◌⊎◌, ◌≢◌, map, replicate, get_or-set_other, not, ◌||◌, ◌%◌, slice_set, is_some, nat_eq, rules, string_bytes}
-pub use Rattle.std.proofs.Math.ListN.{drop_of_length-le, length-set}
-pub use Rattle.std.proofs.lemmas.List.{drop_more, get_or-take, length-take, get_or_past, length-replicate, length-map, set-get_or}
+pub use Rattle.std.proofs.Common.{◌≡◌, ◌∙◌, ℕ, ◌+◌, ◌<◌, ◌≤◌, List, [], ◌∷◌, ◌++◌, length, take, drop, get_or, codes, Option, Some, sym, ap, append_assoc, append-nil, arith, Bool, true, false, if◌then◌else◌, refl, zero, suc, nat_lt, None, subst, length-append, ◌*◌, ◌/◌, IfSome, All, slice_get, slice_index, slice_index_or, inl, inr, ◌==◌, ◌%◌, ◌-◌, option_map, min, get_or-set_same, ◌⊎◌, ◌≢◌, ◌&&◌, map, replicate, get_or-set_other, not, ◌||◌, slice_set, is_some, rules, string_bytes}
+pub use Rattle.std.proofs.Math.ListN.{drop_of_length-le, length-set, get_or-map}
+pub use Rattle.std.proofs.lemmas.List.{drop_more, get_or-take, length-take, get_or_past, length-replicate, length-map, set-get_or, get_or-replicate}
 pub use Rattle.tso_model.specs.Litmus.{Litmus, IsTest, IsProgram, KnownLocation}
 pub use Rattle.trace_report.specs.Lines.{after_plus, joined_by_plus, line_name, write_back_text, stall_name, changes_text, entries_text, later_stores}
 pub use Rattle.std.specs.List.{list_any}
@@ -13,7 +13,7 @@ pub use Rattle.tso_model.specs.declared.execution.Kind.TheVariants.{R, W, F, LR,
 pub use Rattle.machine_core.specs.Caches.{Caches, not_through, asking_by, completing_by, use_by_kind, use_of, used_between, is_awaited, use_on, state_after_on, Used, load_after, hits_by, would_hit, attempt_of, at_access, through, completion_by, whole_by}
 pub use Rattle.machine_core.specs.declared.accesses.CacheUse.TheVariants.{Forwarded, Unused, Through}
 pub use Rattle.tso_model.specs.Actions.{action_of, location_of}
-pub use Rattle.tso_model.specs.FlatMachine.{CoreState, State, Effect, is_none_pending, stalled, stored, effect_by, effect_of, core_of, chosen, program_of, applied, start, idle}
+pub use Rattle.tso_model.specs.FlatMachine.{CoreState, State, Effect, is_none_pending, stalled, stored, effect_by, effect_of, core_of, chosen, program_of, applied, start, idle, step_of, load_value, after_choice}
 pub use Rattle.tso_model.specs.SplitMachine.{Holder, Free, HeldBy, HeldBetween, Attempt, same_choice, needs_bus, acts, asks, begins, completes, as_read, after_first, writes_last, split_effect, load_part, BusEffect}
 pub use Rattle.tso_model.specs.EitherBus.{BusState, effect_on, BusRun, unheld, then_on, resting_on, run_on, run_on_from, choices_in, after_on}
 pub use Rattle.tso_model.specs.declared.choice.Bus.{Bus}
@@ -40,11 +40,12 @@ pub use Rattle.tso_model.specs.declared.instruction.Loc.{Loc}
 pub use Rattle.order_builder.specs.PrintedOrder.{HasLocation, IsLocationFor}
 pub use Rattle.split_laws.proofs.Cores.{core-cases, starts-idle, length-starts, quiet-same, done-next, done-pending, done-anywhere}
 pub use Rattle.trace_report.specs.Known.{IsAt, IsLine, AreStoresKnown, StepNamesExist}
+pub use Rattle.std.proofs.lemmas.Bool.Decides.{nat_tests, eqb_tells}
 pub use Rattle.snoop_bus.specs.Asks.{Awaited, tag_at, or_invalid, asking, completed, completed_in, asked_caches_in, asked_for, awaited_by, next_in_place, awaited_as, request_for, whole_in, whole_access, asked_at_once}
 unfoldable pub use Rattle.snoop_bus.specs.Asks.{awaiting}
-pub use Rattle.machine_core.specs.Running.{Running, attempt_on, machine_use, machine_after, new_machine}
+pub use Rattle.machine_core.specs.Running.{Running, attempt_on, machine_use, machine_after, new_machine, configuration_of, machine_effect}
 pub use Rattle.machine_core.specs.declared.accesses.CacheUse.{CacheUse}
-pub use Rattle.trace_report.specs.Steps.{goes_on_bus, request_at, sent_on, line_states, placed_states_from, number_of_lines, states_of, number_of_state, is_absent, change_of, changes_in, line_that_left, wrote_back_by, buffer_if_changed, moved_by, placed, is_forwarded, access_kind_in, moved_from, nothing_sent, moved_at, steps_from, trace_of, sent_whole, sent_at, state_with, line_state, awaited_at, sent_asked}
+pub use Rattle.trace_report.specs.Steps.{goes_on_bus, request_at, sent_on, line_states, placed_states_from, number_of_lines, states_of, number_of_state, change_of, changes_in, last_line, among, giving_way, wrote_back_by, buffer_if_changed, moved_by, placed, is_forwarded, access_kind_in, moved_from, nothing_sent, moved_at, steps_from, trace_of, sent_whole, sent_at, state_with, awaited_at, sent_asked}
 unfoldable pub use Rattle.trace_report.specs.Steps.{trace_step_of}
 pub use Rattle.trace_report.specs.declared.step.LineRequest.{LineRequest}
 pub use Rattle.trace_report.specs.declared.step.StateChange.{StateChange}
@@ -63,7 +64,6 @@ pub use Rattle.trace_report.specs.Stalls.{stalled_step}
 pub use Rattle.protocol_tables.specs.Tables.{Table, filled_shared, filled_by_sharing, written_in_place}
 pub use Rattle.tso_model.specs.Runs.{Run, has_ended, stall_count, then_run, run, CoresExist, is_done}
 pub use Rattle.machine_core.specs.Statistics.{no_statistics, Statistics, no_counts, with_access, with_forward, with_write_back, with_flush, counts_at_core, flush_counted, with_use_counted, statistics_from}
-pub use Rattle.std.proofs.lemmas.Bool.Decides.{nat_tests, eqb_tells}
 pub use Rattle.basic_laws.proofs.Lists.{Each, each-append, each-at}
 pub use Rattle.protocol_tables.specs.declared.requests.Transient.TheVariants.{IsD, ImD, SmD}
 pub use Rattle.trace_report.specs.declared.step.LineState.{LineState}
@@ -78,12 +78,12 @@ pub use Rattle.snoop_bus.specs.Rows.{table_of_rows, rows_of}
 pub use Rattle.snoop_bus.specs.CacheContents.{TagSets, tags_at, tag_in, at_line, sets_of, dirty_in, writes_back, filled_by, used_by, at_others, is_held, requested}
 pub use Rattle.split_laws.proofs.Waiting.{AllStores, access-kept, choice-stores, start-stores}
 pub use Rattle.split_laws.proofs.Effects.{HolderWaits, Live, LiveIn, live-after, live-start}
-pub use Rattle.protocol_tables.specs.declared.state.State.TheVariants.{I, M, S, E, O}
-pub use Rattle.snoop_bus.specs.Tags.{leaving, filled, TagSet, tag_of, used, snooped}
+pub use Rattle.protocol_tables.specs.declared.state.State.TheVariants.{I, S, E, O, M}
+pub use Rattle.snoop_bus.specs.Tags.{TagSet, tag_of, used, filled, in_next, snooped_in, snooped, leaving}
 pub use Rattle.bus_laws.specs.Uses.{IsUseFor}
-pub use Rattle.bus_laws.proofs.Victims.{AllNeat, found-valid, all-requested, all-used, all-filled, own-kept, sets-leave, no_set, absent-remove, IsNeat, none-neat, no-sets}
+pub use Rattle.bus_laws.proofs.Victims.{no_set, AllNeat, found-valid, all-requested, all-used, all-filled, absent-remove, own-kept, IsNeat, none-neat, no-sets, sets-leave}
 pub use Rattle.bus_laws.proofs.Counted.{choice-use}
 pub use Rattle.snoop_bus.specs.Requests.{snoop_column}
 pub use Rattle.snoop_bus.specs.Copies.{tags_in}
-pub use Rattle.machine_core.specs.Looking.{bus_holder, bus_holder_as, bus_holder_of}
-pub use Rattle.trace_report.specs.StepLaws.{with_moved, pending_told, CoresAreTold, IsWordOfStall, done, full, lock, empty, IsHeldByOther, IsWordOfStallOn, flat, bus, StallsAreTold, with_seen, OthersSeeTheRequest, after_choices, WriteBacksAreTold, KeepsWays}
+pub use Rattle.trace_report.specs.StepLaws.{WriteBacksAreTold, after_choices, with_moved, pending_told, CoresAreTold, IsWordOfStall, done, full, lock, empty, IsHeldByOther, IsWordOfStallOn, flat, bus, StallsAreTold, with_seen, OthersSeeTheRequest}
+pub use Rattle.machine_core.specs.inner.Keeping.{IsAmong, IsFlusherAmong, IsSenderAmong, memory_access_in}

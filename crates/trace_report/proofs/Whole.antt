@@ -1,10 +1,9 @@
 -- What a choice did, from what was looked at before it and after it.
-use Rattle.trace_report.proofs.Vocabulary.{◌≡◌, ◌∙◌, ℕ, Bool, true, List, [], ◌∷◌, ◌++◌, length, drop, Option, ◌<◌, ◌==◌, inl, inr, refl, sym, ap, subst, arith, option_map, get_or-set_same, All, length-set, Litmus, IsTest, idle, core_of, chosen, access_of, Core, Choice, Outcome, Entry, AccessKind, Geometry, IsLineSize, test-true, Configuration, is_awaited, Running, attempt_on, machine_use, machine_after, CacheUse, ShownStep, waited_before, states_of, number_of_state, changes_in, is_forwarded, access_kind_in, request_at, sent_on, moved_from, wrote_back_by, buffer_if_changed, trace_step_of, IsTraced, IsTracedInStates, stores_on, waited_on, IsLeftBy, HasLocation, IsAt, AreStoresKnown, StepNamesExist, All-append, All-drop, All-weaker, LineRequest, StateChange, PlacedState, Sent}
-use Rattle.machine_core.specs.Running.{configuration_of, machine_effect}
+use Rattle.trace_report.proofs.Vocabulary.{◌≡◌, ◌∙◌, ℕ, Bool, true, List, [], ◌∷◌, ◌++◌, length, drop, Option, ◌<◌, ◌==◌, inl, inr, refl, sym, ap, subst, arith, option_map, get_or-set_same, All, length-set, Litmus, IsTest, idle, core_of, chosen, access_of, Core, Choice, Outcome, Entry, AccessKind, Geometry, IsLineSize, test-true, Configuration, Running, attempt_on, machine_use, machine_after, CacheUse, ShownStep, waited_before, states_of, number_of_state, changes_in, is_forwarded, access_kind_in, request_at, sent_on, moved_from, giving_way, wrote_back_by, buffer_if_changed, trace_step_of, IsTraced, IsTracedInStates, stores_on, waited_on, IsLeftBy, HasLocation, IsAt, AreStoresKnown, StepNamesExist, All-append, All-drop, All-weaker, LineRequest, StateChange, PlacedState, Sent, configuration_of, machine_effect, is_awaited}
 use Rattle.trace_report.specs.inner.Told.{IsLookedAt}
 use Rattle.trace_report.proofs.Effects.{Form, effect-form, waited-is}
 use Rattle.trace_report.proofs.Places.{effect-places, stores-next, access-known, at-place}
-use Rattle.trace_report.proofs.Named.{sent-known, request-known, written-back-known, changes-known, states-known, buffer-known}
+use Rattle.trace_report.proofs.Named.{sent-known, request-known, victim-known, written-back-known, changes-known, states-known, buffer-known}
 use Rattle.machine_core.proofs.EachUse.{used-machine}
 use Rattle.trace_report.specs.declared.step.Moved.{Moved}
 use Rattle.trace_report.specs.declared.telling.Left.{Left}
@@ -72,25 +71,26 @@ left-looked m next choice outcome before committed l there next_is outcome_is be
 
 -- what was looked at before the choice and after it
 pub record WasLookedAt (t : Litmus) (config : Configuration) (m next : Running) (choice : Choice) (how : CacheUse) (outcome : Outcome)
-    (place : ℕ) (request : Option LineRequest) (sent : Sent) (left : Left) : Type 0 where
+    (place : ℕ) (request : Option LineRequest) (victim : Option ℕ) (sent : Sent) (left : Left) : Type 0 where
   pub machine : IsTraced t config m
   pub next_is : next ≡ machine_after m choice
   pub outcome_is : outcome ≡ (machine_effect m choice).effect.outcome
   pub how_is : how ≡ (machine_use m choice).how
   pub place_is : place ≡ (core_of m.state.flat (chosen choice)).place
   pub request_is : request ≡ request_at config.shape.words (access_of m.test m.depth m.state.flat choice)
+  pub victim_is : victim ≡ giving_way m (chosen choice) request
   pub sent_is : sent ≡ sent_on config.bus outcome request how next.statistics.caches.awaited
   pub left_is : Leaves m choice left
 
 pub told-whole : (t : Litmus) (config : Configuration) (m next : Running) (choice : Choice) (how : CacheUse) (outcome : Outcome)
-    (place : ℕ) (request : Option LineRequest) (sent : Sent) (left : Left)
+    (place : ℕ) (request : Option LineRequest) (victim : Option ℕ) (sent : Sent) (left : Left)
     (moved : Option Moved) (forwarded : Bool) (access : Option AccessKind) (wrote_back : Option ℕ)
-    → WasLookedAt t config m next choice how outcome place request sent left
+    → WasLookedAt t config m next choice how outcome place request victim sent left
     → moved ≡ moved_from t place choice (core_of next.state.flat (chosen choice)).registers → forwarded ≡ is_forwarded how → access ≡ access_kind_in how
-    → wrote_back ≡ wrote_back_by how (chosen choice) left.changes.items
+    → wrote_back ≡ wrote_back_by how victim
     → parts choice outcome left.entries.items moved forwarded access sent.request sent.flushed wrote_back left.changes.items (option_map (λ stores. stores.items) left.buffer) ≡ trace_step_of m choice
 unfolding trace_step_of
-told-whole t config m next choice how outcome place request sent left moved forwarded access wrote_back l moved_is forwarded_is access_is wrote_back_is =
+told-whole t config m next choice how outcome place request victim sent left moved forwarded access wrote_back l moved_is forwarded_is access_is wrote_back_is =
     let f = (machine_effect m choice).effect in
     let used = (machine_use m choice).how in
     let core = chosen choice in
@@ -107,10 +107,10 @@ told-whole t config m next choice how outcome place request sent left moved forw
     let moved_same : moved ≡ moved_from m.test old.place choice (core_of end.state.flat core).registers =
     moved_is ∙ (ap (λ n. moved_from t n choice (core_of next.state.flat core).registers) l.place_is ∙ (ap (λ u. moved_from u old.place choice (core_of next.state.flat core).registers) (sym l.machine.test)
     ∙ ap (λ (n : Running). moved_from m.test old.place choice (core_of n.state.flat core).registers) l.next_is)) in
-    let victim : wrote_back ≡ wrote_back_by used core (changes_in (states_of m) (states_of end)) =
-    wrote_back_is ∙ (ap (λ h. wrote_back_by h core left.changes.items) l.how_is ∙ ap (λ cs. wrote_back_by used core cs) l.left_is.changes) in
+    let wrote_back_same : wrote_back ≡ wrote_back_by used (giving_way m core asked) =
+    wrote_back_is ∙ (ap (λ h. wrote_back_by h victim) l.how_is ∙ (ap (wrote_back_by used) l.victim_is ∙ ap (λ r. wrote_back_by used (giving_way m core r)) request_same)) in
     same-fields choice _ _ _ _ _ _ _ _ _ _ _ _ _ _ _ _ _ _ _ _ l.outcome_is l.left_is.entries moved_same (forwarded_is ∙ ap is_forwarded l.how_is) (access_is ∙ ap access_kind_in l.how_is)
-    (ap (λ (s : Sent). s.request) sent_same) (ap (λ (s : Sent). s.flushed) sent_same) victim l.left_is.changes l.left_is.buffer
+    (ap (λ (s : Sent). s.request) sent_same) (ap (λ (s : Sent). s.flushed) sent_same) wrote_back_same l.left_is.changes l.left_is.buffer
 
 -- ---- the machine after the choice
 
@@ -119,15 +119,17 @@ some-word n (inl e) = omega arith
 some-word n (inr (inl e)) = omega arith
 some-word n (inr (inr e)) = omega arith
 
-configuration-kept : (m : Running) (choice : Choice) → configuration_of (machine_after m choice) ≡ configuration_of m
-configuration-kept m choice =
+pub shape-kept : (m : Running) (choice : Choice) → (machine_after m choice).statistics.caches.shape ≡ m.statistics.caches.shape
+shape-kept m choice =
     let f = machine_effect m choice in
-    let made : Geometry → Configuration = λ s. record { depth = m.depth; shape = s; bus = m.bus } in
-    ap made (used-machine (is_awaited m.state.holder) (is_awaited f.holder) m.statistics.caches (chosen choice) (access_of m.test m.depth m.state.flat choice)
+    (used-machine (is_awaited m.state.holder) (is_awaited f.holder) m.statistics.caches (chosen choice) (access_of m.test m.depth m.state.flat choice)
     (core_of m.state.flat (chosen choice)).pending f.effect.commits).1
 
+configuration-kept : (m : Running) (choice : Choice) → configuration_of (machine_after m choice) ≡ configuration_of m
+configuration-kept m choice = ap (λ (s : Geometry). record { depth = m.depth; shape = s; bus = m.bus }) (shape-kept m choice)
+
 pub words-kept : (m : Running) (choice : Choice) → (machine_after m choice).statistics.caches.shape.words ≡ m.statistics.caches.shape.words
-words-kept m choice = ap (λ (c : Configuration). c.shape.words) (configuration-kept m choice)
+words-kept m choice = ap (λ (s : Geometry). s.words) (shape-kept m choice)
 
 pub stores-kept : (m : Running) (choice : Choice) → IsTest m.test → AreStoresKnown m.test m.state.flat → AreStoresKnown m.test (machine_after m choice).state.flat
 stores-kept m choice valid known =
@@ -174,14 +176,13 @@ known-here m choice valid known some =
     let end = machine_after m choice in
     let places = effect-places m.bus t m.depth m.state (attempt_on m choice) valid known in
     let stores : All (IsAt t) (stores_on end choice) = stores-kept m choice valid known (chosen choice) in
-    let changes = changes-known t words (states_of m) (states_of end) (states-known m some) in
     record {
       entries = All-append (HasLocation t) f.commits (drop (length (stores_on m choice)) (stores_on end choice)) places.commits
           (All-weaker (IsAt t) (HasLocation t) (at-place t) _ (All-drop (IsAt t) (length (stores_on m choice)) (stores_on end choice) stores));
       request = sent-known t words m.bus f.outcome _ (machine_use m choice).how end.statistics.caches.awaited
           (request-known t words (access_of t m.depth m.state.flat choice) some (access-known t m.depth m.state.flat choice valid known));
-      wrote_back = written-back-known t words (machine_use m choice).how (chosen choice) (changes_in (states_of m) (states_of end)) changes;
-      changes = changes;
+      wrote_back = written-back-known t words (machine_use m choice).how _ (victim-known m (chosen choice) (request_at words (access_of t m.depth m.state.flat choice)) some);
+      changes = changes-known t words (states_of m) (states_of end) (states-known m some);
       buffer = buffer-known t (length (stores_on m choice)) (stores_on end choice) stores;
     }
 

@@ -6,7 +6,8 @@ use Rattle.trace_report.proofs.AccessesTold.{of, kept, added, flushed-kept, none
 use Rattle.trace_report.proofs.Flushes.{flush_awaited}
 use Rattle.trace_report.proofs.FlushesTold.{sound-first, flushes-told}
 use Rattle.trace_report.proofs.InPlace.{wrote_in}
-use Rattle.trace_report.proofs.VictimsTold.{IsKept, kept-first, kept-after, step-told}
+use Rattle.trace_report.proofs.GaveWay.{step-told}
+use Rattle.trace_report.proofs.Kept.{IsKept, kept-first, kept-after}
 
 adds : (wrote_back : Bool) (kind : AccessKind) (n : Counts) → (with_write_back wrote_back (with_access kind n)).write_backs ≡ n.write_backs + one_if wrote_back
 adds true Hit n = refl

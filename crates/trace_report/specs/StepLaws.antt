@@ -116,10 +116,6 @@ pub record GaveWay (m : Running) (choice : Choice) (line : ℕ) : Type 0 where
 abbrev pub WriteBacksAreTold : Running → Choice → Type 0
 WriteBacksAreTold m choice = (line : ℕ) → (trace_step_of m choice).wrote_back ≡ Some line → GaveWay m choice line
 
--- no set of a core's cache has more lines than it may have, as the caches keep it
-abbrev pub KeepsWays : Running → ℕ → Type 0
-KeepsWays m core = (line : ℕ) → length (tags_at (sets_of m.statistics.caches.contents core) line).tags ≤ (tags_at (sets_of m.statistics.caches.contents core) line).ways
-
 -- ---- in each machine that choices of a test lead to
 
 -- a machine once it has made these choices
@@ -134,5 +130,4 @@ pub record StepsAreTold : Type 0 where
       → OthersSeeTheRequest (after_choices (new_machine table c t) choices) choice
   pub write_backs : (table : Table) (c : Configuration) (t : Litmus) (choices : List Choice) (choice : Choice)
       → IsTest t → 0 < c.shape.words → KeepsNoCopyInI table → chosen choice < length t.programs
-      → KeepsWays (after_choices (new_machine table c t) choices) (chosen choice)
       → WriteBacksAreTold (after_choices (new_machine table c t) choices) choice

@@ -1,7 +1,8 @@
 -- What each choice of a run did. It is told from the machine before the choice, the machine after it, and what the choice had to
 -- do with the caches. (This project's profile, after the tables of Primer, chapters 6 and 7.)
-use Rattle.std.specs.Prelude.{ℕ, zero, suc, ◌+◌, ◌/◌, ◌==◌, ◌&&◌, Bool, true, false, if◌then◌else◌, List, [], ◌∷◌, ◌++◌}
-use Rattle.std.specs.Prelude.{length, drop, slice_get, Option, Some, None}
+use Rattle.std.specs.Prelude.{ℕ, zero, suc, ◌+◌, ◌-◌, ◌/◌, ◌%◌, ◌==◌, ◌&&◌, nat_lt, Bool, true, false, if◌then◌else◌, List, [], ◌∷◌, ◌++◌}
+use Rattle.std.specs.Prelude.{length, drop, slice_get, slice_index_or, Option, Some, None}
+use Rattle.std.specs.Option.{option_map}
 use Rattle.std.specs.Int.{div_ceil}
 use Rattle.tso_model.specs.Litmus.{Litmus}
 use Rattle.tso_model.specs.Actions.{action_of}
@@ -23,6 +24,8 @@ use Rattle.protocol_tables.specs.declared.kind.ProtocolKind.{ProtocolKind}
 use Rattle.protocol_tables.specs.declared.state.State.{State}
 use Rattle.protocol_tables.specs.declared.requests.Transient.{Transient}
 use Rattle.protocol_tables.specs.declared.requests.Transient.TheVariants.{IsD, ImD, SmD}
+use Rattle.snoop_bus.specs.Tags.{tag_set}
+use Rattle.snoop_bus.specs.CacheContents.{sets_of}
 use Rattle.snoop_bus.specs.Asks.{Awaited, tag_at, or_invalid, request_for}
 use Rattle.snoop_bus.specs.declared.access.AccessKind.{AccessKind}
 use Rattle.snoop_bus.specs.declared.access.AccessKind.TheVariants.{Hit, Upgrade, Miss}
@@ -182,19 +185,27 @@ changes_in (before ∷ befores) [] = []
 changes_in (before ∷ befores) (after ∷ afters) = change_of before after ++ changes_in befores afters
 
 -- ---- the line that is written back
-abbrev pub is_absent : LineState → Bool
-is_absent x = number_of_state x == 0
 
--- the first line of this core among these that has left its cache
-abbrev pub line_that_left : ℕ → List StateChange → Option ℕ
-line_that_left core [] = None
-line_that_left core (c ∷ cs) = if (c.core.0 == core) && is_absent c.after then Some c.line else line_that_left core cs
+-- the line that stands last in a full set of a core's cache
+abbrev pub last_line : Running → ℕ → ℕ → Option ℕ
+last_line m core set =
+    option_map (λ tag. tag.0) (slice_get (slice_index_or (sets_of m.statistics.caches.contents core) set (tag_set [] 1)).tags (m.statistics.caches.shape.ways - 1))
 
--- where the access sent a dirty line away, the line that left the core's cache
-abbrev pub wrote_back_by : CacheUse → ℕ → List StateChange → Option ℕ
-wrote_back_by Unused core changes = None
-wrote_back_by Forwarded core changes = None
-wrote_back_by (Through a) core changes = if a.wrote_back then line_that_left core changes else None
+-- a line, if it is one of so many: caches have no others
+abbrev pub among : ℕ → Option ℕ → Option ℕ
+among lines None = None
+among lines (Some line) = if nat_lt line lines then Some line else None
+
+-- the line that gives way where the line that is asked for comes into the core's cache: the last of its set, if that is full
+abbrev pub giving_way : Running → ℕ → Option LineRequest → Option ℕ
+giving_way m core None = None
+giving_way m core (Some r) = among (number_of_lines m) (last_line m core (r.line % m.statistics.caches.shape.sets))
+
+-- where the access sent a dirty line away, the line that gave way
+abbrev pub wrote_back_by : CacheUse → Option ℕ → Option ℕ
+wrote_back_by Unused victim = None
+wrote_back_by Forwarded victim = None
+wrote_back_by (Through a) victim = if a.wrote_back then victim else None
 
 -- ---- the step
 
@@ -205,7 +216,6 @@ step_with m choice f how next =
     let after = core_of next.state.flat (chosen choice) in
     let request = request_at m.statistics.caches.shape.words (access_of m.test m.depth m.state.flat choice) in
     let sent = sent_on m.bus f.outcome request how next.statistics.caches.awaited in
-    let changes = changes_in (states_of m) (states_of next) in
     record {
       choice = choice;
       outcome = f.outcome;
@@ -215,8 +225,8 @@ step_with m choice f how next =
       access = access_kind_in how;
       request = sent.request;
       flushed = sent.flushed;
-      wrote_back = wrote_back_by how (chosen choice) changes;
-      changes = changes;
+      wrote_back = wrote_back_by how (giving_way m (chosen choice) request);
+      changes = changes_in (states_of m) (states_of next);
       buffer = buffer_if_changed (length before.pending) after.pending;
     }
 

@@ -9,6 +9,7 @@ pub mod step;
 pub mod telling;
 pub mod text;
 pub mod told_runs;
+mod victim;
 
 pub use states::states_of;
 pub use step::{LineRequest, LineState, Moved, StateChange, Step};

@@ -5,7 +5,7 @@ ghost use Rattle.std.specs.Prelude.{◌≡◌, ◌<◌, ◌++◌, IfOk, OnOk, le
 ghost use Rattle.std.specs.Int.{div_ceil};
 ghost use Rattle.machine_core.specs.Looking.{bus_holder_of};
 ghost use Rattle.trace_report.specs.Steps.{awaited_at, line_state, placed, line_states, number_of_lines, states_of, number_of_state};
-ghost use Rattle.trace_report.specs.Steps.{change_of, changes_in, line_that_left};
+ghost use Rattle.trace_report.specs.Steps.{change_of, changes_in};
 ghost use Rattle.trace_report.specs.inner.Told.{IsLookedAt};
 
 use crate::step::{LineState, StateChange, core_of};
@@ -145,16 +145,4 @@ fn number_of_state(state: LineState) -> u8
         LineState::Transient(Transient::ImD) => 6,
         LineState::Transient(Transient::SmD) => 7,
     }
-}
-
-/// The first line of this core among these that has left its cache.
-pub fn line_that_left(core: Core, changes: &[StateChange]) -> Option<u8>
-    ensures { result ≡ line_that_left core.0 changes.now }
-{
-    for change in changes {
-        if change.core.0 == core.0 && number_of_state(change.after) == 0 {
-            return Some(change.line);
-        }
-    }
-    None
 }

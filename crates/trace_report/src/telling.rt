@@ -19,8 +19,9 @@ ghost use Rattle.trace_report.specs.Stalls.{stalled_step};
 ghost use Rattle.trace_report.specs.inner.ToldSteps.{told_step, stalls_told};
 
 use crate::sending::{request_at, sent_on};
-use crate::states::{PlacedState, changes_in, line_that_left, states_of};
+use crate::states::{PlacedState, changes_in, states_of};
 use crate::step::{Moved, StateChange, Step, core_of};
+use crate::victim::giving_way;
 use machine_core::{CacheUse, Config, Machine};
 use protocol_tables::Protocol;
 use snoop_bus::AccessKind;
@@ -97,6 +98,7 @@ pub fn tell_or_stall<P: Protocol>(
     let place = machine.place(core).unwrap_or(0);
     let committed = machine.committed().len();
     let request = request_at(machine.access(choice), config.words());
+    let victim = giving_way(machine, test, config, core, request);
     let (outcome, cache_use) = machine.choose_telling(choice)?;
     if let Outcome::Stalled(stall) = outcome {
         return Ok(Told::Stalled(stall));
@@ -108,7 +110,6 @@ pub fn tell_or_stall<P: Protocol>(
     };
     let left = left_behind(alloc, machine, states, test, config, made)?;
     let sent = sent_on(config.bus(), outcome, request, cache_use, machine.awaited());
-    let wrote_back = wrote_back_by(cache_use, core, &left.changes);
     Ok(Told::Made(Step {
         choice,
         outcome,
@@ -118,7 +119,7 @@ pub fn tell_or_stall<P: Protocol>(
         access: access_kind_in(cache_use),
         request: sent.request,
         flushed: sent.flushed,
-        wrote_back,
+        wrote_back: wrote_back_by(cache_use, victim),
         changes: left.changes,
         buffer: left.buffer,
     }))
@@ -300,12 +301,12 @@ fn access_kind_in(cache_use: CacheUse) -> Option<AccessKind>
     }
 }
 
-/// Where the access sent a dirty line away, the line that left the core's cache.
-fn wrote_back_by(cache_use: CacheUse, core: Core, changes: &[StateChange]) -> Option<u8>
-    ensures { result ≡ wrote_back_by cache_use core.0 changes.now }
+/// Where the access sent a dirty line away, the line that gave way.
+fn wrote_back_by(cache_use: CacheUse, victim: Option<u8>) -> Option<u8>
+    ensures { result ≡ wrote_back_by cache_use victim }
 {
     match cache_use {
-        CacheUse::Through(access) if access.wrote_back => line_that_left(core, changes),
+        CacheUse::Through(access) if access.wrote_back => victim,
         CacheUse::Unused | CacheUse::Forwarded | CacheUse::Through(_) => None,
     }
 }

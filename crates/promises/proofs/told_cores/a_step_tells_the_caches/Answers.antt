@@ -5,4 +5,4 @@ returns-clause-others c = c.steps_are_told.ensures.others
 
 pub returns-clause-gave_way : goal.returns-clause-gave_way
 returns-clause-gave_way c =
-    λ table config t choices choice line test words none there ways. c.steps_are_told.ensures.write_backs table config t choices choice test words none there ways line
+    λ table config t choices choice line test words none there. c.steps_are_told.ensures.write_backs table config t choices choice test words none there line

@@ -1,5 +1,4 @@
-use Rattle.trace_report.proofs.Vocabulary.{◌≡◌, ◌∙◌, ◌<◌, length, ap, sym, subst, option_map, Ok, unwrap_or, chosen, core_of, awaited_by, IsLineSize, machine_after, StepNamesExist, stalled_step, states_of, request_at, sent_on, wrote_back_by, trace_step_of}
-use Rattle.machine_core.specs.inner.Keeping.{memory_access_in}
+use Rattle.trace_report.proofs.Vocabulary.{◌≡◌, ◌∙◌, ◌<◌, length, ap, sym, subst, option_map, Ok, unwrap_or, chosen, core_of, awaited_by, IsLineSize, machine_after, StepNamesExist, stalled_step, states_of, request_at, sent_on, giving_way, trace_step_of, memory_access_in}
 use Rattle.trace_report.proofs.Looking.{place-of}
 use Rattle.trace_report.proofs.Stalls.{stall-shown}
 use Rattle.trace_report.proofs.Whole.{Leaves, left-looked, WasLookedAt, told-whole, told-next, looked-next, step-known}
@@ -42,7 +41,7 @@ left_behind-requires g c =
     c.in_ok-outcome.ensures.after (subst IsLineSize c.words.ensures.value c.words.ensures.within)
 
 -- what was looked at again
-leaves : (g : _) (c : goal.After-access_kind_in g) → Leaves c.args.machine.now c.args.choice c.in_ok-left.left
+leaves : (g : _) (c : goal.After-wrote_back_by g) → Leaves c.args.machine.now c.args.choice c.in_ok-left.left
 leaves g c =
     let m = c.args.machine.now in
     let there : chosen c.args.choice < length m.state.flat.cores = subst (λ n. chosen c.args.choice < n) (sym c.requires.told.machine.cores) c.requires.core in
@@ -62,7 +61,7 @@ returns-clause-step g c =
     let how = c.in_ok-outcome.cache_use in
     let core = c.core_of-core.ensures in
     let left = c.in_ok-left.left in
-    let looked : WasLookedAt c.args.test.now c.args.config m next choice how c.in_ok-outcome.outcome c.unwrap_or-place.result c.request_at-request.result c.sent_on-sent.result left = record {
+    let looked : WasLookedAt c.args.test.now c.args.config m next choice how c.in_ok-outcome.outcome c.unwrap_or-place.result c.request_at-request.result c.giving_way-victim.result c.sent_on-sent.result left = record {
       machine = c.requires.told.machine;
       next_is = c.in_ok-outcome.ensures.after;
       outcome_is = c.in_ok-outcome.ensures.outcome;
@@ -70,14 +69,13 @@ returns-clause-step g c =
       place_is = c.unwrap_or-place.ensures ∙ (ap (λ o. unwrap_or o 0) c.place.ensures ∙ (place-of m c.core_of-core.result.0 ∙ ap (λ i. (core_of m.state.flat i).place) core));
       request_is = c.request_at-request.ensures ∙ (ap (λ n. request_at n (memory_access_in c.access.result)) c.words.ensures.value
           ∙ ap (λ a. request_at c.args.config.shape.words a) c.access.ensures);
+      victim_is = c.giving_way-victim.ensures ∙ ap (λ i. giving_way m i c.request_at-request.result) core;
       sent_is = c.sent_on-sent.ensures ∙ (ap (λ b. sent_on b c.in_ok-outcome.outcome c.request_at-request.result how (option_map awaited_by c.awaited.result)) c.bus.ensures
           ∙ ap (λ a. sent_on c.args.config.bus c.in_ok-outcome.outcome c.request_at-request.result how a) c.awaited.ensures);
       left_is = leaves g c;
     } in
-    let wrote_back : c.wrote_back_by-wrote_back.result ≡ wrote_back_by how (chosen choice) left.changes.items =
-    c.wrote_back_by-wrote_back.ensures ∙ (ap (λ i. wrote_back_by how i c.deref.result.now) core ∙ ap (λ cs. wrote_back_by how (chosen choice) cs) c.deref.ensures.value) in
-    told-whole c.args.test.now c.args.config m next choice how c.in_ok-outcome.outcome c.unwrap_or-place.result c.request_at-request.result c.sent_on-sent.result left
-    c.moved_in.result c.is_forwarded.result c.access_kind_in.result c.wrote_back_by-wrote_back.result looked c.moved_in.ensures c.is_forwarded.ensures c.access_kind_in.ensures wrote_back
+    told-whole c.args.test.now c.args.config m next choice how c.in_ok-outcome.outcome c.unwrap_or-place.result c.request_at-request.result c.giving_way-victim.result c.sent_on-sent.result left
+    c.moved_in.result c.is_forwarded.result c.access_kind_in.result c.wrote_back_by.result looked c.moved_in.ensures c.is_forwarded.ensures c.access_kind_in.ensures c.wrote_back_by.ensures
 
 pub returns-clause-known : goal.returns-clause-known
 returns-clause-known g c =

@@ -1,6 +1,6 @@
 use Rattle.trace_report.proofs.CoresTold.{cores-told, stalls-told}
 use Rattle.trace_report.proofs.OthersSee.{others-told}
-use Rattle.trace_report.proofs.VictimIs.{write-backs-told}
+use Rattle.trace_report.proofs.GaveWay.{write-backs-told}
 use Rattle.trace_report.proofs.told_runs.steps_are_told.Goals as goal
 
 pub returns : goal.returns
