@@ -1,6 +1,6 @@
 -- The ways of a set: what is found in them by a line is found in the copies that they hold, and what a call makes of one way
 -- is what the set's contents are to become.
-use Rattle.cache_set.proofs.Vocabulary.{arith, ◌≡◌, ◌≢◌, ◌<◌, ◌≤◌, ◌⊎◌, ℕ, zero, suc, Bool, true, false, List, [], ◌∷◌, length, take, slice_get, Option, Some, None, IsSome, option_map, nat_eq, inl, inr, refl, sym, ap, subst, ◌∙◌, eqb_tells, eq-eqb, option_copied_mut, keys_of, lookup, lookup_entry, remove_entry, set_value, I, S, E, O, M, Line, Way, is_invalid, is_empty, has_line, copies_in, way_of, first_empty, first_full, NumbersBelow}
+use Rattle.cache_set.proofs.Vocabulary.{arith, ◌≡◌, ◌≢◌, ◌<◌, ◌≤◌, ◌⊎◌, ℕ, zero, suc, Bool, true, false, List, [], ◌∷◌, length, take, slice_get, Option, Some, None, IsSome, option_map, nat_eq, inl, inr, refl, sym, ap, subst, ◌∙◌, eqb_tells, eq-eqb, option_copied_mut, keys_of, lookup, lookup_entry, remove_entry, set_value, I, Line, Way, is_invalid, is_empty, has_line, copies_in, way_of, first_empty, first_full, NumbersBelow}
 use Rattle.std.specs.Prelude.{⊤}
 use Rattle.std.specs.Borrow.{MutBor}
 use Rattle.std.specs.List.{IsDistinct, AllByRecursion}
@@ -23,10 +23,7 @@ tells false = inr refl
 
 pub is_invalid-valid : (s : State) → s ≢ I → is_invalid s ≡ false
 is_invalid-valid I h = absurd (h refl)
-is_invalid-valid S h = refl
-is_invalid-valid E h = refl
-is_invalid-valid O h = refl
-is_invalid-valid M h = refl
+is_invalid-valid _ h = refl
 
 absent-all : (k : ℕ) (es : List (ℕ × Way)) → AllByRecursion (λ y. nat_eq k y ≡ false) (keys_of es) → lookup (nat_eq k) es ≡ None
 absent-all k [] h = refl

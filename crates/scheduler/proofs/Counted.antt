@@ -114,10 +114,7 @@ alone false false = refl
 same-test : (s l : Kind) (a b : ℕ) (c : Bool) → same_kind l R ≡ true →
     (same_kind s W && (c && (nat_lt a b || ((a == b) && (same_kind l LW && not (same_kind s LW)))))) ≡ (same_kind s W && (c && nat_lt a b))
 same-test s R a b c e = ap (λ t. same_kind s W && (c && t)) (alone (nat_lt a b) (a == b))
-same-test s W a b c e = absurd (let q : ⊥ = cc in q)
-same-test s F a b c e = absurd (let q : ⊥ = cc in q)
-same-test s LR a b c e = absurd (let q : ⊥ = cc in q)
-same-test s LW a b c e = absurd (let q : ⊥ = cc in q)
+same-test s _ a b c e = absurd (let q : ⊥ = cc in q)
 
 same-filter : (p q : Entry → Bool) (ys : List Entry) → ((y : Entry) → p y ≡ q y) → filter p ys ≡ filter q ys
 same-filter p q [] h = refl

@@ -81,9 +81,8 @@ bad_item cores room number word rest no_form other =
 
 cut_item : (room number : ℕ) (rest : List (List ℕ)) → length rest < 2 → seeded_of room number rest ≡ Err (BadWord number)
 unfolding seeded_of
-cut_item room number [] short = refl
-cut_item room number (seed ∷ []) short = refl
 cut_item room number (seed ∷ count ∷ rest) short = absurd (omega arith)
+cut_item room number _ short = refl
 
 pub fault_whole : (cores before number : ℕ) (back : List (List ℕ)) (fault : ChoiceFault) → 0 < cores → before ≤ most_choices → IsItemAtFault cores before number back fault → whole cores 0 before number back ≡ Err fault
 unfolding whole seeded_of

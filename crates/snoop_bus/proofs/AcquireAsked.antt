@@ -1,5 +1,5 @@
 -- What the completion of a write access leaves: the core has the line in M, with the word that was seen.
-use Rattle.snoop_bus.proofs.Vocabulary.{cases_eq, ◌≡◌, ◌≢◌, ◌⊎◌, inl, inr, ℕ, ◌<◌, ◌&&◌, true, false, nat_eq, Option, Some, None, option_map, List, length, refl, sym, ap, ◌∙◌, slice_set, if◌then◌else◌, in_place, M, Transient, IsD, ImD, SmD, Line, copy_with, with_state, with_word, Words, state_of_copy, Sets, copy_at, cache_of, ways_of, current_words, AllCoherent, ChangesCopy, KeepsWords, SetsWord, Transaction, Write, with_counted_copy, AskedOf, Awaits}
+use Rattle.snoop_bus.proofs.Vocabulary.{cases_eq, ◌≡◌, ◌≢◌, ◌⊎◌, inl, inr, ℕ, ◌<◌, ◌&&◌, true, false, nat_eq, Option, Some, None, option_map, List, length, refl, sym, ap, ◌∙◌, slice_set, if◌then◌else◌, in_place, M, Transient, IsD, SmD, Line, copy_with, with_state, with_word, Words, state_of_copy, Sets, copy_at, cache_of, ways_of, current_words, AllCoherent, ChangesCopy, KeepsWords, SetsWord, Transaction, Write, with_counted_copy, AskedOf, Awaits}
 use Rattle.snoop_bus.proofs.Numbers.{differ, itself}
 use Rattle.snoop_bus.proofs.CurrentWords.{same-coherent, same-seen}
 use Rattle.snoop_bus.proofs.HeldLemmas.{counting-at, ways-counting}
@@ -32,8 +32,7 @@ kept_m x own h = by_transient x.transient refl h.1
   where
     by_transient : (y : Transient) → x.transient ≡ y → AskedOf y x.copy own → x.copy.state ≡ M
     by_transient IsD e a = absurd (h.0 e)
-    by_transient ImD e a = a.1
-    by_transient SmD e a = a.1
+    by_transient _ e a = a.1
 
 pub own_acquired : (c0 c2 : List Sets) (m0 : List Words) (core line : ℕ) (x : Transaction) → AllCoherent (with_counted_copy core line x.copy c0) m0 → core < length c0 → 0 < length (cache_of c0 core) → line < length m0 →
     x.copy.state ≡ M → copy_at c2 core line ≡ Some x.copy → copy_at c2 core line ≡ Some (copy_with M (current_words (with_counted_copy core line x.copy c0) m0 line))

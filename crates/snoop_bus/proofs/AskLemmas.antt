@@ -1,5 +1,5 @@
 -- What an ask answers and leaves.
-use Rattle.snoop_bus.proofs.Vocabulary.{get_or-set_same, get_or-set_other, length-set, list_any, ◌≡◌, ◌≢◌, ◌⊎◌, inl, inr, ℕ, ◌<◌, Bool, true, false, Option, Some, None, is_some, List, [], length, refl, sym, ap, subst, ◌∙◌, slice_set, if◌then◌else◌, is_dirty, GivesUp, Shares, CleansByMemory, Supplies, FillsExclusiveOnlyAlone, Table, State, I, M, Snoop, GetS, GetM, IsD, ImD, Core, Line, copy_with, Words, line_in, Coherent, state_of_copy, is_held, flusher_from, Sets, copy_in, copy_at, cache_of, tags_of, ways_of, current_words, AllCoherent, flushed, sent_words, copy_left_by, LeftByOthers, Supplied, KeepsWords, with_counted_copy, asked_memory, transacting}
+use Rattle.snoop_bus.proofs.Vocabulary.{get_or-set_same, get_or-set_other, length-set, list_any, ◌≡◌, ◌≢◌, ◌⊎◌, inl, inr, ℕ, ◌<◌, Bool, true, false, Option, Some, None, is_some, List, [], length, refl, sym, ap, subst, ◌∙◌, slice_set, if◌then◌else◌, is_dirty, GivesUp, Shares, CleansByMemory, Supplies, FillsExclusiveOnlyAlone, Table, State, I, M, Snoop, GetS, GetM, IsD, ImD, Core, Line, copy_with, Words, line_in, Coherent, state_of_copy, is_held, flusher_from, Sets, copy_in, copy_at, cache_of, tags_of, ways_of, current_words, AllCoherent, flushed, sent_words, copy_left_by, LeftByOthers, Supplied, KeepsWords, with_counted_copy, asked_memory, transacting, cases_Bool}
 use Rattle.snoop_bus.proofs.CacheTags.{is_held-copies}
 use Rattle.snoop_bus.proofs.Coherence.{shared-coherent, fill-coherent, write-coherent}
 use Rattle.snoop_bus.proofs.Asked.{Asked, own_line, others_line, asked-keeps}
@@ -9,11 +9,7 @@ use Rattle.snoop_bus.proofs.WriteLemmas.{gives_up}
 -- nothing is sent by no copy
 quiet_none : (on : State → Snoop) → CleansByMemory on → (o : Option Line) → ((copy : Line) → o ≡ Some copy → (on copy.state).to_memory ≡ false) → (on (state_of_copy o)).to_memory ≡ false
 quiet_none on law (Some copy) h = h copy refl
-quiet_none on law None h = by_flag (on I).to_memory refl
-  where
-    by_flag : (b : Bool) → (on I).to_memory ≡ b → (on I).to_memory ≡ false
-    by_flag true e = let no : is_dirty I ≡ true = law.1 I e in cc
-    by_flag false e = e
+quiet_none on law None h = elim (cases_Bool (on I).to_memory) [ inl e ↦ let no : is_dirty I ≡ true = law.1 I e in cc | inr e ↦ e ]
 
 module _ (t : Table) (fills : FillsExclusiveOnlyAlone t.filled) (shares : Shares t.on_get_s) (cleans : CleansByMemory t.on_get_s) (supplies : Supplies t.on_get_s)
     (c0 c1 : List Sets) (m0 m1 : List Words) (core line : ℕ) (w : Words) (x : State) (f : Option Core) where

@@ -1,5 +1,5 @@
 -- What a bus has once the access of its holder was completed.
-use Rattle.snoop_bus.proofs.Vocabulary.{◌≡◌, ◌/◌, ◌%◌, ℕ, Option, Some, None, List, length, slice_index, slice_set, refl, sym, ap, ◌∙◌, Core, Loc, Table, Transient, IsD, ImD, SmD, Access, Hierarchy, HeldBus, Stage, Locked, M, Transaction, Geometry, Words, state_of_copy, Sets, copy_at, ways_of, victim_at, counted_copies_of, counted_in, holder, held_by, BusModel, bus_with, words_of, holder_of, program_words, current_words, IsSameMachine, IsBus, awaited_in, completed_memory, completed_memory_in, IsCurrentWord, CompletesAt, words_due, Completes, KeepsWords, SetsWord}
+use Rattle.snoop_bus.proofs.Vocabulary.{◌≡◌, ◌/◌, ◌%◌, ℕ, Option, Some, None, List, length, slice_index, slice_set, refl, sym, ap, ◌∙◌, Core, Loc, Table, Transient, SmD, Access, Hierarchy, HeldBus, Stage, Locked, M, Transaction, Geometry, Words, state_of_copy, Sets, copy_at, ways_of, victim_at, counted_copies_of, counted_in, holder, held_by, BusModel, bus_with, words_of, holder_of, program_words, current_words, IsSameMachine, IsBus, awaited_in, completed_memory, completed_memory_in, IsCurrentWord, CompletesAt, words_due, Completes, KeepsWords, SetsWord}
 use Rattle.snoop_bus.specs.declared.target.Target.{Target}
 use Rattle.snoop_bus.proofs.MemoryLemmas.{length-written_back}
 use Rattle.snoop_bus.proofs.WordLemmas.{words-get, words-same, words-set}
@@ -14,9 +14,8 @@ length-completed t core line None caches memory = refl
 length-completed t core line (Some x) caches memory = by_transient x.transient
   where
     by_transient : (y : Transient) → length (completed_memory_in t core line y caches memory) ≡ length memory
-    by_transient IsD = length-written_back t (victim_at caches core line) memory
-    by_transient ImD = length-written_back t (victim_at caches core line) memory
     by_transient SmD = refl
+    by_transient _ = length-written_back t (victim_at caches core line) memory
 
 module _ (t : Table) (shape : Geometry) (locations : ℕ) (held : Option HeldBus) (now : BusModel) (old new : Hierarchy) (h : HeldBus) (core : Core) (loc : Loc) (stage : Stage) (target : Target) where
   -- an action holds the bus, and its access is completed

@@ -1,5 +1,5 @@
 -- What is written to memory, line by line, and that its size stays.
-use Rattle.snoop_bus.proofs.Vocabulary.{get_or-set_same, get_or-set_other, length-set, ◌≡◌, ◌≢◌, ◌⊎◌, inl, inr, ℕ, ◌<◌, cond, Bool, true, false, nat_eq, Option, Some, None, List, [], length, refl, sym, ◌∙◌, slice_set, is_dirty, WritesBackDirty, Table, Line, Victim, Words, line_in, Sets, Request, GetS, GetM, asked_memory, written_back, victim_at, flushed, sent_words, State, tags_of, tag_at, request_for, completed_memory_in, next_in_place, awaited_as, whole_memory, whole_memory_in, IsD, ImD, SmD, Transient}
+use Rattle.snoop_bus.proofs.Vocabulary.{get_or-set_same, get_or-set_other, length-set, ◌≡◌, ◌≢◌, ◌⊎◌, inl, inr, ℕ, ◌<◌, cond, Bool, true, false, nat_eq, Option, Some, None, List, [], length, refl, sym, ◌∙◌, slice_set, is_dirty, WritesBackDirty, Table, Line, Victim, Words, line_in, Sets, Request, GetS, GetM, asked_memory, written_back, victim_at, flushed, sent_words, State, tags_of, tag_at, request_for, completed_memory_in, next_in_place, awaited_as, whole_memory, whole_memory_in, SmD, Transient, cases_Bool}
 
 pub length-written_back : (t : Table) (v : Option Victim) (m : List Words) → length (written_back t v m) ≡ length m
 length-written_back t None m = refl
@@ -19,9 +19,8 @@ pub length-whole : (t : Table) (write : Bool) (core line : ℕ) (caches : List S
 length-whole t write core line caches m = by_next (tag_at core line (tags_of caches)) (next_in_place t write (tag_at core line (tags_of caches)))
   where
     by_transient : (x : Transient) (n : List Words) → length (completed_memory_in t core line x caches n) ≡ length n
-    by_transient IsD n = length-written_back t (victim_at caches core line) n
-    by_transient ImD n = length-written_back t (victim_at caches core line) n
     by_transient SmD n = refl
+    by_transient _ n = length-written_back t (victim_at caches core line) n
 
     by_next : (copy next : Option State) → length (whole_memory_in t write core line caches copy next m) ≡ length m
     by_next copy (Some next) = refl
@@ -33,12 +32,10 @@ written_back-other t y m k d =
 
 pub written_back-here : (t : Table) → WritesBackDirty t.evicts_dirty → (y : Victim) (m : List Words) → y.line < length m →
     (line_in (written_back t (Some y) m) y.line ≡ y.content.words) ⊎ ((line_in (written_back t (Some y) m) y.line ≡ line_in m y.line) × (is_dirty y.content.state ≡ false))
-written_back-here t law y m l = by_flag (t.evicts_dirty y.content.state) refl
-  where
-    by_flag : (b : Bool) → t.evicts_dirty y.content.state ≡ b →
-        (line_in (written_back t (Some y) m) y.line ≡ y.content.words) ⊎ ((line_in (written_back t (Some y) m) y.line ≡ line_in m y.line) × (is_dirty y.content.state ≡ false))
-    by_flag true e = inl (rw e (get_or-set_same m y.line y.content.words [] l))
-    by_flag false e = inr (rw e refl, sym (law y.content.state) ∙ e)
+written_back-here t law y m l = elim (cases_Bool (t.evicts_dirty y.content.state)) [
+  | inl e ↦ inl (rw e (get_or-set_same m y.line y.content.words [] l))
+  | inr e ↦ inr (rw e refl, sym (law y.content.state) ∙ e)
+]
 
 -- what a victim leaves of a copy
 abbrev pub left_after : Option Victim → ℕ → Option Line → Option Line

@@ -1,16 +1,13 @@
 -- A table is that of its rows.
 use mathlib.Core.Path.{fun_ext}
-use Rattle.snoop_bus.proofs.Vocabulary.{◌≡◌, Bool, true, false, None, refl, State, I, S, E, O, M, Table, snoop, table_column, column_entry, rows_of, filled_in, table_of_rows}
+use Rattle.snoop_bus.proofs.Vocabulary.{◌≡◌, Bool, true, false, None, refl, State, I, M, Table, snoop, table_column, column_entry, rows_of, filled_in, table_of_rows}
 
 column-entry : {A : Type 0} (none : A) (f : State → A) → column_entry none (table_column f) ≡ f
 column-entry none f = fun_ext each
   where
     each : (s : State) → column_entry none (table_column f) s ≡ f s
     each M = refl
-    each O = refl
-    each E = refl
-    each S = refl
-    each I = refl
+    each _ = refl
 
 filled-in : (t : Table) → filled_in (rows_of t) ≡ t.filled
 filled-in t = fun_ext each

@@ -5,7 +5,7 @@ pub use Rattle.protocol_tables.specs.declared.state.State.{State}
 pub use Rattle.protocol_tables.specs.declared.state.State.TheVariants.{I, S, E, O, M}
 pub use Rattle.protocol_tables.specs.Tables.{Table, snoop}
 pub use Rattle.snoop_bus.specs.Rows.{table_column, column_entry, rows_of, filled_in, table_of_rows}
-pub use Rattle.std.proofs.lemmas.Bool.{cases_eq, cases_lt}
+pub use Rattle.std.proofs.lemmas.Bool.{cases_eq, cases_lt, cases_Bool}
 pub use Rattle.protocol_tables.specs.Laws.{is_dirty, in_place, WritesInPlace}
 pub use Rattle.protocol_tables.specs.inner.Laws.{Shares, CleansByMemory, MayBecome, WritesBackDirty, Supplies, FillsExclusiveOnlyAlone, GivesUp}
 pub use Rattle.protocol_tables.specs.declared.state.Snoop.{Snoop}

@@ -1,5 +1,5 @@
 -- A whole access is an ask and its completion, one after the other.
-use Rattle.snoop_bus.proofs.Vocabulary.{◌≡◌, ◌≢◌, ℕ, Bool, false, Option, Some, None, List, refl, sym, ap, WritesInPlace, Table, State, I, S, E, O, M, GetS, GetM, TagSets, tag_at, asking, awaiting, hits, true, is_some, Words, Sets, cache_of, tags_of, set_at, asked_memory, request_for, completed_memory, in_halves, next_in_place, whole_access, whole_memory, victim_of, victim_at, written_back}
+use Rattle.snoop_bus.proofs.Vocabulary.{◌≡◌, ◌≢◌, ℕ, Bool, false, Option, Some, None, List, refl, sym, ap, WritesInPlace, Table, State, I, GetS, GetM, TagSets, tag_at, asking, awaiting, hits, true, is_some, Words, Sets, cache_of, tags_of, set_at, asked_memory, request_for, completed_memory, in_halves, next_in_place, whole_access, whole_memory, victim_of, victim_at, written_back}
 
 pub load_halves : (t : Table) (core line : ℕ) (caches : List TagSets) → hits t core line false caches ≡ false → whole_access t false core line caches ≡ in_halves t GetS core line caches
 load_halves t core line caches misses = by_tag (tag_at core line caches) refl
@@ -14,10 +14,7 @@ write_halves t law core line caches valid = by_tag (tag_at core line caches) ref
     by_tag : (o : Option State) → tag_at core line caches ≡ o → whole_access t true core line caches ≡ in_halves t GetM core line caches
     by_tag None e = rw e refl
     by_tag (Some I) e = absurd (valid e)
-    by_tag (Some S) e = rw (e, law S) refl
-    by_tag (Some E) e = rw (e, law E) refl
-    by_tag (Some O) e = rw (e, law O) refl
-    by_tag (Some M) e = rw (e, law M) refl
+    by_tag (Some state) e = rw (e, law state) refl
 
 -- and so is memory after it: an ask leaves the core's own copies as they are
 module _ (t : Table) (core line : ℕ) (caches asked : List Sets) (memory : List Words) (own : cache_of asked core ≡ cache_of caches core) where
@@ -44,7 +41,4 @@ module _ (t : Table) (core line : ℕ) (caches asked : List Sets) (memory : List
       by_tag : (o : Option State) → tag_at core line (tags_of caches) ≡ o → IsInHalves true
       by_tag None e = rw e (same_victim _)
       by_tag (Some I) e = absurd (valid e)
-      by_tag (Some S) e = rw (e, law S) refl
-      by_tag (Some E) e = rw (e, law E) refl
-      by_tag (Some O) e = rw (e, law O) refl
-      by_tag (Some M) e = rw (e, law M) refl
+      by_tag (Some state) e = rw (e, law state) refl

@@ -1,5 +1,5 @@
 -- A write access, from what each of its steps gives.
-use Rattle.snoop_bus.proofs.Vocabulary.{◌≡◌, ◌≢◌, ℕ, ◌<◌, ◌&&◌, Bool, true, false, nat_eq, Option, Some, None, option_map, List, length, slice_set, refl, ap, ◌∙◌, if◌then◌else◌, in_place, GivesUp, State, I, S, E, O, M, Snoop, Line, copy_with, with_state, with_word, Words, line_in, Coherent, Sets, copy_at, current_words, AllCoherent, copy_if, copy_left_by, ChangesCopy}
+use Rattle.snoop_bus.proofs.Vocabulary.{◌≡◌, ◌≢◌, ℕ, ◌<◌, ◌&&◌, Bool, true, false, nat_eq, Option, Some, None, option_map, List, length, slice_set, refl, ap, ◌∙◌, if◌then◌else◌, in_place, GivesUp, State, I, M, Snoop, Line, copy_with, with_state, with_word, Words, line_in, Coherent, Sets, copy_at, current_words, AllCoherent, copy_if, copy_left_by, ChangesCopy}
 use Rattle.snoop_bus.proofs.Numbers.{differ, itself}
 use Rattle.snoop_bus.proofs.Coherence.{alone}
 use Rattle.snoop_bus.proofs.OwnLemmas.{Owned}
@@ -12,10 +12,7 @@ gives_up on law (Some copy) = ap (λ (s : State). copy_if s copy.words) (law cop
 -- a copy that is written in place becomes M
 pub written_m : (s next : State) → in_place s ≡ Some next → next ≡ M
 written_m I next e = cc
-written_m S next e = cc
-written_m E next e = cc
-written_m O next e = cc
-written_m M next e = cc
+written_m _ next e = cc
 
 pub here_now : (core line : ℕ) (o : Option Line) (c0 c2 : List Sets) → ChangesCopy core line o c0 c2 → copy_at c2 core line ≡ o
 here_now core line o c0 c2 h = rw (itself core, itself line) at (h core line)
