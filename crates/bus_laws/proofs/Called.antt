@@ -50,9 +50,6 @@ free-quiet b free = ap (λ (h : Option HeldBus). awaited_in (transaction_in h)) 
 free-apart : (b : BusModel) → IsSound b → awaited_of b ≡ None → AreApart b.caches
 free-apart b h quiet = coherent-apart b.caches b.memory (subst (λ caches. AllCoherent caches b.memory) (none-counted b.held b.caches quiet) h.coherent)
 
-tag-none : (caches : List Sets) (core line : ℕ) → copy_at caches core line ≡ None → tag_at core line (tags_of caches) ≡ None
-tag-none caches core line q = tag_at-copy caches core line ∙ ap (option_map (λ (copy : Line). copy.state)) q
-
 -- an access that misses is made where nobody holds the bus
 missing-free : (b : BusModel) (core loc : ℕ) (write : Bool) → MayGoOn b core loc write → tag_at core (line_of_location b loc) (contents_of b) ≡ None → IsFree b
 missing-free b core loc write (inl free) none = free
@@ -241,14 +238,13 @@ complete-call lines old new core loc stage access k i h sound neat holds quiet a
             let awaited : Awaits x.holder.stage (Some y) (copy_at old.caches x.holder.core.0 x.line) = subst (λ o. Awaits x.holder.stage o (copy_at old.caches x.holder.core.0 x.line)) e is.awaits in
             let absent : copy_at old.caches core.0 line ≡ None =
             subst (λ c. copy_at old.caches c line ≡ None) own (subst (λ l. copy_at old.caches x.holder.core.0 l ≡ None) here (awaited-none x.holder.stage y _ awaited n)) in
-            fill-stale t lines core.0 line y.copy.state old.caches (tags_of old.caches) old.memory k i h neat refl alone (tag-none old.caches core.0 line absent) dirty
+            fill-stale t lines core.0 line y.copy.state old.caches (tags_of old.caches) old.memory k i h neat refl alone (tag_at-copy old.caches core.0 line ∙ ap (option_map (λ (copy : Line). copy.state)) absent) dirty
 
         by_transient : (y : Transaction) (τ : Transient) → x.transaction ≡ Some y → y.transient ≡ τ
             → IsDirtyAt i k (completed_in t core.0 line τ y.copy.state y.flushed (tags_of old.caches)).caches
             → line_in (completed_memory_in t core.0 line τ old.caches old.memory) k ≡ line_in old.memory k
-        by_transient y IsD e is_so dirty = fills y e (λ z. (let w : IsD ≡ SmD = sym is_so ∙ z in let v : ⊥ = cc in v)) dirty
-        by_transient y ImD e is_so dirty = fills y e (λ z. (let w : ImD ≡ SmD = sym is_so ∙ z in let v : ⊥ = cc in v)) dirty
         by_transient y SmD e is_so dirty = refl
+        by_transient y transient e is_so dirty = fills y e (λ z. (let w : transient ≡ SmD = sym is_so ∙ z in let v : ⊥ = cc in v)) dirty
 
         by_transaction : (o : Option Transaction) → x.transaction ≡ o → line_in (completed_memory t core.0 line (awaited_in o) old.caches old.memory) k ≡ line_in old.memory k
         by_transaction None e = refl

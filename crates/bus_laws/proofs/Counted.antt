@@ -1,5 +1,5 @@
 -- What a choice of the flat machine commits, against the access that it makes.
-use Rattle.bus_laws.proofs.Vocabulary.{◌≡◌, ◌↔◌, ◌||◌, ℕ, zero, suc, Bool, true, false, if◌then◌else◌, List, [], ◌∷◌, filter, length, Option, Some, None, slice_get, nat_lt, ◌/◌, refl, sym, ap, ◌⊎◌, inl, inr, subst, chosen, MemoryAccess, NoAccess, Reads, Writes, Locks, store_access, load_access, locked_access, step_access, drain_access, next_of, access_of, Loc, table_of_rows, IsUseFor, IsHitUse, use_at, access_by}
+use Rattle.bus_laws.proofs.Vocabulary.{◌≡◌, ◌↔◌, ℕ, zero, suc, Bool, true, false, if◌then◌else◌, List, [], ◌∷◌, filter, length, Option, Some, None, slice_get, nat_lt, refl, sym, ap, ◌⊎◌, inl, inr, subst, chosen, MemoryAccess, NoAccess, store_access, load_access, locked_access, step_access, drain_access, next_of, access_of, Loc, table_of_rows, IsUseFor, IsHitUse, use_at, access_by, cases_Bool, at_access}
 use Rattle.std.specs.List.{list_any}
 use Rattle.tso_model.specs.Litmus.{Litmus}
 use Rattle.tso_model.specs.Actions.{action_of}
@@ -27,14 +27,7 @@ answered c pending core loc = by_stores pending
     by_stores : (xs : List Entry)
         → IsUseFor c core (load_access loc (filter (writes_to loc.0) xs)) (if list_any (writes_to loc.0) xs then not_through Forwarded c else whole_by c core loc.0 false)
     by_stores [] = refl
-    by_stores (x ∷ xs) = by_test (writes_to loc.0 x) (by_stores xs)
-      where
-        by_test : (b : Bool)
-            → IsUseFor c core (load_access loc (filter (writes_to loc.0) xs)) (if list_any (writes_to loc.0) xs then not_through Forwarded c else whole_by c core loc.0 false)
-            → IsUseFor c core (load_access loc (if b then x ∷ filter (writes_to loc.0) xs else filter (writes_to loc.0) xs))
-            (if (b || list_any (writes_to loc.0) xs) then not_through Forwarded c else whole_by c core loc.0 false)
-        by_test true h = inr refl
-        by_test false h = h
+    by_stores (x ∷ xs) = elim (cases_Bool (writes_to loc.0 x)) [ inl is ↦ rw is (inr refl) | inr is ↦ rw is (by_stores xs) ]
 
 fenced-use : (c : Caches) (pending : List Entry) (core : ℕ) (s : CoreState) (q : List Entry) → IsUseFor c core NoAccess (use_of c pending (fenced_with core s q).commits)
 fenced-use c pending core s [] = inl refl
@@ -85,6 +78,4 @@ use-told c core NoAccess u h = ((λ k. absurd (none h k)), (λ k. absurd (let z 
     none : (u ≡ not_through Unused c) ⊎ (u ≡ not_through Forwarded c) → IsHitUse u.how → ⊥
     none (inl e) k = subst (λ (z : Used). IsHitUse z.how) e k
     none (inr e) k = subst (λ (z : Used). IsHitUse z.how) e k
-use-told c core (Reads loc) u h = subst (λ (z : Used). IsHitUse z.how ↔ (hits_by c core (Reads loc) ≡ true)) (sym h) (access-told (table_of_rows c.rows) false core (loc.0 / c.shape.words) c.contents)
-use-told c core (Writes loc) u h = subst (λ (z : Used). IsHitUse z.how ↔ (hits_by c core (Writes loc) ≡ true)) (sym h) (access-told (table_of_rows c.rows) true core (loc.0 / c.shape.words) c.contents)
-use-told c core (Locks loc) u h = subst (λ (z : Used). IsHitUse z.how ↔ (hits_by c core (Locks loc) ≡ true)) (sym h) (access-told (table_of_rows c.rows) true core (loc.0 / c.shape.words) c.contents)
+use-told c core what u h = subst (λ (z : Used). IsHitUse z.how ↔ (hits_by c core what ≡ true)) (sym h) (access-told (table_of_rows c.rows) (at_access false (λ loc write. write) what) core _ c.contents)

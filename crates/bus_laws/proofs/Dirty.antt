@@ -1,20 +1,10 @@
 -- Which two states stand together: no two dirty ones.
-use Rattle.bus_laws.proofs.Vocabulary.{◌≡◌, ◌≢◌, ℕ, true, false, None, List, length, ap, inl, inr, is_dirty, State, I, S, E, O, M, Words, state_of_copy, may_share, Sets, copy_at, AllCoherent, lt-or, IsOwner}
+use Rattle.bus_laws.proofs.Vocabulary.{◌≡◌, ◌≢◌, ℕ, true, false, None, List, length, ap, inl, inr, is_dirty, State, I, O, M, Words, state_of_copy, may_share, Sets, copy_at, AllCoherent, lt-or, IsOwner}
 
 pub apart : (s t : State) → may_share s t ≡ true → is_dirty s ≡ true → is_dirty t ≡ true → ⊥
-apart I t h a b = let z : ⊥ = cc in z
-apart S t h a b = let z : ⊥ = cc in z
-apart E t h a b = let z : ⊥ = cc in z
 apart O I h a b = let z : ⊥ = cc in z
-apart O S h a b = let z : ⊥ = cc in z
-apart O E h a b = let z : ⊥ = cc in z
-apart O O h a b = let z : ⊥ = cc in z
-apart O M h a b = let z : ⊥ = cc in z
 apart M I h a b = let z : ⊥ = cc in z
-apart M S h a b = let z : ⊥ = cc in z
-apart M E h a b = let z : ⊥ = cc in z
-apart M O h a b = let z : ⊥ = cc in z
-apart M M h a b = let z : ⊥ = cc in z
+apart _ _ h a b = let z : ⊥ = cc in z
 
 -- no cache has a line past memory
 past : (caches : List Sets) (line i : ℕ) → copy_at caches i line ≡ None → IsOwner caches line i → ⊥

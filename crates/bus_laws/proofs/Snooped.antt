@@ -1,5 +1,5 @@
 -- What becomes of the states of a line in the caches where another core's request is seen, and where a line comes in.
-use Rattle.bus_laws.proofs.Vocabulary.{◌≡◌, ◌≢◌, ◌∙◌, ◌⊎◌, ◌%◌, ℕ, zero, suc, true, false, List, [], ◌∷◌, length, map, slice_index_or, Option, Some, None, nat_eq, if◌then◌else◌, inl, inr, refl, sym, ap, subst, get_or-set_other, eqb_tells, get_or_past, lookup, remove_entry, State, I, S, E, O, M, Snoop, tag_at, or_invalid, TagSet, tag_of, in_next, snooped, snooped_in, TagSets, tags_at, tag_in, at_line, sets_of, at_core, at_others, requested}
+use Rattle.bus_laws.proofs.Vocabulary.{◌≡◌, ◌≢◌, ◌∙◌, ◌⊎◌, ◌%◌, ℕ, zero, suc, true, false, List, [], ◌∷◌, length, map, slice_index_or, Option, Some, None, nat_eq, if◌then◌else◌, inl, inr, refl, sym, ap, subst, get_or-set_other, eqb_tells, get_or_past, lookup, remove_entry, State, I, Snoop, tag_at, or_invalid, TagSet, tag_of, in_next, snooped, snooped_in, TagSets, tags_at, tag_in, at_line, sets_of, at_core, at_others, requested}
 use Rattle.bus_laws.proofs.Changed.{set-at}
 use Rattle.bus_laws.proofs.Victims.{Once, no_set, AreNeat, gone-remove}
 
@@ -46,10 +46,7 @@ snooped-here on line s once = by_tag (tag_of s line) refl
   where
     by_next : (next found : State) → tag_of s line ≡ Some found → or_invalid (tag_of (in_next line next s) line) ≡ next
     by_next I found q = ap or_invalid (gone-remove line s.tags once)
-    by_next S found q = ap or_invalid (restated-found line S found s.tags q)
-    by_next E found q = ap or_invalid (restated-found line E found s.tags q)
-    by_next O found q = ap or_invalid (restated-found line O found s.tags q)
-    by_next M found q = ap or_invalid (restated-found line M found s.tags q)
+    by_next state found q = ap or_invalid (restated-found line state found s.tags q)
 
     by_tag : (o : Option State) → tag_of s line ≡ o → or_invalid (tag_of (snooped_in on line o s) line) ≡ left_of on o
     by_tag None q = ap or_invalid q
@@ -60,10 +57,7 @@ snooped-beside on line other s n = by_tag (tag_of s line)
   where
     by_next : (next : State) → tag_of (in_next line next s) other ≡ tag_of s other
     by_next I = removed-other line other s.tags n
-    by_next S = restated-other line other S s.tags n
-    by_next E = restated-other line other E s.tags n
-    by_next O = restated-other line other O s.tags n
-    by_next M = restated-other line other M s.tags n
+    by_next state = restated-other line other state s.tags n
 
     by_tag : (o : Option State) → tag_of (snooped_in on line o s) other ≡ tag_of s other
     by_tag None = refl

@@ -1,7 +1,7 @@
 -- Accesses, by the state of the core's own copy.
 use Rattle.bus_laws.proofs.Vocabulary.{◌≡◌, ◌↔◌, ℕ, Bool, true, false, List, Option, Some, None, refl, sym, ap, ◌∙◌, is_some, State, Table, TagSets, Accessed, hits, tag_at, next_in_place, awaited_as, request_for, whole_in, whole_access, asked_at_once, awaiting}
 use Rattle.protocol_tables.specs.declared.requests.Transient.{Transient}
-use Rattle.protocol_tables.specs.declared.requests.Transient.TheVariants.{IsD, ImD, SmD}
+use Rattle.protocol_tables.specs.declared.requests.Transient.TheVariants.{IsD}
 use Rattle.bus_laws.specs.Hits.{IsHit}
 
 pub access-told : (t : Table) (write : Bool) (core line : ℕ) (caches : List TagSets) → IsHit (whole_access t write core line caches) ↔ (hits t core line write caches ≡ true)
@@ -10,8 +10,7 @@ access-told t write core line caches = by_next (tag_at core line caches) (next_i
   where
     not_hit : (x : Transient) → IsHit (asked_at_once t (request_for write) core line x caches) → ⊥
     not_hit IsD h = let z : ⊥ = cc in z
-    not_hit ImD h = let z : ⊥ = cc in z
-    not_hit SmD h = let z : ⊥ = cc in z
+    not_hit _ h = let z : ⊥ = cc in z
 
     by_next : (copy next : Option State) → IsHit (whole_in t write core line caches copy next) ↔ (is_some next ≡ true)
     by_next copy None = ((λ h. absurd (not_hit (awaited_as write copy) h)), (λ h. absurd (let z : ⊥ = cc in z)))

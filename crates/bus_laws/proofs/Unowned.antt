@@ -1,11 +1,11 @@
 -- A line of memory that changes has no dirty copy then: the one that was sent or written back was the only one.
-use Rattle.bus_laws.proofs.Vocabulary.{◌≡◌, ◌≢◌, ◌∙◌, ℕ, suc, Bool, true, false, if◌then◌else◌, List, [], ◌∷◌, slice_set, Option, Some, None, option_map, inl, inr, refl, sym, ap, subst, get_or-set_other, decide, is_dirty, Table, table_of, ProtocolKind, State, I, S, E, O, M, Snoop, Line, Victim, table_of_rows, rows_of, Words, line_in, state_of_copy, may_share, leaving, filled, TagSets, tags_at, tag_in, at_line, sets_of, requested, filled_by, Sets, copy_at, copy_in, tags_of, written_back, flushed, sent_of, first_of_two, sent_words, tag_at, or_invalid, tag_at-copy}
+use Rattle.bus_laws.proofs.Vocabulary.{◌≡◌, ◌≢◌, ◌∙◌, ℕ, suc, Bool, true, false, if◌then◌else◌, List, [], ◌∷◌, Option, Some, None, option_map, inl, inr, refl, sym, ap, subst, get_or-set_other, decide, is_dirty, Table, table_of, ProtocolKind, State, I, M, Snoop, Line, Victim, table_of_rows, rows_of, Words, line_in, state_of_copy, may_share, leaving, filled, TagSets, tags_at, tag_in, at_line, sets_of, requested, filled_by, Sets, copy_at, copy_in, tags_of, written_back, flushed, sent_of, first_of_two, sent_words, tag_at, or_invalid, tag_at-copy, cases_Bool}
 use Rattle.bus_laws.proofs.Changed.{core-at}
 use Rattle.protocol_tables.specs.Tables.{is_written_back, filled_by_sharing, get_s_flushing, get_s_owning}
 use Rattle.protocol_tables.specs.declared.kind.ProtocolKind.TheVariants.{Msi, Mesi, Moesi, Mosi}
 use Rattle.snoop_bus.proofs.RowLemmas.{table_of-rows}
 use Rattle.bus_laws.proofs.Victims.{AreNeat, AllNeat, sets-leave}
-use Rattle.bus_laws.proofs.Snooped.{left_of, requested-here, own-alone}
+use Rattle.bus_laws.proofs.Snooped.{left_of, requested-here}
 use Rattle.bus_laws.proofs.Dirty.{apart}
 
 -- ---- the tables
@@ -17,10 +17,7 @@ kept_table kind = table_of_rows (rows_of (table_of kind))
 -- beside a copy in M there is none
 beside_m : (s : State) → may_share M s ≡ true → s ≡ I
 beside_m I h = refl
-beside_m S h = absurd (let z : ⊥ = cc in z)
-beside_m E h = absurd (let z : ⊥ = cc in z)
-beside_m O h = absurd (let z : ⊥ = cc in z)
-beside_m M h = absurd (let z : ⊥ = cc in z)
+beside_m _ h = absurd (let z : ⊥ = cc in z)
 
 -- what is so of a protocol's table: dirty copies are written back, a load fills in a clean one, and a copy that is sent to memory
 -- is in M and clean afterwards
@@ -33,28 +30,19 @@ pub record SettlesMemory (t : Table) : Type 0 where
 
 back-dirty : (s : State) → is_written_back s ≡ is_dirty s
 back-dirty I = refl
-back-dirty S = refl
-back-dirty E = refl
-back-dirty O = refl
-back-dirty M = refl
+back-dirty _ = refl
 
 sharing-clean : (shared : Bool) → is_dirty (filled_by_sharing shared) ≡ false
 sharing-clean true = refl
 sharing-clean false = refl
 
 flushes-m : (s : State) → (get_s_flushing s).to_memory ≡ true → s ≡ M
-flushes-m I h = absurd (let z : ⊥ = cc in z)
-flushes-m S h = absurd (let z : ⊥ = cc in z)
-flushes-m E h = absurd (let z : ⊥ = cc in z)
-flushes-m O h = absurd (let z : ⊥ = cc in z)
 flushes-m M h = refl
+flushes-m _ h = absurd (let z : ⊥ = cc in z)
 
 owning-keeps : (s : State) → (get_s_owning s).to_memory ≡ true → ⊥
 owning-keeps I h = let z : ⊥ = cc in z
-owning-keeps S h = let z : ⊥ = cc in z
-owning-keeps E h = let z : ⊥ = cc in z
-owning-keeps O h = let z : ⊥ = cc in z
-owning-keeps M h = let z : ⊥ = cc in z
+owning-keeps _ h = let z : ⊥ = cc in z
 
 pub settles : (kind : ProtocolKind) → SettlesMemory (kept_table kind)
 settles kind = subst SettlesMemory (sym (table_of-rows (table_of kind))) (by_protocol kind)
@@ -118,11 +106,7 @@ sent-unowned t lines core line caches sender state i h neat alone there sent n f
 pub back-stale : (t : Table) (v : Option Victim) (memory : List Words) (k : ℕ) → ((w : Victim) → v ≡ Some w → t.evicts_dirty w.content.state ≡ true → k ≢ w.line)
     → line_in (written_back t v memory) k ≡ line_in memory k
 back-stale t None memory k h = refl
-back-stale t (Some w) memory k h = by_test (t.evicts_dirty w.content.state) refl
-  where
-    by_test : (b : Bool) → t.evicts_dirty w.content.state ≡ b → line_in (if b then slice_set memory w.line w.content.words else memory) k ≡ line_in memory k
-    by_test true q = get_or-set_other memory w.line k w.content.words [] (h w refl q)
-    by_test false q = refl
+back-stale t (Some w) memory k h = elim (cases_Bool (t.evicts_dirty w.content.state)) [ inl q ↦ rw q (get_or-set_other memory w.line k w.content.words [] (h w refl q)) | inr q ↦ rw q refl ]
 
 pub sent-stale : (line : ℕ) (o : Option Words) (memory : List Words) (k : ℕ) → ((w : Words) → o ≡ Some w → k ≢ line) → line_in (flushed line o memory) k ≡ line_in memory k
 sent-stale line None memory k h = refl

@@ -1,5 +1,5 @@
 -- Sets of tags under accesses: each line lies in one set alone and once, none is in I, and the line that leaves a set is gone.
-use Rattle.bus_laws.proofs.Vocabulary.{arith, ◌≡◌, ◌≢◌, ◌<◌, ◌-◌, ◌%◌, ℕ, zero, suc, false, List, [], ◌∷◌, length, take, map, slice_get, slice_set, slice_index_or, Option, Some, None, nat_eq, if◌then◌else◌, inl, inr, refl, sym, subst, eqb_tells, eq-eqb, length-set, lookup, remove_entry, State, I, S, E, O, M, Snoop, TagSet, tag_set, tag_of, used, filled, leaving, restated, in_next, snooped, snooped_in, TagSets, tags_at, tag_in, at_line, sets_of, at_core, at_others, requested, used_by, filled_by}
+use Rattle.bus_laws.proofs.Vocabulary.{arith, ◌≡◌, ◌≢◌, ◌<◌, ◌-◌, ◌%◌, ℕ, zero, suc, false, List, [], ◌∷◌, length, take, map, slice_get, slice_set, slice_index_or, Option, Some, None, nat_eq, if◌then◌else◌, inl, inr, refl, sym, subst, eqb_tells, eq-eqb, length-set, lookup, remove_entry, State, I, Snoop, TagSet, tag_set, tag_of, used, filled, leaving, restated, in_next, snooped, snooped_in, TagSets, tags_at, tag_in, at_line, sets_of, at_core, at_others, requested, used_by, filled_by}
 use Rattle.bus_laws.proofs.Changed.{slot, set-at, core-at}
 
 -- ---- the tags of one set
@@ -150,10 +150,7 @@ snooped-neat P on line s may h = by_tag (tag_of s line)
   where
     by_next : (state : State) → IsNeat P (in_next line state s)
     by_next I = record { kind = kind-remove P line s.tags h.kind; once = once-remove line s.tags h.once }
-    by_next S = restated-neat P line S s may (λ q. let z : ⊥ = cc in z) h
-    by_next E = restated-neat P line E s may (λ q. let z : ⊥ = cc in z) h
-    by_next O = restated-neat P line O s may (λ q. let z : ⊥ = cc in z) h
-    by_next M = restated-neat P line M s may (λ q. let z : ⊥ = cc in z) h
+    by_next state = restated-neat P line state s may (λ q. let z : ⊥ = cc in z) h
 
     by_tag : (o : Option State) → IsNeat P (snooped_in on line o s)
     by_tag None = h

@@ -19,7 +19,7 @@ pub use Rattle.tso_model.specs.declared.instruction.Loc.{Loc}
 pub use Rattle.snoop_bus.specs.Rows.{table_of_rows, rows_of}
 pub use Rattle.bus_laws.specs.Uses.{IsUseFor, IsHitUse, use_at}
 pub use Rattle.std.proofs.lemmas.Bool.Decides.{eqb_tells}
-pub use Rattle.std.proofs.lemmas.Bool.{eq-eqb}
+pub use Rattle.std.proofs.lemmas.Bool.{eq-eqb, cases_Bool}
 pub use Rattle.std.proofs.lemmas.List.{get_or_past}
 pub use Rattle.std.proofs.Math.ListN.{length-set}
 pub use Rattle.std.specs.Map.{lookup, remove_entry}
@@ -32,3 +32,4 @@ pub use Rattle.snoop_bus.specs.MemoryAfter.{written_back, flushed, sent_of, firs
 pub use Rattle.snoop_bus.proofs.StateLemmas.{tag_at-copy}
 pub use Rattle.protocol_tables.specs.declared.requests.Request.TheVariants.{GetS, GetM}
 pub use Rattle.snoop_bus.specs.Accesses.{contents_of, memory_of, would_hit, line_of_location, awaited_of, LoadsAt, WritesAt, AsksFor, CompletesAt}
+pub use Rattle.machine_core.specs.Caches.{at_access}
