@@ -1,5 +1,5 @@
 -- States that differ in dead registers alone: a choice does the same in both.
-use Rattle.eager_laws.proofs.Vocabulary.{◌≡◌, ℕ, ◌+◌, zero, suc, List, [], ◌∷◌, ◌++◌, Bool, true, false, Option, Some, None, length, slice_get, slice_set, slice_index, slice_index_or, drop, arith, ap, sym, ◌∙◌, refl, subst, if◌then◌else◌, nat_lt, drop-at, index_of, action_of, Litmus, entry, value_of, updated, CoreState, State, Effect, idle, program_of, core_of, effect_by, step_of, drain_of, effect_of, applied, after_choice, memory_after, is_none_pending, stored, stalled, when_drained, locked, load_value, chosen, W, LR, LW, Instr, Action, Store, Load, Move, Fence, Lock, Entry, Choice, Step, Drain, Stall, Buffered, Reg, Loc, Update, dead_before, dead_at, cleared, hidden_of, forgotten_core, forgotten_cores, forgotten, AreAlike}
+use Rattle.eager_laws.proofs.Vocabulary.{◌≡◌, ℕ, ◌+◌, zero, suc, List, [], ◌∷◌, ◌++◌, Bool, true, false, Option, Some, None, length, slice_get, slice_set, slice_index, slice_index_or, drop, arith, ap, sym, ◌∙◌, refl, subst, if◌then◌else◌, nat_lt, drop-at, index_of, action_of, Litmus, entry, value_of, updated, CoreState, State, Effect, idle, program_of, core_of, effect_by, step_of, drain_of, effect_of, applied, after_choice, memory_after, is_none_pending, stored, stalled, when_drained, locked, load_value, chosen, W, LR, LW, Instr, Action, Store, Load, Move, Fence, Lock, Entry, Choice, Step, Drain, Stall, Buffered, Reg, Loc, Update, dead_before, dead_at, cleared, hidden_of, forgotten_core, forgotten_cores, forgotten, AreAlike, cases_Bool, inl, inr}
 use Rattle.tso_model.specs.declared.choice.Stall.TheVariants as stall
 use Rattle.eager_laws.proofs.Clearing.{clear-none, write-dead, write-any, read-live, operand-live}
 
@@ -39,11 +39,7 @@ module _ (p : List Instr) (hidden : List Bool) (n : ℕ) (ps : List Entry) (rs s
       go false = stays stall.Full
 
   waits-agree : (why : Stall) (f g : Effect) → Agree p hidden f g → Agree p hidden (when_drained why (core n rs ps) f) (when_drained why (core n ss ps) g)
-  waits-agree why f g h = go (is_none_pending ps)
-    where
-      go : (b : Bool) → Agree p hidden (if b then f else stalled why (core n rs ps)) (if b then g else stalled why (core n ss ps))
-      go true = h
-      go false = stays why
+  waits-agree why f g h = elim (cases_Bool (is_none_pending ps)) [ inl is ↦ rw is h | inr is ↦ rw is (stays why) ]
 
   lock-agrees : (k : ℕ) (loc : Loc) (reg : Reg) (update : Update) (word v w : ℕ) → v ≡ w → cleared later rs ≡ cleared later ss
       → Agree p hidden (locked k (core n rs ps) loc reg word (updated update word v)) (locked k (core n ss ps) loc reg word (updated update word w))

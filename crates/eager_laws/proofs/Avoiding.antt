@@ -1,5 +1,5 @@
 -- What a core's choice writes, reads and leaves to do.
-use Rattle.eager_laws.proofs.Vocabulary.{◌≡◌, ◌≢◌, ◌≤◌, ℕ, ◌+◌, zero, suc, List, [], ◌∷◌, ◌++◌, Bool, true, false, Option, Some, None, length, slice_get, drop, take, arith, ap, ◌∙◌, refl, subst, ◌==◌, if◌then◌else◌, nat_lt, nat_tests, action_of, CoreState, Effect, stored, when_drained, stalled, is_none_pending, effect_by, step_of, drain_of, advanced, Instr, Action, Store, Load, Move, Fence, Lock, Entry, Stall, Committed, Buffered, meets, Avoids}
+use Rattle.eager_laws.proofs.Vocabulary.{◌≡◌, ◌≢◌, ◌≤◌, ℕ, ◌+◌, zero, suc, List, [], ◌∷◌, ◌++◌, Bool, false, Option, Some, None, length, slice_get, drop, take, arith, ap, ◌∙◌, refl, subst, ◌==◌, if◌then◌else◌, nat_lt, nat_tests, action_of, CoreState, Effect, stored, when_drained, stalled, is_none_pending, effect_by, step_of, drain_of, advanced, Instr, Action, Store, Load, Move, Fence, Lock, Entry, Stall, Committed, Buffered, meets, Avoids, cases_Bool, inl, inr}
 use Rattle.tso_model.specs.declared.choice.Stall.TheVariants as stall
 use Rattle.eager_laws.proofs.Places.{NotAt}
 
@@ -36,11 +36,7 @@ buffered s e = record { outcome = Buffered; after = record { place = s.place + 1
 pub by-store : (P : Effect → Type 0) (d : ℕ) (s : CoreState) (e : Entry) → P (record { outcome = Committed; after = advanced s; commits = e ∷ [] })
     → P (buffered s e) → P (stalled stall.Full s) → P (stored d s e)
 by-store P zero s e now room full = now
-by-store P (suc n) s e now room full = go (nat_lt (length s.pending) (suc n))
-  where
-    go : (b : Bool) → P (if b then buffered s e else stalled stall.Full s)
-    go true = room
-    go false = full
+by-store P (suc n) s e now room full = elim (cases_Bool (nat_lt (length s.pending) (suc n))) [ inl is ↦ rw is room | inr is ↦ rw is full ]
 
 -- nothing that it writes is at a location that it avoids
 action-avoids : (loads : Bool) (l d core : ℕ) (memory : List ℕ) (a : Action) (s : CoreState) → meets loads l a ≡ false → NotAt l (effect_by d memory core a s).commits
@@ -79,10 +75,9 @@ action-after : (loads : Bool) (l d core : ℕ) (memory : List ℕ) (p : List Ins
 action-after loads l d core memory p (Store loc operand) s h v =
     by-store (λ f. Avoids loads l p f.after) d s _ (further loads l p s _ (omega arith) v.pending v)
     (further loads l p s _ (omega arith) (append-pending l s.pending _ v.pending (differ loc.0 l h)) v) v
-action-after loads l d core memory p (Load reg loc) s h v = further loads l p s _ (omega arith) v.pending v
-action-after loads l d core memory p (Move reg operand) s h v = further loads l p s _ (omega arith) v.pending v
 action-after loads l d core memory p Fence s h v = by-wait (λ f. Avoids loads l p f.after) stall.Fence s _ (λ none. further loads l p s _ (omega arith) v.pending v) v
 action-after loads l d core memory p (Lock loc reg update) s h v = by-wait (λ f. Avoids loads l p f.after) stall.Lock s _ (λ none. further loads l p s _ (omega arith) v.pending v) v
+action-after loads l d core memory p _ s h v = further loads l p s _ (omega arith) v.pending v
 
 pub step-after : (loads : Bool) (l d core : ℕ) (memory : List ℕ) (p : List Instr) (s : CoreState) → Avoids loads l p s → Avoids loads l p (step_of d memory core (slice_get p s.place) s).after
 step-after loads l d core memory p s v = go (slice_get p s.place) refl

@@ -1,7 +1,7 @@
 -- An eager choice beside any other choice.
-use Rattle.eager_laws.proofs.Vocabulary.{◌≡◌, ◌<◌, ◌≤◌, ℕ, ◌+◌, zero, suc, List, [], ◌∷◌, Bool, true, false, Option, Some, None, length, slice_get, slice_index_or, arith, ap, sym, ◌∙◌, refl, subst, inl, inr, nat_lt, if◌then◌else◌, get_or-set_same, length-set, nat_tests, action_of, location_of, Litmus, IsTest, KnownLocation, CoreState, State, Effect, idle, program_of, core_of, effect_by, step_of, drain_of, effect_of, chosen, applied, after_choice, started, start, stored, stalled, when_drained, is_none_pending, step, drain, IfSome, Reg, Loc, Instr, Action, Store, Load, Move, Fence, Lock, Entry, Choice, Step, Drain, Stall, decide, lt-or, Avoids, OthersAvoid, IsEagerBy, IsEagerStep, IsEagerDrain, IsEager, IsDead, IsSized}
+use Rattle.eager_laws.proofs.Vocabulary.{◌≡◌, ◌<◌, ◌≤◌, ℕ, ◌+◌, zero, suc, List, [], ◌∷◌, Bool, true, false, Option, Some, None, length, slice_get, slice_index_or, arith, ap, sym, ◌∙◌, refl, subst, inl, inr, nat_lt, if◌then◌else◌, get_or-set_same, length-set, nat_tests, action_of, location_of, Litmus, IsTest, KnownLocation, CoreState, State, Effect, idle, program_of, core_of, effect_by, step_of, drain_of, effect_of, chosen, applied, after_choice, started, start, stored, stalled, when_drained, is_none_pending, step, drain, IfSome, Reg, Loc, Instr, Action, Store, Load, Move, Fence, Lock, Entry, Choice, Step, Drain, Stall, decide, lt-or, Avoids, OthersAvoid, IsEagerBy, IsEagerStep, IsEagerDrain, IsEager, IsDead, IsSized, cases_Bool, set-get_or, no-program, no-core}
 use Rattle.tso_model.specs.declared.choice.Stall.TheVariants as stall
-use Rattle.eager_laws.proofs.Places.{set-same, length-memory}
+use Rattle.eager_laws.proofs.Places.{length-memory}
 use Rattle.eager_laws.proofs.Avoiding.{holding, buffered}
 use Rattle.eager_laws.proofs.Waits.{Beside, itself, stalls, commutes}
 use Rattle.eager_laws.proofs.Others.{of-others, core-stays}
@@ -20,26 +20,12 @@ drain-empty s q = ap (λ xs. drain_of (holding s xs)) q ∙ sym (ap (λ xs. stal
 
 store-full : (n : ℕ) (s : CoreState) (e : Entry) → 0 < n → n ≤ length s.pending → stored n s e ≡ stalled stall.Full s
 store-full zero s e p l = absurd (let z : ⊥ = omega (arith, p) in z)
-store-full (suc n) s e p l = go (nat_lt (length s.pending) (suc n)) refl
-  where
-    go : (b : Bool) → nat_lt (length s.pending) (suc n) ≡ b → (if b then buffered s e else stalled stall.Full s) ≡ stalled stall.Full s
-    go true q = absurd (let z : ⊥ = grind (arith, nat_tests, l, q) in z)
-    go false q = refl
+store-full (suc n) s e p l = elim (cases_Bool (nat_lt (length s.pending) (suc n))) [ inl q ↦ absurd (let z : ⊥ = grind (arith, nat_tests, l, q) in z) | inr q ↦ rw q refl ]
 
 stall-same : (s : State) (k : ℕ) (f : Effect) (why : Stall) → f ≡ stalled why (core_of s k) → applied s k f ≡ s
-stall-same s k f why q = ap (λ g. applied s k g) q ∙ ap (λ cs. record { memory = s.memory; cores = cs }) (set-same s.cores k)
+stall-same s k f why q = ap (λ g. applied s k g) q ∙ ap (λ cs. record { memory = s.memory; cores = cs }) (set-get_or s.cores k idle)
 
 -- no core, no program
-pub no-program : (ps : List (List Instr)) (k : ℕ) → length ps ≤ k → slice_index_or ps k [] ≡ []
-no-program [] k l = refl
-no-program (p ∷ ps) zero l = absurd (omega arith)
-no-program (p ∷ ps) (suc k) l = no-program ps k (omega arith)
-
-pub no-core : (ss : List CoreState) (k : ℕ) → length ss ≤ k → slice_index_or ss k idle ≡ idle
-no-core [] k l = refl
-no-core (s ∷ ss) zero l = absurd (omega arith)
-no-core (s ∷ ss) (suc k) l = no-core ss k (omega arith)
-
 no-instr : (p : List Instr) (i : ℕ) → p ≡ [] → slice_get p i ≡ None
 no-instr p i q = ap (λ z. slice_get z i) q
 
@@ -67,10 +53,9 @@ eager-alive d t s e z h dead = go e h (eager-present d t s e z h) (dead e)
   where
     moved-on : (a : Action) (k : ℕ) → IsEagerBy d t s k a → (effect_by d s.memory k a (core_of s k)).after.place ≡ (core_of s k).place + 1
     moved-on (Store loc operand) k h = ap (λ f. f.after.place) (store-room d (core_of s k) _ h)
-    moved-on (Load reg loc) k h = refl
-    moved-on (Move reg operand) k h = refl
     moved-on Fence k h = ap (λ f. f.after.place) (acts-when stall.Fence (core_of s k) _ h)
     moved-on (Lock loc reg update) k h = ap (λ f. f.after.place) (acts-when stall.Lock (core_of s k) _ h.0)
+    moved-on _ k h = refl
 
     go : (e : Choice) → IsEager d t s e → chosen e < length s.cores → after_choice t d s e ≡ s → ⊥
     go (Step k) h l q =

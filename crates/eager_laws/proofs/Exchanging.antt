@@ -1,5 +1,5 @@
 -- Two cores that are alike, exchanged: what the one did the other does.
-use Rattle.eager_laws.proofs.Vocabulary.{◌≡◌, ◌<◌, ◌≤◌, ℕ, ◌+◌, zero, suc, List, [], ◌∷◌, ◌++◌, Bool, true, false, Option, Some, None, length, map, slice_get, slice_set, slice_index, slice_index_or, if◌then◌else◌, inl, inr, nat_lt, arith, ap, sym, ◌∙◌, refl, subst, ◌==◌, ◌&&◌, get_or-set_same, get_or-set_other, length-set, length-map, map-append, action_of, last_value, Litmus, writes_to, entry, value_of, with_value, CoreState, State, Effect, idle, program_of, core_of, effect_by, step_of, drain_of, effect_of, chosen, applied, after_choice, memory_after, started, start, is_none_pending, stored, stalled, when_drained, is_done, all_done, has_ended, W, Instr, Loc, Action, Store, Load, Move, Fence, Lock, Entry, Choice, Step, Drain, Stall, Buffered, decide, lt-or, and-left, and-right, hidden_of, forgotten_core, forgotten_cores, forgotten, CoresAreAlike, exchanged_core, exchanged_choice, exchanged_entry, renamed, exchanged, IsExchangeable}
+use Rattle.eager_laws.proofs.Vocabulary.{◌≡◌, ◌<◌, ◌≤◌, ℕ, ◌+◌, zero, suc, List, [], ◌∷◌, ◌++◌, Bool, true, false, Option, Some, None, length, map, slice_get, slice_set, slice_index, slice_index_or, if◌then◌else◌, inl, inr, nat_lt, arith, ap, sym, ◌∙◌, refl, subst, ◌==◌, ◌&&◌, get_or-set_same, get_or-set_other, length-set, length-map, map-append, action_of, last_value, Litmus, writes_to, entry, value_of, with_value, CoreState, State, Effect, idle, program_of, core_of, effect_by, step_of, drain_of, effect_of, chosen, applied, after_choice, memory_after, started, start, is_none_pending, stored, stalled, when_drained, is_done, has_ended, W, Instr, Loc, Action, Store, Load, Move, Fence, Lock, Entry, Choice, Step, Drain, Stall, Buffered, decide, lt-or, hidden_of, forgotten_core, forgotten_cores, forgotten, CoresAreAlike, exchanged_core, exchanged_choice, exchanged_entry, renamed, exchanged, IsExchangeable, cases_Bool, length-starts, all-done, done-at, set_past}
 use Rattle.std.proofs.Common.{filter}
 use Rattle.tso_model.specs.declared.choice.Stall.TheVariants as stall
 use Rattle.eager_laws.proofs.Alike.{core-at}
@@ -49,13 +49,7 @@ module _ (pair : ℕ × ℕ) where
 
   value-same : (loc : ℕ) (es : List Entry) (w : ℕ) → last_value (filter (writes_to loc) (map (exchanged_entry pair) es)) w ≡ last_value (filter (writes_to loc) es) w
   value-same loc [] w = refl
-  value-same loc (e ∷ es) w = go (writes_to loc e) (value-same loc es)
-    where
-      go : (b : Bool) → ((v : ℕ) → last_value (filter (writes_to loc) (map (exchanged_entry pair) es)) v ≡ last_value (filter (writes_to loc) es) v)
-          → last_value (if b then exchanged_entry pair e ∷ filter (writes_to loc) (map (exchanged_entry pair) es) else filter (writes_to loc) (map (exchanged_entry pair) es)) w
-          ≡ last_value (if b then e ∷ filter (writes_to loc) es else filter (writes_to loc) es) w
-      go true later = later e.value
-      go false later = later w
+  value-same loc (e ∷ es) w = elim (cases_Bool (writes_to loc e)) [ inl is ↦ rw is (value-same loc es e.value) | inr is ↦ rw is (value-same loc es w) ]
 
   by-action : (d k : ℕ) (memory : List ℕ) (a : Action) (s : CoreState) → Renames pair (effect_by d memory k a s) (effect_by d memory (exchanged_core pair k) a (renamed pair s))
   by-action d k memory (Store loc operand) s = store d k s loc (value_of s.registers operand)
@@ -90,21 +84,6 @@ module _ (pair : ℕ × ℕ) where
 
 -- ---- whether a test has ended, core by core
 
-done-at : (ps : List (List Instr)) (ss : List CoreState) (k : ℕ) → length ss ≡ length ps → k < length ps → all_done ps ss ≡ true → is_done (slice_index_or ps k []) (slice_index_or ss k idle) ≡ true
-done-at [] ss k n l h = absurd (let z : ⊥ = omega (arith, l) in z)
-done-at (p ∷ ps) [] k n l h = absurd (let z : ⊥ = omega (arith, n) in z)
-done-at (p ∷ ps) (s ∷ ss) zero n l h = and-left (is_done p s) (all_done ps ss) h
-done-at (p ∷ ps) (s ∷ ss) (suc k) n l h = done-at ps ss k (omega (arith, n)) (omega (arith, l)) (and-right (is_done p s) (all_done ps ss) h)
-
-both-true : (a b : Bool) → a ≡ true → b ≡ true → (a && b) ≡ true
-both-true a b p q = rw (p, q) refl
-
-done-all : (ps : List (List Instr)) (ss : List CoreState) → length ss ≡ length ps → ((k : ℕ) → k < length ps → is_done (slice_index_or ps k []) (slice_index_or ss k idle) ≡ true) → all_done ps ss ≡ true
-done-all [] [] n h = refl
-done-all [] (s ∷ ss) n h = absurd (let z : ⊥ = omega (arith, n) in z)
-done-all (p ∷ ps) [] n h = absurd (let z : ⊥ = omega (arith, n) in z)
-done-all (p ∷ ps) (s ∷ ss) n h = both-true (is_done p s) (all_done ps ss) (h 0 (omega arith)) (done-all ps ss (omega (arith, n)) (λ k l. h (suc k) (omega (arith, l))))
-
 same-test : (a b : Bool) → (a ≡ true → b ≡ true) → (b ≡ true → a ≡ true) → a ≡ b
 same-test true b f g = sym (f refl)
 same-test false true f g = g refl
@@ -124,18 +103,9 @@ started-beyond c [] rs k l = refl
 started-beyond c (p ∷ ps) rs zero l = absurd (let z : ⊥ = omega (arith, l) in z)
 started-beyond c (p ∷ ps) rs (suc k) l = started-beyond (c + 1) ps rs k (omega (arith, l))
 
-length-started : (c : ℕ) (ps : List (List Instr)) (rs : List (List ℕ)) → length (started c ps rs) ≡ length ps
-length-started c [] rs = refl
-length-started c (p ∷ ps) rs = ap suc (length-started (c + 1) ps rs)
-
 pub length-forgotten : (t : Litmus) (hidden : List (List Bool)) (n : ℕ) (ss : List CoreState) → length (forgotten_cores t hidden n ss) ≡ length ss
 length-forgotten t hidden n [] = refl
 length-forgotten t hidden n (s ∷ ss) = ap suc (length-forgotten t hidden (n + 1) ss)
-
-set-beyond : (xs : List CoreState) (k : ℕ) (v : CoreState) → length xs ≤ k → slice_set xs k v ≡ xs
-set-beyond [] k v l = refl
-set-beyond (x ∷ xs) zero v l = absurd (let z : ⊥ = omega (arith, l) in z)
-set-beyond (x ∷ xs) (suc k) v l = ap (λ z. x ∷ z) (set-beyond xs k v (omega (arith, l)))
 
 chosen-exchanged : (pair : ℕ × ℕ) (c : Choice) → chosen (exchanged_choice pair c) ≡ exchanged_core pair (chosen c)
 chosen-exchanged pair (Step k) = refl
@@ -185,8 +155,8 @@ module _ (t : Litmus) (hidden : List (List Bool)) (pair : ℕ × ℕ) (h : Cores
         beyond l =
             let p = h.first in let q = h.second in
             let same = core-beyond pair (length s.cores) m (omega (arith, p, sized)) (omega (arith, q, sized)) l in
-            ap (λ z. slice_set (exchanged pair s).cores z g.after) same ∙ set-beyond (exchanged pair s).cores m g.after (let a = n in omega (arith, a, l))
-            ∙ ap (λ z. (exchanged pair (let r : State = record { memory = s.memory; cores = z } in r)).cores) (sym (set-beyond s.cores m f.after l))
+            ap (λ z. slice_set (exchanged pair s).cores z g.after) same ∙ set_past (exchanged pair s).cores m g.after (let a = n in omega (arith, a, l))
+            ∙ ap (λ z. (exchanged pair (let r : State = record { memory = s.memory; cores = z } in r)).cores) (sym (set_past s.cores m f.after l))
 
         within : m < length s.cores → slice_set (exchanged pair s).cores (exchanged_core pair m) g.after ≡ (exchanged pair changed).cores
         within l = same-cores _ _ (length-set (exchanged pair s).cores (exchanged_core pair m) g.after ∙ n ∙ sym (cores-exchanged pair changed ∙ changed-sized)) each
@@ -217,11 +187,12 @@ module _ (t : Litmus) (hidden : List (List Bool)) (pair : ℕ × ℕ) (h : Cores
         ∙ applies (chosen c) (effect_of t d s c) (effect_of t d (exchanged pair s) (exchanged_choice pair c)) (effect d c)
 
     still-ended : has_ended t s ≡ true → has_ended t (exchanged pair s) ≡ true
-    still-ended e = done-all t.programs (exchanged pair s).cores (cores-exchanged pair s ∙ sized) (λ k l.
-        let p = h.first in let q = h.second in
+    still-ended e = all-done t.programs (exchanged pair s).cores (λ k m.
+        let p = h.first in let q = h.second in let n = cores-exchanged pair s in
+        let w = core-within pair (length t.programs) k p q (omega (arith, m, n, sized)) in
         ap (is_done (program_of t k)) (core k) ∙ done-renamed pair (program_of t k) (core_of s (exchanged_core pair k))
         ∙ ap (λ z. is_done z (core_of s (exchanged_core pair k))) (sym (program-same k))
-        ∙ done-at t.programs s.cores (exchanged_core pair k) sized (core-within pair (length t.programs) k p q l) e)
+        ∙ done-at t.programs s.cores (exchanged_core pair k) e (omega (arith, w, sized)))
 
     dead : forgotten t hidden (exchanged pair s) ≡ exchanged pair (forgotten t hidden s)
     dead = same-state _ _ _ _ refl (same-cores _ _
@@ -244,7 +215,7 @@ module _ (t : Litmus) (hidden : List (List Bool)) (pair : ℕ × ℕ) (h : Cores
   first-same = same-state _ _ _ _ refl (same-cores _ _ (cores-exchanged pair (start t)) each)
     where
       sized : length (start t).cores ≡ length t.programs
-      sized = length-started 0 t.programs t.registers
+      sized = length-starts 0 t.programs t.registers
 
       fresh : List ℕ → CoreState
       fresh rs = record { place = 0; registers = rs; pending = [] }

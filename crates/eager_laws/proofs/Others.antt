@@ -7,19 +7,15 @@ use Rattle.eager_laws.proofs.Waits.{Commutes}
 
 -- memory is the same where the action reads it
 abbrev pub SameFor : List ℕ → List ℕ → Action → Type 0
-SameFor memory other (Store loc operand) = Unit {0}
 SameFor memory other (Load reg loc) = slice_index memory loc.0 ≡ slice_index other loc.0
-SameFor memory other (Move reg operand) = Unit {0}
-SameFor memory other Fence = Unit {0}
 SameFor memory other (Lock loc reg update) = slice_index memory loc.0 ≡ slice_index other loc.0
+SameFor memory other _ = Unit {0}
 
 action-same : (d core : ℕ) (memory other : List ℕ) (a : Action) (s : CoreState) → SameFor memory other a → effect_by d memory core a s ≡ effect_by d other core a s
-action-same d core memory other (Store loc operand) s h = refl
 action-same d core memory other (Load reg loc) s h =
     ap (λ w. loaded s reg (entry core s.place R loc (last_value (filter (writes_to loc.0) s.pending) w))) h
-action-same d core memory other (Move reg operand) s h = refl
-action-same d core memory other Fence s h = refl
 action-same d core memory other (Lock loc reg update) s h = ap (λ w. locked core s loc reg w (updated update w (value_in s.registers reg))) h
+action-same d core memory other _ s h = refl
 
 step-same : (d core : ℕ) (memory other : List ℕ) (p : List Instr) (s r : CoreState) → r ≡ s
     → ((x : Instr) → slice_get p s.place ≡ Some x → SameFor memory other (action_of x))
@@ -81,18 +77,14 @@ zone d t s (Drain k) h =
 -- ---- the other core's choice does the same after the eager one
 
 met : (a : Action) (l : ℕ) (memory other : List ℕ) → meets true l a ≡ false → ((m : ℕ) → m ≢ l → slice_index memory m ≡ slice_index other m) → SameFor memory other a
-met (Store loc operand) l memory other h f = tt
 met (Load reg loc) l memory other h f = f loc.0 (differ loc.0 l h)
-met (Move reg operand) l memory other h f = tt
-met Fence l memory other h f = tt
 met (Lock loc reg update) l memory other h f = f loc.0 (differ loc.0 l h)
+met _ l memory other h f = tt
 
 same-all : (a : Action) (memory other : List ℕ) → memory ≡ other → SameFor memory other a
-same-all (Store loc operand) memory other q = tt
 same-all (Load reg loc) memory other q = ap (λ z. slice_index z loc.0) q
-same-all (Move reg operand) memory other q = tt
-same-all Fence memory other q = tt
 same-all (Lock loc reg update) memory other q = ap (λ z. slice_index z loc.0) q
+same-all _ memory other q = tt
 
 pub other-same : (d : ℕ) (t : Litmus) (s : State) (e c : Choice) → chosen c ≢ chosen e → Zone t s (chosen e) (effect_of t d s e).commits
     → effect_of t d (after_choice t d s e) c ≡ effect_of t d s c
@@ -114,11 +106,9 @@ read-kept : (d : ℕ) (t : Litmus) (s : State) (c : Choice) (k : ℕ) (loads : B
 read-kept d t s c k loads l n o = elsewhere l (effect_of t d s c).commits s.memory (choice-avoids loads l d t s c (o (chosen c) n))
 
 eager-reads : (d : ℕ) (t : Litmus) (s : State) (c : Choice) (k : ℕ) (a : Action) → chosen c ≢ k → IsEagerBy d t s k a → SameFor (after_choice t d s c).memory s.memory a
-eager-reads d t s c k (Store loc operand) n h = tt
 eager-reads d t s c k (Load reg loc) n h = read-kept d t s c k false loc.0 n h
-eager-reads d t s c k (Move reg operand) n h = tt
-eager-reads d t s c k Fence n h = tt
 eager-reads d t s c k (Lock loc reg update) n h = read-kept d t s c k true loc.0 n h.1
+eager-reads d t s c k _ n h = tt
 
 pub eager-same : (d : ℕ) (t : Litmus) (s : State) (e c : Choice) → chosen c ≢ chosen e → IsEager d t s e → effect_of t d (after_choice t d s c) e ≡ effect_of t d s e
 eager-same d t s (Drain k) c n h = ap drain_of (core-stays d t s k.0 c n)

@@ -1,5 +1,5 @@
 -- An eager choice of a core beside another choice of the same core.
-use Rattle.eager_laws.proofs.Vocabulary.{◌≡◌, ◌≢◌, ◌<◌, ℕ, ◌+◌, zero, suc, List, [], ◌∷◌, ◌++◌, Bool, true, false, Some, length, slice_get, slice_set, slice_index, arith, ap, sym, ◌∙◌, refl, ◌==◌, ◌&&◌, nat_lt, if◌then◌else◌, get_or-set_same, get_or-set_other, nat_tests, filter, action_of, Litmus, last_value, is_write, writes_to, entry, value_of, with_value, CoreState, State, Effect, idle, program_of, core_of, effect_by, step_of, drain_of, applied, after_choice, stored, stalled, step, drain, W, Instr, Action, Store, Load, Move, Fence, Lock, Entry}
+use Rattle.eager_laws.proofs.Vocabulary.{◌≡◌, ◌≢◌, ◌<◌, ℕ, ◌+◌, zero, suc, List, [], ◌∷◌, ◌++◌, Bool, true, false, Some, length, slice_get, slice_set, slice_index, arith, ap, sym, ◌∙◌, refl, ◌==◌, ◌&&◌, nat_lt, if◌then◌else◌, get_or-set_same, get_or-set_other, nat_tests, filter, action_of, Litmus, last_value, is_write, writes_to, entry, value_of, with_value, CoreState, State, Effect, idle, program_of, core_of, effect_by, step_of, drain_of, applied, after_choice, stored, step, drain, W, Instr, Action, Store, Load, Move, Entry, cases_Bool, inl, inr}
 use Rattle.tso_model.specs.declared.choice.Stall.TheVariants as stall
 use Rattle.eager_laws.proofs.Places.{set-set-same, Silent, silent-same, put}
 use Rattle.eager_laws.proofs.Avoiding.{holding, drained, buffered}
@@ -37,19 +37,14 @@ drain-is s p ps q = ap go q
 
 pub store-room : (n : ℕ) (s : CoreState) (e : Entry) → length s.pending < n → stored n s e ≡ buffered s e
 store-room zero s e l = absurd (let z : ⊥ = omega (arith, l) in z)
-store-room (suc n) s e l = go (nat_lt (length s.pending) (suc n)) refl
-  where
-    go : (b : Bool) → nat_lt (length s.pending) (suc n) ≡ b → (if b then buffered s e else stalled stall.Full s) ≡ buffered s e
-    go true q = refl
-    go false q = absurd (let z : ⊥ = grind (arith, nat_tests, l, q) in z)
+store-room (suc n) s e l = elim (cases_Bool (nat_lt (length s.pending) (suc n))) [ inl q ↦ rw q refl | inr q ↦ absurd (let z : ⊥ = grind (arith, nat_tests, l, q) in z) ]
 
 -- the actions that don't wait for the pending stores
 abbrev pub Goes : ℕ → List ℕ → CoreState → Action → Type 0
 Goes d memory s (Store loc operand) = length s.pending < d
 Goes d memory s (Load reg loc) = loc.0 < length memory
 Goes d memory s (Move reg operand) = Unit {0}
-Goes d memory s Fence = ⊥
-Goes d memory s (Lock loc reg update) = ⊥
+Goes d memory s _ = ⊥
 
 slides : (d k : ℕ) (memory : List ℕ) (a : Action) (s : CoreState) (p : Entry) (ps : List Entry) → s.pending ≡ p ∷ ps → Goes d memory s a
     → Slides s p (effect_by d memory k a s) (effect_by d (put p memory) k a (holding s ps))
@@ -67,8 +62,7 @@ slides d k memory (Load reg loc) s p ps q h = record {
   silent_too = (refl, tt);
 }
 slides d k memory (Move reg operand) s p ps q h = record { later = ps; front = q; after = refl; silent = tt; silent_too = tt }
-slides d k memory Fence s p ps q h = absurd h
-slides d k memory (Lock loc reg update) s p ps q h = absurd h
+slides d k memory _ s p ps q h = absurd h
 
 -- a step and a drain of one core, at an instruction that doesn't wait
 module _ (d : ℕ) (t : Litmus) (s : State) (k : ℕ) (x : Instr) (p : Entry) (ps : List Entry)

@@ -1,5 +1,5 @@
 -- Writes at places of a list, and what entries do to memory.
-use Rattle.eager_laws.proofs.Vocabulary.{◌≡◌, ◌≢◌, ℕ, zero, suc, List, [], ◌∷◌, Bool, true, false, length, slice_set, slice_index, slice_index_or, ap, sym, ◌∙◌, refl, if◌then◌else◌, get_or-set_other, length-set, is_write, CoreState, idle, memory_after, Entry, Each}
+use Rattle.eager_laws.proofs.Vocabulary.{◌≡◌, ◌≢◌, ℕ, zero, suc, List, [], ◌∷◌, Bool, true, false, length, slice_set, slice_index, ap, sym, ◌∙◌, refl, if◌then◌else◌, get_or-set_other, length-set, is_write, memory_after, Entry, Each}
 
 pub set-set-same : {A : Type 0} (xs : List A) (k : ℕ) (a b : A) → slice_set (slice_set xs k a) k b ≡ slice_set xs k b
 set-set-same [] k a b = refl
@@ -12,11 +12,6 @@ set-set-other (x ∷ xs) zero zero a b n = absurd (n refl)
 set-set-other (x ∷ xs) zero (suc k) a b n = refl
 set-set-other (x ∷ xs) (suc j) zero a b n = refl
 set-set-other (x ∷ xs) (suc j) (suc k) a b n = ap (λ z. x ∷ z) (set-set-other xs j k a b (λ q. n (ap suc q)))
-
-pub set-same : (xs : List CoreState) (k : ℕ) → slice_set xs k (slice_index_or xs k idle) ≡ xs
-set-same [] k = refl
-set-same (x ∷ xs) zero = refl
-set-same (x ∷ xs) (suc k) = ap (λ z. x ∷ z) (set-same xs k)
 
 -- none of the entries writes
 abbrev pub Silent : List Entry → Type 0

@@ -1,5 +1,6 @@
 -- The names that the proofs of this crate bring in from definitions and from crates below; each file takes its own from here.
 pub use Rattle.std.proofs.Common.{◌≡◌, ◌<◌, ℕ, List, Bool, true, false, length, slice_get, arith, ap, sym, ◌∙◌, subst, ◌≢◌, ◌+◌, zero, suc, [], ◌∷◌, ◌++◌, Some, slice_set, slice_index, refl, ◌==◌, ◌&&◌, nat_lt, if◌then◌else◌, get_or-set_same, get_or-set_other, ◌≤◌, map, swap, slice_index_or, inl, inr, Option, None, drop, take}
+pub use Rattle.std.proofs.lemmas.Bool.{cases_Bool}
 pub use Rattle.tso_model.specs.Actions.{action_of, location_of}
 pub use Rattle.tso_model.specs.Litmus.{Litmus, IsTest, KnownLocation}
 pub use Rattle.tso_model.specs.FlatMachine.{CoreState, State, program_of, core_of, Effect, idle, effect_by, step_of, drain_of, applied, after_choice, stored, stalled, step, drain, effect_of, memory_after, is_none_pending, when_drained, locked, load_value, chosen, start, registers_in, started, loaded, advanced}
@@ -19,7 +20,8 @@ pub use Rattle.tso_model.specs.declared.execution.Kind.TheVariants.{W, LR, LW, R
 pub use Rattle.tso_model.specs.declared.execution.Entry.{Entry}
 pub use Rattle.std.proofs.Math.ListN.{length-set}
 pub use Rattle.std.proofs.lemmas.List.Edits.{length-swap}
-pub use Rattle.std.proofs.lemmas.List.{length-map, map-append}
+pub use Rattle.std.proofs.lemmas.List.{length-map, map-append, set-get_or, set_past}
+pub use Rattle.basic_laws.proofs.Cores.{length-starts, all-done, done-at, no-program, no-core}
 pub use Rattle.basic_laws.proofs.Basics.{decide, test-true, test-false, lt-or, and-left, and-right}
 pub use Rattle.eager_laws.specs.Exchanged.{exchanged_core, exchanged_choice, exchanged_entry, renamed, exchanged, exchanged_by, IsOneOf, AreOf, AreAllAlike, IsExchangeable, CoresAreAlike}
 pub use Rattle.basic_laws.proofs.Lists.{drop-at, drop-end, Each}

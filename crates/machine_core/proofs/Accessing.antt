@@ -1,5 +1,5 @@
 -- A choice that makes an access commits at once where it acts as on the flat machine.
-use Rattle.machine_core.proofs.Vocabulary.{◌≡◌, ◌≢◌, ℕ, zero, suc, List, [], ◌∷◌, Option, None, Some, slice_get, refl, Litmus, action_of, CoreState, State, Effect, stored, effect_by, step_of, effect_of, core_of, program_of, NoAccess, store_access, locked_access, access_by, step_access, drain_access, access_of, Reg, Loc, Instr, Action, Store, Load, Move, Fence, Lock, Entry, Choice, Step, Drain, Committed, drain_with, locked_with}
+use Rattle.machine_core.proofs.Vocabulary.{◌≡◌, ◌≢◌, ℕ, zero, suc, List, [], ◌∷◌, Option, None, Some, slice_get, refl, Litmus, action_of, CoreState, State, Effect, stored, effect_by, step_of, effect_of, core_of, program_of, NoAccess, store_access, locked_access, access_by, step_access, drain_access, access_of, Reg, Loc, Instr, Action, Store, Load, Lock, Entry, Choice, Step, Drain, Committed, drain_with, locked_with}
 
 pub record CommitsAtOnce (f : Effect) : Type 0 where
   pub outcome : f.outcome ≡ Committed
@@ -17,9 +17,8 @@ locked-commits core s loc reg word value (p ∷ ps) h = absurd (h refl)
 action-commits : (depth : ℕ) (memory : List ℕ) (core : ℕ) (a : Action) (s : CoreState) → access_by depth a s.pending ≢ NoAccess → CommitsAtOnce (effect_by depth memory core a s)
 action-commits depth memory core (Store loc operand) s h = stored-commits depth s _ loc h
 action-commits depth memory core (Load reg loc) s h = record { outcome = refl; some = λ z. (let w : ⊥ = cc in w) }
-action-commits depth memory core (Move reg operand) s h = absurd (h refl)
-action-commits depth memory core Fence s h = absurd (h refl)
 action-commits depth memory core (Lock loc reg update) s h = locked-commits core s loc reg _ _ s.pending h
+action-commits depth memory core _ s h = absurd (h refl)
 
 step-commits : (depth : ℕ) (memory : List ℕ) (core : ℕ) (o : Option Instr) (s : CoreState) → step_access depth o s.pending ≢ NoAccess → CommitsAtOnce (step_of depth memory core o s)
 step-commits depth memory core None s h = absurd (h refl)

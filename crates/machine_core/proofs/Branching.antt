@@ -1,6 +1,5 @@
 -- Which choice on a split bus is the holder's next one, and what any choice does by that.
-use Rattle.machine_core.proofs.Vocabulary.{◌≡◌, ℕ, Bool, true, false, None, Some, Result, IfOk, refl, sym, ap, ◌∙◌, subst, Litmus, State, chosen, access_of, Holder, Free, HeldBy, HeldBetween, Attempt, BusEffect, same_choice, begins, completes, writes_last, split_effect, HitFits, Entry, Choice, Step, Committed, NoMemory, Next, Complete, Write, Hardware, ChoiceAnswer, next_in, holder_by, state_in, HasMade, completes_in, attempt_in, SucceedsUnlessCommitting, AnswerFitsIn, split_effect_in, begins_in, writes_last_in, IsOther}
-use Rattle.machine_core.proofs.Advancing.{same-is}
+use Rattle.machine_core.proofs.Vocabulary.{◌≡◌, ℕ, Bool, true, false, None, Some, Result, IfOk, refl, sym, ap, ◌∙◌, subst, Litmus, State, chosen, access_of, Holder, Free, HeldBy, HeldBetween, Attempt, BusEffect, same_choice, begins, completes, writes_last, split_effect, HitFits, Entry, Choice, Step, Committed, NoMemory, Next, Complete, Write, Hardware, ChoiceAnswer, next_in, holder_by, state_in, HasMade, completes_in, attempt_in, SucceedsUnlessCommitting, AnswerFitsIn, split_effect_in, begins_in, writes_last_in, IsOther, same-is}
 
 module _ (t : Litmus) (depth : ℕ) (state : State) (a : Attempt) where
   begins-free : (h : Holder) → h ≡ Free → split_effect t depth state a h ≡ begins t depth state a h

@@ -1,5 +1,5 @@
 -- Why counting never overflows: no count is larger than the number of instructions that the cores are done with.
-use Rattle.machine_core.proofs.Vocabulary.{◌≡◌, ◌≤◌, ◌<◌, ◌+◌, ◌-◌, ◌⊎◌, inl, inr, ℕ, zero, suc, Bool, true, false, nat_lt, if◌then◌else◌, List, [], ◌∷◌, ◌++◌, length, length-append, length-set, slice_get, slice_index, slice_index_or, Option, Some, None, All, refl, ap, ◌∙◌, arith, All-set, most_instructions, Litmus, IsTest, action_of, entry, value_in, with_value, value_of, updated, CoreState, State, Effect, stalled, stored, effect_by, step_of, effect_of, chosen, core_of, program_of, Reg, Core, Loc, Instr, Action, Store, Load, Move, Fence, Lock, Entry, W, Choice, Step, Drain, Outcome, Buffered, Stalled, Counts, CacheUse, Unused, Forwarded, Through, no_counts, with_access, with_write_back, with_forward, with_flush, counts_at_core, flush_counted, with_use_counted, IsAtMost, HasIssuedItsStores, done_by, drain_with, fenced_with, locked_with, All-head, All-tail, All-weaker}
+use Rattle.machine_core.proofs.Vocabulary.{◌≡◌, ◌≤◌, ◌<◌, ◌+◌, ◌-◌, ◌⊎◌, inl, inr, ℕ, zero, suc, Bool, true, false, nat_lt, if◌then◌else◌, List, [], ◌∷◌, ◌++◌, length, length-append, length-set, slice_get, slice_index, slice_index_or, Option, Some, None, All, refl, ap, ◌∙◌, arith, All-set, most_instructions, Litmus, IsTest, action_of, entry, value_in, with_value, value_of, updated, CoreState, State, Effect, stalled, stored, effect_by, step_of, effect_of, chosen, core_of, program_of, Reg, Core, Loc, Instr, Action, Store, Fence, Lock, Entry, W, Choice, Step, Drain, Outcome, Buffered, Stalled, Counts, CacheUse, Unused, Forwarded, Through, no_counts, with_access, with_write_back, with_forward, with_flush, counts_at_core, flush_counted, with_use_counted, IsAtMost, HasIssuedItsStores, done_by, drain_with, fenced_with, locked_with, All-head, All-tail, All-weaker}
 use Rattle.tso_model.specs.declared.choice.Stall.TheVariants as stall
 use Rattle.snoop_bus.specs.declared.access.AccessKind.{AccessKind}
 use Rattle.snoop_bus.specs.declared.access.AccessKind.TheVariants.{Hit, Upgrade, Miss}
@@ -142,11 +142,10 @@ got-below (y ∷ ys) (suc i) x h = let l = got-below ys i x h in omega arith
 action-advances : (depth : ℕ) (memory : List ℕ) (core : ℕ) (a : Action) (s : CoreState) → HasIssuedItsStores s → s.place < most_instructions
     → Advances s (effect_by depth memory core a s)
 action-advances depth memory core (Store loc operand) s i h = stored-advances depth s (entry core s.place W loc (value_of s.registers operand)) i h
-action-advances depth memory core (Load reg loc) s i h = goes_on s _ _ _ i h
-action-advances depth memory core (Move reg operand) s i h = goes_on s _ _ _ i h
 action-advances depth memory core Fence s i h = fenced-advances core s s.pending i h
 action-advances depth memory core (Lock loc reg update) s i h =
     locked-advances core s loc reg (slice_index memory loc.0) (updated update (slice_index memory loc.0) (value_in s.registers reg)) s.pending i h
+action-advances depth memory core _ s i h = goes_on s _ _ _ i h
 
 step-advances : (depth : ℕ) (memory : List ℕ) (core : ℕ) (program : List Instr) (o : Option Instr) (s : CoreState) → slice_get program s.place ≡ o
     → length program ≤ most_instructions → HasIssuedItsStores s → Advances s (step_of depth memory core o s)

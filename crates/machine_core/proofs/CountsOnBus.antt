@@ -7,7 +7,7 @@ use Rattle.snoop_bus.specs.Tags.{tag_of}
 use Rattle.protocol_tables.specs.declared.requests.Request.{Request}
 use Rattle.protocol_tables.specs.declared.requests.Request.TheVariants.{GetS, GetM}
 use Rattle.protocol_tables.specs.declared.requests.Transient.{Transient}
-use Rattle.protocol_tables.specs.declared.requests.Transient.TheVariants.{IsD, ImD, SmD}
+use Rattle.protocol_tables.specs.declared.requests.Transient.TheVariants.{SmD}
 use Rattle.machine_core.proofs.CountBounds.{Advances, IsAtMost-more, use-counted, length-counted}
 use Rattle.machine_core.proofs.EachUse.{each-use}
 
@@ -26,9 +26,8 @@ completed-among t core line n None caches h = tt
 completed-among t core line n (Some x) caches h = by_transient x.transient
   where
     by_transient : (tr : Transient) → IsAmong n (completed_in t core line tr x.state x.flushed caches).access.flushed
-    by_transient IsD = h
-    by_transient ImD = h
     by_transient SmD = tt
+    by_transient _ = h
 
 sender-among : (t : Table) (request : Request) (line : ℕ) (caches : List TagSets) → IsAmong (length caches) (flusher_of t request line caches)
 sender-among t GetS line caches =
@@ -70,8 +69,7 @@ done-bound cores all = sum_by-le done_by most_instructions cores (λ k d l. (let
 
 half-bound : (holder : Holder) → half_done holder ≤ 1
 half-bound Free = omega arith
-half-bound (HeldBy choice) = omega arith
-half-bound (HeldBetween e) = omega arith
+half-bound _ = omega arith
 
 pub few-counted : (t : Litmus) (state : BusState) (s : Statistics) → length state.flat.cores ≡ length t.programs → IsTallied t state s → All (IsAtMost most_counted) s.counts
 few-counted t state s size tallied =

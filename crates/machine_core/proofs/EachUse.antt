@@ -1,6 +1,6 @@
 -- What holds of each use of the caches: of none, of a load that a core's own stores answer, and of an access, whole or in its two
 -- halves.
-use Rattle.machine_core.proofs.Vocabulary.{ℕ, List, ◌∷◌, Bool, if◌then◌else◌, list_any, writes_to, Entry, Unused, Forwarded, Caches, not_through, use_of, Used, ask_by, used_between, completion_by, use_by_kind, whole_by, MemoryAccess, Writes, Reads, Locks, Kind, [], true, false, NoAccess, W, R, F, LR, LW, ◌≡◌, refl, asking_by}
+use Rattle.machine_core.proofs.Vocabulary.{ℕ, List, ◌∷◌, Bool, if◌then◌else◌, list_any, writes_to, Entry, Unused, Forwarded, Caches, not_through, use_of, Used, ask_by, used_between, completion_by, use_by_kind, whole_by, MemoryAccess, Writes, Reads, Locks, Kind, [], true, false, NoAccess, R, F, LW, ◌≡◌, refl, asking_by}
 
 module _ (P : Used → Type 0) (c : Caches) (unused : P (not_through Unused c)) (forwarded : P (not_through Forwarded c)) (whole : (core loc : ℕ) (write : Bool) → P (whole_by c core loc write)) where
   pub each-whole : (pending commits : List Entry) → P (use_of c pending commits)
@@ -9,10 +9,9 @@ module _ (P : Used → Type 0) (c : Caches) (unused : P (not_through Unused c)) 
     where
       by_kind : (kind : Kind) → P (use_by_kind c pending e kind)
       by_kind R = elim (list_any (writes_to e.loc.0) pending) as (λ b. P (if b then not_through Forwarded c else whole_by c e.core.0 e.loc.0 false)) [ true ↦ forwarded | false ↦ whole e.core.0 e.loc.0 false ]
-      by_kind W = whole e.core.0 e.loc.0 true
       by_kind F = unused
-      by_kind LR = whole e.core.0 e.loc.0 true
       by_kind LW = unused
+      by_kind _ = whole e.core.0 e.loc.0 true
 
   pub each-use : (core : ℕ) → ((loc : ℕ) (write : Bool) → P (ask_by c core loc write)) → ((loc : ℕ) → P (completion_by c core loc)) → (before after : Bool) (what : MemoryAccess) (pending commits : List Entry)
       → P (used_between before after c core what pending commits)
@@ -36,6 +35,4 @@ used-machine before after c core what pending commits =
 -- an ask is no access yet
 pub asks-nothing : (c : Caches) (core : ℕ) (what : MemoryAccess) → (asking_by c core what).how ≡ Unused
 asks-nothing c core NoAccess = refl
-asks-nothing c core (Reads loc) = refl
-asks-nothing c core (Writes loc) = refl
-asks-nothing c core (Locks loc) = refl
+asks-nothing c core _ = refl

@@ -1,11 +1,10 @@
 -- A choice on the hardware of a machine, by the kind of its bus.
-use Rattle.machine_core.proofs.Vocabulary.{◌≡◌, inl, ℕ, Result, Ok, Err, IfOk, OnOk, OnErr, refl, sym, ap, ◌∙◌, Litmus, State, Holder, Free, HeldBy, HeldBetween, Attempt, BusState, effect_on, HitFits, Bus, Atomic, Split, NoMemory, Choice, HolderFits, holder_of, Hardware, IsHeldForAccess, held_as, state_in, ChoiceAnswer, MayMakeIn, attempt_in, effect_in, split_effect_in, HasMade, IsUndone, effect_made_in, Whole}
+use Rattle.machine_core.proofs.Vocabulary.{◌≡◌, inl, ℕ, Result, Ok, Err, IfOk, OnOk, OnErr, refl, sym, ap, ◌∙◌, Litmus, State, Holder, Free, Attempt, BusState, effect_on, HitFits, Bus, Atomic, Split, NoMemory, Choice, HolderFits, holder_of, Hardware, IsHeldForAccess, held_as, state_in, ChoiceAnswer, MayMakeIn, attempt_in, effect_in, split_effect_in, HasMade, IsUndone, effect_made_in, Whole}
 
 -- on the atomic bus nobody holds it
 free-holder : (bus : Bus) (t : Litmus) (depth : ℕ) (state : State) (holder : Holder) → bus ≡ Atomic → HolderFits bus t depth state holder → holder ≡ Free
 free-holder Atomic t depth state Free h fits = refl
-free-holder Atomic t depth state (HeldBy choice) h fits = absurd fits
-free-holder Atomic t depth state (HeldBetween e) h fits = absurd fits
+free-holder Atomic t depth state _ h fits = absurd fits
 free-holder Split t depth state holder h fits = absurd (let z : ⊥ = cc in z)
 
 pub is-free : {P : Type 0} (t : Litmus) (m : Hardware P) → m.config.bus ≡ Atomic → HolderFits m.config.bus t m.config.depth (state_in m).flat (state_in m).holder → (state_in m).holder ≡ Free

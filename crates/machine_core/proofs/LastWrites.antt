@@ -1,5 +1,5 @@
 -- The store part of a locked instruction on a split bus.
-use Rattle.machine_core.proofs.Vocabulary.{◌≡◌, ◌≢◌, ℕ, zero, suc, false, List, [], ◌∷◌, None, slice_index, slice_set, refl, sym, ap, ◌∙◌, subst, set-get_or, Litmus, entry, value_in, updated, CoreState, State, Effect, advanced_with, effect_by, effect_of, core_of, MemoryAccess, NoAccess, Locks, store_access, load_access, locked_access, access_by, access_of, Free, HeldBetween, BusEffect, acts, as_read, after_first, Split, Reg, Loc, Action, Store, Load, Move, Fence, Lock, Entry, LW, Step, Committed, HasRead, HolderFits, BusModel, IsFree, IsSameMachine, words_of, contents_of, awaited_of, Processor, Unused, Hardware, core_state, caches_of, not_through, is_awaited, used_between, state_in, HasUsed, use_by, writes_last_in, IsLock, WritesAs, locked_with}
+use Rattle.machine_core.proofs.Vocabulary.{◌≡◌, ◌≢◌, ℕ, zero, suc, false, List, [], ◌∷◌, None, slice_index, slice_set, refl, sym, ap, ◌∙◌, subst, set-get_or, Litmus, entry, value_in, updated, CoreState, State, Effect, advanced_with, effect_by, effect_of, core_of, MemoryAccess, NoAccess, Locks, store_access, load_access, locked_access, access_by, access_of, Free, HeldBetween, BusEffect, acts, as_read, after_first, Split, Reg, Loc, Action, Store, Load, Lock, Entry, LW, Step, Committed, HasRead, HolderFits, BusModel, IsFree, IsSameMachine, words_of, contents_of, awaited_of, Processor, Unused, Hardware, core_state, caches_of, not_through, is_awaited, used_between, state_in, HasUsed, use_by, writes_last_in, IsLock, WritesAs, locked_with}
 use Rattle.machine_core.proofs.Finishing.{free-awaits}
 use Rattle.machine_core.proofs.ChoiceEffects.{core_of-state_in}
 use Rattle.machine_core.proofs.StepCompletions.{IsNext, access-next, effect-next}
@@ -23,9 +23,8 @@ no-load loc at (p ∷ ps) h = (let z : ⊥ = cc in z)
 pub is-lock : (depth : ℕ) (a : Action) (pending : List Entry) (at : Loc) → access_by depth a pending ≡ Locks at → IsLock a
 is-lock depth (Store loc operand) pending at h = no-store depth loc at h
 is-lock depth (Load reg loc) pending at h = no-load loc at _ h
-is-lock depth (Move reg operand) pending at h = (let z : ⊥ = cc in z)
-is-lock depth Fence pending at h = (let z : ⊥ = cc in z)
 is-lock depth (Lock loc reg update) pending at h = tt
+is-lock depth _ pending at h = (let z : ⊥ = cc in z)
 
 -- the core has read this word, and writes this value
 abbrev pub last_part : ℕ → ℕ → CoreState → Loc → Reg → ℕ → ℕ → Effect
@@ -43,13 +42,10 @@ locked-last core words s loc at reg into word value due (p ∷ ps) locks read re
 
 action-writes : (depth core : ℕ) (words : List ℕ) (a : Action) (s : CoreState) (at : Loc) (into : Reg) (word due : ℕ) → access_by depth a s.pending ≡ Locks at
     → slice_index words at.0 ≡ word → WritesAs a s.registers word into due → after_first (effect_by depth words core a s) ≡ last_part core s.place s at into word due
-action-writes depth core words (Store loc operand) s at into word due locks read writes = absurd writes
-action-writes depth core words (Load reg loc) s at into word due locks read writes = absurd writes
-action-writes depth core words (Move reg operand) s at into word due locks read writes = absurd writes
-action-writes depth core words Fence s at into word due locks read writes = absurd writes
 action-writes depth core words (Lock loc reg update) s at into word due locks read writes =
     locked-last core words s loc at reg into word (updated update (slice_index words loc.0) (value_in s.registers reg)) due s.pending locks read writes.0
     (λ is. writes.1 ∙ ap (λ w. updated update w (value_in s.registers reg)) (sym is))
+action-writes depth core words _ s at into word due locks read writes = absurd writes
 
 -- memory still has the word that was read
 read-same : (state : State) (e : Entry) → slice_index state.memory e.loc.0 ≡ e.value → as_read state e ≡ state

@@ -1,6 +1,6 @@
 -- Where nobody holds the bus, the load parts of locked instructions have their store parts.
-use Rattle.machine_core.proofs.Vocabulary.{◌≡◌, ◌≢◌, ℕ, ◌==◌, ◌&&◌, inl, inr, Bool, true, false, if◌then◌else◌, List, [], ◌∷◌, refl, arith, nat_tests, same_kind, Free, Entry, Kind, R, W, F, LR, LW, IsAnswered, ArePaired}
-use Rattle.order_builder.specs.Pairs.{IsPaired, has_its_store_part, are_answered}
+use Rattle.machine_core.proofs.Vocabulary.{◌≡◌, ◌≢◌, ℕ, ◌==◌, inl, inr, true, false, List, [], ◌∷◌, refl, arith, nat_tests, same_kind, Free, Entry, Kind, LR, IsAnswered, ArePaired, cases_Bool}
+use Rattle.order_builder.specs.Pairs.{IsPaired, has_its_store_part}
 
 same-number : (m n : ℕ) → m ≡ n → (m == n) ≡ true
 same-number m n h = grind (arith, nat_tests, h)
@@ -9,11 +9,8 @@ other-number : (m n : ℕ) → m ≢ n → (m == n) ≡ false
 other-number m n h = grind (arith, nat_tests, h)
 
 load_kind : (k : Kind) → same_kind k LR ≡ true → k ≡ LR
-load_kind R h = absurd (let z : ⊥ = cc in z)
-load_kind W h = absurd (let z : ⊥ = cc in z)
-load_kind F h = absurd (let z : ⊥ = cc in z)
 load_kind LR h = refl
-load_kind LW h = absurd (let z : ⊥ = cc in z)
+load_kind _ h = absurd (let z : ⊥ = cc in z)
 
 answered-by : (x : Entry) (es : List Entry) → IsAnswered x es Free → has_its_store_part x es ≡ true
 answered-by x [] h = absurd (let z : ⊥ = cc in z)
@@ -22,8 +19,4 @@ answered-by x (e ∷ es) (inr later) = rw (other-number e.core.0 x.core.0 later.
 
 pub paired : (commits : List Entry) → ArePaired commits Free → IsPaired commits
 paired [] h = refl
-paired (e ∷ es) h = by_kind (same_kind e.kind LR) refl (paired es h.1)
-  where
-    by_kind : (b : Bool) → same_kind e.kind LR ≡ b → are_answered es ≡ true → ((if b then has_its_store_part e es else true) && are_answered es) ≡ true
-    by_kind true q rest = rw (answered-by e es (h.0 (load_kind e.kind q)), rest) refl
-    by_kind false q rest = rest
+paired (e ∷ es) h = elim (cases_Bool (same_kind e.kind LR)) [ inl q ↦ rw (q, answered-by e es (h.0 (load_kind e.kind q)), paired es h.1) refl | inr q ↦ rw q (paired es h.1) ]

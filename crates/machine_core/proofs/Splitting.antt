@@ -1,5 +1,5 @@
 -- A choice on a split bus that isn't the holder's next one.
-use Rattle.machine_core.proofs.Vocabulary.{◌≡◌, ◌≢◌, ℕ, ◌++◌, Bool, true, false, List, [], Option, None, Some, Result, Ok, Err, IfOk, OnOk, OnErr, inr, length, slice_set, append-nil, refl, sym, ap, ◌∙◌, subst, set-get_or, Litmus, CoreState, State, Effect, stalled, after_choice, chosen, core_of, idle, MemoryAccess, NoAccess, Reads, Writes, Locks, access_of, Holder, Free, HeldBy, HeldBetween, Attempt, BusEffect, acts, asks, needs_bus, same_choice, BusState, HitFits, NoMemory, Split, Core, Loc, Entry, Choice, Outcome, HolderFits, BusModel, words_of, cores_of, holder_of, IsSameMachine, AsksFor, Locked, Unused, Next, Complete, Write, Hardware, Way, by_way, Caches, Used, caches_of, at_access, ask_by, not_through, hits_by, is_awaited, used_between, completing_by, use_of, HardwareFitsTest, IsHeldForAccess, held_as, held_for, core_in, holder_by, state_in, ChoiceAnswer, HasUsed, HasEffect, MayAct, attempt_in, flat_effect_in, use_by, IsOther, begins_in, HasMade, IsUndone, effect_made_in}
+use Rattle.machine_core.proofs.Vocabulary.{◌≡◌, ◌≢◌, ℕ, ◌++◌, Bool, true, false, List, [], Option, None, Some, Result, Ok, Err, IfOk, OnOk, OnErr, inr, length, slice_set, append-nil, refl, sym, ap, ◌∙◌, subst, set-get_or, Litmus, CoreState, State, Effect, stalled, after_choice, chosen, core_of, idle, MemoryAccess, NoAccess, Writes, access_of, Holder, Free, HeldBy, HeldBetween, Attempt, BusEffect, acts, asks, needs_bus, same_choice, BusState, HitFits, NoMemory, Split, Core, Loc, Entry, Choice, Outcome, HolderFits, BusModel, words_of, cores_of, holder_of, IsSameMachine, AsksFor, Locked, Unused, Next, Complete, Write, Hardware, Way, by_way, Caches, Used, caches_of, at_access, ask_by, not_through, hits_by, is_awaited, used_between, completing_by, use_of, HardwareFitsTest, IsHeldForAccess, held_as, held_for, core_in, holder_by, state_in, ChoiceAnswer, HasUsed, HasEffect, MayAct, attempt_in, flat_effect_in, use_by, IsOther, begins_in, HasMade, IsUndone, effect_made_in}
 use Rattle.machine_core.proofs.EachUse.{asks-nothing}
 use Rattle.std.proofs.Common.{option_map}
 use Rattle.tso_model.specs.declared.choice.Stall.TheVariants as stall
@@ -49,9 +49,8 @@ asked-caches old new core loc write done machine = rw (machine.rows, machine.sha
 pub held-kept : (t : Litmus) (depth : ℕ) (state : State) (choice : Choice) (holder : Holder) → IsOther holder choice → HolderFits Split t depth state holder
     → ((a b : Choice) → access_of t depth state a ≢ NoAccess → same_choice a b ≡ false → access_of t depth (after_choice t depth state b) a ≡ access_of t depth state a)
     → held_as t depth (after_choice t depth state choice) holder ≡ held_as t depth state holder
-held-kept t depth state choice Free other fits waits = refl
 held-kept t depth state choice (HeldBy asked) other fits waits = ap (held_for (core_in asked)) (waits asked choice fits other)
-held-kept t depth state choice (HeldBetween e) other fits waits = refl
+held-kept t depth state choice _ other fits waits = refl
 
 pub held-next : {P : Type 0} (r : Result ChoiceAnswer NoMemory) (t : Litmus) (m new : Hardware P) (choice : Choice) → IsHeldForAccess t m → IsOther (state_in m).holder choice
     → HolderFits Split t m.config.depth (state_in m).flat (state_in m).holder
@@ -71,9 +70,8 @@ held-next (Err x) t m new choice held other fits waits config same done err =
 pub answer-fits : (t : Litmus) (depth : ℕ) (state : State) (a : Attempt) (b : BusModel) (holder : Holder) → holder_of b ≡ held_as t depth state holder
     → ((e : Entry) (loc : Loc) → holder_of b ≡ Some (bus.holder e.core e.loc Locked) → access_of t depth state a.choice ≡ Writes loc → a.hits ≡ true → chosen a.choice ≢ e.core.0 → loc.0 ≢ e.loc.0)
     → HitFits t depth state a holder
-answer-fits t depth state a b Free held taken = tt
-answer-fits t depth state a b (HeldBy choice) held taken = tt
 answer-fits t depth state a b (HeldBetween e) held taken = λ loc. taken e loc held
+answer-fits t depth state a b _ held taken = tt
 
 -- nothing but the caches and who holds the bus changes
 pub rests-at : (state : State) (core : ℕ) → record { memory = state.memory; cores = slice_set state.cores core (core_of state core) } ≡ state
@@ -156,9 +154,7 @@ held-made way.Asked next h = refl
 -- an access that needs the bus holds it once it was asked for
 pub asks-hold : (core : Core) (access : MemoryAccess) (hit : Bool) (choice : Choice) → needs_bus access hit ≡ true → held-with (Complete choice) (held_for core access) ≡ HeldBy choice
 asks-hold core NoAccess hit choice needs = absurd (let z : ⊥ = cc in z)
-asks-hold core (Reads loc) hit choice needs = refl
-asks-hold core (Writes loc) hit choice needs = refl
-asks-hold core (Locks loc) hit choice needs = refl
+asks-hold core _ hit choice needs = refl
 
 -- a bus that nobody holds is held for no access
 pub held-freed : (t : Litmus) (depth : ℕ) (state : State) (next : Next) (h : Option bus_action.BusAction) → h ≡ None → h ≡ held_as t depth state (held-with next h)

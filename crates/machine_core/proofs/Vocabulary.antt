@@ -1,5 +1,6 @@
 -- The names that the proofs of this crate bring in from definitions and from crates below; each file takes its own from here.
 pub use Rattle.std.proofs.Common.{◌≡◌, ◌<◌, ◌≤◌, ◌+◌, ℕ, zero, suc, nat_lt, Bor, List, [], ◌∷◌, length, Option, None, Some, is_some, IfSome, option_copied, slice_get, slice_index_or, refl, sym, ap, ◌∙◌, arith, map, slice_set, subst, ◌||◌, ◌==◌, Bool, true, false, if◌then◌else◌, filter, ◌++◌, drop, append-nil, IsTrue, Result, ◌≢◌, Ok, Err, IfOk, OnOk, OnErr, inr, inl, All, ◌-◌, ◌⊎◌, length-append, length-set, replicate, slice_index, ◌*◌, take, ◌&&◌, unwrap_or, drop-cons, add-one, append_assoc, not, IsOk, rules}
+pub use Rattle.std.proofs.lemmas.Bool.{cases_Bool}
 pub use Rattle.std.proofs.lemmas.Bool.Decides.{nat_tests}
 pub use Rattle.std.proofs.lemmas.Option.{slice_get_past, slice_get_read, slice_get_within}
 pub use Rattle.machine_core.specs.declared.processor.Processor.{Processor}
@@ -75,6 +76,7 @@ pub use Rattle.tso_model.specs.Runs.{is_done, all_done}
 pub use Rattle.store_buffer.specs.inner.Stores.{stores}
 pub use Rattle.snoop_bus.specs.inner.Accesses.{MayGoOn, StandsAlone, memory_words_of}
 pub use Rattle.split_laws.specs.BusChoices.{IsPossibleOn}
+pub use Rattle.split_laws.proofs.Ways.{same-is, if-by, begins-by, completes-by, split-by}
 pub use Rattle.split_laws.specs.Between.{IsAnswered, ArePaired}
 pub use Rattle.machine_core.specs.Running.{Running, machine_after, AnswerFits, restarted}
 pub use Rattle.std.specs.Result.{is_err}

@@ -9,7 +9,8 @@ use Rattle.tso_model.specs.EitherBus.{BusState, effect_on}
 use Rattle.tso_model.specs.declared.instruction.Instr.TheVariants.{StoreImm, SetImm}
 use Rattle.tso_model.specs.declared.choice.Choice.TheVariants.{Step}
 use Rattle.tso_model.specs.declared.choice.Stall.TheVariants as stall
-use Rattle.split_laws.proofs.Cores.{core-cases, starts-idle}
+use Rattle.basic_laws.proofs.Cores.{starts-idle}
+use Rattle.split_laws.proofs.Cores.{core-cases}
 
 -- ---- words
 

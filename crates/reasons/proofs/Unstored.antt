@@ -23,7 +23,7 @@ use Rattle.tso_laws.specs.Choices.{state_after, commits_of}
 use Rattle.tso_laws.specs.Reached.{IsReached}
 use Rattle.tso_laws.specs.inner.Laws.{StallsChangeNothing, RunsStopWhereTheyEnd}
 use Rattle.tso_laws.proofs.OrderSteps.{AllTake, takes-append, commits-append}
-use Rattle.tso_laws.proofs.Along.{done-at}
+use Rattle.basic_laws.proofs.Cores.{done-at}
 use Rattle.tso_laws.proofs.Work.{choice-changes, done-undone, done-length}
 use Rattle.outcome_laws.proofs.Behind.{Moves, moves-more, moves-place, moves-made, set-same, set-set, with_core}
 

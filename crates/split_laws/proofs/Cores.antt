@@ -1,5 +1,5 @@
 -- The cores of a state: what an effect of one leaves of each, and when they are done.
-use Rattle.split_laws.proofs.Vocabulary.{◌≡◌, ◌≢◌, ◌<◌, ◌≤◌, ℕ, ◌+◌, zero, suc, List, [], ◌∷◌, Bool, true, false, length, slice_get, slice_set, slice_index, slice_index_or, None, arith, ap, sym, ◌∙◌, refl, ◌⊎◌, inl, inr, ◌==◌, if◌then◌else◌, get_or-set_same, get_or-set_other, get_or_past, set-get_or, slice_get_past, nat_tests, length-set, Litmus, is_write, is_none_pending, CoreState, State, Effect, idle, program_of, core_of, memory_after, applied, started, is_done, all_done, has_ended, Instr, Entry, Outcome, decide, lt-or, test-true, and-left, and-right, Each}
+use Rattle.split_laws.proofs.Vocabulary.{◌≡◌, ◌≢◌, ◌<◌, ℕ, List, [], ◌∷◌, Bool, true, false, length, slice_get, slice_set, slice_index, None, arith, ap, sym, ◌∙◌, refl, ◌⊎◌, inl, inr, ◌==◌, if◌then◌else◌, get_or-set_same, get_or-set_other, get_or_past, set-get_or, slice_get_past, nat_tests, length-set, is_write, is_none_pending, CoreState, State, Effect, idle, core_of, memory_after, applied, is_done, Instr, Entry, Outcome, decide, lt-or, test-true, and-left, and-right, Each}
 
 -- after an effect of a core, each core is as before, or is that one
 pub core-cases : (state : State) (c k : ℕ) (f : Effect) → ((k ≡ c) × (c < length state.cores) × (core_of (applied state c f) k ≡ f.after)) ⊎ (core_of (applied state c f) k ≡ core_of state k)
@@ -27,25 +27,6 @@ memory-kept (e ∷ es) memory l h = memory-kept es (if is_write e then slice_set
     first true q = get_or-set_other memory e.loc.0 l e.value 0 (h.0 q)
     first false q = refl
 
--- ---- the first state
-
-pub starts-idle : (c : ℕ) (ps : List (List Instr)) (registers : List (List ℕ)) (k : ℕ) → (slice_index_or (started c ps registers) k idle).place ≡ 0 × (slice_index_or (started c ps registers) k idle).pending ≡ []
-starts-idle c [] registers k = (refl, refl)
-starts-idle c (p ∷ ps) registers zero = (refl, refl)
-starts-idle c (p ∷ ps) registers (suc k) = starts-idle (c + 1) ps registers k
-
-pub length-starts : (c : ℕ) (ps : List (List Instr)) (registers : List (List ℕ)) → length (started c ps registers) ≡ length ps
-length-starts c [] registers = refl
-length-starts c (p ∷ ps) registers = ap suc (length-starts (c + 1) ps registers)
-
--- ---- where a core isn't there
-
-pub no-program : (ps : List (List Instr)) (k : ℕ) → length ps ≤ k → slice_index_or ps k [] ≡ []
-no-program ps k l = get_or_past ps k [] l
-
-pub no-core : (ss : List CoreState) (k : ℕ) → length ss ≤ k → slice_index_or ss k idle ≡ idle
-no-core ss k l = get_or_past ss k idle l
-
 -- ---- cores that are done
 
 pub done-now : (p : List Instr) (s : CoreState) → length p ≡ s.place → length s.pending ≡ 0 → is_done p s ≡ true
@@ -67,22 +48,3 @@ done-next p s h =
     let m = and-left (length p == s.place) (is_none_pending s.pending) h in
     let l : length p ≡ s.place = grind (arith, nat_tests) in
     slice_get_past p s.place (omega arith)
-
-pub all-done : (ps : List (List Instr)) (ss : List CoreState) → ((k : ℕ) → k < length ss → is_done (slice_index_or ps k []) (slice_index_or ss k idle) ≡ true) → all_done ps ss ≡ true
-all-done ps [] f = refl
-all-done [] (s ∷ ss) f = rw (f 0 (omega arith)) (all-done [] ss (λ k l. f (suc k) (omega arith)))
-all-done (p ∷ ps) (s ∷ ss) f = rw (f 0 (omega arith)) (all-done ps ss (λ k l. f (suc k) (omega arith)))
-
-done-at : (ps : List (List Instr)) (ss : List CoreState) (k : ℕ) → all_done ps ss ≡ true → k < length ss → is_done (slice_index_or ps k []) (slice_index_or ss k idle) ≡ true
-done-at ps [] k h l = absurd (omega arith)
-done-at [] (s ∷ ss) zero h l = and-left (is_done [] s) (all_done [] ss) h
-done-at [] (s ∷ ss) (suc k) h l = done-at [] ss k (and-right (is_done [] s) (all_done [] ss) h) (omega arith)
-done-at (p ∷ ps) (s ∷ ss) zero h l = and-left (is_done p s) (all_done ps ss) h
-done-at (p ∷ ps) (s ∷ ss) (suc k) h l = done-at ps ss k (and-right (is_done p s) (all_done ps ss) h) (omega arith)
-
--- where the test has ended, each core is done, and so is one that isn't there
-pub done-anywhere : (t : Litmus) (state : State) (k : ℕ) → length state.cores ≡ length t.programs → has_ended t state ≡ true → is_done (program_of t k) (core_of state k) ≡ true
-done-anywhere t state k n h = elim (lt-or (length state.cores) k) [
-  | inl l ↦ done-at t.programs state.cores k h l
-  | inr l ↦ rw (no-program t.programs k (omega arith), no-core state.cores k l) refl
-]

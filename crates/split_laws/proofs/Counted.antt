@@ -1,5 +1,5 @@
 -- A run on either bus, and the flat machine's run that follows it, choice by choice: what both use, stall and leave over.
-use Rattle.split_laws.proofs.Vocabulary.{◌≡◌, ◌<◌, ℕ, ◌+◌, suc, Bool, true, false, if◌then◌else◌, List, [], ◌∷◌, ◌++◌, length, take, arith, ap, sym, ◌∙◌, refl, subst, append_assoc, append-nil, Litmus, State, effect_of, after_choice, chosen, applied, Run, has_ended, stall_count, then_run, run_from, CoresExist, Holder, Free, HeldBy, HeldBetween, Attempt, BusState, BusRun, effect_on, after_on, resting_on, then_on, run_on_from, choices_in, HitsFit, put_together, Bus, Choice, state_after, commits_of, HolderFits, waiting, wait_count, bus_count, made_for_bus, wait_for_bus}
+use Rattle.split_laws.proofs.Vocabulary.{◌≡◌, ◌<◌, ℕ, ◌+◌, Bool, true, false, if◌then◌else◌, List, [], ◌∷◌, ◌++◌, length, take, arith, ap, sym, ◌∙◌, refl, subst, append_assoc, append-nil, Litmus, State, effect_of, after_choice, chosen, applied, Run, has_ended, stall_count, then_run, run_from, CoresExist, Holder, Free, Attempt, BusState, BusRun, effect_on, after_on, resting_on, then_on, run_on_from, choices_in, HitsFit, put_together, Bus, Choice, state_after, commits_of, HolderFits, waiting, made_for_bus, wait_for_bus}
 use Rattle.split_laws.proofs.Waiting.{AllStores}
 use Rattle.split_laws.proofs.Moving.{moved}
 use Rattle.split_laws.proofs.Following.{Counts, for_bus, as_flat, Goes, choice-goes}
@@ -17,8 +17,7 @@ pub record FollowsFrom (bus : Bus) (t : Litmus) (depth : ℕ) (state : BusState)
 
 moved-none : (holder : Holder) → moved holder [] ≡ waiting holder
 moved-none Free = refl
-moved-none (HeldBy choice) = refl
-moved-none (HeldBetween e) = refl
+moved-none _ = refl
 
 -- a run that makes no more choices
 rests : (bus : Bus) (t : Litmus) (depth : ℕ) (state : BusState) (attempts : List Attempt) (ended : Bool) (unused : ℕ) → has_ended t state.flat ≡ ended

@@ -1,10 +1,11 @@
 -- Each choice takes something off what is left, or changes nothing, whatever the caches answer.
-use Rattle.split_laws.proofs.Vocabulary.{◌≡◌, ◌≢◌, ◌≤◌, ℕ, ◌+◌, suc, List, [], ◌∷◌, Bool, true, false, length, arith, ap, sym, ◌∙◌, refl, ◌⊎◌, inl, inr, subst, if◌then◌else◌, length-set, set-get_or, Litmus, State, Effect, idle, effect_of, chosen, core_of, program_of, applied, start, stall_count, MemoryAccess, NoAccess, Reads, Writes, Locks, access_of, Holder, Free, HeldBy, HeldBetween, Attempt, BusEffect, same_choice, needs_bus, acts, asks, begins, load_part, reads_first, completes, as_read, after_first, writes_last, split_effect, BusState, unheld, effect_on, after_on, Bus, Atomic, Split, Loc, Entry, Choice, Step, Drain, Outcome, Committed, Asked, state_on}
-use Rattle.split_laws.proofs.Cores.{core-cases, quiet, quiet-same, starts-idle, length-starts}
-use Rattle.split_laws.proofs.Steps.{drain-no-lock}
+use Rattle.split_laws.proofs.Vocabulary.{◌≡◌, ◌≢◌, ◌≤◌, ℕ, ◌+◌, suc, List, [], ◌∷◌, length, arith, ap, sym, ◌∙◌, refl, ◌⊎◌, inl, inr, subst, length-set, set-get_or, Litmus, State, Effect, idle, effect_of, chosen, core_of, program_of, applied, start, stall_count, MemoryAccess, NoAccess, Locks, access_of, Holder, Free, HeldBy, HeldBetween, Attempt, BusEffect, acts, asks, begins, load_part, reads_first, completes, as_read, after_first, writes_last, split_effect, BusState, unheld, effect_on, after_on, Bus, Atomic, Split, Loc, Entry, Choice, Step, Outcome, Committed, Asked, state_on, starts-idle, length-starts}
+use Rattle.split_laws.proofs.Cores.{core-cases, quiet, quiet-same}
 use Rattle.split_laws.proofs.Waiting.{access-kept}
-use Rattle.split_laws.proofs.Following.{same-is, needs-some, IsOther}
-use Rattle.split_laws.proofs.Left.{price, price-access, Paid, Waits, choice-pays, access-pays, total, paid-total}
+use Rattle.split_laws.proofs.Following.{needs-some}
+use Rattle.tso_model.specs.declared.instruction.Core.{Core}
+use Rattle.split_laws.proofs.Ways.{IsOther, begins-by, completes-by, split-by}
+use Rattle.split_laws.proofs.Left.{price, price-access, Paid, choice-pays, access-pays, total, paid-total}
 
 -- what the holder of the bus has done beyond what its core shows: its ask, and its load part
 abbrev pub credit : Holder → ℕ
@@ -63,9 +64,6 @@ paid-moves bus t d state c n holder next f live w l holding = record {
   };
 }
 
-rests-so : (state : State) (c : ℕ) (holder : Holder) (f : Effect) (what : MemoryAccess) → Waits what (core_of state c) f → Rests state c holder (acts f holder)
-rests-so state c holder f what w = rw w.is (record { stalled = refl; same = quiet-same state c Asked; same_holder = refl; none = refl })
-
 held-on : (t : Litmus) (d : ℕ) (state : State) (a : Choice) (holder : Holder) → HolderWaits Split t d state holder → IsOther holder a → HolderWaits Split t d (applied state (chosen a) (effect_of t d state a)) holder
 held-on t d state a Free h o = tt
 held-on t d state a (HeldBy choice) h o = λ q. h (sym (access-kept t d state choice a h o) ∙ q)
@@ -81,14 +79,11 @@ asks-does t d state a Free live n = inl (record {
   less = rw (set-get_or state.cores (chosen a) idle) (omega arith);
   live = still t d state (chosen a) Asked (HeldBy a) (record { size = live.size; within = live.within; holding = n });
 })
-asks-does t d state a (HeldBy choice) live n = inr (record { stalled = refl; same = quiet-same state (chosen a) Asked; same_holder = refl; none = refl })
-asks-does t d state a (HeldBetween e) live n = inr (record { stalled = refl; same = quiet-same state (chosen a) Asked; same_holder = refl; none = refl })
+asks-does t d state a _ live n = inr (record { stalled = refl; same = quiet-same state (chosen a) Asked; same_holder = refl; none = refl })
 
 price-some : (what : MemoryAccess) → 1 ≤ price what
 price-some NoAccess = omega arith
-price-some (Reads loc) = omega arith
-price-some (Writes loc) = omega arith
-price-some (Locks loc) = omega arith
+price-some _ = omega arith
 
 -- it pays at least so much
 paid-less : (t : Litmus) (state : State) (c m n : ℕ) (f : Effect) → n ≤ m → Paid (program_of t c) (core_of state c) m f → Paid (program_of t c) (core_of state c) n f
@@ -100,39 +95,30 @@ acts-does : (bus : Bus) (t : Litmus) (d : ℕ) (state : State) (a : Choice) (hol
 acts-does bus t d state a holder live holding = elim (choice-pays t d state a) [
   | inl w ↦ inl (paid-moves bus t d state (chosen a) 0 holder holder (effect_of t d state a) live
       (paid-less t state (chosen a) (price (access_of t d state a)) 1 (effect_of t d state a) (price-some (access_of t d state a)) w) (omega arith) holding)
-  | inr w ↦ inr (rests-so state (chosen a) holder (effect_of t d state a) (access_of t d state a) w)
+  | inr w ↦ inr (rw w.is (record { stalled = refl; same = quiet-same state (chosen a) Asked; same_holder = refl; none = refl }))
 ]
 
 begins-does : (t : Litmus) (d : ℕ) (state : State) (a : Attempt) (holder : Holder) → Live Split t d state holder → IsOther holder a.choice → Does Split t d state (chosen a.choice) holder (begins t d state a holder)
-begins-does t d state a holder live o = go (needs_bus (access_of t d state a.choice) a.hits) refl
-  where
-    go : (b : Bool) → needs_bus (access_of t d state a.choice) a.hits ≡ b
-        → Does Split t d state (chosen a.choice) holder (if b then asks (core_of state (chosen a.choice)) a.choice holder else acts (effect_of t d state a.choice) holder)
-    go true q = asks-does t d state a.choice holder live (needs-some (access_of t d state a.choice) a.hits q)
-    go false q = acts-does Split t d state a.choice holder live (held-on t d state a.choice holder live.holding o)
+begins-does t d state a holder live o =
+    begins-by (λ g. Does Split t d state (chosen a.choice) holder g) t d state a holder (λ q. asks-does t d state a.choice holder live (needs-some (access_of t d state a.choice) a.hits q))
+    (λ q. acts-does Split t d state a.choice holder live (held-on t d state a.choice holder live.holding o))
 
-reads-moves : (t : Litmus) (d : ℕ) (state : State) (a : Choice) (loc : Loc) → Live Split t d state (HeldBy a) → access_of t d state a ≡ Locks loc
-    → Moves Split t d state (chosen a) (HeldBy a) (reads_first (core_of state (chosen a)) (load_part state (chosen a) loc))
-reads-moves t d state (Step c) loc live q = record {
+reads-moves : (t : Litmus) (d : ℕ) (state : State) (c : Core) (loc : Loc) → Live Split t d state (HeldBy (Step c)) → access_of t d state (Step c) ≡ Locks loc
+    → Moves Split t d state c.0 (HeldBy (Step c)) (reads_first (core_of state c.0) (load_part state c.0 loc))
+reads-moves t d state c loc live q = record {
   took = refl;
   less = rw (set-get_or state.cores c.0 idle) (omega arith);
   live = still t d state c.0 Committed (HeldBetween (load_part state c.0 loc)) (record { size = live.size; within = live.within; holding = q });
 }
-reads-moves t d state (Drain c) loc live q = absurd (drain-no-lock (core_of state c.0).pending loc q)
 
 -- the holder's next choice takes effect
 pub completes-moves : (t : Litmus) (d : ℕ) (state : State) (a : Choice) → Live Split t d state (HeldBy a) → Moves Split t d state (chosen a) (HeldBy a) (completes t d state a (access_of t d state a))
-completes-moves t d state a live = go (access_of t d state a) refl
-  where
-    frees : Moves Split t d state (chosen a) (HeldBy a) (acts (effect_of t d state a) Free)
-    frees = paid-moves Split t d state (chosen a) 1 (HeldBy a) Free (effect_of t d state a) live
-        (paid-less t state (chosen a) (price (access_of t d state a)) 2 (effect_of t d state a) (price-access (access_of t d state a) live.holding) (access-pays t d state a live.holding)) (omega arith) tt
-
-    go : (what : MemoryAccess) → access_of t d state a ≡ what → Moves Split t d state (chosen a) (HeldBy a) (completes t d state a what)
-    go NoAccess q = frees
-    go (Reads loc) q = frees
-    go (Writes loc) q = frees
-    go (Locks loc) q = reads-moves t d state a loc live q
+completes-moves t d state a live =
+    completes-by (λ c g. Live Split t d state (HeldBy c) → Moves Split t d state (chosen c) (HeldBy c) g) t d state a
+    (λ n live. (
+    paid-moves Split t d state (chosen a) 1 (HeldBy a) Free (effect_of t d state a) live
+    (paid-less t state (chosen a) (price (access_of t d state a)) 2 (effect_of t d state a) (price-access (access_of t d state a) live.holding) (access-pays t d state a live.holding)) (omega arith) tt
+    )) (λ core loc q live. reads-moves t d state core loc live q) live
 
 -- a locked instruction that has read pays for all its choices as it writes
 pub writes-pay : (t : Litmus) (d : ℕ) (state : State) (e : Entry) → access_of t d state (Step e.core) ≡ Locks e.loc
@@ -148,19 +134,9 @@ writes-moves t d state e live =
     paid-moves Split t d state e.core.0 2 (HeldBetween e) Free (after_first (effect_of t d (as_read state e) (Step e.core))) live (writes-pay t d state e live.holding) (omega arith) tt
 
 split-does : (t : Litmus) (d : ℕ) (state : State) (a : Attempt) (holder : Holder) → Live Split t d state holder → Does Split t d state (chosen a.choice) holder (split_effect t d state a holder)
-split-does t d state a Free live = begins-does t d state a Free live tt
-split-does t d state a (HeldBy choice) live = go (same_choice choice a.choice) refl
-  where
-    go : (b : Bool) → same_choice choice a.choice ≡ b
-        → Does Split t d state (chosen a.choice) (HeldBy choice) (if b then completes t d state choice (access_of t d state choice) else begins t d state a (HeldBy choice))
-    go true q = inl (subst (λ c. Moves Split t d state (chosen c) (HeldBy choice) (completes t d state choice (access_of t d state choice))) (same-is choice a.choice q) (completes-moves t d state choice live))
-    go false q = begins-does t d state a (HeldBy choice) live q
-split-does t d state a (HeldBetween e) live = go (same_choice (Step e.core) a.choice) refl
-  where
-    go : (b : Bool) → same_choice (Step e.core) a.choice ≡ b
-        → Does Split t d state (chosen a.choice) (HeldBetween e) (if b then writes_last t d state e else begins t d state a (HeldBetween e))
-    go true q = inl (subst (λ c. Moves Split t d state (chosen c) (HeldBetween e) (writes_last t d state e)) (same-is (Step e.core) a.choice q) (writes-moves t d state e live))
-    go false q = begins-does t d state a (HeldBetween e) live q
+split-does t d state a holder live =
+    split-by (λ h c g. Live Split t d state h → Does Split t d state (chosen c) h g) t d state a holder (λ h other live. begins-does t d state a h live other)
+    (λ asked live. inl (completes-moves t d state asked live)) (λ e live. inl (writes-moves t d state e live)) live
 
 abbrev pub LiveIn : Bus → Litmus → ℕ → BusState → Type 0
 LiveIn bus t d state = Live bus t d state.flat state.holder
@@ -171,8 +147,7 @@ choice-does Atomic t d state a live = go state.holder live
   where
     go : (holder : Holder) → Live Atomic t d state.flat holder → Does Atomic t d state.flat (chosen a.choice) holder (acts (effect_of t d state.flat a.choice) holder)
     go Free live = acts-does Atomic t d state.flat a.choice Free live tt
-    go (HeldBy choice) live = absurd live.holding
-    go (HeldBetween e) live = absurd live.holding
+    go _ live = absurd live.holding
 
 -- ---- choices one after the other
 

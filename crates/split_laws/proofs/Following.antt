@@ -1,35 +1,22 @@
 -- A run on either bus is followed by one of the flat machine, which makes a locked instruction when its store part is
 -- committed.
-use Rattle.split_laws.proofs.Vocabulary.{◌≡◌, ◌≢◌, ℕ, ◌+◌, zero, suc, Option, Some, None, length, nat_lt, List, [], ◌∷◌, ◌++◌, Bool, true, false, drop, slice_set, arith, ap, sym, ◌∙◌, refl, inl, inr, append_assoc, subst, if◌then◌else◌, append-nil, set-get_or, nat_tests, Litmus, entry, action_of, CoreState, State, Effect, stored, effect_by, step_of, effect_of, after_choice, chosen, core_of, applied, memory_after, is_none_pending, stall_count, MemoryAccess, NoAccess, Reads, Writes, Locks, next_of, access_of, Holder, Free, HeldBy, HeldBetween, Attempt, BusEffect, same_choice, needs_bus, acts, asks, begins, load_part, reads_first, completes, as_read, after_first, writes_last, split_effect, BusState, effect_on, after_on, HitFits, HitsFit, put_together, Bus, Atomic, Split, Loc, Instr, Action, Store, Load, Move, Fence, Lock, Entry, LW, Choice, Step, Drain, Outcome, Committed, Asked, state_after, commits_of, state_on, commits_on, HasRead, HolderFits, waiting, ask_count, wait_count, load_part_count, bus_count, decide, test-true, Each, drain_with}
+use Rattle.split_laws.proofs.Vocabulary.{◌≡◌, ◌≢◌, ℕ, ◌+◌, zero, suc, Option, Some, None, length, nat_lt, List, [], ◌∷◌, ◌++◌, Bool, true, false, drop, slice_set, arith, ap, sym, ◌∙◌, refl, inl, inr, append_assoc, subst, if◌then◌else◌, append-nil, set-get_or, Litmus, entry, action_of, CoreState, State, Effect, stored, effect_by, step_of, effect_of, after_choice, chosen, core_of, applied, memory_after, is_none_pending, stall_count, MemoryAccess, NoAccess, Writes, Locks, next_of, access_of, Holder, Free, HeldBy, HeldBetween, Attempt, BusEffect, needs_bus, acts, asks, begins, load_part, reads_first, completes, as_read, after_first, writes_last, split_effect, BusState, effect_on, after_on, HitFits, HitsFit, put_together, Bus, Atomic, Split, Loc, Instr, Action, Store, Fence, Lock, Entry, LW, Choice, Step, Drain, Outcome, Committed, Asked, state_after, commits_of, state_on, commits_on, HasRead, HolderFits, waiting, ask_count, wait_count, load_part_count, bus_count, decide, Each, drain_with}
+use Rattle.tso_model.specs.declared.instruction.Core.{Core}
 use Rattle.split_laws.proofs.Cores.{quiet, quiet-same}
 use Rattle.split_laws.proofs.Steps.{IsPlain, drain-no-lock, choice-plain, choice-pair, Pairs}
 use Rattle.split_laws.proofs.Waiting.{AllStores, choice-stores, access-kept, same-part, reading-kept, reader-writes-nothing, reader-commits-nothing}
 use Rattle.split_laws.proofs.Moving.{moved, moved-plain, Parts, moved-pair, together-pair, IsToCome, GoesOn, plain-on, load-on, store-on, pair-on}
-
--- the same action is the same choice
-pub same-is : (a b : Choice) → same_choice a b ≡ true → a ≡ b
-same-is (Step a) (Step b) h = ap (λ z. Step (record { 0 = z })) (let z : a.0 ≡ b.0 = grind (arith, nat_tests) in z)
-same-is (Drain a) (Drain b) h = ap (λ z. Drain (record { 0 = z })) (let z : a.0 ≡ b.0 = grind (arith, nat_tests) in z)
-same-is (Step a) (Drain b) h = absurd (let z : ⊥ = cc in z)
-same-is (Drain a) (Step b) h = absurd (let z : ⊥ = cc in z)
-
-pub same-self : (a : Choice) → same_choice a a ≡ true
-same-self (Step c) = test-true c.0 c.0 refl
-same-self (Drain c) = test-true c.0 c.0 refl
+use Rattle.split_laws.proofs.Ways.{IsOther, begins-by, completes-by, split-by}
 
 -- ---- what needs the bus
 
 pub needs-some : (what : MemoryAccess) (hits : Bool) → needs_bus what hits ≡ true → what ≢ NoAccess
 needs-some NoAccess hits h q = let z : ⊥ = cc in z
-needs-some (Reads loc) hits h q = let z : ⊥ = cc in z
-needs-some (Writes loc) hits h q = let z : ⊥ = cc in z
-needs-some (Locks loc) hits h q = let z : ⊥ = cc in z
+needs-some _ hits h q = let z : ⊥ = cc in z
 
 pub needs-no-lock : (what : MemoryAccess) (hits : Bool) → needs_bus what hits ≡ false → (l : Loc) → what ≢ Locks l
 needs-no-lock NoAccess hits h l q = let z : ⊥ = cc in z
-needs-no-lock (Reads loc) hits h l q = let z : ⊥ = cc in z
-needs-no-lock (Writes loc) hits h l q = let z : ⊥ = cc in z
-needs-no-lock (Locks loc) hits h l q = let z : ⊥ = cc in z
+needs-no-lock _ hits h l q = let z : ⊥ = cc in z
 
 write-hits : (what : MemoryAccess) (hits : Bool) (l : Loc) → needs_bus what hits ≡ false → what ≡ Writes l → hits ≡ true
 write-hits what true l h q = refl
@@ -56,10 +43,9 @@ own-outcome t depth state (Step c) = by_next (next_of t state c.0)
 
     by_action : (a : Action) → ask_count (effect_by depth state.memory c.0 a s).outcome + wait_count (effect_by depth state.memory c.0 a s).outcome ≡ 0
     by_action (Store loc operand) = by_depth depth _
-    by_action (Load reg loc) = refl
-    by_action (Move reg operand) = refl
     by_action Fence = either (is_none_pending s.pending) _ _ refl refl
     by_action (Lock loc reg update) = either (is_none_pending s.pending) _ _ refl refl
+    by_action _ = refl
 
     by_next : (i : Option Instr) → ask_count (step_of depth state.memory c.0 i s).outcome + wait_count (step_of depth state.memory c.0 i s).outcome ≡ 0
     by_next None = refl
@@ -74,17 +60,10 @@ own-count : (t : Litmus) (depth : ℕ) (state : State) (a : Choice) → load_par
 own-count t depth state a parts = let n = own-outcome t depth state a in omega arith
 
 no-load-part : (core : ℕ) (what : MemoryAccess) (xs : List Entry) → Each (IsPlain core what) xs → load_part_count xs ≡ 0
-no-load-part core what [] h = refl
 no-load-part core what (x ∷ []) h = rw h.0.no_load_part refl
-no-load-part core what (x ∷ (y ∷ ys)) h = refl
+no-load-part core what _ h = refl
 
 -- ---- one choice
-
--- the choice isn't the holder's next one
-abbrev pub IsOther : Holder → Choice → Type 0
-IsOther Free a = Unit {0}
-IsOther (HeldBy choice) a = same_choice choice a ≡ false
-IsOther (HeldBetween e) a = same_choice (Step e.core) a ≡ false
 
 -- how one choice counts: it is made for the bus alone, or is one of the flat machine's, of the same core and with the same outcome
 pub data Counts (t : Litmus) (depth : ℕ) (state : State) (c : ℕ) (f : Effect) : List Choice → Type 0 where
@@ -129,8 +108,7 @@ quiet-goes t depth state c o holder next stores fits like one stalls = record {
 asks-goes : (t : Litmus) (depth : ℕ) (state : State) (a : Choice) (holder : Holder) → AllStores state → HolderFits Split t depth state holder → access_of t depth state a ≢ NoAccess
     → Goes Split t depth state (chosen a) holder (asks (core_of state (chosen a)) a holder)
 asks-goes t depth state a Free stores fits n = quiet-goes t depth state (chosen a) Asked Free (HeldBy a) stores n (alike-free Free (HeldBy a) (λ ys. refl) (λ e q. let z : ⊥ = cc in z)) refl refl
-asks-goes t depth state a (HeldBy choice) stores fits n = quiet-goes t depth state (chosen a) _ (HeldBy choice) (HeldBy choice) stores fits (alike (HeldBy choice)) refl refl
-asks-goes t depth state a (HeldBetween e) stores fits n = quiet-goes t depth state (chosen a) _ (HeldBetween e) (HeldBetween e) stores fits (alike (HeldBetween e)) refl refl
+asks-goes t depth state a holder stores fits n = quiet-goes t depth state (chosen a) _ holder holder stores fits (alike holder) refl refl
 
 -- a choice that acts as on the flat machine, and isn't a locked instruction
 acts-goes : (bus : Bus) (t : Litmus) (depth : ℕ) (state : State) (a : Choice) (holder next : Holder) → AllStores state → ((l : Loc) → access_of t depth state a ≢ Locks l)
@@ -154,9 +132,8 @@ acts-goes bus t depth state a holder next stores n fits like none =
 
 -- nothing is written where a locked instruction has read
 abbrev Spares : Litmus → ℕ → State → Choice → Holder → Type 0
-Spares t depth state a Free = Unit {0}
-Spares t depth state a (HeldBy choice) = Unit {0}
 Spares t depth state a (HeldBetween e) = (l : Loc) → access_of t depth state a ≡ Writes l → l.0 ≢ e.loc.0
+Spares t depth state a _ = Unit {0}
 
 holder-kept : (t : Litmus) (depth : ℕ) (state : State) (a : Choice) (holder : Holder) → AllStores state → HolderFits Split t depth state holder → IsOther holder a → ((l : Loc) → access_of t depth state a ≢ Locks l)
     → Spares t depth state a holder → HolderFits Split t depth (applied state (chosen a) (effect_of t depth state a)) holder
@@ -166,34 +143,30 @@ holder-kept t depth state a (HeldBetween e) stores fits other n w = reading-kept
 
 begins-goes : (t : Litmus) (depth : ℕ) (state : State) (a : Attempt) (holder : Holder) → AllStores state → HolderFits Split t depth state holder → IsOther holder a.choice
     → HitFits t depth state a holder → Goes Split t depth state (chosen a.choice) holder (begins t depth state a holder)
-begins-goes t depth state a holder stores fits other fit = go (needs_bus what a.hits) refl
+begins-goes t depth state a holder stores fits other fit =
+    begins-by (λ g. Goes Split t depth state (chosen a.choice) holder g) t depth state a holder (λ q. asks-goes t depth state a.choice holder stores fits (needs-some what a.hits q))
+    (λ q.
+    acts-goes Split t depth state a.choice holder holder stores (needs-no-lock what a.hits q)
+    (holder-kept t depth state a.choice holder stores fits other (needs-no-lock what a.hits q) (spares holder fits other fit q)) (alike holder) (none holder fits other))
   where
     what : MemoryAccess
     what = access_of t depth state a.choice
 
     spares : (holder : Holder) → HolderFits Split t depth state holder → IsOther holder a.choice → HitFits t depth state a holder → needs_bus what a.hits ≡ false → Spares t depth state a.choice holder
-    spares Free h o f q = tt
-    spares (HeldBy choice) h o f q = tt
     spares (HeldBetween e) h o f q = λ l w. elim (decide (chosen a.choice) e.core.0) [
       | inl c ↦ absurd (reader-writes-nothing t depth state e a.choice h o c l w)
       | inr n ↦ f l w (write-hits what a.hits l q w) n
     ]
+    spares _ h o f q = tt
 
     none : (holder : Holder) → HolderFits Split t depth state holder → IsOther holder a.choice → (e : Entry) → holder ≡ HeldBetween e → chosen a.choice ≡ e.core.0 → (effect_of t depth state a.choice).commits ≡ []
-    none Free h o e q c = absurd (let z : ⊥ = cc in z)
-    none (HeldBy choice) h o e q c = absurd (let z : ⊥ = cc in z)
     none (HeldBetween x) h o e q c = reader-commits-nothing t depth state x a.choice h o (let s : x ≡ e = cc in rw s c)
-
-    go : (b : Bool) → needs_bus what a.hits ≡ b → Goes Split t depth state (chosen a.choice) holder (if b then asks (core_of state (chosen a.choice)) a.choice holder else acts (effect_of t depth state a.choice) holder)
-    go true q = asks-goes t depth state a.choice holder stores fits (needs-some what a.hits q)
-    go false q =
-        acts-goes Split t depth state a.choice holder holder stores (needs-no-lock what a.hits q)
-        (holder-kept t depth state a.choice holder stores fits other (needs-no-lock what a.hits q) (spares holder fits other fit q)) (alike holder) (none holder fits other)
+    none _ h o e q c = absurd (let z : ⊥ = cc in z)
 
 -- a locked instruction reads
-reads-goes : (t : Litmus) (depth : ℕ) (state : State) (a : Choice) (loc : Loc) → AllStores state → access_of t depth state a ≡ Locks loc
-    → Goes Split t depth state (chosen a) (HeldBy a) (reads_first (core_of state (chosen a)) (load_part state (chosen a) loc))
-reads-goes t depth state (Step c) loc stores q =
+reads-goes : (t : Litmus) (depth : ℕ) (state : State) (c : Core) (loc : Loc) → AllStores state → access_of t depth state (Step c) ≡ Locks loc
+    → Goes Split t depth state c.0 (HeldBy (Step c)) (reads_first (core_of state c.0) (load_part state c.0 loc))
+reads-goes t depth state c loc stores q =
     let e : Entry = load_part state c.0 loc in
     let same : applied state c.0 (record { outcome = Committed; after = core_of state c.0; commits = e ∷ [] }) ≡ state = quiet-same state c.0 Committed in
     let r : HasRead t depth state e = record { kind = refl; place = refl; access = q; word = refl } in
@@ -206,20 +179,12 @@ reads-goes t depth state (Step c) loc stores q =
       stores = subst AllStores (sym same) stores;
       holds = subst (λ z. HasRead t depth z e) (sym same) r;
     }
-reads-goes t depth state (Drain c) loc stores q = absurd (drain-no-lock (core_of state c.0).pending loc q)
 
-completes-goes : (t : Litmus) (depth : ℕ) (state : State) (a : Choice) → AllStores state → (what : MemoryAccess) → access_of t depth state a ≡ what
-    → Goes Split t depth state (chosen a) (HeldBy a) (completes t depth state a what)
-completes-goes t depth state a stores what q = go what q
-  where
-    frees : ((l : Loc) → access_of t depth state a ≢ Locks l) → Goes Split t depth state (chosen a) (HeldBy a) (acts (effect_of t depth state a) Free)
-    frees n = acts-goes Split t depth state a (HeldBy a) Free stores n tt (alike-free (HeldBy a) Free (λ ys. refl) (λ e h. let z : ⊥ = cc in z)) (λ e h. absurd (let z : ⊥ = cc in z))
-
-    go : (what : MemoryAccess) → access_of t depth state a ≡ what → Goes Split t depth state (chosen a) (HeldBy a) (completes t depth state a what)
-    go NoAccess q = frees (λ l h. let z : ⊥ = cc in z)
-    go (Reads loc) q = frees (λ l h. let z : ⊥ = cc in z)
-    go (Writes loc) q = frees (λ l h. let z : ⊥ = cc in z)
-    go (Locks loc) q = reads-goes t depth state a loc stores q
+completes-goes : (t : Litmus) (depth : ℕ) (state : State) (a : Choice) → AllStores state → Goes Split t depth state (chosen a) (HeldBy a) (completes t depth state a (access_of t depth state a))
+completes-goes t depth state a stores =
+    completes-by (λ c g. Goes Split t depth state (chosen c) (HeldBy c) g) t depth state a
+    (λ n. acts-goes Split t depth state a (HeldBy a) Free stores n tt (alike-free (HeldBy a) Free (λ ys. refl) (λ e h. let z : ⊥ = cc in z)) (λ e h. absurd (let z : ⊥ = cc in z)))
+    (λ core loc q. reads-goes t depth state core loc stores q)
 
 -- a locked instruction writes
 writes-goes : (t : Litmus) (depth : ℕ) (state : State) (e : Entry) → AllStores state → HasRead t depth state e
@@ -267,20 +232,10 @@ writes-goes t depth state e stores r =
 
 split-goes : (t : Litmus) (depth : ℕ) (state : State) (a : Attempt) (holder : Holder) → AllStores state → HolderFits Split t depth state holder → HitFits t depth state a holder
     → Goes Split t depth state (chosen a.choice) holder (split_effect t depth state a holder)
-split-goes t depth state a Free stores fits fit = begins-goes t depth state a Free stores fits tt fit
-split-goes t depth state a (HeldBy choice) stores fits fit = go (same_choice choice a.choice) refl
-  where
-    go : (b : Bool) → same_choice choice a.choice ≡ b
-        → Goes Split t depth state (chosen a.choice) (HeldBy choice) (if b then completes t depth state choice (access_of t depth state choice) else begins t depth state a (HeldBy choice))
-    go true q = subst (λ c. Goes Split t depth state (chosen c) (HeldBy choice) (completes t depth state choice (access_of t depth state choice))) (same-is choice a.choice q)
-        (completes-goes t depth state choice stores (access_of t depth state choice) refl)
-    go false q = begins-goes t depth state a (HeldBy choice) stores fits q fit
-split-goes t depth state a (HeldBetween e) stores fits fit = go (same_choice (Step e.core) a.choice) refl
-  where
-    go : (b : Bool) → same_choice (Step e.core) a.choice ≡ b
-        → Goes Split t depth state (chosen a.choice) (HeldBetween e) (if b then writes_last t depth state e else begins t depth state a (HeldBetween e))
-    go true q = subst (λ c. Goes Split t depth state (chosen c) (HeldBetween e) (writes_last t depth state e)) (same-is (Step e.core) a.choice q) (writes-goes t depth state e stores fits)
-    go false q = begins-goes t depth state a (HeldBetween e) stores fits q fit
+split-goes t depth state a holder stores fits fit =
+    split-by (λ h c g. HolderFits Split t depth state h → HitFits t depth state a h → Goes Split t depth state (chosen c) h g) t depth state a holder
+    (λ h other fits fit. begins-goes t depth state a h stores fits other fit) (λ asked fits fit. completes-goes t depth state asked stores)
+    (λ e fits fit. writes-goes t depth state e stores fits) fits fit
 
 -- what one choice of the flat machine commits has both parts of a locked instruction together
 pub record IsWhole (xs : List Entry) : Type 0 where
@@ -311,10 +266,8 @@ choice-whole t depth state a stores = go (access_of t depth state a) refl
     pair (Drain c) loc q = absurd (drain-no-lock (core_of state c.0).pending loc q)
 
     go : (what : MemoryAccess) → access_of t depth state a ≡ what → IsWhole (effect_of t depth state a).commits
-    go NoAccess q = plain (λ l h. let z : ⊥ = cc in z)
-    go (Reads loc) q = plain (λ l h. let z : ⊥ = cc in z)
-    go (Writes loc) q = plain (λ l h. let z : ⊥ = cc in z)
     go (Locks loc) q = pair a loc q
+    go _ q = plain (λ l h. let z : ⊥ = cc in z)
 
 -- so on the atomic bus
 atomic-goes : (t : Litmus) (depth : ℕ) (state : State) (a : Choice) → AllStores state → Goes Atomic t depth state (chosen a) Free (acts (effect_of t depth state a) Free)
@@ -337,8 +290,7 @@ choice-goes Atomic t depth state a stores fits fit = go state.holder fits
   where
     go : (holder : Holder) → HolderFits Atomic t depth state.flat holder → Goes Atomic t depth state.flat (chosen a.choice) holder (acts (effect_of t depth state.flat a.choice) holder)
     go Free h = atomic-goes t depth state.flat a.choice stores
-    go (HeldBy choice) h = absurd h
-    go (HeldBetween e) h = absurd h
+    go _ h = absurd h
 
 -- ---- choices one after the other
 
@@ -365,8 +317,7 @@ rests bus t depth state stores fits = record { choices = []; now = refl; committ
   where
     go : (holder : Holder) → moved holder [] ≡ waiting holder
     go Free = refl
-    go (HeldBy choice) = refl
-    go (HeldBetween e) = refl
+    go _ = refl
 
 follows-on : (bus : Bus) (t : Litmus) (depth : ℕ) (state : BusState) (a : Attempt) (commits : List Entry) (end : BusState)
     → Goes bus t depth state.flat (chosen a.choice) state.holder (effect_on bus t depth state a)

@@ -1,9 +1,8 @@
 -- What is left to do, and what each choice takes off it: a core has 3 for each instruction in front of it, and 2 for each
 -- pending store, which asks and is drained. A locked instruction takes up to three choices (it asks, reads and writes), a
 -- plain store three (it becomes pending, asks and is drained), all else fewer.
-use Rattle.split_laws.proofs.Vocabulary.{◌≡◌, ◌≢◌, ◌<◌, ◌≤◌, ℕ, ◌+◌, ◌*◌, zero, suc, List, [], ◌∷◌, Option, Some, None, length, slice_get, slice_set, slice_index_or, drop, arith, ap, refl, ◌⊎◌, inl, inr, length-append, slice_get_within, Litmus, CoreState, State, Effect, idle, stalled, step_of, effect_of, chosen, core_of, program_of, applied, started, stall_count, MemoryAccess, NoAccess, Reads, Writes, Locks, step_access, drain_access, next_of, access_of, Instr, Entry, Choice, Step, Drain, Stall, instructions, drain_with, lt-or, drop-at}
+use Rattle.split_laws.proofs.Vocabulary.{◌≡◌, ◌≢◌, ◌<◌, ◌≤◌, ℕ, ◌+◌, ◌*◌, zero, suc, List, [], ◌∷◌, Option, Some, None, length, slice_get, slice_set, slice_index_or, drop, arith, ap, refl, ◌⊎◌, inl, inr, length-append, slice_get_within, Litmus, CoreState, State, Effect, idle, stalled, step_of, effect_of, chosen, core_of, program_of, applied, started, stall_count, MemoryAccess, NoAccess, Locks, step_access, drain_access, next_of, access_of, Instr, Entry, Choice, Step, Drain, Stall, instructions, drain_with, lt-or, drop-at, no-program, no-core}
 use Rattle.tso_model.specs.declared.choice.Stall.TheVariants as stall
-use Rattle.split_laws.proofs.Cores.{no-program, no-core}
 use Rattle.split_laws.proofs.Steps.{put, StepForm, stalls, buffers, makes, pairs, step-form}
 
 abbrev pub left : List Instr → CoreState → ℕ
@@ -12,22 +11,17 @@ left p s = 3 * length (drop s.place p) + (length s.pending + length s.pending)
 -- how much an effect takes off at least, by the access
 abbrev pub price : MemoryAccess → ℕ
 price NoAccess = 1
-price (Reads loc) = 2
-price (Writes loc) = 2
 price (Locks loc) = 3
+price _ = 2
 
 pub price-most : (what : MemoryAccess) → price what ≤ 3
 price-most NoAccess = omega arith
-price-most (Reads loc) = omega arith
-price-most (Writes loc) = omega arith
-price-most (Locks loc) = omega arith
+price-most _ = omega arith
 
 -- an access leaves more to do than its ask
 pub price-access : (what : MemoryAccess) → what ≢ NoAccess → 2 ≤ price what
 price-access NoAccess n = absurd (n refl)
-price-access (Reads loc) n = omega arith
-price-access (Writes loc) n = omega arith
-price-access (Locks loc) n = omega arith
+price-access _ n = omega arith
 
 -- an effect that takes so much off what is left
 pub record Paid (p : List Instr) (s : CoreState) (n : ℕ) (f : Effect) : Type 0 where

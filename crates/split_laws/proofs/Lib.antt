@@ -1,5 +1,6 @@
 pub mod Vocabulary
 pub mod Cores
+pub mod Ways
 pub mod Steps
 pub mod Waiting
 pub mod Moving

@@ -1,12 +1,11 @@
 -- Load parts that are put before their store parts, and what is committed in between.
-use Rattle.split_laws.proofs.Vocabulary.{◌≡◌, ◌≢◌, ℕ, List, [], ◌∷◌, ◌++◌, Bool, true, false, ap, sym, refl, ◌∙◌, ◌==◌, ◌&&◌, inl, inr, same_kind, is_at, IsStorePart, MemoryAccess, Holder, Free, HeldBy, HeldBetween, put_before, put_together, Entry, LR, LW, IsAnswered, ArePaired, decide, test-true, Each}
+use Rattle.split_laws.proofs.Vocabulary.{◌≡◌, ◌≢◌, ℕ, List, [], ◌∷◌, ◌++◌, Bool, true, false, ap, sym, refl, ◌∙◌, ◌==◌, ◌&&◌, inl, inr, same_kind, is_at, IsStorePart, MemoryAccess, Holder, Free, HeldBetween, put_before, put_together, Entry, LR, LW, IsAnswered, ArePaired, decide, test-true, Each}
 use Rattle.split_laws.proofs.Steps.{IsPlain}
 
 -- what is to come, with the load part that waits put before its store part
 abbrev pub moved : Holder → List Entry → List Entry
-moved Free ys = ys
-moved (HeldBy choice) ys = ys
 moved (HeldBetween e) ys = put_before e ys
+moved _ ys = ys
 
 not-at : (core place : ℕ) (e : Entry) → same_kind e.kind LW ≡ false → is_at core place LW e ≡ false
 not-at core place e h = rw h (go (e.core.0 == core) (e.place == place))
@@ -27,9 +26,8 @@ before-plain core what e (x ∷ xs) ys h = rw (not-at e.core.0 e.place x h.0.no_
 
 -- entries that are no part of a locked instruction stay where they are
 pub moved-plain : (core : ℕ) (what : MemoryAccess) (holder : Holder) (xs ys : List Entry) → Each (IsPlain core what) xs → moved holder (put_together (xs ++ ys)) ≡ xs ++ moved holder (put_together ys)
-moved-plain core what Free xs ys h = together-plain core what xs ys h
-moved-plain core what (HeldBy choice) xs ys h = together-plain core what xs ys h
 moved-plain core what (HeldBetween e) xs ys h = ap (λ z. put_before e z) (together-plain core what xs ys h) ∙ before-plain core what e xs (put_together ys) h
+moved-plain core what _ xs ys h = together-plain core what xs ys h
 
 -- y is the store part of x
 pub record Parts (x y : Entry) : Type 0 where

@@ -1,7 +1,7 @@
 -- In each round some choice takes effect, as long as there is something left to do.
-use Rattle.split_laws.proofs.Vocabulary.{◌≡◌, ◌<◌, ◌≤◌, ℕ, ◌+◌, ◌*◌, zero, suc, List, [], ◌∷◌, ◌++◌, Option, Some, None, Bool, true, false, length, slice_index_or, arith, ap, sym, ◌∙◌, refl, ◌⊎◌, inl, inr, subst, if◌then◌else◌, Litmus, State, idle, effect_of, chosen, core_of, program_of, start, step, drain, stall_count, is_done, has_ended, next_of, access_of, Holder, Free, HeldBy, HeldBetween, Attempt, needs_bus, acts, asks, BusState, unheld, effect_on, after_on, resting_on, then_on, run_on_from, choices_in, Bus, Atomic, Split, Instr, Entry, Choice, Step, Drain, instructions, Among, IsRound, CanBeCutIntoRounds, state_on, EndOn}
-use Rattle.split_laws.proofs.Cores.{done-now, all-done}
-use Rattle.split_laws.proofs.Following.{same-self}
+use Rattle.split_laws.proofs.Vocabulary.{◌≡◌, ◌<◌, ◌≤◌, ℕ, ◌+◌, ◌*◌, zero, suc, List, [], ◌∷◌, ◌++◌, Option, Some, None, Bool, true, length, slice_index_or, arith, ap, sym, ◌∙◌, refl, ◌⊎◌, inl, inr, subst, Litmus, State, idle, effect_of, chosen, core_of, program_of, start, step, drain, stall_count, is_done, has_ended, next_of, access_of, Holder, Free, HeldBy, HeldBetween, Attempt, needs_bus, BusState, unheld, effect_on, after_on, run_on_from, choices_in, Bus, Atomic, Split, Instr, Entry, Choice, Step, Drain, instructions, Among, IsRound, CanBeCutIntoRounds, state_on, EndOn, cases_Bool, all-done}
+use Rattle.split_laws.proofs.Cores.{done-now}
+use Rattle.split_laws.proofs.Ways.{same-self}
 use Rattle.split_laws.proofs.Left.{left, price-access, access-pays, step-takes, total, paid-total, left-present, left-within, busy-or-none, drop-past, drop-none, start-total}
 use Rattle.split_laws.proofs.Effects.{credit, Live, LiveIn, completes-moves, writes-pay, writes-moves, choice-does, stays-here, live-after, live-on, live-start}
 
@@ -49,11 +49,7 @@ record SomeAble (bus : Bus) (t : Litmus) (d : ℕ) (state : State) (holder : Hol
 -- on a free bus a choice that takes effect on the flat machine takes effect, or asks
 free-able : (bus : Bus) (t : Litmus) (d : ℕ) (state : State) (a : Choice) → stall_count (effect_of t d state a).outcome ≡ 0 → Able bus t d (unheld state) a
 free-able Atomic t d state a q hits = q
-free-able Split t d state a q hits = go (needs_bus (access_of t d state a) hits)
-  where
-    go : (b : Bool) → stall_count (if b then asks (core_of state (chosen a)) a Free else acts (effect_of t d state a) Free).effect.outcome ≡ 0
-    go true = refl
-    go false = q
+free-able Split t d state a q hits = elim (cases_Bool (needs_bus (access_of t d state a) hits)) [ inl is ↦ rw is refl | inr is ↦ rw is q ]
 
 busy-able : (bus : Bus) (t : Litmus) (d : ℕ) (state : State) → length state.cores ≡ length t.programs → (k : ℕ) → 0 < left (program_of t k) (core_of state k) → SomeAble bus t d state Free
 busy-able bus t d state size k b = by_pending (core_of state k).pending refl
@@ -144,12 +140,7 @@ in-rounds bus t d state (suc r) xs live rounds =
 -- a run has ended when the state after all choices has
 ended-if-after : (bus : Bus) (t : Litmus) (d : ℕ) (state : BusState) (xs : List Attempt) → has_ended t (state_on bus t d state xs).flat ≡ true → (run_on_from bus t d state xs).run.ended ≡ true
 ended-if-after bus t d state [] h = h
-ended-if-after bus t d state (a ∷ rest) h = go (has_ended t state.flat) (ended-if-after bus t d (after_on bus t d state a) rest h)
-  where
-    go : (b : Bool) → (run_on_from bus t d (after_on bus t d state a) rest).run.ended ≡ true
-        → (if b then resting_on true state (length (a ∷ rest)) else then_on (effect_on bus t d state a) (run_on_from bus t d (after_on bus t d state a) rest)).run.ended ≡ true
-    go true r = refl
-    go false r = r
+ended-if-after bus t d state (a ∷ rest) h = elim (cases_Bool (has_ended t state.flat)) [ inl is ↦ rw is refl | inr is ↦ rw is (ended-if-after bus t d (after_on bus t d state a) rest h) ]
 
 -- where nothing is left the test has ended
 none-left : (bus : Bus) (t : Litmus) (d : ℕ) (state : State) (holder : Holder) → Live bus t d state holder → total t.programs state.cores ≡ 0 → has_ended t state ≡ true

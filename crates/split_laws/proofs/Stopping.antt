@@ -1,7 +1,7 @@
 -- A run stops where it ends; after the end nothing happens, and nobody holds the bus.
-use Rattle.split_laws.proofs.Vocabulary.{◌≡◌, ◌<◌, ℕ, ◌+◌, zero, suc, List, [], ◌∷◌, ◌++◌, Bool, true, false, length, take, arith, ap, sym, ◌∙◌, refl, inl, inr, subst, if◌then◌else◌, append_assoc, append-nil, Litmus, State, program_of, core_of, chosen, effect_of, start, is_done, has_ended, stall_count, NoAccess, step_access, drain_access, access_of, Holder, Free, HeldBy, HeldBetween, Attempt, BusState, BusRun, unheld, effect_on, after_on, resting_on, then_on, run_on_from, run_on, HitFits, HitsFit, Bus, Atomic, Split, Entry, Choice, Step, Drain, Stall, Stalled, state_on, commits_on, IsPossibleOn, EndOn, left_by, ChangesNothingOn, StopsAtTheEndOn, SoFarOn, PendingIsOwn, Each, each-at}
+use Rattle.split_laws.proofs.Vocabulary.{◌≡◌, ◌<◌, ℕ, ◌+◌, zero, suc, List, [], ◌∷◌, ◌++◌, Bool, true, false, length, take, arith, ap, sym, ◌∙◌, refl, inl, inr, subst, if◌then◌else◌, append_assoc, append-nil, Litmus, State, program_of, core_of, chosen, effect_of, start, is_done, has_ended, stall_count, NoAccess, step_access, drain_access, access_of, Holder, Free, HeldBy, HeldBetween, Attempt, BusState, BusRun, unheld, effect_on, after_on, resting_on, then_on, run_on_from, run_on, HitFits, HitsFit, Bus, Atomic, Split, Entry, Choice, Step, Drain, Stall, Stalled, state_on, commits_on, IsPossibleOn, EndOn, left_by, ChangesNothingOn, StopsAtTheEndOn, SoFarOn, PendingIsOwn, Each, each-at, cases_Bool, done-anywhere}
 use Rattle.split_laws.proofs.Steps.{IsStore}
-use Rattle.split_laws.proofs.Cores.{done-pending, done-next, done-anywhere}
+use Rattle.split_laws.proofs.Cores.{done-pending, done-next}
 use Rattle.split_laws.proofs.Waiting.{start-stores}
 use Rattle.split_laws.proofs.Following.{all-follow}
 use Rattle.split_laws.proofs.Effects.{Live, LiveIn, choice-does, stays-here, live-after, live-on, live-start}
@@ -24,7 +24,7 @@ done-stalls t depth state (Step c) h = let e = done-next (program_of t c.0) (cor
 done-stalls t depth state (Drain c) h = let e = done-pending (program_of t c.0) (core_of state c.0) h in rw e refl
 
 -- where the test has ended, nobody holds the bus
-ended-free : (bus : Bus) (t : Litmus) (depth : ℕ) (state : State) (holder : Holder) → Live bus t depth state holder → has_ended t state ≡ true → holder ≡ Free
+pub ended-free : (bus : Bus) (t : Litmus) (depth : ℕ) (state : State) (holder : Holder) → Live bus t depth state holder → has_ended t state ≡ true → holder ≡ Free
 ended-free bus t depth state Free live h = refl
 ended-free Atomic t depth state (HeldBy choice) live h = absurd live.holding
 ended-free Atomic t depth state (HeldBetween e) live h = absurd live.holding
@@ -58,14 +58,7 @@ ended-same bus t d state (a ∷ rest) live h =
 -- a run's end is a moment at which it has ended, or the end of its choices
 pub run-ended : (bus : Bus) (t : Litmus) (d : ℕ) (state : BusState) (xs : List Attempt) → (run_on_from bus t d state xs).run.ended ≡ has_ended t (run_on_from bus t d state xs).run.state
 run-ended bus t d state [] = refl
-run-ended bus t d state (a ∷ rest) = go (has_ended t state.flat) refl (run-ended bus t d (after_on bus t d state a) rest)
-  where
-    go : (b : Bool) → has_ended t state.flat ≡ b
-        → (run_on_from bus t d (after_on bus t d state a) rest).run.ended ≡ has_ended t (run_on_from bus t d (after_on bus t d state a) rest).run.state
-        → (if b then resting_on true state (length (a ∷ rest)) else then_on (effect_on bus t d state a) (run_on_from bus t d (after_on bus t d state a) rest)).run.ended
-        ≡ has_ended t (if b then resting_on true state (length (a ∷ rest)) else then_on (effect_on bus t d state a) (run_on_from bus t d (after_on bus t d state a) rest)).run.state
-    go true q h = sym q
-    go false q h = h
+run-ended bus t d state (a ∷ rest) = elim (cases_Bool (has_ended t state.flat)) [ inl q ↦ rw q (sym q) | inr q ↦ rw q (run-ended bus t d (after_on bus t d state a) rest) ]
 
 record Begins (bus : Bus) (t : Litmus) (d : ℕ) (state : BusState) (xs : List Attempt) (r : BusRun) : Type 0 where
   now : left_by r ≡ state_on bus t d state (take r.run.used xs)
@@ -74,12 +67,10 @@ record Begins (bus : Bus) (t : Litmus) (d : ℕ) (state : BusState) (xs : List A
 
 run-begins : (bus : Bus) (t : Litmus) (d : ℕ) (state : BusState) (xs : List Attempt) → Begins bus t d state xs (run_on_from bus t d state xs)
 run-begins bus t d state [] = record { now = refl; committed = refl; count = refl }
-run-begins bus t d state (a ∷ rest) = go (has_ended t state.flat) (run-begins bus t d (after_on bus t d state a) rest)
-  where
-    go : (b : Bool) → Begins bus t d (after_on bus t d state a) rest (run_on_from bus t d (after_on bus t d state a) rest)
-        → Begins bus t d state (a ∷ rest) (if b then resting_on true state (suc (length rest)) else then_on (effect_on bus t d state a) (run_on_from bus t d (after_on bus t d state a) rest))
-    go true h = record { now = refl; committed = refl; count = omega arith }
-    go false h = record { now = h.now; committed = ap (λ z. (effect_on bus t d state a).effect.commits ++ z) h.committed; count = let n = h.count in omega arith }
+run-begins bus t d state (a ∷ rest) = let h = run-begins bus t d (after_on bus t d state a) rest in elim (cases_Bool (has_ended t state.flat)) [
+  | inl is ↦ rw is (record { now = refl; committed = refl; count = omega arith })
+  | inr is ↦ rw is (record { now = h.now; committed = ap (λ z. (effect_on bus t d state a).effect.commits ++ z) h.committed; count = let n = h.count in omega arith })
+]
 
 record Stops (bus : Bus) (t : Litmus) (d : ℕ) (state : BusState) (xs : List Attempt) (r : BusRun) : Type 0 where
   first : (n : ℕ) → n < r.run.used → has_ended t (state_on bus t d state (take n xs)).flat ≡ false

@@ -1,5 +1,7 @@
 -- The names that the proofs of this crate bring in from definitions and from crates below; each file takes its own from here.
 pub use Rattle.std.proofs.Common.{◌≡◌, ◌≢◌, ◌<◌, ◌≤◌, ℕ, ◌+◌, ◌*◌, zero, suc, List, [], ◌∷◌, Option, Some, None, length, slice_get, slice_set, slice_index_or, drop, arith, ap, refl, ◌⊎◌, inl, inr, length-append, ◌++◌, Bool, true, false, ◌∙◌, if◌then◌else◌, sym, subst, slice_index, ◌==◌, get_or-set_same, get_or-set_other, nat_lt, append_assoc, take, ◌&&◌, rules}
+pub use Rattle.std.proofs.lemmas.Bool.{cases_Bool}
+pub use Rattle.basic_laws.proofs.Cores.{starts-idle, length-starts, all-done, done-at, no-program, no-core, done-anywhere}
 pub use Rattle.std.proofs.lemmas.Option.{slice_get_within, slice_get_past}
 pub use Rattle.tso_model.specs.Litmus.{Litmus, IsTest}
 pub use Rattle.tso_model.specs.FlatMachine.{CoreState, State, Effect, idle, stalled, step_of, effect_of, chosen, core_of, program_of, applied, started, after_choice, start, drain_of, is_none_pending, memory_after, stored, effect_by, step, drain}

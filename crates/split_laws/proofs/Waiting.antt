@@ -1,6 +1,6 @@
 -- What every choice keeps: all that is pending are plain stores, and what holds the bus still has its access to make.
-use Rattle.split_laws.proofs.Vocabulary.{◌≡◌, ◌≢◌, ℕ, List, [], ◌∷◌, ◌++◌, Option, Some, None, Bool, true, false, slice_get, slice_index, ap, sym, ◌∙◌, refl, inl, inr, subst, if◌then◌else◌, filter, Litmus, is_write, writes_to, CoreState, State, Effect, program_of, step_of, drain_of, effect_of, chosen, core_of, applied, start, action_of, MemoryAccess, NoAccess, Writes, Locks, load_access, access_by, step_access, drain_access, next_of, access_of, same_choice, load_part, Loc, Instr, Action, Store, Load, Move, Fence, Lock, Entry, Choice, Step, Drain, drain_with, HasRead, test-true, Each, each-append, each-map}
-use Rattle.split_laws.proofs.Cores.{core-cases, memory-kept, starts-idle}
+use Rattle.split_laws.proofs.Vocabulary.{◌≡◌, ◌≢◌, ℕ, List, [], ◌∷◌, ◌++◌, Option, Some, None, Bool, true, false, slice_get, slice_index, ap, sym, ◌∙◌, refl, inl, inr, subst, if◌then◌else◌, filter, Litmus, is_write, writes_to, CoreState, State, Effect, program_of, step_of, drain_of, effect_of, chosen, core_of, applied, start, action_of, MemoryAccess, NoAccess, Writes, Locks, load_access, access_by, step_access, drain_access, next_of, access_of, same_choice, load_part, Loc, Instr, Action, Load, Lock, Entry, Choice, Step, Drain, drain_with, HasRead, test-true, Each, each-append, each-map, starts-idle}
+use Rattle.split_laws.proofs.Cores.{core-cases, memory-kept}
 use Rattle.split_laws.proofs.Steps.{IsStore, IsPlain, StepForm, stalls, buffers, makes, pairs, step-form, choice-plain, choice-pair}
 
 abbrev pub AllStores : State → Type 0
@@ -46,11 +46,9 @@ step-drained depth None y ys n = refl
 step-drained depth (Some x) y ys n = by_action (action_of x) n
   where
     by_action : (a : Action) → access_by depth a (y ∷ ys) ≢ NoAccess → access_by depth a ys ≡ access_by depth a (y ∷ ys)
-    by_action (Store loc operand) n = refl
     by_action (Load reg loc) n = load-drained loc y ys n
-    by_action (Move reg operand) n = refl
-    by_action Fence n = refl
     by_action (Lock loc reg update) n = absurd (n refl)
+    by_action _ n = refl
 
 -- the access of a core's step
 abbrev step_in : Litmus → ℕ → ℕ → CoreState → MemoryAccess

@@ -30,30 +30,22 @@ added what core k change cs b h adds =
 
 access-adds : (kind k : AccessKind) (n : Counts) → count_of_accesses kind (with_access k n) ≡ count_of_accesses kind n + one_if (is_kind kind k)
 access-adds Hit Hit n = refl
-access-adds Hit Miss n = omega arith
-access-adds Hit Upgrade n = omega arith
-access-adds Miss Hit n = omega arith
 access-adds Miss Miss n = refl
-access-adds Miss Upgrade n = omega arith
-access-adds Upgrade Hit n = omega arith
-access-adds Upgrade Miss n = omega arith
 access-adds Upgrade Upgrade n = refl
+access-adds _ _ n = omega arith
 
 written-kept : (kind : AccessKind) (b : Bool) (n : Counts) → count_of_accesses kind (with_write_back b n) ≡ count_of_accesses kind n
 written-kept Hit true n = refl
-written-kept Miss true n = refl
-written-kept Upgrade true n = refl
+written-kept _ true n = refl
 written-kept kind false n = refl
 
 flush-kept : (kind : AccessKind) (n : Counts) → count_of_accesses kind (with_flush n) ≡ count_of_accesses kind n
 flush-kept Hit n = refl
-flush-kept Miss n = refl
-flush-kept Upgrade n = refl
+flush-kept _ n = refl
 
 forward-kept : (kind : AccessKind) (n : Counts) → count_of_accesses kind (with_forward n) ≡ count_of_accesses kind n
 forward-kept Hit n = refl
-forward-kept Miss n = refl
-forward-kept Upgrade n = refl
+forward-kept _ n = refl
 
 pub flushed-kept : (what : Counts → ℕ) (k : ℕ) (f : Option Core) (cs : List Counts) → ((n : Counts) → what (with_flush n) ≡ what n) → what (of (flush_counted f cs) k) ≡ what (of cs k)
 flushed-kept what k None cs same = refl
@@ -72,13 +64,12 @@ counted-access kind core k (Through a) cs h =
     ∙ added (count_of_accesses kind) core k (λ n. with_write_back a.wrote_back (with_access a.kind n)) cs (is_kind kind a.kind) h
     (λ n. written-kept kind a.wrote_back (with_access a.kind n) ∙ access-adds kind a.kind n)
 
-through-forwards : (k : AccessKind) (b : Bool) (n : Counts) → (with_write_back b (with_access k n)).forwards ≡ n.forwards
-through-forwards Hit true n = refl
-through-forwards Miss true n = refl
-through-forwards Upgrade true n = refl
-through-forwards Hit false n = refl
-through-forwards Miss false n = refl
-through-forwards Upgrade false n = refl
+-- an access is no load that a core's own stores answer, and sends no copy
+pub through-keeps : (k : AccessKind) (b : Bool) (n : Counts) → ((with_write_back b (with_access k n)).forwards ≡ n.forwards) × ((with_write_back b (with_access k n)).flushes ≡ n.flushes)
+through-keeps Hit true n = (refl, refl)
+through-keeps _ true n = (refl, refl)
+through-keeps Hit false n = (refl, refl)
+through-keeps _ false n = (refl, refl)
 
 pub counted-forward : (core k : ℕ) (how : CacheUse) (cs : List Counts) → core < length cs
     → (of (with_use_counted core how cs) k).forwards ≡ (of cs k).forwards + one_if ((core == k) && is_forwarded how)
@@ -86,7 +77,7 @@ counted-forward core k Unused cs h = none-told (core == k) (of cs k).forwards
 counted-forward core k Forwarded cs h = added (λ (n : Counts). n.forwards) core k with_forward cs true h (λ n. refl)
 counted-forward core k (Through a) cs h =
     flushed-kept (λ (n : Counts). n.forwards) k a.flushed (counts_at_core core (λ n. with_write_back a.wrote_back (with_access a.kind n)) cs) (λ n. refl)
-    ∙ (kept (λ (n : Counts). n.forwards) core k (λ n. with_write_back a.wrote_back (with_access a.kind n)) cs (through-forwards a.kind a.wrote_back) ∙ none-told (core == k) (of cs k).forwards)
+    ∙ (kept (λ (n : Counts). n.forwards) core k (λ n. with_write_back a.wrote_back (with_access a.kind n)) cs (λ n. (through-keeps a.kind a.wrote_back n).0) ∙ none-told (core == k) (of cs k).forwards)
 
 -- ---- along the choices
 
@@ -149,8 +140,7 @@ no-counts (suc n) (suc k) = no-counts n k
 
 pub none-of : (kind : AccessKind) → count_of_accesses kind no_counts ≡ 0
 none-of Hit = refl
-none-of Miss = refl
-none-of Upgrade = refl
+none-of _ = refl
 
 pub accesses-told : (kind : AccessKind) (m : Running) (choices : List Choice) (k : ℕ) → CoresExist (length m.statistics.counts) choices
     → count_of_accesses kind (of (counts_after m choices) k) + 0 ≡ count_of_accesses kind (of m.statistics.counts k) + 0 + steps_that (tells_access kind k) (steps_from m choices)

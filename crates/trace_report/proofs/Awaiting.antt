@@ -1,10 +1,10 @@
 -- A line that its core awaits isn't in the core's cache, but for an upgrade: so another line may give way to it. What a use of
 -- the caches on either bus makes of them.
-use Rattle.trace_report.proofs.Vocabulary.{◌≡◌, ◌≢◌, ◌∙◌, ◌<◌, ◌/◌, ℕ, Bool, true, false, List, Option, Some, None, inl, inr, refl, sym, ap, subst, MemoryAccess, NoAccess, Reads, Writes, Locks, Holder, Free, HeldBy, HeldBetween, chosen, Choice, Table, transient_of, I, S, E, O, M, Request, GetS, GetM, Transient, Geometry, table_of_rows, TagSets, tag_in, sets_of, snoop_column, Awaited, tag_at, or_invalid, awaiting, asking, asked_caches_in, Caches, Used, is_awaited, asking_by, completing_by, Unused, IsUseFor, KeepsNoCopyInI, AllNeat, found-valid, all-requested, own-kept, Loc, at_access, whole_by, Bus, Outcome}
+use Rattle.trace_report.proofs.Vocabulary.{◌≡◌, ◌≢◌, ◌∙◌, ◌<◌, ◌/◌, ℕ, Bool, true, false, List, Option, Some, None, inl, inr, refl, sym, ap, subst, MemoryAccess, NoAccess, Reads, Writes, Locks, Holder, HeldBy, chosen, Choice, Table, transient_of, I, E, M, Request, GetS, GetM, Transient, Geometry, table_of_rows, TagSets, tag_in, sets_of, snoop_column, Awaited, tag_at, or_invalid, awaiting, asking, asked_caches_in, Caches, Used, is_awaited, asking_by, completing_by, Unused, IsUseFor, KeepsNoCopyInI, AllNeat, found-valid, all-requested, own-kept, Loc, at_access, whole_by, Bus, Outcome, request_for}
 use Rattle.std.specs.Option.{option_map}
 use Rattle.protocol_tables.specs.declared.state.State.{State}
 use Rattle.machine_core.proofs.EachUse.{asks-nothing}
-use Rattle.trace_report.proofs.InPlace.{wrote_in, IsStill, none-still, use-still}
+use Rattle.trace_report.proofs.InPlace.{wrote_in, IsStill, none-still, use-still, is_write_access}
 use Rattle.trace_report.proofs.VictimsLeave.{MayComplete, ComesIn, modified, completed-neat, completed-fills, whole-neat, whole-fills}
 use Rattle.trace_report.proofs.UsesOnBus.{Stays, UsesOn, made, unused, begun, ended}
 
@@ -17,9 +17,8 @@ MayMake c core (Locks loc) = MayComplete c.awaited core (loc.0 / c.shape.words) 
 
 -- for the access of the action that holds the bus
 abbrev pub HolderMayMake : (Choice → MemoryAccess) → Holder → Caches → Type 0
-HolderMayMake access Free c = Unit {0}
 HolderMayMake access (HeldBy choice) c = MayMake c (chosen choice) (access choice)
-HolderMayMake access (HeldBetween e) c = Unit {0}
+HolderMayMake access _ c = Unit {0}
 
 -- the access is to one of so many lines, of so many words
 abbrev pub IsWithin : ℕ → ℕ → MemoryAccess → Type 0
@@ -49,14 +48,10 @@ awaits t GetS core line caches None keeps q valid = record { valid = keeps.fille
 awaits t GetM core line caches None keeps q valid = record { valid = modified; absent = λ n. ap (λ (sets : TagSets). tag_in sets line) (own-kept core _ caches) ∙ q }
 awaits t GetS core line caches (Some I) keeps q valid = absurd (valid refl)
 awaits t GetM core line caches (Some I) keeps q valid = absurd (valid refl)
-awaits t GetS core line caches (Some S) keeps q valid = tt
-awaits t GetS core line caches (Some E) keeps q valid = tt
-awaits t GetS core line caches (Some O) keeps q valid = tt
-awaits t GetS core line caches (Some M) keeps q valid = tt
-awaits t GetM core line caches (Some S) keeps q valid = record { valid = modified; absent = λ n. absurd (n refl) }
-awaits t GetM core line caches (Some O) keeps q valid = record { valid = modified; absent = λ n. absurd (n refl) }
+awaits t GetS core line caches _ keeps q valid = tt
 awaits t GetM core line caches (Some E) keeps q valid = tt
 awaits t GetM core line caches (Some M) keeps q valid = tt
+awaits t GetM core line caches _ keeps q valid = record { valid = modified; absent = λ n. absurd (n refl) }
 
 asking-may : (lines : ℕ) (t : Table) (request : Request) (core line : ℕ) (caches : List TagSets) → KeepsNoCopyInI t → AllNeat lines caches
     → MayComplete (asking t request core line caches).awaited core line (asking t request core line caches).caches
@@ -69,32 +64,21 @@ asked-neat lines t request core line (Some x) caches h = all-requested lines (sn
 
 asks-may : (lines : ℕ) (c : Caches) (core : ℕ) (what : MemoryAccess) → KeepsNoCopyInI (table_of_rows c.rows) → AllNeat lines c.contents → MayMake (asking_by c core what).caches core what
 asks-may lines c core NoAccess keeps h = tt
-asks-may lines c core (Reads loc) keeps h = asking-may lines (table_of_rows c.rows) GetS core (loc.0 / c.shape.words) c.contents keeps h
-asks-may lines c core (Writes loc) keeps h = asking-may lines (table_of_rows c.rows) GetM core (loc.0 / c.shape.words) c.contents keeps h
-asks-may lines c core (Locks loc) keeps h = asking-may lines (table_of_rows c.rows) GetM core (loc.0 / c.shape.words) c.contents keeps h
+asks-may lines c core what keeps h = asking-may lines (table_of_rows c.rows) (request_for (is_write_access what)) core _ c.contents keeps h
 
 asks-neat : (lines : ℕ) (c : Caches) (core : ℕ) (what : MemoryAccess) → AllNeat lines c.contents → NeatAfter lines (asking_by c core what)
 asks-neat lines c core NoAccess h = h
-asks-neat lines c core (Reads loc) h = asked-neat lines (table_of_rows c.rows) GetS core (loc.0 / c.shape.words) _ c.contents h
-asks-neat lines c core (Writes loc) h = asked-neat lines (table_of_rows c.rows) GetM core (loc.0 / c.shape.words) _ c.contents h
-asks-neat lines c core (Locks loc) h = asked-neat lines (table_of_rows c.rows) GetM core (loc.0 / c.shape.words) _ c.contents h
-
-asks-clean : (c : Caches) (core : ℕ) (what : MemoryAccess) → wrote_in (asking_by c core what).how ≡ false
-asks-clean c core what = ap wrote_in (asks-nothing c core what)
+asks-neat lines c core what h = asked-neat lines (table_of_rows c.rows) (request_for (is_write_access what)) core _ _ c.contents h
 
 -- ---- it is completed
 
 completes-neat : (lines : ℕ) (c : Caches) (core : ℕ) (what : MemoryAccess) → IsWithin lines c.shape.words what → MayMake c core what → AllNeat lines c.contents → NeatAfter lines (completing_by c core what)
 completes-neat lines c core NoAccess l may h = h
-completes-neat lines c core (Reads loc) l may h = completed-neat lines (table_of_rows c.rows) core (loc.0 / c.shape.words) c.awaited c.contents l may h
-completes-neat lines c core (Writes loc) l may h = completed-neat lines (table_of_rows c.rows) core (loc.0 / c.shape.words) c.awaited c.contents l may h
-completes-neat lines c core (Locks loc) l may h = completed-neat lines (table_of_rows c.rows) core (loc.0 / c.shape.words) c.awaited c.contents l may h
+completes-neat lines c core _ l may h = completed-neat lines (table_of_rows c.rows) core _ c.awaited c.contents l may h
 
 completes-fills : (c : Caches) (core : ℕ) (what : MemoryAccess) → MayMake c core what → FillsIf c core what (completing_by c core what)
 completes-fills c core NoAccess may dirty = absurd (let z : ⊥ = cc in z)
-completes-fills c core (Reads loc) may dirty = record { came = loc.0 / c.shape.words; accessed = refl; line = completed-fills (table_of_rows c.rows) core (loc.0 / c.shape.words) c.awaited c.contents may dirty }
-completes-fills c core (Writes loc) may dirty = record { came = loc.0 / c.shape.words; accessed = refl; line = completed-fills (table_of_rows c.rows) core (loc.0 / c.shape.words) c.awaited c.contents may dirty }
-completes-fills c core (Locks loc) may dirty = record { came = loc.0 / c.shape.words; accessed = refl; line = completed-fills (table_of_rows c.rows) core (loc.0 / c.shape.words) c.awaited c.contents may dirty }
+completes-fills c core _ may dirty = record { came = _; accessed = refl; line = completed-fills (table_of_rows c.rows) core _ c.awaited c.contents may dirty }
 
 -- ---- it is made whole
 
@@ -102,9 +86,7 @@ use-neat : (lines : ℕ) (c : Caches) (core : ℕ) (what : MemoryAccess) (u : Us
     → NeatAfter lines u
 use-neat lines c core NoAccess u (inl is) within keeps h = subst (NeatAfter lines) (sym is) h
 use-neat lines c core NoAccess u (inr is) within keeps h = subst (NeatAfter lines) (sym is) h
-use-neat lines c core (Reads loc) u is within keeps h = subst (NeatAfter lines) (sym is) (whole-neat (table_of_rows c.rows) false core (loc.0 / c.shape.words) c.contents keeps lines within h)
-use-neat lines c core (Writes loc) u is within keeps h = subst (NeatAfter lines) (sym is) (whole-neat (table_of_rows c.rows) true core (loc.0 / c.shape.words) c.contents keeps lines within h)
-use-neat lines c core (Locks loc) u is within keeps h = subst (NeatAfter lines) (sym is) (whole-neat (table_of_rows c.rows) true core (loc.0 / c.shape.words) c.contents keeps lines within h)
+use-neat lines c core what u is within keeps h = subst (NeatAfter lines) (sym is) (whole-neat (table_of_rows c.rows) (is_write_access what) core _ c.contents keeps lines within h)
 
 whole-fills-by : (c : Caches) (core : ℕ) (loc : Loc) (write : Bool) (what : MemoryAccess) → KeepsNoCopyInI (table_of_rows c.rows) → at_access None (λ at write. Some (at.0 / c.shape.words)) what ≡ Some (loc.0 / c.shape.words)
     → FillsIf c core what (whole_by c core loc.0 write)
@@ -130,9 +112,7 @@ still-complete c core u k loc s may =
 
 still-may : (c : Caches) (core : ℕ) (u : Used) (k : ℕ) (what : MemoryAccess) → IsStill c core u → MayMake c k what → MayMake u.caches k what
 still-may c core u k NoAccess s may = tt
-still-may c core u k (Reads loc) s may = still-complete c core u k loc.0 s may
-still-may c core u k (Writes loc) s may = still-complete c core u k loc.0 s may
-still-may c core u k (Locks loc) s may = still-complete c core u k loc.0 s may
+still-may c core u k _ s may = still-complete c core u k _ s may
 
 -- ---- a choice on either bus
 
@@ -168,14 +148,13 @@ module _ (on : Bus) (c : Caches) (a : Choice) (before after : Choice → MemoryA
         by_use other q (ended split is some held rest) = let z : true ≡ false = subst (λ x. is_awaited x ≡ false) q rest in absurd (let y : ⊥ = cc in y)
 
         by_next : (n : Holder) → next ≡ n → HolderMayMake after n u.caches
-        by_next Free q = tt
         by_next (HeldBy other) q = by_use other q uses
-        by_next (HeldBetween e) q = tt
+        by_next _ q = tt
 
     -- a choice that writes a line back
     pub fills-by : UsesOn on c a before after holder next o u → FillsIf c (chosen a) (before a) u
     fills-by (made it why stays nothing) = use-fills c (chosen a) (before a) u it keeps
     fills-by (unused is stays nothing) = subst (FillsIf c (chosen a) (before a)) (sym is) (λ dirty. absurd (let z : ⊥ = cc in z))
     fills-by (begun split is snoop free held same) = λ dirty.
-        (let z : false ≡ true = sym (asks-clean c (chosen a) (before a)) ∙ subst (λ (x : Used). wrote_in x.how ≡ true) is dirty in absurd (let y : ⊥ = cc in y))
+        (let z : false ≡ true = sym (ap wrote_in (asks-nothing c (chosen a) (before a))) ∙ subst (λ (x : Used). wrote_in x.how ≡ true) is dirty in absurd (let y : ⊥ = cc in y))
     fills-by (ended split is some held rest) = subst (FillsIf c (chosen a) (before a)) (sym is) (completes-fills c (chosen a) (before a) (own-may held))

@@ -1,5 +1,5 @@
 -- What a step tells of its core: the register that was moved, the pending stores, and why it stalled.
-use Rattle.trace_report.proofs.Vocabulary.{arith, ◌≡◌, ◌≢◌, ◌∙◌, ◌⊎◌, ◌≤◌, ◌+◌, ◌==◌, ℕ, zero, suc, Bool, true, false, nat_lt, if◌then◌else◌, List, [], ◌∷◌, ◌++◌, length, take, drop, slice_index, slice_set, Option, Some, None, inl, inr, refl, sym, ap, subst, length-append, get_or-set_same, get_or_past, nat_tests, length-set, lt-or, Litmus, action_of, value_of, CoreState, State, Effect, idle, is_none_pending, stalled, stored, effect_by, effect_of, core_of, chosen, applied, MemoryAccess, NoAccess, Reads, Writes, Locks, access_of, next_of, Holder, Free, HeldBy, HeldBetween, Attempt, same_choice, needs_bus, acts, asks, begins, completes, as_read, writes_last, split_effect, BusState, effect_on, Bus, Atomic, Split, Core, Instr, Action, Store, Load, Move, Fence, Lock, Entry, Choice, Step, Drain, Outcome, Committed, Buffered, Moved, Stalled, Stall, same-is, Running, machine_after, attempt_on, stall_name, moved_by, moved_at, moved_from, buffer_if_changed, with_moved, pending_told, CoresAreTold, IsWordOfStall, done, full, lock, empty, IsHeldByOther, IsWordOfStallOn, flat, bus, StallsAreTold}
+use Rattle.trace_report.proofs.Vocabulary.{arith, ◌≡◌, ◌≢◌, ◌∙◌, ◌⊎◌, ◌≤◌, ◌+◌, ◌==◌, ℕ, zero, suc, Bool, true, false, nat_lt, if◌then◌else◌, List, [], ◌∷◌, length, slice_index, slice_set, Option, Some, None, inl, inr, refl, sym, ap, subst, length-append, get_or-set_same, get_or_past, nat_tests, length-set, lt-or, Litmus, action_of, value_of, CoreState, State, Effect, idle, is_none_pending, stalled, stored, effect_by, effect_of, core_of, chosen, applied, access_of, next_of, Holder, Free, HeldBy, Attempt, needs_bus, asks, as_read, split_effect, BusState, effect_on, Bus, Atomic, Split, Core, Instr, Action, Store, Load, Move, Fence, Lock, Entry, Choice, Step, Drain, Outcome, Moved, Stalled, Stall, Running, machine_after, attempt_on, stall_name, moved_by, moved_at, moved_from, buffer_if_changed, with_moved, pending_told, CoresAreTold, IsWordOfStall, done, full, lock, empty, IsHeldByOther, IsWordOfStallOn, flat, bus, StallsAreTold, if-by, effect-by, split-by, begins-by, completes-by, drain_with, IsOther, cases_Bool}
 use Rattle.tso_model.specs.Registers.{index_of}
 use Rattle.tso_model.specs.FlatMachine.{step_of, after_choice}
 use Rattle.tso_model.specs.declared.choice.Stall.TheVariants as stall
@@ -28,6 +28,10 @@ kept-value [] n value = refl
 kept-value (r ∷ rs) zero value = refl
 kept-value (r ∷ rs) (suc n) value = ap (λ l. r ∷ l) (kept-value rs n value)
 
+-- a stall is no move
+not-when : (s : CoreState) (why : Stall) (f : Effect) (b : Bool) → f.outcome ≢ Moved → (if b then f else stalled why s).outcome ≢ Moved
+not-when s why f b h = if-by (λ (g : Effect). g.outcome ≢ Moved) b f (stalled why s) (λ q. h) (λ q is. let z : ⊥ = cc in z)
+
 -- of a core with this state before it
 abbrev MovesTo : (List ℕ → Option move.Moved) → CoreState → Effect → Type 0
 MovesTo told s f = f.outcome ≡ Moved → f.after.registers ≡ with_moved (told f.after.registers) s.registers
@@ -35,13 +39,9 @@ MovesTo told s f = f.outcome ≡ Moved → f.after.registers ≡ with_moved (tol
 abbrev MovesToBy : Litmus → State → Choice → Effect → Type 0
 MovesToBy t state a f = MovesTo (moved_from t (core_of state (chosen a)).place a) (core_of state (chosen a)) f
 
-not-when : (s : CoreState) (why : Stall) (f : Effect) (b : Bool) → (f.outcome ≡ Moved → ⊥) → (if b then f else stalled why s).outcome ≡ Moved → ⊥
-not-when s why f true h q = h q
-not-when s why f false h q = let z : ⊥ = cc in z
-
-not-stored : (depth : ℕ) (s : CoreState) (e : Entry) → (stored depth s e).outcome ≡ Moved → ⊥
-not-stored zero s e q = let z : ⊥ = cc in z
-not-stored (suc n) s e q = not-when s stall.Full _ (nat_lt (length s.pending) (suc n)) (λ z. (let y : ⊥ = cc in y)) q
+not-stored : (depth : ℕ) (s : CoreState) (e : Entry) → (stored depth s e).outcome ≢ Moved
+not-stored zero s e = λ q. let z : ⊥ = cc in z
+not-stored (suc n) s e = not-when s _ _ (nat_lt (length s.pending) (suc n)) (λ q. let z : ⊥ = cc in z)
 
 step-moves-to : (depth core : ℕ) (memory : List ℕ) (i : Option Instr) (s : CoreState) → MovesTo (moved_at i) s (step_of depth memory core i s)
 step-moves-to depth core memory None s = λ q. absurd (let z : ⊥ = cc in z)
@@ -51,54 +51,20 @@ step-moves-to depth core memory (Some x) s = by_action (action_of x)
     by_action (Store loc operand) = λ q. absurd (not-stored depth s _ q)
     by_action (Load reg loc) = λ q. absurd (let z : ⊥ = cc in z)
     by_action (Move reg operand) = λ q. sym (kept-value s.registers (index_of reg) (value_of s.registers operand))
-    by_action Fence = λ q. absurd (not-when s stall.Fence _ (is_none_pending s.pending) (λ z. (let y : ⊥ = cc in y)) q)
-    by_action (Lock loc reg update) = λ q. absurd (not-when s stall.Lock _ (is_none_pending s.pending) (λ z. (let y : ⊥ = cc in y)) q)
+    by_action _ = λ q. absurd (not-when s _ _ (is_none_pending s.pending) (λ z. (let y : ⊥ = cc in y)) q)
 
 flat-moves-to : (t : Litmus) (depth : ℕ) (state : State) (a : Choice) → MovesToBy t state a (effect_of t depth state a)
 flat-moves-to t depth state (Step core) = step-moves-to depth core.0 state.memory (next_of t state core.0) (core_of state core.0)
-flat-moves-to t depth state (Drain core) = λ q. absurd (by_room (is_none_pending (core_of state core.0).pending) q)
+flat-moves-to t depth state (Drain core) = λ q. absurd (drained (core_of state core.0).pending q)
   where
-    by_room : (b : Bool) → (if b then stalled stall.Empty (core_of state core.0)
-        else record { outcome = Committed; after = record { place = (core_of state core.0).place; registers = (core_of state core.0).registers; pending = drop 1 (core_of state core.0).pending }; commits = take 1 (core_of state core.0).pending }).outcome ≡ Moved → ⊥
-    by_room true q = let z : ⊥ = cc in z
-    by_room false q = let z : ⊥ = cc in z
+    drained : (pending : List Entry) → (drain_with (core_of state core.0) pending).outcome ≢ Moved
+    drained [] q = let z : ⊥ = cc in z
+    drained (p ∷ ps) q = let z : ⊥ = cc in z
 
-not-asks : (s : CoreState) (a : Choice) (holder : Holder) → (asks s a holder).effect.outcome ≡ Moved → ⊥
-not-asks s a Free q = let z : ⊥ = cc in z
-not-asks s a (HeldBy other) q = let z : ⊥ = cc in z
-not-asks s a (HeldBetween e) q = let z : ⊥ = cc in z
-
-begins-moves-to : (t : Litmus) (depth : ℕ) (state : State) (a : Attempt) (holder : Holder) → MovesToBy t state a.choice (begins t depth state a holder).effect
-begins-moves-to t depth state a holder = go (needs_bus (access_of t depth state a.choice) a.hits)
-  where
-    go : (b : Bool) → MovesToBy t state a.choice (if b then asks (core_of state (chosen a.choice)) a.choice holder else acts (effect_of t depth state a.choice) holder).effect
-    go true = λ q. absurd (not-asks (core_of state (chosen a.choice)) a.choice holder q)
-    go false = flat-moves-to t depth state a.choice
-
-completes-moves-to : (t : Litmus) (depth : ℕ) (state : State) (a : Choice) (what : MemoryAccess) → MovesToBy t state a (completes t depth state a what).effect
-completes-moves-to t depth state a NoAccess = flat-moves-to t depth state a
-completes-moves-to t depth state a (Reads loc) = flat-moves-to t depth state a
-completes-moves-to t depth state a (Writes loc) = flat-moves-to t depth state a
-completes-moves-to t depth state a (Locks loc) = λ q. absurd (let z : ⊥ = cc in z)
-
-split-moves-to : (t : Litmus) (depth : ℕ) (state : State) (a : Attempt) (holder : Holder) → MovesToBy t state a.choice (split_effect t depth state a holder).effect
-split-moves-to t depth state a Free = begins-moves-to t depth state a Free
-split-moves-to t depth state a (HeldBy choice) = go (same_choice choice a.choice) refl
-  where
-    go : (b : Bool) → same_choice choice a.choice ≡ b
-        → MovesToBy t state a.choice (if b then completes t depth state choice (access_of t depth state choice) else begins t depth state a (HeldBy choice)).effect
-    go true q = subst (λ c. MovesToBy t state c (completes t depth state choice (access_of t depth state choice)).effect) (same-is choice a.choice q)
-        (completes-moves-to t depth state choice (access_of t depth state choice))
-    go false q = begins-moves-to t depth state a (HeldBy choice)
-split-moves-to t depth state a (HeldBetween e) = go (same_choice (Step e.core) a.choice) refl
-  where
-    go : (b : Bool) → same_choice (Step e.core) a.choice ≡ b → MovesToBy t state a.choice (if b then writes_last t depth state e else begins t depth state a (HeldBetween e)).effect
-    go true q = subst (λ c. MovesToBy t state c (writes_last t depth state e).effect) (same-is (Step e.core) a.choice q) (flat-moves-to t depth (as_read state e) (Step e.core))
-    go false q = begins-moves-to t depth state a (HeldBetween e)
-
-moves-to : (bus : Bus) (t : Litmus) (depth : ℕ) (state : BusState) (a : Attempt) → MovesToBy t state.flat a.choice (effect_on bus t depth state a).effect
-moves-to Atomic t depth state a = flat-moves-to t depth state.flat a.choice
-moves-to Split t depth state a = split-moves-to t depth state.flat a state.holder
+moves-to : (on : Bus) (t : Litmus) (depth : ℕ) (state : BusState) (a : Attempt) → MovesToBy t state.flat a.choice (effect_on on t depth state a).effect
+moves-to on t depth state a =
+    effect-by (MovesToBy t state.flat) on t depth state a (λ needs q. absurd (let z : ⊥ = cc in z)) (λ needs q. absurd (let z : ⊥ = cc in z)) (flat-moves-to t depth state.flat)
+    (λ core loc read q. absurd (let z : ⊥ = cc in z)) (λ e. flat-moves-to t depth (as_read state.flat e) (Step e.core))
 
 -- where there is no such core, nothing is there to be moved
 no-core : (t : Litmus) (a : Choice) (s r : CoreState) (n : ℕ) → s ≡ idle → r ≡ idle → r.registers ≡ with_moved (moved_from t n a r.registers) s.registers
@@ -132,11 +98,7 @@ same-many choice s f (shrunk core e less is drain) q =
     let longer : length s.pending ≡ suc (length f.after.pending) = ap length less in absurd (let z : ⊥ = omega arith in z)
 
 told-stores : (before after : List Entry) → (length after ≡ length before → after ≡ before) → after ≡ pending_told (buffer_if_changed (length before) after) before
-told-stores before after h = by_test (length after == length before) refl
-  where
-    by_test : (b : Bool) → (length after == length before) ≡ b → after ≡ pending_told (if b then None else Some after) before
-    by_test true q = h (grind (arith, nat_tests))
-    by_test false q = refl
+told-stores before after h = elim (cases_Bool (length after == length before)) [ inl q ↦ rw q (h (grind (arith, nat_tests))) | inr q ↦ rw q refl ]
 
 buffer-told : (m : Running) (choice : Choice) → (core_of (machine_after m choice).state.flat (chosen choice)).pending
     ≡ pending_told (buffer_if_changed (length (core_of m.state.flat (chosen choice)).pending) (core_of (machine_after m choice).state.flat (chosen choice)).pending) (core_of m.state.flat (chosen choice)).pending
@@ -173,13 +135,9 @@ is-empty (p ∷ ps) h = absurd (let z : ⊥ = cc in z)
 
 stored-full : (depth : ℕ) (s : CoreState) (e : Entry) (why : Stall) → (stored depth s e).outcome ≡ Stalled why → (Stalled stall.Full ≡ Stalled why) × (depth ≤ length s.pending)
 stored-full zero s e why q = absurd (let z : ⊥ = cc in z)
-stored-full (suc n) s e why q = by_room (nat_lt (length s.pending) (suc n)) refl q
-  where
-    by_room : (b : Bool) → nat_lt (length s.pending) (suc n) ≡ b → (if b
-        then record { outcome = Buffered; after = record { place = s.place + 1; registers = s.registers; pending = s.pending ++ e ∷ [] }; commits = [] }
-        else stalled stall.Full s).outcome ≡ Stalled why → (Stalled stall.Full ≡ Stalled why) × (suc n ≤ length s.pending)
-    by_room true is q = absurd (let z : ⊥ = cc in z)
-    by_room false is q = (q, grind (arith, nat_tests))
+stored-full (suc n) s e why q =
+    if-by (λ (f : Effect). f.outcome ≡ Stalled why → (Stalled stall.Full ≡ Stalled why) × (suc n ≤ length s.pending)) (nat_lt (length s.pending) (suc n)) _ _
+    (λ room q. absurd (let z : ⊥ = cc in z)) (λ full q. (q, grind (arith, nat_tests))) q
 
 -- an effect that isn't a stall, or a stall for this reason where something is pending
 waits-for : (s : CoreState) (is why : Stall) (f : Effect) (b : Bool) → (f.outcome ≡ Stalled why → ⊥) → (if b then f else stalled is s).outcome ≡ Stalled why → (Stalled is ≡ Stalled why) × (b ≡ false)
@@ -196,68 +154,39 @@ step-word t depth state core memory why (Some x) next q = by_action (action_of x
 
     by_action : (a : Action) → action_of x ≡ a → (effect_by depth memory core.0 a s).outcome ≡ Stalled why → IsWordOfStall t depth state (stall_name why) (Step core)
     by_action (Store loc operand) is h = let r = stored-full depth s _ why h in told-as t depth state (Step core) stall.Full why r.0 (full core x loc operand next is r.1)
-    by_action (Load reg loc) is h = absurd (let z : ⊥ = cc in z)
-    by_action (Move reg operand) is h = absurd (let z : ⊥ = cc in z)
     by_action Fence is h =
         let r = waits-for s stall.Fence why _ (is_none_pending s.pending) (λ z. (let y : ⊥ = cc in y)) h in
         told-as t depth state (Step core) stall.Fence why r.0 (fence core x next is (not-empty s.pending r.1))
     by_action (Lock loc reg update) is h =
         let r = waits-for s stall.Lock why _ (is_none_pending s.pending) (λ z. (let y : ⊥ = cc in y)) h in
         told-as t depth state (Step core) stall.Lock why r.0 (lock core x loc reg update next is (not-empty s.pending r.1))
+    by_action _ is h = absurd (let z : ⊥ = cc in z)
 
 flat-word : (t : Litmus) (depth : ℕ) (state : State) (a : Choice) (why : Stall) → (effect_of t depth state a).outcome ≡ Stalled why → IsWordOfStall t depth state (stall_name why) a
 flat-word t depth state (Step core) why q = step-word t depth state core state.memory why (next_of t state core.0) refl q
-flat-word t depth state (Drain core) why q = by_room (is_none_pending (core_of state core.0).pending) refl q
-  where
-    by_room : (b : Bool) → is_none_pending (core_of state core.0).pending ≡ b → (if b then stalled stall.Empty (core_of state core.0)
-        else record { outcome = Committed; after = record { place = (core_of state core.0).place; registers = (core_of state core.0).registers; pending = drop 1 (core_of state core.0).pending }; commits = take 1 (core_of state core.0).pending }).outcome ≡ Stalled why
-        → IsWordOfStall t depth state (stall_name why) (Drain core)
-    by_room true is h = told-as t depth state (Drain core) stall.Empty why h (empty core (is-empty (core_of state core.0).pending is))
-    by_room false is h = absurd (let z : ⊥ = cc in z)
+flat-word t depth state (Drain core) why q =
+    if-by (λ (f : Effect). f.outcome ≡ Stalled why → IsWordOfStall t depth state (stall_name why) (Drain core)) (is_none_pending (core_of state core.0).pending) _ _
+    (λ none h. told-as t depth state (Drain core) stall.Empty why h (empty core (is-empty (core_of state core.0).pending none))) (λ some h. absurd (let z : ⊥ = cc in z)) q
 
 -- on a split bus
-data WordBy (t : Litmus) (depth : ℕ) (state : State) (a : Attempt) (holder : Holder) (why : Stall) : Type 0 where
-  alone : IsWordOfStall t depth state (stall_name why) a.choice → WordBy t depth state a holder why
-  waits : Stalled stall.Bus ≡ Stalled why → IsHeldByOther holder a.choice → needs_bus (access_of t depth state a.choice) a.hits ≡ true → WordBy t depth state a holder why
+data WordBy (t : Litmus) (depth : ℕ) (state : State) (c : Choice) (hits : Bool) (holder : Holder) (why : Stall) : Type 0 where
+  alone : IsWordOfStall t depth state (stall_name why) c → WordBy t depth state c hits holder why
+  waits : Stalled stall.Bus ≡ Stalled why → IsHeldByOther holder c → needs_bus (access_of t depth state c) hits ≡ true → WordBy t depth state c hits holder why
 
-begins-word : (t : Litmus) (depth : ℕ) (state : State) (a : Attempt) (holder : Holder) (why : Stall) → (holder ≡ Free) ⊎ IsHeldByOther holder a.choice
-    → (begins t depth state a holder).effect.outcome ≡ Stalled why → WordBy t depth state a holder why
-begins-word t depth state a holder why other q = go (needs_bus (access_of t depth state a.choice) a.hits) refl q
+split-word : (t : Litmus) (depth : ℕ) (state : State) (a : Attempt) (holder : Holder) (why : Stall) → (split_effect t depth state a holder).effect.outcome ≡ Stalled why
+    → WordBy t depth state a.choice a.hits holder why
+split-word t depth state a holder why =
+    split-by (λ h c g. g.effect.outcome ≡ Stalled why → WordBy t depth state c a.hits h why) t depth state a holder
+    (λ h other. begins-by (λ g. g.effect.outcome ≡ Stalled why → WordBy t depth state a.choice a.hits h why) t depth state a h (by_holder h other) (λ q z. alone (flat-word t depth state a.choice why z)))
+    (λ asked. (
+    completes-by (λ c g. g.effect.outcome ≡ Stalled why → WordBy t depth state c a.hits (HeldBy c) why) t depth state asked (λ n z. alone (flat-word t depth state asked why z))
+    (λ core loc q z. absurd (let y : ⊥ = cc in y))
+    )) (λ e z. alone (step-word t depth state e.core (as_read state e).memory why (next_of t state e.core.0) refl z))
   where
-    by_holder : (h : Holder) → (h ≡ Free) ⊎ IsHeldByOther h a.choice → needs_bus (access_of t depth state a.choice) a.hits ≡ true
-        → (asks (core_of state (chosen a.choice)) a.choice h).effect.outcome ≡ Stalled why → WordBy t depth state a h why
-    by_holder Free o is z = absurd (let y : ⊥ = cc in y)
-    by_holder (HeldBy choice) (inl free) is z = absurd (let y : ⊥ = cc in y)
-    by_holder (HeldBy choice) (inr o) is z = waits z o is
-    by_holder (HeldBetween e) (inl free) is z = absurd (let y : ⊥ = cc in y)
-    by_holder (HeldBetween e) (inr o) is z = waits z o is
-
-    go : (b : Bool) → needs_bus (access_of t depth state a.choice) a.hits ≡ b
-        → (if b then asks (core_of state (chosen a.choice)) a.choice holder else acts (effect_of t depth state a.choice) holder).effect.outcome ≡ Stalled why → WordBy t depth state a holder why
-    go true is z = by_holder holder other is z
-    go false is z = alone (flat-word t depth state a.choice why z)
-
-completes-word : (t : Litmus) (depth : ℕ) (state : State) (a : Choice) (what : MemoryAccess) (why : Stall) → (completes t depth state a what).effect.outcome ≡ Stalled why → IsWordOfStall t depth state (stall_name why) a
-completes-word t depth state a NoAccess why q = flat-word t depth state a why q
-completes-word t depth state a (Reads loc) why q = flat-word t depth state a why q
-completes-word t depth state a (Writes loc) why q = flat-word t depth state a why q
-completes-word t depth state a (Locks loc) why q = absurd (let z : ⊥ = cc in z)
-
-split-word : (t : Litmus) (depth : ℕ) (state : State) (a : Attempt) (holder : Holder) (why : Stall) → (split_effect t depth state a holder).effect.outcome ≡ Stalled why → WordBy t depth state a holder why
-split-word t depth state a Free why q = begins-word t depth state a Free why (inl refl) q
-split-word t depth state a (HeldBy choice) why q = go (same_choice choice a.choice) refl q
-  where
-    go : (b : Bool) → same_choice choice a.choice ≡ b
-        → (if b then completes t depth state choice (access_of t depth state choice) else begins t depth state a (HeldBy choice)).effect.outcome ≡ Stalled why → WordBy t depth state a (HeldBy choice) why
-    go true is z = alone (subst (λ c. IsWordOfStall t depth state (stall_name why) c) (same-is choice a.choice is) (completes-word t depth state choice (access_of t depth state choice) why z))
-    go false is z = begins-word t depth state a (HeldBy choice) why (inr is) z
-split-word t depth state a (HeldBetween e) why q = go (same_choice (Step e.core) a.choice) refl q
-  where
-    go : (b : Bool) → same_choice (Step e.core) a.choice ≡ b
-        → (if b then writes_last t depth state e else begins t depth state a (HeldBetween e)).effect.outcome ≡ Stalled why → WordBy t depth state a (HeldBetween e) why
-    go true is z = alone (subst (λ c. IsWordOfStall t depth state (stall_name why) c) (same-is (Step e.core) a.choice is)
-        (step-word t depth state e.core (as_read state e).memory why (next_of t state e.core.0) refl z))
-    go false is z = begins-word t depth state a (HeldBetween e) why (inr is) z
+    by_holder : (h : Holder) → IsOther h a.choice → needs_bus (access_of t depth state a.choice) a.hits ≡ true → (asks (core_of state (chosen a.choice)) a.choice h).effect.outcome ≡ Stalled why
+        → WordBy t depth state a.choice a.hits h why
+    by_holder Free other q z = absurd (let y : ⊥ = cc in y)
+    by_holder _ other q z = waits z other q
 
 pub stalls-told : (m : Running) (choice : Choice) → StallsAreTold m choice
 unfolding steps.trace_step_of
@@ -267,6 +196,6 @@ stalls-told m choice why q = by_bus m.bus refl q
     by_bus Atomic is z = flat (stall_name why) (flat-word m.test m.depth m.state.flat choice why z)
     by_bus Split is z = by_word (split-word m.test m.depth m.state.flat (attempt_on m choice) m.state.holder why z)
       where
-        by_word : WordBy m.test m.depth m.state.flat (attempt_on m choice) m.state.holder why → IsWordOfStallOn m choice (stall_name why)
+        by_word : WordBy m.test m.depth m.state.flat choice (attempt_on m choice).hits m.state.holder why → IsWordOfStallOn m choice (stall_name why)
         by_word (alone h) = flat (stall_name why) h
         by_word (waits r other needs) = subst (λ w. IsWordOfStallOn m choice (stall_name w)) (same-reason stall.Bus why r) (bus is other needs)

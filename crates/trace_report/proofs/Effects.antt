@@ -1,5 +1,5 @@
 -- What a choice does to its core's pending stores, whatever holds the bus.
-use Rattle.trace_report.proofs.Vocabulary.{◌≡◌, ◌∙◌, ℕ, zero, suc, ◌+◌, Bool, true, false, nat_lt, if◌then◌else◌, List, [], ◌∷◌, ◌++◌, length, take, drop, Option, Some, None, refl, sym, ap, subst, arith, length-append, Litmus, action_of, CoreState, State, Effect, is_none_pending, stalled, stored, effect_by, effect_of, core_of, chosen, MemoryAccess, NoAccess, Reads, Writes, Locks, access_of, next_of, Holder, Free, HeldBy, HeldBetween, Attempt, same_choice, needs_bus, acts, asks, begins, completes, as_read, after_first, writes_last, split_effect, BusState, effect_on, Bus, Atomic, Split, Instr, Action, Store, Load, Move, Fence, Lock, Entry, Choice, Step, Drain, Outcome, Committed, Buffered, Moved, Asked, Stalled, Stall, same-is, drain-no-lock, committed_at, waited_before}
+use Rattle.trace_report.proofs.Vocabulary.{◌≡◌, ◌∙◌, ℕ, zero, suc, ◌+◌, nat_lt, List, [], ◌∷◌, ◌++◌, length, drop, Option, Some, None, refl, sym, ap, arith, length-append, Litmus, action_of, CoreState, State, Effect, is_none_pending, stored, effect_by, effect_of, core_of, chosen, next_of, Attempt, as_read, after_first, BusState, effect_on, Bus, Instr, Action, Store, Fence, Lock, Entry, Choice, Step, Drain, Outcome, Committed, Buffered, Stalled, Stall, committed_at, waited_before, if-by, effect-by, drain_with}
 use Rattle.tso_model.specs.FlatMachine.{step_of}
 use Rattle.tso_model.specs.declared.choice.Stall.TheVariants as stall
 
@@ -9,19 +9,9 @@ pub data Form (choice : Choice) (s : CoreState) (f : Effect) : Type 0 where
   grown : (e : Entry) → f.after.pending ≡ s.pending ++ e ∷ [] → f.outcome ≡ Buffered → f.commits ≡ [] → Form choice s f
   shrunk : (core : ℕ) (e : Entry) → s.pending ≡ e ∷ f.after.pending → f.outcome ≡ Committed → choice ≡ Drain (record { 0 = core }) → Form choice s f
 
-when-form : (choice : Choice) (s : CoreState) (why : Stall) (f : Effect) (b : Bool) → Form choice s f → Form choice s (if b then f else stalled why s)
-when-form choice s why f true h = h
-when-form choice s why f false h = still refl refl refl
-
 stored-form : (depth : ℕ) (choice : Choice) (core : ℕ) (s : CoreState) (e : Entry) → choice ≡ Step (record { 0 = core }) → Form choice s (stored depth s e)
 stored-form zero choice core s e q = still refl (rw q refl) refl
-stored-form (suc n) choice core s e q = by_room (nat_lt (length s.pending) (suc n))
-  where
-    by_room : (b : Bool) → Form choice s (if b
-        then record { outcome = Buffered; after = record { place = s.place + 1; registers = s.registers; pending = s.pending ++ e ∷ [] }; commits = [] }
-        else stalled stall.Full s)
-    by_room true = grown e refl refl refl
-    by_room false = still refl refl refl
+stored-form (suc n) choice core s e q = if-by (Form choice s) (nat_lt (length s.pending) (suc n)) _ _ (λ room. grown e refl refl refl) (λ full. still refl refl refl)
 
 step-form : (depth core : ℕ) (memory : List ℕ) (i : Option Instr) (s : CoreState) → Form (Step (record { 0 = core })) s (step_of depth memory core i s)
 step-form depth core memory None s = still refl refl refl
@@ -29,14 +19,11 @@ step-form depth core memory (Some x) s = by_action (action_of x)
   where
     by_action : (a : Action) → Form (Step (record { 0 = core })) s (effect_by depth memory core a s)
     by_action (Store loc operand) = stored-form depth _ core s _ refl
-    by_action (Load reg loc) = still refl refl refl
-    by_action (Move reg operand) = still refl refl refl
-    by_action Fence = when-form _ s stall.Fence _ (is_none_pending s.pending) (still refl refl refl)
-    by_action (Lock loc reg update) = when-form _ s stall.Lock _ (is_none_pending s.pending) (still refl refl refl)
+    by_action Fence = if-by (Form _ s) (is_none_pending s.pending) _ _ (λ none. still refl refl refl) (λ some. still refl refl refl)
+    by_action (Lock loc reg update) = if-by (Form _ s) (is_none_pending s.pending) _ _ (λ none. still refl refl refl) (λ some. still refl refl refl)
+    by_action _ = still refl refl refl
 
-drain-form : (core : ℕ) (s : CoreState) (q : List Entry) → s.pending ≡ q → Form (Drain (record { 0 = core })) s (if is_none_pending q
-    then stalled stall.Empty s
-    else record { outcome = Committed; after = record { place = s.place; registers = s.registers; pending = drop 1 q }; commits = take 1 q })
+drain-form : (core : ℕ) (s : CoreState) (q : List Entry) → s.pending ≡ q → Form (Drain (record { 0 = core })) s (drain_with s q)
 drain-form core s [] h = still refl refl refl
 drain-form core s (p ∷ ps) h = shrunk core p h refl refl
 
@@ -45,61 +32,20 @@ pub flat-form : (t : Litmus) (depth : ℕ) (state : State) (a : Choice) → Form
 flat-form t depth state (Step core) = step-form depth core.0 state.memory (next_of t state core.0) (core_of state core.0)
 flat-form t depth state (Drain core) = drain-form core.0 (core_of state core.0) (core_of state core.0).pending refl
 
-asks-form : (a : Choice) (s : CoreState) (holder : Holder) → Form a s (asks s a holder).effect
-asks-form a s Free = still refl refl refl
-asks-form a s (HeldBy other) = still refl refl refl
-asks-form a s (HeldBetween e) = still refl refl refl
-
-begins-form : (t : Litmus) (depth : ℕ) (state : State) (a : Attempt) (holder : Holder) → Form a.choice (core_of state (chosen a.choice)) (begins t depth state a holder).effect
-begins-form t depth state a holder = go (needs_bus (access_of t depth state a.choice) a.hits)
-  where
-    go : (b : Bool) → Form a.choice (core_of state (chosen a.choice)) (if b then asks (core_of state (chosen a.choice)) a.choice holder else acts (effect_of t depth state a.choice) holder).effect
-    go true = asks-form a.choice (core_of state (chosen a.choice)) holder
-    go false = flat-form t depth state a.choice
-
-completes-form : (t : Litmus) (depth : ℕ) (state : State) (a : Choice) → Form a (core_of state (chosen a)) (completes t depth state a (access_of t depth state a)).effect
-completes-form t depth state a = go a (access_of t depth state a) refl
-  where
-    go : (b : Choice) (what : MemoryAccess) → access_of t depth state b ≡ what → Form b (core_of state (chosen b)) (completes t depth state b what).effect
-    go b NoAccess q = flat-form t depth state b
-    go b (Reads loc) q = flat-form t depth state b
-    go b (Writes loc) q = flat-form t depth state b
-    go (Step core) (Locks loc) q = still refl refl refl
-    go (Drain core) (Locks loc) q = absurd (drain-no-lock (core_of state core.0).pending loc q)
-
 first-off : (o : Outcome) (es : List Entry) → committed_at o es ≡ es → committed_at o (drop 1 es) ≡ drop 1 es
 first-off Committed es h = refl
-first-off Buffered es h = ap (drop 1) h
-first-off Moved es h = ap (drop 1) h
-first-off Asked es h = ap (drop 1) h
-first-off (Stalled why) es h = ap (drop 1) h
+first-off _ es h = ap (drop 1) h
 
 after-first-form : (a : Choice) (s : CoreState) (f : Effect) → Form a s f → Form a s (after_first f)
 after-first-form a s f (still same waited quiet) = still same waited (first-off f.outcome f.commits quiet)
 after-first-form a s f (grown e more is none) = grown e more is (ap (drop 1) none)
 after-first-form a s f (shrunk core e less is drain) = shrunk core e less is drain
 
--- on a split bus
-split-form : (t : Litmus) (depth : ℕ) (state : State) (a : Attempt) (holder : Holder) → Form a.choice (core_of state (chosen a.choice)) (split_effect t depth state a holder).effect
-split-form t depth state a Free = begins-form t depth state a Free
-split-form t depth state a (HeldBy choice) = go (same_choice choice a.choice) refl
-  where
-    go : (b : Bool) → same_choice choice a.choice ≡ b
-        → Form a.choice (core_of state (chosen a.choice)) (if b then completes t depth state choice (access_of t depth state choice) else begins t depth state a (HeldBy choice)).effect
-    go true q = subst (λ c. Form c (core_of state (chosen c)) (completes t depth state choice (access_of t depth state choice)).effect) (same-is choice a.choice q) (completes-form t depth state choice)
-    go false q = begins-form t depth state a (HeldBy choice)
-split-form t depth state a (HeldBetween e) = go (same_choice (Step e.core) a.choice) refl
-  where
-    go : (b : Bool) → same_choice (Step e.core) a.choice ≡ b
-        → Form a.choice (core_of state (chosen a.choice)) (if b then writes_last t depth state e else begins t depth state a (HeldBetween e)).effect
-    go true q = subst (λ c. Form c (core_of state (chosen c)) (writes_last t depth state e).effect) (same-is (Step e.core) a.choice q)
-        (after-first-form (Step e.core) (core_of state e.core.0) (effect_of t depth (as_read state e) (Step e.core)) (flat-form t depth (as_read state e) (Step e.core)))
-    go false q = begins-form t depth state a (HeldBetween e)
-
--- on either
+-- on either bus
 pub effect-form : (bus : Bus) (t : Litmus) (depth : ℕ) (state : BusState) (a : Attempt) → Form a.choice (core_of state.flat (chosen a.choice)) (effect_on bus t depth state a).effect
-effect-form Atomic t depth state a = flat-form t depth state.flat a.choice
-effect-form Split t depth state a = split-form t depth state.flat a state.holder
+effect-form bus t depth state a =
+    effect-by (λ c f. Form c (core_of state.flat (chosen c)) f) bus t depth state a (λ needs. still refl refl refl) (λ needs. still refl refl refl) (flat-form t depth state.flat) (λ core loc q. still refl refl refl)
+    (λ e. after-first-form (Step e.core) (core_of state.flat e.core.0) _ (flat-form t depth (as_read state.flat e) (Step e.core)))
 
 -- ---- what waited before it, and what came
 
@@ -137,10 +83,7 @@ named Committed es more h none = ap (λ ms. es ++ ms) (none refl) ∙ nothing es
     nothing : (xs : List Entry) → xs ++ [] ≡ xs
     nothing [] = refl
     nothing (x ∷ xs) = ap (λ ys. x ∷ ys) (nothing xs)
-named Buffered es more h none = h
-named Moved es more h none = h
-named Asked es more h none = h
-named (Stalled why) es more h none = h
+named _ es more h none = h
 
 pub named-is : (choice : Choice) (s : CoreState) (f : Effect) → Form choice s f → committed_at f.outcome (f.commits ++ drop (length s.pending) f.after.pending) ≡ f.commits
 named-is choice s f (still same waited quiet) =

@@ -1,11 +1,11 @@
 -- What a choice makes of the copies that are sent to memory: those that its step tells, those that it counts, and those that are
 -- told already and counted later.
-use Rattle.trace_report.proofs.Vocabulary.{◌≡◌, ◌≢◌, ◌∙◌, ℕ, Bool, true, false, List, Option, Some, None, refl, sym, ap, subst, chosen, MemoryAccess, NoAccess, Reads, Writes, Locks, Holder, Bus, Atomic, Split, Core, Choice, Outcome, Table, transient_of, Request, GetS, GetM, Transient, IsD, ImD, SmD, table_of_rows, TagSets, Awaited, tag_at, or_invalid, asking, awaiting, completed, completed_in, CacheUse, Unused, Forwarded, Through, Caches, Used, asking_by, is_awaited, nothing_sent, sent_whole, sent_at, sent_on, LineRequest, inl, inr, completing_by}
+use Rattle.trace_report.proofs.Vocabulary.{◌≡◌, ◌≢◌, ◌∙◌, ℕ, Bool, true, false, List, Option, Some, None, refl, sym, ap, subst, chosen, MemoryAccess, NoAccess, Holder, Bus, Atomic, Split, Core, Choice, Outcome, Table, transient_of, Request, GetS, GetM, Transient, SmD, table_of_rows, TagSets, Awaited, tag_at, or_invalid, asking, awaiting, completed, completed_in, CacheUse, Unused, Caches, Used, asking_by, is_awaited, nothing_sent, sent_whole, sent_at, sent_on, LineRequest, inl, inr, completing_by, request_for}
 use Rattle.std.specs.Option.{option_map}
 use Rattle.tso_model.specs.declared.choice.Outcome.TheVariants as out
 use Rattle.protocol_tables.specs.declared.state.State.TheVariants as tag
 use Rattle.protocol_tables.specs.declared.state.State as protocol
-use Rattle.trace_report.proofs.InPlace.{flush_in, use-still, use-keeps}
+use Rattle.trace_report.proofs.InPlace.{flush_in, use-still, use-keeps, is_write_access}
 use Rattle.trace_report.proofs.UsesOnBus.{UsesOn, made, unused, begun, ended}
 
 -- whose copy was sent for what is awaited
@@ -29,24 +29,17 @@ pub data Turns (waits then_waits : Bool) (before after : Option Awaited) (told h
 awaiting-quiet : (t : Table) (request : Request) (line : ℕ) (caches : List TagSets) (s : protocol.State) → UpgradesQuietly (option_map (awaiting t request line caches) (transient_of s request))
 unfolding awaiting
 awaiting-quiet t GetS line caches tag.I = λ q. absurd (let z : ⊥ = cc in z)
-awaiting-quiet t GetS line caches tag.S = tt
-awaiting-quiet t GetS line caches tag.E = tt
-awaiting-quiet t GetS line caches tag.O = tt
-awaiting-quiet t GetS line caches tag.M = tt
-awaiting-quiet t GetM line caches tag.I = λ q. refl
-awaiting-quiet t GetM line caches tag.S = λ q. refl
-awaiting-quiet t GetM line caches tag.O = λ q. refl
+awaiting-quiet t GetS line caches _ = tt
 awaiting-quiet t GetM line caches tag.E = tt
 awaiting-quiet t GetM line caches tag.M = tt
+awaiting-quiet t GetM line caches _ = λ q. refl
 
 asking-quiet : (t : Table) (request : Request) (core line : ℕ) (caches : List TagSets) → UpgradesQuietly (asking t request core line caches).awaited
 asking-quiet t request core line caches = awaiting-quiet t request line caches (or_invalid (tag_at core line caches))
 
 asks-quiet : (c : Caches) (core : ℕ) (what : MemoryAccess) → UpgradesQuietly c.awaited → UpgradesQuietly (asking_by c core what).caches.awaited × (flush_in (asking_by c core what).how ≡ None)
 asks-quiet c core NoAccess quiet = (quiet, refl)
-asks-quiet c core (Reads loc) quiet = (asking-quiet (table_of_rows c.rows) GetS core _ c.contents, refl)
-asks-quiet c core (Writes loc) quiet = (asking-quiet (table_of_rows c.rows) GetM core _ c.contents, refl)
-asks-quiet c core (Locks loc) quiet = (asking-quiet (table_of_rows c.rows) GetM core _ c.contents, refl)
+asks-quiet c core what quiet = (asking-quiet (table_of_rows c.rows) (request_for (is_write_access what)) core _ c.contents, refl)
 
 -- ---- it is completed
 
@@ -55,26 +48,20 @@ completed-flush t core line None caches quiet = refl
 completed-flush t core line (Some x) caches quiet = by_transient x.transient quiet
   where
     by_transient : (transient : Transient) → (transient ≡ SmD → x.flushed ≡ None) → (completed_in t core line transient x.state x.flushed caches).access.flushed ≡ x.flushed
-    by_transient IsD q = refl
-    by_transient ImD q = refl
     by_transient SmD q = sym (q refl)
+    by_transient _ q = refl
 
 -- then nothing is awaited any more
 completes-flush : (c : Caches) (core : ℕ) (what : MemoryAccess) → what ≢ NoAccess → UpgradesQuietly c.awaited
     → (flush_in (completing_by c core what).how ≡ flush_awaited c.awaited) × ((completing_by c core what).caches.awaited ≡ None)
 completes-flush c core NoAccess some quiet = absurd (some refl)
-completes-flush c core (Reads loc) some quiet = (completed-flush (table_of_rows c.rows) core _ c.awaited c.contents quiet, refl)
-completes-flush c core (Writes loc) some quiet = (completed-flush (table_of_rows c.rows) core _ c.awaited c.contents quiet, refl)
-completes-flush c core (Locks loc) some quiet = (completed-flush (table_of_rows c.rows) core _ c.awaited c.contents quiet, refl)
+completes-flush c core _ some quiet = (completed-flush (table_of_rows c.rows) core _ c.awaited c.contents quiet, refl)
 
 -- ---- a choice on either bus
 
 pub none-sent : (o : Outcome) (r : Option LineRequest) → sent_at o r None ≡ nothing_sent
 none-sent out.Committed r = refl
-none-sent out.Buffered r = refl
-none-sent out.Moved r = refl
-none-sent out.Asked r = refl
-none-sent (out.Stalled why) r = refl
+none-sent _ r = refl
 
 asked-told : (r : Option LineRequest) (w : Option Awaited) → (sent_at out.Asked r w).flushed ≡ flush_awaited w
 asked-told r None = refl
@@ -82,8 +69,7 @@ asked-told r (Some x) = refl
 
 whole-told : (r : Option LineRequest) (how : CacheUse) → (sent_whole r how).flushed ≡ flush_in how
 whole-told r Unused = refl
-whole-told r Forwarded = refl
-whole-told r (Through a) = refl
+whole-told r _ = refl
 
 module _ (r : Option LineRequest) (c : Caches) (a : Choice) (before after : Choice → MemoryAccess) (holder next : Holder) (o : Outcome) (u : Used) (quiet : UpgradesQuietly c.awaited) where
   abbrev TurnsOn : Bus → Type 0

@@ -1,34 +1,16 @@
 -- The flushes that a trace tells, and those that are counted.
-use Rattle.trace_report.proofs.Vocabulary.{◌≡◌, ◌∙◌, ℕ, zero, suc, ◌+◌, ◌==◌, ◌&&◌, Bool, true, false, List, [], ◌∷◌, length, map, Option, Some, None, refl, sym, ap, subst, arith, length-replicate, length-map, Litmus, State, program_of, chosen, core_of, has_ended, is_done, MemoryAccess, NoAccess, step_access, drain_access, access_of, Holder, Free, HeldBy, HeldBetween, BusRun, Bus, Atomic, Split, Core, Choice, Step, Drain, Table, Transient, IsD, ImD, SmD, Entry, Request, AccessKind, Hit, Upgrade, Miss, tags_in, Configuration, TagSets, at_others, Awaited, asked_caches_in, completed, completed_in, table_of_rows, done-next, done-pending, done-anywhere, AllStores, start-stores, Live, LiveIn, live-after, live-start, Caches, is_awaited, used_between, no_counts, with_access, with_forward, with_write_back, with_flush, counts_at_core, flush_counted, with_use_counted, Counts, CacheUse, Unused, Forwarded, Through, Running, new_machine, attempt_on, machine_use, machine_after, length-counted, trace_step_of, steps_from, request_at, is_sender, tells_flush, one_if, steps_that, awaited_as, request_for, whole_in, awaiting, CoresExist}
+use Rattle.trace_report.proofs.Vocabulary.{◌≡◌, ◌∙◌, ℕ, ◌+◌, ◌==◌, ◌&&◌, Bool, true, false, List, [], ◌∷◌, length, map, Option, Some, None, refl, sym, ap, subst, arith, length-replicate, length-map, Litmus, chosen, core_of, has_ended, MemoryAccess, access_of, BusRun, Core, Choice, Table, Entry, tags_in, Configuration, AllStores, start-stores, LiveIn, live-after, live-start, Caches, is_awaited, used_between, no_counts, with_access, with_forward, with_write_back, with_flush, counts_at_core, flush_counted, with_use_counted, Counts, CacheUse, Unused, Forwarded, Through, Running, new_machine, attempt_on, machine_use, machine_after, length-counted, trace_step_of, steps_from, request_at, is_sender, tells_flush, one_if, steps_that, CoresExist, cases_Bool, ended-free, inl, inr}
 use Rattle.std.proofs.Common.{length-set}
-use Rattle.protocol_tables.specs.declared.state.State as protocol
 use Rattle.snoop_bus.specs.Bus.{empty_caches}
 use Rattle.machine_core.specs.Running.{machine_effect}
 use Rattle.machine_core.specs.inner.Keeping.{IsAmong, IsFlusherAmong, IsSenderAmong}
 use Rattle.machine_core.proofs.CountsOnBus.{senders}
-use Rattle.trace_report.proofs.AccessesTold.{of, kept, added, counts_after, end_of, summed}
+use Rattle.trace_report.proofs.AccessesTold.{of, kept, added, counts_after, end_of, summed, through-keeps}
 use Rattle.trace_report.proofs.RunsTold.{run_of, going}
-use Rattle.machine_core.proofs.EachUse.{each-use}
+use Rattle.trace_report.proofs.Rooms.{room_of, used-rooms}
 use Rattle.trace_report.proofs.InPlace.{flush_in}
 use Rattle.trace_report.proofs.UsesOnBus.{UsesOn, choice-uses}
 use Rattle.trace_report.proofs.Flushes.{flush_awaited, UpgradesQuietly, Turns, whole, asked, arrived, choice-turn}
-
--- a core that is done makes no access
-done-no-access : (t : Litmus) (depth : ℕ) (state : State) (a : Choice) → is_done (program_of t (chosen a)) (core_of state (chosen a)) ≡ true → access_of t depth state a ≡ NoAccess
-done-no-access t depth state (Step c) h = ap (λ i. step_access depth i (core_of state c.0).pending) (done-next (program_of t c.0) (core_of state c.0) h)
-done-no-access t depth state (Drain c) h = ap drain_access (done-pending (program_of t c.0) (core_of state c.0) h)
-
--- once the test has ended no access is awaited
-ended-free : (bus : Bus) (t : Litmus) (depth : ℕ) (state : State) (holder : Holder) → Live bus t depth state holder → has_ended t state ≡ true → is_awaited holder ≡ false
-ended-free bus t depth state Free live h = refl
-ended-free bus t depth state (HeldBetween e) live h = refl
-ended-free Atomic t depth state (HeldBy choice) live h = absurd live.holding
-ended-free Split t depth state (HeldBy choice) live h = absurd (live.holding (done-no-access t depth state choice (done-anywhere t state (chosen choice) live.size h)))
-
-length-others : (core : ℕ) (f : TagSets → TagSets) (cs : List TagSets) → length (at_others core f cs) ≡ length cs
-length-others core f [] = refl
-length-others zero f (c ∷ cs) = ap suc (length-map cs f)
-length-others (suc core) f (c ∷ cs) = ap suc (length-others core f cs)
 
 -- ---- what a choice counts
 
@@ -41,46 +23,21 @@ sender-adds k (Some core) cs among =
     always true = refl
     always false = refl
 
-through-flushes : (wrote_back : Bool) (k : AccessKind) (n : Counts) → (with_write_back wrote_back (with_access k n)).flushes ≡ n.flushes
-through-flushes true Hit n = refl
-through-flushes true Miss n = refl
-through-flushes true Upgrade n = refl
-through-flushes false Hit n = refl
-through-flushes false Miss n = refl
-through-flushes false Upgrade n = refl
-
 counted-flush : (core k : ℕ) (how : CacheUse) (cs : List Counts) → IsFlusherAmong (length cs) how → (of (with_use_counted core how cs) k).flushes ≡ (of cs k).flushes + one_if (is_sender k (flush_in how))
 counted-flush core k Unused cs among = omega arith
 counted-flush core k Forwarded cs among = kept (λ (n : Counts). n.flushes) core k with_forward cs (λ n. refl) ∙ (omega arith)
 counted-flush core k (Through a) cs among =
     let change : Counts → Counts = λ n. with_write_back a.wrote_back (with_access a.kind n) in
     sender-adds k a.flushed (counts_at_core core change cs) (subst (λ size. IsAmong size a.flushed) (sym (length-set cs core (change (of cs core)))) among)
-    ∙ ap (λ n. n + one_if (is_sender k a.flushed)) (kept (λ (n : Counts). n.flushes) core k change cs (through-flushes a.wrote_back a.kind))
+    ∙ ap (λ n. n + one_if (is_sender k a.flushed)) (kept (λ (n : Counts). n.flushes) core k change cs (λ n. (through-keeps a.kind a.wrote_back n).1))
 
 -- ---- the caches stay as many
-
-asked-size : (t : Table) (request : Request) (core line : ℕ) (o : Option Transient) (caches : List TagSets) → length (asked_caches_in t request core line o caches) ≡ length caches
-asked-size t request core line None caches = refl
-asked-size t request core line (Some x) caches = length-others core _ caches
-
-completed-size : (t : Table) (core line : ℕ) (w : Option Awaited) (caches : List TagSets) → length (completed t core line w caches).caches ≡ length caches
-completed-size t core line None caches = length-set caches core _
-completed-size t core line (Some x) caches = by_transient x.transient
-  where
-    by_transient : (transient : Transient) → length (completed_in t core line transient x.state x.flushed caches).caches ≡ length caches
-    by_transient IsD = length-set caches core _
-    by_transient ImD = length-set caches core _
-    by_transient SmD = length-set caches core _
-
-whole-size : (t : Table) (write : Bool) (core line : ℕ) (caches : List TagSets) (copy next : Option protocol.State) → length (whole_in t write core line caches copy next).caches ≡ length caches
-whole-size t write core line caches copy (Some state) = length-set caches core _
-whole-size t write core line caches copy None = completed-size t core line (Some (awaiting t (request_for write) line caches (awaited_as write copy))) _ ∙ length-others core _ caches
 
 used-size : (before after : Bool) (c : Caches) (core : ℕ) (what : MemoryAccess) (pending commits : List Entry)
     → length (used_between before after c core what pending commits).caches.contents ≡ length c.contents
 used-size before after c core what pending commits =
-    each-use (λ u. length u.caches.contents ≡ length c.contents) c refl refl (λ k loc write. whole-size (table_of_rows c.rows) write k _ c.contents _ _) core
-    (λ loc write. asked-size (table_of_rows c.rows) (request_for write) core _ _ c.contents) (λ loc. completed-size (table_of_rows c.rows) core _ c.awaited c.contents) before after what pending commits
+    sym (length-map (used_between before after c core what pending commits).caches.contents room_of)
+    ∙ (ap length (used-rooms c core before after what pending commits) ∙ length-map c.contents room_of)
 
 -- ---- along the choices
 
@@ -180,12 +137,11 @@ waiting_for k m = one_if (is_sender k (flush_awaited m.statistics.caches.awaited
 
 -- once the test has ended nothing is
 none-waits : (m : Running) (choices : List Choice) (k : ℕ) → IsSound m → (run_of m choices).ended ≡ true → waiting_for k (end_of m choices) ≡ 0
-none-waits m [] k s over = ap (λ o. one_if (is_sender k o)) (s.resting (ended-free m.bus m.test m.depth m.state.flat m.state.holder s.live over))
-none-waits m (c ∷ cs) k s over = go (has_ended m.test m.state.flat) refl (none-waits (machine_after m c) cs k (sound-after m c s))
-  where
-    go : (b : Bool) → has_ended m.test m.state.flat ≡ b → ((run_of (machine_after m c) cs).ended ≡ true → waiting_for k (end_of (machine_after m c) cs) ≡ 0) → waiting_for k (end_of m (c ∷ cs)) ≡ 0
-    go true now rest = rw now (ap (λ o. one_if (is_sender k o)) (s.resting (ended-free m.bus m.test m.depth m.state.flat m.state.holder s.live now)))
-    go false now rest = rw now (rest (sym (ap (λ (r : BusRun). r.run.ended) (going m c cs now)) ∙ over))
+none-waits m [] k s over = ap (λ o. one_if (is_sender k o)) (s.resting (ap is_awaited (ended-free m.bus m.test m.depth m.state.flat m.state.holder s.live over)))
+none-waits m (c ∷ cs) k s over = elim (cases_Bool (has_ended m.test m.state.flat)) [
+  | inl now ↦ rw now (ap (λ o. one_if (is_sender k o)) (s.resting (ap is_awaited (ended-free m.bus m.test m.depth m.state.flat m.state.holder s.live now))))
+  | inr now ↦ rw now (none-waits (machine_after m c) cs k (sound-after m c s) (sym (ap (λ (r : BusRun). r.run.ended) (going m c cs now)) ∙ over))
+]
 
 pub flushes-told : (m : Running) (choices : List Choice) (k : ℕ) → IsSound m → CoresExist (length m.statistics.counts) choices → (run_of m choices).ended ≡ true
     → (of (counts_after m choices) k).flushes ≡ (of m.statistics.counts k).flushes + waiting_for k m + steps_that (tells_flush k) (steps_from m choices)

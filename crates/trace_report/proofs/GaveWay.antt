@@ -1,5 +1,5 @@
 -- The line that a step tells as written back is the one that gave way in its set; and where one is written back it is told.
-use Rattle.trace_report.proofs.Vocabulary.{arith, ◌∷◌, ◌≡◌, ◌∙◌, ◌⊎◌, ◌-◌, ◌<◌, ◌≤◌, ◌/◌, ◌%◌, ◌==◌, ◌&&◌, ℕ, Bool, true, false, nat_lt, if◌then◌else◌, List, [], length, slice_get, slice_index_or, Option, Some, None, is_some, option_map, inl, inr, refl, sym, ap, subst, replicate, nat_tests, length-map, length-replicate, get_or-replicate, get_or_past, get_or-map, lt-or, Litmus, IsTest, chosen, MemoryAccess, NoAccess, Reads, Writes, Locks, access_of, Choice, Table, table_of_rows, TagSet, leaving, TagSets, tags_at, sets_of, dirty_in, Configuration, Caches, at_access, Running, new_machine, machine_use, machine_after, CacheUse, Unused, Forwarded, Through, no_set, sets-leave, request_at, number_of_lines, last_line, among, giving_way, wrote_back_by, WriteBacksAreTold, after_choices, KeepsNoCopyInI, tells_write_back}
+use Rattle.trace_report.proofs.Vocabulary.{arith, ◌∷◌, ◌≡◌, ◌∙◌, ◌⊎◌, ◌-◌, ◌<◌, ◌≤◌, ◌/◌, ◌%◌, ◌==◌, ◌&&◌, ℕ, Bool, true, false, nat_lt, if◌then◌else◌, List, [], length, slice_get, slice_index_or, Option, Some, None, is_some, option_map, inl, inr, refl, sym, ap, subst, replicate, nat_tests, length-map, length-replicate, get_or-replicate, get_or_past, get_or-map, lt-or, Litmus, IsTest, chosen, MemoryAccess, NoAccess, access_of, Choice, Table, table_of_rows, TagSet, leaving, TagSets, tags_at, sets_of, dirty_in, Configuration, Caches, at_access, Running, new_machine, machine_use, machine_after, CacheUse, Through, no_set, sets-leave, request_at, number_of_lines, last_line, among, giving_way, wrote_back_by, WriteBacksAreTold, after_choices, KeepsNoCopyInI, tells_write_back}
 use Rattle.protocol_tables.specs.declared.state.State as protocol
 use Rattle.trace_report.specs.Steps as steps
 use Rattle.trace_report.proofs.Awaiting.{Fills}
@@ -48,9 +48,7 @@ asked-there m core came what at = by_access what at
     by_access : (what : MemoryAccess) → at_access None (λ loc write. Some (loc.0 / m.statistics.caches.shape.words)) what ≡ Some came
         → giving_way m core (request_at m.statistics.caches.shape.words what) ≡ among (number_of_lines m) (last_line m core (came % m.statistics.caches.shape.sets))
     by_access NoAccess q = absurd (let z : ⊥ = cc in z)
-    by_access (Reads loc) q = here (loc.0 / m.statistics.caches.shape.words) q
-    by_access (Writes loc) q = here (loc.0 / m.statistics.caches.shape.words) q
-    by_access (Locks loc) q = here (loc.0 / m.statistics.caches.shape.words) q
+    by_access _ q = here _ q
 
 among-these : (lines line : ℕ) → line < lines → among lines (Some line) ≡ Some line
 among-these lines line l = let there : nat_lt line lines ≡ true = grind (arith, nat_tests, l) in rw there refl
@@ -93,26 +91,24 @@ gives m choice k there dirty = by_victim (leaving (tags_at sets f.came)) refl
 -- ---- what a step tells
 
 told-where : (how : CacheUse) (victim : Option ℕ) → (wrote_in how ≡ true → is_some victim ≡ true) → is_some (wrote_back_by how victim) ≡ wrote_in how
-told-where Unused victim h = refl
-told-where Forwarded victim h = refl
 told-where (Through a) victim h = by_test a.wrote_back h
   where
     by_test : (b : Bool) → (b ≡ true → is_some victim ≡ true) → is_some (if b then victim else None) ≡ b
     by_test true h = h refl
     by_test false h = refl
+told-where _ victim h = refl
 
 pub step-told : (k : ℕ) (m : Running) (c : Choice) → IsKept m → chosen c < length m.statistics.counts → tells_write_back k (steps.trace_step_of m c) ≡ ((chosen c == k) && wrote_in (machine_use m c).how)
 unfolding steps.trace_step_of
 step-told k m c kept there = ap (λ b. (chosen c == k) && b) (told-where (machine_use m c).how _ (λ dirty. ap is_some (gives m c kept there dirty).told))
 
 wrote-parts : (how : CacheUse) (victim : Option ℕ) (line : ℕ) → wrote_back_by how victim ≡ Some line → (wrote_in how ≡ true) × (victim ≡ Some line)
-wrote-parts Unused victim line h = absurd (let z : ⊥ = cc in z)
-wrote-parts Forwarded victim line h = absurd (let z : ⊥ = cc in z)
 wrote-parts (Through a) victim line h = by_test a.wrote_back refl h
   where
     by_test : (b : Bool) → a.wrote_back ≡ b → (if b then victim else None) ≡ Some line → (a.wrote_back ≡ true) × (victim ≡ Some line)
     by_test true q h = (q, h)
     by_test false q h = absurd (let z : ⊥ = cc in z)
+wrote-parts _ victim line h = absurd (let z : ⊥ = cc in z)
 
 gave-way : (m : Running) (choice : Choice) → IsKept m → chosen choice < length m.statistics.counts → WriteBacksAreTold m choice
 unfolding steps.trace_step_of

@@ -1,19 +1,21 @@
 -- An access that needs no bus: no other cache sees it, nothing is sent to memory, and no line leaves.
-use Rattle.trace_report.proofs.Vocabulary.{◌≡◌, ◌≢◌, ◌∙◌, ◌/◌, ℕ, Bool, true, false, not, List, slice_index_or, Option, Some, None, is_some, inl, inr, refl, sym, subst, eqb_tells, MemoryAccess, NoAccess, Reads, Writes, Locks, needs_bus, Table, table_of_rows, TagSet, tag_of, used, TagSets, tags_at, tag_in, at_line, sets_of, used_by, tag_at, Caches, Used, not_through, hits_by, Unused, IsUseFor, no_set, absent-remove, would_hit, through, whole_by, Forwarded, Through, next_in_place, whole_in, CacheUse, Core}
+use Rattle.trace_report.proofs.Vocabulary.{◌≡◌, ◌≢◌, ◌∙◌, ◌/◌, ℕ, Bool, false, not, List, slice_index_or, Option, Some, None, is_some, inl, inr, refl, sym, subst, eqb_tells, MemoryAccess, NoAccess, Reads, Locks, needs_bus, Table, table_of_rows, TagSet, tag_of, used, TagSets, tags_at, tag_in, at_line, sets_of, used_by, tag_at, Caches, Used, not_through, hits_by, Unused, IsUseFor, no_set, absent-remove, would_hit, through, whole_by, Forwarded, Through, next_in_place, whole_in, CacheUse, Core, at_access}
 use Rattle.protocol_tables.specs.declared.state.State.{State}
 use Rattle.bus_laws.proofs.Changed.{set-at, core-at}
 use Rattle.bus_laws.proofs.Snooped.{own-alone}
 
+-- whether an access is a write access
+abbrev pub is_write_access : MemoryAccess → Bool
+is_write_access what = at_access false (λ loc write. write) what
+
 -- whether a dirty line is written back as the caches are used, and whose copy is sent to memory
 abbrev pub wrote_in : CacheUse → Bool
-wrote_in Unused = false
-wrote_in Forwarded = false
 wrote_in (Through a) = a.wrote_back
+wrote_in _ = false
 
 abbrev pub flush_in : CacheUse → Option Core
-flush_in Unused = None
-flush_in Forwarded = None
 flush_in (Through a) = a.flushed
+flush_in _ = None
 
 -- where a line is used that is there, a line that isn't there stays away
 tags-absent : (other line : ℕ) (state found : State) (s : TagSet) → tag_of s line ≡ Some found → tag_of s other ≡ None → tag_of (used line state s) other ≡ None
@@ -74,14 +76,12 @@ hit-still c core loc write hit = by_next (next_in_place t write (tag_at core lin
 pub use-still : (c : Caches) (core : ℕ) (what : MemoryAccess) (u : Used) → IsUseFor c core what u → needs_bus what (hits_by c core what) ≡ false → IsStill c core u
 use-still c core NoAccess u (inl is) free = subst (IsStill c core) (sym is) (none-still c core Unused refl refl)
 use-still c core NoAccess u (inr is) free = subst (IsStill c core) (sym is) (none-still c core Forwarded refl refl)
-use-still c core (Reads loc) u is free = subst (IsStill c core) (sym is) (hit-still c core loc.0 false free)
-use-still c core (Writes loc) u is free = subst (IsStill c core) (sym is) (hit-still c core loc.0 true free)
 use-still c core (Locks loc) u is free = absurd (let z : ⊥ = cc in z)
+use-still c core what u is free = subst (IsStill c core) (sym is) (hit-still c core _ (is_write_access what) free)
 
 -- whatever access it is, the protocol's table and what is awaited stay
 pub use-keeps : (c : Caches) (core : ℕ) (what : MemoryAccess) (u : Used) → IsUseFor c core what u → (u.caches.rows ≡ c.rows) × (u.caches.awaited ≡ c.awaited)
 use-keeps c core NoAccess u (inl is) = rw is (refl, refl)
 use-keeps c core NoAccess u (inr is) = rw is (refl, refl)
 use-keeps c core (Reads loc) u is = rw is (refl, refl)
-use-keeps c core (Writes loc) u is = rw is (refl, refl)
-use-keeps c core (Locks loc) u is = rw is (refl, refl)
+use-keeps c core _ u is = rw is (refl, refl)

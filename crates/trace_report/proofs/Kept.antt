@@ -1,5 +1,5 @@
 -- What a machine keeps along the choices of a run: its lines are neat, their sets have their room, and what it awaits may come in.
-use Rattle.trace_report.proofs.Vocabulary.{arith, ◌≡◌, ◌≢◌, ◌∙◌, ◌/◌, ◌<◌, ℕ, zero, suc, Bool, true, false, List, length, map, replicate, slice_index_or, Some, inl, inr, refl, sym, ap, subst, div_ceil, div_ceil_times, length-replicate, div-mul-le_self, mul-le-mul_right, lt-or, Litmus, IsTest, chosen, MemoryAccess, NoAccess, Reads, Writes, Locks, access_of, Choice, Table, table_of_rows, rows_of, tags_in, TagSet, Configuration, no_counts, Running, new_machine, machine_use, machine_after, length-counted, AreStoresKnown, number_of_lines, KeepsNoCopyInI, IsNeat, none-neat, no-sets, no_set, AllNeat, Geometry, [], after_choices, core_of, is_awaited, ◌∷◌}
+use Rattle.trace_report.proofs.Vocabulary.{arith, ◌≡◌, ◌≢◌, ◌∙◌, ◌/◌, ◌<◌, ℕ, zero, suc, Bool, true, false, List, length, map, replicate, slice_index_or, Some, inl, inr, refl, sym, ap, subst, div_ceil, div_ceil_times, length-replicate, div-mul-le_self, mul-le-mul_right, lt-or, Litmus, IsTest, chosen, MemoryAccess, NoAccess, access_of, Choice, Table, table_of_rows, rows_of, tags_in, TagSet, Configuration, no_counts, Running, new_machine, machine_use, machine_after, length-counted, AreStoresKnown, number_of_lines, KeepsNoCopyInI, IsNeat, none-neat, no-sets, no_set, AllNeat, Geometry, [], after_choices, core_of, is_awaited, ◌∷◌}
 use Rattle.protocol_tables.specs.declared.state.State as protocol
 use Rattle.protocol_tables.specs.declared.state.State.TheVariants as tag
 use Rattle.trace_report.proofs.Awaiting.{HolderMayMake, IsWithin, FillsIf, neat-after, may-after, fills-by}
@@ -25,9 +25,7 @@ line-below count words loc some within = elim (lt-or (div_ceil count words) (loc
 
 within-lines : (t : Litmus) (words : ℕ) (what : MemoryAccess) → 0 < words → AccessKnown t what → IsWithin (div_ceil (length t.locations) words) words what
 within-lines t words NoAccess some h = tt
-within-lines t words (Reads loc) some h = line-below (length t.locations) words loc.0 some h
-within-lines t words (Writes loc) some h = line-below (length t.locations) words loc.0 some h
-within-lines t words (Locks loc) some h = line-below (length t.locations) words loc.0 some h
+within-lines t words _ some h = line-below (length t.locations) words _ some h
 
 -- ---- along the choices
 
@@ -46,9 +44,6 @@ pub record IsKept (m : Running) : Type 0 where
   pub neat : AllNeat (number_of_lines m) m.statistics.caches.contents
   pub rooms : rooms_of m.statistics.caches.contents ≡ rooms_in m
   pub may : HolderMayMake (access_of m.test m.depth m.state.flat) m.state.holder m.statistics.caches
-
-lines-kept : (m : Running) (c : Choice) → number_of_lines (machine_after m c) ≡ number_of_lines m
-lines-kept m c = ap (λ n. div_ceil (length m.test.locations) n) (words-kept m c)
 
 rooms-kept : (m : Running) (c : Choice) → rooms_of (machine_after m c).statistics.caches.contents ≡ rooms_of m.statistics.caches.contents
 rooms-kept m c =
@@ -76,7 +71,7 @@ kept-after m c k =
       words = subst (λ n. 0 < n) (sym (words-kept m c)) k.words;
       cores = length-counted (chosen c) (machine_use m c).how m.statistics.counts ∙ k.cores;
       keeps = subst (λ rows. KeepsNoCopyInI (table_of_rows rows)) (sym (rows-kept m c)) k.keeps;
-      neat = subst (λ n. AllNeat n (machine_use m c).caches.contents) (sym (lines-kept m c)) (neat-after m.bus caches c before after m.state.holder next (machine_effect m c).effect.outcome (machine_use m c) k.keeps k.may (number_of_lines m) uses within k.neat);
+      neat = subst (λ n. AllNeat n (machine_use m c).caches.contents) (sym (ap (λ n. div_ceil (length m.test.locations) n) (words-kept m c))) (neat-after m.bus caches c before after m.state.holder next (machine_effect m c).effect.outcome (machine_use m c) k.keeps k.may (number_of_lines m) uses within k.neat);
       rooms = rooms-kept m c ∙ (k.rooms ∙ sym (ap (λ (s : Geometry). replicate (length m.test.programs) (replicate s.sets s.ways)) (shape-kept m c)));
       may = may-after m.bus caches c before after m.state.holder next (machine_effect m c).effect.outcome (machine_use m c) k.keeps k.may (number_of_lines m) uses k.neat;
     }
@@ -116,10 +111,7 @@ keeps-first table keeps = record { filled = filled; written = written }
 
     written : (state : protocol.State) → (table_of_rows (rows_of table)).written state ≢ Some tag.I
     written tag.I = keeps.written tag.I
-    written tag.S = keeps.written tag.S
-    written tag.E = keeps.written tag.E
-    written tag.O = keeps.written tag.O
-    written tag.M = keeps.written tag.M
+    written state = keeps.written state
 
 pub kept-first : (table : Table) (c : Configuration) (t : Litmus) → IsTest t → 0 < c.shape.words → KeepsNoCopyInI table → IsKept (new_machine table c t)
 kept-first table c t test words keeps = record {

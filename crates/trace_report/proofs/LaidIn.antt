@@ -34,16 +34,8 @@ numbered _ = state.Transient SmD
 
 round : (x : LineState) → numbered (number_of_state x) ≡ x
 round (state.Stable tag.I) = refl
-round (state.Stable tag.S) = refl
-round (state.Stable tag.E) = refl
-round (state.Stable tag.O) = refl
-round (state.Stable tag.M) = refl
 round (state.Transient IsD) = refl
-round (state.Transient ImD) = refl
-round (state.Transient SmD) = refl
-
-number-tells : (x y : LineState) → number_of_state x ≡ number_of_state y → x ≡ y
-number-tells x y h = sym (round x) ∙ (ap numbered h ∙ round y)
+round _ = refl
 
 -- ---- changes laid in
 
@@ -90,7 +82,7 @@ laid (b ∷ bs) (a ∷ afters) h = go (number_of_state b.state == number_of_stat
     go true q rest =
         let same : number_of_state b.state ≡ number_of_state a.state = grind (arith, nat_tests) in
         with-other (changes_in bs afters) b bs (elsewhere b bs afters h.1.0) ∙ (ap (λ ps. b ∷ ps) rest
-        ∙ ap (λ p. p ∷ afters) (same-place b a h.0.0 h.0.1 (number-tells b.state a.state same)))
+        ∙ ap (λ p. p ∷ afters) (same-place b a h.0.0 h.0.1 (sym (round b.state) ∙ (ap numbered same ∙ round a.state))))
     go false q rest =
         let c : StateChange = record { core = b.core; line = b.line; before = b.state; after = a.state } in
         let now : PlacedState = record { core = b.core; line = b.line; state = a.state } in

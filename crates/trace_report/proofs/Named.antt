@@ -1,5 +1,5 @@
 -- The lines and stores that a step names are the test's.
-use Rattle.trace_report.proofs.Vocabulary.{ℕ, zero, suc, ◌+◌, ◌<◌, ◌≤◌, Bool, true, false, ◌==◌, ◌%◌, ◌≡◌, nat_lt, if◌then◌else◌, refl, List, [], ◌∷◌, length, Option, Some, None, IfSome, All, arith, All-nil, All-cons, All-head, All-tail, All-append, nat_tests, Litmus, MemoryAccess, NoAccess, Reads, Writes, Locks, Bus, Atomic, Split, Outcome, Committed, Buffered, Moved, Asked, Stalled, Entry, Awaited, Running, CacheUse, Unused, Forwarded, Through, IsAt, IsLine, goes_on_bus, request_at, sent_on, line_states, placed_states_from, number_of_lines, states_of, number_of_state, change_of, changes_in, last_line, among, giving_way, wrote_back_by, buffer_if_changed, LineRequest, StateChange, PlacedState}
+use Rattle.trace_report.proofs.Vocabulary.{ℕ, zero, suc, ◌+◌, ◌<◌, ◌≤◌, Bool, true, false, ◌==◌, ◌%◌, ◌≡◌, nat_lt, if◌then◌else◌, refl, List, [], ◌∷◌, length, Option, Some, None, IfSome, All, arith, All-nil, All-cons, All-head, All-tail, All-append, nat_tests, Litmus, MemoryAccess, NoAccess, Bus, Atomic, Split, Outcome, Committed, Asked, Entry, Awaited, Running, CacheUse, Through, IsAt, IsLine, goes_on_bus, request_at, sent_on, line_states, placed_states_from, number_of_lines, states_of, number_of_state, change_of, changes_in, last_line, among, giving_way, wrote_back_by, buffer_if_changed, LineRequest, StateChange, PlacedState, cases_Bool, inl, inr}
 use Rattle.trace_report.proofs.Places.{AccessKnown, line-at, line-within}
 
 -- ---- requests
@@ -9,9 +9,7 @@ IsKnownRequest t words r = IfSome r (λ q. IsLine t words q.line)
 
 pub request-known : (t : Litmus) (words : ℕ) (what : MemoryAccess) → 0 < words → AccessKnown t what → IfSome (request_at words what) (λ q. IsLine t words q.line)
 request-known t words NoAccess some k = tt
-request-known t words (Reads loc) some k = line-at t words loc.0 some k
-request-known t words (Writes loc) some k = line-at t words loc.0 some k
-request-known t words (Locks loc) some k = line-at t words loc.0 some k
+request-known t words _ some k = line-at t words _ some k
 
 whole-known : (t : Litmus) (words : ℕ) (request : Option LineRequest) (b : Bool) → IsKnownRequest t words request → IsKnownRequest t words (if b then request else None)
 whole-known t words request true k = k
@@ -19,15 +17,12 @@ whole-known t words request false k = tt
 
 pub sent-known : (t : Litmus) (words : ℕ) (bus : Bus) (outcome : Outcome) (request : Option LineRequest) (how : CacheUse) (awaited : Option Awaited)
     → IfSome request (λ q. IsLine t words q.line) → IfSome (sent_on bus outcome request how awaited).request (λ q. IsLine t words q.line)
-sent-known t words Atomic outcome request Unused awaited k = tt
-sent-known t words Atomic outcome request Forwarded awaited k = tt
 sent-known t words Atomic outcome request (Through a) awaited k = whole-known t words request (goes_on_bus a.kind) k
+sent-known t words Atomic outcome request _ awaited k = tt
 sent-known t words Split Committed request how awaited k = tt
-sent-known t words Split Buffered request how awaited k = tt
-sent-known t words Split Moved request how awaited k = tt
 sent-known t words Split Asked request how None k = tt
 sent-known t words Split Asked request how (Some a) k = k
-sent-known t words Split (Stalled why) request how awaited k = tt
+sent-known t words Split _ request how awaited k = tt
 
 -- ---- states and changes
 
@@ -54,11 +49,10 @@ abbrev pub IsChangeOnLine : Litmus → ℕ → StateChange → Type 0
 IsChangeOnLine t words c = IsLine t words c.line
 
 change-known : (t : Litmus) (words : ℕ) (b a : PlacedState) → IsOnLine t words b → All (IsChangeOnLine t words) (change_of b a)
-change-known t words b a k = by_test (number_of_state b.state == number_of_state a.state)
-  where
-    by_test : (same : Bool) → All (IsChangeOnLine t words) (if same then [] else record { core = b.core; line = b.line; before = b.state; after = a.state } ∷ [])
-    by_test true = All-nil (IsChangeOnLine t words)
-    by_test false = All-cons (IsChangeOnLine t words) _ [] k (All-nil (IsChangeOnLine t words))
+change-known t words b a k = elim (cases_Bool (number_of_state b.state == number_of_state a.state)) [
+  | inl is ↦ rw is (All-nil (IsChangeOnLine t words))
+  | inr is ↦ rw is (All-cons (IsChangeOnLine t words) _ [] k (All-nil (IsChangeOnLine t words)))
+]
 
 pub changes-known : (t : Litmus) (words : ℕ) (befores afters : List PlacedState) → All (IsOnLine t words) befores → All (λ (c : StateChange). IsLine t words c.line) (changes_in befores afters)
 changes-known t words [] afters k = All-nil (IsChangeOnLine t words)
@@ -82,19 +76,10 @@ victim-known m core (Some r) some = by_line (last_line m core (r.line % m.statis
     by_line (Some line) = by_test line (nat_lt line (number_of_lines m)) refl
 
 pub written-back-known : (t : Litmus) (words : ℕ) (how : CacheUse) (victim : Option ℕ) → IfSome victim (IsLine t words) → IfSome (wrote_back_by how victim) (IsLine t words)
-written-back-known t words Unused victim k = tt
-written-back-known t words Forwarded victim k = tt
-written-back-known t words (Through a) victim k = by_test a.wrote_back
-  where
-    by_test : (b : Bool) → IfSome (if b then victim else None) (IsLine t words)
-    by_test true = k
-    by_test false = tt
+written-back-known t words (Through a) victim k = elim (cases_Bool a.wrote_back) [ inl is ↦ rw is k | inr is ↦ rw is tt ]
+written-back-known t words _ victim k = tt
 
 -- ---- the buffer
 
 pub buffer-known : (t : Litmus) (waited : ℕ) (pending : List Entry) → All (IsAt t) pending → IfSome (buffer_if_changed waited pending) (All (IsAt t))
-buffer-known t waited pending k = by_test (length pending == waited)
-  where
-    by_test : (b : Bool) → IfSome (if b then None else Some pending) (All (IsAt t))
-    by_test true = tt
-    by_test false = k
+buffer-known t waited pending k = elim (cases_Bool (length pending == waited)) [ inl is ↦ rw is tt | inr is ↦ rw is k ]

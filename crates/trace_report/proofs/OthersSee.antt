@@ -1,11 +1,11 @@
 -- The request that a step tells is the one that the other caches see.
-use Rattle.trace_report.proofs.Vocabulary.{◌≡◌, ◌≢◌, ◌∙◌, ◌/◌, ℕ, Bool, true, false, List, [], ◌∷◌, Option, Some, None, option_map, inl, inr, refl, sym, ap, subst, Litmus, chosen, MemoryAccess, NoAccess, Reads, Writes, Locks, access_of, Holder, Bus, Atomic, Split, Choice, Outcome, Table, Request, GetS, GetM, Transient, IsD, ImD, SmD, M, table_of_rows, snoop_column, used, filled, TagSets, at_line, sets_of, Awaited, asking, awaiting, asked_for, asked_caches_in, completed, completed_in, Through, Caches, Used, asking_by, completing_by, Configuration, Running, new_machine, machine_after, IsUseFor, nothing_sent, request_at, sent_whole, sent_asked, sent_at, sent_on, with_seen, OthersSeeTheRequest, after_choices, Sent, LineRequest, whole_by, awaited_as, request_for, whole_in, asked_at_once, machine_use, requested}
+use Rattle.trace_report.proofs.Vocabulary.{◌≡◌, ◌≢◌, ◌∙◌, ◌/◌, ℕ, Bool, List, [], ◌∷◌, Option, Some, None, option_map, inl, inr, refl, sym, ap, subst, Litmus, chosen, MemoryAccess, NoAccess, access_of, Holder, Bus, Atomic, Split, Choice, Outcome, Table, Request, Transient, SmD, M, table_of_rows, snoop_column, used, filled, TagSets, at_line, sets_of, Awaited, asking, awaiting, asked_for, asked_caches_in, completed, completed_in, Through, Caches, Used, asking_by, completing_by, Configuration, Running, new_machine, machine_after, IsUseFor, nothing_sent, request_at, sent_whole, sent_asked, sent_at, sent_on, with_seen, OthersSeeTheRequest, after_choices, Sent, LineRequest, whole_by, awaited_as, request_for, whole_in, asked_at_once, machine_use, requested}
 use Rattle.protocol_tables.specs.declared.state.State as protocol
 use Rattle.bus_laws.proofs.Snooped.{requested-at, own-alone}
 use Rattle.trace_report.specs.Steps as steps
 use Rattle.snoop_bus.specs.Asks.{to_fill}
 use Rattle.machine_core.specs.Running.{machine_effect}
-use Rattle.trace_report.proofs.InPlace.{use-still}
+use Rattle.trace_report.proofs.InPlace.{use-still, is_write_access}
 use Rattle.trace_report.proofs.Flushes.{none-sent}
 use Rattle.trace_report.proofs.FlushesTold.{IsSound, sound-first, sound-after, uses-of}
 use Rattle.trace_report.proofs.UsesOnBus.{UsesOn, made, unused, begun, ended}
@@ -21,16 +21,13 @@ completed-unseen t core line k None caches n = own-alone core (at_line line (use
 completed-unseen t core line k (Some x) caches n = by_transient x.transient
   where
     by_transient : (y : Transient) → sets_of (completed_in t core line y x.state x.flushed caches).caches k ≡ sets_of caches k
-    by_transient IsD = own-alone core (at_line line (filled line x.state)) caches k n
-    by_transient ImD = own-alone core (at_line line (filled line x.state)) caches k n
     by_transient SmD = own-alone core (at_line line (used line x.state)) caches k n
+    by_transient _ = own-alone core (at_line line (filled line x.state)) caches k n
 
 completes-unseen : (c : Caches) (core k : ℕ) (what : MemoryAccess) → what ≢ NoAccess → k ≢ core
     → (sets_of (completing_by c core what).caches.contents k ≡ sets_of c.contents k) × ((completing_by c core what).caches.awaited ≡ None)
 completes-unseen c core k NoAccess some n = absurd (some refl)
-completes-unseen c core k (Reads loc) some n = (completed-unseen (table_of_rows c.rows) core (loc.0 / c.shape.words) k c.awaited c.contents n, refl)
-completes-unseen c core k (Writes loc) some n = (completed-unseen (table_of_rows c.rows) core (loc.0 / c.shape.words) k c.awaited c.contents n, refl)
-completes-unseen c core k (Locks loc) some n = (completed-unseen (table_of_rows c.rows) core (loc.0 / c.shape.words) k c.awaited c.contents n, refl)
+completes-unseen c core k _ some n = (completed-unseen (table_of_rows c.rows) core _ k c.awaited c.contents n, refl)
 
 asked-seen : (t : Table) (request : Request) (core line k : ℕ) (caches : List TagSets) → k ≢ core
     → sets_of (asking t request core line caches).caches k
@@ -48,9 +45,7 @@ asks-seen c core k NoAccess n = by_awaited c.awaited
     by_awaited : (w : Option Awaited) → sets_of c.contents k ≡ with_seen (table_of_rows c.rows) (sent_asked None w).request (sets_of c.contents k)
     by_awaited None = refl
     by_awaited (Some x) = refl
-asks-seen c core k (Reads loc) n = asked-seen (table_of_rows c.rows) GetS core (loc.0 / c.shape.words) k c.contents n
-asks-seen c core k (Writes loc) n = asked-seen (table_of_rows c.rows) GetM core (loc.0 / c.shape.words) k c.contents n
-asks-seen c core k (Locks loc) n = asked-seen (table_of_rows c.rows) GetM core (loc.0 / c.shape.words) k c.contents n
+asks-seen c core k what n = asked-seen (table_of_rows c.rows) (request_for (is_write_access what)) core _ k c.contents n
 
 -- ---- an access that is made whole
 
@@ -63,9 +58,8 @@ whole-seen t write core line k caches copy None n = by_transient (awaited_as wri
   where
     by_transient : (x : Transient) → sets_of (asked_at_once t (request_for write) core line x caches).caches k
         ≡ with_seen t (sent_whole (Some (record { request = request_for write; line = line })) (Through (asked_at_once t (request_for write) core line x caches).access)).request (sets_of caches k)
-    by_transient IsD = own-alone core (at_line line (filled line (to_fill t (request_for write) line caches))) (requested (snoop_column t (request_for write)) core line caches) k n ∙ requested-at (snoop_column t (request_for write)) core line caches k n
-    by_transient ImD = own-alone core (at_line line (filled line (to_fill t (request_for write) line caches))) (requested (snoop_column t (request_for write)) core line caches) k n ∙ requested-at (snoop_column t (request_for write)) core line caches k n
     by_transient SmD = own-alone core (at_line line (used line (to_fill t (request_for write) line caches))) (requested (snoop_column t (request_for write)) core line caches) k n ∙ requested-at (snoop_column t (request_for write)) core line caches k n
+    by_transient _ = own-alone core (at_line line (filled line (to_fill t (request_for write) line caches))) (requested (snoop_column t (request_for write)) core line caches) k n ∙ requested-at (snoop_column t (request_for write)) core line caches k n
 
 whole-seen-by : (c : Caches) (core loc k : ℕ) (write : Bool) → k ≢ core → SeesSent c k (whole_by c core loc write) (sent_whole (Some (record { request = request_for write; line = loc / c.shape.words })) (whole_by c core loc write).how)
 whole-seen-by c core loc k write n = whole-seen (table_of_rows c.rows) write core (loc / c.shape.words) k c.contents _ _ n
@@ -73,9 +67,7 @@ whole-seen-by c core loc k write n = whole-seen (table_of_rows c.rows) write cor
 use-seen : (c : Caches) (core k : ℕ) (what : MemoryAccess) (u : Used) → IsUseFor c core what u → k ≢ core → SeesSent c k u (sent_whole (request_at c.shape.words what) u.how)
 use-seen c core k NoAccess u (inl is) n = subst (λ (x : Used). SeesSent c k x (sent_whole None x.how)) (sym is) refl
 use-seen c core k NoAccess u (inr is) n = subst (λ (x : Used). SeesSent c k x (sent_whole None x.how)) (sym is) refl
-use-seen c core k (Reads loc) u is n = subst (λ (x : Used). SeesSent c k x (sent_whole (request_at c.shape.words (Reads loc)) x.how)) (sym is) (whole-seen-by c core loc.0 k false n)
-use-seen c core k (Writes loc) u is n = subst (λ (x : Used). SeesSent c k x (sent_whole (request_at c.shape.words (Writes loc)) x.how)) (sym is) (whole-seen-by c core loc.0 k true n)
-use-seen c core k (Locks loc) u is n = subst (λ (x : Used). SeesSent c k x (sent_whole (request_at c.shape.words (Locks loc)) x.how)) (sym is) (whole-seen-by c core loc.0 k true n)
+use-seen c core k what u is n = subst (λ (x : Used). SeesSent c k x (sent_whole (request_at c.shape.words what) x.how)) (sym is) (whole-seen-by c core _ k (is_write_access what) n)
 
 -- ---- a choice on either bus
 

@@ -1,5 +1,5 @@
 -- No use of the caches changes for how many lines each of their sets has room.
-use Rattle.trace_report.proofs.Vocabulary.{Awaited, Bool, Caches, E, Entry, I, ImD, IsD, List, M, MemoryAccess, None, O, Option, Request, S, SmD, Some, Table, TagSet, TagSets, Transient, Used, [], ap, asked_caches_in, asked_for, at_line, at_others, completed, completed_in, filled, filled_by, in_next, map, next_in_place, no_set, refl, request_for, requested, sets_of, snoop_column, snooped, snooped_in, suc, table_of_rows, tag_at, tag_of, tags_at, used, used_between, used_by, whole_access, whole_in, zero, ℕ, ◌/◌, ◌∙◌, ◌∷◌, ◌≡◌, awaiting, awaited_as}
+use Rattle.trace_report.proofs.Vocabulary.{Awaited, Bool, Caches, Entry, I, List, M, MemoryAccess, None, Option, Request, SmD, Some, Table, TagSet, TagSets, Transient, Used, [], ap, asked_caches_in, asked_for, at_line, at_others, completed, completed_in, filled, in_next, map, next_in_place, no_set, refl, request_for, requested, sets_of, snoop_column, snooped, snooped_in, suc, table_of_rows, tag_at, tag_of, tags_at, used, used_between, used_by, whole_access, whole_in, zero, ℕ, ◌/◌, ◌∙◌, ◌∷◌, ◌≡◌, awaiting, awaited_as}
 use Rattle.std.proofs.Math.Seq.{map-set_same}
 use Rattle.protocol_tables.specs.declared.state.State.{State}
 use Rattle.protocol_tables.specs.declared.state.Snoop.{Snoop}
@@ -38,10 +38,7 @@ snooped-room on line s = by_tag (tag_of s line)
   where
     by_next : (state : State) → (in_next line state s).ways ≡ s.ways
     by_next I = refl
-    by_next S = refl
-    by_next E = refl
-    by_next O = refl
-    by_next M = refl
+    by_next _ = refl
 
     by_tag : (o : Option State) → (snooped_in on line o s).ways ≡ s.ways
     by_tag None = refl
@@ -53,9 +50,6 @@ requested-rooms on core line caches = others-room core line (snooped on line) ca
 used-room : (core line : ℕ) (state : State) (caches : List TagSets) → rooms_of (used_by core line state caches) ≡ rooms_of caches
 used-room core line state caches = core-room core line (used line state) caches (λ s. refl)
 
-filled-room : (core line : ℕ) (state : State) (caches : List TagSets) → rooms_of (filled_by core line state caches) ≡ rooms_of caches
-filled-room core line state caches = core-room core line (filled line state) caches (λ s. refl)
-
 -- ---- an access
 
 completed-rooms : (t : Table) (core line : ℕ) (w : Option Awaited) (caches : List TagSets) → rooms_of (completed t core line w caches).caches ≡ rooms_of caches
@@ -63,9 +57,8 @@ completed-rooms t core line None caches = used-room core line M caches
 completed-rooms t core line (Some x) caches = by_transient x.transient
   where
     by_transient : (y : Transient) → rooms_of (completed_in t core line y x.state x.flushed caches).caches ≡ rooms_of caches
-    by_transient IsD = filled-room core line x.state caches
-    by_transient ImD = filled-room core line x.state caches
     by_transient SmD = used-room core line x.state caches
+    by_transient _ = core-room core line (filled line x.state) caches (λ s. refl)
 
 whole-rooms : (t : Table) (write : Bool) (core line : ℕ) (caches : List TagSets) → rooms_of (whole_access t write core line caches).caches ≡ rooms_of caches
 whole-rooms t write core line caches = by_next (next_in_place t write (tag_at core line caches))

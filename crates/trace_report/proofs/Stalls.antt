@@ -1,5 +1,5 @@
 -- A choice that stalled: nothing else is told of it.
-use Rattle.trace_report.proofs.Vocabulary.{◌≡◌, ◌⊎◌, inl, inr, ◌∙◌, ℕ, Bool, true, false, if◌then◌else◌, List, [], ◌++◌, length, drop, Option, Some, None, refl, sym, ap, subst, Litmus, action_of, CoreState, State, effect_by, effect_of, core_of, chosen, MemoryAccess, NoAccess, Reads, Writes, Locks, access_by, step_access, access_of, next_of, Holder, Free, HeldBy, HeldBetween, Attempt, same_choice, needs_bus, acts, asks, begins, completes, as_read, writes_last, split_effect, BusState, effect_on, Bus, Atomic, Split, Instr, Action, Store, Load, Move, Fence, Lock, Entry, Choice, Step, Drain, Outcome, Moved, Stalled, Stall, Awaited, same-is, Caches, is_awaited, used_between, Running, machine_use, machine_after, CacheUse, Unused, states_of, changes_in, is_forwarded, access_kind_in, request_at, nothing_sent, sent_on, moved_at, moved_by, moved_from, giving_way, wrote_back_by, buffer_if_changed, stores_on, stalled_step, LineRequest, Sent, step_of}
+use Rattle.trace_report.proofs.Vocabulary.{◌≡◌, ◌⊎◌, inl, inr, ◌∙◌, ℕ, Bool, true, false, List, [], ◌++◌, length, drop, Option, Some, None, refl, sym, ap, Litmus, action_of, CoreState, State, effect_by, effect_of, core_of, chosen, MemoryAccess, NoAccess, access_by, step_access, access_of, next_of, Attempt, needs_bus, as_read, BusState, effect_on, Bus, Atomic, Split, Instr, Action, Move, Entry, Choice, Step, Drain, Outcome, Moved, Stalled, Stall, Awaited, Caches, is_awaited, used_between, Running, machine_use, machine_after, CacheUse, Unused, states_of, changes_in, is_forwarded, access_kind_in, request_at, nothing_sent, sent_on, moved_at, moved_by, moved_from, giving_way, wrote_back_by, buffer_if_changed, stores_on, stalled_step, LineRequest, Sent, step_of, effect-by, needs-some}
 use Rattle.machine_core.specs.Running as running
 use Rattle.trace_report.specs.Steps as steps
 use Rattle.trace_report.proofs.Effects.{stall-rests, drop-all}
@@ -19,11 +19,8 @@ step-moves depth core memory None s = inl (λ registers. refl)
 step-moves depth core memory (Some x) s = by_action (action_of x)
   where
     by_action : (a : Action) → ((registers : List ℕ) → moved_by a registers ≡ None) ⊎ ((effect_by depth memory core a s).outcome ≡ Moved)
-    by_action (Store loc operand) = inl (λ registers. refl)
-    by_action (Load reg loc) = inl (λ registers. refl)
     by_action (Move reg operand) = inr refl
-    by_action Fence = inl (λ registers. refl)
-    by_action (Lock loc reg update) = inl (λ registers. refl)
+    by_action _ = inl (λ registers. refl)
 
 flat-moves : (t : Litmus) (depth : ℕ) (state : State) (a : Choice) → MovesBy t (core_of state (chosen a)).place a (effect_of t depth state a).outcome
 flat-moves t depth state (Step core) = step-moves depth core.0 state.memory (next_of t state core.0) (core_of state core.0)
@@ -35,61 +32,21 @@ no-move depth None pending registers some = refl
 no-move depth (Some x) pending registers some = by_action (action_of x) some
   where
     by_action : (a : Action) → (access_by depth a pending ≡ NoAccess → ⊥) → moved_by a registers ≡ None
-    by_action (Store loc operand) some = refl
-    by_action (Load reg loc) some = refl
     by_action (Move reg operand) some = absurd (some refl)
-    by_action Fence some = refl
-    by_action (Lock loc reg update) some = refl
+    by_action _ some = refl
 
 no-move-at : (t : Litmus) (depth : ℕ) (state : State) (a : Choice) (registers : List ℕ) → (access_of t depth state a ≡ NoAccess → ⊥) → moved_from t (core_of state (chosen a)).place a registers ≡ None
 no-move-at t depth state (Step core) registers some = no-move depth (next_of t state core.0) (core_of state core.0).pending registers some
 no-move-at t depth state (Drain core) registers some = refl
 
-begins-moves : (t : Litmus) (depth : ℕ) (state : State) (a : Attempt) (holder : Holder)
-    → MovesBy t (core_of state (chosen a.choice)).place a.choice (begins t depth state a holder).effect.outcome
-begins-moves t depth state a holder = go (needs_bus (access_of t depth state a.choice) a.hits) refl
-  where
-    some : needs_bus (access_of t depth state a.choice) a.hits ≡ true → access_of t depth state a.choice ≡ NoAccess → ⊥
-    some needs none = let free : needs_bus (access_of t depth state a.choice) a.hits ≡ false = ap (λ x. needs_bus x a.hits) none in (let z : ⊥ = cc in z)
-
-    go : (b : Bool) → needs_bus (access_of t depth state a.choice) a.hits ≡ b
-        → MovesBy t (core_of state (chosen a.choice)).place a.choice
-        (if b then asks (core_of state (chosen a.choice)) a.choice holder else acts (effect_of t depth state a.choice) holder).effect.outcome
-    go true q = inl (λ registers. no-move-at t depth state a.choice registers (some q))
-    go false q = flat-moves t depth state a.choice
-
-completes-moves : (t : Litmus) (depth : ℕ) (state : State) (a : Choice) → MovesBy t (core_of state (chosen a)).place a (completes t depth state a (access_of t depth state a)).effect.outcome
-completes-moves t depth state a = go (access_of t depth state a) refl
-  where
-    go : (what : MemoryAccess) → access_of t depth state a ≡ what → MovesBy t (core_of state (chosen a)).place a (completes t depth state a what).effect.outcome
-    go NoAccess q = flat-moves t depth state a
-    go (Reads loc) q = flat-moves t depth state a
-    go (Writes loc) q = flat-moves t depth state a
-    go (Locks loc) q = inl (λ registers. no-move-at t depth state a registers (λ none. let z : ⊥ = cc in z))
-
-split-moves : (t : Litmus) (depth : ℕ) (state : State) (a : Attempt) (holder : Holder)
-    → MovesBy t (core_of state (chosen a.choice)).place a.choice (split_effect t depth state a holder).effect.outcome
-split-moves t depth state a Free = begins-moves t depth state a Free
-split-moves t depth state a (HeldBy choice) = go (same_choice choice a.choice) refl
-  where
-    go : (b : Bool) → same_choice choice a.choice ≡ b
-        → MovesBy t (core_of state (chosen a.choice)).place a.choice
-        (if b then completes t depth state choice (access_of t depth state choice) else begins t depth state a (HeldBy choice)).effect.outcome
-    go true q = subst (λ c. MovesBy t (core_of state (chosen c)).place c (completes t depth state choice (access_of t depth state choice)).effect.outcome) (same-is choice a.choice q)
-        (completes-moves t depth state choice)
-    go false q = begins-moves t depth state a (HeldBy choice)
-split-moves t depth state a (HeldBetween e) = go (same_choice (Step e.core) a.choice) refl
-  where
-    go : (b : Bool) → same_choice (Step e.core) a.choice ≡ b
-        → MovesBy t (core_of state (chosen a.choice)).place a.choice (if b then writes_last t depth state e else begins t depth state a (HeldBetween e)).effect.outcome
-    go true q = subst (λ c. MovesBy t (core_of state (chosen c)).place c (writes_last t depth state e).effect.outcome) (same-is (Step e.core) a.choice q)
-        (flat-moves t depth (as_read state e) (Step e.core))
-    go false q = begins-moves t depth state a (HeldBetween e)
-
 pub effect-moves : (bus : Bus) (t : Litmus) (depth : ℕ) (state : BusState) (a : Attempt)
     → MovesBy t (core_of state.flat (chosen a.choice)).place a.choice (effect_on bus t depth state a).effect.outcome
-effect-moves Atomic t depth state a = flat-moves t depth state.flat a.choice
-effect-moves Split t depth state a = split-moves t depth state.flat a state.holder
+effect-moves bus t depth state a =
+    effect-by (λ c f. MovesBy t (core_of state.flat (chosen c)).place c f.outcome) bus t depth state a (λ needs. inl (unmoved needs)) (λ needs. inl (unmoved needs)) (flat-moves t depth state.flat)
+    (λ core loc q. inl (λ registers. no-move-at t depth state.flat (Step core) registers (λ none. let z : ⊥ = cc in z))) (λ e. flat-moves t depth (as_read state.flat e) (Step e.core))
+  where
+    unmoved : needs_bus (access_of t depth state.flat a.choice) a.hits ≡ true → (registers : List ℕ) → moved_from t (core_of state.flat (chosen a.choice)).place a.choice registers ≡ None
+    unmoved needs registers = no-move-at t depth state.flat a.choice registers (needs-some (access_of t depth state.flat a.choice) a.hits needs)
 
 -- a stall moves nothing
 stall-moves : (t : Litmus) (place : ℕ) (choice : Choice) (o : Outcome) (why : Stall) (registers : List ℕ) → o ≡ Stalled why → MovesBy t place choice o → moved_from t place choice registers ≡ None

@@ -1,5 +1,5 @@
 -- What a choice has to do with the caches on either bus, and who holds the bus after it.
-use Rattle.trace_report.proofs.Vocabulary.{◌≡◌, ◌≢◌, ◌⊎◌, ℕ, Bool, true, false, if◌then◌else◌, inl, inr, refl, ap, subst, each-at, Litmus, State, chosen, core_of, effect_of, applied, MemoryAccess, NoAccess, Reads, Writes, Locks, access_of, next_of, Holder, Free, HeldBy, HeldBetween, BusEffect, same_choice, needs_bus, acts, asks, begins, completes, as_read, writes_last, split_effect, BusState, Bus, Atomic, Split, Choice, Step, Entry, quiet-same, IsStore, AllStores, access-kept, same-is, IsOther, HolderWaits, Unused, Caches, Used, not_through, asking_by, completing_by, hits_by, attempt_of, is_awaited, used_between, use_on, state_after_on, IsUseFor, choice-use, zero, suc, nat_lt, List, [], ◌∷◌, length, drop, Option, Some, None, sym, Each, action_of, CoreState, Effect, is_none_pending, stalled, stored, effect_by, effect_on, Instr, Action, Store, Load, Move, Fence, Lock, Drain, Outcome, Stall, Awaited, use_of, nothing_sent, sent_at, LineRequest, slice_index_or, set-get_or, idle, choice-stores}
+use Rattle.trace_report.proofs.Vocabulary.{◌≡◌, ◌≢◌, ◌⊎◌, ℕ, Bool, true, false, inl, inr, refl, ap, subst, each-at, Litmus, State, chosen, core_of, effect_of, applied, MemoryAccess, NoAccess, access_of, next_of, Holder, Free, HeldBy, HeldBetween, BusEffect, needs_bus, acts, asks, begins, completes, as_read, writes_last, split_effect, BusState, Bus, Atomic, Split, Choice, Step, Entry, quiet-same, IsStore, AllStores, access-kept, IsOther, HolderWaits, Unused, Caches, Used, not_through, asking_by, completing_by, hits_by, attempt_of, is_awaited, used_between, use_on, state_after_on, IsUseFor, choice-use, zero, suc, nat_lt, List, [], ◌∷◌, length, Option, Some, None, sym, Each, action_of, CoreState, Effect, is_none_pending, stored, effect_by, effect_on, Instr, Action, Store, Fence, Lock, Drain, Outcome, Awaited, nothing_sent, sent_at, LineRequest, slice_index_or, set-get_or, idle, choice-stores, if-by, begins-by, completes-by, split-by, last-unused}
 use Rattle.basic_laws.proofs.WithPending.{drain_with}
 use Rattle.tso_model.specs.FlatMachine.{step_of}
 use Rattle.tso_model.specs.declared.choice.Stall.TheVariants as stall
@@ -12,14 +12,9 @@ use Rattle.split_laws.specs.inner.Pending.{PendingIsOwn}
 abbrev pub AsksNothing : Outcome → Type 0
 AsksNothing o = (r : Option LineRequest) (w : Option Awaited) → sent_at o r w ≡ nothing_sent
 
-when-nothing : (s : CoreState) (why : Stall) (f : Effect) (b : Bool) → AsksNothing f.outcome → AsksNothing (if b then f else stalled why s).outcome
-when-nothing s why f true h = h
-when-nothing s why f false h = λ r w. refl
-
 stored-nothing : (depth : ℕ) (s : CoreState) (e : Entry) → AsksNothing (stored depth s e).outcome
 stored-nothing zero s e = λ r w. refl
-stored-nothing (suc n) s e =
-    when-nothing s stall.Full _ (nat_lt (length s.pending) (suc n)) (λ r w. refl)
+stored-nothing (suc n) s e = if-by (λ (f : Effect). AsksNothing f.outcome) (nat_lt (length s.pending) (suc n)) _ _ (λ q r w. refl) (λ q r w. refl)
 
 step-nothing : (depth core : ℕ) (memory : List ℕ) (i : Option Instr) (s : CoreState) → AsksNothing (step_of depth memory core i s).outcome
 step-nothing depth core memory None s = λ r w. refl
@@ -27,10 +22,9 @@ step-nothing depth core memory (Some x) s = by_action (action_of x)
   where
     by_action : (a : Action) → AsksNothing (effect_by depth memory core a s).outcome
     by_action (Store loc operand) = stored-nothing depth s _
-    by_action (Load reg loc) = λ r w. refl
-    by_action (Move reg operand) = λ r w. refl
-    by_action Fence = when-nothing s stall.Fence _ (is_none_pending s.pending) (λ r w. refl)
-    by_action (Lock loc reg update) = when-nothing s stall.Lock _ (is_none_pending s.pending) (λ r w. refl)
+    by_action Fence = if-by (λ (f : Effect). AsksNothing f.outcome) (is_none_pending s.pending) _ _ (λ q r w. refl) (λ q r w. refl)
+    by_action (Lock loc reg update) = if-by (λ (f : Effect). AsksNothing f.outcome) (is_none_pending s.pending) _ _ (λ q r w. refl) (λ q r w. refl)
+    by_action _ = λ r w. refl
 
 drain-nothing : (s : CoreState) (q : List Entry) → AsksNothing (drain_with s q).outcome
 drain-nothing s [] = λ r w. refl
@@ -39,29 +33,6 @@ drain-nothing s (p ∷ ps) = λ r w. refl
 pub flat-nothing : (t : Litmus) (depth : ℕ) (state : State) (a : Choice) → AsksNothing (effect_of t depth state a).outcome
 flat-nothing t depth state (Step core) = step-nothing depth core.0 state.memory (next_of t state core.0) (core_of state core.0)
 flat-nothing t depth state (Drain core) = drain-nothing (core_of state core.0) (core_of state core.0).pending
-
--- the store part of a locked instruction makes no access
-abbrev IsNoUse : Caches → List Entry → List Entry → Type 0
-IsNoUse c pending commits = use_of c pending commits ≡ not_through Unused c
-
-last-when : (c : Caches) (pending : List Entry) (s : CoreState) (why : Stall) (f : Effect) (b : Bool) → IsNoUse c pending (drop 1 f.commits) → IsNoUse c pending (drop 1 (if b then f else stalled why s).commits)
-last-when c pending s why f true h = h
-last-when c pending s why f false h = refl
-
-last-stored : (c : Caches) (pending : List Entry) (depth : ℕ) (s : CoreState) (e : Entry) → IsNoUse c pending (drop 1 (stored depth s e).commits)
-last-stored c pending zero s e = refl
-last-stored c pending (suc n) s e = last-when c pending s stall.Full _ (nat_lt (length s.pending) (suc n)) refl
-
-pub last-unused : (c : Caches) (pending : List Entry) (depth core : ℕ) (memory : List ℕ) (i : Option Instr) (s : CoreState) → IsNoUse c pending (drop 1 (step_of depth memory core i s).commits)
-last-unused c pending depth core memory None s = refl
-last-unused c pending depth core memory (Some x) s = by_action (action_of x)
-  where
-    by_action : (a : Action) → IsNoUse c pending (drop 1 (effect_by depth memory core a s).commits)
-    by_action (Store loc operand) = last-stored c pending depth s _
-    by_action (Load reg loc) = refl
-    by_action (Move reg operand) = refl
-    by_action Fence = last-when c pending s stall.Fence _ (is_none_pending s.pending) refl
-    by_action (Lock loc reg update) = last-when c pending s stall.Lock _ (is_none_pending s.pending) refl
 
 -- ---- on either bus
 
@@ -97,12 +68,9 @@ asks-uses : (t : Litmus) (d : ℕ) (state : State) (c : Caches) (a : Choice) (ho
 asks-uses t d state c a Free stores =
     let same = quiet-same state (chosen a) out.Asked in
     (begun refl refl refl refl refl (ap (λ (s : State). access_of t d s a) same), subst AllStores (sym same) stores)
-asks-uses t d state c a (HeldBy other) stores =
+asks-uses t d state c a holder stores =
     let same = quiet-same state (chosen a) (out.Stalled stall.Bus) in
-    (unused refl (still t d state _ (HeldBy other) same) (λ r w. refl), subst AllStores (sym same) stores)
-asks-uses t d state c a (HeldBetween e) stores =
-    let same = quiet-same state (chosen a) (out.Stalled stall.Bus) in
-    (unused refl (still t d state _ (HeldBetween e) same) (λ r w. refl), subst AllStores (sym same) stores)
+    (unused refl (still t d state _ holder same) (λ r w. refl), subst AllStores (sym same) stores)
 
 acts-uses : (on : Bus) (t : Litmus) (d : ℕ) (state : State) (c : Caches) (a : Choice) (holder : Holder) → AllStores state
     → ((on ≡ Atomic) × (holder ≡ Free) × (holder ≡ Free)) ⊎ (needs_bus (access_of t d state a) (hits_by c (chosen a) (access_of t d state a)) ≡ false)
@@ -120,28 +88,26 @@ other-stays : (t : Litmus) (d : ℕ) (state : State) (a : Choice) (holder : Hold
 other-stays t d state a holder holding other = record { held = λ k q. by_holder holder holding other k q; waits = refl }
   where
     by_holder : (h : Holder) → HolderWaits Split t d state h → IsOther h a → (k : Choice) → h ≡ HeldBy k → (h ≡ HeldBy k) × (access_of t d (applied state (chosen a) (effect_of t d state a)) k ≡ access_of t d state k)
-    by_holder Free holding other k q = absurd (let z : ⊥ = cc in z)
-    by_holder (HeldBetween e) holding other k q = absurd (let z : ⊥ = cc in z)
     by_holder (HeldBy choice) holding other k q =
         let same : choice ≡ k = cc in
         (q, subst (λ b. access_of t d (applied state (chosen a) (effect_of t d state a)) b ≡ access_of t d state b) same (access-kept t d state choice a holding other))
+    by_holder _ holding other k q = absurd (let z : ⊥ = cc in z)
 
 begins-uses : (t : Litmus) (d : ℕ) (state : State) (c : Caches) (a : Choice) (holder : Holder) → HolderWaits Split t d state holder → IsOther holder a → AllStores state
     → UsesBy Split t d state c a holder (begins t d state (attempt_of t d state c a) holder)
-begins-uses t d state c a holder holding other stores = go (needs_bus (access_of t d state a) (hits_by c (chosen a) (access_of t d state a))) refl
-  where
-    go : (b : Bool) → needs_bus (access_of t d state a) (hits_by c (chosen a) (access_of t d state a)) ≡ b
-        → UsesBy Split t d state c a holder (if b then asks (core_of state (chosen a)) a holder else acts (effect_of t d state a) holder)
-    go true q = asks-uses t d state c a holder stores
-    go false q = acts-uses Split t d state c a holder stores (inr q) (other-stays t d state a holder holding other)
+begins-uses t d state c a holder holding other stores =
+    begins-by (UsesBy Split t d state c a holder) t d state (attempt_of t d state c a) holder (λ q. asks-uses t d state c a holder stores)
+    (λ q. acts-uses Split t d state c a holder stores (inr q) (other-stays t d state a holder holding other))
 
-completes-uses : (t : Litmus) (d : ℕ) (state : State) (c : Caches) (a : Choice) (what : MemoryAccess) → what ≢ NoAccess → access_of t d state a ≢ NoAccess → AllStores state
-    → UsesBy Split t d state c a (HeldBy a) (completes t d state a what)
-completes-uses t d state c a NoAccess some has stores = absurd (some refl)
-completes-uses t d state c a (Reads loc) some has stores = (ended refl refl has refl refl, choice-stores t d state a stores)
-completes-uses t d state c a (Writes loc) some has stores = (ended refl refl has refl refl, choice-stores t d state a stores)
-completes-uses t d state c a (Locks loc) some has stores =
-    (ended refl refl has refl refl, λ k. subst (λ cores. Each (IsStore k) (slice_index_or cores k idle).pending) (sym (set-get_or state.cores (chosen a) idle)) (stores k))
+completes-uses : (t : Litmus) (d : ℕ) (state : State) (c : Caches) (a : Choice) → access_of t d state a ≢ NoAccess → AllStores state
+    → UsesBy Split t d state c a (HeldBy a) (completes t d state a (access_of t d state a))
+completes-uses t d state c a some stores =
+    completes-by (λ b g. access_of t d state b ≢ NoAccess → UsesBy Split t d state c b (HeldBy b) g) t d state a
+    (λ n has. (ended refl refl has refl refl, choice-stores t d state a stores))
+    (λ core loc q has. (
+      ended refl refl has refl refl,
+      λ k. subst (λ cores. Each (IsStore k) (slice_index_or cores k idle).pending) (sym (set-get_or state.cores core.0 idle)) (stores k),
+    )) some
 
 writes-uses : (t : Litmus) (d : ℕ) (state : State) (c : Caches) (e : Entry) → AllStores state → UsesBy Split t d state c (Step e.core) (HeldBetween e) (writes_last t d state e)
 writes-uses t d state c e stores = (
@@ -152,21 +118,9 @@ writes-uses t d state c e stores = (
 
 split-uses : (t : Litmus) (d : ℕ) (state : State) (c : Caches) (a : Choice) (holder : Holder) → HolderWaits Split t d state holder → AllStores state
     → UsesBy Split t d state c a holder (split_effect t d state (attempt_of t d state c a) holder)
-split-uses t d state c a Free holding stores = begins-uses t d state c a Free holding tt stores
-split-uses t d state c a (HeldBy choice) holding stores = go (same_choice choice a) refl
-  where
-    go : (b : Bool) → same_choice choice a ≡ b
-        → UsesBy Split t d state c a (HeldBy choice) (if b then completes t d state choice (access_of t d state choice) else begins t d state (attempt_of t d state c a) (HeldBy choice))
-    go true q =
-        subst (λ b. UsesBy Split t d state c b (HeldBy choice) (completes t d state choice (access_of t d state choice))) (same-is choice a q)
-        (completes-uses t d state c choice (access_of t d state choice) holding holding stores)
-    go false q = begins-uses t d state c a (HeldBy choice) holding q stores
-split-uses t d state c a (HeldBetween e) holding stores = go (same_choice (Step e.core) a) refl
-  where
-    go : (b : Bool) → same_choice (Step e.core) a ≡ b
-        → UsesBy Split t d state c a (HeldBetween e) (if b then writes_last t d state e else begins t d state (attempt_of t d state c a) (HeldBetween e))
-    go true q = subst (λ b. UsesBy Split t d state c b (HeldBetween e) (writes_last t d state e)) (same-is (Step e.core) a q) (writes-uses t d state c e stores)
-    go false q = begins-uses t d state c a (HeldBetween e) holding q stores
+split-uses t d state c a holder holding stores =
+    split-by (λ h b g. HolderWaits Split t d state h → UsesBy Split t d state c b h g) t d state (attempt_of t d state c a) holder
+    (λ h other waits. begins-uses t d state c a h waits other stores) (λ asked waits. completes-uses t d state c asked waits stores) (λ e waits. writes-uses t d state c e stores) holding
 
 -- a choice on either bus
 pub choice-uses : (on : Bus) (t : Litmus) (d : ℕ) (state : BusState) (c : Caches) (a : Choice) → HolderWaits on t d state.flat state.holder → AllStores state.flat
@@ -177,5 +131,4 @@ choice-uses Atomic t d state c a holding stores = by_holder state.holder holding
   where
     by_holder : (holder : Holder) → HolderWaits Atomic t d state.flat holder → UsesBy Atomic t d state.flat c a holder (acts (effect_of t d state.flat a) holder)
     by_holder Free h = acts-uses Atomic t d state.flat c a Free stores (inl (refl, refl, refl)) (record { held = λ other q. absurd (let z : ⊥ = cc in z); waits = refl })
-    by_holder (HeldBy other) h = absurd h
-    by_holder (HeldBetween e) h = absurd h
+    by_holder _ h = absurd h

@@ -1,5 +1,5 @@
 -- What an access makes of the lines of its core's cache: they stay neat, and where it sends a dirty one away its own line comes in.
-use Rattle.trace_report.proofs.Vocabulary.{◌≡◌, ◌≢◌, ◌∙◌, ◌<◌, ℕ, Bool, true, false, List, Option, Some, None, refl, sym, ap, Table, I, M, leaving, TagSets, tags_at, tag_in, sets_of, dirty_in, writes_back, tag_at, KeepsNoCopyInI, AllNeat, found-valid, all-requested, all-used, all-filled, own-kept, Request, Transient, IsD, ImD, SmD, snoop_column, Awaited, awaiting, completed, completed_in, next_in_place, awaited_as, request_for, whole_in, whole_access, requested}
+use Rattle.trace_report.proofs.Vocabulary.{◌≡◌, ◌≢◌, ◌∙◌, ◌<◌, ℕ, Bool, true, false, List, Option, Some, None, refl, sym, ap, Table, I, M, leaving, TagSets, tags_at, tag_in, sets_of, dirty_in, writes_back, tag_at, KeepsNoCopyInI, AllNeat, found-valid, all-requested, all-used, all-filled, own-kept, Request, Transient, SmD, snoop_column, Awaited, awaiting, completed, completed_in, next_in_place, awaited_as, request_for, whole_in, whole_access, requested}
 use Rattle.protocol_tables.specs.declared.state.State.{State}
 
 -- ---- a completion
@@ -23,9 +23,8 @@ completed-neat lines t core line None caches l may h = all-used lines core line 
 completed-neat lines t core line (Some x) caches l may h = by_transient x.transient may.absent
   where
     by_transient : (transient : Transient) → (transient ≢ SmD → tag_at core line caches ≡ None) → AllNeat lines (completed_in t core line transient x.state x.flushed caches).caches
-    by_transient IsD absent = all-filled lines core line x.state caches l may.valid (absent (λ q. let z : ⊥ = cc in z)) h
-    by_transient ImD absent = all-filled lines core line x.state caches l may.valid (absent (λ q. let z : ⊥ = cc in z)) h
     by_transient SmD absent = all-used lines core line x.state caches l may.valid h
+    by_transient _ absent = all-filled lines core line x.state caches l may.valid (absent (λ q. let z : ⊥ = cc in z)) h
 
 -- a line comes in that the core hadn't, and a dirty one gives way to it
 pub record ComesIn (t : Table) (core line : ℕ) (caches : List TagSets) : Type 0 where
@@ -38,9 +37,8 @@ completed-fills t core line None caches may dirty = absurd (let z : ⊥ = cc in 
 completed-fills t core line (Some x) caches may dirty = by_transient x.transient may.absent dirty
   where
     by_transient : (y : Transient) → (y ≢ SmD → tag_at core line caches ≡ None) → (completed_in t core line y x.state x.flushed caches).access.wrote_back ≡ true → ComesIn t core line caches
-    by_transient IsD absent dirty = record { absent = absent (λ q. let z : ⊥ = cc in z); writes = dirty }
-    by_transient ImD absent dirty = record { absent = absent (λ q. let z : ⊥ = cc in z); writes = dirty }
     by_transient SmD absent dirty = absurd (let z : ⊥ = cc in z)
+    by_transient _ absent dirty = record { absent = absent (λ q. let z : ⊥ = cc in z); writes = dirty }
 
 -- ---- an access that is made whole
 

@@ -1,5 +1,6 @@
 -- The names that the proofs of this crate bring in from definitions and from crates below; each file takes its own from here.
 pub use Rattle.std.proofs.Common.{◌≡◌, ◌∙◌, ℕ, ◌+◌, ◌<◌, ◌≤◌, List, [], ◌∷◌, ◌++◌, length, take, drop, get_or, codes, Option, Some, sym, ap, append_assoc, append-nil, arith, Bool, true, false, if◌then◌else◌, refl, zero, suc, nat_lt, None, subst, length-append, ◌*◌, ◌/◌, IfSome, All, slice_get, slice_index, slice_index_or, inl, inr, ◌==◌, ◌%◌, ◌-◌, option_map, min, get_or-set_same, ◌⊎◌, ◌≢◌, ◌&&◌, map, replicate, get_or-set_other, not, ◌||◌, slice_set, is_some, rules, string_bytes}
+pub use Rattle.std.proofs.lemmas.Bool.{cases_Bool}
 pub use Rattle.std.proofs.Math.ListN.{drop_of_length-le, length-set, get_or-map}
 pub use Rattle.std.proofs.lemmas.List.{drop_more, get_or-take, length-take, get_or_past, length-replicate, length-map, set-get_or, get_or-replicate}
 pub use Rattle.tso_model.specs.Litmus.{Litmus, IsTest, IsProgram, KnownLocation}
@@ -14,6 +15,7 @@ pub use Rattle.machine_core.specs.Caches.{Caches, not_through, asking_by, comple
 pub use Rattle.machine_core.specs.declared.accesses.CacheUse.TheVariants.{Forwarded, Unused, Through}
 pub use Rattle.tso_model.specs.Actions.{action_of, location_of}
 pub use Rattle.tso_model.specs.FlatMachine.{CoreState, State, Effect, is_none_pending, stalled, stored, effect_by, effect_of, core_of, chosen, program_of, applied, start, idle, step_of, load_value, after_choice}
+pub use Rattle.basic_laws.proofs.WithPending.{drain_with}
 pub use Rattle.tso_model.specs.SplitMachine.{Holder, Free, HeldBy, HeldBetween, Attempt, same_choice, needs_bus, acts, asks, begins, completes, as_read, after_first, writes_last, split_effect, load_part, BusEffect}
 pub use Rattle.tso_model.specs.EitherBus.{BusState, effect_on, BusRun, unheld, then_on, resting_on, run_on, run_on_from, choices_in, after_on}
 pub use Rattle.tso_model.specs.declared.choice.Bus.{Bus}
@@ -26,7 +28,9 @@ pub use Rattle.tso_model.specs.declared.choice.Choice.TheVariants.{Step, Drain}
 pub use Rattle.tso_model.specs.declared.choice.Outcome.{Outcome}
 pub use Rattle.tso_model.specs.declared.choice.Outcome.TheVariants.{Committed, Buffered, Moved, Asked, Stalled}
 pub use Rattle.tso_model.specs.declared.choice.Stall.{Stall}
-pub use Rattle.split_laws.proofs.Following.{same-is, IsOther}
+pub use Rattle.split_laws.proofs.Following.{needs-some}
+pub use Rattle.split_laws.proofs.Stopping.{ended-free}
+pub use Rattle.split_laws.proofs.Ways.{IsOther, if-by, begins-by, completes-by, split-by, effect-by}
 pub use Rattle.split_laws.proofs.Steps.{drain-no-lock, IsStore}
 pub use Rattle.trace_report.specs.TraceLaws.{committed_at, committed_in, stalls_in, TellsRun, run_traced, is_of, laid_in, with_changes, ChangesOne, ChangesLeadFromStatesToStates, count_of_accesses, is_kind, is_access_of_kind, tells_access, tells_forward, one_if, steps_that, KeepsNoCopyInI, is_sender, tells_flush, tells_write_back, ProtocolsKeepNoCopyInI, AccessesAreTold}
 pub use Rattle.trace_report.specs.inner.Steps.{waited_before}
@@ -38,7 +42,8 @@ pub use Rattle.tso_model.specs.Thread.{entry, fence, value_in, value_of, updated
 pub use Rattle.std.specs.Prelude.{filter, Ok}
 pub use Rattle.tso_model.specs.declared.instruction.Loc.{Loc}
 pub use Rattle.order_builder.specs.PrintedOrder.{HasLocation, IsLocationFor}
-pub use Rattle.split_laws.proofs.Cores.{core-cases, starts-idle, length-starts, quiet-same, done-next, done-pending, done-anywhere}
+pub use Rattle.split_laws.proofs.Cores.{core-cases, quiet-same}
+pub use Rattle.basic_laws.proofs.Cores.{starts-idle, length-starts}
 pub use Rattle.trace_report.specs.Known.{IsAt, IsLine, AreStoresKnown, StepNamesExist}
 pub use Rattle.std.proofs.lemmas.Bool.Decides.{nat_tests, eqb_tells}
 pub use Rattle.snoop_bus.specs.Asks.{Awaited, tag_at, or_invalid, asking, completed, completed_in, asked_caches_in, asked_for, awaited_by, next_in_place, awaited_as, request_for, whole_in, whole_access, asked_at_once}
@@ -70,6 +75,7 @@ pub use Rattle.trace_report.specs.declared.step.LineState.{LineState}
 pub use Rattle.snoop_bus.specs.declared.access.AccessKind.TheVariants.{Hit, Upgrade, Miss}
 pub use Rattle.machine_core.specs.declared.counts.Counts.{Counts}
 pub use Rattle.machine_core.proofs.CountBounds.{length-counted}
+pub use Rattle.machine_core.proofs.Advancing.{last-unused}
 pub use Rattle.protocol_tables.specs.Transients.{transient_of}
 pub use Rattle.protocol_tables.specs.declared.requests.Request.{Request}
 pub use Rattle.protocol_tables.specs.declared.requests.Request.TheVariants.{GetS, GetM}

@@ -1,5 +1,5 @@
 -- What a choice did, from what was looked at before it and after it.
-use Rattle.trace_report.proofs.Vocabulary.{◌≡◌, ◌∙◌, ℕ, Bool, true, List, [], ◌∷◌, ◌++◌, length, drop, Option, ◌<◌, ◌==◌, inl, inr, refl, sym, ap, subst, arith, option_map, get_or-set_same, All, length-set, Litmus, IsTest, idle, core_of, chosen, access_of, Core, Choice, Outcome, Entry, AccessKind, Geometry, IsLineSize, test-true, Configuration, Running, attempt_on, machine_use, machine_after, CacheUse, ShownStep, waited_before, states_of, number_of_state, changes_in, is_forwarded, access_kind_in, request_at, sent_on, moved_from, giving_way, wrote_back_by, buffer_if_changed, trace_step_of, IsTraced, IsTracedInStates, stores_on, waited_on, IsLeftBy, HasLocation, IsAt, AreStoresKnown, StepNamesExist, All-append, All-drop, All-weaker, LineRequest, StateChange, PlacedState, Sent, configuration_of, machine_effect, is_awaited}
+use Rattle.trace_report.proofs.Vocabulary.{◌≡◌, ◌∙◌, ℕ, Bool, true, List, [], ◌∷◌, ◌++◌, length, drop, Option, ◌<◌, ◌==◌, inl, inr, refl, sym, ap, subst, arith, option_map, get_or-set_same, All, length-set, Litmus, IsTest, idle, core_of, chosen, access_of, Core, Choice, Outcome, Entry, AccessKind, Geometry, IsLineSize, test-true, Configuration, Running, attempt_on, machine_use, machine_after, CacheUse, ShownStep, waited_before, states_of, number_of_state, changes_in, is_forwarded, access_kind_in, request_at, sent_on, moved_from, giving_way, wrote_back_by, buffer_if_changed, trace_step_of, IsTraced, IsTracedInStates, stores_on, waited_on, IsLeftBy, HasLocation, IsAt, AreStoresKnown, StepNamesExist, All-append, All-drop, All-weaker, LineRequest, StateChange, PlacedState, Sent, machine_effect, is_awaited}
 use Rattle.trace_report.specs.inner.Told.{IsLookedAt}
 use Rattle.trace_report.proofs.Effects.{Form, effect-form, waited-is}
 use Rattle.trace_report.proofs.Places.{effect-places, stores-next, access-known, at-place}
@@ -125,9 +125,6 @@ shape-kept m choice =
     (used-machine (is_awaited m.state.holder) (is_awaited f.holder) m.statistics.caches (chosen choice) (access_of m.test m.depth m.state.flat choice)
     (core_of m.state.flat (chosen choice)).pending f.effect.commits).1
 
-configuration-kept : (m : Running) (choice : Choice) → configuration_of (machine_after m choice) ≡ configuration_of m
-configuration-kept m choice = ap (λ (s : Geometry). record { depth = m.depth; shape = s; bus = m.bus }) (shape-kept m choice)
-
 pub words-kept : (m : Running) (choice : Choice) → (machine_after m choice).statistics.caches.shape.words ≡ m.statistics.caches.shape.words
 words-kept m choice = ap (λ (s : Geometry). s.words) (shape-kept m choice)
 
@@ -141,7 +138,7 @@ known-there t config m is = subst (λ u. AreStoresKnown u m.state.flat) (sym is.
 pub traced-next : (t : Litmus) (config : Configuration) (m : Running) (choice : Choice) → IsTest t → IsTraced t config m → IsTraced t config (machine_after m choice)
 traced-next t config m choice valid is = record {
   test = is.test;
-  config = configuration-kept m choice ∙ is.config;
+  config = ap (λ (s : Geometry). record { depth = m.depth; shape = s; bus = m.bus }) (shape-kept m choice) ∙ is.config;
   whole = is.whole;
   cores = length-set m.state.flat.cores (chosen choice) (machine_effect m choice).effect.after ∙ is.cores;
   stores = subst (λ u. AreStoresKnown u (machine_after m choice).state.flat) is.test (stores-kept m choice (subst IsTest (sym is.test) valid) (known-there t config m is));

@@ -1,6 +1,6 @@
 -- The write-backs that a trace tells are those that are counted; and all that it tells of the accesses.
-use Rattle.trace_report.proofs.Vocabulary.{◌≡◌, ◌≢◌, ◌∙◌, ℕ, ◌+◌, ◌<◌, ◌==◌, ◌&&◌, Bool, true, false, List, length, Some, refl, sym, ap, subst, arith, length-replicate, chosen, CoresExist, Choice, filled_shared, filled_by_sharing, written_in_place, I, S, E, O, M, AccessKind, Hit, Upgrade, Miss, Running, new_machine, machine_use, no_counts, with_access, with_forward, with_write_back, counts_at_core, with_use_counted, Counts, CacheUse, Unused, Forwarded, Through, trace_step_of, steps_from, count_of_accesses, is_sender, tells_write_back, one_if, steps_that, ProtocolsKeepNoCopyInI, AccessesAreTold}
-use Rattle.protocol_tables.specs.declared.kind.ProtocolKind.TheVariants.{Msi, Mesi, Moesi, Mosi}
+use Rattle.trace_report.proofs.Vocabulary.{◌≡◌, ◌≢◌, ◌∙◌, ℕ, ◌+◌, ◌<◌, ◌==◌, ◌&&◌, Bool, true, false, List, length, Some, refl, sym, ap, subst, arith, length-replicate, chosen, CoresExist, Choice, filled_by_sharing, written_in_place, I, AccessKind, Hit, Running, new_machine, machine_use, no_counts, with_access, with_forward, with_write_back, counts_at_core, with_use_counted, Counts, CacheUse, Unused, Forwarded, Through, trace_step_of, steps_from, count_of_accesses, is_sender, tells_write_back, one_if, steps_that, ProtocolsKeepNoCopyInI, AccessesAreTold}
+use Rattle.protocol_tables.specs.declared.kind.ProtocolKind.TheVariants.{Mesi, Moesi}
 use Rattle.protocol_tables.specs.declared.state.State.{State}
 use Rattle.trace_report.proofs.AccessesTold.{of, kept, added, flushed-kept, none-told, counts_after, summed, no-counts, none-of, accesses-told, forwards-told}
 use Rattle.trace_report.proofs.Flushes.{flush_awaited}
@@ -11,11 +11,9 @@ use Rattle.trace_report.proofs.Kept.{IsKept, kept-first, kept-after}
 
 adds : (wrote_back : Bool) (kind : AccessKind) (n : Counts) → (with_write_back wrote_back (with_access kind n)).write_backs ≡ n.write_backs + one_if wrote_back
 adds true Hit n = refl
-adds true Miss n = refl
-adds true Upgrade n = refl
+adds true _ n = refl
 adds false Hit n = omega arith
-adds false Miss n = omega arith
-adds false Upgrade n = omega arith
+adds false _ n = omega arith
 
 counted-write-back : (core k : ℕ) (how : CacheUse) (cs : List Counts) → core < length cs
     → (of (with_use_counted core how cs) k).write_backs ≡ (of cs k).write_backs + one_if ((core == k) && wrote_in how)
@@ -63,20 +61,13 @@ all-told table c t choices k cores =
 
 write-valid : (s : State) → written_in_place s ≢ Some I
 write-valid I q = let z : ⊥ = cc in z
-write-valid S q = let z : ⊥ = cc in z
-write-valid E q = let z : ⊥ = cc in z
-write-valid O q = let z : ⊥ = cc in z
-write-valid M q = let z : ⊥ = cc in z
-
-shared-valid : (shared : Bool) → filled_shared shared ≢ I
-shared-valid shared q = let z : ⊥ = cc in z
+write-valid _ q = let z : ⊥ = cc in z
 
 company-valid : (shared : Bool) → filled_by_sharing shared ≢ I
 company-valid true q = let z : ⊥ = cc in z
 company-valid false q = let z : ⊥ = cc in z
 
 pub protocols-keep : ProtocolsKeepNoCopyInI
-protocols-keep Msi = record { filled = shared-valid; written = write-valid }
 protocols-keep Mesi = record { filled = company-valid; written = write-valid }
 protocols-keep Moesi = record { filled = company-valid; written = write-valid }
-protocols-keep Mosi = record { filled = shared-valid; written = write-valid }
+protocols-keep _ = record { filled = λ shared q. (let z : ⊥ = cc in z); written = write-valid }

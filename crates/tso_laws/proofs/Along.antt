@@ -1,10 +1,10 @@
 -- Along the whole order, and the moves at the end.
-use Rattle.tso_laws.proofs.Vocabulary.{max, ◌≡◌, ◌≢◌, ◌<◌, ◌≤◌, ℕ, ◌+◌, ◌-◌, zero, suc, List, [], ◌∷◌, ◌++◌, Bool, true, false, length, slice_index, slice_index_or, drop, arith, ap, sym, ◌∙◌, append_assoc, refl, ◌⊎◌, inl, inr, add-one, subst, get_or-set_same, get_or-set_other, length-set, Litmus, is_store, is_load, rank, is_store_kind, made_by, read_values, Entry, Instr, Choice, decide, lt-or, max-first, max-second, and-left, and-right, state_after, commits_of, core_of, CoreState, State, idle, program_of, effect_of, chosen, after_choice, start, step, CoresExist, is_done, all_done, has_ended, run_from, stall_count, steps, drained, choices_for, places_after, last_steps, choices_from, beginnings, choices_along, LeadTo, Member, drop-end}
+use Rattle.tso_laws.proofs.Vocabulary.{max, ◌≡◌, ◌≢◌, ◌<◌, ◌≤◌, ℕ, ◌+◌, ◌-◌, zero, suc, List, [], ◌∷◌, ◌++◌, Bool, true, false, length, slice_index, slice_index_or, drop, arith, ap, sym, ◌∙◌, append_assoc, refl, ◌⊎◌, inl, inr, add-one, subst, get_or-set_same, get_or-set_other, length-set, Litmus, is_store, is_load, rank, is_store_kind, made_by, read_values, Entry, Instr, Choice, decide, lt-or, max-first, max-second, state_after, commits_of, core_of, CoreState, State, program_of, effect_of, chosen, after_choice, start, step, CoresExist, is_done, has_ended, run_from, stall_count, steps, drained, choices_for, places_after, last_steps, choices_from, beginnings, choices_along, LeadTo, Member, drop-end, done-at, all-done, starts-idle, length-starts}
 use Rattle.tso_laws.proofs.OneList.{Queued}
 use Rattle.tso_laws.proofs.CoreInvariant.{left, trace}
 use Rattle.tso_laws.proofs.MachineInvariant.{world-start}
-use Rattle.tso_laws.proofs.Work.{choice-changes, done-undone, length-starts}
-use Rattle.tso_laws.proofs.Rounds.{after-append, all-done, done-now, size-kept, starts-idle}
+use Rattle.tso_laws.proofs.Work.{choice-changes, done-undone}
+use Rattle.tso_laws.proofs.Rounds.{after-append, done-now, size-kept}
 use Rattle.tso_laws.proofs.Held.{member-split, each-of, Distinct, Apart, held-none}
 use Rattle.tso_laws.proofs.OrderSteps.{first_of, Good, Stands, holds-of, AllTake, takes-append, commits-append, Goes, goes-append, entries-from}
 use Rattle.tso_laws.proofs.UpToEntry.{quiet-steps, drain-goes}
@@ -193,13 +193,6 @@ leads d t order (suc fuel) front (x ∷ back) state places b g st h =
         (subst (λ z. Leads d t (x ∷ (y ∷ rest)) state (choices_for places x ++ (z ++ choices_from t (places_after (places_after places x) y) rest))) (sym n) a)
 
 -- where each choice takes effect, the run uses them all
-pub done-at : (ps : List (List Instr)) (ss : List CoreState) (k : ℕ) → all_done ps ss ≡ true → k < length ss → is_done (slice_index_or ps k []) (slice_index_or ss k idle) ≡ true
-done-at ps [] k h l = absurd (omega arith)
-done-at [] (s ∷ ss) zero h l = and-left (is_done [] s) (all_done [] ss) h
-done-at [] (s ∷ ss) (suc k) h l = done-at [] ss k (and-right (is_done [] s) (all_done [] ss) h) (omega arith)
-done-at (p ∷ ps) (s ∷ ss) zero h l = and-left (is_done p s) (all_done ps ss) h
-done-at (p ∷ ps) (s ∷ ss) (suc k) h l = done-at ps ss k (and-right (is_done p s) (all_done ps ss) h) (omega arith)
-
 not-ended : (t : Litmus) (d : ℕ) (state : State) (a : Choice) → chosen a < length state.cores → stall_count (effect_of t d state a).outcome ≡ 0 → has_ended t state ≡ false
 not-ended t d state a l o = go (has_ended t state) (λ h. done-at t.programs state.cores (chosen a) h l)
   where

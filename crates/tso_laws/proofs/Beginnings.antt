@@ -1,10 +1,9 @@
 -- A run is a run of all choices of a beginning of the list.
-use Rattle.tso_laws.proofs.Vocabulary.{◌≡◌, ◌≤◌, ◌<◌, ℕ, ◌+◌, suc, List, [], ◌∷◌, ◌++◌, Bool, true, false, length, take, arith, ap, sym, ◌∙◌, refl, subst, if◌then◌else◌, ◌==◌, slice_get_within, get_or_from_slice_get, Litmus, KeepsAllOrder, and-right, Instr, Choice, is_none_pending, core_of, CoreState, State, idle, program_of, effect_of, after_choice, start, needed, IsExecution, state_after, commits_of, is_done, has_ended, Run, then_run, resting, run, run_from}
+use Rattle.tso_laws.proofs.Vocabulary.{◌≡◌, ◌≤◌, ◌<◌, ℕ, ◌+◌, List, [], ◌∷◌, ◌++◌, true, length, take, arith, ap, sym, ◌∙◌, refl, subst, ◌==◌, slice_get_within, get_or_from_slice_get, Litmus, KeepsAllOrder, and-right, Instr, Choice, is_none_pending, core_of, CoreState, State, idle, program_of, effect_of, after_choice, start, needed, IsExecution, state_after, commits_of, is_done, has_ended, Run, run, run_from, cases_Bool, inl, inr, done-at}
 use Rattle.tso_laws.proofs.Folds.{needed-is, HasEnded, HasLocations}
 use Rattle.tso_laws.proofs.MachineInvariant.{MachineInvariant, world-run, world-start}
 use Rattle.tso_laws.proofs.Final.{ended_is_tso, ended_has_registers, memory-list, keeps_all, world-needs}
 use Rattle.tso_laws.proofs.Work.{run-ended, is_none-is, done-length}
-use Rattle.tso_laws.proofs.Along.{done-at}
 
 pub record Begins (t : Litmus) (d : ℕ) (state : State) (cs : List Choice) (r : Run) : Type 0 where
   pub now : r.state ≡ state_after t d state (take r.used cs)
@@ -13,12 +12,10 @@ pub record Begins (t : Litmus) (d : ℕ) (state : State) (cs : List Choice) (r :
 
 pub run-begins : (t : Litmus) (d : ℕ) (state : State) (cs : List Choice) → Begins t d state cs (run_from t d state cs)
 run-begins t d state [] = record { now = refl; commits = refl; count = refl }
-run-begins t d state (c ∷ cs) = go (has_ended t state) (run-begins t d (after_choice t d state c) cs)
-  where
-    go : (b : Bool) → Begins t d (after_choice t d state c) cs (run_from t d (after_choice t d state c) cs)
-        → Begins t d state (c ∷ cs) (if b then resting true state (suc (length cs)) else then_run (effect_of t d state c) (run_from t d (after_choice t d state c) cs))
-    go true h = record { now = refl; commits = refl; count = omega arith }
-    go false h = record { now = h.now; commits = ap (λ z. (effect_of t d state c).commits ++ z) h.commits; count = let n = h.count in omega arith }
+run-begins t d state (c ∷ cs) = let h = run-begins t d (after_choice t d state c) cs in elim (cases_Bool (has_ended t state)) [
+  | inl is ↦ rw is (record { now = refl; commits = refl; count = omega arith })
+  | inr is ↦ rw is (record { now = h.now; commits = ap (λ z. (effect_of t d state c).commits ++ z) h.commits; count = let n = h.count in omega arith })
+]
 
 has-ended : (t : Litmus) (state : State) → has_ended t state ≡ true → HasEnded t state
 has-ended t state h = record {
@@ -42,12 +39,9 @@ run-world t d cs known =
     let b = run-begins t d (start t) cs in
     rw (b.commits, b.now) (world-run t d [] (start t) (take (run t d cs).used cs) known (world-start d t))
 
-run-end : (t : Litmus) (d : ℕ) (cs : List Choice) → HasLocations t → (run t d cs).ended ≡ true → AtEnd t d (run t d cs)
-run-end t d cs known e = record { world = run-world t d cs known; ended = has-ended t (run t d cs).state (sym (run-ended t d (start t) cs) ∙ e) }
-
 pub run-is-execution : (t : Litmus) (d : ℕ) (cs : List Choice) → HasLocations t → (run t d cs).ended ≡ true → IsExecution t (run t d cs)
 run-is-execution t d cs known e =
-    let a = run-end t d cs known e in
+    let a : AtEnd t d (run t d cs) = record { world = run-world t d cs known; ended = has-ended t (run t d cs).state (sym (run-ended t d (start t) cs) ∙ e) } in
     record {
       order = ended_is_tso d t (run t d cs).commits (run t d cs).state a.world a.ended;
       memory = memory-list t.words (run t d cs).state.memory (run t d cs).commits a.world.room a.world.memory;

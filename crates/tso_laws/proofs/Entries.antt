@@ -1,5 +1,5 @@
 -- Orders of entries with one more in the middle, as one core sees them.
-use Rattle.tso_laws.proofs.Vocabulary.{◌≡◌, ◌<◌, ◌≤◌, ℕ, suc, List, [], ◌∷◌, ◌++◌, Bool, true, false, length, slice_index, arith, sym, ◌∙◌, append_assoc, refl, subst, ◌==◌, ◌&&◌, if◌then◌else◌, nat_tests, same_kind, is_write, is_read, is_before, may_be_passed, writes_to, is_store, is_load, is_write_kind, is_read_kind, read_value, is_at, and-true, Entry, Kind, R, W, F, LR, LW, Each, each-insert, each-left, append-nil}
+use Rattle.tso_laws.proofs.Vocabulary.{◌≡◌, ◌<◌, ◌≤◌, ℕ, suc, List, [], ◌∷◌, ◌++◌, Bool, true, false, length, slice_index, arith, sym, ◌∙◌, append_assoc, refl, subst, ◌==◌, ◌&&◌, if◌then◌else◌, nat_tests, same_kind, is_write, is_read, is_before, may_be_passed, writes_to, is_store, is_load, is_write_kind, is_read_kind, read_value, is_at, and-true, Entry, Kind, R, LR, Each, each-insert, each-left, append-nil}
 use Rattle.tso_laws.proofs.Folds.{last_word, last_own, passed}
 
 -- where y stands after x in the order, and before it in the program of core c, y is a store and x a load
@@ -23,10 +23,8 @@ DueIn c words front (x ∷ back) =
 
 pub not_both : (k : Kind) → is_write_kind k ≡ true → is_read_kind k ≡ false
 not_both R h = cc
-not_both W h = refl
-not_both F h = refl
 not_both LR h = cc
-not_both LW h = refl
+not_both _ h = refl
 
 pub due-writes : (c : ℕ) (words : List ℕ) (front xs : List Entry) → Each (λ x. is_write x ≡ true) xs → DueIn c words front xs
 due-writes c words front [] h = tt

@@ -1,5 +1,5 @@
 -- A state that has ended, and what its commits are.
-use Rattle.tso_laws.proofs.Vocabulary.{◌≡◌, ◌≢◌, ◌<◌, ◌≤◌, ℕ, ◌+◌, zero, suc, List, [], ◌∷◌, ◌++◌, Some, Bool, true, false, length, slice_get, slice_index, slice_index_or, take, map, arith, ap, sym, ◌∙◌, append_assoc, refl, inl, inr, add-one, subst, ◌==◌, if◌then◌else◌, length-append, slice_get-get_or, nat_tests, Litmus, is_read, is_before, may_be_passed, is_load, is_store, made_by, made_from, made, IsTsoExecution, IsAdjacent, KeepsProgramOrder, IsStorePart, KeepsAllOrder, test-false, le-cases, lt-by, max-within, not-itself, registers_of, registers_from, final_registers, words_from, word_after, Entry, Instr, core_of, CoreState, State, idle, program_of, LR, Each, each-append, each-at, each-right, Member, member-at, drop-end, append-nil}
+use Rattle.tso_laws.proofs.Vocabulary.{◌≡◌, ◌≢◌, ◌<◌, ◌≤◌, ℕ, ◌+◌, zero, suc, List, [], ◌∷◌, ◌++◌, Some, Bool, true, false, length, slice_get, slice_index, slice_index_or, take, map, arith, ap, sym, ◌∙◌, append_assoc, refl, inl, inr, add-one, subst, ◌==◌, if◌then◌else◌, length-append, slice_get-get_or, nat_tests, Litmus, is_read, is_before, may_be_passed, is_load, is_store, made_by, made_from, made, IsTsoExecution, IsAdjacent, KeepsProgramOrder, IsStorePart, KeepsAllOrder, test-false, le-cases, lt-by, max-within, not-itself, registers_of, registers_from, final_registers, words_from, word_after, Entry, Instr, core_of, CoreState, State, idle, program_of, LR, Each, each-append, each-at, each-right, Member, member-at, drop-end, append-nil, cases_Bool}
 use Rattle.tso_laws.proofs.Folds.{last_word, last_own, passed, asks, needs, HasEnded, word-is, due-is}
 use Rattle.tso_laws.proofs.Entries.{ordered-left, few-left, Fine, Ordered, Few, DueIn, count}
 use Rattle.tso_laws.proofs.OneList.{OneList}
@@ -61,11 +61,10 @@ total-outside k (suc n) x xs h = rw (test-false x.core.0 k (omega arith), total-
 
 total-inside : (k n : ℕ) (x : Entry) (xs : List Entry) → k ≤ x.core.0 → x.core.0 < k + n → total k n (x ∷ xs) ≡ suc (total k n xs)
 total-inside k zero x xs a b = absurd (omega arith)
-total-inside k (suc n) x xs a b = here-or-later (x.core.0 == k) refl (λ p q. total-inside (suc k) n x xs p q)
-  where
-    here-or-later : (t : Bool) → (x.core.0 == k) ≡ t → (suc k ≤ x.core.0 → x.core.0 < suc k + n → total (suc k) n (x ∷ xs) ≡ suc (total (suc k) n xs)) → total k (suc n) (x ∷ xs) ≡ suc (total k (suc n) xs)
-    here-or-later true q later = let s : x.core.0 ≡ k = grind (arith, nat_tests) in rw (q, total-outside (suc k) n x xs (omega arith)) (omega arith)
-    here-or-later false q later = let s : x.core.0 ≢ k = grind (arith, nat_tests) in rw (q, later (omega arith) (omega arith)) (omega arith)
+total-inside k (suc n) x xs a b = elim (cases_Bool (x.core.0 == k)) [
+  | inl q ↦ let s : x.core.0 ≡ k = grind (arith, nat_tests) in rw (q, total-outside (suc k) n x xs (omega arith)) (omega arith)
+  | inr q ↦ let s : x.core.0 ≢ k = grind (arith, nat_tests) in rw (q, total-inside (suc k) n x xs (omega arith) (omega arith)) (omega arith)
+]
 
 length-total : (n : ℕ) (xs : List Entry) → Each (λ e. e.core.0 < n) xs → length xs ≡ total 0 n xs
 length-total n [] h = sym (total-none 0 n)

@@ -1,5 +1,5 @@
 -- The entries of a program have its places and its locations.
-use Rattle.tso_laws.proofs.Vocabulary.{◌≡◌, ◌≢◌, ◌<◌, ◌≤◌, ℕ, ◌+◌, zero, suc, List, [], ◌∷◌, Some, IfSome, length, take, slice_get, slice_index, arith, sym, refl, subst, Litmus, IsTest, KnownLocation, action_of, location_of, entries_by, entries_of, IsWhole, StandsIn, read_values, made, made_by, program_of, Instr, Action, Store, Load, Move, Fence, Lock, Entry, F, FitsTest, Each, each-append, Member}
+use Rattle.tso_laws.proofs.Vocabulary.{◌≡◌, ◌≢◌, ◌<◌, ◌≤◌, ℕ, ◌+◌, zero, suc, List, [], ◌∷◌, Some, IfSome, length, take, slice_get, slice_index, arith, sym, refl, subst, Litmus, IsTest, KnownLocation, action_of, location_of, entries_by, entries_of, IsWhole, StandsIn, read_values, made, made_by, program_of, Instr, Action, Move, Fence, Lock, Entry, F, FitsTest, Each, each-append, Member}
 use Rattle.tso_laws.proofs.Folds.{HasLocations}
 use Rattle.tso_laws.proofs.Held.{each-of}
 use Rattle.tso_laws.proofs.OrderSteps.{first_of}
@@ -10,11 +10,10 @@ abbrev Placed : ℕ → Entry → Type 0
 Placed n e = (e.kind ≢ F → e.loc.0 < n) × (e.kind ≡ F → (e.loc.0 ≡ 0) × (e.value ≡ 0))
 
 located : (n c place : ℕ) (a : Action) (registers : List ℕ) (word : ℕ) → IfSome (location_of a) (λ loc. loc.0 < n) → Each (Placed n) (entries_by c place a registers word)
-located n c place (Store loc operand) registers word l = ((λ k. l, λ k. absurd (let z : ⊥ = cc in z)), tt)
-located n c place (Load reg loc) registers word l = ((λ k. l, λ k. absurd (let z : ⊥ = cc in z)), tt)
 located n c place (Move reg operand) registers word l = tt
 located n c place Fence registers word l = ((λ k. absurd (k refl), λ k. (refl, refl)), tt)
 located n c place (Lock loc reg update) registers word l = ((λ k. l, λ k. absurd (let z : ⊥ = cc in z)), ((λ k. l, λ k. absurd (let z : ⊥ = cc in z)), tt))
+located n c place _ registers word l = ((λ k. l, λ k. absurd (let z : ⊥ = cc in z)), tt)
 
 entries-located : (n c place : ℕ) (p : List Instr) (registers values : List ℕ) → ((i : ℕ) (x : Instr) → slice_get p i ≡ Some x → KnownLocation n x) → Each (Placed n) (entries_of c place p registers values)
 entries-located n c place [] registers values f = tt

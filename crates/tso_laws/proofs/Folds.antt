@@ -1,5 +1,5 @@
 -- The definitions in the form that proofs by recursion take: each fold goes over a list once.
-use Rattle.tso_laws.proofs.Vocabulary.{sym, max, ◌≡◌, ◌≤◌, ℕ, ◌+◌, suc, List, [], ◌∷◌, ◌++◌, Some, Bool, true, false, refl, ◌∙◌, ap, length, slice_get, slice_index, if◌then◌else◌, ◌&&◌, arith, nat_tests, filter, Litmus, KnownLocation, is_store, is_load, is_read, is_before, writes_to, is_store_kind, is_load_kind, last_value, counting, CoreState, State, Effect, program_of, Instr, Entry, Kind, R, W, F, LR, LW, Buffered, and-true, and-false, stores_before, most_passed, one_for_stores, needed, asked}
+use Rattle.tso_laws.proofs.Vocabulary.{sym, max, ◌≡◌, ◌≤◌, ℕ, ◌+◌, suc, List, [], ◌∷◌, ◌++◌, Some, Bool, true, refl, ◌∙◌, ap, length, slice_get, slice_index, if◌then◌else◌, ◌&&◌, arith, nat_tests, filter, Litmus, KnownLocation, is_store, is_load, is_read, is_before, writes_to, is_store_kind, is_load_kind, last_value, counting, CoreState, State, Effect, program_of, Instr, Entry, Kind, R, W, Buffered, and-true, and-false, stores_before, most_passed, one_for_stores, needed, asked, cases_Bool, inl, inr}
 
 -- the word of a location after these entries
 abbrev pub last_word : ℕ → List Entry → ℕ → ℕ
@@ -49,12 +49,7 @@ HasLocations t = (k i : ℕ) (x : Instr) → slice_get (program_of t k) i ≡ So
 
 in-word : (loc : ℕ) (es : List Entry) (w : ℕ) → last_value (filter (writes_to loc) es) w ≡ last_word loc es w
 in-word loc [] w = refl
-in-word loc (e ∷ es) w = go (writes_to loc e) (in-word loc es e.value) (in-word loc es w)
-  where
-    go : (b : Bool) → last_value (filter (writes_to loc) es) e.value ≡ last_word loc es e.value → last_value (filter (writes_to loc) es) w ≡ last_word loc es w
-        → last_value (if b then e ∷ filter (writes_to loc) es else filter (writes_to loc) es) w ≡ last_word loc es (if b then e.value else w)
-    go true h k = h
-    go false h k = k
+in-word loc (e ∷ es) w = elim (cases_Bool (writes_to loc e)) [ inl is ↦ rw is (in-word loc es e.value) | inr is ↦ rw is (in-word loc es w) ]
 
 -- the value of the last write to a location among these, else the word
 pub word-is : (loc : ℕ) (es : List Entry) (w : ℕ) → last_value (filter (writes_to loc) es) w ≡ last_word loc es w
@@ -66,12 +61,10 @@ last_word-append loc (x ∷ xs) ys v = last_word-append loc xs ys _
 
 own-word : (x : Entry) (es : List Entry) (w : ℕ) → last_word x.loc.0 (filter (λ e. is_before e x) es) w ≡ last_own x es w
 own-word x [] w = refl
-own-word x (e ∷ es) w = go (is_before e x) (λ v. own-word x es v)
-  where
-    go : (b : Bool) → ((v : ℕ) → last_word x.loc.0 (filter (λ e. is_before e x) es) v ≡ last_own x es v)
-        → last_word x.loc.0 (if b then e ∷ filter (λ e. is_before e x) es else filter (λ e. is_before e x) es) w ≡ last_own x es (if writes_to x.loc.0 e && b then e.value else w)
-    go true h = rw (and-true (writes_to x.loc.0 e)) (h (if writes_to x.loc.0 e then e.value else w))
-    go false h = rw (and-false (writes_to x.loc.0 e)) (h w)
+own-word x (e ∷ es) w = elim (cases_Bool (is_before e x)) [
+  | inl is ↦ rw (is, and-true (writes_to x.loc.0 e)) (own-word x es (if writes_to x.loc.0 e then e.value else w))
+  | inr is ↦ rw (is, and-false (writes_to x.loc.0 e)) (own-word x es w)
+]
 
 -- the due value of a read, found by going over the order once
 pub due-is : (x : Entry) (front back : List Entry) (w : ℕ) → last_value (counting x front back) w ≡ last_own x back (last_word x.loc.0 front w)
@@ -82,11 +75,7 @@ due-is x front back w =
 
 passed-is : (x : Entry) (ys : List Entry) → length (stores_before x ys) ≡ passed x ys
 passed-is x [] = refl
-passed-is x (y ∷ ys) = go (is_store y && is_before y x) (passed-is x ys)
-  where
-    go : (b : Bool) → length (stores_before x ys) ≡ passed x ys → length (if b then y ∷ stores_before x ys else stores_before x ys) ≡ (if b then suc (passed x ys) else passed x ys)
-    go true h = ap suc h
-    go false h = h
+passed-is x (y ∷ ys) = elim (cases_Bool (is_store y && is_before y x)) [ inl is ↦ rw is (ap suc (passed-is x ys)) | inr is ↦ rw is (passed-is x ys) ]
 
 -- the depth that an order needs, found by going over the order once
 pub needed-is : (order : List Entry) → needed order ≡ needs order
@@ -95,11 +84,7 @@ needed-is (x ∷ back) = rw (← needed-is back, ← passed-is x back) (go x.kin
   where
     small : (ys : List Entry) → one_for_stores ys ≤ 1
     small [] = omega arith
-    small (y ∷ ys) = one (is_store y) (small ys)
-      where
-        one : (b : Bool) → one_for_stores ys ≤ 1 → (if b then 1 else one_for_stores ys) ≤ 1
-        one true h = omega arith
-        one false h = h
+    small (y ∷ ys) = elim (cases_Bool (is_store y)) [ inl is ↦ rw is (omega arith) | inr is ↦ rw is (small ys) ]
 
     neither : (o m : ℕ) → max o (max 0 m) ≡ max 0 (max o m)
     neither o m = grind (arith, nat_tests)
@@ -114,9 +99,7 @@ needed-is (x ∷ back) = rw (← needed-is back, ← passed-is x back) (go x.kin
         → max (if is_store_kind k then 1 else o) (max (if is_load_kind k then p else 0) m) ≡ max (if is_load_kind k then p else (if is_store_kind k then 1 else 0)) (max o m)
     go R p o m h = loads p o m
     go W p o m h = stored o m h
-    go F p o m h = neither o m
-    go LR p o m h = neither o m
-    go LW p o m h = neither o m
+    go _ p o m h = neither o m
 
 -- the same, one entry at a time
 pub needed-first : (x : Entry) (back : List Entry) → needed (x ∷ back) ≡ max (asked x back) (needed back)

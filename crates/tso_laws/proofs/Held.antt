@@ -1,5 +1,5 @@
 -- The stores of a core that stand before a place in its program, in the order of a list.
-use Rattle.tso_laws.proofs.Vocabulary.{◌≡◌, ◌≢◌, ◌<◌, ◌≤◌, ℕ, ◌+◌, suc, List, [], ◌∷◌, ◌++◌, Bool, true, false, length, arith, ap, sym, ◌∙◌, refl, ◌⊎◌, inl, inr, subst, ◌==◌, ◌&&◌, nat_lt, if◌then◌else◌, ◌||◌, nat_tests, is_before, writes_to, is_store, rank, part_of, is_store_kind, by-rank, and-true, and-false, Entry, Kind, R, W, F, LR, LW, Each, Member}
+use Rattle.tso_laws.proofs.Vocabulary.{◌≡◌, ◌≢◌, ◌<◌, ◌≤◌, ℕ, ◌+◌, suc, List, [], ◌∷◌, ◌++◌, Bool, true, false, length, arith, ap, sym, ◌∙◌, refl, ◌⊎◌, inl, inr, subst, ◌==◌, ◌&&◌, nat_lt, if◌then◌else◌, ◌||◌, nat_tests, is_before, writes_to, is_store, rank, part_of, is_store_kind, by-rank, and-true, and-false, Entry, Kind, R, W, Each, Member, cases_Bool}
 use Rattle.tso_laws.proofs.Folds.{passes, last_word, last_own, passed}
 use Rattle.tso_laws.proofs.Entries.{Fine, Ordered}
 
@@ -41,22 +41,15 @@ pub store-rank : (e : Entry) → is_store e ≡ true → rank e ≡ e.place + e.
 store-rank e h = go e.kind refl h
   where
     go : (k : Kind) → e.kind ≡ k → is_store_kind k ≡ true → e.place + e.place + part_of e.kind ≡ e.place + e.place
-    go R q h = absurd (let z : ⊥ = cc in z)
     go W q h = rw q (omega arith)
-    go F q h = absurd (let z : ⊥ = cc in z)
-    go LR q h = absurd (let z : ⊥ = cc in z)
-    go LW q h = absurd (let z : ⊥ = cc in z)
+    go _ q h = absurd (let z : ⊥ = cc in z)
 
 same-lt : (p n : ℕ) → p ≢ n → nat_lt p (n + 1) ≡ nat_lt p n
 same-lt p n h = grind (arith, nat_tests)
 
 same-test : (b : Bool) (c k p n : ℕ) → (c ≡ k → b ≡ true → p ≢ n) → (b && ((c == k) && nat_lt p (n + 1))) ≡ (b && ((c == k) && nat_lt p n))
 same-test false c k p n f = refl
-same-test true c k p n f = go (c == k) refl
-  where
-    go : (t : Bool) → (c == k) ≡ t → (true && (t && nat_lt p (n + 1))) ≡ (true && (t && nat_lt p n))
-    go true q = let e : c ≡ k = grind (arith, nat_tests) in same-lt p n (f e refl)
-    go false q = refl
+same-test true c k p n f = elim (cases_Bool (c == k)) [ inl q ↦ rw q (let e : c ≡ k = grind (arith, nat_tests) in same-lt p n (f e refl)) | inr q ↦ rw q refl ]
 
 pub held-same : (k n : ℕ) (ys : List Entry) → ((e : Entry) → Member e ys → e.core.0 ≡ k → is_store e ≡ true → e.place ≢ n) → held k (n + 1) ys ≡ held k n ys
 held-same k n [] f = refl
@@ -87,11 +80,8 @@ pub is_store-kind : (e : Entry) → is_store e ≡ true → e.kind ≡ W
 is_store-kind e h = go e.kind h
   where
     go : (k : Kind) → is_store_kind k ≡ true → k ≡ W
-    go R h = absurd (let z : ⊥ = cc in z)
     go W h = refl
-    go F h = absurd (let z : ⊥ = cc in z)
-    go LR h = absurd (let z : ⊥ = cc in z)
-    go LW h = absurd (let z : ⊥ = cc in z)
+    go _ h = absurd (let z : ⊥ = cc in z)
 
 -- stores of a core after one of its stores stand after it in the program
 store-after : (d k : ℕ) (x y : Entry) → Fine d k x y → Apart x y → x.core.0 ≡ k → is_store x ≡ true → y.core.0 ≡ k → is_store y ≡ true → x.place < y.place
@@ -147,11 +137,8 @@ same-before x y r = rw r (go y.kind)
     alone false false = refl
 
     go : (k : Kind) → (is_store_kind k && ((y.core.0 == x.core.0) && (nat_lt y.place x.place || ((y.place == x.place) && false)))) ≡ (is_store_kind k && ((y.core.0 == x.core.0) && nat_lt y.place x.place))
-    go R = refl
     go W = rw (alone (nat_lt y.place x.place) (y.place == x.place)) refl
-    go F = refl
-    go LR = refl
-    go LW = refl
+    go _ = refl
 
 pub held-passed : (x : Entry) (ys : List Entry) → x.kind ≡ R → length (held x.core.0 x.place ys) ≡ passed x ys
 held-passed x [] r = refl

@@ -1,7 +1,7 @@
 -- The whole machine: every choice keeps what its first state has, and at the end that is a TSO execution.
-use Rattle.tso_laws.proofs.Vocabulary.{◌≡◌, ◌≢◌, ◌<◌, ℕ, ◌+◌, zero, suc, List, [], ◌∷◌, ◌++◌, Option, Some, None, Bool, true, false, length, slice_get, slice_set, slice_index, slice_index_or, arith, ap, sym, ◌∙◌, append_assoc, refl, inl, inr, subst, ◌==◌, ◌&&◌, if◌then◌else◌, get_or-set_same, get_or-set_other, length-set, slice_get-get_or, nat_tests, Litmus, is_write, lt-or, memory_after, CoreState, State, Effect, idle, program_of, effect_of, chosen, after_choice, applied, started, start, Entry, Instr, Choice, Step, Drain, state_after, commits_of, Each, each-append, each-map, set-cases, append-nil}
+use Rattle.tso_laws.proofs.Vocabulary.{◌≡◌, ◌≢◌, ◌<◌, ℕ, ◌+◌, zero, suc, List, [], ◌∷◌, ◌++◌, Option, Some, None, Bool, true, false, length, slice_get, slice_set, slice_index, slice_index_or, arith, ap, sym, ◌∙◌, append_assoc, refl, inl, inr, subst, ◌==◌, ◌&&◌, if◌then◌else◌, get_or-set_same, get_or-set_other, length-set, slice_get-get_or, nat_tests, Litmus, is_write, lt-or, memory_after, CoreState, State, Effect, idle, program_of, effect_of, chosen, after_choice, applied, started, start, Entry, Instr, Choice, Step, Drain, state_after, commits_of, Each, each-append, each-map, set-cases, append-nil, length-starts}
 use Rattle.tso_laws.proofs.Folds.{last_word-append, last_word, HasLocations}
-use Rattle.tso_laws.proofs.Work.{length-starts, absent-stays, stays-same}
+use Rattle.tso_laws.proofs.Work.{absent-stays, stays-same}
 use Rattle.tso_laws.proofs.CoreInvariant.{CoreInvariant, IsMemory, Commits, holds-step, holds-drained, holds-others, step-commits, drain-commits, KnownAt, Paired, paired-append, step-paired, drain-paired}
 
 -- one write to the memory, or none

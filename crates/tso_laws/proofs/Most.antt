@@ -1,5 +1,5 @@
 -- No order needs more depth than a program has plain stores.
-use Rattle.tso_laws.proofs.Vocabulary.{◌≡◌, ◌<◌, ◌≤◌, ℕ, ◌+◌, zero, suc, List, [], ◌∷◌, ◌++◌, Bool, true, false, length, slice_index, slice_index_or, arith, ap, sym, ◌∙◌, refl, inl, inr, subst, if◌then◌else◌, nat_lt, ◌==◌, ◌&&◌, nat_tests, action_of, entries_by, entries_of, Litmus, max-left, max-right, max-within, load-kind, needed, store_count, stores_in, most_stores, is_store, is_load, rank, IsTsoExecution, read_values, made_by, Entry, Instr, Action, Store, Load, Move, Fence, Lock, program_of, Member}
+use Rattle.tso_laws.proofs.Vocabulary.{◌≡◌, ◌<◌, ◌≤◌, ℕ, ◌+◌, zero, suc, List, [], ◌∷◌, ◌++◌, Bool, true, false, length, slice_index, slice_index_or, arith, ap, sym, ◌∙◌, refl, inl, inr, subst, if◌then◌else◌, nat_lt, ◌==◌, ◌&&◌, nat_tests, action_of, entries_by, entries_of, Litmus, max-left, max-right, max-within, load-kind, needed, store_count, stores_in, most_stores, is_store, is_load, rank, IsTsoExecution, read_values, made_by, Entry, Instr, Action, Store, program_of, Member, cases_Bool}
 use Rattle.tso_laws.proofs.Folds.{needed-is, passed, asks, needs}
 use Rattle.tso_laws.proofs.Held.{member-left, member-right, member-split, each-of, Distinct, Apart, is_held, held, held-passed}
 use Rattle.tso_laws.proofs.OrderSteps.{first_of}
@@ -26,18 +26,11 @@ pick (y ∷ ys) = if is_store y then y ∷ pick ys else pick ys
 pick-member : (e : Entry) (ys : List Entry) → Member e ys → is_store e ≡ true → Member e (pick ys)
 pick-member e [] m w = absurd m
 pick-member e (y ∷ ys) (inl q) w = let v : is_store y ≡ true = ap is_store (sym q) ∙ w in rw v (inl q)
-pick-member e (y ∷ ys) (inr m) w = go (is_store y) (pick-member e ys m w)
-  where
-    go : (b : Bool) → Member e (pick ys) → Member e (if b then y ∷ pick ys else pick ys)
-    go true h = inr h
-    go false h = h
+pick-member e (y ∷ ys) (inr m) w = elim (cases_Bool (is_store y)) [ inl is ↦ rw is (inr (pick-member e ys m w)) | inr is ↦ rw is (pick-member e ys m w) ]
 
 pick-by : (c place : ℕ) (a : Action) (registers : List ℕ) (word : ℕ) (xs : List Entry) → length (pick (entries_by c place a registers word ++ xs)) ≡ store_count a + length (pick xs)
 pick-by c place (Store loc operand) registers word xs = omega arith
-pick-by c place (Load reg loc) registers word xs = omega arith
-pick-by c place (Move reg operand) registers word xs = omega arith
-pick-by c place Fence registers word xs = omega arith
-pick-by c place (Lock loc reg update) registers word xs = omega arith
+pick-by c place _ registers word xs = omega arith
 
 pick-count : (c place : ℕ) (p : List Instr) (registers values : List ℕ) → length (pick (entries_of c place p registers values)) ≡ stores_in p
 pick-count c place [] registers values = refl
@@ -70,11 +63,10 @@ held-in k n (y ∷ ys) e m = go (is_held k n y) refl m (λ h. held-in k n ys e h
 
 held-distinct : (k n : ℕ) (ys : List Entry) → Distinct ys → Distinct (held k n ys)
 held-distinct k n [] d = tt
-held-distinct k n (y ∷ ys) d = go (is_held k n y) (held-distinct k n ys d.1)
-  where
-    go : (b : Bool) → Distinct (held k n ys) → Distinct (if b then y ∷ held k n ys else held k n ys)
-    go true h = (each-from (Apart y) (held k n ys) (λ e m. each-of (Apart y) e ys d.0 (held-in k n ys e m).member), h)
-    go false h = h
+held-distinct k n (y ∷ ys) d = elim (cases_Bool (is_held k n y)) [
+  | inl is ↦ rw is (each-from (Apart y) (held k n ys) (λ e m. each-of (Apart y) e ys d.0 (held-in k n ys e m).member), held-distinct k n ys d.1)
+  | inr is ↦ rw is (held-distinct k n ys d.1)
+]
 
 most-at : (ps : List (List Instr)) (k : ℕ) → stores_in (slice_index_or ps k []) ≤ most_stores ps
 most-at [] k = omega arith

@@ -11,22 +11,14 @@ use Rattle.tso_laws.proofs.OrderSteps.{first_of, entries-at, Good, Stands, Goes,
 use Rattle.tso_laws.proofs.UpToEntry.{at-place, in-back, OnlyStores, back-ordered, back-distinct, quiet-goes, drain-goes}
 
 passes-store : (a b : Kind) → passes a b ≡ true → is_store_kind a ≡ true
-passes-store R b h = absurd (let z : ⊥ = cc in z)
 passes-store W b h = refl
-passes-store F b h = absurd (let z : ⊥ = cc in z)
-passes-store LR b h = absurd (let z : ⊥ = cc in z)
-passes-store LW b h = absurd (let z : ⊥ = cc in z)
+passes-store _ b h = absurd (let z : ⊥ = cc in z)
 
 passes-load : (a b : Kind) → passes a b ≡ true → is_load_kind b ≡ true
 passes-load R b h = absurd (let z : ⊥ = cc in z)
 passes-load W R h = refl
-passes-load W W h = absurd (let z : ⊥ = cc in z)
-passes-load W F h = absurd (let z : ⊥ = cc in z)
-passes-load W LR h = absurd (let z : ⊥ = cc in z)
-passes-load W LW h = absurd (let z : ⊥ = cc in z)
-passes-load F b h = absurd (let z : ⊥ = cc in z)
-passes-load LR b h = absurd (let z : ⊥ = cc in z)
-passes-load LW b h = absurd (let z : ⊥ = cc in z)
+passes-load W _ h = absurd (let z : ⊥ = cc in z)
+passes-load _ b h = absurd (let z : ⊥ = cc in z)
 
 -- what stands after x in the order and before it in its program has been passed by it
 fine-at : (d : ℕ) (t : Litmus) (order front back : List Entry) (state : State) (x e : Entry) → Good d t order → Stands d t order front (x ∷ back) state → x.core.0 < length t.programs
@@ -114,10 +106,7 @@ store-onward d t order front back state x e g st l p u q registers reads eq w =
 
     not-load : (k : Kind) → is_store_kind k ≡ true → is_load_kind k ≡ false
     not-load R h = absurd (let z : ⊥ = cc in z)
-    not-load W h = refl
-    not-load F h = refl
-    not-load LR h = refl
-    not-load LW h = refl
+    not-load _ h = refl
 
     same-or : (a b : ℕ) → a < b + 1 → (a ≡ b) ⊎ (a < b)
     same-or a b h = grind arith
@@ -229,9 +218,6 @@ own-none x (y ∷ ys) v f = rw (no (is_before y x) (f y (inl refl))) (rw (and-fa
 store-in : (x : Entry) (xs : List Entry) (n : Next x xs) → Member n.store xs
 store-in x xs n = subst (λ z. Member n.store z) (sym n.is) (inl refl)
 
-rest-in : (x : Entry) (xs : List Entry) (n : Next x xs) (z : Entry) → Member z n.rest → Member z xs
-rest-in x xs n z m = subst (λ w. Member z w) (sym n.is) (inr m)
-
 paired-right : (xs ys : List Entry) → Paired (xs ++ ys) → Paired ys
 paired-right [] ys h = h
 paired-right (x ∷ xs) ys h = paired-right xs ys h.1
@@ -259,7 +245,7 @@ locked-onward d t order front back state x reg loc rv f g st l p u known q regis
     let y-in : Member y back = store-in x back next in
     let y-is : y ≡ b = second s.place rv loc y next.pair.kind (at-place d t order front (x ∷ back) state k g st l (a ∷ (b ∷ [])) q registers reads eq y (x-in-order d t order front back state x y st (inr y-in)) (next.pair.core) y-place) in
     let empty = none-waits d t order front back state x g st l p load in
-    let later = none-after d t order front back state x (a ∷ (b ∷ [])) next.rest g st l p load q registers reads eq (refl, (refl, tt)) (rest-in x back next) in
+    let later = none-after d t order front back state x (a ∷ (b ∷ [])) next.rest g st l p load q registers reads eq (refl, (refl, tt)) (λ z m. subst (λ w. Member z w) (sym next.is) (inr m)) in
     let value : x.value ≡ last_own x back (last_word x.loc.0 front (slice_index t.words x.loc.0)) = g.due front x back st.is (ap is_read_kind kind) in
     let own = own-none x back (last_word x.loc.0 front (slice_index t.words x.loc.0)) (λ z m h. let i = passes-load z.kind x.kind (fine-at d t order front back state x z g st l m h) in let w : ⊥ = cc in w) in
     let word : slice_index state.memory loc.0 ≡ rv = st.world.memory loc.0 known ∙ ap (λ z. last_word z.0 front (slice_index t.words z.0)) (sym where_) ∙ sym own ∙ sym value ∙ ap (λ z. z.value) is in
@@ -316,9 +302,6 @@ by-instruction d t order front back state x g st l p u i e = by_action (action_o
         let v : ℕ = read_value k s.place LR order in
         inr (locked-onward d t order front back state x reg loc v (λ z. updated update z (value_in s.registers reg)) g st l p u (rw is at (g.known k s.place i e)) q (with_value s.registers reg v) (read_values k (s.place + 1) q order) (rw (drop-at (program_of t k) s.place i e, is) refl) (rw (e, is) refl))
 
-higher : (place n : ℕ) (xs : List Entry) → Each (λ e. e.place < (place + 1) + n) xs → Each (λ e. e.place < place + suc n) xs
-higher place n xs h = each-map (λ e. e.place < (place + 1) + n) (λ e. e.place < place + suc n) xs (λ e q. omega (arith, q)) h
-
 -- an entry of a program has a place within it
 pub entries-below : (c place : ℕ) (p : List Instr) (registers values : List ℕ) → Each (λ e. e.place < place + length p) (entries_of c place p registers values)
 entries-below c place [] registers values = tt
@@ -326,7 +309,7 @@ entries-below c place (i ∷ p) registers values =
     let es : List Entry = entries_by c place (action_of i) registers (slice_index values 0) in
     each-append (λ e. e.place < place + suc (length p)) es _
     (each-map (λ e. (e.core.0 ≡ c) × (e.place ≡ place)) (λ e. e.place < place + suc (length p)) es (λ e q. let l = q.1 in omega arith) (entries-at c place (action_of i) registers (slice_index values 0)))
-    (higher place (length p) _ (entries-below c (place + 1) p _ _))
+    (each-map (λ e. e.place < (place + 1) + length p) (λ e. e.place < place + suc (length p)) _ (λ e q. omega (arith, q)) (entries-below c (place + 1) p _ _))
 
 pub place-below : (d : ℕ) (t : Litmus) (order : List Entry) (x : Entry) → Good d t order → Member x order → x.place < length (program_of t x.core.0)
 place-below d t order x g m =

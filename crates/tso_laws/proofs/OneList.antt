@@ -1,5 +1,5 @@
 -- What a core's commits and pending writes keep, as one list, when an entry is added.
-use Rattle.tso_laws.proofs.Vocabulary.{◌≡◌, ◌≢◌, ◌<◌, ◌≤◌, ℕ, ◌+◌, suc, List, [], ◌∷◌, ◌++◌, true, false, length, slice_index, arith, ap, sym, ◌∙◌, refl, subst, ◌&&◌, length-append, nat_lt, ◌==◌, nat_tests, is_write, is_read, is_before, writes_to, is_store, is_load, is_write_kind, is_read_kind, by-rank, rank, test-false, test-true, and-false, before, Entry, Kind, R, W, F, LR, LW, Each, each-insert, each-map, each-all, each-append, each-left, each-right, Member, member-insert, member-inserted, append-nil}
+use Rattle.tso_laws.proofs.Vocabulary.{◌≡◌, ◌≢◌, ◌<◌, ◌≤◌, ℕ, ◌+◌, suc, List, [], ◌∷◌, ◌++◌, true, false, length, slice_index, arith, ap, sym, ◌∙◌, refl, subst, ◌&&◌, length-append, nat_lt, ◌==◌, nat_tests, is_write, is_read, is_before, writes_to, is_store, is_load, is_write_kind, is_read_kind, by-rank, rank, test-false, test-true, and-false, before, Entry, Kind, R, W, LW, Each, each-insert, each-map, each-all, each-append, each-left, each-right, Member, member-insert, member-inserted, append-nil}
 use Rattle.tso_laws.proofs.Folds.{last_word, passed}
 use Rattle.tso_laws.proofs.Entries.{Fine, Ordered, ordered-insert, Few, few-insert, passed-length, DueIn, Uncounted, OwnDue, due-insert, not_both, count, count-insert-own, count-insert-other, last_own-all}
 
@@ -31,11 +31,9 @@ no_write : (loc : ℕ) (e : Entry) → is_read e ≡ true → writes_to loc e �
 no_write loc e h = let w : is_write e ≡ false = reads_only e.kind h in rw w refl
   where
     reads_only : (k : Kind) → is_read_kind k ≡ true → is_write_kind k ≡ false
-    reads_only R h = refl
     reads_only W h = cc
-    reads_only F h = refl
-    reads_only LR h = refl
     reads_only LW h = cc
+    reads_only _ h = refl
 
 -- an entry of another core
 pub sees-other : (d c place : ℕ) (words : List ℕ) (done xs ys : List Entry) (e : Entry) → OneList d c place words done (xs ++ ys) → Each (λ y. is_write y ≡ true) ys

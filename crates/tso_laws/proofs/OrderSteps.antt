@@ -1,5 +1,5 @@
 -- Choices that go on along an order.
-use Rattle.tso_laws.proofs.Vocabulary.{◌≡◌, ◌≢◌, ◌<◌, ◌≤◌, ℕ, ◌+◌, List, [], ◌∷◌, ◌++◌, Bool, false, length, slice_index, slice_index_or, arith, ap, sym, ◌∙◌, append_assoc, refl, inl, inr, subst, ◌==◌, ◌&&◌, nat_lt, slice_get-get_or, nat_tests, action_of, entries_by, entries_of, Litmus, decide, is_store, made_by, Entry, Instr, Action, Store, Load, Move, Fence, Lock, Choice, core_of, State, idle, program_of, effect_of, chosen, after_choice, state_after, commits_of, stall_count, Each, each-map, each-append, Member, append-nil}
+use Rattle.tso_laws.proofs.Vocabulary.{◌≡◌, ◌≢◌, ◌<◌, ◌≤◌, ℕ, ◌+◌, List, [], ◌∷◌, ◌++◌, Bool, false, length, slice_index, slice_index_or, arith, ap, sym, ◌∙◌, append_assoc, refl, inl, inr, subst, ◌==◌, ◌&&◌, nat_lt, slice_get-get_or, nat_tests, action_of, entries_by, entries_of, Litmus, decide, is_store, made_by, Entry, Instr, Action, Move, Lock, Choice, core_of, State, idle, program_of, effect_of, chosen, after_choice, state_after, commits_of, stall_count, Each, each-map, each-append, Member, append-nil}
 use Rattle.tso_laws.proofs.Folds.{needs, HasDueValues, HasLocations}
 use Rattle.tso_laws.proofs.Entries.{Ordered}
 use Rattle.tso_laws.proofs.CoreInvariant.{CoreInvariant, Paired}
@@ -98,11 +98,9 @@ choice-goes d t order front done back state a k n g st q l o c m p u w = record 
 
 -- an action's entries are of its core and its place
 pub entries-at : (c place : ℕ) (a : Action) (registers : List ℕ) (word : ℕ) → Each (λ e. (e.core.0 ≡ c) × (e.place ≡ place)) (entries_by c place a registers word)
-entries-at c place (Store loc operand) registers word = ((refl, refl), tt)
-entries-at c place (Load reg loc) registers word = ((refl, refl), tt)
 entries-at c place (Move reg operand) registers word = tt
-entries-at c place Fence registers word = ((refl, refl), tt)
 entries-at c place (Lock loc reg update) registers word = ((refl, refl), ((refl, refl), tt))
+entries-at c place _ registers word = ((refl, refl), tt)
 
 -- the entries of a program from a place on
 pub entries-from : (c place : ℕ) (p : List Instr) (registers values : List ℕ) → Each (λ e. (e.core.0 ≡ c) × (place ≤ e.place)) (entries_of c place p registers values)

@@ -1,5 +1,5 @@
 -- The greatest depth is enough, and what runs end with are exactly the executions.
-use Rattle.tso_laws.proofs.Vocabulary.{◌<◌, ◌≤◌, ◌↔◌, ◌≢◌, ap, ℕ, suc, List, [], ◌∷◌, length, slice_index_or, arith, subst, Litmus, IsTest, action_of, IsTsoExecution, Instr, Action, Store, Load, Move, Fence, Lock, Entry, run, Choice, max-within, store_count, stores_in, most_stores, needed, choices_along, LeadTo, IsReached}
+use Rattle.tso_laws.proofs.Vocabulary.{◌<◌, ◌≤◌, ◌↔◌, ◌≢◌, ap, ℕ, suc, List, [], ◌∷◌, length, slice_index_or, arith, subst, Litmus, IsTest, action_of, IsTsoExecution, Instr, Action, Store, Entry, run, Choice, max-within, store_count, stores_in, most_stores, needed, choices_along, LeadTo, IsReached}
 use Rattle.tso_laws.proofs.Folds.{needed-is}
 use Rattle.tso_laws.proofs.Along.{witness-leads}
 use Rattle.tso_laws.proofs.Whole.{tso-good}
@@ -16,10 +16,7 @@ stores-length (x ∷ p) = let h = stores-length p in let w = one (action_of x) i
   where
     one : (a : Action) → store_count a ≤ 1
     one (Store loc operand) = omega arith
-    one (Load reg loc) = omega arith
-    one (Move reg operand) = omega arith
-    one Fence = omega arith
-    one (Lock loc reg update) = omega arith
+    one _ = omega arith
 
 most-within : (ps : List (List Instr)) (n : ℕ) → ((k : ℕ) → k < length ps → length (slice_index_or ps k []) ≤ n) → most_stores ps ≤ n
 most-within [] n f = omega arith
@@ -33,9 +30,6 @@ greatest-is-enough t order test tso =
 reached-execution : (t : Litmus) (d : ℕ) (order : List Entry) → IsTest t → IsReached t d order → IsTsoExecution t order
 reached-execution t d order test r = subst (λ z. IsTsoExecution t z) r.commits (run-is-execution t d r.choices (test-locations t test) r.ended).order
 
-reached-needs : (t : Litmus) (d : ℕ) (order : List Entry) → IsTest t → 0 < d → IsReached t d order → needed order ≤ d
-reached-needs t d order test p r = subst (λ z. needed z ≤ d) r.commits (run-needs t d r.choices p (test-locations t test))
-
 pub never : (t : Litmus) (d : ℕ) (order : List Entry) (cs : List Choice) → IsTest t → 0 < d → d < needed order → (run t d cs).commits ≢ order
 never t d order cs test p l q = let n = run-needs t d cs p (test-locations t test) in let m = ap needed q in omega arith
 
@@ -45,7 +39,7 @@ execution-reached t d order test tso n =
     record { choices = choices_along t order; cores = w.cores; ended = w.ended; commits = w.commits }
 
 pub reached-exactly : (t : Litmus) (d : ℕ) (order : List Entry) → IsTest t → 0 < d → IsReached t d order ↔ (IsTsoExecution t order × (needed order ≤ d))
-reached-exactly t d order test p = (λ r. (reached-execution t d order test r, reached-needs t d order test p r), λ h. execution-reached t d order test h.0 h.1)
+reached-exactly t d order test p = (λ r. (reached-execution t d order test r, subst (λ z. needed z ≤ d) r.commits (run-needs t d r.choices p (test-locations t test))), λ h. execution-reached t d order test h.0 h.1)
 
 pub greatest-exactly : (t : Litmus) (order : List Entry) → IsTest t → IsReached t 32 order ↔ IsTsoExecution t order
 greatest-exactly t order test =

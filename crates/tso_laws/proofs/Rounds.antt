@@ -1,6 +1,6 @@
 -- A core that has not ended gets on in each round.
-use Rattle.tso_laws.proofs.Vocabulary.{◌≡◌, ◌≢◌, ◌<◌, ◌≤◌, ℕ, ◌+◌, ◌*◌, zero, suc, List, [], ◌∷◌, ◌++◌, Option, Some, None, Bool, true, false, length, slice_get, slice_index_or, drop, arith, ap, sym, ◌∙◌, refl, ◌⊎◌, inl, inr, subst, ◌==◌, nat_lt, if◌then◌else◌, get_or-set_same, get_or-set_other, length-set, nat_tests, Litmus, decide, max-left, max-right, longest, Entry, Instr, Action, Store, Load, Move, Fence, Lock, Choice, state_after, action_of, is_none_pending, core_of, CoreState, State, idle, program_of, stored, effect_by, effect_of, chosen, after_choice, started, start, step, drain, is_done, all_done, has_ended, then_run, resting, run, run_from, stall_count, Among, CanBeCutIntoRounds}
-use Rattle.tso_laws.proofs.Work.{undone, work, weight, store_weight, choice-changes, length-starts}
+use Rattle.tso_laws.proofs.Vocabulary.{◌≡◌, ◌≢◌, ◌<◌, ◌≤◌, ℕ, ◌*◌, zero, suc, List, [], ◌∷◌, ◌++◌, Option, Some, None, true, length, slice_get, slice_index_or, drop, arith, ap, sym, ◌∙◌, refl, ◌⊎◌, inl, inr, subst, ◌==◌, nat_lt, get_or-set_same, get_or-set_other, length-set, nat_tests, Litmus, decide, max-left, max-right, longest, Entry, Instr, Action, Store, Fence, Lock, Choice, state_after, action_of, is_none_pending, core_of, CoreState, State, idle, program_of, stored, effect_by, effect_of, chosen, after_choice, start, step, drain, is_done, has_ended, run, run_from, stall_count, Among, CanBeCutIntoRounds, cases_Bool, length-starts, all-done, starts-idle}
+use Rattle.tso_laws.proofs.Work.{undone, work, weight, store_weight, choice-changes}
 
 -- a core keeps its state, or gets on
 pub record GetsOn (d : ℕ) (p : List Instr) (s v : CoreState) : Type 0 where
@@ -81,16 +81,9 @@ stored-takes (suc n) s e q = rw q (let z : nat_lt 0 (suc n) ≡ true = grind (ar
 -- with nothing pending an instruction takes effect
 step-takes : (c d : ℕ) (memory : List ℕ) (a : Action) (s : CoreState) → s.pending ≡ [] → stall_count (effect_by d memory c a s).outcome ≡ 0
 step-takes c d memory (Store loc operand) s q = stored-takes d s _ q
-step-takes c d memory (Load reg loc) s q = refl
-step-takes c d memory (Move reg operand) s q = refl
 step-takes c d memory Fence s q = rw q refl
 step-takes c d memory (Lock loc reg update) s q = rw q refl
-
-able-step : (t : Litmus) (d k : ℕ) (s : CoreState) (x : Instr) → s.pending ≡ [] → slice_get (program_of t k) s.place ≡ Some x → Able t d s (step k)
-able-step t d k s x p e = λ state q. rw (q, e) (step-takes k d state.memory (action_of x) s p)
-
-able-drain : (t : Litmus) (d k : ℕ) (s : CoreState) (y : Entry) (ys : List Entry) → s.pending ≡ y ∷ ys → Able t d s (drain k)
-able-drain t d k s y ys p = λ state q. rw (q, p) refl
+step-takes c d memory _ s q = refl
 
 work-past : (d : ℕ) (p : List Instr) (n : ℕ) → slice_get p n ≡ None → work d (drop n p) ≡ 0
 work-past d [] zero e = refl
@@ -106,12 +99,12 @@ in-round t d state cs k l a b = by_pending (core_of state k).pending refl
     by_place : (i : Option Instr) → slice_get (program_of t k) (core_of state k).place ≡ i → (core_of state k).pending ≡ []
         → (undone d (program_of t k) (core_of state k) ≡ 0) ⊎ (undone d (program_of t k) (core_of (state_after t d state cs) k) < undone d (program_of t k) (core_of state k))
     by_place None e p = inl (let n = work-past d (program_of t k) (core_of state k).place e in let m = ap length p in omega arith)
-    by_place (Some x) e p = inr (falls t d state cs (step k) (core_of state k) l refl (able-step t d k (core_of state k) x p e) a)
+    by_place (Some x) e p = inr (falls t d state cs (step k) (core_of state k) l refl (λ other q. rw (q, e) (step-takes k d other.memory (action_of x) (core_of state k) p)) a)
 
     by_pending : (q : List Entry) → (core_of state k).pending ≡ q
         → (undone d (program_of t k) (core_of state k) ≡ 0) ⊎ (undone d (program_of t k) (core_of (state_after t d state cs) k) < undone d (program_of t k) (core_of state k))
     by_pending [] p = by_place (slice_get (program_of t k) (core_of state k).place) refl p
-    by_pending (y ∷ ys) p = inr (falls t d state cs (drain k) (core_of state k) l refl (able-drain t d k (core_of state k) y ys p) b)
+    by_pending (y ∷ ys) p = inr (falls t d state cs (drain k) (core_of state k) l refl (λ other q. rw (q, p) refl) b)
 
 pub after-append : (t : Litmus) (d : ℕ) (state : State) (xs ys : List Choice) → state_after t d state (xs ++ ys) ≡ state_after t d (state_after t d state xs) ys
 after-append t d state [] ys = refl
@@ -137,11 +130,6 @@ in-rounds t d state (suc r) n cs k l e cut u =
     rw (cut.2, after-append t d state round rest)
     (in-rounds t d (state_after t d state round) r n rest k (rw size l) (e ∙ sym size) cut.4 m)
 
-pub all-done : (ps : List (List Instr)) (ss : List CoreState) → ((k : ℕ) → k < length ss → is_done (slice_index_or ps k []) (slice_index_or ss k idle) ≡ true) → all_done ps ss ≡ true
-all-done ps [] f = refl
-all-done [] (s ∷ ss) f = rw (f 0 (omega arith)) (all-done [] ss (λ k l. f (suc k) (omega arith)))
-all-done (p ∷ ps) (s ∷ ss) f = rw (f 0 (omega arith)) (all-done ps ss (λ k l. f (suc k) (omega arith)))
-
 work-none : (d : ℕ) (p : List Instr) (n : ℕ) → n ≤ length p → work d (drop n p) ≡ 0 → length p ≡ n
 work-none d [] zero l e = refl
 work-none d [] (suc n) l e = absurd (omega arith)
@@ -153,10 +141,7 @@ work-none d (x ∷ xs) zero l e = absurd (let w = positive d (action_of x) in om
 
     positive : (d : ℕ) (a : Action) → 0 < weight d a
     positive d (Store loc operand) = store-positive d
-    positive d (Load reg loc) = omega arith
-    positive d (Move reg operand) = omega arith
-    positive d Fence = omega arith
-    positive d (Lock loc reg update) = omega arith
+    positive d _ = omega arith
 work-none d (x ∷ xs) (suc n) l e = ap suc (work-none d xs n (omega arith) e)
 
 pub done-now : (d : ℕ) (p : List Instr) (s : CoreState) → undone d p s ≡ 0 → s.place ≤ length p → is_done p s ≡ true
@@ -183,29 +168,17 @@ work-twice d (x ∷ xs) = let h = work-twice d xs in let w = at_most d (action_o
 
     at_most : (d : ℕ) (a : Action) → weight d a ≤ 2
     at_most d (Store loc operand) = store-at_most d
-    at_most d (Load reg loc) = omega arith
-    at_most d (Move reg operand) = omega arith
-    at_most d Fence = omega arith
-    at_most d (Lock loc reg update) = omega arith
+    at_most d _ = omega arith
 
 longest-at : (ps : List (List Instr)) (k : ℕ) → length (slice_index_or ps k []) ≤ longest ps
 longest-at [] k = omega arith
 longest-at (p ∷ ps) zero = max-left (length p) (longest ps)
 longest-at (p ∷ ps) (suc k) = let a = longest-at ps k in let b = max-right (length p) (longest ps) in omega arith
 
-pub starts-idle : (c : ℕ) (ps : List (List Instr)) (registers : List (List ℕ)) (k : ℕ) → (slice_index_or (started c ps registers) k idle).place ≡ 0 × (slice_index_or (started c ps registers) k idle).pending ≡ []
-starts-idle c [] registers k = (refl, refl)
-starts-idle c (p ∷ ps) registers zero = (refl, refl)
-starts-idle c (p ∷ ps) registers (suc k) = starts-idle (c + 1) ps registers k
-
 -- a run has ended when the state after all choices has
 ended-if-after : (t : Litmus) (d : ℕ) (state : State) (cs : List Choice) → has_ended t (state_after t d state cs) ≡ true → (run_from t d state cs).ended ≡ true
 ended-if-after t d state [] h = h
-ended-if-after t d state (c ∷ cs) h = go (has_ended t state) (ended-if-after t d (after_choice t d state c) cs h)
-  where
-    go : (b : Bool) → (run_from t d (after_choice t d state c) cs).ended ≡ true → (if b then resting true state (suc (length cs)) else then_run (effect_of t d state c) (run_from t d (after_choice t d state c) cs)).ended ≡ true
-    go true r = refl
-    go false r = r
+ended-if-after t d state (c ∷ cs) h = elim (cases_Bool (has_ended t state)) [ inl is ↦ rw is refl | inr is ↦ rw is (ended-if-after t d (after_choice t d state c) cs h) ]
 
 pub rounds-end : (t : Litmus) (d : ℕ) (cs : List Choice) → CanBeCutIntoRounds (length t.programs) (2 * longest t.programs) cs → (run t d cs).ended ≡ true
 rounds-end t d cs cut = ended-if-after t d (start t) cs (all-done t.programs (state_after t d (start t) cs).cores each)

@@ -1,12 +1,11 @@
 -- What holds after any list of choices, in the words of the definitions.
-use Rattle.tso_laws.proofs.Vocabulary.{◌≡◌, ◌≢◌, ◌<◌, ◌≤◌, ℕ, zero, suc, List, [], ◌∷◌, ◌++◌, Some, length, take, slice_get, slice_index, slice_index_or, All, arith, ap, sym, ◌∙◌, append_assoc, refl, ◌⊎◌, inl, inr, subst, filter, slice_get-get_or, Litmus, IsTest, KnownLocation, made_by, KeepsProgramOrder, StandsIn, registers_of, CoreState, State, idle, program_of, core_of, effect_of, after_choice, start, run, Instr, Entry, Choice, decide, lt-or, state_after, commits_of, IsPossible, issued, is_waiting, CoreSoFar, IsIssued, SoFar, Each, each-at, each-map, each-append, each-right, Member, member-at, append-nil}
+use Rattle.tso_laws.proofs.Vocabulary.{◌≡◌, ◌≢◌, ◌<◌, ◌≤◌, ℕ, zero, suc, List, [], ◌∷◌, ◌++◌, Some, length, take, slice_get, slice_index, slice_index_or, All, arith, ap, sym, ◌∙◌, append_assoc, refl, ◌⊎◌, inl, inr, subst, filter, slice_get-get_or, Litmus, IsTest, KnownLocation, made_by, KeepsProgramOrder, StandsIn, registers_of, CoreState, State, idle, program_of, core_of, effect_of, after_choice, start, run, Instr, Entry, Choice, decide, lt-or, state_after, commits_of, IsPossible, issued, is_waiting, CoreSoFar, IsIssued, SoFar, Each, each-at, each-map, each-append, each-right, Member, member-at, append-nil, no-program}
 use Rattle.tso_laws.proofs.Folds.{HasLocations, due-is}
 use Rattle.tso_laws.proofs.Entries.{Fine, Ordered, DueIn}
 use Rattle.tso_laws.proofs.OneList.{Queued}
 use Rattle.tso_laws.proofs.CoreInvariant.{CoreInvariant}
 use Rattle.tso_laws.proofs.Rounds.{after-append}
 use Rattle.tso_laws.proofs.OrderSteps.{commits-append}
-use Rattle.tso_laws.proofs.Work.{no-program}
 use Rattle.tso_laws.proofs.MachineInvariant.{MachineInvariant, world-run, world-start}
 use Rattle.tso_laws.proofs.Final.{kept-by-each, world-ordered, due-at, paired-at, memory-list}
 use Rattle.tso_laws.proofs.Whole.{at-member}

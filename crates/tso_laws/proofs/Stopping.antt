@@ -1,8 +1,7 @@
 -- A run stops where it ends, and nothing happens after the end.
-use Rattle.tso_laws.proofs.Vocabulary.{◌≡◌, ◌<◌, ℕ, zero, suc, List, [], ◌∷◌, ◌++◌, Bool, true, false, length, take, arith, ap, sym, ◌∙◌, refl, inl, inr, if◌then◌else◌, Litmus, State, program_of, core_of, chosen, effect_of, after_choice, start, is_done, has_ended, Run, stall_count, resting, then_run, run_from, run, Choice, Stall, Stalled, state_after, commits_of, ChangesNothing, StopsAtTheEnd, lt-or}
-use Rattle.tso_laws.proofs.Work.{no-program, no-core, stays-same, Stays, choice-changes, run-ended, done-undone, length-starts}
+use Rattle.tso_laws.proofs.Vocabulary.{◌≡◌, ◌<◌, ℕ, zero, suc, List, [], ◌∷◌, ◌++◌, Bool, true, false, length, take, arith, ap, sym, ◌∙◌, refl, inl, inr, if◌then◌else◌, Litmus, State, program_of, core_of, chosen, effect_of, after_choice, start, has_ended, Run, stall_count, resting, then_run, run_from, run, Choice, Stall, Stalled, state_after, commits_of, ChangesNothing, StopsAtTheEnd, done-anywhere, length-starts}
+use Rattle.tso_laws.proofs.Work.{stays-same, Stays, choice-changes, run-ended, done-undone}
 use Rattle.tso_laws.proofs.Rounds.{size-kept, size-after}
-use Rattle.tso_laws.proofs.Along.{done-at}
 use Rattle.tso_laws.proofs.Beginnings.{run-begins}
 
 stays-nothing : (t : Litmus) (d : ℕ) (state : State) (c : Choice) → Stays (core_of state (chosen c)) (effect_of t d state c) → ChangesNothing t d state c
@@ -12,13 +11,6 @@ pub stall-nothing : (t : Litmus) (d : ℕ) (state : State) (c : Choice) (why : S
 stall-nothing t d state c why q = elim (choice-changes t d state c) [
   | inl w ↦ absurd (let m = w.took in let n : stall_count (effect_of t d state c).outcome ≡ 1 = rw q refl in let z : ⊥ = omega arith in z)
   | inr w ↦ stays-nothing t d state c w
-]
-
--- where the test has ended, each core is done, and so is one that isn't there
-done-anywhere : (t : Litmus) (state : State) (k : ℕ) → length state.cores ≡ length t.programs → has_ended t state ≡ true → is_done (program_of t k) (core_of state k) ≡ true
-done-anywhere t state k n h = elim (lt-or (length state.cores) k) [
-  | inl l ↦ done-at t.programs state.cores k h l
-  | inr l ↦ rw (no-program t.programs k (omega arith), no-core state.cores k l) refl
 ]
 
 ended-choice : (t : Litmus) (d : ℕ) (state : State) (c : Choice) → length state.cores ≡ length t.programs → has_ended t state ≡ true → Stays (core_of state (chosen c)) (effect_of t d state c)

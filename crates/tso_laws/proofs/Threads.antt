@@ -1,5 +1,5 @@
 -- A program cut at a place: what it makes, and its registers, are those of the first part and then of the rest.
-use Rattle.tso_laws.proofs.Vocabulary.{◌≡◌, ℕ, ◌+◌, zero, suc, List, [], ◌∷◌, ◌++◌, Some, take, drop, slice_get, slice_index, arith, ap, sym, ◌∙◌, append_assoc, refl, add-one, subst, action_of, entries_by, registers_by, values_after, entries_of, registers_after, values_by, made_by, read_values, registers_of, Instr, Action, Store, Load, Move, Fence, Lock, Entry}
+use Rattle.tso_laws.proofs.Vocabulary.{◌≡◌, ℕ, ◌+◌, zero, suc, List, [], ◌∷◌, ◌++◌, Some, take, drop, slice_get, slice_index, arith, ap, sym, ◌∙◌, append_assoc, refl, add-one, subst, action_of, entries_by, registers_by, values_after, entries_of, registers_after, values_by, made_by, read_values, registers_of, Instr, Action, Store, Entry}
 
 -- what a program makes from a place on, with the order's own read values
 abbrev pub makes : ℕ → ℕ → List Instr → List ℕ → List Entry → List Entry
@@ -20,19 +20,13 @@ word_by c k a order = slice_index (values_by c k a order) 0
 registers-first : (c k : ℕ) (a : Action) (p : List Instr) (regs values : List ℕ) (order : List Entry)
     → registers_after p (registers_by a regs (slice_index (values_by c k a order ++ values) 0)) (values_after a (values_by c k a order ++ values)) ≡ registers_after p (registers_by a regs (word_by c k a order)) values
 registers-first c k (Store loc operand) p regs values order = refl
-registers-first c k (Load reg loc) p regs values order = refl
-registers-first c k (Move reg operand) p regs values order = refl
-registers-first c k Fence p regs values order = refl
-registers-first c k (Lock loc reg update) p regs values order = refl
+registers-first c k _ p regs values order = refl
 
 entries-first : (c k : ℕ) (a : Action) (p : List Instr) (regs values : List ℕ) (order : List Entry)
     → entries_by c k a regs (slice_index (values_by c k a order ++ values) 0) ++ entries_of c (k + 1) p (registers_by a regs (slice_index (values_by c k a order ++ values) 0)) (values_after a (values_by c k a order ++ values))
     ≡ entries_by c k a regs (word_by c k a order) ++ entries_of c (k + 1) p (registers_by a regs (word_by c k a order)) values
 entries-first c k (Store loc operand) p regs values order = refl
-entries-first c k (Load reg loc) p regs values order = refl
-entries-first c k (Move reg operand) p regs values order = refl
-entries-first c k Fence p regs values order = refl
-entries-first c k (Lock loc reg update) p regs values order = refl
+entries-first c k _ p regs values order = refl
 
 leaves-first : (c k : ℕ) (i : Instr) (p : List Instr) (regs : List ℕ) (order : List Entry) → leaves c k (i ∷ p) regs order ≡ leaves c (k + 1) p (registers_by (action_of i) regs (word_by c k (action_of i) order)) order
 leaves-first c k i p regs order = registers-first c k (action_of i) p regs (read_values c (k + 1) p order) order

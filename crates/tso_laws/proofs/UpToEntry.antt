@@ -50,9 +50,6 @@ pub record Quiet (k : ℕ) (s : CoreState) (f : Effect) (back : List Entry) : Ty
 abbrev pub OnlyStores : ℕ → ℕ → List Entry → Type 0
 OnlyStores k n back = (e : Entry) → Member e back → e.core.0 ≡ k → e.place < n → is_store e ≡ true
 
-back-in-order : (d : ℕ) (t : Litmus) (order front back : List Entry) (state : State) (e : Entry) → Stands d t order front back state → Member e back → Member e order
-back-in-order d t order front back state e st m = subst (λ z. Member e z) (sym st.is) (member-right e front back m)
-
 move-quiet : (d : ℕ) (t : Litmus) (order front back : List Entry) (state : State) (k : ℕ) (reg : Reg) (v : ℕ) → Good d t order → Stands d t order front back state → k < length t.programs
     → (q : List Instr) (registers reads : List ℕ) → left k (program_of t k) (core_of state k) order ≡ entries_of k ((core_of state k).place + 1) q registers reads
     → Quiet k (core_of state k) (moved (core_of state k) reg v) back
@@ -60,7 +57,7 @@ move-quiet d t order front back state k reg v g st l q registers reads e = recor
   took = refl;
   none = refl;
   place = refl;
-  waits = st.waits k l ∙ sym (held-same k (core_of state k).place back (λ y m c w p. at-place d t order front back state k g st l [] q registers reads e y (back-in-order d t order front back state y st m) c p));
+  waits = st.waits k l ∙ sym (held-same k (core_of state k).place back (λ y m c w p. at-place d t order front back state k g st l [] q registers reads e y (subst (λ z. Member y z) (sym st.is) (member-right y front back m)) c p));
 }
 
 pub ordered-right : (d k : ℕ) (xs ys : List Entry) → Ordered d k (xs ++ ys) → Ordered d k ys

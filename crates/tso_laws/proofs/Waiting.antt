@@ -1,5 +1,5 @@
 -- What is pending are the issued and uncommitted plain stores of a core, in program order.
-use Rattle.tso_laws.proofs.Vocabulary.{◌≡◌, ◌<◌, ◌≤◌, ℕ, ◌+◌, suc, List, [], ◌∷◌, ◌++◌, Bool, true, false, not, length, take, slice_index, arith, ap, sym, ◌∙◌, refl, inl, inr, subst, ◌==◌, ◌&&◌, ◌||◌, if◌then◌else◌, nat_lt, filter, nat_tests, action_of, entry, fence, value_in, value_of, updated, entries_by, entries_of, same_kind, is_before, is_store, rank, part_of, is_store_kind, is_load_kind, by-rank, is_at, made_by, read_values, CoreState, Instr, Action, Store, Load, Move, Fence, Lock, Entry, Kind, R, W, F, LR, LW, part-small, is_committed, is_waiting, Each, each-map, Member}
+use Rattle.tso_laws.proofs.Vocabulary.{◌≡◌, ◌<◌, ◌≤◌, ℕ, ◌+◌, suc, List, [], ◌∷◌, ◌++◌, Bool, true, false, not, length, take, slice_index, arith, ap, sym, ◌∙◌, refl, inl, inr, subst, ◌==◌, ◌&&◌, ◌||◌, if◌then◌else◌, nat_lt, filter, nat_tests, action_of, entry, fence, value_in, value_of, updated, entries_by, entries_of, same_kind, is_before, is_store, rank, part_of, is_store_kind, is_load_kind, by-rank, is_at, made_by, read_values, CoreState, Instr, Action, Store, Load, Move, Fence, Lock, Entry, Kind, R, W, LR, LW, part-small, is_committed, is_waiting, Each, each-map, Member, cases_Bool}
 use Rattle.tso_laws.proofs.Entries.{Fine, Ordered, count}
 use Rattle.tso_laws.proofs.OneList.{Queued}
 use Rattle.tso_laws.proofs.CoreInvariant.{CoreInvariant}
@@ -58,28 +58,19 @@ entries-sorted c place (i ∷ p) registers values = sorted-by c place (action_of
 
 each-filter : (P : Entry → Type 0) (test : Entry → Bool) (xs : List Entry) → Each P xs → Each P (filter test xs)
 each-filter P test [] h = tt
-each-filter P test (x ∷ xs) h = go (test x) (each-filter P test xs h.1)
-  where
-    go : (b : Bool) → Each P (filter test xs) → Each P (if b then x ∷ filter test xs else filter test xs)
-    go true k = (h.0, k)
-    go false k = k
+each-filter P test (x ∷ xs) h = elim (cases_Bool (test x)) [ inl is ↦ rw is (h.0, each-filter P test xs h.1) | inr is ↦ rw is (each-filter P test xs h.1) ]
 
 filter-sorted : (test : Entry → Bool) (xs : List Entry) → Sorted xs → Sorted (filter test xs)
 filter-sorted test [] h = tt
-filter-sorted test (x ∷ xs) h = go (test x) (filter-sorted test xs h.1)
-  where
-    go : (b : Bool) → Sorted (filter test xs) → Sorted (if b then x ∷ filter test xs else filter test xs)
-    go true k = (each-filter (λ y. rank x < rank y) test xs h.0, k)
-    go false k = k
+filter-sorted test (x ∷ xs) h = elim (cases_Bool (test x)) [
+  | inl is ↦ rw is (each-filter (λ y. rank x < rank y) test xs h.0, filter-sorted test xs h.1)
+  | inr is ↦ rw is (filter-sorted test xs h.1)
+]
 
 pub in-filter : (test : Entry → Bool) (xs : List Entry) (e : Entry) → Member e xs → test e ≡ true → Member e (filter test xs)
 in-filter test [] e m q = absurd m
 in-filter test (x ∷ xs) e (inl p) q = let v : test x ≡ true = ap test (sym p) ∙ q in rw v (inl p)
-in-filter test (x ∷ xs) e (inr m) q = go (test x) (in-filter test xs e m q)
-  where
-    go : (b : Bool) → Member e (filter test xs) → Member e (if b then x ∷ filter test xs else filter test xs)
-    go true h = inr h
-    go false h = h
+in-filter test (x ∷ xs) e (inr m) q = elim (cases_Bool (test x)) [ inl is ↦ rw is (inr (in-filter test xs e m q)) | inr is ↦ rw is (in-filter test xs e m q) ]
 
 from-filter : (test : Entry → Bool) (xs : List Entry) (e : Entry) → Member e (filter test xs) → Member e xs × test e ≡ true
 from-filter test [] e m = absurd m
@@ -96,11 +87,7 @@ own c xs = filter (λ e. e.core.0 == c) xs
 
 own-count : (c : ℕ) (xs : List Entry) → length (own c xs) ≡ count c xs
 own-count c [] = refl
-own-count c (x ∷ xs) = go (x.core.0 == c) (own-count c xs)
-  where
-    go : (b : Bool) → length (own c xs) ≡ count c xs → length (if b then x ∷ own c xs else own c xs) ≡ (if b then suc (count c xs) else count c xs)
-    go true h = ap suc h
-    go false h = h
+own-count c (x ∷ xs) = elim (cases_Bool (x.core.0 == c)) [ inl is ↦ rw is (ap suc (own-count c xs)) | inr is ↦ rw is (own-count c xs) ]
 
 own-append : (c : ℕ) (xs ys : List Entry) → Each (λ y. y.core.0 ≡ c) ys → own c (xs ++ ys) ≡ own c xs ++ ys
 own-append c [] [] h = refl
@@ -117,10 +104,7 @@ is-own a c h = grind (arith, nat_tests)
 -- an entry is committed where its like stands in the commits
 same-kinds : (k : Kind) → same_kind k k ≡ true
 same-kinds R = refl
-same-kinds W = refl
-same-kinds F = refl
-same-kinds LR = refl
-same-kinds LW = refl
+same-kinds _ = refl
 
 at-itself : (e : Entry) → is_at e.core.0 e.place e.kind e ≡ true
 at-itself e = rw (same-kinds e.kind) (both e.core.0 e.place)
@@ -156,31 +140,10 @@ at-rank x e h = (cores x.core.0 e.core.0 x.place e.place (same_kind x.kind e.kin
     kinds a b p q k h = grind (arith, nat_tests)
 
     parts : (k j : Kind) → same_kind k j ≡ true → part_of k ≡ part_of j
-    parts R R h = refl
-    parts R W h = refl
-    parts R F h = refl
-    parts R LR h = refl
-    parts R LW h = absurd (let z : ⊥ = cc in z)
-    parts W R h = refl
-    parts W W h = refl
-    parts W F h = refl
-    parts W LR h = refl
-    parts W LW h = absurd (let z : ⊥ = cc in z)
-    parts F R h = refl
-    parts F W h = refl
-    parts F F h = refl
-    parts F LR h = refl
-    parts F LW h = absurd (let z : ⊥ = cc in z)
-    parts LR R h = refl
-    parts LR W h = refl
-    parts LR F h = refl
-    parts LR LR h = refl
-    parts LR LW h = absurd (let z : ⊥ = cc in z)
-    parts LW R h = absurd (let z : ⊥ = cc in z)
-    parts LW W h = absurd (let z : ⊥ = cc in z)
-    parts LW F h = absurd (let z : ⊥ = cc in z)
-    parts LW LR h = absurd (let z : ⊥ = cc in z)
     parts LW LW h = refl
+    parts LW _ h = absurd (let z : ⊥ = cc in z)
+    parts _ LW h = absurd (let z : ⊥ = cc in z)
+    parts _ _ h = refl
 
     ranks : (p q : ℕ) (k j : Kind) → p ≡ q → same_kind k j ≡ true → p + p + part_of k ≡ q + q + part_of j
     ranks p q k j e h = let s = parts k j h in omega arith

@@ -121,11 +121,8 @@ record Good (state : State) : Type 0 where
   cores : All GoodCore state.cores
   six : All (λ s. length s.registers ≡ 6) state.cores
 
-idle-good : GoodCore idle
-idle-good = record { registers = All-nil _; pending = All-nil _ }
-
 core-at : (cores : List CoreState) (i : ℕ) → All GoodCore cores → GoodCore (slice_index_or cores i idle)
-core-at [] i h = idle-good
+core-at [] i h = record { registers = All-nil _; pending = All-nil _ }
 core-at (s ∷ ss) zero h = All-head GoodCore s ss h
 core-at (s ∷ ss) (suc i) h = core-at ss i (All-tail GoodCore s ss h)
 

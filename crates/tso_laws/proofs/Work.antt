@@ -1,5 +1,5 @@
 -- What is left to do, and that each choice that takes effect does one part of it.
-use Rattle.tso_laws.proofs.Vocabulary.{◌≡◌, ◌<◌, ◌≤◌, ℕ, ◌+◌, zero, suc, List, [], ◌∷◌, Option, Some, None, Bool, true, false, length, slice_get, slice_set, slice_index_or, drop, arith, ap, sym, ◌∙◌, refl, ◌⊎◌, inl, inr, ◌==◌, nat_lt, if◌then◌else◌, length-append, length-set, slice_get_within, nat_tests, Litmus, Entry, Instr, Action, Store, Load, Move, Fence, Lock, Choice, Step, Drain, Stall, Committed, action_of, is_none_pending, core_of, stalled, advanced, CoreState, State, Effect, idle, program_of, stored, when_drained, effect_by, step_of, drain_of, effect_of, chosen, after_choice, started, start, lt-or, and-left, and-right, is_done, all_done, has_ended, stall_count, then_run, resting, run, run_from, store_count, stores_in, instructions, stores_of_all, drop-at, drop-end}
+use Rattle.tso_laws.proofs.Vocabulary.{◌≡◌, ◌<◌, ◌≤◌, ℕ, ◌+◌, zero, suc, List, [], ◌∷◌, Option, Some, None, Bool, true, false, length, slice_get, slice_set, slice_index_or, drop, arith, ap, sym, ◌∙◌, refl, ◌⊎◌, inl, inr, ◌==◌, nat_lt, if◌then◌else◌, length-append, length-set, slice_get_within, nat_tests, Litmus, Entry, Instr, Action, Store, Fence, Lock, Choice, Step, Drain, Stall, Committed, action_of, is_none_pending, core_of, stalled, advanced, CoreState, State, Effect, idle, program_of, stored, when_drained, effect_by, step_of, drain_of, effect_of, chosen, after_choice, started, start, lt-or, and-left, and-right, is_done, all_done, has_ended, stall_count, then_run, resting, run, run_from, store_count, stores_in, instructions, stores_of_all, drop-at, drop-end, cases_Bool, length-starts, set-get_or, no-program, no-core}
 use Rattle.tso_model.specs.declared.choice.Stall.TheVariants as stall
 use Rattle.tso_laws.proofs.Draining.{waits-or-acts, drains}
 use Rattle.tso_laws.proofs.Folds.{put}
@@ -63,10 +63,9 @@ step-changes c d p memory s (Some x) e = by_action (action_of x) refl
   where
     by_action : (a : Action) → action_of x ≡ a → Changes d p s (effect_by d memory c a s)
     by_action (Store loc operand) q = stored-changes d p s x _ e (ap (weight d) q)
-    by_action (Load reg loc) q = inl (one-less d p s x _ e refl refl (rw q (omega arith)))
-    by_action (Move reg operand) q = inl (one-less d p s x _ e refl refl (rw q (omega arith)))
     by_action Fence q = waits-changes d p s x stall.Fence _ e (ap (weight d) q) refl refl refl
     by_action (Lock loc reg update) q = waits-changes d p s x stall.Lock _ e (ap (weight d) q) refl refl refl
+    by_action _ q = inl (one-less d p s x _ e refl refl (rw q (omega arith)))
 
 pub drain-changes : (d : ℕ) (p : List Instr) (s : CoreState) → Changes d p s (drain_of s)
 drain-changes d p s =
@@ -76,23 +75,8 @@ pub choice-changes : (t : Litmus) (d : ℕ) (state : State) (a : Choice) → Cha
 choice-changes t d state (Step c) = step-changes c.0 d (program_of t c.0) state.memory (core_of state c.0) (slice_get (program_of t c.0) (core_of state c.0).place) refl
 choice-changes t d state (Drain c) = drain-changes d (program_of t c.0) (core_of state c.0)
 
-set-same : (xs : List CoreState) (k : ℕ) → slice_set xs k (slice_index_or xs k idle) ≡ xs
-set-same [] k = refl
-set-same (x ∷ xs) zero = refl
-set-same (x ∷ xs) (suc k) = ap (λ z. x ∷ z) (set-same xs k)
-
 pub stays-same : (t : Litmus) (d : ℕ) (state : State) (c : Choice) → Stays (core_of state (chosen c)) (effect_of t d state c) → after_choice t d state c ≡ state
-stays-same t d state c w = rw (w.none, w.same, set-same state.cores (chosen c)) refl
-
-pub no-program : (ps : List (List Instr)) (k : ℕ) → length ps ≤ k → slice_index_or ps k [] ≡ []
-no-program [] k l = refl
-no-program (p ∷ ps) zero l = absurd (omega arith)
-no-program (p ∷ ps) (suc k) l = no-program ps k (omega arith)
-
-pub no-core : (ss : List CoreState) (k : ℕ) → length ss ≤ k → slice_index_or ss k idle ≡ idle
-no-core [] k l = refl
-no-core (s ∷ ss) zero l = absurd (omega arith)
-no-core (s ∷ ss) (suc k) l = no-core ss k (omega arith)
+stays-same t d state c w = rw (w.none, w.same, set-get_or state.cores (chosen c) idle) refl
 
 -- a choice of a core that isn't there stalls
 pub absent-stays : (t : Litmus) (d : ℕ) (state : State) (c : Choice) → length state.cores ≡ length t.programs → length t.programs ≤ chosen c → Stays (core_of state (chosen c)) (effect_of t d state c)
@@ -148,12 +132,7 @@ run-counts t d state (c ∷ cs) n = go (has_ended t state)
 -- the run's end is a moment at which it has ended
 pub run-ended : (t : Litmus) (d : ℕ) (state : State) (cs : List Choice) → (run_from t d state cs).ended ≡ has_ended t (run_from t d state cs).state
 run-ended t d state [] = refl
-run-ended t d state (c ∷ cs) = go (has_ended t state) refl (run-ended t d (after_choice t d state c) cs)
-  where
-    go : (b : Bool) → has_ended t state ≡ b → (run_from t d (after_choice t d state c) cs).ended ≡ has_ended t (run_from t d (after_choice t d state c) cs).state → (if b then resting true state (suc (length cs)) else then_run (effect_of t d state c) (run_from t d (after_choice t d state c) cs)).ended
-        ≡ has_ended t (if b then resting true state (suc (length cs)) else then_run (effect_of t d state c) (run_from t d (after_choice t d state c) cs)).state
-    go true q h = sym q
-    go false q h = h
+run-ended t d state (c ∷ cs) = elim (cases_Bool (has_ended t state)) [ inl q ↦ rw q (sym q) | inr q ↦ rw q (run-ended t d (after_choice t d state c) cs) ]
 
 pub is_none-is : (q : List Entry) → is_none_pending q ≡ true → q ≡ []
 is_none-is [] h = refl
@@ -184,16 +163,9 @@ start-remaining : (d k : ℕ) (ps : List (List Instr)) (registers : List (List �
 start-remaining d k [] registers = refl
 start-remaining d k (p ∷ ps) registers = let h = start-remaining d (k + 1) ps registers in omega arith
 
-pub length-starts : (c : ℕ) (ps : List (List Instr)) (registers : List (List ℕ)) → length (started c ps registers) ≡ length ps
-length-starts c [] registers = refl
-length-starts c (p ∷ ps) registers = ap suc (length-starts (c + 1) ps registers)
-
 weight-is : (n : ℕ) (a : Action) → weight (suc n) a ≡ 1 + store_count a
 weight-is n (Store loc operand) = refl
-weight-is n (Load reg loc) = refl
-weight-is n (Move reg operand) = refl
-weight-is n Fence = refl
-weight-is n (Lock loc reg update) = refl
+weight-is n _ = refl
 
 work-is : (n : ℕ) (p : List Instr) → work (suc n) p ≡ length p + stores_in p
 work-is n [] = refl
@@ -205,10 +177,7 @@ works-are n (p ∷ ps) = let h = works-are n ps in let w = work-is n p in omega 
 
 weight-none : (a : Action) → weight 0 a ≡ 1
 weight-none (Store loc operand) = refl
-weight-none (Load reg loc) = refl
-weight-none (Move reg operand) = refl
-weight-none Fence = refl
-weight-none (Lock loc reg update) = refl
+weight-none _ = refl
 
 work-none : (p : List Instr) → work 0 p ≡ length p
 work-none [] = refl
