@@ -31,14 +31,20 @@ pub enum Label {
     FromReads,
 }
 
+/// What leads from one event to another one: a fact, and how it follows from it.
+#[derive(Clone, Copy)]
+pub struct Link {
+    pub from: usize,
+    pub to: usize,
+    pub label: Label,
+    pub fact: usize,
+}
+
 /// An edge that answers tell; `next` is another one that leaves the same event.
 #[derive(Clone, Copy)]
 pub struct Edge {
-    pub from: usize,
-    pub to: usize,
+    pub link: Link,
     pub relations: Relations,
-    pub label: Label,
-    pub fact: usize,
     pub next: usize,
 }
 
@@ -316,7 +322,7 @@ fn undo_edges(problem: &Problem, branch: &mut Branch, mark: &Mark) {
         if let Some(edge) = branch.edges.pop() {
             put(
                 &mut branch.tables.heads,
-                head(problem, edge.relations, edge.from),
+                head(problem, edge.relations, edge.link.from),
                 edge.next,
             );
         }

@@ -1,10 +1,11 @@
 //! The tree of a reason: a leaf, with questions above it where the definition wants answers that only follow.
 
-use crate::branch::{Branch, cell};
-use crate::evidence::{Closing, need_order, reset, use_facts, visit};
+use crate::branch::cell;
+use crate::case::{Case, Pair, Reading, ordered, read_from};
+use crate::evidence::{Closing, reset, show_order, use_facts, visit};
 use crate::growing::{Growth, add_between, add_cycle, add_false, add_question, put_branch};
 use crate::offers::Desk;
-use crate::problem::{Problem, is_initial, partner};
+use crate::problem::{is_initial, partner};
 use crate::rows::{NONE, add, at, put_word, word};
 
 pub fn heed(desk: &mut Desk, a: usize) {
@@ -23,185 +24,151 @@ pub fn move_on(desk: &mut Desk) {
     }
 }
 
+/// Whether this order holds, with no answer that says so: it is of an initial write, or is `also`.
+fn is_given(case: Case<'_>, order: Pair, also: Pair) -> bool {
+    is_initial(case.problem, order.first)
+        || also.first == order.first && also.second == order.second
+}
+
+/// The fact that says this order.
+fn fact_of(case: Case<'_>, order: Pair) -> usize {
+    at(
+        &case.branch.tables.pairs,
+        cell(case.problem, order.first, order.second),
+    )
+}
+
 /// Whether an answer above says that one write is before another one. `also` is such a pair as well.
-fn is_direct(
-    problem: &Problem,
-    branch: &Branch,
-    desk: &Desk,
-    a: usize,
-    b: usize,
-    also: (usize, usize),
-) -> bool {
-    is_initial(problem, a)
-        || also.0 == a && also.1 == b
-        || at(&branch.tables.pairs, cell(problem, a, b)) < desk.above
+fn is_direct(case: Case<'_>, desk: &Desk, order: Pair, also: Pair) -> bool {
+    is_given(case, order, also) || fact_of(case, order) < desk.above
 }
 
 /// A cycle of coherence: a path, and the pair that leads back.
-fn add_order_cycle(
-    problem: &Problem,
-    branch: &Branch,
-    desk: &mut Desk,
-    a: usize,
-    b: usize,
-    limit: usize,
-) -> usize {
+fn add_order_cycle(case: Case<'_>, desk: &mut Desk, order: Pair, limit: usize) -> usize {
     reset(&mut desk.trial, Closing::OnLocation);
-    visit(&mut desk.trial, a);
-    need_order(
-        problem,
-        branch,
-        &mut desk.inner,
-        &mut desk.trial,
-        a,
-        b,
-        limit,
-        true,
-    );
-    visit(&mut desk.trial, b);
+    visit(&mut desk.trial, order.first);
+    show_order(case, &mut desk.inner, &mut desk.trial, order, limit);
+    visit(&mut desk.trial, order.second);
     use_facts(&desk.trial, &mut desk.used);
     add_cycle(&mut desk.trees, &desk.trial)
 }
 
 /// A question for a pair that follows from a chain: the other order is a cycle.
 fn add_pair_above(
-    problem: &Problem,
-    branch: &Branch,
+    case: Case<'_>,
     desk: &mut Desk,
-    a: usize,
-    b: usize,
+    order: Pair,
     limit: usize,
     tree: usize,
 ) -> usize {
-    let cycle = add_order_cycle(problem, branch, desk, a, b, limit);
-    let question = add_question(&mut desk.trees, Growth::ComesFirst, a, b);
-    put_branch(&mut desk.trees, question, cycle);
-    put_branch(&mut desk.trees, question, tree);
-    question
+    let cycle = add_order_cycle(case, desk, order, limit);
+    ask_order(desk, order, cycle, tree)
 }
 
 /// The tree of a write between two parts, with the pairs that only follow from chains.
 fn add_between_tree(
-    problem: &Problem,
-    branch: &Branch,
+    case: Case<'_>,
     desk: &mut Desk,
-    r: usize,
-    s: usize,
+    reading: Reading,
     limit: usize,
-    also: (usize, usize),
+    also: Pair,
 ) -> usize {
     let v = at(&desk.best.cycle, 1);
     let own = at(&desk.best.cycle, 2);
-    let mut tree = add_between(&mut desk.trees, r, v, own);
-    if !is_direct(problem, branch, desk, v, own, also) {
-        tree = add_pair_above(problem, branch, desk, v, own, limit, tree);
-    } else {
-        use_pair(problem, branch, desk, v, own, also);
-    }
-    if !is_direct(problem, branch, desk, s, v, also) {
-        tree = add_pair_above(problem, branch, desk, s, v, limit, tree);
-    } else {
-        use_pair(problem, branch, desk, s, v, also);
+    let mut tree = add_between(&mut desk.trees, reading.read, v, own);
+    for order in [ordered(v, own), ordered(reading.write, v)] {
+        if is_direct(case, desk, order, also) {
+            use_pair(case, desk, order, also);
+        } else {
+            tree = add_pair_above(case, desk, order, limit, tree);
+        }
     }
     tree
 }
 
-fn use_pair(
-    problem: &Problem,
-    branch: &Branch,
-    desk: &mut Desk,
-    a: usize,
-    b: usize,
-    also: (usize, usize),
-) {
-    if is_initial(problem, a) || also.0 == a && also.1 == b {
-        return;
-    }
-    let fact = at(&branch.tables.pairs, cell(problem, a, b));
-    if fact != NONE {
+/// Notes that an order is used that an answer above says.
+fn use_pair(case: Case<'_>, desk: &mut Desk, order: Pair, also: Pair) {
+    let fact = fact_of(case, order);
+    if !is_given(case, order, also) && fact != NONE {
         add(&mut desk.used, 0, fact);
     }
 }
 
-/// A leaf, or one below the question which of s and the store part of r comes first.
+/// The question which of two writes comes first, with the tree of the other order and of this one.
+pub fn ask_order(desk: &mut Desk, order: Pair, other: usize, tree: usize) -> usize {
+    let question = add_question(
+        &mut desk.trees,
+        Growth::ComesFirst,
+        order.first,
+        order.second,
+    );
+    put_branch(&mut desk.trees, question, other);
+    put_branch(&mut desk.trees, question, tree);
+    question
+}
+
+/// Whether an answer above says this order; it is used then.
+fn is_used(case: Case<'_>, desk: &mut Desk, order: Pair) -> bool {
+    let open = ordered(NONE, NONE);
+    let direct = is_direct(case, desk, order, open);
+    if direct {
+        use_pair(case, desk, order, open);
+    }
+    direct
+}
+
+/// A leaf, or one below the question which of a read's source and its store part comes first.
 fn add_one_read(
-    problem: &Problem,
-    branch: &Branch,
+    case: Case<'_>,
     desk: &mut Desk,
-    r: usize,
-    s: usize,
+    reading: Reading,
     q: usize,
     between: usize,
 ) -> usize {
-    let own = partner(problem, r);
-    let open = (NONE, NONE);
+    let Reading { read: r, write: s } = reading;
+    let own = partner(case.problem, r);
     reset(&mut desk.trial, Closing::OnLocation);
     visit(&mut desk.trial, s);
     visit(&mut desk.trial, r);
     visit(&mut desk.trial, own);
-    if is_direct(problem, branch, desk, own, s, open) {
-        use_pair(problem, branch, desk, own, s, open);
+    if is_used(case, desk, ordered(own, s)) {
         return add_cycle(&mut desk.trees, &desk.trial);
     }
     let leaf = add_between(&mut desk.trees, q, own, between);
-    if is_direct(problem, branch, desk, s, own, open) {
-        use_pair(problem, branch, desk, s, own, open);
+    if is_used(case, desk, ordered(s, own)) {
         return leaf;
     }
     let cycle = add_cycle(&mut desk.trees, &desk.trial);
-    let question = add_question(&mut desk.trees, Growth::ComesFirst, s, own);
-    put_branch(&mut desk.trees, question, cycle);
-    put_branch(&mut desk.trees, question, leaf);
-    question
+    ask_order(desk, ordered(s, own), cycle, leaf)
 }
 
 /// The tree of two locked instructions that read one write: one store part comes first, and then between the other's parts.
-fn add_twice_tree(
-    problem: &Problem,
-    branch: &Branch,
-    desk: &mut Desk,
-    r: usize,
-    q: usize,
-    s: usize,
-) -> usize {
-    let first = partner(problem, r);
-    let second = partner(problem, q);
-    let open = (NONE, NONE);
-    if is_direct(problem, branch, desk, first, second, open) {
-        use_pair(problem, branch, desk, first, second, open);
-        return add_one_read(problem, branch, desk, r, s, q, second);
+fn add_twice_tree(case: Case<'_>, desk: &mut Desk, r: usize, q: usize, s: usize) -> usize {
+    let first = partner(case.problem, r);
+    let second = partner(case.problem, q);
+    if is_used(case, desk, ordered(first, second)) {
+        return add_one_read(case, desk, read_from(r, s), q, second);
     }
-    if is_direct(problem, branch, desk, second, first, open) {
-        use_pair(problem, branch, desk, second, first, open);
-        return add_one_read(problem, branch, desk, q, s, r, first);
+    if is_used(case, desk, ordered(second, first)) {
+        return add_one_read(case, desk, read_from(q, s), r, first);
     }
-    let second_tree = add_one_read(problem, branch, desk, q, s, r, first);
-    let first_tree = add_one_read(problem, branch, desk, r, s, q, second);
-    let question = add_question(&mut desk.trees, Growth::ComesFirst, first, second);
-    put_branch(&mut desk.trees, question, second_tree);
-    put_branch(&mut desk.trees, question, first_tree);
-    question
+    let second_tree = add_one_read(case, desk, read_from(q, s), r, first);
+    let first_tree = add_one_read(case, desk, read_from(r, s), q, second);
+    ask_order(desk, ordered(first, second), second_tree, first_tree)
 }
 
 /// The tree of the best reason; what it uses is used then.
-pub fn add_best(
-    problem: &Problem,
-    branch: &Branch,
-    desk: &mut Desk,
-    limit: usize,
-    s: usize,
-    also: (usize, usize),
-) -> usize {
+pub fn add_best(case: Case<'_>, desk: &mut Desk, limit: usize, s: usize, also: Pair) -> usize {
     use_facts(&desk.best, &mut desk.used);
     let first = at(&desk.best.cycle, 0);
     match desk.best.closing {
         Closing::None | Closing::False => add_false(&mut desk.trees),
         Closing::OnLocation | Closing::Global => add_cycle(&mut desk.trees, &desk.best),
-        Closing::Between => add_between_tree(problem, branch, desk, first, s, limit, also),
+        Closing::Between => add_between_tree(case, desk, read_from(first, s), limit, also),
         Closing::Twice => {
             let second = at(&desk.best.cycle, 1);
             let third = at(&desk.best.cycle, 2);
-            add_twice_tree(problem, branch, desk, first, second, third)
+            add_twice_tree(case, desk, first, second, third)
         }
     }
 }

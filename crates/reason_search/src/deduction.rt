@@ -100,32 +100,33 @@ fn is_written(problem: &Problem, loc: usize) -> bool {
     !is_empty(&problem.writes_to, row(loc, problem.width), problem.width)
 }
 
-/// Whether this can't be made so: a read, or a location at the end, has the value, or hasn't.
-pub fn is_unmet(
-    branch: &Branch,
-    r: usize,
-    value: u32,
-    truth: bool,
-    supposed: (usize, u64),
-) -> bool {
+/// What a value has to be: this number, or any other one.
+#[derive(Clone, Copy)]
+pub struct Demand {
+    pub number: u32,
+    /// Whether it has to be this number.
+    pub truth: bool,
+}
+
+/// Whether a value is as it has to be.
+pub fn meets(value: u64, demand: Demand) -> bool {
+    (value == u64::from(demand.number)) == demand.truth
+}
+
+/// Whether a read, or a location at the end, can't be as it has to be.
+pub fn is_unmet(branch: &Branch, r: usize, demand: Demand, supposed: (usize, u64)) -> bool {
     let known = if supposed.0 == r {
         supposed.1
     } else {
         value_of(branch, r)
     };
-    known != UNKNOWN && (known == u64::from(value)) != truth
+    known != UNKNOWN && !meets(known, demand)
 }
 
-fn is_term_unmet(
-    branch: &Branch,
-    held: Term,
-    value: u32,
-    truth: bool,
-    supposed: (usize, u64),
-) -> bool {
+fn is_term_unmet(branch: &Branch, held: Term, demand: Demand, supposed: (usize, u64)) -> bool {
     match held {
-        Term::Number(number) => (number == value) != truth,
-        Term::Of(r) => is_unmet(branch, r, value, truth, supposed),
+        Term::Number(number) => !meets(u64::from(number), demand),
+        Term::Of(r) => is_unmet(branch, r, demand, supposed),
         _ => false,
     }
 }
@@ -134,14 +135,13 @@ fn is_word_unmet(
     problem: &Problem,
     branch: &Branch,
     loc: usize,
-    value: u32,
-    truth: bool,
+    demand: Demand,
     supposed: (usize, u64),
 ) -> bool {
     if is_written(problem, loc) {
-        is_unmet(branch, loc, value, truth, supposed)
+        is_unmet(branch, loc, demand, supposed)
     } else {
-        is_term_unmet(branch, term_of(problem, loc), value, truth, supposed)
+        is_term_unmet(branch, term_of(problem, loc), demand, supposed)
     }
 }
 
@@ -160,12 +160,24 @@ fn cant_be(
 ) -> bool {
     match prop {
         Prop::Truth(value) => *value != truth,
-        Prop::RegIs(core, reg, value) => {
+        Prop::RegIs(core, reg, number) => {
             let held = final_term(problem, usize::from(core.0), reg.index());
-            is_term_unmet(branch, held, *value, truth, supposed)
+            is_term_unmet(
+                branch,
+                held,
+                Demand {
+                    number: *number,
+                    truth,
+                },
+                supposed,
+            )
         }
-        Prop::LocIs(loc, value) => {
-            is_word_unmet(problem, branch, usize::from(loc.0), *value, truth, supposed)
+        Prop::LocIs(loc, number) => {
+            let demand = Demand {
+                number: *number,
+                truth,
+            };
+            is_word_unmet(problem, branch, usize::from(loc.0), demand, supposed)
         }
         Prop::Not(inner) => cant_be(problem, branch, inner, !truth, supposed),
         Prop::And(left, right) | Prop::Or(left, right) => {
@@ -215,7 +227,11 @@ fn want(problem: &Problem, branch: &mut Branch, prop: &Prop, truth: bool) -> boo
             if is_written(problem, x) {
                 want_term(problem, branch, x, *value, truth)
             } else {
-                let unmet = is_word_unmet(problem, branch, x, *value, truth, (NONE, 0));
+                let demand = Demand {
+                    number: *value,
+                    truth,
+                };
+                let unmet = is_word_unmet(problem, branch, x, demand, (NONE, 0));
                 want_number(branch, unmet, false)
             }
         }

@@ -1,8 +1,8 @@
 //! Edges that answers tell, and what is before what by chains of them.
 
 use crate::branch::{
-    Answer, Branch, Conflict, Edge, Label, after, before, cell, change, head, is_known, look_at,
-    look_at_readers,
+    Answer, Branch, Conflict, Edge, Label, Link, after, before, cell, change, head, is_known,
+    look_at, look_at_readers,
 };
 use crate::notes::note;
 use crate::problem::{Problem, Relations, is_initial, location};
@@ -68,25 +68,15 @@ fn spread(problem: &Problem, branch: &mut Branch, relations: Relations, a: usize
 }
 
 /// Adds an edge, and what follows. False where it closes a cycle.
-pub fn add_edge(
-    problem: &Problem,
-    branch: &mut Branch,
-    relations: Relations,
-    a: usize,
-    b: usize,
-    label: Label,
-    fact: usize,
-) -> bool {
+pub fn add_edge(problem: &Problem, branch: &mut Branch, relations: Relations, link: Link) -> bool {
+    let Link { from: a, to: b, .. } = link;
     if is_known(problem, branch, relations, a, b) {
         return true;
     }
     let place = head(problem, relations, a);
     let edge = Edge {
-        from: a,
-        to: b,
+        link,
         relations,
-        label,
-        fact,
         next: at(&branch.tables.heads, place),
     };
     if a == b || is_known(problem, branch, relations, b, a) {
@@ -110,29 +100,14 @@ pub fn put_before(problem: &Problem, branch: &mut Branch, a: usize, b: usize, tr
     }
     let fact = note(branch, Answer::Before(a, b), tried);
     put(&mut branch.tables.pairs, cell(problem, a, b), fact);
-    add_edge(
-        problem,
-        branch,
-        Relations::Coherence,
-        a,
-        b,
-        Label::Coherence,
+
+    let link = Link {
+        from: a,
+        to: b,
+        label: Label::Coherence,
         fact,
-    ) && add_edge(
-        problem,
-        branch,
-        Relations::OnLocation,
-        a,
-        b,
-        Label::Coherence,
-        fact,
-    ) && add_edge(
-        problem,
-        branch,
-        Relations::Global,
-        a,
-        b,
-        Label::Coherence,
-        fact,
-    )
+    };
+    add_edge(problem, branch, Relations::Coherence, link)
+        && add_edge(problem, branch, Relations::OnLocation, link)
+        && add_edge(problem, branch, Relations::Global, link)
 }

@@ -1,8 +1,9 @@
 //! Why a case is closed: a leaf, and the answers that it uses.
 
-use crate::branch::{Branch, Edge, Label};
+use crate::branch::{Edge, Label, Link};
+use crate::case::{Case, Pair, ordered};
 use crate::notes::source_of;
-use crate::paths::{Paths, begin, edge_at, edge_number, event_at, find, start_from};
+use crate::paths::{Paths, begin, edge_at, edge_number, event_at, find, first_edges, start_from};
 use crate::problem::{Problem, Relations};
 use crate::rows::{NONE, add, at, has, put};
 use std::alloc::Global;
@@ -80,96 +81,98 @@ pub fn need(evidence: &mut Evidence, fact: usize) {
     evidence.facts_length = evidence.facts_length.wrapping_add(1);
 }
 
-/// Adds the facts that one write comes before another one, and the writes that stand between them.
+/// Adds the facts that one write comes before another one.
 pub fn need_order(
-    problem: &Problem,
-    branch: &Branch,
+    case: Case<'_>,
     inner: &mut Paths,
     evidence: &mut Evidence,
-    s: usize,
-    v: usize,
+    order: Pair,
     limit: usize,
-    shown: bool,
 ) {
-    begin(problem, inner);
-    start_from(inner, s);
-    if !find(problem, branch, inner, Relations::Coherence, v, limit) {
+    begin(case.problem, inner);
+    start_from(inner, order.first);
+    if !find(
+        case,
+        inner,
+        first_edges(Relations::Coherence, limit),
+        order.second,
+    ) {
         return;
     }
     for i in 0..inner.length {
         let place = inner.length.wrapping_sub(1).wrapping_sub(i);
-        if let Some(edge) = edge_at(branch, inner, place) {
-            need(evidence, edge.fact);
+        if let Some(edge) = edge_at(case.branch, inner, place) {
+            need(evidence, edge.link.fact);
         }
-        if i > 0 && shown {
-            visit(evidence, event_at(inner, place));
-        }
+    }
+}
+
+/// The same, and adds to the cycle the writes that stand between them.
+pub fn show_order(
+    case: Case<'_>,
+    inner: &mut Paths,
+    evidence: &mut Evidence,
+    order: Pair,
+    limit: usize,
+) {
+    need_order(case, inner, evidence, order, limit);
+    for i in 1..inner.length {
+        visit(
+            evidence,
+            event_at(inner, inner.length.wrapping_sub(1).wrapping_sub(i)),
+        );
     }
 }
 
 /// Adds the facts of an edge; after its first event the writes are shown that stand between a read's source and what it is before.
 fn need_edge(
-    problem: &Problem,
-    branch: &Branch,
+    case: Case<'_>,
     inner: &mut Paths,
     evidence: &mut Evidence,
     edge: &Edge,
     limit: usize,
 ) {
-    need(evidence, edge.fact);
-    if edge.label == Label::FromReads {
-        let s = source_of(branch, edge.from);
-        need_order(problem, branch, inner, evidence, s, edge.to, limit, true);
+    need(evidence, edge.link.fact);
+    if edge.link.label == Label::FromReads {
+        let s = source_of(case.branch, edge.link.from);
+        show_order(case, inner, evidence, ordered(s, edge.link.to), limit);
     }
 }
 
 /// Adds the path that was found, without its end.
-pub fn follow(
-    problem: &Problem,
-    branch: &Branch,
-    paths: &Paths,
-    inner: &mut Paths,
-    evidence: &mut Evidence,
-) {
+pub fn follow(case: Case<'_>, paths: &Paths, inner: &mut Paths, evidence: &mut Evidence) {
     for i in 0..paths.length {
         let place = paths.length.wrapping_sub(1).wrapping_sub(i);
         visit(evidence, event_at(paths, place));
-        if let Some(edge) = edge_at(branch, paths, place) {
-            need_edge(
-                problem,
-                branch,
-                inner,
-                evidence,
-                &edge,
-                edge_number(paths, place),
-            );
+        if let Some(edge) = edge_at(case.branch, paths, place) {
+            need_edge(case, inner, evidence, &edge, edge_number(paths, place));
         }
     }
 }
 
 /// The leaf of a cycle that an edge closes.
 pub fn close_cycle(
-    problem: &Problem,
-    branch: &Branch,
+    case: Case<'_>,
     paths: &mut Paths,
     inner: &mut Paths,
     evidence: &mut Evidence,
     edge: &Edge,
 ) {
-    let limit = branch.edges.len();
+    let Link { from, to, .. } = edge.link;
+    let limit = case.branch.edges.len();
     let closing = match edge.relations {
         Relations::Global => Closing::Global,
         _ => Closing::OnLocation,
     };
     reset(evidence, closing);
-    begin(problem, paths);
-    start_from(paths, edge.to);
-    if edge.to != edge.from && !find(problem, branch, paths, edge.relations, edge.from, limit) {
+    begin(case.problem, paths);
+    start_from(paths, to);
+    if to != from && !find(case, paths, first_edges(edge.relations, limit), from) {
         return;
     }
-    follow(problem, branch, paths, inner, evidence);
-    visit(evidence, edge.from);
-    need_edge(problem, branch, inner, evidence, edge, limit);
+    follow(case, paths, inner, evidence);
+    visit(evidence, from);
+    need_edge(case, inner, evidence, edge, limit);
 }
 
 /// How many facts a leaf uses that aren't used yet.

@@ -1,9 +1,10 @@
 //! The tree where what is asked is false by values: a leaf where answers tell them, else questions what those reads read from on which
 //! they hang.
 
-use crate::branch::{Branch, UNKNOWN, cell};
+use crate::branch::{UNKNOWN, cell};
+use crate::case::{Case, Reading, ordered, read_from};
 use crate::closing::add_best;
-use crate::deduction::{asked_truth, is_unmet};
+use crate::deduction::{Demand, asked_truth, is_unmet};
 use crate::evidence::{Closing, need, reset, turn_round, use_facts, visit};
 use crate::growing::{Growth, add_cycle, add_false, add_question, put_branch};
 use crate::known_values::{
@@ -13,7 +14,7 @@ use crate::looking::is_global_source;
 use crate::offers::{Desk, offer_orders};
 use crate::problem::{Problem, Term, final_term, location, term_of};
 use crate::rows::{NONE, add, at, has, row};
-use tso_model::{Prop, Test};
+use tso_model::Prop;
 
 /// Maximum number of leaves of such a tree.
 const MOST_LEAVES: usize = 2_000;
@@ -34,29 +35,29 @@ fn hanging(desk: &Desk, term: Term) -> usize {
 }
 
 /// The read with no source on which a value hangs, `NONE` where answers tell the value.
-fn open_of_term(problem: &Problem, branch: &Branch, desk: &Desk, term: Term) -> usize {
+fn open_of_term(case: Case<'_>, desk: &Desk, term: Term) -> usize {
     let mut hangs = term;
-    for _step in 0..problem.size {
+    for _step in 0..case.problem.size {
         if term_value(&desk.values, hangs) != UNKNOWN {
             return NONE;
         }
         let r = hanging(desk, hangs);
-        let s = source(branch, &desk.values, r);
+        let s = source(case.branch, &desk.values, r);
         if s == NONE {
             return r;
         }
-        hangs = term_of(problem, s);
+        hangs = term_of(case.problem, s);
     }
     NONE
 }
 
 /// The same of the word that a location has at the end.
-fn open_of_word(problem: &Problem, branch: &Branch, desk: &Desk, loc: usize) -> usize {
-    for w in problem.locations..problem.size {
-        if has(&problem.writes_to, row(loc, problem.width), w)
-            && !is_overwritten(problem, branch, &desk.values, w)
+fn open_of_word(case: Case<'_>, desk: &Desk, loc: usize) -> usize {
+    for w in case.problem.locations..case.problem.size {
+        if has(&case.problem.writes_to, row(loc, case.problem.width), w)
+            && !is_overwritten(case, &desk.values, w)
         {
-            let open = open_of_term(problem, branch, desk, term_of(problem, w));
+            let open = open_of_term(case, desk, term_of(case.problem, w));
             if open != NONE {
                 return open;
             }
@@ -65,52 +66,61 @@ fn open_of_word(problem: &Problem, branch: &Branch, desk: &Desk, loc: usize) -> 
     NONE
 }
 
-fn open_of(problem: &Problem, branch: &Branch, desk: &Desk, r: usize) -> usize {
-    if r < problem.locations {
-        open_of_word(problem, branch, desk, r)
-    } else if r < problem.size {
-        open_of_term(problem, branch, desk, Term::Of(r))
+fn open_of(case: Case<'_>, desk: &Desk, r: usize) -> usize {
+    if r < case.problem.locations {
+        open_of_word(case, desk, r)
+    } else if r < case.problem.size {
+        open_of_term(case, desk, Term::Of(r))
     } else {
         NONE
     }
 }
 
+/// The same of a read or location where the branch doesn't have what it has to be, or wherever.
+fn open_where(case: Case<'_>, desk: &Desk, r: usize, demand: Demand, unmet: bool) -> usize {
+    if unmet && !is_unmet(case.branch, r, demand, (NONE, 0)) {
+        NONE
+    } else {
+        open_of(case, desk, r)
+    }
+}
+
 /// The same of the first part of a proposition that isn't so on the branch, or of the first part at all.
-fn open_of_prop(
-    problem: &Problem,
-    branch: &Branch,
-    desk: &Desk,
-    prop: &Prop,
-    truth: bool,
-    unmet: bool,
-) -> usize {
+fn open_of_prop(case: Case<'_>, desk: &Desk, prop: &Prop, truth: bool, unmet: bool) -> usize {
     match prop {
         Prop::Truth(_) => NONE,
-        Prop::RegIs(core, reg, value) => {
-            match final_term(problem, usize::from(core.0), reg.index()) {
-                Term::Of(r) => {
-                    if unmet && !is_unmet(branch, r, *value, truth, (NONE, 0)) {
-                        NONE
-                    } else {
-                        open_of(problem, branch, desk, r)
-                    }
-                }
+        Prop::RegIs(core, reg, number) => {
+            match final_term(case.problem, usize::from(core.0), reg.index()) {
+                Term::Of(r) => open_where(
+                    case,
+                    desk,
+                    r,
+                    Demand {
+                        number: *number,
+                        truth,
+                    },
+                    unmet,
+                ),
                 _ => NONE,
             }
         }
-        Prop::LocIs(loc, value) => {
-            let x = usize::from(loc.0);
-            if unmet && !is_unmet(branch, x, *value, truth, (NONE, 0)) {
-                NONE
-            } else {
-                open_of(problem, branch, desk, x)
-            }
+        Prop::LocIs(loc, number) => {
+            open_where(
+                case,
+                desk,
+                usize::from(loc.0),
+                Demand {
+                    number: *number,
+                    truth,
+                },
+                unmet,
+            )
         }
-        Prop::Not(inner) => open_of_prop(problem, branch, desk, inner, !truth, unmet),
+        Prop::Not(inner) => open_of_prop(case, desk, inner, !truth, unmet),
         Prop::And(left, right) | Prop::Or(left, right) => {
-            let open = open_of_prop(problem, branch, desk, left, truth, unmet);
+            let open = open_of_prop(case, desk, left, truth, unmet);
             if open == NONE {
-                open_of_prop(problem, branch, desk, right, truth, unmet)
+                open_of_prop(case, desk, right, truth, unmet)
             } else {
                 open
             }
@@ -119,20 +129,20 @@ fn open_of_prop(
 }
 
 /// The read that is asked next: one on which the values of `clash` hang, or else what is asked.
-fn next_open(problem: &Problem, branch: &Branch, desk: &Desk, test: &Test, clash: usize) -> usize {
-    let open = open_of(problem, branch, desk, clash);
-    let Some(cond) = test.cond() else {
+fn next_open(case: Case<'_>, desk: &Desk, clash: usize) -> usize {
+    let open = open_of(case, desk, clash);
+    let Some(cond) = case.test.cond() else {
         return open;
     };
     if open != NONE {
         return open;
     }
     let truth = asked_truth(cond);
-    let part = open_of_prop(problem, branch, desk, &cond.prop, truth, true);
+    let part = open_of_prop(case, desk, &cond.prop, truth, true);
     if part != NONE {
         return part;
     }
-    open_of_prop(problem, branch, desk, &cond.prop, truth, false)
+    open_of_prop(case, desk, &cond.prop, truth, false)
 }
 
 /// The next source below this number that a read may have by its location; `NONE` after the initial one.
@@ -151,42 +161,44 @@ fn next_source(problem: &Problem, r: usize, below: usize) -> usize {
 }
 
 /// A leaf for a source that stands later in the read's program, or that is known not to be one by the order. `NONE` where it may be one.
-fn add_ordered(problem: &Problem, branch: &Branch, desk: &mut Desk, r: usize, s: usize) -> usize {
-    if has(&problem.on_location, row(r, problem.width), s) {
+fn add_ordered(case: Case<'_>, desk: &mut Desk, reading: Reading) -> usize {
+    let Reading { read: r, write: s } = reading;
+    let place = cell(case.problem, r, s);
+    if has(&case.problem.on_location, row(r, case.problem.width), s) {
         reset(&mut desk.trial, Closing::OnLocation);
         visit(&mut desk.trial, r);
         visit(&mut desk.trial, s);
         return add_cycle(&mut desk.trees, &desk.trial);
     }
-    if at(&branch.tables.removed_facts, cell(problem, r, s)) >= desk.values.limit {
+    if at(&case.branch.tables.removed_facts, place) >= desk.values.limit {
         return NONE;
     }
     reset(&mut desk.best, Closing::None);
-    offer_orders(problem, branch, desk, r, s);
+    offer_orders(case, desk, reading);
     if desk.best.closing == Closing::None {
         return NONE;
     }
-    let limit = at(&branch.tables.removed_edges, cell(problem, r, s));
-    add_best(problem, branch, desk, limit, s, (NONE, NONE))
+    let limit = at(&case.branch.tables.removed_edges, place);
+    add_best(case, desk, limit, s, ordered(NONE, NONE))
 }
 
 /// A leaf where the value that a read returns would hang on itself: a cycle of stores and loads. `NONE` where it doesn't.
-fn add_value_cycle(problem: &Problem, branch: &Branch, desk: &mut Desk, r: usize) -> usize {
+fn add_value_cycle(case: Case<'_>, desk: &mut Desk, r: usize) -> usize {
     reset(&mut desk.trial, Closing::Global);
     let mut q = r;
-    for _step in 0..problem.size {
-        let s = source(branch, &desk.values, q);
+    for _step in 0..case.problem.size {
+        let s = source(case.branch, &desk.values, q);
         if s == NONE || term_value(&desk.values, Term::Of(q)) != UNKNOWN {
             return NONE;
         }
         if supposed(&desk.values, q) == NONE {
-            need(&mut desk.trial, at(&branch.tables.source, q));
+            need(&mut desk.trial, at(&case.branch.tables.source, q));
         }
-        if is_global_source(problem, s, q) {
+        if is_global_source(case.problem, s, q) {
             visit(&mut desk.trial, q);
             visit(&mut desk.trial, s);
         }
-        q = hanging(desk, term_of(problem, s));
+        q = hanging(desk, term_of(case.problem, s));
         if q == r {
             turn_round(&mut desk.trial);
             use_facts(&desk.trial, &mut desk.used);
@@ -197,13 +209,13 @@ fn add_value_cycle(problem: &Problem, branch: &Branch, desk: &mut Desk, r: usize
 }
 
 /// A leaf by which what is asked is false, with what it uses. `NONE` where it isn't false by the values that answers tell.
-fn add_leaf(problem: &Problem, branch: &Branch, desk: &mut Desk, test: &Test) -> usize {
-    run(problem, branch, &mut desk.values);
-    if !is_false(problem, branch, &desk.values, test) {
+fn add_leaf(case: Case<'_>, desk: &mut Desk) -> usize {
+    run(case, &mut desk.values);
+    if !is_false(case, &desk.values) {
         return NONE;
     }
     reset(&mut desk.trial, Closing::False);
-    need_falsity(problem, branch, &mut desk.values, &mut desk.trial, test);
+    need_falsity(case, &mut desk.values, &mut desk.trial);
     use_facts(&desk.trial, &mut desk.used);
     add_false(&mut desk.trees)
 }
@@ -239,25 +251,19 @@ fn go_on(problem: &Problem, desk: &mut Desk, asked: &mut Vec<Asked>) -> usize {
 }
 
 /// A leaf for what is supposed. `NONE` where nothing closes it.
-fn add_closed(
-    problem: &Problem,
-    branch: &Branch,
-    desk: &mut Desk,
-    test: &Test,
-    asked: &[Asked],
-) -> usize {
-    let tree = add_leaf(problem, branch, desk, test);
+fn add_closed(case: Case<'_>, desk: &mut Desk, asked: &[Asked]) -> usize {
+    let tree = add_leaf(case, desk);
     if tree != NONE {
         return tree;
     }
     let Some(last) = asked.last().copied() else {
         return NONE;
     };
-    let ordered = add_ordered(problem, branch, desk, last.read, last.source);
+    let ordered = add_ordered(case, desk, read_from(last.read, last.source));
     if ordered != NONE {
         return ordered;
     }
-    add_value_cycle(problem, branch, desk, last.read)
+    add_value_cycle(case, desk, last.read)
 }
 
 /// Asks what a read reads from.
@@ -272,26 +278,26 @@ fn ask(problem: &Problem, desk: &mut Desk, asked: &mut Vec<Asked>, read: usize) 
 }
 
 /// Grows the tree leaf by leaf. `NONE` where none is found.
-fn grow(problem: &Problem, branch: &Branch, desk: &mut Desk, test: &Test, clash: usize) -> usize {
+fn grow(case: Case<'_>, desk: &mut Desk, clash: usize) -> usize {
     let mut asked = Vec::new(desk.alloc);
     for _leaf in 0..MOST_LEAVES {
         if desk.trees.is_refused {
             return NONE;
         }
-        let tree = add_closed(problem, branch, desk, test, &asked);
+        let tree = add_closed(case, desk, &asked);
         if tree == NONE {
-            let open = next_open(problem, branch, desk, test, clash);
+            let open = next_open(case, desk, clash);
             if open == NONE {
                 return NONE;
             }
-            ask(problem, desk, &mut asked, open);
+            ask(case.problem, desk, &mut asked, open);
         } else {
             match asked.last() {
                 None => return tree,
                 Some(above) => put_branch(&mut desk.trees, above.question, tree),
             }
         }
-        let whole = go_on(problem, desk, &mut asked);
+        let whole = go_on(case.problem, desk, &mut asked);
         if whole != NONE {
             return whole;
         }
@@ -300,14 +306,8 @@ fn grow(problem: &Problem, branch: &Branch, desk: &mut Desk, test: &Test, clash:
 }
 
 /// The tree by which what is asked is false where the values of `clash` can't be. Where none is found, all answers are used.
-pub fn add_false_tree(
-    problem: &Problem,
-    branch: &Branch,
-    desk: &mut Desk,
-    test: &Test,
-    clash: usize,
-) -> usize {
-    let tree = grow(problem, branch, desk, test, clash);
+pub fn add_false_tree(case: Case<'_>, desk: &mut Desk, clash: usize) -> usize {
+    let tree = grow(case, desk, clash);
     if tree != NONE {
         return tree;
     }

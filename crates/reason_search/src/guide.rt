@@ -3,6 +3,7 @@
 
 use crate::again::hunt_again;
 use crate::branch::{Answer, Branch, Mark, cell, mark_here};
+use crate::case::case_of;
 use crate::choosing::{Ask, choose};
 use crate::edges::put_before;
 use crate::growing::{leaves_of, list_nodes};
@@ -212,7 +213,8 @@ fn go_to_case(guide: &mut Guide, test: &Test, answers: &Answers) -> bool {
 /// The question that is asked next in an open case.
 fn question_of(guide: &Guide, test: &Test) -> Option<Node> {
     let problem = &guide.problem;
-    match choose(problem, &guide.hunt.branch, &guide.hunt.desk, test, 0) {
+    let case = case_of(problem, &guide.hunt.branch, test);
+    match choose(case, &guide.hunt.desk, 0) {
         Ask::Source(r) => Some(Node::ReadsFrom(event(problem, r))),
         Ask::Order(a, b) => Some(Node::ComesFirst(event(problem, a), event(problem, b))),
         Ask::Nothing => None,
@@ -223,10 +225,9 @@ fn question_of(guide: &Guide, test: &Test) -> Option<Node> {
 fn close_case(guide: &mut Guide, test: &Test) -> usize {
     let words = guide.hunt.desk.used.len();
     clear(&mut guide.hunt.desk.used, 0, words);
-    let problem = &guide.problem;
-    let branch = &guide.hunt.branch;
-    let tree = add_conflict(problem, branch, &mut guide.hunt.desk, test);
-    wrap(problem, branch, &mut guide.hunt.desk, test, 0, tree)
+    let case = case_of(&guide.problem, &guide.hunt.branch, test);
+    let tree = add_conflict(case, &mut guide.hunt.desk);
+    wrap(case, &mut guide.hunt.desk, 0, tree)
 }
 
 /// Proposes the nodes that close a case, or a question on it.

@@ -2,6 +2,7 @@
 //! An answer that its tree doesn't use is no question: the tree stands in its place.
 
 use crate::branch::{Branch, Mark, look_at_all, make_branch, mark_here, undo};
+use crate::case::{case_of, ordered};
 use crate::choosing::{Ask, choose, lateness, list_sources};
 use crate::edges::put_before;
 use crate::looking::{deduce, put_source};
@@ -131,12 +132,13 @@ fn begin(problem: &Problem, hunt: &mut Hunt, test: &Test, ask: Ask) {
     let start = hunt.answers.len();
     match ask {
         Ask::Source(r) => {
-            let listed = list_sources(problem, &hunt.branch, test, r, &mut hunt.answers);
+            let listed = list_sources(case_of(problem, &hunt.branch, test), r, &mut hunt.answers);
             hunt.branch.is_refused |= !listed;
             shuffle(hunt, start);
         }
         Ask::Order(a, b) => {
-            let late = lateness(problem, &hunt.branch, a) > lateness(problem, &hunt.branch, b);
+            let case = case_of(problem, &hunt.branch, test);
+            let late = lateness(case, a) > lateness(case, b);
             hunt.branch.is_refused |= hunt.answers.push(if late { 0 } else { 1 }).is_err();
             hunt.branch.is_refused |= hunt.answers.push(if late { 1 } else { 0 }).is_err();
         }
@@ -242,8 +244,11 @@ fn finish(problem: &Problem, hunt: &mut Hunt, test: &Test, frame: &Frame) -> usi
         }
     }
     match frame.ask {
-        Ask::Source(r) => add_source_question(problem, &hunt.branch, &mut hunt.desk, test, r),
-        Ask::Order(a, b) => add_order_question(&mut hunt.desk, a, b, trees.0, trees.1),
+        Ask::Source(r) => {
+            let case = case_of(problem, &hunt.branch, test);
+            add_source_question(case, &mut hunt.desk, r)
+        }
+        Ask::Order(a, b) => add_order_question(&mut hunt.desk, ordered(a, b), trees.0, trees.1),
         Ask::Nothing => NONE,
     }
 }
@@ -275,16 +280,18 @@ fn must_end(hunt: &Hunt) -> bool {
 pub fn go_back(problem: &Problem, hunt: &mut Hunt, test: &Test) -> usize {
     let width = hunt.used_width;
     clear(&mut hunt.desk.used, 0, width);
-    let mut tree = add_conflict(problem, &hunt.branch, &mut hunt.desk, test);
+    let mut tree = add_conflict(case_of(problem, &hunt.branch, test), &mut hunt.desk);
     for _step in 0..u64::MAX {
         if must_end(hunt) {
             return NONE;
         }
         let Some(frame) = hunt.frames.last().copied() else {
-            return wrap(problem, &hunt.branch, &mut hunt.desk, test, 0, tree);
+            let case = case_of(problem, &hunt.branch, test);
+            return wrap(case, &mut hunt.desk, 0, tree);
         };
         let from = frame.fact.wrapping_add(1);
-        tree = wrap(problem, &hunt.branch, &mut hunt.desk, test, from, tree);
+        let case = case_of(problem, &hunt.branch, test);
+        tree = wrap(case, &mut hunt.desk, from, tree);
         undo(problem, &mut hunt.branch, &frame.mark);
         if !keep_or_jump(hunt, &frame, tree) {
             drop_frame(hunt, &frame);
@@ -294,7 +301,7 @@ pub fn go_back(problem: &Problem, hunt: &mut Hunt, test: &Test) -> usize {
             Next::Open => return NONE,
             Next::Closed => {
                 clear(&mut hunt.desk.used, 0, width);
-                tree = add_conflict(problem, &hunt.branch, &mut hunt.desk, test);
+                tree = add_conflict(case_of(problem, &hunt.branch, test), &mut hunt.desk);
             }
             Next::None => {
                 tree = finish(problem, hunt, test, &frame);
@@ -313,7 +320,7 @@ pub fn search(problem: &Problem, hunt: &mut Hunt, test: &Test) -> Find {
             return Find::Paused;
         }
         if deduce(problem, &mut hunt.branch, test) {
-            let ask = choose(problem, &hunt.branch, &hunt.desk, test, hunt.round);
+            let ask = choose(case_of(problem, &hunt.branch, test), &hunt.desk, hunt.round);
             if matches!(ask, Ask::Nothing) {
                 return Find::Allowed;
             }

@@ -1,13 +1,14 @@
 //! Values that answers tell, read by read: and whether what is asked is false by them, with the answers by which it is.
 
 use crate::branch::{Branch, UNKNOWN, cell};
-use crate::deduction::{asked_truth, wants_both};
+use crate::case::Case;
+use crate::deduction::{Demand, asked_truth, meets, wants_both};
 use crate::evidence::{Evidence, need};
 use crate::notes::source_of;
 use crate::problem::{Problem, Term, final_term, is_initial, reads, term_of};
 use crate::rows::{NONE, at, has, is_empty, row};
 use std::alloc::Global;
-use tso_model::{NoMemory, Prop, Test};
+use tso_model::{NoMemory, Prop};
 
 /// What is known of a read: the source that it is supposed to have, its value, and whether this is needed.
 #[derive(Clone, Copy)]
@@ -73,8 +74,8 @@ fn put_value(values: &mut KnownValues, r: usize, value: u64) {
 }
 
 /// Whether a write is known to come before another one to its location.
-pub fn is_overwritten(problem: &Problem, branch: &Branch, values: &KnownValues, w: usize) -> bool {
-    overwriting(problem, branch, values, w) != NONE
+pub fn is_overwritten(case: Case<'_>, values: &KnownValues, w: usize) -> bool {
+    overwriting(case, values, w) != NONE
 }
 
 /// The source that a read has, or is supposed to have.
@@ -112,13 +113,13 @@ pub fn term_value(values: &KnownValues, term: Term) -> u64 {
     }
 }
 
-fn run_round(problem: &Problem, branch: &Branch, values: &mut KnownValues) -> bool {
+fn run_round(case: Case<'_>, values: &mut KnownValues) -> bool {
     let mut changed = false;
-    for r in problem.locations..problem.size {
-        if value(values, r) == UNKNOWN && reads(problem, r) {
-            let s = source(branch, values, r);
+    for r in case.problem.locations..case.problem.size {
+        if value(values, r) == UNKNOWN && reads(case.problem, r) {
+            let s = source(case.branch, values, r);
             if s != NONE {
-                let found = term_value(values, term_of(problem, s));
+                let found = term_value(values, term_of(case.problem, s));
                 if found != UNKNOWN {
                     put_value(values, r, found);
                     changed = true;
@@ -130,28 +131,28 @@ fn run_round(problem: &Problem, branch: &Branch, values: &mut KnownValues) -> bo
 }
 
 /// Finds the values.
-pub fn run(problem: &Problem, branch: &Branch, values: &mut KnownValues) {
-    for r in 0..problem.size {
+pub fn run(case: Case<'_>, values: &mut KnownValues) {
+    for r in 0..case.problem.size {
         put_value(values, r, UNKNOWN);
     }
-    for _round in 0..problem.size {
-        if !run_round(problem, branch, values) {
+    for _round in 0..case.problem.size {
+        if !run_round(case, values) {
             break;
         }
     }
 }
 
-fn can_be(number: u32, truth: bool, value: u64) -> bool {
-    value == UNKNOWN || (value == u64::from(number)) == truth
+fn can_be(demand: Demand, value: u64) -> bool {
+    value == UNKNOWN || meets(value, demand)
 }
 
 /// The fact that a write comes before another one, `limit` where it is supposed, and `NONE` where there is none.
-fn overwriting(problem: &Problem, branch: &Branch, values: &KnownValues, w: usize) -> usize {
+fn overwriting(case: Case<'_>, values: &KnownValues, w: usize) -> usize {
     if values.first == w && values.second != NONE {
         return values.limit;
     }
-    for v in problem.locations..problem.size {
-        let fact = at(&branch.tables.pairs, cell(problem, w, v));
+    for v in case.problem.locations..case.problem.size {
+        let fact = at(&case.branch.tables.pairs, cell(case.problem, w, v));
         if fact < values.limit {
             return fact;
         }
@@ -159,22 +160,15 @@ fn overwriting(problem: &Problem, branch: &Branch, values: &KnownValues, w: usiz
     NONE
 }
 
-fn word_can_be(
-    problem: &Problem,
-    branch: &Branch,
-    values: &KnownValues,
-    loc: usize,
-    number: u32,
-    truth: bool,
-) -> bool {
-    let start = row(loc, problem.width);
-    if is_empty(&problem.writes_to, start, problem.width) {
-        return can_be(number, truth, term_value(values, term_of(problem, loc)));
+fn word_can_be(case: Case<'_>, values: &KnownValues, loc: usize, demand: Demand) -> bool {
+    let start = row(loc, case.problem.width);
+    if is_empty(&case.problem.writes_to, start, case.problem.width) {
+        return can_be(demand, term_value(values, term_of(case.problem, loc)));
     }
-    for w in problem.locations..problem.size {
-        if has(&problem.writes_to, start, w)
-            && can_be(number, truth, term_value(values, term_of(problem, w)))
-            && overwriting(problem, branch, values, w) == NONE
+    for w in case.problem.locations..case.problem.size {
+        if has(&case.problem.writes_to, start, w)
+            && can_be(demand, term_value(values, term_of(case.problem, w)))
+            && overwriting(case, values, w) == NONE
         {
             return true;
         }
@@ -182,40 +176,46 @@ fn word_can_be(
     false
 }
 
-fn allows(
-    problem: &Problem,
-    branch: &Branch,
-    values: &KnownValues,
-    prop: &Prop,
-    truth: bool,
-) -> bool {
+fn allows(case: Case<'_>, values: &KnownValues, prop: &Prop, truth: bool) -> bool {
     match prop {
         Prop::Truth(value) => *value == truth,
         Prop::RegIs(core, reg, number) => {
-            let held = final_term(problem, usize::from(core.0), reg.index());
-            can_be(*number, truth, term_value(values, held))
+            let held = final_term(case.problem, usize::from(core.0), reg.index());
+            can_be(
+                Demand {
+                    number: *number,
+                    truth,
+                },
+                term_value(values, held),
+            )
         }
         Prop::LocIs(loc, number) => {
-            word_can_be(problem, branch, values, usize::from(loc.0), *number, truth)
+            word_can_be(
+                case,
+                values,
+                usize::from(loc.0),
+                Demand {
+                    number: *number,
+                    truth,
+                },
+            )
         }
-        Prop::Not(inner) => allows(problem, branch, values, inner, !truth),
+        Prop::Not(inner) => allows(case, values, inner, !truth),
         Prop::And(left, right) | Prop::Or(left, right) => {
             if wants_both(prop, truth) {
-                allows(problem, branch, values, right, truth)
-                    && allows(problem, branch, values, left, truth)
+                allows(case, values, right, truth) && allows(case, values, left, truth)
             } else {
-                allows(problem, branch, values, right, truth)
-                    || allows(problem, branch, values, left, truth)
+                allows(case, values, right, truth) || allows(case, values, left, truth)
             }
         }
     }
 }
 
 /// Whether what is asked is false by these values.
-pub fn is_false(problem: &Problem, branch: &Branch, values: &KnownValues, test: &Test) -> bool {
-    match test.cond() {
+pub fn is_false(case: Case<'_>, values: &KnownValues) -> bool {
+    match case.test.cond() {
         None => false,
-        Some(cond) => !allows(problem, branch, values, &cond.prop, asked_truth(cond)),
+        Some(cond) => !allows(case, values, &cond.prop, asked_truth(cond)),
     }
 }
 
@@ -236,24 +236,23 @@ fn need_term(values: &mut KnownValues, term: Term) {
     }
 }
 
+/// Notes by what a location doesn't have such a word at the end.
 fn need_word(
-    problem: &Problem,
-    branch: &Branch,
+    case: Case<'_>,
     values: &mut KnownValues,
     evidence: &mut Evidence,
     loc: usize,
-    number: u32,
-    truth: bool,
+    demand: Demand,
 ) {
-    for w in problem.locations..problem.size {
-        if has(&problem.writes_to, row(loc, problem.width), w) {
-            if can_be(number, truth, term_value(values, term_of(problem, w))) {
-                let fact = overwriting(problem, branch, values, w);
+    for w in case.problem.locations..case.problem.size {
+        if has(&case.problem.writes_to, row(loc, case.problem.width), w) {
+            if can_be(demand, term_value(values, term_of(case.problem, w))) {
+                let fact = overwriting(case, values, w);
                 if fact < values.limit {
                     need(evidence, fact);
                 }
             } else {
-                need_term(values, term_of(problem, w));
+                need_term(values, term_of(case.problem, w));
             }
         }
     }
@@ -261,8 +260,7 @@ fn need_word(
 
 /// Notes by what a proposition that is false is false.
 fn need_prop(
-    problem: &Problem,
-    branch: &Branch,
+    case: Case<'_>,
     values: &mut KnownValues,
     evidence: &mut Evidence,
     prop: &Prop,
@@ -273,29 +271,25 @@ fn need_prop(
         Prop::RegIs(core, reg, _) => {
             need_term(
                 values,
-                final_term(problem, usize::from(core.0), reg.index()),
+                final_term(case.problem, usize::from(core.0), reg.index()),
             );
         }
         Prop::LocIs(loc, number) => {
-            need_word(
-                problem,
-                branch,
-                values,
-                evidence,
-                usize::from(loc.0),
-                *number,
+            let demand = Demand {
+                number: *number,
                 truth,
-            );
+            };
+            need_word(case, values, evidence, usize::from(loc.0), demand);
         }
-        Prop::Not(inner) => need_prop(problem, branch, values, evidence, inner, !truth),
+        Prop::Not(inner) => need_prop(case, values, evidence, inner, !truth),
         Prop::And(left, right) | Prop::Or(left, right) => {
             let both = wants_both(prop, truth);
-            let is_open = both && allows(problem, branch, values, right, truth);
+            let is_open = both && allows(case, values, right, truth);
             if is_open || !both {
-                need_prop(problem, branch, values, evidence, left, truth);
+                need_prop(case, values, evidence, left, truth);
             }
             if !is_open {
-                need_prop(problem, branch, values, evidence, right, truth);
+                need_prop(case, values, evidence, right, truth);
             }
         }
     }
@@ -306,25 +300,20 @@ fn is_needed(values: &KnownValues, r: usize) -> bool {
 }
 
 /// Adds the sources from which the needed values come.
-fn need_sources(
-    problem: &Problem,
-    branch: &Branch,
-    values: &mut KnownValues,
-    evidence: &mut Evidence,
-) {
-    for _round in 0..problem.size {
+fn need_sources(case: Case<'_>, values: &mut KnownValues, evidence: &mut Evidence) {
+    for _round in 0..case.problem.size {
         let mut changed = false;
-        for r in problem.locations..problem.size {
+        for r in case.problem.locations..case.problem.size {
             if is_needed(values, r) && value(values, r) != UNKNOWN {
                 // its value is told once, and forgotten
                 put_value(values, r, UNKNOWN);
                 changed = true;
                 if supposed(values, r) == NONE {
-                    need(evidence, at(&branch.tables.source, r));
+                    need(evidence, at(&case.branch.tables.source, r));
                 }
-                let s = source(branch, values, r);
-                if s != NONE && !is_initial(problem, s) {
-                    need_term(values, term_of(problem, s));
+                let s = source(case.branch, values, r);
+                if s != NONE && !is_initial(case.problem, s) {
+                    need_term(values, term_of(case.problem, s));
                 }
             }
         }
@@ -335,25 +324,12 @@ fn need_sources(
 }
 
 /// Adds the facts by which what is asked is false, where it is.
-pub fn need_falsity(
-    problem: &Problem,
-    branch: &Branch,
-    values: &mut KnownValues,
-    evidence: &mut Evidence,
-    test: &Test,
-) {
+pub fn need_falsity(case: Case<'_>, values: &mut KnownValues, evidence: &mut Evidence) {
     for known in &mut values.reads {
         known.is_needed = false;
     }
-    if let Some(cond) = test.cond() {
-        need_prop(
-            problem,
-            branch,
-            values,
-            evidence,
-            &cond.prop,
-            asked_truth(cond),
-        );
+    if let Some(cond) = case.test.cond() {
+        need_prop(case, values, evidence, &cond.prop, asked_truth(cond));
     }
-    need_sources(problem, branch, values, evidence);
+    need_sources(case, values, evidence);
 }

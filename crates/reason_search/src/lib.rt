@@ -4,6 +4,7 @@
 
 pub mod again;
 pub mod branch;
+pub mod case;
 pub mod choosing;
 pub mod closing;
 pub mod deduction;

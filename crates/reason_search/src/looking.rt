@@ -1,9 +1,10 @@
 //! What follows at a read and at a location, and all that follows in a branch.
 
 use crate::branch::{
-    Answer, Branch, Conflict, Label, after, before, candidates, change, is_known, look_at,
+    Answer, Branch, Conflict, Label, Link, after, before, candidates, change, is_known, look_at,
     look_at_all, look_at_readers,
 };
+use crate::case::{Reading, read_from};
 use crate::deduction::{is_wrong_value, look_at_write, match_values, want_asked};
 use crate::edges::{add_edge, put_before};
 use crate::last_words::look_at_last;
@@ -32,29 +33,15 @@ pub fn put_source(problem: &Problem, branch: &mut Branch, r: usize, w: usize, tr
         }
         look_at_readers(problem, branch, location(problem, r));
     }
-    if !add_edge(
-        problem,
-        branch,
-        Relations::OnLocation,
-        w,
-        r,
-        Label::ReadsFrom,
+
+    let link = Link {
+        from: w,
+        to: r,
+        label: Label::ReadsFrom,
         fact,
-    ) {
-        return false;
-    }
-    if is_global_source(problem, w, r) {
-        return add_edge(
-            problem,
-            branch,
-            Relations::Global,
-            w,
-            r,
-            Label::ReadsFrom,
-            fact,
-        );
-    }
-    true
+    };
+    add_edge(problem, branch, Relations::OnLocation, link)
+        && (!is_global_source(problem, w, r) || add_edge(problem, branch, Relations::Global, link))
 }
 
 /// The read is before each of these writes, which are after its source.
@@ -67,23 +54,16 @@ fn add_from_reads(problem: &Problem, branch: &mut Branch, r: usize, k: usize, so
         }
         let v = row(k, 64).wrapping_add(lowest(left));
         left = rest(left);
-        if !add_edge(
-            problem,
-            branch,
-            Relations::OnLocation,
-            r,
-            v,
-            Label::FromReads,
+
+        let link = Link {
+            from: r,
+            to: v,
+            label: Label::FromReads,
             fact,
-        ) || !add_edge(
-            problem,
-            branch,
-            Relations::Global,
-            r,
-            v,
-            Label::FromReads,
-            fact,
-        ) {
+        };
+        if !add_edge(problem, branch, Relations::OnLocation, link)
+            || !add_edge(problem, branch, Relations::Global, link)
+        {
             return false;
         }
     }
@@ -132,11 +112,13 @@ fn put_all_after(problem: &Problem, branch: &mut Branch, k: usize, some: u64, w:
 fn keep_together(
     problem: &Problem,
     branch: &mut Branch,
-    s: usize,
-    own: usize,
+    reading: Reading,
     k: usize,
     them: u64,
 ) -> bool {
+    let own = partner(problem, reading.read);
+    let s = reading.write;
+
     let later = word(
         &branch.rows,
         after(problem, Relations::Coherence, s).wrapping_add(k),
@@ -196,7 +178,7 @@ fn look_at_known(problem: &Problem, branch: &mut Branch, test: &Test, r: usize, 
         {
             return false;
         }
-        if own != NONE && !keep_together(problem, branch, s, own, k, them) {
+        if own != NONE && !keep_together(problem, branch, read_from(r, s), k, them) {
             return false;
         }
     }

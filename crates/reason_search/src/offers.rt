@@ -1,9 +1,11 @@
 //! The best reason for a source that a read can't have, and for an order that follows: of several the one that brings the fewest
 //! answers.
 
-use crate::branch::{Branch, cell, is_known};
+use crate::branch::{cell, is_known};
+use crate::case::{Case, Pair, Reading, ordered};
 use crate::evidence::{
-    Closing, Evidence, follow, make_evidence, need, need_order, offer, reset, visit, weigh,
+    Closing, Evidence, follow, make_evidence, need, need_order, offer, reset, show_order, visit,
+    weigh,
 };
 use crate::growing::{Trees, no_trees};
 use crate::known_values::{
@@ -11,11 +13,13 @@ use crate::known_values::{
 };
 use crate::looking::{is_global_source, is_read_by_another};
 use crate::notes::source_of;
-use crate::paths::{Paths, begin, find, make_paths, start_from, start_from_later};
+use crate::paths::{
+    Edges, Paths, begin, find, first_edges, make_paths, start_from, start_from_later,
+};
 use crate::problem::{Problem, Relations, event, location, partner};
 use crate::rows::{NONE, at, has, row};
 use std::alloc::Global;
-use tso_model::{NoMemory, Test};
+use tso_model::NoMemory;
 
 /// What reasons are made with.
 #[derive(Drop)]
@@ -77,26 +81,13 @@ fn offer_cycle(desk: &mut Desk) {
     offer_trial(desk, length);
 }
 
-/// Takes in hand the cycle of a path to `to` by the first so many edges, and of an edge back. False where there is no path.
-fn take_cycle(
-    problem: &Problem,
-    branch: &Branch,
-    desk: &mut Desk,
-    relations: Relations,
-    to: usize,
-    limit: usize,
-) -> bool {
-    if !find(problem, branch, &mut desk.paths, relations, to, limit) {
+/// Takes in hand the cycle of a path to `to`, and of an edge back. False where there is no path.
+fn take_cycle(case: Case<'_>, desk: &mut Desk, edges: Edges, to: usize) -> bool {
+    if !find(case, &mut desk.paths, edges, to) {
         return false;
     }
-    reset(&mut desk.trial, closing_of(relations));
-    follow(
-        problem,
-        branch,
-        &desk.paths,
-        &mut desk.inner,
-        &mut desk.trial,
-    );
+    reset(&mut desk.trial, closing_of(edges.relations));
+    follow(case, &desk.paths, &mut desk.inner, &mut desk.trial);
     visit(&mut desk.trial, to);
     true
 }
@@ -110,190 +101,126 @@ fn put_between(desk: &mut Desk, r: usize, v: usize, own: usize) {
     visit(&mut desk.trial, own);
 }
 
-/// Offers a cycle: the path from `from` to `to`, and the edge back, which follows from a fact or from what is supposed.
-fn offer_path(
-    problem: &Problem,
-    branch: &Branch,
-    desk: &mut Desk,
-    relations: Relations,
-    ends: (usize, usize),
-    limit: usize,
-    fact: usize,
-) {
-    begin(problem, &mut desk.paths);
-    start_from(&mut desk.paths, ends.0);
-    if take_cycle(problem, branch, desk, relations, ends.1, limit) {
+/// Offers a cycle: the path from one end to the other, and the edge back, which follows from a fact or from what is supposed.
+fn offer_path(case: Case<'_>, desk: &mut Desk, edges: Edges, ends: Pair, fact: usize) {
+    begin(case.problem, &mut desk.paths);
+    start_from(&mut desk.paths, ends.first);
+    if take_cycle(case, desk, edges, ends.second) {
         need(&mut desk.trial, fact);
         offer_cycle(desk);
     }
 }
 
 /// The same of both relations.
-fn offer_paths(
-    problem: &Problem,
-    branch: &Branch,
-    desk: &mut Desk,
-    ends: (usize, usize),
-    limit: usize,
-    fact: usize,
-) {
+fn offer_paths(case: Case<'_>, desk: &mut Desk, ends: Pair, limit: usize, fact: usize) {
     offer_path(
-        problem,
-        branch,
+        case,
         desk,
-        Relations::OnLocation,
+        first_edges(Relations::OnLocation, limit),
         ends,
-        limit,
         fact,
     );
-    offer_path(problem, branch, desk, Relations::Global, ends, limit, fact);
-}
-
-/// Adds to the leaf in hand that the source is before its first event.
-fn need_first(
-    problem: &Problem,
-    branch: &Branch,
-    desk: &mut Desk,
-    s: usize,
-    limit: usize,
-    shown: bool,
-) {
-    let x = at(&desk.trial.cycle, 0);
-    need_order(
-        problem,
-        branch,
-        &mut desk.inner,
-        &mut desk.trial,
-        s,
-        x,
-        limit,
-        shown,
+    offer_path(
+        case,
+        desk,
+        first_edges(Relations::Global, limit),
+        ends,
+        fact,
     );
 }
 
 /// Offers a cycle by from-reads: from a write after the source to the read, and back.
-fn offer_from_reads(
-    problem: &Problem,
-    branch: &Branch,
-    desk: &mut Desk,
-    relations: Relations,
-    r: usize,
-    s: usize,
-    limit: usize,
-) {
-    start_from_later(problem, branch, &mut desk.paths, s, limit);
-    if take_cycle(problem, branch, desk, relations, r, limit) {
-        need_first(problem, branch, desk, s, limit, true);
+fn offer_from_reads(case: Case<'_>, desk: &mut Desk, edges: Edges, reading: Reading) {
+    start_from_later(case, &mut desk.paths, reading.write, edges.limit);
+    if take_cycle(case, desk, edges, reading.read) {
+        let order = ordered(reading.write, at(&desk.trial.cycle, 0));
+        show_order(case, &mut desk.inner, &mut desk.trial, order, edges.limit);
         offer_cycle(desk);
     }
 }
 
 /// Offers a write between the source of a load part and its store part.
-fn offer_between(
-    problem: &Problem,
-    branch: &Branch,
-    desk: &mut Desk,
-    r: usize,
-    s: usize,
-    own: usize,
-    limit: usize,
-) {
-    start_from_later(problem, branch, &mut desk.inner, s, limit);
-    begin(problem, &mut desk.paths);
-    for x in problem.locations..problem.size {
+fn offer_between(case: Case<'_>, desk: &mut Desk, reading: Reading, limit: usize) {
+    let own = partner(case.problem, reading.read);
+    let core = event(case.problem, reading.read).core.0;
+    start_from_later(case, &mut desk.inner, reading.write, limit);
+    begin(case.problem, &mut desk.paths);
+    for x in case.problem.locations..case.problem.size {
         if has(&desk.inner.starts, 0, x)
             && x != own
-            && event(problem, x).core.0 != event(problem, r).core.0
-            && is_known(problem, branch, Relations::Coherence, x, own)
+            && event(case.problem, x).core.0 != core
+            && is_known(case.problem, case.branch, Relations::Coherence, x, own)
         {
             start_from(&mut desk.paths, x);
         }
     }
-    if take_cycle(problem, branch, desk, Relations::Coherence, own, limit) {
-        need_first(problem, branch, desk, s, limit, false);
+    if take_cycle(case, desk, first_edges(Relations::Coherence, limit), own) {
         let x = at(&desk.trial.cycle, 0);
-        put_between(desk, r, x, own);
+        need_order(
+            case,
+            &mut desk.inner,
+            &mut desk.trial,
+            ordered(reading.write, x),
+            limit,
+        );
+        put_between(desk, reading.read, x, own);
         offer_trial(desk, 6);
     }
 }
 
 /// Offers that what is asked is false by the values that are set.
-fn offer_false(problem: &Problem, branch: &Branch, desk: &mut Desk, test: &Test) -> bool {
-    run(problem, branch, &mut desk.values);
-    if !is_false(problem, branch, &desk.values, test) {
+fn offer_false(case: Case<'_>, desk: &mut Desk) -> bool {
+    run(case, &mut desk.values);
+    if !is_false(case, &desk.values) {
         return false;
     }
     reset(&mut desk.trial, Closing::False);
-    need_falsity(problem, branch, &mut desk.values, &mut desk.trial, test);
+    need_falsity(case, &mut desk.values, &mut desk.trial);
     offer_trial(desk, 0);
     true
 }
 
 /// Finds the best reason why a read can't have a source.
-pub fn find_why_not(
-    problem: &Problem,
-    branch: &Branch,
-    desk: &mut Desk,
-    test: &Test,
-    r: usize,
-    s: usize,
-) {
-    let facts = at(&branch.tables.removed_facts, cell(problem, r, s));
+pub fn find_why_not(case: Case<'_>, desk: &mut Desk, reading: Reading) {
+    let place = cell(case.problem, reading.read, reading.write);
+    let facts = at(&case.branch.tables.removed_facts, place);
     reset(&mut desk.best, Closing::None);
     suppose_nothing(&mut desk.values, facts);
-    suppose(&mut desk.values, r, s);
-    let _found = offer_false(problem, branch, desk, test);
-    offer_orders(problem, branch, desk, r, s);
+    suppose(&mut desk.values, reading.read, reading.write);
+    let _found = offer_false(case, desk);
+    offer_orders(case, desk, reading);
 }
 
 /// Offers the reasons by order why a read can't have a source.
-pub fn offer_orders(problem: &Problem, branch: &Branch, desk: &mut Desk, r: usize, s: usize) {
-    let place = cell(problem, r, s);
-    let facts = at(&branch.tables.removed_facts, place);
-    let limit = at(&branch.tables.removed_edges, place);
-    if is_known(problem, branch, Relations::OnLocation, r, s) {
-        offer_path(
-            problem,
-            branch,
-            desk,
-            Relations::OnLocation,
-            (r, s),
-            limit,
-            NONE,
-        );
+pub fn offer_orders(case: Case<'_>, desk: &mut Desk, reading: Reading) {
+    let Reading { read: r, write: s } = reading;
+    let place = cell(case.problem, r, s);
+    let facts = at(&case.branch.tables.removed_facts, place);
+    let limit = at(&case.branch.tables.removed_edges, place);
+    let on_location = first_edges(Relations::OnLocation, limit);
+    let global = first_edges(Relations::Global, limit);
+    if is_known(case.problem, case.branch, Relations::OnLocation, r, s) {
+        offer_path(case, desk, on_location, ordered(r, s), NONE);
     }
-    if is_global_source(problem, s, r) && is_known(problem, branch, Relations::Global, r, s) {
-        offer_path(
-            problem,
-            branch,
-            desk,
-            Relations::Global,
-            (r, s),
-            limit,
-            NONE,
-        );
+    if is_global_source(case.problem, s, r)
+        && is_known(case.problem, case.branch, Relations::Global, r, s)
+    {
+        offer_path(case, desk, global, ordered(r, s), NONE);
     }
-    offer_from_reads(problem, branch, desk, Relations::OnLocation, r, s, limit);
-    offer_from_reads(problem, branch, desk, Relations::Global, r, s, limit);
-    let own = partner(problem, r);
-    if own != NONE {
-        offer_between(problem, branch, desk, r, s, own, limit);
-        offer_twice(problem, branch, desk, r, s, facts);
+    offer_from_reads(case, desk, on_location, reading);
+    offer_from_reads(case, desk, global, reading);
+    if partner(case.problem, r) != NONE {
+        offer_between(case, desk, reading, limit);
+        offer_twice(case, desk, reading, facts);
     }
 }
 
 /// Offers that another locked instruction reads the same write.
-fn offer_twice(
-    problem: &Problem,
-    branch: &Branch,
-    desk: &mut Desk,
-    r: usize,
-    s: usize,
-    facts: usize,
-) {
-    let other = at(&branch.tables.reader, s);
-    let source = at(&branch.tables.source, other);
-    if source < facts && is_read_by_another(problem, branch, r, s) {
+fn offer_twice(case: Case<'_>, desk: &mut Desk, reading: Reading, facts: usize) {
+    let Reading { read: r, write: s } = reading;
+    let other = at(&case.branch.tables.reader, s);
+    let source = at(&case.branch.tables.source, other);
+    if source < facts && is_read_by_another(case.problem, case.branch, r, s) {
         reset(&mut desk.trial, Closing::Twice);
         need(&mut desk.trial, source);
         visit(&mut desk.trial, other);
@@ -304,79 +231,70 @@ fn offer_twice(
 }
 
 /// Finds the best reason why one write can't come before another one, where a fact says that it comes after it.
-pub fn find_why_before(
-    problem: &Problem,
-    branch: &Branch,
-    desk: &mut Desk,
-    test: &Test,
-    a: usize,
-    b: usize,
-    fact: usize,
-    limit: usize,
-) {
+pub fn find_why_before(case: Case<'_>, desk: &mut Desk, order: Pair, fact: usize, limit: usize) {
+    let Pair {
+        first: a,
+        second: b,
+    } = order;
     reset(&mut desk.best, Closing::None);
-    offer_paths(problem, branch, desk, (a, b), limit, NONE);
-    let loc = location(problem, a);
+    offer_paths(case, desk, order, limit, NONE);
+    let loc = location(case.problem, a);
     suppose_nothing(&mut desk.values, fact);
     desk.values.first = b;
     desk.values.second = a;
-    if has(&problem.asked, 0, loc) {
-        let _found = offer_false(problem, branch, desk, test);
+    if has(&case.problem.asked, 0, loc) {
+        let _found = offer_false(case, desk);
     }
-    for r in problem.locations..problem.size {
-        let source = at(&branch.tables.source, r);
-        if source < fact && has(&problem.readers_of, row(loc, problem.width), r) {
-            if source_of(branch, r) == b {
+    for r in case.problem.locations..case.problem.size {
+        let source = at(&case.branch.tables.source, r);
+        if source < fact && has(&case.problem.readers_of, row(loc, case.problem.width), r) {
+            if source_of(case.branch, r) == b {
                 // b before a: r is before a
-                offer_paths(problem, branch, desk, (a, r), limit, source);
+                offer_paths(case, desk, ordered(a, r), limit, source);
             }
-            offer_parts(problem, branch, desk, (a, b), r, limit);
+            offer_parts(case, desk, order, r, limit);
         }
     }
 }
 
 /// The write that would stand between the parts of a locked instruction if b were before a, and the path by which a is before b.
-fn parted_by(
-    problem: &Problem,
-    branch: &Branch,
-    pair: (usize, usize),
-    r: usize,
-) -> Option<(usize, usize, usize)> {
-    let (a, b) = pair;
-    let own = partner(problem, r);
-    let s = source_of(branch, r);
-    if s == b && a != own && is_known(problem, branch, Relations::Coherence, a, own) {
-        return Some((a, a, own));
+fn parted_by(case: Case<'_>, order: Pair, r: usize) -> Option<(usize, Pair)> {
+    let Pair {
+        first: a,
+        second: b,
+    } = order;
+    let own = partner(case.problem, r);
+    let s = source_of(case.branch, r);
+    if s == b && a != own && is_known(case.problem, case.branch, Relations::Coherence, a, own) {
+        return Some((a, ordered(a, own)));
     }
-    if own == a && s != b && is_known(problem, branch, Relations::Coherence, s, b) {
-        return Some((b, s, b));
+    if own == a && s != b && is_known(case.problem, case.branch, Relations::Coherence, s, b) {
+        return Some((b, ordered(s, b)));
     }
     None
 }
 
 /// Offers that b before a would put a write between the parts of a locked instruction.
-fn offer_parts(
-    problem: &Problem,
-    branch: &Branch,
-    desk: &mut Desk,
-    pair: (usize, usize),
-    r: usize,
-    limit: usize,
-) {
-    let own = partner(problem, r);
+fn offer_parts(case: Case<'_>, desk: &mut Desk, order: Pair, r: usize, limit: usize) {
+    let own = partner(case.problem, r);
     if own == NONE {
         return;
     }
-    let Some((between, from, to)) = parted_by(problem, branch, pair, r) else {
+    let Some((between, ends)) = parted_by(case, order, r) else {
         return;
     };
-    if event(problem, between).core.0 == event(problem, r).core.0 {
+    if event(case.problem, between).core.0 == event(case.problem, r).core.0 {
         return;
     }
-    begin(problem, &mut desk.paths);
-    start_from(&mut desk.paths, from);
-    if take_cycle(problem, branch, desk, Relations::Coherence, to, limit) {
-        need(&mut desk.trial, at(&branch.tables.source, r));
+    begin(case.problem, &mut desk.paths);
+    start_from(&mut desk.paths, ends.first);
+    if take_cycle(
+        case,
+        desk,
+        first_edges(Relations::Coherence, limit),
+        ends.second,
+    ) {
+        need(&mut desk.trial, at(&case.branch.tables.source, r));
         put_between(desk, r, between, own);
         offer_trial(desk, 6);
     }

@@ -1,6 +1,7 @@
 //! Shortest paths of edges that a branch knows.
 
 use crate::branch::{Branch, Edge, head};
+use crate::case::Case;
 use crate::problem::{Problem, Relations, is_initial, location};
 use crate::rows::{NONE, add, at, clear, has, lowest, put_word, rest, row, word};
 use std::alloc::Global;
@@ -24,6 +25,18 @@ const NO_STEP: Step = Step {
     event: NONE,
     edge: NONE,
 };
+
+/// The edges that a path may use: those of the program, and of those that answers tell the first so many.
+#[derive(Clone, Copy)]
+pub struct Edges {
+    pub relations: Relations,
+    pub limit: usize,
+}
+
+/// Edges of these relations, of those that answers tell the first so many.
+pub fn first_edges(relations: Relations, limit: usize) -> Edges {
+    Edges { relations, limit }
+}
 
 /// A search for paths. The path that was found stands backwards, without its end.
 #[derive(Drop)]
@@ -112,21 +125,17 @@ fn reach_by_program(problem: &Problem, paths: &mut Paths, relations: Relations, 
     }
 }
 
-fn reach_by_answers(
-    problem: &Problem,
-    branch: &Branch,
-    paths: &mut Paths,
-    relations: Relations,
-    a: usize,
-    limit: usize,
-) {
-    let mut number = at(&branch.tables.heads, head(problem, relations, a));
-    for _edge in 0..branch.edges.len() {
-        match branch.edges.get(number) {
+fn reach_by_answers(case: Case<'_>, paths: &mut Paths, edges: Edges, a: usize) {
+    let mut number = at(
+        &case.branch.tables.heads,
+        head(case.problem, edges.relations, a),
+    );
+    for _edge in 0..case.branch.edges.len() {
+        match case.branch.edges.get(number) {
             None => break,
             Some(edge) => {
-                if number < limit {
-                    reach(paths, a, number, edge.to);
+                if number < edges.limit {
+                    reach(paths, a, number, edge.link.to);
                 }
                 number = edge.next;
             }
@@ -170,26 +179,19 @@ pub fn start_from(paths: &mut Paths, a: usize) {
     }
 }
 
-/// Finds a shortest path from one of the starts to an event, by the first so many edges. No start is its end.
-pub fn find(
-    problem: &Problem,
-    branch: &Branch,
-    paths: &mut Paths,
-    relations: Relations,
-    to: usize,
-    limit: usize,
-) -> bool {
+/// Finds a shortest path from one of the starts to an event. No start is its end.
+pub fn find(case: Case<'_>, paths: &mut Paths, edges: Edges, to: usize) -> bool {
     let mut next = 0usize;
-    for _event in 0..problem.size {
+    for _event in 0..case.problem.size {
         if next >= paths.queued {
             break;
         }
         let a = step_at(paths, next).queued;
         next = next.wrapping_add(1);
-        reach_by_program(problem, paths, relations, a);
-        reach_by_answers(problem, branch, paths, relations, a, limit);
+        reach_by_program(case.problem, paths, edges.relations, a);
+        reach_by_answers(case, paths, edges, a);
         if has(&paths.seen, 0, to) {
-            trace(problem, paths, to);
+            trace(case.problem, paths, to);
             return true;
         }
     }
@@ -197,24 +199,19 @@ pub fn find(
 }
 
 /// Adds to the starts all writes that are known to come after a write, by the first so many edges.
-pub fn start_from_later(
-    problem: &Problem,
-    branch: &Branch,
-    paths: &mut Paths,
-    s: usize,
-    limit: usize,
-) {
-    begin(problem, paths);
+pub fn start_from_later(case: Case<'_>, paths: &mut Paths, s: usize, limit: usize) {
+    let usable = first_edges(Relations::Coherence, limit);
+    begin(case.problem, paths);
     put_in_queue(paths, s);
     let mut next = 0usize;
-    for _event in 0..problem.size {
+    for _event in 0..case.problem.size {
         if next >= paths.queued {
             break;
         }
         let a = step_at(paths, next).queued;
         next = next.wrapping_add(1);
-        reach_by_program(problem, paths, Relations::Coherence, a);
-        reach_by_answers(problem, branch, paths, Relations::Coherence, a, limit);
+        reach_by_program(case.problem, paths, usable.relations, a);
+        reach_by_answers(case, paths, usable, a);
     }
     let reached = paths.queued;
     paths.queued = 0;
@@ -223,7 +220,7 @@ pub fn start_from_later(
         add(&mut paths.starts, 0, a);
         put_in_queue(paths, a);
     }
-    for k in 0..problem.width {
+    for k in 0..case.problem.width {
         let bits = word(&paths.starts, k);
         put_word(&mut paths.seen, k, bits);
     }
