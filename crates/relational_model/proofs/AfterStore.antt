@@ -1,34 +1,16 @@
 -- What must come after the load part of a locked instruction must come after its store part.
-use Rattle.relational_model.proofs.Vocabulary.{◌≡◌, ◌<◌, ◌≤◌, ℕ, ◌+◌, ◌||◌, true, arith, sym, ap, ◌∙◌, ◌⊎◌, inl, inr, subst, Litmus, is_before, is_read, is_write, writes_to, same_kind, Entry, Kind, R, W, F, LR, LW, IsIn, IsEarlier, at_once, onward, Candidate, events, IsBefore, ArePair, IsAllowed, is_locked, is_locked_kind, po_loc, fr, write_before_write, co, rank, part_of}
-use Rattle.relational_model.proofs.Ranks.{before-rank, rank-before}
-use Rattle.relational_model.proofs.KindFacts.{write-is-no-read, kept-with-locked}
+use Rattle.relational_model.proofs.Vocabulary.{◌≡◌, ◌<◌, ℕ, ◌+◌, ◌||◌, true, arith, sym, ap, ◌∙◌, ◌⊎◌, inl, inr, subst, Litmus, is_before, is_read, is_write, writes_to, same_kind, Entry, R, W, LR, LW, IsIn, IsEarlier, at_once, onward, Candidate, events, IsBefore, ArePair, IsAllowed, is_locked, is_locked_kind, po_loc, fr, write_before_write, co, rank, part_of}
+use Rattle.relational_model.proofs.Ranks.{before-rank, rank-before, order-of}
+use Rattle.relational_model.proofs.KindFacts.{write-is-no-read, kept-with-locked, writes}
 use Rattle.relational_model.proofs.Sources.{one-way}
 use Rattle.relational_model.proofs.Uniproc.{writes-at}
 use Rattle.relational_model.proofs.Decisions.{Goes, number}
-use Rattle.relational_model.proofs.Events.{Sound}
-use Rattle.relational_model.proofs.Fences.{writes, source-writes, after-writes, true-or}
+use Rattle.relational_model.proofs.Events.{Sound, same-rank}
+use Rattle.relational_model.proofs.Fences.{source-writes, after-writes, true-or}
 use Rattle.relational_model.proofs.Order.{location, share}
-
-order-of : (m n : ℕ) → (m < n) ⊎ ((m ≡ n) ⊎ (n < m))
-order-of m n = grind arith
-
-small : (k : Kind) → part_of k ≤ 1
-small R = omega arith
-small W = omega arith
-small F = omega arith
-small LR = omega arith
-small LW = omega arith
-
-halves : (p a q b : ℕ) → a ≤ 1 → b ≤ 1 → p + p + a ≡ q + q + b → (p ≡ q) × (a ≡ b)
-halves p a q b x y e = (omega arith, omega arith)
 
 next-rank : (p q a n : ℕ) → a ≡ 0 → p ≡ q → p + p + a < n → (q + q + 1 ≡ n) ⊎ (q + q + 1 < n)
 next-rank p q a n e s l = grind arith
-
-pub same-rank : (t : Litmus) (c : Candidate) → Sound t c → (x y : Entry) → IsIn (events t c) x → IsIn (events t c) y → x.core.0 ≡ y.core.0
-    → rank x ≡ rank y → x ≡ y
-same-rank t c s x y i j e q =
-    let h = halves x.place (part_of x.kind) y.place (part_of y.kind) (small x.kind) (small y.kind) q in s.same x y i j e h.0 h.1
 
 -- after the load part in its program is after the store part, or that itself
 pub po-after : (t : Litmus) (c : Candidate) → Sound t c → (r w y : Entry) → IsIn (events t c) w → IsIn (events t c) y → ArePair r w
@@ -76,21 +58,19 @@ after-store t c s a r w y i j k p same n (inr (inr (inr f))) =
     apart : IsEarlier (c.coherence r.loc.0) y w → (r.core.0 ≡ y.core.0 → ⊥) → ⊥
     apart e d = a.atomic r y w i k j p f d (before-y e) (λ q. d (p.core ∙ sym q))
 
-    within : IsEarlier (c.coherence r.loc.0) y w → r.core.0 ≡ y.core.0 → (rank r < rank y) ⊎ ((rank r ≡ rank y) ⊎ (rank y < rank r)) → ⊥
-    within e d (inl l) =
-        let b : is_before w y ≡ true = po-after t c s r w y j k p n (rank-before r y d l) in
-        a.global w (onward w y w j (write_before_write w y b is-w (writes r.loc.0 y to-y)) (at_once y w k j (co y w (before-y e))))
-    within e d (inr (inl q)) =
-        write-is-no-read y (writes r.loc.0 y to-y) (subst (λ z. is_read z ≡ true) (same-rank t c s r y i k d q) f.read)
-    within e d (inr (inr l)) =
-        a.uniproc y (onward y r y k
-        (po_loc y r (rank-before y r (sym d) l)
-        (share y r (true-or (is_read y) (is_write y) (inr (writes r.loc.0 y to-y))) (true-or (is_read r) (is_write r) (inl f.read))
-        (location r.loc.0 y to-y)))
-        (at_once r y i k (fr r y f)))
-
     never : IsEarlier (c.coherence r.loc.0) y w → (r.core.0 ≡ y.core.0) ⊎ (r.core.0 ≡ y.core.0 → ⊥) → ⊥
-    never e (inl d) = within e d (order-of (rank r) (rank y))
+    never e (inl d) = elim (order-of (rank r) (rank y)) [
+      | inl l ↦
+          let b : is_before w y ≡ true = po-after t c s r w y j k p n (rank-before r y d l) in
+          a.global w (onward w y w j (write_before_write w y b is-w (writes r.loc.0 y to-y)) (at_once y w k j (co y w (before-y e))))
+      | inr (inl q) ↦ write-is-no-read y (writes r.loc.0 y to-y) (subst (λ z. is_read z ≡ true) (same-rank t c s r y i k d q) f.read)
+      | inr (inr l) ↦
+          a.uniproc y (onward y r y k
+          (po_loc y r (rank-before y r (sym d) l)
+          (share y r (true-or (is_read y) (is_write y) (inr (writes r.loc.0 y to-y))) (true-or (is_read r) (is_write r) (inl f.read))
+          (location r.loc.0 y to-y)))
+          (at_once r y i k (fr r y f)))
+    ]
     never e (inr d) = apart e d
 
     go : (w ≡ y) ⊎ (IsEarlier (c.coherence r.loc.0) w y ⊎ IsEarlier (c.coherence r.loc.0) y w) → Goes c w y

@@ -4,7 +4,7 @@ use Rattle.relational_model.proofs.Lists.{Cut, cut, filter-in}
 use Rattle.relational_model.proofs.Sources.{StandOnce, Known, source-counts, coherence-earlier, event-in}
 use Rattle.relational_model.proofs.Forward.{overwritten-later, global-acyclic}
 use Rattle.relational_model.proofs.Uniproc.{location-acyclic}
-use Rattle.relational_model.proofs.Same.{same-made}
+use Rattle.relational_model.proofs.Events.{same-made}
 use Rattle.relational_model.proofs.Sizes.{once-of, as-many}
 
 -- what a whole order is known for: its entries are the programs', and each stands in it once

@@ -39,7 +39,7 @@ pub record IsKept (t : Litmus) (c : Candidate) (Before : Entry → Entry → Typ
 
 -- ---- rows
 
-forward-append : (B : Entry → Entry → Type 0) (xs ys : List Entry) → GoesForward B xs → GoesForward B ys
+pub forward-append : (B : Entry → Entry → Type 0) (xs ys : List Entry) → GoesForward B xs → GoesForward B ys
     → ((x y : Entry) → IsIn xs x → IsIn ys y → B y x → ⊥) → GoesForward B (xs ++ ys)
 forward-append B [] ys f g h = g
 forward-append B (x ∷ xs) ys f g h =
@@ -49,7 +49,7 @@ forward-append B (x ∷ xs) ys f g h =
     go y (inl i) b = f.0 y i b
     go y (inr j) b = h x y (in-first x xs x refl) j b
 
-forward-if : (B : Entry → Entry → Type 0) (xs : List Entry) → ((x y : Entry) → IsIn xs x → IsIn xs y → B y x → ⊥) → GoesForward B xs
+pub forward-if : (B : Entry → Entry → Type 0) (xs : List Entry) → ((x y : Entry) → IsIn xs x → IsIn xs y → B y x → ⊥) → GoesForward B xs
 forward-if B [] h = tt
 forward-if B (x ∷ xs) h = (
   (λ y i b. h x y (in-first x xs x refl) (in-later x xs y i) b),

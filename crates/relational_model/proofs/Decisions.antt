@@ -16,11 +16,7 @@ both P Q (inr p) q = inr (λ h. p h.0)
 pub either : (P Q : Type 0) → Decision P → Decision Q → Decision (P ⊎ Q)
 either P Q (inl p) q = inl (inl p)
 either P Q (inr p) (inl q) = inl (inr q)
-either P Q (inr p) (inr q) = inr (λ h. no h)
-  where
-    no : P ⊎ Q → ⊥
-    no (inl x) = p x
-    no (inr x) = q x
+either P Q (inr p) (inr q) = inr (λ h. elim h [ inl x ↦ p x | inr x ↦ q x ])
 
 pub denied : (P : Type 0) → Decision P → Decision (P → ⊥)
 denied P (inl p) = inr (λ h. h p)
@@ -68,12 +64,8 @@ entries x y = carried (Alike x y) (x ≡ y) (alike x y)
 pub member : (xs : List Entry) (y : Entry) → Decision (IsIn xs y)
 member [] y = inr (λ i. in-none y i)
 member (x ∷ xs) y =
-    carried ((y ≡ x) ⊎ IsIn xs y) (IsIn (x ∷ xs) y) (λ h. into h) (λ i. in-case x xs y i)
+    carried ((y ≡ x) ⊎ IsIn xs y) (IsIn (x ∷ xs) y) (λ h. elim h [ inl e ↦ in-first x xs y e | inr i ↦ in-later x xs y i ]) (λ i. in-case x xs y i)
     (either (y ≡ x) (IsIn xs y) (entries y x) (member xs y))
-  where
-    into : (y ≡ x) ⊎ IsIn xs y → IsIn (x ∷ xs) y
-    into (inl e) = in-first x xs y e
-    into (inr i) = in-later x xs y i
 
 precedes : (xs : List Entry) (a b : Entry) → Decision (Precedes a b xs)
 precedes [] a b = inr (λ h. h)

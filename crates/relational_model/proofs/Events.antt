@@ -1,5 +1,5 @@
 -- The events of a candidate stand once each, and so do the writes in its coherence orders.
-use Rattle.relational_model.proofs.Vocabulary.{◌≡◌, ◌≤◌, ℕ, ◌+◌, suc, true, List, [], ◌∷◌, ◌++◌, slice_index, slice_index_or, arith, refl, sym, ap, ◌∙◌, ◌⊎◌, inl, inr, subst, length, filter, action_of, entry, fence, value_in, value_of, updated, entries_by, registers_by, values_after, entries_of, writes_to, Litmus, Instr, Action, Store, Load, Move, Fence, Lock, Entry, R, W, LR, LW, IsIn, Candidate, IsCandidate, events_from, events, part_of, Once}
+use Rattle.relational_model.proofs.Vocabulary.{◌≡◌, ◌≤◌, ℕ, ◌+◌, suc, true, List, [], ◌∷◌, ◌++◌, slice_index, slice_index_or, arith, refl, sym, ap, ◌∙◌, ◌⊎◌, inl, inr, subst, length, filter, action_of, entry, fence, value_in, value_of, updated, entries_by, registers_by, values_after, entries_of, writes_to, Litmus, Instr, Action, Store, Load, Move, Fence, Lock, Entry, R, W, LR, LW, IsIn, Candidate, IsCandidate, events_from, events, part_of, Once, part-small, rank, made, made_by, made_from, read_values, zero, slice_get, Some}
 use Rattle.relational_model.proofs.Lists.{Cut, cut, in-case, in-none, in-first, in-later, in-append, in-left, in-right, in-filter}
 use Rattle.relational_model.proofs.Same.{here-by, from-place, same-of}
 use Rattle.relational_model.proofs.Sizes.{once-filter, length-middle}
@@ -97,6 +97,51 @@ same-events-from core (p ∷ ps) registers reads x y i j c e k =
     go (inr a) (inl b) later = absurd (apart y x b a (sym c))
     go (inr a) (inr b) later = later a b
 
+-- ---- what the programs make in an order
+
+abbrev pub reads_from : ℕ → List (List Instr) → List Entry → List (List ℕ)
+reads_from core [] order = []
+reads_from core (p ∷ ps) order = read_values core 0 p order ∷ reads_from (core + 1) ps order
+
+reads-at : (core : ℕ) (ps : List (List Instr)) (order : List Entry) (j : ℕ) (p : List Instr) → slice_get ps j ≡ Some p
+    → slice_index_or (reads_from core ps order) j [] ≡ read_values (core + j) 0 p order
+reads-at core [] order j p e = let z : ⊥ = cc in absurd z
+reads-at core (q ∷ ps) order zero p e =
+    let same : q ≡ p = cc in
+    let z : core ≡ core + 0 = omega arith in
+    ap (λ x. read_values core 0 x order) same ∙ ap (λ k. read_values k 0 p order) z
+reads-at core (q ∷ ps) order (suc j) p e =
+    let z : (core + 1) + j ≡ core + suc j = omega arith in
+    reads-at (core + 1) ps order j p e ∙ ap (λ k. read_values k 0 p order) z
+
+events-made : (core : ℕ) (ps : List (List Instr)) (registers reads : List (List ℕ)) (order : List Entry)
+    → ((j : ℕ) (p : List Instr) → slice_get ps j ≡ Some p → slice_index_or reads (core + j) [] ≡ read_values (core + j) 0 p order)
+    → events_from core ps registers reads ≡ made_from core ps registers order
+events-made core [] registers reads order h = refl
+events-made core (p ∷ ps) registers reads order h =
+    let here : slice_index_or reads core [] ≡ read_values core 0 p order = subst
+    (λ k. slice_index_or reads k [] ≡ read_values k 0 p order) (let z : core + 0 ≡ core = omega arith in z) (h 0 p refl) in
+    let rest : events_from (core + 1) ps registers reads ≡ made_from (core + 1) ps registers order =
+    events-made (core + 1) ps registers reads order
+    (λ j q e. subst (λ k. slice_index_or reads k [] ≡ read_values k 0 q order) (let z : core + suc j ≡ (core + 1) + j = omega arith in z)
+    (h (suc j) q e)) in
+    ap (λ values. entries_of core 0 p (slice_index_or registers core []) values ++ events_from (core + 1) ps registers reads) here
+    ∙ ap (λ es. made_by core p (slice_index_or registers core []) order ++ es) rest
+
+pub made-events : (t : Litmus) (order : List Entry) → events_from 0 t.programs t.registers (reads_from 0 t.programs order) ≡ made t order
+made-events t order =
+    events-made 0 t.programs t.registers (reads_from 0 t.programs order) order
+    (λ j p e. subst (λ k. slice_index_or (reads_from 0 t.programs order) k [] ≡ read_values (0 + j) 0 p order)
+    (let z : j ≡ 0 + j = omega arith in z) (reads-at 0 t.programs order j p e))
+
+pub same-made : (t : Litmus) (order : List Entry) (x y : Entry) → IsIn (made t order) x → IsIn (made t order) y → x.core.0 ≡ y.core.0
+    → x.place ≡ y.place → x.kind ≡ y.kind → x ≡ y
+same-made t order x y i j c e k =
+    same-events-from 0 t.programs t.registers (reads_from 0 t.programs order) x y (subst (λ es. IsIn es x) (sym (made-events t order)) i)
+    (subst (λ es. IsIn es y) (sym (made-events t order)) j) c e (ap part_of k)
+
+-- ---- lists of one length
+
 -- two lists of one length, the members of the first, each once, in the second
 pub record Alike (xs ys : List Entry) : Type 0 where
   pub inside : (y : Entry) → IsIn ys y → IsIn xs y
@@ -106,13 +151,9 @@ once-middle : (xs ys : List Entry) (e : Entry) → Once (xs ++ ys) → (IsIn (xs
 once-middle [] ys e o n = (n, o)
 once-middle (x ∷ xs) ys e o n = ((λ i. go (in-append xs (e ∷ ys) x i)), once-middle xs ys e o.1 (λ i. n (in-later x (xs ++ ys) e i)))
   where
-    on : (x ≡ e) ⊎ IsIn ys x → ⊥
-    on (inl q) = n (in-first x (xs ++ ys) e (sym q))
-    on (inr i) = o.0 (in-right xs ys x i)
-
     go : IsIn xs x ⊎ IsIn (e ∷ ys) x → ⊥
     go (inl i) = o.0 (in-left xs ys x i)
-    go (inr j) = on (in-case e ys x j)
+    go (inr j) = elim (in-case e ys x j) [ inl q ↦ n (in-first x (xs ++ ys) e (sym q)) | inr i ↦ o.0 (in-right xs ys x i) ]
 
 pub pigeons : (xs ys : List Entry) → Once xs → ((x : Entry) → IsIn xs x → IsIn ys x) → length ys ≡ length xs → Alike xs ys
 pigeons [] [] o f n = record { inside = λ y i. i; once = tt }
@@ -126,15 +167,10 @@ pigeons (x ∷ xs) ys o f n = on (cut ys x (f x (in-first x xs x refl))) (λ zs 
         let b : length ys ≡ suc (length xs) = n in omega arith))
       where
         inside : (y : Entry) → IsIn xs y → IsIn (k.front ++ k.back) y
-        inside y i = go (in-append k.front (x ∷ k.back) y (subst (λ zs. IsIn zs y) k.is (f y (in-later x xs y i))))
-          where
-            second : (y ≡ x) ⊎ IsIn k.back y → IsIn (k.front ++ k.back) y
-            second (inl e) = absurd (o.0 (subst (IsIn xs) e i))
-            second (inr b) = in-right k.front k.back y b
-
-            go : IsIn k.front y ⊎ IsIn (x ∷ k.back) y → IsIn (k.front ++ k.back) y
-            go (inl a) = in-left k.front k.back y a
-            go (inr b) = second (in-case x k.back y b)
+        inside y i = elim (in-append k.front (x ∷ k.back) y (subst (λ zs. IsIn zs y) k.is (f y (in-later x xs y i)))) [
+          | inl a ↦ in-left k.front k.back y a
+          | inr b ↦ elim (in-case x k.back y b) [ inl e ↦ absurd (o.0 (subst (IsIn xs) e i)) | inr b ↦ in-right k.front k.back y b ]
+        ]
 
         finish : Alike xs (k.front ++ k.back) → Alike (x ∷ xs) ys
         finish s = record {
@@ -142,13 +178,10 @@ pigeons (x ∷ xs) ys o f n = on (cut ys x (f x (in-first x xs x refl))) (λ zs 
           once = subst Once (sym k.is) (once-middle k.front k.back x s.once (λ i. o.0 (s.inside x i)));
         }
           where
-            second : (y : Entry) → (y ≡ x) ⊎ IsIn k.back y → IsIn (x ∷ xs) y
-            second y (inl e) = in-first x xs y e
-            second y (inr b) = in-later x xs y (s.inside y (in-right k.front k.back y b))
-
             go : (y : Entry) → IsIn k.front y ⊎ IsIn (x ∷ k.back) y → IsIn (x ∷ xs) y
             go y (inl a) = in-later x xs y (s.inside y (in-left k.front k.back y a))
-            go y (inr b) = second y (in-case x k.back y b)
+            go y (inr b) =
+                elim (in-case x k.back y b) [ inl e ↦ in-first x xs y e | inr b ↦ in-later x xs y (s.inside y (in-right k.front k.back y b)) ]
 
 -- ---- what is known of a candidate
 
@@ -159,6 +192,15 @@ pub record Sound (t : Litmus) (c : Candidate) : Type 0 where
       → part_of x.kind ≡ part_of y.kind → x ≡ y
   pub coherent : (loc : ℕ) (w : Entry) → IsIn (c.coherence loc) w → IsIn (events t c) w × (writes_to loc w ≡ true)
   pub single : (loc : ℕ) → Once (c.coherence loc)
+
+pub halves : (p a q b : ℕ) → a ≤ 1 → b ≤ 1 → p + p + a ≡ q + q + b → (p ≡ q) × (a ≡ b)
+halves p a q b x y e = (omega arith, omega arith)
+
+-- events of one core differ in their ranks
+pub same-rank : (t : Litmus) (c : Candidate) → Sound t c → (x y : Entry) → IsIn (events t c) x → IsIn (events t c) y → x.core.0 ≡ y.core.0
+    → rank x ≡ rank y → x ≡ y
+same-rank t c s x y i j e q =
+    let h = halves x.place (part_of x.kind) y.place (part_of y.kind) (part-small x.kind) (part-small y.kind) q in s.same x y i j e h.0 h.1
 
 pub sound : (t : Litmus) (c : Candidate) → IsCandidate t c → Sound t c
 sound t c h = record {

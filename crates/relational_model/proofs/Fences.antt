@@ -1,77 +1,40 @@
 -- Where what happens before is acyclic, so it is together with the program order to and from fences.
-use Rattle.relational_model.proofs.Vocabulary.{◌≡◌, ℕ, ◌==◌, ◌&&◌, ◌||◌, Bool, true, false, List, Option, Some, None, refl, sym, ◌∙◌, ◌⊎◌, inl, inr, subst, Litmus, is_before, is_read, is_write, writes_to, same_kind, Entry, Kind, R, W, F, LR, LW, IsIn, LeadsTo, at_once, onward, IsAcyclic, Candidate, Returns, events, ReadsFrom, StandsAfter, FromReads, is_locked_kind, HappensBefore, write_before_write, read_before_access, mfence, implied, rfe, co, fr}
+use Rattle.relational_model.proofs.Vocabulary.{◌≡◌, ◌||◌, Bool, true, false, List, Option, Some, None, refl, sym, ◌∙◌, ◌⊎◌, inl, inr, subst, Litmus, is_before, is_read, is_write, writes_to, Entry, F, IsIn, LeadsTo, at_once, onward, IsAcyclic, Candidate, Returns, events, ReadsFrom, StandsAfter, FromReads, HappensBefore, write_before_write, read_before_access, mfence, implied, rfe, co, fr, arith, may_be_passed, is_locked}
 use Rattle.relational_model.proofs.Ranks.{before-trans, before-irreflexive}
-use Rattle.relational_model.proofs.KindFacts.{and-both}
+use Rattle.relational_model.proofs.KindFacts.{writes}
 use Rattle.relational_model.proofs.Forward.{starts-in}
 use Rattle.relational_model.proofs.Decisions.{Kept, Goes}
 use Rattle.relational_model.proofs.Events.{Sound}
 
-kind-parts : (k : Kind) → ((same_kind k R || same_kind k LR) ≡ true) ⊎ (((same_kind k W || same_kind k LW) ≡ true) ⊎ (k ≡ F))
-kind-parts R = inl refl
-kind-parts W = inr (inl refl)
-kind-parts F = inr (inr refl)
-kind-parts LR = inl refl
-kind-parts LW = inr (inl refl)
-
 pub parts : (x : Entry) → (is_read x ≡ true) ⊎ ((is_write x ≡ true) ⊎ (x.kind ≡ F))
-parts x = kind-parts x.kind
+parts x = grind arith
 
-read-no-fence : (k : Kind) → (same_kind k R || same_kind k LR) ≡ true → k ≡ F → ⊥
-read-no-fence R h e = let z : ⊥ = cc in z
-read-no-fence W h e = let z : ⊥ = cc in z
-read-no-fence F h e = let z : ⊥ = cc in z
-read-no-fence LR h e = let z : ⊥ = cc in z
-read-no-fence LW h e = let z : ⊥ = cc in z
-
-write-no-fence : (k : Kind) → (same_kind k W || same_kind k LW) ≡ true → k ≡ F → ⊥
-write-no-fence R h e = let z : ⊥ = cc in z
-write-no-fence W h e = let z : ⊥ = cc in z
-write-no-fence F h e = let z : ⊥ = cc in z
-write-no-fence LR h e = let z : ⊥ = cc in z
-write-no-fence LW h e = let z : ⊥ = cc in z
-
-unpassed : (j k : Kind) → (same_kind j W || same_kind j LW) ≡ true → (same_kind k R || same_kind k LR) ≡ true
-    → (same_kind j W && same_kind k R) ≡ false → (is_locked_kind j || is_locked_kind k) ≡ true
-unpassed W R a b h = let z : ⊥ = cc in absurd z
-unpassed W W a b h = let z : ⊥ = cc in absurd z
-unpassed W F a b h = let z : ⊥ = cc in absurd z
-unpassed W LR a b h = refl
-unpassed W LW a b h = refl
-unpassed LW k a b h = refl
-unpassed R k a b h = let z : ⊥ = cc in absurd z
-unpassed F k a b h = let z : ⊥ = cc in absurd z
-unpassed LR k a b h = refl
+unpassed : (x y : Entry) → is_write x ≡ true → is_read y ≡ true → may_be_passed x y ≡ false → (is_locked x || is_locked y) ≡ true
+unpassed x y a b h = grind arith
 
 pub true-or : (a b : Bool) → (a ≡ true) ⊎ (b ≡ true) → (a || b) ≡ true
 true-or true b h = refl
 true-or false b (inl h) = let z : ⊥ = cc in absurd z
 true-or false b (inr h) = h
 
+read-no-fence : (x : Entry) → is_read x ≡ true → x.kind ≡ F → ⊥
+read-no-fence x h e = grind arith
+
+write-no-fence : (x : Entry) → is_write x ≡ true → x.kind ≡ F → ⊥
+write-no-fence x h e = grind arith
+
 abbrev pub NoFence : Entry → Type 0
 NoFence x = x.kind ≡ F → ⊥
 
 pub is-no-fence : (x : Entry) → (is_read x ≡ true) ⊎ (is_write x ≡ true) → NoFence x
-is-no-fence x (inl r) e = read-no-fence x.kind r e
-is-no-fence x (inr w) e = write-no-fence x.kind w e
+is-no-fence x (inl r) e = read-no-fence x r e
+is-no-fence x (inr w) e = write-no-fence x w e
 
 access : (x : Entry) → NoFence x → (is_read x ≡ true) ⊎ (is_write x ≡ true)
-access x n = go (parts x)
-  where
-    go : (is_read x ≡ true) ⊎ ((is_write x ≡ true) ⊎ (x.kind ≡ F)) → (is_read x ≡ true) ⊎ (is_write x ≡ true)
-    go (inl r) = inl r
-    go (inr (inl w)) = inr w
-    go (inr (inr e)) = absurd (n e)
+access x n = elim (parts x) [ inl r ↦ inl r | inr (inl w) ↦ inr w | inr (inr e) ↦ absurd (n e) ]
 
 pub fence-or : (x : Entry) → (x.kind ≡ F) ⊎ NoFence x
-fence-or x = go (parts x)
-  where
-    go : (is_read x ≡ true) ⊎ ((is_write x ≡ true) ⊎ (x.kind ≡ F)) → (x.kind ≡ F) ⊎ NoFence x
-    go (inl r) = inr (is-no-fence x (inl r))
-    go (inr (inl w)) = inr (is-no-fence x (inr w))
-    go (inr (inr e)) = inl e
-
-pub writes : (loc : ℕ) (w : Entry) → writes_to loc w ≡ true → is_write w ≡ true
-writes loc w h = (and-both (is_write w) (w.loc.0 == loc) h).0
+fence-or x = elim (parts x) [ inl r ↦ inr (is-no-fence x (inl r)) | inr (inl w) ↦ inr (is-no-fence x (inr w)) | inr (inr e) ↦ inl e ]
 
 -- the source of a read is a write of the test to its location
 pub source-writes : (t : Litmus) (c : Candidate) → Sound t c → (w r : Entry) → IsIn (events t c) r → ReadsFrom c w r
@@ -97,7 +60,7 @@ step t c s x y i j (inl k) = go (fence-or x) (fence-or y)
   where
     on : (is_read x ≡ true) ⊎ (is_write x ≡ true) → (is_read y ≡ true) ⊎ (is_write y ≡ true) → HappensBefore (events t c) c x y
     on (inl rx) ay = read_before_access x y k.0 rx (true-or (is_read y) (is_write y) ay)
-    on (inr wx) (inl ry) = implied x y k.0 wx ry (unpassed x.kind y.kind wx ry k.1)
+    on (inr wx) (inl ry) = implied x y k.0 wx ry (unpassed x y wx ry k.1)
     on (inr wx) (inr wy) = write_before_write x y k.0 wx wy
 
     go : (x.kind ≡ F) ⊎ NoFence x → (y.kind ≡ F) ⊎ NoFence y
@@ -156,10 +119,6 @@ ways : (t : Litmus) (c : Candidate) (x y z : Entry) → IsIn (events t c) x → 
     → Way t c y z → Way t c x z
 ways t c x y z i j k (inl a) (inl b) = go (fence-or x) (fence-or z)
   where
-    middle : NoFence x → (x.kind ≡ F) ⊎ (y.kind ≡ F) → y.kind ≡ F
-    middle n (inl f) = absurd (n f)
-    middle n (inr f) = f
-
     go : (x.kind ≡ F) ⊎ NoFence x → (z.kind ≡ F) ⊎ NoFence z → Way t c x z
     go (inl f) d = inl (before-trans x y z a.0 b.0, inl f)
     go (inr n) (inl f) = inl (before-trans x y z a.0 b.0, inr f)
@@ -168,16 +127,12 @@ ways t c x y z i j k (inl a) (inl b) = go (fence-or x) (fence-or z)
           from = x;
           to = z;
           comes = inl (refl, n);
-          way = over-fence t c x y z i j k (middle n a.1) a.0 b.0;
+          way = over-fence t c x y z i j k (elim a.1 [ inl f ↦ absurd (n f) | inr f ↦ f ]) a.0 b.0;
           leaves = inl
               (refl, m);
         })
 ways t c x y z i j k (inl a) (inr q) = go q.comes (fence-or x)
   where
-    middle : NoFence x → (x.kind ≡ F) ⊎ (y.kind ≡ F) → y.kind ≡ F
-    middle n (inl f) = absurd (n f)
-    middle n (inr f) = f
-
     go : Comes y q.from → (x.kind ≡ F) ⊎ NoFence x → Way t c x z
     go (inl h) (inl f) =
         inr (record {
@@ -187,7 +142,7 @@ ways t c x y z i j k (inl a) (inr q) = go q.comes (fence-or x)
           way = q.way;
           leaves = q.leaves;
         })
-    go (inl h) (inr n) = absurd (h.1 (middle n a.1))
+    go (inl h) (inr n) = absurd (h.1 (elim a.1 [ inl f ↦ absurd (n f) | inr f ↦ f ]))
     go (inr h) (inl f) =
         inr (record { from = q.from; to = q.to; comes = inr (f, before-trans x y q.from a.0 h.1); way = q.way; leaves = q.leaves })
     go (inr h) (inr n) = inr (record {
@@ -200,10 +155,6 @@ ways t c x y z i j k (inl a) (inr q) = go q.comes (fence-or x)
     })
 ways t c x y z i j k (inr p) (inl b) = go p.leaves (fence-or z)
   where
-    middle : NoFence z → (y.kind ≡ F) ⊎ (z.kind ≡ F) → y.kind ≡ F
-    middle n (inl f) = f
-    middle n (inr f) = absurd (n f)
-
     go : Leaves p.to y → (z.kind ≡ F) ⊎ NoFence z → Way t c x z
     go (inl h) (inl f) =
         inr (record {
@@ -214,7 +165,7 @@ ways t c x y z i j k (inr p) (inl b) = go p.leaves (fence-or z)
           leaves = inr
               (f, subst (λ u. is_before u z ≡ true) (sym h.0) b.0);
         })
-    go (inl h) (inr n) = absurd (h.1 (middle n b.1))
+    go (inl h) (inr n) = absurd (h.1 (elim b.1 [ inl f ↦ f | inr f ↦ absurd (n f) ]))
     go (inr h) (inl f) =
         inr (record { from = p.from; to = p.to; comes = p.comes; way = p.way; leaves = inr (f, before-trans p.to y z h.1 b.0) })
     go (inr h) (inr n) = inr (record {
@@ -265,7 +216,7 @@ all-ways t c s _ _ (onward x y z i b rest) =
 
 pub goes-acyclic : (t : Litmus) (c : Candidate) → Sound t c → IsAcyclic (events t c) (HappensBefore (events t c) c)
     → IsAcyclic (events t c) (Goes c)
-goes-acyclic t c s a x p = go (all-ways t c s x x p)
+goes-acyclic t c s a x p = elim (all-ways t c s x x p) [ inl b ↦ before-irreflexive x b.0 | inr q ↦ cycle q q.leaves q.comes ]
   where
     cycle : (q : Through t c x x) → Leaves q.to x → Comes x q.from → ⊥
     cycle q (inl h) (inl g) = a q.from (subst (λ u. LeadsTo (events t c) (HappensBefore (events t c) c) q.from u) (h.0 ∙ g.0) q.way)
@@ -275,7 +226,3 @@ goes-acyclic t c s a x p = go (all-ways t c s x x p)
         (over-fence t c q.to x q.from (ends-in (events t c) (HappensBefore (events t c) c) q.from q.to q.way)
         (starts-in (events t c) (Goes c) x x p)
         (starts-in (events t c) (HappensBefore (events t c) c) q.from q.to q.way) h.0 h.1 g.1))
-
-    go : Way t c x x → ⊥
-    go (inl b) = before-irreflexive x b.0
-    go (inr q) = cycle q q.leaves q.comes

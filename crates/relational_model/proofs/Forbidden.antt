@@ -1,9 +1,9 @@
 -- Worked candidates that the model forbids: each is a candidate of its test, and a cycle or a write in between shows that it isn't allowed.
-use Rattle.relational_model.proofs.Vocabulary.{◌≡◌, ◌<◌, ℕ, ◌==◌, zero, suc, Bool, true, false, List, [], ◌∷◌, refl, sym, ap, ◌∙◌, ◌⊎◌, inl, inr, subst, length, arith, filter, Litmus, entry, fence, loc_x, loc_y, is_read, is_write, writes_to, Entry, R, W, LR, LW, IsIn, at_once, onward, Candidate, Returns, IsCandidate, events, IsAllowed, IsForbidden, write_before_write, read_before_access, mfence, implied, rfe, fr, of_x_and_y, fenced, fenced_candidate, exchanged, exchanged_candidate, passing, passing_candidate, buffering, buffering_candidate, independent, independent_candidate, between, between_candidate}
-use Rattle.relational_model.proofs.Fences.{writes}
+use Rattle.relational_model.proofs.Vocabulary.{◌≡◌, ◌<◌, ℕ, ◌==◌, zero, suc, Bool, true, false, List, [], ◌∷◌, refl, sym, ap, ◌∙◌, inl, inr, subst, length, arith, filter, Litmus, entry, fence, loc_x, loc_y, is_read, is_write, writes_to, Entry, R, W, LR, LW, IsIn, at_once, onward, Candidate, Returns, IsCandidate, events, IsAllowed, IsForbidden, write_before_write, read_before_access, mfence, implied, rfe, fr, of_x_and_y, fenced, fenced_candidate, exchanged, exchanged_candidate, passing, passing_candidate, buffering, buffering_candidate, independent, independent_candidate, between, between_candidate}
 use Rattle.relational_model.proofs.Lists.{in-case, in-none}
 use Rattle.relational_model.proofs.Worked.{Without, filter-none, not-first, not-second}
 use Rattle.relational_model.proofs.Independent.{no-opposite-registers}
+use Rattle.relational_model.proofs.KindFacts.{writes}
 
 -- ---- candidates, told event by event
 
@@ -22,43 +22,24 @@ no-read h = let z : ⊥ = cc in absurd z
 not-it : (p : Entry → Bool) (x y : Entry) → p x ≡ false → y ≡ x → p y ≡ true → ⊥
 not-it p x y f e h = let k : p y ≡ p x = ap p e in let z : ⊥ = cc in z
 
-fitting-reads : (t : Litmus) (c : Candidate) (xs : List Entry) → Fits t c xs → (r : Entry) → IsIn xs r → is_read r ≡ true
-    → Returns t c r (c.source r)
-fitting-reads t c _ fit-none r i h = absurd (in-none r i)
-fitting-reads t c _ (fit-read x xs returns f rest) r i h = go (in-case x xs r i) (λ j. fitting-reads t c xs rest r j h)
-  where
-    go : (r ≡ x) ⊎ IsIn xs r → (IsIn xs r → Returns t c r (c.source r)) → Returns t c r (c.source r)
-    go (inl e) later = subst (λ z. Returns t c z (c.source z)) (sym e) returns
-    go (inr j) later = later j
-fitting-reads t c _ (fit-write x xs f stands rest) r i h = go (in-case x xs r i) (λ j. fitting-reads t c xs rest r j h)
-  where
-    go : (r ≡ x) ⊎ IsIn xs r → (IsIn xs r → Returns t c r (c.source r)) → Returns t c r (c.source r)
-    go (inl e) later = absurd (not-it is_read x r f e h)
-    go (inr j) later = later j
-fitting-reads t c _ (fit-fence x xs f g rest) r i h = go (in-case x xs r i) (λ j. fitting-reads t c xs rest r j h)
-  where
-    go : (r ≡ x) ⊎ IsIn xs r → (IsIn xs r → Returns t c r (c.source r)) → Returns t c r (c.source r)
-    go (inl e) later = absurd (not-it is_read x r f e h)
-    go (inr j) later = later j
-
-fitting-writes : (t : Litmus) (c : Candidate) (xs : List Entry) → Fits t c xs → (loc : ℕ) (w : Entry) → IsIn xs w → writes_to loc w ≡ true
-    → IsIn (c.coherence loc) w
-fitting-writes t c _ fit-none loc w i h = absurd (in-none w i)
-fitting-writes t c _ (fit-read x xs returns f rest) loc w i h = go (in-case x xs w i) (λ j. fitting-writes t c xs rest loc w j h)
-  where
-    go : (w ≡ x) ⊎ IsIn xs w → (IsIn xs w → IsIn (c.coherence loc) w) → IsIn (c.coherence loc) w
-    go (inl e) later = absurd (not-it is_write x w f e (writes loc w h))
-    go (inr j) later = later j
-fitting-writes t c _ (fit-write x xs f stands rest) loc w i h = go (in-case x xs w i) (λ j. fitting-writes t c xs rest loc w j h)
-  where
-    go : (w ≡ x) ⊎ IsIn xs w → (IsIn xs w → IsIn (c.coherence loc) w) → IsIn (c.coherence loc) w
-    go (inl e) later = subst (IsIn (c.coherence loc)) (sym e) (stands loc (subst (λ z. writes_to loc z ≡ true) e h))
-    go (inr j) later = later j
-fitting-writes t c _ (fit-fence x xs f g rest) loc w i h = go (in-case x xs w i) (λ j. fitting-writes t c xs rest loc w j h)
-  where
-    go : (w ≡ x) ⊎ IsIn xs w → (IsIn xs w → IsIn (c.coherence loc) w) → IsIn (c.coherence loc) w
-    go (inl e) later = absurd (not-it is_write x w g e (writes loc w h))
-    go (inr j) later = later j
+fitting : (t : Litmus) (c : Candidate) (xs : List Entry) → Fits t c xs → (y : Entry) → IsIn xs y
+    → (is_read y ≡ true → Returns t c y (c.source y)) × ((loc : ℕ) → writes_to loc y ≡ true → IsIn (c.coherence loc) y)
+fitting t c _ fit-none y i = absurd (in-none y i)
+fitting t c _ (fit-read x xs returns f rest) y i = elim (in-case x xs y i) [
+  | inl e ↦ ((λ h. subst (λ z. Returns t c z (c.source z)) (sym e) returns), (λ loc h. absurd (not-it is_write x y f e (writes loc y h))))
+  | inr j ↦ fitting t c xs rest y j
+]
+fitting t c _ (fit-write x xs f stands rest) y i = elim (in-case x xs y i) [
+  | inl e ↦ (
+    (λ h. absurd (not-it is_read x y f e h)),
+    (λ loc h. subst (IsIn (c.coherence loc)) (sym e) (stands loc (subst (λ z. writes_to loc z ≡ true) e h))),
+  )
+  | inr j ↦ fitting t c xs rest y j
+]
+fitting t c _ (fit-fence x xs f g rest) y i = elim (in-case x xs y i) [
+  | inl e ↦ ((λ h. absurd (not-it is_read x y f e h)), (λ loc h. absurd (not-it is_write x y g e (writes loc y h))))
+  | inr j ↦ fitting t c xs rest y j
+]
 
 -- a write to x is none to y or to a third location, and a write to y none to x or to a third one
 pub to-x : (xs ys : List Entry) (w : Entry) → IsIn xs w → (loc : ℕ) → (0 == loc) ≡ true → IsIn (of_x_and_y xs ys loc) w
@@ -75,8 +56,8 @@ pub told : (t : Litmus) (c : Candidate) (xs ys : List Entry) → c.coherence ≡
     → length xs ≡ length (filter (writes_to 0) (events t c)) → length ys ≡ length (filter (writes_to 1) (events t c))
     → ((n : ℕ) → Without (writes_to (suc (suc n))) (events t c)) → IsCandidate t c
 told t c xs ys is fits at-x at-y none = record {
-  reads = fitting-reads t c (events t c) fits;
-  writes = fitting-writes t c (events t c) fits;
+  reads = λ r i h. (fitting t c (events t c) fits r i).0 h;
+  writes = λ loc w i h. (fitting t c (events t c) fits w i).1 loc h;
   count = λ loc. subst (λ f. length (f loc) ≡ length (filter (writes_to loc) (events t c))) (sym is) (count loc);
 }
   where

@@ -28,12 +28,10 @@ overwritten-later t order c known r v i f = go (one-way order r v i (after-in t 
   where
     none : (s : Option Entry) → c.source r ≡ s → StandsAfter (c.coherence r.loc.0) s v → Counts order r v → ⊥
     none None e h counts = source-none t order c known r v i f.read e counts
-    none (Some w) e h counts = on (source-last t order c known r w v i f.read e counts)
-      where
-        on : (v ≡ w) ⊎ IsEarlier order v w → ⊥
-        on (inl same) =
-            never-itself order w known.once (subst (λ x. IsEarlier order w x) same (coherence-earlier t order c known r.loc.0 w v h))
-        on (inr k) = never-back order v w known.once k (coherence-earlier t order c known r.loc.0 w v h)
+    none (Some w) e h counts = elim (source-last t order c known r w v i f.read e counts) [
+      | inl same ↦ never-itself order w known.once (subst (λ x. IsEarlier order w x) same (coherence-earlier t order c known r.loc.0 w v h))
+      | inr k ↦ never-back order v w known.once k (coherence-earlier t order c known r.loc.0 w v h)
+    ]
 
     go : (r ≡ v) ⊎ (IsEarlier order r v ⊎ IsEarlier order v r) → IsEarlier order r v
     go (inl same) =
@@ -53,11 +51,8 @@ step-forward t order c known x y i j (mfence _ f _ inside kind b d) =
     earlier-trans order x f y known.once (kept t order c known x f i k b (kept-before-fence x f kind))
     (kept t order c known f y k j d (kept-after-fence f y kind))
 step-forward t order c known x y i j (implied _ _ b wx ry l) = kept t order c known x y i j b (kept-with-locked x y l)
-step-forward t order c known x y i j (rfe _ _ f apart) = go (source-counts t order c known y x j f.read f.source).1.1
-  where
-    go : IsEarlier order x y ⊎ (is_before x y ≡ true) → IsEarlier order x y
-    go (inl e) = e
-    go (inr b) = absurd (apart (before-rank x y b).0)
+step-forward t order c known x y i j (rfe _ _ f apart) =
+    elim (source-counts t order c known y x j f.read f.source).1.1 [ inl e ↦ e | inr b ↦ absurd (apart (before-rank x y b).0) ]
 step-forward t order c known x y i j (co _ _ e) = coherence-earlier t order c known x.loc.0 x y e
 step-forward t order c known x y i j (fr _ _ f) = overwritten-later t order c known x y i f
 

@@ -1,5 +1,5 @@
 -- Facts on places in lists of entries.
-use Rattle.relational_model.proofs.Vocabulary.{◌≡◌, ◌<◌, ℕ, zero, suc, Bool, true, false, if◌then◌else◌, List, [], ◌∷◌, ◌++◌, Some, None, slice_get, arith, refl, sym, ap, ◌∙◌, ◌⊎◌, inl, inr, filter, Entry, IsIn, IsEarlier, last_in}
+use Rattle.relational_model.proofs.Vocabulary.{◌≡◌, ◌<◌, ℕ, zero, suc, Bool, true, false, if◌then◌else◌, List, [], ◌∷◌, ◌++◌, Some, None, slice_get, arith, refl, sym, ap, ◌∙◌, ◌⊎◌, inl, inr, subst, filter, Entry, IsIn, IsEarlier, last_in}
 
 -- ---- members
 
@@ -28,11 +28,7 @@ in-right (x ∷ xs) ys y h = in-later x (xs ++ ys) y (in-right xs ys y h)
 pub in-append : (xs ys : List Entry) (y : Entry) → IsIn (xs ++ ys) y → IsIn xs y ⊎ IsIn ys y
 in-append [] ys y h = inr h
 in-append (x ∷ xs) ys y (zero, q) = inl (0, q)
-in-append (x ∷ xs) ys y (suc i, q) = go (in-append xs ys y (i, q))
-  where
-    go : IsIn xs y ⊎ IsIn ys y → IsIn (x ∷ xs) y ⊎ IsIn ys y
-    go (inl h) = inl (in-later x xs y h)
-    go (inr h) = inr h
+in-append (x ∷ xs) ys y (suc i, q) = elim (in-append xs ys y (i, q)) [ inl h ↦ inl (in-later x xs y h) | inr h ↦ inr h ]
 
 pub in-filter : (p : Entry → Bool) (xs : List Entry) (y : Entry) → IsIn (filter p xs) y → IsIn xs y × (p y ≡ true)
 in-filter p [] y h = absurd (in-none y h)
@@ -55,6 +51,10 @@ filter-in p (x ∷ xs) y h t = go (p x) refl (λ i. filter-in p xs y i t) (in-ca
     go false q rest (inl e) = absurd (let same : p y ≡ p x = ap p e in let z : ⊥ = cc in z)
     go false q rest (inr i) = rest i
 
+-- at one place stands one entry
+pub at-one : (xs : List Entry) (i j : ℕ) (a b : Entry) → slice_get xs i ≡ Some a → slice_get xs j ≡ Some b → i ≡ j → a ≡ b
+at-one xs i j a b p q e = let r : slice_get xs j ≡ Some a = subst (λ k. slice_get xs k ≡ Some a) e p in let z : Some a ≡ Some b = sym r ∙ q in cc
+
 -- where a list is cut at one of its members
 pub record Cut (xs : List Entry) (y : Entry) : Type 0 where
   pub front : List Entry
@@ -63,11 +63,10 @@ pub record Cut (xs : List Entry) (y : Entry) : Type 0 where
 
 pub cut : (xs : List Entry) (y : Entry) → IsIn xs y → Cut xs y
 cut [] y h = absurd (in-none y h)
-cut (x ∷ xs) y h = go (cut xs y) (in-case x xs y h)
-  where
-    go : (IsIn xs y → Cut xs y) → (y ≡ x) ⊎ IsIn xs y → Cut (x ∷ xs) y
-    go rest (inl e) = record { front = []; back = xs; is = ap (λ z. z ∷ xs) (sym e) }
-    go rest (inr i) = let c = rest i in record { front = x ∷ c.front; back = c.back; is = ap (λ zs. x ∷ zs) c.is }
+cut (x ∷ xs) y h = elim (in-case x xs y h) [
+  | inl e ↦ record { front = []; back = xs; is = ap (λ z. z ∷ xs) (sym e) }
+  | inr i ↦ let c = cut xs y i in record { front = x ∷ c.front; back = c.back; is = ap (λ zs. x ∷ zs) c.is }
+]
 
 -- ---- one member before another, by recursion
 
@@ -130,27 +129,14 @@ precedes-right (x ∷ xs) ys a b h = inr (precedes-right xs ys a b h)
 
 pub precedes-across : (xs ys : List Entry) (a b : Entry) → IsIn xs a → IsIn ys b → Precedes a b (xs ++ ys)
 precedes-across [] ys a b h k = absurd (in-none a h)
-precedes-across (x ∷ xs) ys a b h k = go (λ i. precedes-across xs ys a b i k) (in-case x xs a h)
-  where
-    go : (IsIn xs a → Precedes a b (xs ++ ys)) → (a ≡ x) ⊎ IsIn xs a → Precedes a b (x ∷ (xs ++ ys))
-    go rest (inl e) = inl (e, in-right xs ys b k)
-    go rest (inr i) = inr (rest i)
+precedes-across (x ∷ xs) ys a b h k = elim (in-case x xs a h) [ inl e ↦ inl (e, in-right xs ys b k) | inr i ↦ inr (precedes-across xs ys a b i k) ]
 
 pub precedes-parts : (xs ys : List Entry) (a b : Entry) → Precedes a b (xs ++ ys)
     → Precedes a b xs ⊎ ((IsIn xs a × IsIn ys b) ⊎ Precedes a b ys)
 precedes-parts [] ys a b h = inr (inr h)
-precedes-parts (x ∷ xs) ys a b (inl h) = go (in-append xs ys b h.1)
-  where
-    go : IsIn xs b ⊎ IsIn ys b → Precedes a b (x ∷ xs) ⊎ ((IsIn (x ∷ xs) a × IsIn ys b) ⊎ Precedes a b ys)
-    go (inl i) = inl (inl (h.0, i))
-    go (inr i) = inr (inl (in-first x xs a h.0, i))
-precedes-parts (x ∷ xs) ys a b (inr h) = go (precedes-parts xs ys a b h)
-  where
-    go : Precedes a b xs ⊎ ((IsIn xs a × IsIn ys b) ⊎ Precedes a b ys)
-        → Precedes a b (x ∷ xs) ⊎ ((IsIn (x ∷ xs) a × IsIn ys b) ⊎ Precedes a b ys)
-    go (inl p) = inl (inr p)
-    go (inr (inl p)) = inr (inl (in-later x xs a p.0, p.1))
-    go (inr (inr p)) = inr (inr p)
+precedes-parts (x ∷ xs) ys a b (inl h) = elim (in-append xs ys b h.1) [ inl i ↦ inl (inl (h.0, i)) | inr i ↦ inr (inl (in-first x xs a h.0, i)) ]
+precedes-parts (x ∷ xs) ys a b (inr h) =
+    elim (precedes-parts xs ys a b h) [ inl p ↦ inl (inr p) | inr (inl p) ↦ inr (inl (in-later x xs a p.0, p.1)) | inr (inr p) ↦ inr (inr p) ]
 
 -- ---- the last member
 
@@ -166,17 +152,11 @@ last-none (y ∷ (z ∷ zs)) x h i = last-none (z ∷ zs) z h (0, refl)
 
 pub last-last : (xs : List Entry) (w x : Entry) → last_in xs ≡ Some w → IsIn xs x → (x ≡ w) ⊎ Precedes x w xs
 last-last [] w x h i = absurd (in-none x i)
-last-last (y ∷ []) w x h i = go (in-case y [] x i)
-  where
-    go : (x ≡ y) ⊎ IsIn [] x → (x ≡ w) ⊎ Precedes x w (y ∷ [])
-    go (inl e) = inl (let q : y ≡ w = cc in e ∙ q)
-    go (inr k) = absurd (in-none x k)
-last-last (y ∷ (z ∷ zs)) w x h i = go (last-last (z ∷ zs) w x h) (in-case y (z ∷ zs) x i)
-  where
-    on : (x ≡ w) ⊎ Precedes x w (z ∷ zs) → (x ≡ w) ⊎ Precedes x w (y ∷ (z ∷ zs))
-    on (inl e) = inl e
-    on (inr p) = inr (inr p)
-
-    go : (IsIn (z ∷ zs) x → (x ≡ w) ⊎ Precedes x w (z ∷ zs)) → (x ≡ y) ⊎ IsIn (z ∷ zs) x → (x ≡ w) ⊎ Precedes x w (y ∷ (z ∷ zs))
-    go rest (inl e) = inr (inl (e, last-is-in (z ∷ zs) w h))
-    go rest (inr k) = on (rest k)
+last-last (y ∷ []) w x h i = elim (in-case y [] x i) [
+  | inl e ↦ inl (let q : y ≡ w = cc in e ∙ q)
+  | inr k ↦ absurd (in-none x k)
+]
+last-last (y ∷ (z ∷ zs)) w x h i = elim (in-case y (z ∷ zs) x i) [
+  | inl e ↦ inr (inl (e, last-is-in (z ∷ zs) w h))
+  | inr k ↦ elim (last-last (z ∷ zs) w x h k) [ inl e ↦ inl e | inr p ↦ inr (inr p) ]
+]

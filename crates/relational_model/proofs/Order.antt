@@ -1,13 +1,15 @@
 -- A row of a candidate's events in which no edge goes back is an order of that candidate.
-use Rattle.relational_model.proofs.Vocabulary.{◌≡◌, ◌<◌, ◌≤◌, ℕ, ◌+◌, ◌==◌, ◌&&◌, zero, suc, Bool, true, false, if◌then◌else◌, List, [], ◌∷◌, ◌++◌, Option, Some, None, arith, refl, sym, ap, ◌∙◌, ◌⊎◌, inl, inr, subst, length, filter, Litmus, is_before, is_read, is_write, writes_to, counting, KeepsProgramOrder, Entry, Kind, R, W, F, LR, LW, IsIn, IsEarlier, at_once, onward, Candidate, events, last_in, is_access, share_location, ReadsFrom, IsBefore, StandsAfter, FromReads, IsAllowed, po_loc, fr, rank, part_of, GoesForward, LinearExtension, Once}
+use Rattle.relational_model.proofs.Vocabulary.{◌≡◌, ◌<◌, ℕ, ◌==◌, ◌&&◌, zero, suc, Bool, true, false, if◌then◌else◌, List, [], ◌∷◌, ◌++◌, Option, Some, None, arith, refl, sym, ap, ◌∙◌, ◌⊎◌, inl, inr, subst, length, filter, Litmus, is_before, is_read, is_write, writes_to, counting, KeepsProgramOrder, Entry, IsIn, IsEarlier, at_once, onward, Candidate, events, last_in, is_access, share_location, ReadsFrom, IsBefore, StandsAfter, FromReads, IsAllowed, po_loc, fr, rank, GoesForward, Once}
 use Rattle.relational_model.specs.Model.{rf}
-use Rattle.relational_model.proofs.Lists.{in-case, in-none, in-first, in-later, in-filter, filter-in, in-right, Precedes, to-precedes, from-precedes, precedes-second, last-is-in, last-none, last-last}
-use Rattle.relational_model.proofs.Ranks.{rank-before}
-use Rattle.relational_model.proofs.KindFacts.{same-number, number-same, write-is-no-read}
+use Rattle.relational_model.proofs.Lists.{in-case, in-none, in-first, in-later, in-filter, filter-in, in-right, Precedes, to-precedes, from-precedes, precedes-second, last-is-in, last-none, last-last, precedes-first}
+use Rattle.relational_model.proofs.Ranks.{rank-before, order-of}
+use Rattle.relational_model.proofs.KindFacts.{same-number, number-same, write-is-no-read, writes}
 use Rattle.relational_model.proofs.Sources.{StandOnce, Counts, never-back, one-way, counts-in, in-counts, counting-earlier}
 use Rattle.relational_model.proofs.Decisions.{Goes, number}
-use Rattle.relational_model.proofs.Events.{Sound, pigeons}
-use Rattle.relational_model.proofs.Fences.{writes, source-writes, goes-acyclic, true-or}
+use Rattle.relational_model.proofs.Events.{Sound, same-rank}
+use Rattle.relational_model.proofs.Fences.{source-writes, goes-acyclic, true-or}
+use Rattle.relational_model.proofs.Found.{join}
+use Rattle.relational_model.proofs.Sizes.{once-filter}
 
 -- ---- rows
 
@@ -43,45 +45,16 @@ same-rows [] (y ∷ ys) o u f g h = absurd (in-none y (g y (in-first y ys y refl
 same-rows (x ∷ xs) [] o u f g h = absurd (in-none x (f x (in-first x xs x refl)))
 same-rows (x ∷ xs) (y ∷ ys) o u f g h =
     ap (λ z. z ∷ xs) head ∙ ap (λ zs. y ∷ zs) (same-rows xs ys o.1 u.1
-    (λ a i. into a i (in-case y ys a (f a (in-later x xs a i))))
-    (λ a i. back a i (in-case x xs a (g a (in-later y ys a i))))
-    (λ a b p. along a b p (h a b (inr p))))
+    (λ a i. elim (in-case y ys a (f a (in-later x xs a i))) [ inl e ↦ absurd (o.0 (subst (IsIn xs) (e ∙ sym head) i)) | inr j ↦ j ])
+    (λ a i. elim (in-case x xs a (g a (in-later y ys a i))) [ inl e ↦ absurd (u.0 (subst (IsIn ys) (e ∙ head) i)) | inr j ↦ j ])
+    (λ a b p. elim (h a b (inr p)) [ inl k ↦ absurd (o.0 (subst (IsIn xs) (k.0 ∙ sym head) (precedes-first xs a b p))) | inr k ↦ k ]))
   where
     first : (y ≡ x) ⊎ IsIn xs y → x ≡ y
     first (inl e) = sym e
-    first (inr i) = on (h x y (inl (refl, i)))
-      where
-        on : ((x ≡ y) × IsIn ys y) ⊎ Precedes x y ys → x ≡ y
-        on (inl k) = k.0
-        on (inr k) = absurd (u.0 (precedes-second ys x y k))
+    first (inr i) = elim (h x y (inl (refl, i))) [ inl k ↦ k.0 | inr k ↦ absurd (u.0 (precedes-second ys x y k)) ]
 
     head : x ≡ y
     head = first (in-case x xs y (g y (in-first y ys y refl)))
-
-    into : (a : Entry) → IsIn xs a → (a ≡ y) ⊎ IsIn ys a → IsIn ys a
-    into a i (inl e) = absurd (o.0 (subst (IsIn xs) (e ∙ sym head) i))
-    into a i (inr j) = j
-
-    back : (a : Entry) → IsIn ys a → (a ≡ x) ⊎ IsIn xs a → IsIn xs a
-    back a i (inl e) = absurd (u.0 (subst (IsIn ys) (e ∙ head) i))
-    back a i (inr j) = j
-
-    front : (a b : Entry) (zs : List Entry) → Precedes a b zs → IsIn zs a
-    front a b [] p = absurd p
-    front a b (z ∷ zs) (inl p) = in-first z zs a p.0
-    front a b (z ∷ zs) (inr p) = in-later z zs a (front a b zs p)
-
-    along : (a b : Entry) → Precedes a b xs → ((a ≡ y) × IsIn ys b) ⊎ Precedes a b ys → Precedes a b ys
-    along a b p (inl k) = absurd (o.0 (subst (IsIn xs) (k.0 ∙ sym head) (front a b xs p)))
-    along a b p (inr k) = k
-
-once-picked : (p : Entry → Bool) (xs : List Entry) → Once xs → Once (filter p xs)
-once-picked p [] o = tt
-once-picked p (x ∷ xs) o = go (p x) (once-picked p xs o.1)
-  where
-    go : (t : Bool) → Once (filter p xs) → Once (if t then x ∷ filter p xs else filter p xs)
-    go true rest = ((λ i. o.0 (in-filter p xs x i).0), rest)
-    go false rest = rest
 
 -- ---- what an order of the events is known for
 
@@ -95,29 +68,13 @@ pub record Placed (t : Litmus) (c : Candidate) (order : List Entry) : Type 0 whe
   pub forward : GoesForward (Goes c) order
   pub count : length order ≡ length (events t c)
 
-pub placed-row : (t : Litmus) (c : Candidate) → Sound t c → IsAllowed t c → (r : LinearExtension (Goes c) (events t c)) → Placed t c r.row
-placed-row t c s a r =
-    let k = pigeons (events t c) r.row s.once r.inside r.count in
-    record {
-      sound = s;
-      allowed = a;
-      inside = r.inside;
-      outside = r.outside;
-      single = k.once;
-      once = stand-once r.row k.once;
-      forward = r.forward;
-      count = r.count;
-    }
-
 pub goes-earlier : (t : Litmus) (c : Candidate) (order : List Entry) → Placed t c order → (x y : Entry) → IsIn order x → IsIn order y
     → Goes c x y → IsEarlier order x y
-goes-earlier t c order k x y i j g = go (one-way order x y i j)
-  where
-    go : (x ≡ y) ⊎ (IsEarlier order x y ⊎ IsEarlier order y x) → IsEarlier order x y
-    go (inl e) =
-        absurd (goes-acyclic t c k.sound k.allowed.global x (at_once x x (k.outside x i) (k.outside x i) (subst (Goes c x) (sym e) g)))
-    go (inr (inl e)) = e
-    go (inr (inr e)) = absurd (forward-never (Goes c) order x y k.forward (to-precedes order y x e) g)
+goes-earlier t c order k x y i j g = elim (one-way order x y i j) [
+  | inl e ↦ absurd (goes-acyclic t c k.sound k.allowed.global x (at_once x x (k.outside x i) (k.outside x i) (subst (Goes c x) (sym e) g)))
+  | inr (inl e) ↦ e
+  | inr (inr e) ↦ absurd (forward-never (Goes c) order x y k.forward (to-precedes order y x e) g)
+]
 
 pub keeps-order : (t : Litmus) (c : Candidate) (order : List Entry) → Placed t c order → KeepsProgramOrder order
 keeps-order t c order k i j x y p q b m =
@@ -137,7 +94,7 @@ location loc w h = same-number w.loc.0 loc (second (is_write w) (w.loc.0 == loc)
 pub coherence-is : (t : Litmus) (c : Candidate) (order : List Entry) → Placed t c order → (loc : ℕ)
     → c.coherence loc ≡ filter (writes_to loc) order
 coherence-is t c order k loc =
-    same-rows (c.coherence loc) (filter (writes_to loc) order) (k.sound.single loc) (once-picked (writes_to loc) order k.single)
+    same-rows (c.coherence loc) (filter (writes_to loc) order) (k.sound.single loc) (once-filter (writes_to loc) order k.single)
     (λ a i. let h = k.sound.coherent loc a i in filter-in (writes_to loc) order a (k.inside a h.0) h.1)
     (λ a i. let h = in-filter (writes_to loc) order a i in k.sound.candidate.writes loc a (k.outside a h.0) h.1)
     (λ a b p. along a b (from-precedes (c.coherence loc) a b p))
@@ -152,21 +109,8 @@ coherence-is t c order k loc =
 
 -- ---- sources
 
-small-part : (k : Kind) → part_of k ≤ 1
-small-part R = omega arith
-small-part W = omega arith
-small-part F = omega arith
-small-part LR = omega arith
-small-part LW = omega arith
-
 pub share : (x y : Entry) → is_access x ≡ true → is_access y ≡ true → x.loc.0 ≡ y.loc.0 → share_location x y ≡ true
-share x y a b e = go (is_access x) (is_access y) (x.loc.0 == y.loc.0) a b (number-same x.loc.0 y.loc.0 e)
-  where
-    go : (p q r : Bool) → p ≡ true → q ≡ true → r ≡ true → (p && q && r) ≡ true
-    go true true true a b d = refl
-    go true true false a b d = let z : ⊥ = cc in absurd z
-    go true false r a b d = let z : ⊥ = cc in absurd z
-    go false q r a b d = let z : ⊥ = cc in absurd z
+share x y a b e = join (is_access x) (is_access y) (x.loc.0 == y.loc.0) a b (number-same x.loc.0 y.loc.0 e)
 
 -- a write that overwrites what r read doesn't count for r
 uncounted : (t : Litmus) (c : Candidate) (order : List Entry) → Placed t c order → (r v : Entry) → IsIn order r → FromReads c r v
@@ -196,28 +140,17 @@ source-counts t c order k r w i f = (k.inside w h.0, (h.1, how (number w.core.0 
         (sym (location r.loc.0 w h.1))))
         (at_once w r h.0 (k.outside r i) (rf w r f)))
 
-    order-of : (m n : ℕ) → (m < n) ⊎ ((m ≡ n) ⊎ (n < m))
-    order-of m n = grind arith
-
-    halves : (p a q b : ℕ) → a ≤ 1 → b ≤ 1 → p + p + a ≡ q + q + b → (p ≡ q) × (a ≡ b)
-    halves p a q b x y e = (omega arith, omega arith)
-
-    small : (x : Entry) → part_of x.kind ≤ 1
-    small x = small-part x.kind
-
     one : w.core.0 ≡ r.core.0 → rank w ≡ rank r → ⊥
     one e q =
-        let s = halves w.place (part_of w.kind) r.place (part_of r.kind) (small w) (small r) q in
-        let same : w ≡ r = k.sound.same w r h.0 (k.outside r i) e s.0 s.1 in
+        let same : w ≡ r = same-rank t c k.sound w r h.0 (k.outside r i) e q in
         write-is-no-read w (writes r.loc.0 w h.1) (subst (λ x. is_read x ≡ true) (sym same) f.read)
 
-    on : w.core.0 ≡ r.core.0 → (rank w < rank r) ⊎ ((rank w ≡ rank r) ⊎ (rank r < rank w)) → is_before w r ≡ true
-    on e (inl l) = rank-before w r e l
-    on e (inr (inl q)) = absurd (one e q)
-    on e (inr (inr l)) = absurd (back (rank-before r w (sym e) l))
-
     how : (w.core.0 ≡ r.core.0) ⊎ (w.core.0 ≡ r.core.0 → ⊥) → IsEarlier order w r ⊎ (is_before w r ≡ true)
-    how (inl e) = inr (on e (order-of (rank w) (rank r)))
+    how (inl e) = inr (elim (order-of (rank w) (rank r)) [
+      | inl l ↦ rank-before w r e l
+      | inr (inl q) ↦ absurd (one e q)
+      | inr (inr l) ↦ absurd (back (rank-before r w (sym e) l))
+    ])
     how (inr n) = inl (goes-earlier t c order k w r (k.inside w h.0) i (inr (inl (f, n))))
 
 pub sources-are : (t : Litmus) (c : Candidate) (order : List Entry) → Placed t c order

@@ -60,10 +60,12 @@ coupled-by core place (Lock loc reg update) registers word x i = go (in-case fir
 coupled-of : (core place : ℕ) (p : List Instr) (registers values : List ℕ) (x : Entry) → IsIn (entries_of core place p registers values) x
     → Coupled (entries_of core place p registers values) x
 coupled-of core place [] registers values x i = absurd (in-none x i)
-coupled-of core place (s ∷ p) registers values x i =
-    go (in-append first rest x i)
-    (λ j. coupled-of core (place + 1) p (registers_by (action_of s) registers (slice_index values 0))
-    (values_after (action_of s) values) x j)
+coupled-of core place (s ∷ p) registers values x i = elim (in-append first rest x i) [
+  | inl a ↦ lift first (first ++ rest) x (λ y j. in-left first rest y j) (coupled-by core place (action_of s) registers (slice_index values 0) x a)
+  | inr b ↦
+      lift rest (first ++ rest) x (λ y j. in-right first rest y j)
+      (coupled-of core (place + 1) p (registers_by (action_of s) registers (slice_index values 0)) (values_after (action_of s) values) x b)
+]
   where
     first : List Entry
     first = entries_by core place (action_of s) registers (slice_index values 0)
@@ -71,30 +73,22 @@ coupled-of core place (s ∷ p) registers values x i =
     rest : List Entry
     rest = entries_of core (place + 1) p (registers_by (action_of s) registers (slice_index values 0)) (values_after (action_of s) values)
 
-    go : IsIn first x ⊎ IsIn rest x → (IsIn rest x → Coupled rest x) → Coupled (first ++ rest) x
-    go (inl a) later =
-        lift first (first ++ rest) x (λ y j. in-left first rest y j)
-        (coupled-by core place (action_of s) registers (slice_index values 0) x a)
-    go (inr b) later = lift rest (first ++ rest) x (λ y j. in-right first rest y j) (later b)
-
 coupled-from : (core : ℕ) (ps : List (List Instr)) (registers reads : List (List ℕ)) (x : Entry)
     → IsIn (events_from core ps registers reads) x
     → Coupled (events_from core ps registers reads) x
 coupled-from core [] registers reads x i = absurd (in-none x i)
-coupled-from core (p ∷ ps) registers reads x i =
-    go (in-append first rest x i) (λ j. coupled-from (core + 1) ps registers reads x j)
+coupled-from core (p ∷ ps) registers reads x i = elim (in-append first rest x i) [
+  | inl a ↦
+      lift first (first ++ rest) x (λ y j. in-left first rest y j)
+      (coupled-of core 0 p (slice_index_or registers core []) (slice_index_or reads core []) x a)
+  | inr b ↦ lift rest (first ++ rest) x (λ y j. in-right first rest y j) (coupled-from (core + 1) ps registers reads x b)
+]
   where
     first : List Entry
     first = entries_of core 0 p (slice_index_or registers core []) (slice_index_or reads core [])
 
     rest : List Entry
     rest = events_from (core + 1) ps registers reads
-
-    go : IsIn first x ⊎ IsIn rest x → (IsIn rest x → Coupled rest x) → Coupled (first ++ rest) x
-    go (inl a) later =
-        lift first (first ++ rest) x (λ y j. in-left first rest y j)
-        (coupled-of core 0 p (slice_index_or registers core []) (slice_index_or reads core []) x a)
-    go (inr b) later = lift rest (first ++ rest) x (λ y j. in-right first rest y j) (later b)
 
 -- each part of a locked instruction has the other part among the events
 pub coupled : (t : Litmus) (c : Candidate) (x : Entry) → IsIn (events t c) x → Coupled (events t c) x

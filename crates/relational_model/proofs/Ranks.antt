@@ -1,11 +1,14 @@
 -- What program order keeps, as an order of numbers.
-use Rattle.relational_model.proofs.Vocabulary.{◌≡◌, ◌<◌, ℕ, true, ◌==◌, ◌&&◌, nat_lt, arith, sym, ◌∙◌, nat_tests, is_before, Entry, rank, by-rank}
+use Rattle.relational_model.proofs.Vocabulary.{◌≡◌, ◌<◌, ℕ, ◌⊎◌, true, ◌==◌, ◌&&◌, nat_lt, arith, sym, ◌∙◌, nat_tests, is_before, Entry, rank, by-rank}
 
 both : (a b c d : ℕ) → ((a == b) && nat_lt c d) ≡ true → (a ≡ b) × (c < d)
 both a b c d h = (grind (arith, nat_tests), grind (arith, nat_tests))
 
 join : (a b c d : ℕ) → a ≡ b → c < d → ((a == b) && nat_lt c d) ≡ true
 join a b c d h k = grind (arith, nat_tests)
+
+pub order-of : (m n : ℕ) → (m < n) ⊎ ((m ≡ n) ⊎ (n < m))
+order-of m n = grind arith
 
 -- of one core, and of a smaller rank
 pub before-rank : (x y : Entry) → is_before x y ≡ true → (x.core.0 ≡ y.core.0) × (rank x < rank y)

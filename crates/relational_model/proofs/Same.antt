@@ -1,14 +1,10 @@
 -- Entries that the programs make at one core and place, and of one kind, are one entry.
-use Rattle.relational_model.proofs.Vocabulary.{◌≡◌, ◌≤◌, ℕ, ◌+◌, List, [], ◌∷◌, slice_index, slice_index_or, arith, refl, sym, ap, ◌∙◌, ◌⊎◌, inl, inr, subst, action_of, entry, fence, value_in, value_of, updated, entries_by, registers_by, values_after, entries_of, read_values, made_by, made_from, made, Litmus, Instr, Action, Store, Load, Move, Fence, Lock, Entry, R, W, LR, LW, IsIn, part_of}
+use Rattle.relational_model.proofs.Vocabulary.{◌≡◌, ◌≤◌, ℕ, ◌+◌, List, [], ◌∷◌, slice_index, arith, refl, sym, ap, ◌∙◌, ◌⊎◌, inl, inr, subst, action_of, entry, fence, value_in, value_of, updated, entries_by, registers_by, values_after, entries_of, Instr, Action, Store, Load, Move, Fence, Lock, Entry, R, W, LR, LW, IsIn, part_of}
 use Rattle.relational_model.proofs.Lists.{in-case, in-none, in-append}
 
 -- the one entry of a list
 pub only : (e x : Entry) → IsIn (e ∷ []) x → x ≡ e
-only e x h = go (in-case e [] x h)
-  where
-    go : (x ≡ e) ⊎ IsIn [] x → x ≡ e
-    go (inl q) = q
-    go (inr k) = absurd (in-none x k)
+only e x h = elim (in-case e [] x h) [ inl q ↦ q | inr k ↦ absurd (in-none x k) ]
 
 -- where what an action makes stands
 abbrev pub Here : ℕ → ℕ → Entry → Type 0
@@ -112,48 +108,3 @@ same-of core place (s ∷ p) registers values x y i j e k =
     go (inl a) (inr b) later = absurd (apart x y a b e)
     go (inr a) (inl b) later = absurd (apart y x b a (sym e))
     go (inr a) (inr b) later = later a b
-
--- what the programs make from a core on is of that core or of a later one
-from-core : (core : ℕ) (ps : List (List Instr)) (registers : List (List ℕ)) (order : List Entry) (x : Entry)
-    → IsIn (made_from core ps registers order) x
-    → core ≤ x.core.0
-from-core core [] registers order x i = absurd (in-none x i)
-from-core core (p ∷ ps) registers order x i =
-    go (in-append (made_by core p (slice_index_or registers core []) order) (made_from (core + 1) ps registers order) x i)
-    (λ b. from-core (core + 1) ps registers order x b)
-  where
-    go : IsIn (made_by core p (slice_index_or registers core []) order) x ⊎ IsIn (made_from (core + 1) ps registers order) x
-        → (IsIn (made_from (core + 1) ps registers order) x → core + 1 ≤ x.core.0) → core ≤ x.core.0
-    go (inl a) later =
-        let q : x.core.0 ≡ core = (from-place core 0 p (slice_index_or registers core []) (read_values core 0 p order) x a).0 in
-        omega arith
-    go (inr b) later = let l : core + 1 ≤ x.core.0 = later b in omega arith
-
-same-from : (core : ℕ) (ps : List (List Instr)) (registers : List (List ℕ)) (order : List Entry) (x y : Entry)
-    → IsIn (made_from core ps registers order) x
-    → IsIn (made_from core ps registers order) y → x.core.0 ≡ y.core.0 → x.place ≡ y.place → part_of x.kind ≡ part_of y.kind → x ≡ y
-same-from core [] registers order x y i j c e k = absurd (in-none x i)
-same-from core (p ∷ ps) registers order x y i j c e k =
-    go (in-append first rest x i) (in-append first rest y j) (λ a b. same-from (core + 1) ps registers order x y a b c e k)
-  where
-    first : List Entry
-    first = made_by core p (slice_index_or registers core []) order
-
-    rest : List Entry
-    rest = made_from (core + 1) ps registers order
-
-    apart : (u v : Entry) → IsIn first u → IsIn rest v → u.core.0 ≡ v.core.0 → ⊥
-    apart u v a b q =
-        let h : u.core.0 ≡ core = (from-place core 0 p (slice_index_or registers core []) (read_values core 0 p order) u a).0 in
-        let l : core + 1 ≤ v.core.0 = from-core (core + 1) ps registers order v b in
-        omega (arith, q)
-
-    go : IsIn first x ⊎ IsIn rest x → IsIn first y ⊎ IsIn rest y → (IsIn rest x → IsIn rest y → x ≡ y) → x ≡ y
-    go (inl a) (inl b) later = same-of core 0 p (slice_index_or registers core []) (read_values core 0 p order) x y a b e k
-    go (inl a) (inr b) later = absurd (apart x y a b c)
-    go (inr a) (inl b) later = absurd (apart y x b a (sym c))
-    go (inr a) (inr b) later = later a b
-
-pub same-made : (t : Litmus) (order : List Entry) (x y : Entry) → IsIn (made t order) x → IsIn (made t order) y → x.core.0 ≡ y.core.0
-    → x.place ≡ y.place → x.kind ≡ y.kind → x ≡ y
-same-made t order x y i j c e k = same-from 0 t.programs t.registers order x y i j c e (ap part_of k)

@@ -1,5 +1,5 @@
 -- Sequential consistency: the candidate of an order that keeps all of program order is sequential, and what is sequential x86-TSO allows.
-use Rattle.relational_model.proofs.Vocabulary.{◌≡◌, true, List, ◌⊎◌, inl, inr, Litmus, IsTsoExecution, is_before, KeepsAllOrder, Entry, IsIn, IsEarlier, LeadsTo, at_once, onward, IsAcyclic, Candidate, events, IsCandidateOf, IsAllowed, IsBeforeOnLocation, HappensBefore, IsBeforeSequentially, po, rf, IsSequential}
+use Rattle.relational_model.proofs.Vocabulary.{◌≡◌, true, List, inl, inr, Litmus, IsTsoExecution, is_before, KeepsAllOrder, Entry, IsIn, IsEarlier, LeadsTo, at_once, onward, IsAcyclic, Candidate, events, IsCandidateOf, IsAllowed, IsBeforeOnLocation, HappensBefore, IsBeforeSequentially, po, rf, IsSequential}
 use Rattle.relational_model.specs.Model as model
 use Rattle.relational_model.specs.SequentialModel.{co, fr}
 use Rattle.relational_model.proofs.Ranks.{before-trans}
@@ -15,11 +15,7 @@ module _ (t : Litmus) (order : List Entry) (c : Candidate) (known : Known t orde
 
   step-forward : (x y : Entry) → IsIn order x → IsIn order y → IsBeforeSequentially c x y → IsEarlier order x y
   step-forward x y i j (po _ _ b) = in-order x y i j b
-  step-forward x y i j (rf _ _ f) = go (source-counts t order c known y x j f.read f.source).1.1
-    where
-      go : IsEarlier order x y ⊎ (is_before x y ≡ true) → IsEarlier order x y
-      go (inl e) = e
-      go (inr b) = in-order x y i j b
+  step-forward x y i j (rf _ _ f) = elim (source-counts t order c known y x j f.read f.source).1.1 [ inl e ↦ e | inr b ↦ in-order x y i j b ]
   step-forward x y i j (co _ _ e) = coherence-earlier t order c known x.loc.0 x y e
   step-forward x y i j (fr _ _ f) = overwritten-later t order c known x y i f
 

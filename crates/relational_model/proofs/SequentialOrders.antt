@@ -1,8 +1,8 @@
 -- Each sequential candidate has an order that keeps all of program order: `Converse`, with program order among the edges that are kept.
-use Rattle.relational_model.proofs.Vocabulary.{◌≡◌, ◌<◌, ℕ, true, List, Some, slice_get, arith, sym, ◌∙◌, ◌⊎◌, inl, inr, subst, Litmus, is_before, KeepsAllOrder, Entry, IsIn, LeadsTo, at_once, onward, Candidate, events, IsOfASequentialExecution, ArePair, IsBeforeSequentially, po, rf, IsSequential, GoesForward}
+use Rattle.relational_model.proofs.Vocabulary.{◌≡◌, true, List, sym, ◌⊎◌, inl, inr, subst, Litmus, is_before, KeepsAllOrder, Entry, IsIn, LeadsTo, at_once, onward, Candidate, events, IsOfASequentialExecution, ArePair, IsBeforeSequentially, po, rf, IsSequential, GoesForward}
 use Rattle.relational_model.specs.SequentialModel.{co, fr}
-use Rattle.relational_model.proofs.Lists.{to-precedes}
-use Rattle.relational_model.proofs.Ranks.{before-irreflexive}
+use Rattle.relational_model.proofs.Lists.{to-precedes, at-one}
+use Rattle.relational_model.proofs.Ranks.{before-irreflexive, order-of}
 use Rattle.relational_model.proofs.Decisions.{either, is-true, Goes, goes}
 use Rattle.relational_model.proofs.Sorting.{Decided}
 use Rattle.relational_model.proofs.Events.{Sound, sound}
@@ -37,20 +37,13 @@ step-after t c s a r w y i j k p same n (inr g) = inr (after-store t c s (tso-al
 
 -- the order keeps program order
 pub keeps : (c : Candidate) (order : List Entry) → GoesForward (Step c) order → KeepsAllOrder order
-keeps c order f i j x y p q b = on (order-of i j)
-  where
-    order-of : (m n : ℕ) → (m < n) ⊎ ((m ≡ n) ⊎ (n < m))
-    order-of m n = grind arith
-
-    one : i ≡ j → x ≡ y
-    one e = let r : slice_get order j ≡ Some x = subst (λ k. slice_get order k ≡ Some x) e p in let z : Some x ≡ Some y = sym r ∙ q in cc
-
-    on : (i < j) ⊎ ((i ≡ j) ⊎ (j < i)) → i < j
-    on (inl l) = l
-    on (inr (inl e)) = absurd (before-irreflexive x (subst (λ z. is_before x z ≡ true) (sym (one e)) b))
-    on (inr (inr l)) =
-        absurd (forward-never (Step c) order x y f
-        (to-precedes order y x (record { first = j; second = i; is_first = q; is_second = p; before = l })) (inl b))
+keeps c order f i j x y p q b = elim (order-of i j) [
+  | inl l ↦ l
+  | inr (inl e) ↦ absurd (before-irreflexive x (subst (λ z. is_before x z ≡ true) (sym (at-one order i j x y p q e)) b))
+  | inr (inr l) ↦
+      absurd (forward-never (Step c) order x y f
+      (to-precedes order y x (record { first = j; second = i; is_first = q; is_second = p; before = l })) (inl b))
+]
 
 pub step-kept : (t : Litmus) (c : Candidate) → Sound t c → IsSequential t c → CanBeKept t c (Step c)
 step-kept t c s a = record {

@@ -1,5 +1,5 @@
 -- Two lists with the same members, each once in the first, and of one length: the members that a test picks are as many.
-use Rattle.relational_model.proofs.Vocabulary.{◌≡◌, ◌≤◌, ◌+◌, suc, Bool, true, false, not, if◌then◌else◌, List, [], ◌∷◌, ◌++◌, arith, refl, ap, ◌∙◌, ◌⊎◌, inl, inr, subst, length, filter, Entry, IsIn, Once}
+use Rattle.relational_model.proofs.Vocabulary.{◌≡◌, ◌≤◌, ◌+◌, suc, Bool, true, false, not, if◌then◌else◌, List, [], ◌∷◌, ◌++◌, arith, refl, ap, ◌∙◌, inl, inr, subst, length, filter, Entry, IsIn, Once}
 use Rattle.relational_model.proofs.Lists.{Cut, cut, in-case, in-first, in-later, in-append, in-left, in-right, in-filter, filter-in}
 use Rattle.relational_model.proofs.Sources.{StandOnce}
 
@@ -32,20 +32,15 @@ no-more (x ∷ xs) ys o f =
     omega arith
   where
     inside : (k : Cut ys x) (y : Entry) → IsIn xs y → IsIn (k.front ++ k.back) y
-    inside k y i = go (in-append k.front (x ∷ k.back) y (subst (λ zs. IsIn zs y) k.is (f y (in-later x xs y i))))
-      where
-        on : (y ≡ x) ⊎ IsIn k.back y → IsIn (k.front ++ k.back) y
-        on (inl e) = absurd (o.0 (subst (IsIn xs) e i))
-        on (inr b) = in-right k.front k.back y b
-
-        go : IsIn k.front y ⊎ IsIn (x ∷ k.back) y → IsIn (k.front ++ k.back) y
-        go (inl a) = in-left k.front k.back y a
-        go (inr b) = on (in-case x k.back y b)
+    inside k y i = elim (in-append k.front (x ∷ k.back) y (subst (λ zs. IsIn zs y) k.is (f y (in-later x xs y i)))) [
+      | inl a ↦ in-left k.front k.back y a
+      | inr b ↦ elim (in-case x k.back y b) [ inl e ↦ absurd (o.0 (subst (IsIn xs) e i)) | inr b ↦ in-right k.front k.back y b ]
+    ]
 
 -- a list is what a test picks and what it leaves
-parts : (p : Entry → Bool) (xs : List Entry) → length (filter p xs) + length (filter (λ e. not (p e)) xs) ≡ length xs
-parts p [] = refl
-parts p (x ∷ xs) = go (p x) (parts p xs)
+pub picked-and-left : (p : Entry → Bool) (xs : List Entry) → length (filter p xs) + length (filter (λ e. not (p e)) xs) ≡ length xs
+picked-and-left p [] = refl
+picked-and-left p (x ∷ xs) = go (p x) (picked-and-left p xs)
   where
     go : (b : Bool) → length (filter p xs) + length (filter (λ e. not (p e)) xs) ≡ length xs
         → length (if b then x ∷ filter p xs else filter p xs) + length
@@ -63,6 +58,6 @@ pub as-many : (p : Entry → Bool) (xs ys : List Entry) → Once xs → ((x : En
 as-many p xs ys o f n =
     let a : length (filter p xs) ≤ length (filter p ys) = filtered p xs ys o f in
     let b : length (filter (λ e. not (p e)) xs) ≤ length (filter (λ e. not (p e)) ys) = filtered (λ e. not (p e)) xs ys o f in
-    let c : length (filter p xs) + length (filter (λ e. not (p e)) xs) ≡ length xs = parts p xs in
-    let d : length (filter p ys) + length (filter (λ e. not (p e)) ys) ≡ length ys = parts p ys in
+    let c : length (filter p xs) + length (filter (λ e. not (p e)) xs) ≡ length xs = picked-and-left p xs in
+    let d : length (filter p ys) + length (filter (λ e. not (p e)) ys) ≡ length ys = picked-and-left p ys in
     omega arith

@@ -17,16 +17,8 @@ past-decided x Before d a b = go (d a b) (d a x) (d x b)
         → Past x Before a b ⊎ (Past x Before a b → ⊥)
     go (inl p) q r = inl (inl p)
     go (inr p) (inl q) (inl r) = inl (inr (q, r))
-    go (inr p) (inl q) (inr r) = inr (λ h. no h)
-      where
-        no : Past x Before a b → ⊥
-        no (inl k) = p k
-        no (inr k) = r k.1
-    go (inr p) (inr q) r = inr (λ h. no h)
-      where
-        no : Past x Before a b → ⊥
-        no (inl k) = p k
-        no (inr k) = q k.0
+    go (inr p) (inl q) (inr r) = inr (λ h. elim h [ inl k ↦ p k | inr k ↦ r k.1 ])
+    go (inr p) (inr q) r = inr (λ h. elim h [ inl k ↦ p k | inr k ↦ q k.0 ])
 
 -- a way past x is a way
 unpast : (x : Entry) (xs : List Entry) (Before : Entry → Entry → Type 0) (a b : Entry) → LeadsTo xs (Past x Before) a b
@@ -48,11 +40,7 @@ any-before Before d x (y ∷ ys) = go (d y x) (any-before Before d x ys)
         → ((z : Entry) × (IsIn (y ∷ ys) z × Before z x)) ⊎ NonePrecedes Before x (y ∷ ys)
     go (inl p) rest = inl (y, (in-first y ys y refl, p))
     go (inr p) (inl (z, h)) = inl (z, (in-later y ys z h.0, h.1))
-    go (inr p) (inr none) = inr (λ z i b. on z (in-case y ys z i) b)
-      where
-        on : (z : Entry) → (z ≡ y) ⊎ IsIn ys z → Before z x → ⊥
-        on z (inl e) b = p (subst (λ w. Before w x) e b)
-        on z (inr i) b = none z i b
+    go (inr p) (inr none) = inr (λ z i b. elim (in-case y ys z i) [ inl e ↦ p (subst (λ w. Before w x) e b) | inr i ↦ none z i b ])
 
 -- x put in after the last of these that is before it
 weaker : (x : Entry) (Before : Entry → Entry → Type 0) (ys : List Entry) → GoesForward (Past x Before) ys → GoesForward Before ys
@@ -96,21 +84,15 @@ placed Before d x once (y ∷ ys) twice h =
         after v (inl e) k = clash (in-case y ys z i) (subst (λ w. Before w y) e k)
         after v (inr j) k = h.0 v j (inl k)
 
-        later : (v : Entry) → (v ≡ y) ⊎ IsIn ys v → IsIn (y ∷ rest.row) v
-        later v (inl e) = in-first y rest.row v e
-        later v (inr j) = in-later y rest.row v (rest.inside v (in-later x ys v j))
-
         into : (v : Entry) → (v ≡ x) ⊎ IsIn (y ∷ ys) v → IsIn (y ∷ rest.row) v
         into v (inl e) = in-later y rest.row v (rest.inside v (in-first x ys v e))
-        into v (inr j) = later v (in-case y ys v j)
-
-        after-out : (v : Entry) → (v ≡ x) ⊎ IsIn ys v → IsIn (x ∷ (y ∷ ys)) v
-        after-out v (inl e) = in-first x (y ∷ ys) v e
-        after-out v (inr j) = in-later x (y ∷ ys) v (in-later y ys v j)
+        into v (inr j) =
+            elim (in-case y ys v j) [ inl e ↦ in-first y rest.row v e | inr j ↦ in-later y rest.row v (rest.inside v (in-later x ys v j)) ]
 
         out : (v : Entry) → (v ≡ y) ⊎ IsIn rest.row v → IsIn (x ∷ (y ∷ ys)) v
         out v (inl e) = in-later x (y ∷ ys) v (in-first y ys v e)
-        out v (inr j) = after-out v (in-case x ys v (rest.outside v j))
+        out v (inr j) =
+            elim (in-case x ys v (rest.outside v j)) [ inl e ↦ in-first x (y ∷ ys) v e | inr j ↦ in-later x (y ∷ ys) v (in-later y ys v j) ]
 
 -- ---- a row, or a way round
 
@@ -128,11 +110,7 @@ ordered-or-round (x ∷ xs) Before d = go (ordered-or-round xs (Past x Before) (
     here = in-first x xs x refl
 
     over : (ys zs : List Entry) → ((y : Entry) → IsIn ys y → IsIn zs y) → (y : Entry) → IsIn (x ∷ ys) y → IsIn (x ∷ zs) y
-    over ys zs f y i = pick (in-case x ys y i)
-      where
-        pick : (y ≡ x) ⊎ IsIn ys y → IsIn (x ∷ zs) y
-        pick (inl e) = in-first x zs y e
-        pick (inr j) = in-later x zs y (f y j)
+    over ys zs f y i = elim (in-case x ys y i) [ inl e ↦ in-first x zs y e | inr j ↦ in-later x zs y (f y j) ]
 
     more : (r : LinearExtension (Past x Before) xs) → LinearExtension Before (x ∷ r.row) → LinearExtension Before (x ∷ xs)
     more r q = record {
@@ -143,10 +121,6 @@ ordered-or-round (x ∷ xs) Before d = go (ordered-or-round xs (Past x Before) (
       count = q.count ∙ ap suc r.count;
     }
 
-    selfless : (Before x x → ⊥) → ((y : Entry) → IsIn xs y → Past x Before y y → ⊥) → (y : Entry) → (y ≡ x) ⊎ IsIn xs y → Before y y → ⊥
-    selfless never rest y (inl e) b = never (subst (λ z. Before z z) e b)
-    selfless never rest y (inr i) b = rest y i (inl b)
-
     go : GoesRound (Past x Before) xs ⊎ Ordered (Past x Before) xs → Before x x ⊎ (Before x x → ⊥)
         → GoesRound Before (x ∷ xs) ⊎ Ordered Before (x ∷ xs)
     go (inl g) b = inl (record { event = g.event; round = unpast x xs Before g.event g.event g.round })
@@ -155,12 +129,8 @@ ordered-or-round (x ∷ xs) Before d = go (ordered-or-round xs (Past x Before) (
       in_a_row =
           more o.in_a_row
           (placed Before d x never o.in_a_row.row (λ y i b k. o.never_itself y (o.in_a_row.outside y i) (inr (k, b))) o.in_a_row.forward);
-      never_itself = λ y i b. selfless never o.never_itself y (in-case x xs y i) b;
+      never_itself = λ y i b. elim (in-case x xs y i) [ inl e ↦ never (subst (λ z. Before z z) e b) | inr i ↦ o.never_itself y i (inl b) ];
     })
 
 pub in-a-row : (xs : List Entry) (Before : Entry → Entry → Type 0) → Decided Before → IsAcyclic xs Before → LinearExtension Before xs
-in-a-row xs Before d a = go (ordered-or-round xs Before d)
-  where
-    go : GoesRound Before xs ⊎ Ordered Before xs → LinearExtension Before xs
-    go (inl g) = absurd (a g.event g.round)
-    go (inr o) = o.in_a_row
+in-a-row xs Before d a = elim (ordered-or-round xs Before d) [ inl g ↦ absurd (a g.event g.round) | inr o ↦ o.in_a_row ]

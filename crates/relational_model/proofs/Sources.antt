@@ -1,8 +1,7 @@
 -- What is known of an order that is a TSO execution, and of its candidate: where the source of a read stands.
-use Rattle.relational_model.proofs.Vocabulary.{◌≡◌, ◌≢◌, ◌<◌, ℕ, Bool, true, false, ◌==◌, List, ◌∷◌, ◌++◌, Some, None, slice_get, arith, refl, sym, ◌∙◌, ◌⊎◌, inl, inr, subst, filter, Litmus, is_before, is_read, writes_to, made, counting, IsTsoExecution, Entry, IsIn, IsEarlier, Candidate, events, last_in, IsCandidateOf}
-use Rattle.relational_model.proofs.Lists.{Cut, cut, Precedes, to-precedes, from-precedes, precedes-filter, precedes-left, precedes-right, precedes-across, precedes-parts, in-first, in-later, in-left, in-right, in-append, in-case, in-filter, filter-in, last-is-in, last-none, last-last, precedes-second}
-use Rattle.relational_model.proofs.Ranks.{before-irreflexive}
-use Rattle.relational_model.proofs.KindFacts.{same-number, number-same}
+use Rattle.relational_model.proofs.Vocabulary.{◌≡◌, ◌<◌, ℕ, true, List, ◌∷◌, ◌++◌, Some, None, slice_get, arith, refl, sym, ◌∙◌, ◌⊎◌, inl, inr, subst, filter, Litmus, is_before, is_read, writes_to, made, counting, IsTsoExecution, Entry, IsIn, IsEarlier, Candidate, events, last_in, IsCandidateOf}
+use Rattle.relational_model.proofs.Lists.{Cut, cut, Precedes, to-precedes, from-precedes, precedes-filter, precedes-left, precedes-right, precedes-across, precedes-parts, in-first, in-later, in-left, in-right, in-append, in-case, in-filter, filter-in, last-is-in, last-none, last-last, precedes-second, at-one}
+use Rattle.relational_model.proofs.Ranks.{before-irreflexive, order-of}
 
 -- each entry stands in the list at one place
 abbrev pub StandOnce : List Entry → Type 0
@@ -36,40 +35,26 @@ never-back order a b once p q = never-itself order a once (earlier-trans order a
 
 -- of two entries of the order one is before the other, or they are one
 pub one-way : (order : List Entry) (a b : Entry) → IsIn order a → IsIn order b → (a ≡ b) ⊎ (IsEarlier order a b ⊎ IsEarlier order b a)
-one-way order a b (i, p) (j, q) = go (i == j) refl
-  where
-    at-one : i ≡ j → a ≡ b
-    at-one e = let r : slice_get order j ≡ Some a = subst (λ k. slice_get order k ≡ Some a) e p in let z : Some a ≡ Some b = sym r ∙ q in cc
-
-    on : (i ≢ j) → (i < j) ⊎ (j < i)
-    on d = grind arith
-
-    way : (i < j) ⊎ (j < i) → IsEarlier order a b ⊎ IsEarlier order b a
-    way (inl l) = inl (record { first = i; second = j; is_first = p; is_second = q; before = l })
-    way (inr l) = inr (record { first = j; second = i; is_first = q; is_second = p; before = l })
-
-    go : (s : Bool) → (i == j) ≡ s → (a ≡ b) ⊎ (IsEarlier order a b ⊎ IsEarlier order b a)
-    go true e = inl (at-one (same-number i j e))
-    go false e = inr (way (on (λ same. let z : ⊥ = cc (e, number-same i j same) in z)))
+one-way order a b (i, p) (j, q) = elim (order-of i j) [
+  | inl l ↦ inr (inl (record { first = i; second = j; is_first = p; is_second = q; before = l }))
+  | inr (inl e) ↦ inl (at-one order i j a b p q e)
+  | inr (inr l) ↦ inr (inr (record { first = j; second = i; is_first = q; is_second = p; before = l }))
+]
 
 -- ---- before a read, and after it
 
 -- what is before r in the order stands in front of the cut
 pub in-front : (order front back : List Entry) (r v : Entry) → StandOnce order → order ≡ front ++ (r ∷ back) → IsEarlier order v r
     → IsIn front v
-in-front order front back r v once is e = go (precedes-parts front (r ∷ back) v r (subst (Precedes v r) is (to-precedes order v r e)))
+in-front order front back r v once is e = elim (precedes-parts front (r ∷ back) v r (subst (Precedes v r) is (to-precedes order v r e))) [
+  | inl p ↦ absurd (twice (precedes-across front (r ∷ back) r r (precedes-second front v r p) (in-first r back r refl)))
+  | inr (inl h) ↦ h.0
+  | inr (inr (inl h)) ↦ absurd (twice (precedes-right front (r ∷ back) r r (inl (refl, h.1))))
+  | inr (inr (inr h)) ↦ absurd (twice (precedes-right front (r ∷ back) r r (inl (refl, precedes-second back v r h))))
+]
   where
     twice : Precedes r r (front ++ (r ∷ back)) → ⊥
     twice p = never-itself order r once (from-precedes order r r (subst (Precedes r r) (sym is) p))
-
-    tail : Precedes v r (r ∷ back) → IsIn front v
-    tail (inl h) = absurd (twice (precedes-right front (r ∷ back) r r (inl (refl, h.1))))
-    tail (inr h) = absurd (twice (precedes-right front (r ∷ back) r r (inl (refl, precedes-second back v r h))))
-
-    go : Precedes v r front ⊎ ((IsIn front v × IsIn (r ∷ back) r) ⊎ Precedes v r (r ∷ back)) → IsIn front v
-    go (inl p) = absurd (twice (precedes-across front (r ∷ back) r r (precedes-second front v r p) (in-first r back r refl)))
-    go (inr (inl h)) = h.0
-    go (inr (inr p)) = tail p
 
 pub front-earlier : (order front back : List Entry) (r v : Entry) → order ≡ front ++ (r ∷ back) → IsIn front v → IsEarlier order v r
 front-earlier order front back r v is h =
@@ -86,11 +71,10 @@ counts-in order front back r v once is (i, (w, how)) =
   where
     among : IsIn front v ⊎ IsIn (r ∷ back) v → is_before v r ≡ true → IsIn (front ++ filter (λ e. is_before e r) back) v
     among (inl f) b = in-left front (filter (λ e. is_before e r) back) v f
-    among (inr k) b = last (in-case r back v k) b
-      where
-        last : (v ≡ r) ⊎ IsIn back v → is_before v r ≡ true → IsIn (front ++ filter (λ e. is_before e r) back) v
-        last (inl e) b = absurd (before-irreflexive r (subst (λ x. is_before x r ≡ true) e b))
-        last (inr k) b = in-right front (filter (λ e. is_before e r) back) v (filter-in (λ e. is_before e r) back v k b)
+    among (inr k) b = elim (in-case r back v k) [
+      | inl e ↦ absurd (before-irreflexive r (subst (λ x. is_before x r ≡ true) e b))
+      | inr k ↦ in-right front (filter (λ e. is_before e r) back) v (filter-in (λ e. is_before e r) back v k b)
+    ]
 
     go : IsEarlier order v r ⊎ (is_before v r ≡ true) → IsIn (front ++ filter (λ e. is_before e r) back) v
     go (inl e) = in-left front (filter (λ e. is_before e r) back) v (in-front order front back r v once is e)

@@ -15,11 +15,7 @@ exists P d (x ∷ xs) = go (d x) (exists P d xs)
     go : Decision (P x) → Decision ((y : Entry) × (IsIn xs y × P y)) → Decision ((y : Entry) × (IsIn (x ∷ xs) y × P y))
     go (inl p) q = inl (x, (in-first x xs x refl, p))
     go (inr p) (inl (y, h)) = inl (y, (in-later x xs y h.0, h.1))
-    go (inr p) (inr q) = inr (λ h. no h.0 (in-case x xs h.0 h.1.0) h.1.1)
-      where
-        no : (y : Entry) → (y ≡ x) ⊎ IsIn xs y → P y → ⊥
-        no y (inl e) b = p (subst P e b)
-        no y (inr i) b = q (y, (i, b))
+    go (inr p) (inr q) = inr (λ h. elim (in-case x xs h.0 h.1.0) [ inl e ↦ p (subst P e h.1.1) | inr i ↦ q (h.0, (i, h.1.1)) ])
 
 pub pair : (r w : Entry) → Decision (ArePair r w)
 pair r w = carried ((r.kind ≡ LR) × ((w.kind ≡ LW) × ((r.core.0 ≡ w.core.0) × (r.place ≡ w.place)))) (ArePair r w)
@@ -110,13 +106,9 @@ in-put es (x ∷ xs) y i = go (in-append (load-of es x) (x ∷ put es xs) y i) (
     later (inl j) = inl (in-later x xs y j)
     later (inr (w, h)) = inr (w, (in-later x xs w h.0, h.1))
 
-    on : (y ≡ x) ⊎ IsIn (put es xs) y → (IsIn (put es xs) y → From es xs y) → From es (x ∷ xs) y
-    on (inl e) rest = inl (in-first x xs y e)
-    on (inr j) rest = later (rest j)
-
     go : IsIn (load-of es x) y ⊎ IsIn (x ∷ put es xs) y → (IsIn (put es xs) y → From es xs y) → From es (x ∷ xs) y
     go (inl j) rest = let h = in-load es x y j in inr (x, (in-first x xs x refl, (h.0, h.1)))
-    go (inr j) rest = on (in-case x (put es xs) y j) rest
+    go (inr j) rest = elim (in-case x (put es xs) y j) [ inl e ↦ inl (in-first x xs y e) | inr j ↦ later (rest j) ]
 
 pub put-own : (es xs : List Entry) (y : Entry) → IsIn xs y → IsIn (put es xs) y
 put-own es [] y i = absurd (in-none y i)
@@ -128,8 +120,7 @@ put-own es (x ∷ xs) y i = in-right (load-of es x) (x ∷ put es xs) y (go (in-
 
 pub put-load : (es xs : List Entry) (w r : Entry) → IsIn xs w → IsIn es r → ArePair r w → IsIn (put es xs) r
 put-load es [] w r i j p = absurd (in-none w i)
-put-load es (x ∷ xs) w r i j p = go (in-case x xs w i) (λ k. put-load es xs w r k j p)
-  where
-    go : (w ≡ x) ⊎ IsIn xs w → (IsIn xs w → IsIn (put es xs) r) → IsIn (load-of es x ++ (x ∷ put es xs)) r
-    go (inl e) rest = in-left (load-of es x) (x ∷ put es xs) r (load-in es x r j (subst (ArePair r) e p))
-    go (inr k) rest = in-right (load-of es x) (x ∷ put es xs) r (in-later x (put es xs) r (rest k))
+put-load es (x ∷ xs) w r i j p = elim (in-case x xs w i) [
+  | inl e ↦ in-left (load-of es x) (x ∷ put es xs) r (load-in es x r j (subst (ArePair r) e p))
+  | inr k ↦ in-right (load-of es x) (x ∷ put es xs) r (in-later x (put es xs) r (put-load es xs w r k j p))
+]

@@ -1,9 +1,9 @@
 -- Of a TSO execution, the accesses of one location are acyclic: each step goes up from the place of a write, or of the write
 -- that a read reads from; and of reads of one write, in program order.
-use Rattle.relational_model.proofs.Vocabulary.{◌≡◌, ◌<◌, ◌+◌, ◌==◌, ◌&&◌, ℕ, Bool, true, false, List, Option, Some, None, slice_get, arith, refl, sym, ◌∙◌, ◌⊎◌, inl, inr, subst, Litmus, is_before, is_read, is_write, writes_to, Entry, IsIn, IsEarlier, LeadsTo, at_once, onward, IsAcyclic, Candidate, events, is_access, share_location, StandsAfter, IsBeforeOnLocation, po_loc, co, fr, rank}
+use Rattle.relational_model.proofs.Vocabulary.{◌≡◌, ◌<◌, ◌+◌, ◌==◌, ◌&&◌, ℕ, true, List, Option, Some, None, slice_get, arith, refl, sym, ◌∙◌, ◌⊎◌, inl, inr, subst, Litmus, is_before, is_read, is_write, writes_to, Entry, IsIn, IsEarlier, LeadsTo, at_once, onward, IsAcyclic, Candidate, events, is_access, share_location, StandsAfter, IsBeforeOnLocation, po_loc, co, fr, rank}
 use Rattle.relational_model.specs.Model.{rf}
 use Rattle.relational_model.proofs.Ranks.{before-rank, before-trans}
-use Rattle.relational_model.proofs.KindFacts.{write-is-no-read, before-write-kept, read-kept-before, and-both, or-either, same-number, number-same}
+use Rattle.relational_model.proofs.KindFacts.{write-is-no-read, before-write-kept, read-kept-before, and-both, or-either, same-number, number-same, writes}
 use Rattle.relational_model.proofs.Sources.{Known, Counts, earlier-trans, source-counts, source-last, source-none, coherence-in, coherence-earlier, event-in}
 use Rattle.relational_model.proofs.Forward.{kept, after-in, starts-in}
 
@@ -59,9 +59,6 @@ smaller t order c known a b i j p q e =
     let s : e.second ≡ j = known.once e.second j b e.is_second q in
     let l : e.first < e.second = e.before in omega arith
 
-write-of : (loc : ℕ) (v : Entry) → writes_to loc v ≡ true → is_write v ≡ true
-write-of loc v h = (and-both (is_write v) (v.loc.0 == loc) h).0
-
 -- a read that a write counts for stands over that write
 over-counted : (t : Litmus) (order : List Entry) (c : Candidate) → Known t order c → (r v : Entry) (i : ℕ) → IsIn order r
     → is_read r ≡ true → slice_get order i ≡ Some v → Counts order r v
@@ -82,15 +79,9 @@ over-counted t order c known r v i inr_ read p counts = go (c.source r) refl
 
 share-parts : (x y : Entry) → share_location x y ≡ true → (is_access x ≡ true) × ((is_access y ≡ true) × (x.loc.0 ≡ y.loc.0))
 share-parts x y h =
-    let a : (is_access x ≡ true) × ((is_access y && (x.loc.0 == y.loc.0)) ≡ true) = three (is_access x) (is_access y)
-    (x.loc.0 == y.loc.0) h in
-    let b = and-both (is_access y) (x.loc.0 == y.loc.0) a.1 in
-    (a.0, (b.0, same-number x.loc.0 y.loc.0 b.1))
-  where
-    three : (a b d : Bool) → (a && b && d) ≡ true → (a ≡ true) × ((b && d) ≡ true)
-    three true true d h = (refl, h)
-    three true false d h = let z : ⊥ = cc in absurd z
-    three false b d h = let z : ⊥ = cc in absurd z
+    let f = and-both (is_access x && is_access y) (x.loc.0 == y.loc.0) h in
+    let a = and-both (is_access x) (is_access y) f.0 in
+    (a.0, (a.1, same-number x.loc.0 y.loc.0 f.1))
 
 pub writes-at : (loc : ℕ) (v : Entry) → is_write v ≡ true → v.loc.0 ≡ loc → writes_to loc v ≡ true
 writes-at loc v w e = subst (λ b. (b && (v.loc.0 == loc)) ≡ true) (sym w) (number-same v.loc.0 loc e)
@@ -213,15 +204,15 @@ step-rises t order c known x y i j (po_loc _ _ b share) =
     go same (inr wx) (inr wy) = write-write t order c known x y wx wy (kept t order c known x y i j b (before-write-kept x y wy))
 step-rises t order c known x y i j (rf _ _ f) =
     let counts = source-counts t order c known y x j f.read f.source in
-    write-read t order c known x y (write-of y.loc.0 x counts.1.0) j f.read counts
+    write-read t order c known x y (writes y.loc.0 x counts.1.0) j f.read counts
 step-rises t order c known x y i j (co _ _ e) =
     let first = coherence-in t order c known x.loc.0 x (e.first, e.is_first) in
     let second = coherence-in t order c known x.loc.0 y (e.second, e.is_second) in
-    write-write t order c known x y (write-of x.loc.0 x first.1) (write-of x.loc.0 y second.1)
+    write-write t order c known x y (writes x.loc.0 x first.1) (writes x.loc.0 y second.1)
     (coherence-earlier t order c known x.loc.0 x y e)
 step-rises t order c known x y i j (fr _ _ f) =
     let b = after-in t order c known x y f in
-    read-write t order c known x y i f.read j (write-of x.loc.0 y b.1)
+    read-write t order c known x y i f.read j (writes x.loc.0 y b.1)
     (λ w e. coherence-earlier t order c known x.loc.0 w y (subst (λ s. StandsAfter (c.coherence x.loc.0) s y) e f.overwritten))
 
 -- ---- the ways
@@ -251,8 +242,5 @@ way-rises t order c known _ _ (onward x y z i b rest) =
 pub location-acyclic : (t : Litmus) (order : List Entry) (c : Candidate) → Known t order c → IsAcyclic (events t c) (IsBeforeOnLocation c)
 location-acyclic t order c known x p =
     let r = way-rises t order c known x x p in
-    go r.from r.to (stands-once t order c known x r.from r.to r.stands r.comes) r.up
-  where
-    go : (m n : ℕ) → m ≡ n → Up m (rank x) n (rank x) → ⊥
-    go m n e (inl l) = omega arith
-    go m n e (inr l) = let k : rank x < rank x = l.1 in omega arith
+    let e = stands-once t order c known x r.from r.to r.stands r.comes in
+    elim r.up [ inl l ↦ omega (arith, e, l) | inr l ↦ let k : rank x < rank x = l.1 in omega arith ]

@@ -1,7 +1,7 @@
 -- The candidate that uniproc alone forbids: a load reads the initial word after its own core's store to the location.
 use Rattle.relational_model.proofs.Vocabulary.{◌≡◌, List, [], ◌∷◌, refl, ap, ◌∙◌, sym, ◌⊎◌, inl, inr, subst, entry, loc_x, Entry, R, W, F, LR, IsIn, IsEarlier, LeadsTo, at_once, onward, IsCandidate, IsForbidden, IsForbiddenByUniproc, IsBeforeOnLocation, po_loc, HappensBefore, write_before_write, read_before_access, mfence, implied, rfe, co, fr, unseen, unseen_candidate}
 use Rattle.relational_model.proofs.Forward.{starts-in}
-use Rattle.relational_model.proofs.Lists.{in-case, in-none, Precedes, to-precedes}
+use Rattle.relational_model.proofs.Lists.{in-case, in-none, to-precedes}
 use Rattle.relational_model.proofs.Worked.{not-first}
 use Rattle.relational_model.proofs.Forbidden.{fit-none, fit-read, fit-write, to-x, told, no-read}
 
@@ -17,40 +17,29 @@ both = stored ∷ (loaded ∷ [])
 
 -- each event is one of the two
 which : (x : Entry) → IsIn both x → (x ≡ stored) ⊎ (x ≡ loaded)
-which x i = go (in-case stored (loaded ∷ []) x i)
-  where
-    later : (x ≡ loaded) ⊎ IsIn [] x → (x ≡ stored) ⊎ (x ≡ loaded)
-    later (inl e) = inr e
-    later (inr j) = absurd (in-none x j)
-
-    go : (x ≡ stored) ⊎ IsIn (loaded ∷ []) x → (x ≡ stored) ⊎ (x ≡ loaded)
-    go (inl e) = inl e
-    go (inr j) = later (in-case loaded [] x j)
+which x i = elim (in-case stored (loaded ∷ []) x i) [
+  | inl e ↦ inl e
+  | inr j ↦ elim (in-case loaded [] x j) [ inl e ↦ inr e | inr j ↦ absurd (in-none x j) ]
+]
 
 apart : loaded ≡ stored → ⊥
 apart e = let k : R ≡ W = ap (λ (z : Entry). z.kind) e in let z : ⊥ = cc in z
 
 no-fence : (f : Entry) → IsIn both f → f.kind ≡ F → ⊥
-no-fence f i k = go (which f i)
-  where
-    go : (f ≡ stored) ⊎ (f ≡ loaded) → ⊥
-    go (inl e) = let h : f.kind ≡ W = ap (λ (z : Entry). z.kind) e in let z : ⊥ = cc in z
-    go (inr e) = let h : f.kind ≡ R = ap (λ (z : Entry). z.kind) e in let z : ⊥ = cc in z
+no-fence f i k = elim (which f i) [
+  | inl e ↦ let h : f.kind ≡ W = ap (λ (z : Entry). z.kind) e in let z : ⊥ = cc in z
+  | inr e ↦ let h : f.kind ≡ R = ap (λ (z : Entry). z.kind) e in let z : ⊥ = cc in z
+]
 
 no-load-part : (f : Entry) → IsIn both f → f.kind ≡ LR → ⊥
-no-load-part f i k = go (which f i)
-  where
-    go : (f ≡ stored) ⊎ (f ≡ loaded) → ⊥
-    go (inl e) = let h : f.kind ≡ W = ap (λ (z : Entry). z.kind) e in let z : ⊥ = cc in z
-    go (inr e) = let h : f.kind ≡ R = ap (λ (z : Entry). z.kind) e in let z : ⊥ = cc in z
+no-load-part f i k = elim (which f i) [
+  | inl e ↦ let h : f.kind ≡ W = ap (λ (z : Entry). z.kind) e in let z : ⊥ = cc in z
+  | inr e ↦ let h : f.kind ≡ R = ap (λ (z : Entry). z.kind) e in let z : ⊥ = cc in z
+]
 
 -- one write stands before no other
 alone : (w v : Entry) → IsEarlier (stored ∷ []) w v → ⊥
-alone w v e = go (to-precedes (stored ∷ []) w v e)
-  where
-    go : Precedes w v (stored ∷ []) → ⊥
-    go (inl p) = in-none v p.1
-    go (inr h) = h
+alone w v e = elim (to-precedes (stored ∷ []) w v e) [ inl p ↦ in-none v p.1 | inr h ↦ h ]
 
 -- ---- the edges: from the load to the store, and no other
 
@@ -79,11 +68,7 @@ from-load-to-load (mfence _ f _ i k b d) = no-fence f i k
 from-load-to-load (implied _ _ b p q l) = no-read b
 from-load-to-load (rfe _ _ r n) = n refl
 from-load-to-load (co _ _ e) = alone loaded loaded e
-from-load-to-load (fr _ _ r) = go (in-case stored [] loaded r.overwritten)
-  where
-    go : (loaded ≡ stored) ⊎ IsIn [] loaded → ⊥
-    go (inl e) = apart e
-    go (inr i) = in-none loaded i
+from-load-to-load (fr _ _ r) = elim (in-case stored [] loaded r.overwritten) [ inl e ↦ apart e | inr i ↦ in-none loaded i ]
 
 edge : (x y : Entry) → IsIn both x → IsIn both y → HappensBefore both unseen_candidate x y → (x ≡ loaded) × (y ≡ stored)
 edge x y i j h = go (which x i) (which y j)

@@ -1,5 +1,5 @@
 -- The names that the proofs of this crate bring in from definitions and from crates below; each file takes its own from here.
-pub use Rattle.std.proofs.Common.{◌≡◌, ℕ, ◌+◌, suc, List, [], ◌∷◌, ◌++◌, slice_index, slice_index_or, arith, refl, ap, ◌∙◌, subst, length, Bool, true, false, ◌==◌, sym, append_assoc, ◌⊎◌, inl, inr, ◌&&◌, ◌||◌, Option, Some, None, ◌<◌, zero, nat_lt, if◌then◌else◌, slice_get, ◌≤◌, not, ◌≢◌, drop, rules}
+pub use Rattle.std.proofs.Common.{◌≡◌, ℕ, ◌+◌, suc, List, [], ◌∷◌, ◌++◌, slice_index, slice_index_or, arith, refl, ap, ◌∙◌, subst, length, Bool, true, false, ◌==◌, sym, append_assoc, ◌⊎◌, inl, inr, ◌&&◌, ◌||◌, Option, Some, None, ◌<◌, zero, nat_lt, if◌then◌else◌, slice_get, ◌≤◌, not, ◌≢◌, drop, rules, append-nil}
 pub use Rattle.std.specs.Prelude.{filter}
 pub use Rattle.tso_model.specs.Actions.{action_of}
 pub use Rattle.tso_model.specs.Thread.{entry, entries_by, registers_by, values_after, entries_of, registers_after, with_value, fence, value_in, value_of, updated}
@@ -30,3 +30,4 @@ pub use Rattle.relational_model.specs.SequentialModel.{IsBeforeSequentially, po,
 pub use Rattle.tso_model.specs.Runs.{run}
 pub use Rattle.relational_model.specs.CandidatesOfRuns.{IsCandidateOfRun}
 pub use Rattle.tso_model.specs.Limits.{most_depth}
+pub use Rattle.basic_laws.proofs.Basics.{part-small}

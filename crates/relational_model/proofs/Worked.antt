@@ -1,14 +1,10 @@
 -- The sources of a candidate's reads, told entry by entry; and lists in which nothing is picked.
-use Rattle.relational_model.proofs.Vocabulary.{◌≡◌, ℕ, suc, Bool, true, false, ◌==◌, arith, List, [], ◌∷◌, ◌++◌, refl, sym, ap, ◌∙◌, subst, append_assoc, filter, nat_tests, is_read, counting, Entry, Candidate, last_in}
+use Rattle.relational_model.proofs.Vocabulary.{◌≡◌, ℕ, suc, Bool, true, false, ◌==◌, arith, List, [], ◌∷◌, ◌++◌, refl, sym, ap, ◌∙◌, subst, append_assoc, filter, nat_tests, is_read, counting, Entry, Candidate, last_in, append-nil}
 
 -- each read of the list, which stands after `front`, has its source
 abbrev pub SourcesFrom : Candidate → List Entry → List Entry → Type 0
 SourcesFrom c front [] = Unit {0}
 SourcesFrom c front (x ∷ xs) = (is_read x ≡ true → c.source x ≡ last_in (counting x front xs)) × SourcesFrom c (front ++ (x ∷ [])) xs
-
-nothing-after : (xs : List Entry) → xs ++ [] ≡ xs
-nothing-after [] = refl
-nothing-after (x ∷ xs) = ap (λ r. x ∷ r) (nothing-after xs)
 
 pub sources-from : (c : Candidate) (front xs middle : List Entry) (r : Entry) (back : List Entry) → SourcesFrom c front xs
     → xs ≡ middle ++ (r ∷ back) → is_read r ≡ true
@@ -20,7 +16,7 @@ sources-from c front (x ∷ xs) [] r back h e read =
     let tail : xs ≡ back = cc in
     subst (λ y. c.source y ≡ last_in (counting y (front ++ []) back)) head
     (subst (λ b. c.source x ≡ last_in (counting x (front ++ []) b)) tail
-    (subst (λ f. c.source x ≡ last_in (counting x f xs)) (sym (nothing-after front))
+    (subst (λ f. c.source x ≡ last_in (counting x f xs)) (sym (append-nil front))
     (h.0 (subst (λ y. is_read y ≡ true) (sym head) read))))
 sources-from c front (x ∷ xs) (m ∷ ms) r back h e read =
     let head : x ≡ m = cc in
