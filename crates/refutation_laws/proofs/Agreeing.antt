@@ -1,5 +1,5 @@
 -- The edges that a candidate has which agrees with what is known.
-use Rattle.refutation_laws.proofs.Vocabulary.{◌≡◌, ◌&&◌, true, List, [], ◌∷◌, Option, Some, None, refl, sym, ap, ◌∙◌, ◌⊎◌, inl, inr, subst, list_any, Litmus, is_read, writes_to, Entry, IsIn, IsEarlier, Candidate, Returns, IsCandidate, events, ReadsFrom, IsBefore, StandsAfter, FromReads, and-both, or-either, location, Sound, Known, same_event, is_write_of, comes_before, is_overwritten, from_reads, Source, Pair, Stands, IsSameSource, HasSources, HasPairs, Agrees}
+use Rattle.refutation_laws.proofs.Vocabulary.{◌≡◌, ◌&&◌, true, List, [], ◌∷◌, Option, Some, None, refl, sym, ap, ◌∙◌, inl, inr, subst, list_any, Litmus, is_read, writes_to, Entry, IsIn, IsEarlier, Candidate, Returns, IsCandidate, events, ReadsFrom, IsBefore, StandsAfter, FromReads, and-both, or-either, location, Sound, Known, same_event, is_write_of, comes_before, is_overwritten, from_reads, Source, Pair, Stands, IsSameSource, HasSources, HasPairs, Agrees}
 use Rattle.refutation_laws.proofs.Standing.{same-bare, one-entry}
 
 pub stands-for : (t : Litmus) (c : Candidate) (d e x : Entry) → same_event d e ≡ true → Stands t c e x → Stands t c d x
@@ -24,7 +24,7 @@ pub has-rf : (t : Litmus) (c : Candidate) → Sound t c → (ss : List Source) �
     → list_any (λ (s : Source). same_event s.read r && is_write_of w s.write) ss ≡ true → Stands t c w x → Stands t c r y → ReadsFrom c x y
 has-rf t c k [] h w r x y q a b = let z : ⊥ = cc in absurd z
 has-rf t c k (s ∷ ss) h w r x y q a b =
-    go (or-either (same_event s.read r && is_write_of w s.write) _ q) (λ l. has-rf t c k ss h.1 w r x y l a b)
+    elim (or-either (same_event s.read r && is_write_of w s.write) _ q) [ inl l ↦ here l | inr l ↦ has-rf t c k ss h.1 w r x y l a b ]
   where
     here : (same_event s.read r && is_write_of w s.write) ≡ true → ReadsFrom c x y
     here l =
@@ -37,30 +37,18 @@ has-rf t c k (s ∷ ss) h w r x y q a b =
               (λ z e. (source-in t c k.candidate y z b.inside f.0 e).0);
         }
 
-    go : ((same_event s.read r && is_write_of w s.write) ≡ true)
-        ⊎ (list_any (λ (s : Source). same_event s.read r && is_write_of w s.write) ss ≡ true)
-        → (list_any (λ (s : Source). same_event s.read r && is_write_of w s.write) ss ≡ true → ReadsFrom c x y) → ReadsFrom c x y
-    go (inl l) later = here l
-    go (inr l) later = later l
-
 -- ---- co
 
 has-pair : (t : Litmus) (c : Candidate) (ps : List Pair) → HasPairs t c ps → (w v x y : Entry)
     → list_any (λ (p : Pair). same_event p.first w && same_event p.second v) ps ≡ true → Stands t c w x → Stands t c v y → IsBefore c x y
 has-pair t c [] h w v x y q a b = let z : ⊥ = cc in absurd z
 has-pair t c (p ∷ ps) h w v x y q a b =
-    go (or-either (same_event p.first w && same_event p.second v) _ q) (λ l. has-pair t c ps h.1 w v x y l a b)
+    elim (or-either (same_event p.first w && same_event p.second v) _ q) [ inl l ↦ here l | inr l ↦ has-pair t c ps h.1 w v x y l a b ]
   where
     here : (same_event p.first w && same_event p.second v) ≡ true → IsBefore c x y
     here l =
         let m = and-both (same_event p.first w) (same_event p.second v) l in
         h.0 x y (stands-for t c p.first w x m.0 a) (stands-for t c p.second v y m.1 b)
-
-    go : ((same_event p.first w && same_event p.second v) ≡ true)
-        ⊎ (list_any (λ (p : Pair). same_event p.first w && same_event p.second v) ps ≡ true)
-        → (list_any (λ (p : Pair). same_event p.first w && same_event p.second v) ps ≡ true → IsBefore c x y) → IsBefore c x y
-    go (inl l) later = here l
-    go (inr l) later = later l
 
 pub has-co : (t : Litmus) (c : Candidate) (k : Known) → Agrees t c k → (w v x y : Entry) → comes_before k w v ≡ true
     → Stands t c w x → Stands t c v y → IsBefore c x y
@@ -86,7 +74,7 @@ has-over : (t : Litmus) (c : Candidate) → Sound t c → (k : Known) → Agrees
     → FromReads c x y
 has-over t c d k h [] g r v x y q a b = let z : ⊥ = cc in absurd z
 has-over t c d k h (s ∷ ss) g r v x y q a b =
-    go (or-either (same_event s.read r && is_overwritten k r s.write v) _ q) (λ l. has-over t c d k h ss g.1 r v x y l a b)
+    elim (or-either (same_event s.read r && is_overwritten k r s.write v) _ q) [ inl l ↦ here l | inr l ↦ has-over t c d k h ss g.1 r v x y l a b ]
   where
     here : (same_event s.read r && is_overwritten k r s.write v) ≡ true → FromReads c x y
     here l =
@@ -96,12 +84,6 @@ has-over t c d k h (s ∷ ss) g r v x y q a b =
           read = f.0;
           overwritten = over t c d k h r v x y s.write (c.source x) f.1 m.1 a b (λ z e. source-in t c d.candidate x z a.inside f.0 e);
         }
-
-    go : ((same_event s.read r && is_overwritten k r s.write v) ≡ true)
-        ⊎ (list_any (λ (s : Source). same_event s.read r && is_overwritten k r s.write v) ss ≡ true)
-        → (list_any (λ (s : Source). same_event s.read r && is_overwritten k r s.write v) ss ≡ true → FromReads c x y) → FromReads c x y
-    go (inl l) later = here l
-    go (inr l) later = later l
 
 pub has-fr : (t : Litmus) (c : Candidate) → Sound t c → (k : Known) → Agrees t c k → (r v x y : Entry) → from_reads k r v ≡ true
     → Stands t c r x → Stands t c v y → FromReads c x y

@@ -1,6 +1,6 @@
 -- All questions asked: each case in which every read has a source and every two writes of a location are ordered has an answer, so
 -- the whole has one.
-use Rattle.refutation_laws.proofs.Vocabulary.{◌≡◌, ◌&&◌, ◌||◌, Bool, true, false, not, List, [], ◌∷◌, ◌++◌, Option, Some, None, refl, sym, ap, ◌⊎◌, inl, inr, subst, map, filter, list_any, Litmus, Claim, is_read, is_write, writes_to, Entry, Member, IsIn, in-case, in-none, in-first, in-later, in-filter, Known, events_of, same_event, is_event, nothing, with_source, with_pair, comes_before, Source, Model, Node, ComesFirst, OnLocation, Globally, Between, FalseClaim, is_node, branches, IsPossibleSource, ArePossible, has_source, are_ordered, may_ask, is_answered, IsFull}
+use Rattle.refutation_laws.proofs.Vocabulary.{◌≡◌, ◌&&◌, ◌||◌, Bool, true, false, List, [], ◌∷◌, ◌++◌, Option, Some, None, refl, sym, ap, ◌⊎◌, inl, inr, subst, map, filter, Litmus, Claim, writes_to, Entry, Member, IsIn, in-case, in-none, in-first, in-later, in-filter, Known, events_of, same_event, nothing, with_source, with_pair, comes_before, Model, Node, ComesFirst, OnLocation, Globally, Between, FalseClaim, is_node, branches, IsPossibleSource, ArePossible, has_source, are_ordered, may_ask, is_answered, IsFull}
 use Rattle.refutation_laws.specs.Refutations.{ReadsFrom}
 use Rattle.refutation_laws.proofs.Soundness.{itself}
 use Rattle.refutation_laws.proofs.Tests.{or-first, or-second}
@@ -34,29 +34,20 @@ member-right a (x ∷ xs) ys h = inr (member-right a xs ys h)
 
 asked-source : (xs : List Entry) (r : Entry) → IsIn xs r → Member (ReadsFrom r) (asking_sources xs)
 asked-source [] r i = absurd (in-none r i)
-asked-source (x ∷ xs) r i = go (in-case x xs r i) (λ j. asked-source xs r j)
-  where
-    go : (r ≡ x) ⊎ IsIn xs r → (IsIn xs r → Member (ReadsFrom r) (asking_sources xs)) → Member (ReadsFrom r) (asking_sources (x ∷ xs))
-    go (inl e) later = inl (ap (λ z. ReadsFrom z) e)
-    go (inr j) later = inr (later j)
+asked-source (x ∷ xs) r i = elim (in-case x xs r i) [ inl e ↦ inl (ap (λ z. ReadsFrom z) e) | inr j ↦ inr (asked-source xs r j) ]
 
 asked-order : (w : Entry) (vs : List Entry) (v : Entry) → IsIn vs v → Member (ComesFirst w v) (asking_order w vs)
 asked-order w [] v i = absurd (in-none v i)
-asked-order w (x ∷ xs) v i = go (in-case x xs v i) (λ j. asked-order w xs v j)
-  where
-    go : (v ≡ x) ⊎ IsIn xs v → (IsIn xs v → Member (ComesFirst w v) (asking_order w xs)) → Member (ComesFirst w v) (asking_order w (x ∷ xs))
-    go (inl e) later = inl (ap (λ z. ComesFirst w z) e)
-    go (inr j) later = inr (later j)
+asked-order w (x ∷ xs) v i = elim (in-case x xs v i) [ inl e ↦ inl (ap (λ z. ComesFirst w z) e) | inr j ↦ inr (asked-order w xs v j) ]
 
 asked-orders : (ws vs : List Entry) (w v : Entry) → IsIn ws w → IsIn vs v → Member (ComesFirst w v) (asking_orders ws vs)
 asked-orders [] vs w v i j = absurd (in-none w i)
-asked-orders (x ∷ xs) vs w v i j = go (in-case x xs w i) (λ l. asked-orders xs vs w v l j)
-  where
-    go : (w ≡ x) ⊎ IsIn xs w → (IsIn xs w → Member (ComesFirst w v) (asking_orders xs vs)) → Member (ComesFirst w v) (asking_orders (x ∷ xs) vs)
-    go (inl e) later =
-        member-left (ComesFirst w v) (asking_order x vs) (asking_orders xs vs)
-        (subst (λ z. Member (ComesFirst w v) (asking_order z vs)) e (asked-order w vs v j))
-    go (inr l) later = member-right (ComesFirst w v) (asking_order x vs) (asking_orders xs vs) (later l)
+asked-orders (x ∷ xs) vs w v i j = elim (in-case x xs w i) [
+  | inl e ↦
+      member-left (ComesFirst w v) (asking_order x vs) (asking_orders xs vs)
+      (subst (λ z. Member (ComesFirst w v) (asking_order z vs)) e (asked-order w vs v j))
+  | inr l ↦ member-right (ComesFirst w v) (asking_order x vs) (asking_orders xs vs) (asked-orders xs vs w v l j)
+]
 
 -- ---- each is asked, and answered in each branch
 
@@ -162,22 +153,14 @@ module _ (model : Model) (t : Litmus) (claim : Claim) (Other : Type 0) where
   may-stand k FalseClaim m = let z : ⊥ = cc in absurd z
 
   asked : (k : Known) (q : Node) → may_ask t q ≡ true → ((b : Known) → Branch t k q b → Answer b) → Answer k
-  asked k q m f = go (each-branch k q m f)
-    where
-      go : EachHasOne model t claim (branches t k q) ⊎ Other → Answer k
-      go (inl h) = inl (has-tree model t claim k q (may-stand k q m) h)
-      go (inr o) = inr o
+  asked k q m f = elim (each-branch k q m f) [ inl h ↦ inl (has-tree model t claim k q (may-stand k q m) h) | inr o ↦ inr o ]
 
   -- each question that is left, in turn
   ask-all : (all left : List Node) (k : Known) → ArePossible t k.sources
       → ((q : Node) → Member q all → may_ask t q ≡ true → Member q left ⊎ (is_answered k q ≡ true))
       → ((b : Known) → ArePossible t b.sources → ((q : Node) → Member q all → may_ask t q ≡ true → is_answered b q ≡ true) → Answer b)
       → Answer k
-  ask-all all [] k p done full = full k p (λ q i m. pick q (done q i m))
-    where
-      pick : (q : Node) → Member q [] ⊎ (is_answered k q ≡ true) → is_answered k q ≡ true
-      pick q (inl h) = absurd h
-      pick q (inr h) = h
+  ask-all all [] k p done full = full k p (λ q i m. elim (done q i m) [ inl h ↦ absurd h | inr h ↦ h ])
   ask-all all (n ∷ ns) k p done full = go (may_ask t n) refl (λ b q d. ask-all all ns b q d full)
     where
       onwards : (b : Known) → Grows t k b → ((may_ask t n ≡ true) → is_answered b n ≡ true) → (q : Node) → may_ask t q ≡ true

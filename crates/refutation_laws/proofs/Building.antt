@@ -52,7 +52,8 @@ by-chosen val core place (Load reg loc) regs vs x i r =
     as-chosen val (entry core place R loc (val (entry core place R loc 0))) x (only (entry core place R loc (val (entry core place R loc 0))) x i) refl
 by-chosen val core place (Move reg operand) regs vs x i r = absurd (in-none x i)
 by-chosen val core place Fence regs vs x i r = absurd (unread _ x (only _ x i) refl r)
-by-chosen val core place (Lock loc reg update) regs vs x i r = go (in-case first (second ∷ []) x i)
+by-chosen val core place (Lock loc reg update) regs vs x i r =
+    elim (in-case first (second ∷ []) x i) [ inl q ↦ as-chosen val first x q refl | inr j ↦ absurd (unread second x (only second x j) refl r) ]
   where
     word : ℕ
     word = val (entry core place LR loc 0)
@@ -63,29 +64,22 @@ by-chosen val core place (Lock loc reg update) regs vs x i r = go (in-case first
     second : Entry
     second = entry core place LW loc (updated update word (value_in regs reg))
 
-    go : (x ≡ first) ⊎ IsIn (second ∷ []) x → x.value ≡ val (bare x)
-    go (inl q) = as-chosen val first x q refl
-    go (inr j) = absurd (unread second x (only second x j) refl r)
-
 program-chosen : (val : Entry → ℕ) (core place : ℕ) (p : List Instr) (regs : List ℕ) (x : Entry)
     → IsIn (entries_of core place p regs (values_by val core place p)) x → is_read x ≡ true → x.value ≡ val (bare x)
 program-chosen val core place [] regs x i r = absurd (in-none x i)
-program-chosen val core place (s ∷ p) regs x i r =
-    go (in-append (entries_by core place (action_of s) regs (slice_index values 0)) _ x i)
-    (λ j. program-chosen val core (place + 1) p (registers_by (action_of s) regs (slice_index values 0)) x
-    (subst (λ vs. IsIn (entries_of core (place + 1) p (registers_by (action_of s) regs (slice_index values 0)) vs) x)
-    (after-read val core place (action_of s) (values_by val core (place + 1) p)) j) r)
+program-chosen val core place (s ∷ p) regs x i r = elim (in-append (entries_by core place (action_of s) regs (slice_index values 0)) _ x i) [
+  | inl j ↦ by-chosen val core place (action_of s) regs (values_by val core (place + 1) p) x j r
+  | inr j ↦
+      program-chosen val core (place + 1) p (registers_by (action_of s) regs (slice_index values 0)) x
+      (subst (λ vs. IsIn (entries_of core (place + 1) p (registers_by (action_of s) regs (slice_index values 0)) vs) x)
+      (after-read val core place (action_of s) (values_by val core (place + 1) p)) j) r
+]
   where
     values : List ℕ
     values = read_by val core place (action_of s) ++ values_by val core (place + 1) p
 
     later : List Entry
     later = entries_of core (place + 1) p (registers_by (action_of s) regs (slice_index values 0)) (values_after (action_of s) values)
-
-    go : IsIn (entries_by core place (action_of s) regs (slice_index values 0)) x ⊎ IsIn later x → (IsIn later x → x.value ≡ val (bare x))
-        → x.value ≡ val (bare x)
-    go (inl j) more = by-chosen val core place (action_of s) regs (values_by val core (place + 1) p) x j r
-    go (inr j) more = more j
 
 reads-at : (val : Entry → ℕ) (core : ℕ) (ps : List (List Instr)) (j : ℕ) (p : List Instr) → slice_get ps j ≡ Some p
     → slice_index_or (reads_by val core ps) j [] ≡ values_by val (core + j) 0 p

@@ -43,11 +43,10 @@ pub record Empty (ws : List Entry) (word : ℕ) : Type 0 where
 pub ends : (ws : List Entry) (word : ℕ) → Empty ws word ⊎ Last ws word
 ends [] word = inl (record { empty = refl; value = refl })
 ends (x ∷ []) word = inr (record { entry = x; last = refl; value = refl })
-ends (x ∷ (y ∷ ys)) word = go (ends (y ∷ ys) x.value)
-  where
-    go : Empty (y ∷ ys) x.value ⊎ Last (y ∷ ys) x.value → Empty (x ∷ (y ∷ ys)) word ⊎ Last (x ∷ (y ∷ ys)) word
-    go (inl e) = let q : y ∷ ys ≡ [] = e.empty in let z : ⊥ = cc in absurd z
-    go (inr l) = inr (record { entry = l.entry; last = l.last; value = l.value })
+ends (x ∷ (y ∷ ys)) word = elim (ends (y ∷ ys) x.value) [
+  | inl e ↦ let q : y ∷ ys ≡ [] = e.empty in let z : ⊥ = cc in absurd z
+  | inr l ↦ inr (record { entry = l.entry; last = l.last; value = l.value })
+]
 
 -- ---- tests
 

@@ -1,5 +1,5 @@
 -- Each claim has a refutation, or an allowed candidate makes it true.
-use Rattle.refutation_laws.proofs.Vocabulary.{◌≡◌, ◌≤◌, ◌+◌, Bool, true, false, not, List, [], ◌∷◌, length, slice_index_or, arith, refl, sym, ap, ◌⊎◌, inl, inr, subst, list_any, Litmus, IsTest, AreRegisters, Claim, NamesExist, Entry, IsIn, Known, events_of, nothing, on_location, global_in, is_edge, is_between, Model, allows, Node, OnLocation, Globally, Between, FalseClaim, is_node, branches, IsRefuted, HasCandidate, Ordered, IsFull, NoneBetween}
+use Rattle.refutation_laws.proofs.Vocabulary.{◌≡◌, ◌≤◌, ◌+◌, Bool, true, false, not, List, [], ◌∷◌, length, slice_index_or, arith, refl, sym, ap, ◌⊎◌, inl, inr, subst, list_any, Litmus, IsTest, AreRegisters, Claim, NamesExist, Entry, IsIn, Known, events_of, on_location, global_in, is_edge, is_between, Model, allows, Node, OnLocation, Globally, Between, FalseClaim, is_node, branches, IsRefuted, HasCandidate, Ordered, IsFull, NoneBetween}
 use Rattle.refutation_laws.proofs.Tests.{any-in, any-holds}
 use Rattle.refutation_laws.proofs.Composing.{HasTrees, EachHasOne, has-tree}
 use Rattle.refutation_laws.proofs.Rows.{HasCycle, Edge, cycle-or-row}
@@ -67,11 +67,10 @@ module _ (model : Model) (t : Litmus) (claim : Claim) (names : NamesExist (lengt
 
   -- the theorem
   pub refuted-or-candidate : IsRefuted model t claim ⊎ HasCandidate model t claim
-  refuted-or-candidate = go (all-asked model t claim (HasCandidate model t claim) full-answer)
-    where
-      go : Answer model t claim (HasCandidate model t claim) nothing → IsRefuted model t claim ⊎ HasCandidate model t claim
-      go (inl h) = inl (record { nodes = h.nodes; refuted = h.closed })
-      go (inr m) = inr m
+  refuted-or-candidate = elim (all-asked model t claim (HasCandidate model t claim) full-answer) [
+    | inl h ↦ inl (record { nodes = h.nodes; refuted = h.closed })
+    | inr m ↦ inr m
+  ]
 
 -- a test has six registers on each core
 pub six-of : (t : Litmus) → IsTest t → HaveSix 0 (length t.programs) t.registers

@@ -1,5 +1,5 @@
 -- Where reads are given, registers are known, and writes: a write whose earlier reads are given is among those that are known.
-use Rattle.refutation_laws.proofs.Vocabulary.{◌≡◌, ◌<◌, ◌≤◌, ℕ, zero, suc, ◌+◌, true, List, [], ◌∷◌, ◌++◌, length, Option, Some, None, slice_index, slice_index_or, arith, refl, sym, ap, ◌∙◌, ◌⊎◌, inl, inr, subst, map, slice_set, Litmus, index_of, action_of, entry, value_in, value_of, updated, entries_by, registers_by, values_after, entries_of, registers_after, is_before, is_read, is_write, Reg, Eax, Ebx, Ecx, Edx, Esi, Edi, Loc, Instr, Operand, Number, Held, Update, Exchange, Add, Action, Store, Load, Move, Fence, Lock, Entry, Kind, R, W, LR, LW, rank, part-small, IsIn, events_from, in-case, in-none, in-first, in-append, in-left, in-right, rank-before, only, here-by, from-place, bare, known_in, known_operand, known_update, write_with, word_given, writes_by, registers_left_by, writes_of, left_of, known_first_registers, writes_from}
+use Rattle.refutation_laws.proofs.Vocabulary.{◌≡◌, ◌<◌, ◌≤◌, ℕ, zero, suc, ◌+◌, true, List, [], ◌∷◌, length, Option, Some, None, slice_index, slice_index_or, arith, refl, sym, ap, ◌∙◌, inl, inr, subst, map, slice_set, Litmus, index_of, action_of, entry, value_in, value_of, updated, entries_by, registers_by, values_after, entries_of, registers_after, is_before, is_read, is_write, Reg, Eax, Ebx, Ecx, Edx, Esi, Edi, Loc, Instr, Operand, Number, Held, Update, Exchange, Add, Action, Store, Load, Move, Fence, Lock, Entry, Kind, R, W, LR, LW, rank, part-small, IsIn, events_from, in-case, in-none, in-first, in-append, in-left, in-right, rank-before, only, here-by, from-place, bare, known_in, known_operand, known_update, write_with, word_given, writes_by, registers_left_by, writes_of, left_of, known_first_registers, writes_from, length-set}
 use Rattle.refutation_laws.proofs.Building.{unwritten}
 
 -- ---- registers that are all known
@@ -16,11 +16,6 @@ set-all : (ns : List ℕ) (i v : ℕ) → slice_set (all_of ns) i (Some v) ≡ a
 set-all [] i v = refl
 set-all (n ∷ ns) zero v = refl
 set-all (n ∷ ns) (suc i) v = ap (λ os. Some n ∷ os) (set-all ns i v)
-
-set-length : (ns : List ℕ) (i v : ℕ) → length (slice_set ns i v) ≡ length ns
-set-length [] i v = refl
-set-length (n ∷ ns) zero v = refl
-set-length (n ∷ ns) (suc i) v = ap suc (set-length ns i v)
 
 small : (reg : Reg) → index_of reg < 6
 small Eax = omega arith
@@ -58,10 +53,10 @@ left-all given core place (Lock loc reg update) ns v six g =
 
 six-after : (a : Action) (ns : List ℕ) (v : ℕ) → length (registers_by a ns v) ≡ length ns
 six-after (Store loc operand) ns v = refl
-six-after (Load reg loc) ns v = set-length ns (index_of reg) v
-six-after (Move reg operand) ns v = set-length ns (index_of reg) (value_of ns operand)
+six-after (Load reg loc) ns v = length-set ns (index_of reg) v
+six-after (Move reg operand) ns v = length-set ns (index_of reg) (value_of ns operand)
 six-after Fence ns v = refl
-six-after (Lock loc reg update) ns v = set-length ns (index_of reg) v
+six-after (Lock loc reg update) ns v = length-set ns (index_of reg) v
 
 pub length-after : (p : List Instr) (ns values : List ℕ) → length (registers_after p ns values) ≡ length ns
 length-after [] ns values = refl
@@ -100,25 +95,23 @@ by-known given core place (Store loc operand) ns v y six i w g =
 by-known given core place (Load reg loc) ns v y six i w g = absurd (unwritten (entry core place R loc v) y (only (entry core place R loc v) y i) refl w)
 by-known given core place (Move reg operand) ns v y six i w g = absurd (in-none y i)
 by-known given core place Fence ns v y six i w g = absurd (unwritten _ y (only _ y i) refl w)
-by-known given core place (Lock loc reg update) ns v y six i w g = go (in-case first (second ∷ []) y i)
+by-known given core place (Lock loc reg update) ns v y six i w g = elim (in-case first (second ∷ []) y i) [
+  | inl q ↦ absurd (unwritten first y q refl w)
+  | inr j ↦
+      let q : y ≡ second = only second y j in
+      let l : rank first < rank second = omega arith in
+      let b : is_before first y ≡ true = subst (λ z. is_before first z ≡ true) (sym q) (rank-before first second refl l) in
+      written core place LW loc (known_update update (given (entry core place LR loc 0)) (known_in (all_of ns) reg))
+      (updated update v (value_in ns reg)) y q
+      (update-all update (given (entry core place LR loc 0)) (known_in (all_of ns) reg) v (value_in ns reg)
+      (g first (0, refl) refl b) (in-all ns reg six))
+]
   where
     first : Entry
     first = entry core place LR loc v
 
     second : Entry
     second = entry core place LW loc (updated update v (value_in ns reg))
-
-    go : (y ≡ first) ⊎ IsIn (second ∷ []) y
-        → IsIn (write_with core place LW loc (known_update update (given (entry core place LR loc 0)) (known_in (all_of ns) reg))) y
-    go (inl q) = absurd (unwritten first y q refl w)
-    go (inr j) =
-        let q : y ≡ second = only second y j in
-        let l : rank first < rank second = omega arith in
-        let b : is_before first y ≡ true = subst (λ z. is_before first z ≡ true) (sym q) (rank-before first second refl l) in
-        written core place LW loc (known_update update (given (entry core place LR loc 0)) (known_in (all_of ns) reg))
-        (updated update v (value_in ns reg)) y q
-        (update-all update (given (entry core place LR loc 0)) (known_in (all_of ns) reg) v (value_in ns reg)
-        (g first (0, refl) refl b) (in-all ns reg six))
 
 earlier-place : (x y : Entry) (place : ℕ) → x.core.0 ≡ y.core.0 → x.place ≡ place → place + 1 ≤ y.place → is_before x y ≡ true
 earlier-place x y place c e l =
@@ -129,11 +122,18 @@ program-known : (given : Entry → Option ℕ) (core place : ℕ) (p : List Inst
     → IsIn (entries_of core place p ns values) y → is_write y ≡ true → EarlyGiven given (entries_of core place p ns values) y
     → IsIn (writes_of given core place p (all_of ns)) y
 program-known given core place [] ns values y six i w g = absurd (in-none y i)
-program-known given core place (s ∷ p) ns values y six i w g =
-    go (in-append first rest y i)
-    (λ j. program-known given core (place + 1) p (registers_by (action_of s) ns (slice_index values 0)) (values_after (action_of s) values) y
-    (let e = six-after (action_of s) ns (slice_index values 0) in omega (arith, e, six)) j w
-    (λ x k r b. g x (in-right first rest x k) r b))
+program-known given core place (s ∷ p) ns values y six i w g = elim (in-append first rest y i) [
+  | inl j ↦
+      in-left own _ y
+      (by-known given core place (action_of s) ns (slice_index values 0) y six j w (λ x k r b. g x (in-left first rest x k) r b))
+  | inr j ↦
+      in-right own _ y
+      (subst (λ os. IsIn (writes_of given core (place + 1) p os) y)
+      (sym (left-all given core place (action_of s) ns (slice_index values 0) six
+      (λ x k r. g x (in-left first rest x k) r (before x k j))))
+      (program-known given core (place + 1) p (registers_by (action_of s) ns (slice_index values 0)) (values_after (action_of s) values) y
+      (let e = six-after (action_of s) ns (slice_index values 0) in omega (arith, e, six)) j w (λ x k r b. g x (in-right first rest x k) r b)))
+]
   where
     first : List Entry
     first = entries_by core place (action_of s) ns (slice_index values 0)
@@ -149,18 +149,6 @@ program-known given core place (s ∷ p) ns values y six i w g =
 
     own : List Entry
     own = writes_by core place (action_of s) (all_of ns) (word_given given core place (action_of s))
-
-    go : IsIn first y ⊎ IsIn rest y
-        → (IsIn rest y → IsIn (writes_of given core (place + 1) p (all_of (registers_by (action_of s) ns (slice_index values 0)))) y)
-        → IsIn (own ++ writes_of given core (place + 1) p (registers_left_by (action_of s) (all_of ns) (word_given given core place (action_of s)))) y
-    go (inl j) more =
-        in-left own _ y
-        (by-known given core place (action_of s) ns (slice_index values 0) y six j w (λ x k r b. g x (in-left first rest x k) r b))
-    go (inr j) more =
-        in-right own _ y
-        (subst (λ os. IsIn (writes_of given core (place + 1) p os) y)
-        (sym (left-all given core place (action_of s) ns (slice_index values 0) six
-        (λ x k r. g x (in-left first rest x k) r (before x k j)))) (more j))
 
 -- each of these cores has its six registers
 abbrev pub HaveSix : ℕ → ℕ → List (List ℕ) → Type 0
@@ -182,23 +170,21 @@ all-known : (given : Entry → Option ℕ) (core : ℕ) (ps : List (List Instr))
     → HaveSix core (length ps) registers → IsIn (events_from core ps registers reads) y → is_write y ≡ true
     → EarlyGiven given (events_from core ps registers reads) y → IsIn (writes_from given core ps registers) y
 all-known given core [] registers reads y six i w g = absurd (in-none y i)
-all-known given core (p ∷ ps) registers reads y six i w g =
-    go (in-append first rest y i)
-    (λ j. all-known given (core + 1) ps registers reads y (next-six core p ps registers six) j w (λ x k r b. g x (in-right first rest x k) r b))
+all-known given core (p ∷ ps) registers reads y six i w g = elim (in-append first rest y i) [
+  | inl j ↦
+      in-left (writes_of given core 0 p (known_first_registers registers core)) _ y
+      (program-known given core 0 p (slice_index_or registers core []) (slice_index_or reads core []) y
+      (first-six core p ps registers six) j w (λ x k r b. g x (in-left first rest x k) r b))
+  | inr j ↦
+      in-right (writes_of given core 0 p (known_first_registers registers core)) _ y
+      (all-known given (core + 1) ps registers reads y (next-six core p ps registers six) j w (λ x k r b. g x (in-right first rest x k) r b))
+]
   where
     first : List Entry
     first = entries_of core 0 p (slice_index_or registers core []) (slice_index_or reads core [])
 
     rest : List Entry
     rest = events_from (core + 1) ps registers reads
-
-    go : IsIn first y ⊎ IsIn rest y → (IsIn rest y → IsIn (writes_from given (core + 1) ps registers) y)
-        → IsIn (writes_of given core 0 p (known_first_registers registers core) ++ writes_from given (core + 1) ps registers) y
-    go (inl j) more =
-        in-left (writes_of given core 0 p (known_first_registers registers core)) _ y
-        (program-known given core 0 p (slice_index_or registers core []) (slice_index_or reads core []) y
-        (first-six core p ps registers six) j w (λ x k r b. g x (in-left first rest x k) r b))
-    go (inr j) more = in-right (writes_of given core 0 p (known_first_registers registers core)) _ y (more j)
 
 -- a write of these events whose earlier reads are given is known, with its value
 pub known-write : (t : Litmus) (given : Entry → Option ℕ) (reads : List (List ℕ)) (y : Entry) → HaveSix 0 (length t.programs) t.registers

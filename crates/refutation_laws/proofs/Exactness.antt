@@ -1,6 +1,6 @@
 -- In a full case with no cycle nothing is open: what a claim can be, it is in the state that the case's candidate leaves.
-use Rattle.refutation_laws.proofs.Vocabulary.{◌≡◌, ◌<◌, ◌≤◌, ℕ, zero, suc, ◌+◌, ◌==◌, ◌&&◌, ◌||◌, Bool, true, false, not, if◌then◌else◌, List, [], ◌∷◌, length, Option, Some, None, slice_index, slice_index_or, arith, refl, sym, ap, ◌∙◌, ◌⊎◌, inl, inr, subst, map, filter, list_any, Litmus, value_in, entries_of, registers_after, is_write, writes_to, Claim, TruthClaim, RegClaim, LocClaim, NotClaim, AndClaim, OrClaim, truth_of, NamesExist, Instr, Entry, IsIn, IsEarlier, Candidate, events_from, last_word, registers_left_from, registers_left, words_left, last_in, in-none, in-left, in-right, filter-in, last-is-in, last-last, Precedes, from-precedes, and-both, or-either, location, Known, bare, events_of, comes_before, known_in, left_of, known_first_registers, value_among, all_known, can_be, can_be_last, words_at_end, register_at_end, allows, Model}
-use Rattle.refutation_laws.proofs.Tests.{from-not, any-in, picked-of}
+use Rattle.refutation_laws.proofs.Vocabulary.{◌≡◌, ◌<◌, ◌≤◌, ℕ, zero, suc, ◌+◌, ◌==◌, ◌&&◌, ◌||◌, Bool, true, false, not, if◌then◌else◌, List, [], ◌∷◌, length, Option, Some, None, slice_index, slice_index_or, arith, refl, sym, ap, ◌∙◌, ◌⊎◌, inl, inr, subst, map, filter, list_any, Litmus, value_in, entries_of, registers_after, is_write, writes_to, Claim, TruthClaim, RegClaim, LocClaim, NotClaim, AndClaim, OrClaim, truth_of, NamesExist, Instr, Entry, IsIn, IsEarlier, Candidate, events_from, last_word, registers_left_from, registers_left, words_left, last_in, in-none, in-left, in-right, filter-in, last-is-in, last-last, Precedes, from-precedes, and-both, or-either, location, Known, bare, events_of, comes_before, known_in, left_of, known_first_registers, value_among, all_known, can_be, can_be_last, words_at_end, register_at_end, allows, Model, true-or}
+use Rattle.refutation_laws.proofs.Tests.{from-not, any-in, picked-of, and-of}
 use Rattle.refutation_laws.proofs.Standing.{Of, of-event}
 use Rattle.refutation_laws.proofs.ClaimFacts.{words-at, ends, Empty, Last}
 use Rattle.refutation_laws.proofs.Determined.{all_of, in-all, AllGiven, left-all-of, length-after, HaveSix, next-six, first-six}
@@ -39,8 +39,7 @@ left-known given core (p ∷ ps) registers reads (suc i) n e l six g =
 -- ---- tests
 
 not-not : (x b : Bool) → x ≡ not b → not x ≡ b
-not-not x true q = ap not q
-not-not x false q = ap not q
+not-not x b q = grind arith
 
 exactly : (o : Option ℕ) (n value : ℕ) (b : Bool) → o ≡ Some n → can_be value b o ≡ true → (n == value) ≡ b
 exactly None n value b q h = let z : ⊥ = cc in absurd z
@@ -48,26 +47,13 @@ exactly (Some v) n value true q h = let e : v ≡ n = cc in subst (λ m. (m == v
 exactly (Some v) n value false q h = let e : v ≡ n = cc in subst (λ m. (m == value) ≡ false) e (from-not (v == value) h)
 
 and-false : (a b : Bool) → (a ≡ false) ⊎ (b ≡ false) → (a && b) ≡ false
-and-false true b (inl h) = let z : ⊥ = cc in absurd z
-and-false true b (inr h) = h
-and-false false b h = refl
-
-or-true : (a b : Bool) → (a ≡ true) ⊎ (b ≡ true) → (a || b) ≡ true
-or-true true b h = refl
-or-true false b (inl h) = let z : ⊥ = cc in absurd z
-or-true false b (inr h) = h
-
-both-true : (a b : Bool) → a ≡ true → b ≡ true → (a && b) ≡ true
-both-true true b p q = q
-both-true false b p q = let z : ⊥ = cc in absurd z
+and-false a b h = grind arith
 
 both-false : (a b : Bool) → a ≡ false → b ≡ false → (a || b) ≡ false
-both-false true b p q = let z : ⊥ = cc in absurd z
-both-false false b p q = q
+both-false a b p q = rw p q
 
 only-first : (a : Bool) → (a || false) ≡ true → a ≡ true
-only-first true h = refl
-only-first false h = h
+only-first a h = grind arith
 
 either-of : {A B C D : Type 0} → (A → C) → (B → D) → A ⊎ B → C ⊎ D
 either-of f g (inl a) = inl (f a)
@@ -155,12 +141,12 @@ module _ (model : Model) (t : Litmus) (k : Known) (o : IsOpen model t k) where
   claim-exact (NotClaim inner) n b h = not-not (truth_of (registers_left t c) (words_left t c) inner) b (claim-exact inner n (not b) h)
   claim-exact (AndClaim left right) n true h =
       let m = and-both (allows t k left true) (allows t k right true) h in
-      both-true _ _ (claim-exact left n.0 true m.0) (claim-exact right n.1 true m.1)
+      and-of _ _ (claim-exact left n.0 true m.0) (claim-exact right n.1 true m.1)
   claim-exact (AndClaim left right) n false h =
       and-false _ _
       (either-of (λ g. claim-exact left n.0 false g) (λ g. claim-exact right n.1 false g) (or-either (allows t k left false) (allows t k right false) h))
   claim-exact (OrClaim left right) n true h =
-      or-true _ _
+      true-or _ _
       (either-of (λ g. claim-exact left n.0 true g) (λ g. claim-exact right n.1 true g) (or-either (allows t k left true) (allows t k right true) h))
   claim-exact (OrClaim left right) n false h =
       let m = and-both (allows t k left false) (allows t k right false) h in

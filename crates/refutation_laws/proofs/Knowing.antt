@@ -127,23 +127,19 @@ pub all-writes-in : (given : Entry → Option ℕ) (core : ℕ) (ps : List (List
     → Given given (events_from core ps registers reads) → (x : Entry) → IsIn (writes_from given core ps registers) x
     → IsIn (events_from core ps registers reads) x
 all-writes-in given core [] registers reads g x i = absurd (in-none x i)
-all-writes-in given core (p ∷ ps) registers reads g x i =
-    go (in-append (writes_of given core 0 p (known_first_registers registers core)) _ x i)
-    (λ j. all-writes-in given (core + 1) ps registers reads (λ y k r. g y (in-right first rest y k) r) x j)
+all-writes-in given core (p ∷ ps) registers reads g x i = elim (in-append (writes_of given core 0 p (known_first_registers registers core)) _ x i) [
+  | inl j ↦
+      in-left first rest x
+      (writes-in given core 0 p (known_first_registers registers core) (slice_index_or registers core []) (slice_index_or reads core [])
+      (fits-first (slice_index_or registers core [])) (λ y k r. g y (in-left first rest y k) r) x j)
+  | inr j ↦ in-right first rest x (all-writes-in given (core + 1) ps registers reads (λ y k r. g y (in-right first rest y k) r) x j)
+]
   where
     first : List Entry
     first = entries_of core 0 p (slice_index_or registers core []) (slice_index_or reads core [])
 
     rest : List Entry
     rest = events_from (core + 1) ps registers reads
-
-    go : IsIn (writes_of given core 0 p (known_first_registers registers core)) x ⊎ IsIn (writes_from given (core + 1) ps registers) x
-        → (IsIn (writes_from given (core + 1) ps registers) x → IsIn rest x) → IsIn (first ++ rest) x
-    go (inl j) more =
-        in-left first rest x
-        (writes-in given core 0 p (known_first_registers registers core) (slice_index_or registers core []) (slice_index_or reads core [])
-        (fits-first (slice_index_or registers core [])) (λ y k r. g y (in-left first rest y k) r) x j)
-    go (inr j) more = in-right first rest x (more j)
 
 -- ---- reads
 

@@ -1,11 +1,11 @@
 -- The order of a full case that no leaf closes: a row of its events in which each edge goes forward, with the values that are known and each
 -- load part put before its store part, is an execution of the model, and what is asked is true in its final state.
-use Rattle.refutation_laws.proofs.Vocabulary.{◌≡◌, ◌+◌, ◌==◌, ◌&&◌, ◌||◌, ℕ, Bool, true, false, not, if◌then◌else◌, List, [], ◌∷◌, ◌++◌, length, Option, Some, None, slice_index, slice_index_or, refl, sym, ap, ◌∙◌, ◌⊎◌, inl, inr, subst, map, filter, list_any, Litmus, action_of, entry, fence, value_in, updated, entries_by, registers_by, values_after, entries_of, is_before, is_read, is_write, may_be_passed, same_kind, Claim, NamesExist, truth_of, final_words, final_registers, Instr, Action, Store, Load, Move, Fence, Lock, Entry, R, W, F, LR, LW, IsIn, Candidate, events, events_from, registers_left, words_left, LeaveTheSame, ArePair, IsAllowed, IsSequential, is_access, in-case, in-none, in-first, in-later, in-append, and-both, same-number, number-same, write-is-no-read, equal-kinds, kind-itself, parts, only, GoesForward, Once, Goes, kinds, Toward, pair, answer, load-of, put, in-put, sound, CanBeKept, IsKeptIn, Others, in-order, goes-kept, Step, keeps, step-kept, tso-allows, Known, bare, events_of, reads_from, comes_before, from_reads, are_parts, all_known, value_among, value_read, allows, value_known, IsExecutionOf, IsMet, Model, Tso, Sequential, is_kept_by, must_precede, comes_toward, is_load_part, IsLinearExtension, value_or_zero, value_in_order, valued, with_loads, order_along, NoneBetween}
-use Rattle.refutation_laws.proofs.Tests.{and-of, or-first, or-second, any-in}
-use Rattle.refutation_laws.proofs.Standing.{Of, of-event, bare-events}
+use Rattle.refutation_laws.proofs.Vocabulary.{◌≡◌, ◌+◌, ◌==◌, ◌&&◌, ◌||◌, ℕ, Bool, true, false, not, if◌then◌else◌, List, [], ◌∷◌, ◌++◌, length, slice_index, slice_index_or, refl, sym, ap, ◌∙◌, ◌⊎◌, inl, inr, subst, map, filter, Litmus, action_of, entry, fence, value_in, updated, entries_by, registers_by, values_after, entries_of, is_before, is_read, is_write, may_be_passed, same_kind, Claim, NamesExist, truth_of, final_words, final_registers, Instr, Action, Store, Load, Move, Fence, Lock, Entry, R, W, F, LR, LW, IsIn, Candidate, events_from, registers_left, words_left, LeaveTheSame, ArePair, IsAllowed, is_access, in-case, in-none, in-first, in-later, in-append, and-both, same-number, number-same, write-is-no-read, equal-kinds, kind-itself, parts, only, GoesForward, Once, Goes, Toward, pair, answer, load-of, put, in-put, sound, CanBeKept, IsKeptIn, in-order, goes-kept, Step, keeps, step-kept, tso-allows, Known, bare, events_of, reads_from, comes_before, are_parts, all_known, value_among, value_read, allows, IsMet, Model, Tso, Sequential, is_kept_by, must_precede, comes_toward, is_load_part, IsLinearExtension, value_or_zero, value_in_order, valued, with_loads, order_along, NoneBetween, is-false, map-append}
+use Rattle.refutation_laws.proofs.Tests.{and-of, or-first, or-second, any-in, different, pick, pass}
+use Rattle.refutation_laws.proofs.Standing.{Of, of-event, bare-events, in-map}
 use Rattle.refutation_laws.proofs.Relating.{rf-bare, fr-bare}
-use Rattle.refutation_laws.proofs.Settling.{IsOpen, own_events, own_candidate, own-in, one-own, all-given, all-known-values}
-use Rattle.refutation_laws.proofs.Allowing.{different, rf-known, co-known, fr-known, is-allowed}
+use Rattle.refutation_laws.proofs.Settling.{IsOpen, own_events, own_candidate, own-in, all-given, all-known-values}
+use Rattle.refutation_laws.proofs.Allowing.{rf-known, co-known, fr-known, is-allowed}
 use Rattle.refutation_laws.proofs.Exactness.{claim-exact}
 
 -- ---- a fence has no value
@@ -34,43 +34,21 @@ fence-by core place (Lock loc reg update) registers word x i f = go (in-case fir
 fence-in-program : (core place : ℕ) (p : List Instr) (registers values : List ℕ) (x : Entry)
     → IsIn (entries_of core place p registers values) x → x.kind ≡ F → x.value ≡ 0
 fence-in-program core place [] registers values x i f = absurd (in-none x i)
-fence-in-program core place (s ∷ p) registers values x i f =
-    go (in-append (entries_by core place (action_of s) registers (slice_index values 0)) _ x i)
-    (λ j. fence-in-program core (place + 1) p (registers_by (action_of s) registers (slice_index values 0)) (values_after (action_of s) values) x j f)
-  where
-    later : List Entry
-    later = entries_of core (place + 1) p (registers_by (action_of s) registers (slice_index values 0)) (values_after (action_of s) values)
-
-    go : IsIn (entries_by core place (action_of s) registers (slice_index values 0)) x ⊎ IsIn later x → (IsIn later x → x.value ≡ 0) → x.value ≡ 0
-    go (inl j) more = fence-by core place (action_of s) registers (slice_index values 0) x j f
-    go (inr j) more = more j
+fence-in-program core place (s ∷ p) registers values x i f = elim (in-append (entries_by core place (action_of s) registers (slice_index values 0)) _ x i) [
+  | inl j ↦ fence-by core place (action_of s) registers (slice_index values 0) x j f
+  | inr j ↦
+      fence-in-program core (place + 1) p (registers_by (action_of s) registers (slice_index values 0)) (values_after (action_of s) values) x j f
+]
 
 fence-value : (core : ℕ) (ps : List (List Instr)) (registers reads : List (List ℕ)) (x : Entry)
     → IsIn (events_from core ps registers reads) x → x.kind ≡ F → x.value ≡ 0
 fence-value core [] registers reads x i f = absurd (in-none x i)
-fence-value core (p ∷ ps) registers reads x i f =
-    go (in-append (entries_of core 0 p (slice_index_or registers core []) (slice_index_or reads core [])) _ x i)
-    (λ j. fence-value (core + 1) ps registers reads x j f)
-  where
-    go : IsIn (entries_of core 0 p (slice_index_or registers core []) (slice_index_or reads core [])) x
-        ⊎ IsIn (events_from (core + 1) ps registers reads) x
-        → (IsIn (events_from (core + 1) ps registers reads) x → x.value ≡ 0) → x.value ≡ 0
-    go (inl j) more = fence-in-program core 0 p (slice_index_or registers core []) (slice_index_or reads core []) x j f
-    go (inr j) more = more j
+fence-value core (p ∷ ps) registers reads x i f = elim (in-append (entries_of core 0 p (slice_index_or registers core []) (slice_index_or reads core [])) _ x i) [
+  | inl j ↦ fence-in-program core 0 p (slice_index_or registers core []) (slice_index_or reads core []) x j f
+  | inr j ↦ fence-value (core + 1) ps registers reads x j f
+]
 
 -- ---- lists
-
-pub in-map : (f : Entry → Entry) (xs : List Entry) (x : Entry) → IsIn xs x → IsIn (map f xs) (f x)
-in-map f [] x i = absurd (in-none x i)
-in-map f (y ∷ ys) x i = go (in-case y ys x i) (λ j. in-map f ys x j)
-  where
-    go : (x ≡ y) ⊎ IsIn ys x → (IsIn ys x → IsIn (map f ys) (f x)) → IsIn (f y ∷ map f ys) (f x)
-    go (inl e) later = in-first (f y) (map f ys) (f x) (ap f e)
-    go (inr j) later = in-later (f y) (map f ys) (f x) (later j)
-
-map-append : (f : Entry → Entry) (xs ys : List Entry) → map f (xs ++ ys) ≡ map f xs ++ map f ys
-map-append f [] ys = refl
-map-append f (x ∷ xs) ys = ap (λ zs. f x ∷ zs) (map-append f xs ys)
 
 once-back : (f : Entry → Entry) (xs : List Entry) → Once (map f xs) → Once xs
 once-back f [] o = tt
@@ -127,11 +105,7 @@ pub load-kind : (e : Entry) → is_load_part e ≡ false → e.kind ≡ LR → �
 load-kind e h q = let k : is_load_part e ≡ true = subst (λ z. same_kind z LR ≡ true) (sym q) (kind-itself LR) in let z : ⊥ = cc in z
 
 kind-load : (e : Entry) → (e.kind ≡ LR → ⊥) → is_load_part e ≡ false
-kind-load e n = go (is_load_part e) refl
-  where
-    go : (b : Bool) → is_load_part e ≡ b → b ≡ false
-    go true q = absurd (n (equal-kinds e.kind LR q))
-    go false q = refl
+kind-load e n = is-false (is_load_part e) (λ q. n (equal-kinds e.kind LR q))
 
 -- ---- edges
 
@@ -143,18 +117,6 @@ BeforeIn Sequential c = Step c
 kept-by : (model : Model) (x y : Entry) → is_before x y ≡ true → may_be_passed x y ≡ false → is_kept_by model x y ≡ true
 kept-by Tso x y b p = and-of (is_before x y) (not (may_be_passed x y)) b (ap not p)
 kept-by Sequential x y b p = b
-
-pub pick : {A : Type 0} (b : Bool) (u v : A) → b ≡ true → (if b then u else v) ≡ u
-pick true u v h = refl
-pick false u v h = let z : ⊥ = cc in absurd z
-
-pub pass : {A : Type 0} (b : Bool) (u v : A) → b ≡ false → (if b then u else v) ≡ v
-pass true u v h = let z : ⊥ = cc in absurd z
-pass false u v h = refl
-
-denied : (b : Bool) → (b ≡ true → ⊥) → b ≡ false
-denied true h = absurd (h refl)
-denied false h = refl
 
 module _ (model : Model) (t : Litmus) (k : Known) (o : IsOpen model t k) where
   abbrev es : List Entry
@@ -186,7 +148,7 @@ module _ (model : Model) (t : Litmus) (k : Known) (o : IsOpen model t k) where
       ∙ ap value_or_zero (pick (is_read x) (value_read t k (bare x)) _ r ∙ all-given model t k o x i r)
   value-own x i (inr (inl w)) =
       pick (is_access x) _ 0 (or-second (is_read x) (is_write x) w)
-      ∙ ap value_or_zero (pass (is_read x) _ (value_among (all_known t k) (bare x)) (denied (is_read x) (write-is-no-read x w)) ∙ all-known-values model t k o x i w)
+      ∙ ap value_or_zero (pass (is_read x) _ (value_among (all_known t k) (bare x)) (is-false (is_read x) (write-is-no-read x w)) ∙ all-known-values model t k o x i w)
   value-own x i (inr (inr f)) =
       pass (is_access x) _ 0 (subst (λ q. ((same_kind q R || same_kind q LR) || (same_kind q W || same_kind q LW)) ≡ false) (sym f) refl)
       ∙ sym (fence-value 0 t.programs t.registers c.reads x i f)
@@ -223,11 +185,10 @@ module _ (model : Model) (t : Litmus) (k : Known) (o : IsOpen model t k) where
 
   pub from : (row : List Entry) (x : Entry) → IsIn (map (valued t k) row) x → From row x
   from [] x i = absurd (in-none x i)
-  from (e ∷ row) x i = go (in-case (valued t k e) (map (valued t k) row) x i) (λ j. from row x j)
-    where
-      go : (x ≡ valued t k e) ⊎ IsIn (map (valued t k) row) x → (IsIn (map (valued t k) row) x → From row x) → From (e ∷ row) x
-      go (inl q) later = record { event = e; inside = in-first e row e refl; is = q }
-      go (inr j) later = let f = later j in record { event = f.event; inside = in-later e row f.event f.inside; is = f.is }
+  from (e ∷ row) x i = elim (in-case (valued t k e) (map (valued t k) row) x i) [
+    | inl q ↦ record { event = e; inside = in-first e row e refl; is = q }
+    | inr j ↦ let f = from row x j in record { event = f.event; inside = in-later e row f.event f.inside; is = f.is }
+  ]
 
   put-inside : (xs : List Entry) → ((x : Entry) → IsIn xs x → IsIn es x) → (x : Entry) → IsIn (put es xs) x → IsIn es x
   put-inside xs f x i = go (in-put es xs x i)

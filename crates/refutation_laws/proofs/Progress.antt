@@ -1,27 +1,19 @@
 -- In a full case that no leaf closes, some event of those that are left can stand next: the candidate of the case gives all answers, and
 -- its edges never go round.
-use Rattle.refutation_laws.proofs.Vocabulary.{◌≡◌, ◌<◌, ◌==◌, ◌&&◌, ◌||◌, ℕ, Bool, true, false, not, if◌then◌else◌, List, [], ◌∷◌, Option, Some, None, slice_get, arith, refl, sym, ap, ◌∙◌, ◌⊎◌, inl, inr, subst, map, list_any, Litmus, is_before, is_read, is_write, writes_to, may_be_passed, Entry, IsIn, at_once, IsAcyclic, Candidate, events, IsBefore, ArePair, IsAllowed, in-case, in-none, in-first, in-later, filter-in, and-both, or-either, same-number, number-same, location, Goes, member, GoesForward, LinearExtension, in-a-row, Toward, toward, pair-goes, way, others, is-other, other-is, Sound, sound, CanBeKept, goes-kept, Step, step-kept, tso-allows, Known, bare, events_of, same_event, reads_from, comes_before, from_reads, are_parts, Stands, IsSameSource, HasSources, HasPairs, Agrees, Source, Pair, Model, Tso, Sequential, IsPossibleSource, ArePossible, AreSingle, AreOfReads, ArePairsOfWrites, IsSound, NoneBetween, is_kept_by, must_precede, comes_toward, is_load_part, valued}
-use Rattle.refutation_laws.proofs.Tests.{and-of, or-first, or-second, any-in, any-holds}
-use Rattle.refutation_laws.proofs.Standing.{Of, of-event, same-bare}
+use Rattle.refutation_laws.proofs.Vocabulary.{◌≡◌, ◌==◌, ◌&&◌, ◌||◌, ℕ, true, false, not, List, [], ◌∷◌, Option, Some, None, refl, sym, ap, ◌∙◌, inl, inr, subst, map, list_any, Litmus, is_before, is_read, is_write, writes_to, may_be_passed, Entry, IsIn, at_once, IsAcyclic, Candidate, IsBefore, IsAllowed, in-case, in-none, in-first, in-later, filter-in, and-both, or-either, number-same, Goes, member, GoesForward, LinearExtension, in-a-row, Toward, toward, pair-goes, way, others, is-other, other-is, Sound, sound, CanBeKept, goes-kept, step-kept, tso-allows, Known, bare, events_of, same_event, reads_from, comes_before, from_reads, are_parts, Stands, IsSameSource, HasSources, HasPairs, Agrees, Source, Pair, Model, Tso, Sequential, IsPossibleSource, ArePossible, AreSingle, AreOfReads, ArePairsOfWrites, IsSound, NoneBetween, is_kept_by, must_precede, comes_toward, is_load_part, valued, is-false, order-of, at-one}
+use Rattle.refutation_laws.proofs.Tests.{and-of, or-first, or-second, any-holds, clash, pick, pass, from-not}
+use Rattle.refutation_laws.proofs.Standing.{Of, of-event, same-bare, in-map}
 use Rattle.refutation_laws.proofs.Soundness.{bare-same}
 use Rattle.refutation_laws.proofs.Agreeing.{has-rf, has-co, has-fr}
 use Rattle.refutation_laws.proofs.Rows.{Edge, never-back-at}
 use Rattle.refutation_laws.proofs.Settling.{IsOpen, own_events, own_candidate, writes-row, one-own, entry_of, source_in, found}
 use Rattle.refutation_laws.proofs.Allowing.{is-allowed}
-use Rattle.refutation_laws.proofs.Ordering.{BeforeIn, pick, pass, parts-pair, load-kind, From, from, own, in-map}
+use Rattle.refutation_laws.proofs.Ordering.{BeforeIn, parts-pair, load-kind, From, from, own}
 
 -- ---- two events
 
 same-through : (q r s : Entry) → same_event q r ≡ true → same_event s r ≡ true → same_event q s ≡ true
 same-through q r s a b = bare-same q s (same-bare q r a ∙ sym (same-bare s r b))
-
-unlike : (b : Bool) → (b ≡ true → ⊥) → b ≡ false
-unlike true h = absurd (h refl)
-unlike false h = refl
-
-clash : (b : Bool) → b ≡ true → b ≡ false → ⊥
-clash true a h = let z : ⊥ = cc in z
-clash false a h = let z : ⊥ = cc in z
 
 module _ (model : Model) (t : Litmus) (k : Known) (o : IsOpen model t k) where
   abbrev es : List Entry
@@ -43,13 +35,10 @@ module _ (model : Model) (t : Litmus) (k : Known) (o : IsOpen model t k) where
   any-single : (s r : Entry) (ss : List Source) → same_event s r ≡ true → list_any (λ (q : Source). same_event q.read r) ss ≡ true
       → list_any (λ (q : Source). same_event q.read s) ss ≡ true
   any-single s r [] h a = let z : ⊥ = cc in absurd z
-  any-single s r (q ∷ ss) h a = go (or-either (same_event q.read r) _ a) (λ b. any-single s r ss h b)
-    where
-      go : (same_event q.read r ≡ true) ⊎ (list_any (λ (p : Source). same_event p.read r) ss ≡ true)
-          → (list_any (λ (p : Source). same_event p.read r) ss ≡ true → list_any (λ (p : Source). same_event p.read s) ss ≡ true)
-          → list_any (λ (p : Source). same_event p.read s) (q ∷ ss) ≡ true
-      go (inl b) later = or-first (same_event q.read s) _ (same-through q.read r s b h)
-      go (inr b) later = or-second (same_event q.read s) _ (later b)
+  any-single s r (q ∷ ss) h a = elim (or-either (same_event q.read r) _ a) [
+    | inl b ↦ or-first (same_event q.read s) _ (same-through q.read r s b h)
+    | inr b ↦ or-second (same_event q.read s) _ (any-single s r ss h b)
+  ]
 
   has-sources : (ss : List Source) → ArePossible t ss → AreSingle ss → AreOfReads ss
       → ((r : Entry) → list_any (λ (q : Source). same_event q.read r) ss ≡ true → source_in es k.sources r ≡ source_in es ss r)
@@ -64,12 +53,19 @@ module _ (model : Model) (t : Litmus) (k : Known) (o : IsOpen model t k) where
     has-sources ss ps.1 single.1 reads.1 (λ r a.
         f r (or-second (same_event s.read r) _ a)
         ∙ pass (same_event s.read r) (entry_of es s.write) (source_in es ss r)
-        (unlike (same_event s.read r) (λ h. clash _ (any-single s.read r ss h a) single.0))),
+        (is-false (same_event s.read r) (λ h. clash _ (any-single s.read r ss h a) single.0))),
   )
 
   in-order : (p : Pair) → is_write p.first ≡ true → writes_to p.first.loc.0 p.second ≡ true → same_event p.first p.second ≡ false
       → (w v : Entry) → Stands t c p.first w → Stands t c p.second v → comes_before k w v ≡ true → IsBefore c w v
-  in-order p writes to apart w v sw sv b = on (order-of iw.0 iv.0)
+  in-order p writes to apart w v sw sv b = elim (order-of iw.0 iv.0) [
+    | inl l ↦ record { first = iw.0; second = iv.0; is_first = iw.1; is_second = iv.1; before = l }
+    | inr (inl e) ↦
+        let same : w ≡ v = at-one (c.coherence loc) iw.0 iv.0 w v iw.1 iv.1 e in
+        absurd (clash _ (bare-same p.first p.second (sw.same ∙ (ap bare same ∙ sym sv.same))) apart)
+    | inr (inr l) ↦
+        absurd (never-back-at (Edge (comes_before k)) (writes-row model t k o loc).row iw.0 iv.0 w v (writes-row model t k o loc).forward iw.1 iv.1 l b)
+  ]
     where
       first : is_write w ≡ true
       first = subst (λ z. is_write z ≡ true) sw.same writes
@@ -88,23 +84,6 @@ module _ (model : Model) (t : Litmus) (k : Known) (o : IsOpen model t k) where
 
       iv : IsIn (c.coherence loc) v
       iv = (writes-row model t k o loc).inside v (filter-in (writes_to loc) es v sv.inside to-v)
-
-      order-of : (m n : ℕ) → (m < n) ⊎ ((m ≡ n) ⊎ (n < m))
-      order-of m n = grind arith
-
-      at-one : (xs : List Entry) (m n : ℕ) (x y : Entry) → slice_get xs m ≡ Some x → slice_get xs n ≡ Some y → m ≡ n → x ≡ y
-      at-one xs m n x y p q e =
-          let r : slice_get xs n ≡ Some x = subst (λ i. slice_get xs i ≡ Some x) e p in
-          let z : Some x ≡ Some y = sym r ∙ q in
-          cc
-
-      on : (iw.0 < iv.0) ⊎ ((iw.0 ≡ iv.0) ⊎ (iv.0 < iw.0)) → IsBefore c w v
-      on (inl l) = record { first = iw.0; second = iv.0; is_first = iw.1; is_second = iv.1; before = l }
-      on (inr (inl e)) =
-          let same : w ≡ v = at-one (c.coherence loc) iw.0 iv.0 w v iw.1 iv.1 e in
-          absurd (clash _ (bare-same p.first p.second (sw.same ∙ (ap bare same ∙ sym sv.same))) apart)
-      on (inr (inr l)) =
-          absurd (never-back-at (Edge (comes_before k)) (writes-row model t k o loc).row iw.0 iv.0 w v (writes-row model t k o loc).forward iw.1 iv.1 l b)
 
   has-pairs : (ps : List Pair) → ArePairsOfWrites ps
       → ((p : Pair) (w v : Entry) → list_any (λ (q : Pair). same_event q.first w && same_event q.second v) ps ≡ true → comes_before k w v ≡ true)
@@ -132,31 +111,24 @@ module _ (model : Model) (t : Litmus) (k : Known) (o : IsOpen model t k) where
   goes-so : (d : Sound t c) (g : Agrees t c k) (x y : Entry) → IsIn es x → IsIn es y
       → ((reads_from k (bare x) (bare y) && not (x.core.0 == y.core.0)) || (comes_before k (bare x) (bare y) || from_reads k (bare x) (bare y))) ≡ true
       → Goes c x y
-  goes-so d g x y i j h = go (or-either (reads_from k (bare x) (bare y) && not (x.core.0 == y.core.0)) _ h)
-    where
-      far : (m n : ℕ) → not (m == n) ≡ true → m ≡ n → ⊥
-      far m n q e = let r : (m == n) ≡ true = number-same m n e in let z : ⊥ = cc in z
-
-      on : (comes_before k (bare x) (bare y) ≡ true) ⊎ (from_reads k (bare x) (bare y) ≡ true) → Goes c x y
-      on (inl b) = inr (inr (inl (has-co t c k g (bare x) (bare y) x y b (own-stands x i) (own-stands y j))))
-      on (inr b) = inr (inr (inr (has-fr t c d k g (bare x) (bare y) x y b (own-stands x i) (own-stands y j))))
-
-      go : ((reads_from k (bare x) (bare y) && not (x.core.0 == y.core.0)) ≡ true)
-          ⊎ ((comes_before k (bare x) (bare y) || from_reads k (bare x) (bare y)) ≡ true) → Goes c x y
-      go (inl b) =
-          let m = and-both (reads_from k (bare x) (bare y)) _ b in
-          inr (inl (has-rf t c d k.sources g.sources (bare x) (bare y) x y m.0 (own-stands x i) (own-stands y j), far x.core.0 y.core.0 m.1))
-      go (inr b) = on (or-either (comes_before k (bare x) (bare y)) _ b)
+  goes-so d g x y i j h = elim (or-either (reads_from k (bare x) (bare y) && not (x.core.0 == y.core.0)) _ h) [
+    | inl b ↦
+        let m = and-both (reads_from k (bare x) (bare y)) _ b in
+        inr (inl (
+          has-rf t c d k.sources g.sources (bare x) (bare y) x y m.0 (own-stands x i) (own-stands y j),
+          λ e. clash _ (number-same x.core.0 y.core.0 e) (from-not (x.core.0 == y.core.0) m.1),
+        ))
+    | inr b ↦ elim (or-either (comes_before k (bare x) (bare y)) _ b) [
+      | inl b ↦ inr (inr (inl (has-co t c k g (bare x) (bare y) x y b (own-stands x i) (own-stands y j))))
+      | inr b ↦ inr (inr (inr (has-fr t c d k g (bare x) (bare y) x y b (own-stands x i) (own-stands y j))))
+    ]
+  ]
 
 -- what is kept of program order
 kept-goes : (model : Model) (c : Candidate) (x y : Entry) → is_kept_by model (bare x) (bare y) ≡ true → BeforeIn model c x y
 kept-goes Tso c x y h =
     let m = and-both (is_before x y) (not (may_be_passed x y)) h in
     inl (m.0, from-not (may_be_passed x y) m.1)
-  where
-    from-not : (b : Bool) → not b ≡ true → b ≡ false
-    from-not true q = let z : ⊥ = cc in absurd z
-    from-not false q = refl
 kept-goes Sequential c x y h = inl h
 
 goes-in : (model : Model) (c : Candidate) (x y : Entry) → Goes c x y → BeforeIn model c x y
@@ -170,20 +142,17 @@ first-in : (E : Entry → Entry → Type 0) (row some : List Entry) → GoesForw
     → ((x : Entry) → IsIn some x → IsIn row x) → ((x : Entry) → IsIn some x → (y : Entry) × (IsIn some y × E y x))
     → (x : Entry) → IsIn some x → ⊥
 first-in E [] some f never inside stuck x i = in-none x (inside x i)
-first-in E (r ∷ row) some f never inside stuck x i = go (member some r)
-    (λ out. first-in E row some f.1 (λ z j. never z (in-later r row z j)) (λ z j. out z j) stuck x i)
-  where
-    on : (y : Entry) → (y ≡ r) ⊎ IsIn row y → E y r → ⊥
-    on y (inl e) b = never r (in-first r row r refl) (subst (λ z. E z r) e b)
-    on y (inr j) b = f.0 y j b
-
-    rest : (IsIn some r → ⊥) → (z : Entry) → IsIn some z → (z ≡ r) ⊎ IsIn row z → IsIn row z
-    rest n z j (inl e) = absurd (n (subst (IsIn some) e j))
-    rest n z j (inr l) = l
-
-    go : IsIn some r ⊎ (IsIn some r → ⊥) → (((z : Entry) → IsIn some z → IsIn row z) → ⊥) → ⊥
-    go (inl j) later = let m = stuck r j in on m.0 (in-case r row m.0 (inside m.0 m.1.0)) m.1.1
-    go (inr n) later = later (λ z j. rest n z j (in-case r row z (inside z j)))
+first-in E (r ∷ row) some f never inside stuck x i = elim (member some r) [
+  | inl j ↦
+      let m = stuck r j in
+      elim (in-case r row m.0 (inside m.0 m.1.0)) [
+        | inl e ↦ never r (in-first r row r refl) (subst (λ z. E z r) e m.1.1)
+        | inr l ↦ f.0 m.0 l m.1.1
+      ]
+  | inr n ↦
+      first-in E row some f.1 (λ z j. never z (in-later r row z j))
+      (λ z j. elim (in-case r row z (inside z j)) [ inl e ↦ absurd (n (subst (IsIn some) e j)) | inr l ↦ l ]) stuck x i
+]
 
 module _ (model : Model) (t : Litmus) (k : Known) (o : IsOpen model t k) (s : IsSound t k)
     (a : IsAllowed t (own_candidate model t k o))
@@ -198,26 +167,21 @@ module _ (model : Model) (t : Litmus) (k : Known) (o : IsOpen model t k) (s : Is
   Before = BeforeIn model d
 
   must-so : (x y : Entry) → IsIn fs x → IsIn fs y → must_precede model k (bare x) (bare y) ≡ true → Before x y
-  must-so x y i j h = go (or-either (is_kept_by model (bare x) (bare y)) _ h)
-    where
-      go : (is_kept_by model (bare x) (bare y) ≡ true)
-          ⊎ (((reads_from k (bare x) (bare y) && not (x.core.0 == y.core.0)) || (comes_before k (bare x) (bare y) || from_reads k (bare x) (bare y))) ≡ true)
-          → Before x y
-      go (inl b) = kept-goes model d x y b
-      go (inr b) = goes-in model d x y (goes-so model t k o (sound t d a.candidate) (agrees model t k o s) x y i j b)
+  must-so x y i j h = elim (or-either (is_kept_by model (bare x) (bare y)) _ h) [
+    | inl b ↦ kept-goes model d x y b
+    | inr b ↦ goes-in model d x y (goes-so model t k o (sound t d a.candidate) (agrees model t k o s) x y i j b)
+  ]
 
   toward-so : (x y : Entry) → IsIn fs x → IsIn fs y → comes_toward model t k (bare x) (bare y) ≡ true → Toward fs Before x y
-  toward-so x y i j h = go (or-either (must_precede model k (bare x) (bare y)) _ h)
-    where
-      go : (must_precede model k (bare x) (bare y) ≡ true)
-          ⊎ (list_any (λ r. are_parts r (bare y) && must_precede model k (bare x) r) (events_of t) ≡ true) → Toward fs Before x y
-      go (inl b) = inl (must-so x y i j b)
-      go (inr b) =
-          let m = any-holds (λ r. are_parts r (bare y) && must_precede model k (bare x) r) (events_of t) b in
-          let of : Of fs m.entry = of-event t d m.entry m.inside in
-          let q = and-both (are_parts (bare of.entry) (bare y)) (must_precede model k (bare x) (bare of.entry))
-          (subst (λ r. (are_parts r (bare y) && must_precede model k (bare x) r) ≡ true) of.same m.holds) in
-          inr (of.entry, (of.inside, (parts-pair of.entry y q.0, must-so x of.entry i of.inside q.1)))
+  toward-so x y i j h = elim (or-either (must_precede model k (bare x) (bare y)) _ h) [
+    | inl b ↦ inl (must-so x y i j b)
+    | inr b ↦
+        let m = any-holds (λ r. are_parts r (bare y) && must_precede model k (bare x) r) (events_of t) b in
+        let of : Of fs m.entry = of-event t d m.entry m.inside in
+        let q = and-both (are_parts (bare of.entry) (bare y)) (must_precede model k (bare x) (bare of.entry))
+        (subst (λ r. (are_parts r (bare y) && must_precede model k (bare x) r) ≡ true) of.same m.holds) in
+        inr (of.entry, (of.inside, (parts-pair of.entry y q.0, must-so x of.entry i of.inside q.1)))
+  ]
 
   -- the events of these that are left can't all have one of them before them
   some-first : (rest : List Entry) → ((x : Entry) → IsIn rest x → IsIn (events_of t) x × (is_load_part x ≡ false))

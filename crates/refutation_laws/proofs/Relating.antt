@@ -10,12 +10,7 @@ OneOf t k (r ∷ rs) x y = (relates t k r x y ≡ true) ⊎ OneOf t k rs x y
 
 pub one-of : (t : Litmus) (k : Known) (rs : List Relation) (x y : Entry) → is_edge t k rs x y ≡ true → OneOf t k rs x y
 one-of t k [] x y h = let z : ⊥ = cc in z
-one-of t k (r ∷ rs) x y h = go (or-either (relates t k r x y) (is_edge t k rs x y) h) (λ g. one-of t k rs x y g)
-  where
-    go : (relates t k r x y ≡ true) ⊎ (is_edge t k rs x y ≡ true) → (is_edge t k rs x y ≡ true → OneOf t k rs x y)
-        → OneOf t k (r ∷ rs) x y
-    go (inl g) later = inl g
-    go (inr g) later = inr (later g)
+one-of t k (r ∷ rs) x y h = elim (or-either (relates t k r x y) (is_edge t k rs x y) h) [ inl g ↦ inl g | inr g ↦ inr (one-of t k rs x y g) ]
 
 pub edge-by : (t : Litmus) (k : Known) (rs : List Relation) (x y : Entry) → OneOf t k rs x y → is_edge t k rs x y ≡ true
 edge-by t k [] x y h = absurd h

@@ -1,5 +1,5 @@
 -- The events of a test have a cycle of some edges, as a list, or stand in a row in which each edge goes forward.
-use Rattle.refutation_laws.proofs.Vocabulary.{◌≡◌, ◌<◌, ℕ, zero, suc, Bool, true, List, [], ◌∷◌, Some, slice_get, arith, refl, sym, ◌∙◌, ◌⊎◌, inl, inr, subst, list_all, Litmus, Entry, IsIn, LeadsTo, at_once, onward, IsAcyclic, is-true, starts-in, GoesForward, Ordered, Decided, GoesRound, ordered-or-round, events_of, is_event, leads_back, is_cycle}
+use Rattle.refutation_laws.proofs.Vocabulary.{◌≡◌, ◌<◌, ℕ, zero, suc, Bool, true, List, [], ◌∷◌, Some, slice_get, arith, refl, sym, ◌⊎◌, inl, inr, subst, list_all, Litmus, Entry, IsIn, LeadsTo, at_once, onward, IsAcyclic, is-true, starts-in, GoesForward, Ordered, Decided, ordered-or-round, events_of, is_event, leads_back, is_cycle, order-of, at-one}
 use Rattle.refutation_laws.proofs.Tests.{and-of}
 
 -- ---- places in the row
@@ -15,19 +15,11 @@ never-back-at Before (x ∷ xs) (suc i) (suc j) a b f p q l h = never-back-at Be
 -- an edge goes forward
 pub edge-forward : (Before : Entry → Entry → Type 0) (xs : List Entry) (o : Ordered Before xs) (i j : ℕ) (a b : Entry)
     → slice_get o.in_a_row.row i ≡ Some a → slice_get o.in_a_row.row j ≡ Some b → Before a b → i < j
-edge-forward Before xs o i j a b p q h = on (order-of i j)
-  where
-    order-of : (m n : ℕ) → (m < n) ⊎ ((m ≡ n) ⊎ (n < m))
-    order-of m n = grind arith
-
-    one : i ≡ j → a ≡ b
-    one e = let r : slice_get o.in_a_row.row j ≡ Some a = subst (λ k. slice_get o.in_a_row.row k ≡ Some a) e p in let z : Some a ≡ Some b = sym r ∙ q in cc
-
-    on : (i < j) ⊎ ((i ≡ j) ⊎ (j < i)) → i < j
-    on (inl l) = l
-    on (inr (inl e)) =
-        absurd (o.never_itself a (o.in_a_row.outside a (i, p)) (subst (Before a) (sym (one e)) h))
-    on (inr (inr l)) = absurd (never-back-at Before o.in_a_row.row i j a b o.in_a_row.forward p q l h)
+edge-forward Before xs o i j a b p q h = elim (order-of i j) [
+  | inl l ↦ l
+  | inr (inl e) ↦ absurd (o.never_itself a (o.in_a_row.outside a (i, p)) (subst (Before a) (sym (at-one o.in_a_row.row i j a b p q e)) h))
+  | inr (inr l) ↦ absurd (never-back-at Before o.in_a_row.row i j a b o.in_a_row.forward p q l h)
+]
 
 path-forward : (Before : Entry → Entry → Type 0) (xs : List Entry) (o : Ordered Before xs) (i j : ℕ) (a b : Entry)
     → slice_get o.in_a_row.row i ≡ Some a → slice_get o.in_a_row.row j ≡ Some b → LeadsTo xs Before a b → i < j
@@ -86,8 +78,5 @@ cycle-of t edge is x way =
 -- the events of a test have a cycle of these edges, or stand in a row in which each edge goes forward
 pub cycle-or-row : (t : Litmus) (edge : Entry → Entry → Bool) → ((x : Entry) → IsIn (events_of t) x → is_event t x ≡ true)
     → HasCycle t edge ⊎ Ordered (Edge edge) (events_of t)
-cycle-or-row t edge is = go (ordered-or-round (events_of t) (Edge edge) (edge-decided edge))
-  where
-    go : GoesRound (Edge edge) (events_of t) ⊎ Ordered (Edge edge) (events_of t) → HasCycle t edge ⊎ Ordered (Edge edge) (events_of t)
-    go (inl g) = inl (cycle-of t edge is g.event g.round)
-    go (inr o) = inr o
+cycle-or-row t edge is =
+    elim (ordered-or-round (events_of t) (Edge edge) (edge-decided edge)) [ inl g ↦ inl (cycle-of t edge is g.event g.round) | inr o ↦ inr o ]

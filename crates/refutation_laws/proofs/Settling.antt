@@ -1,9 +1,9 @@
 -- In a full case with no cycle all values are known: a read is given after so many rounds as its place in a row of the model's global relation says. The
 -- candidate of the case has those values.
-use Rattle.refutation_laws.proofs.Vocabulary.{◌≡◌, ◌<◌, ◌≤◌, ℕ, zero, suc, ◌+◌, ◌==◌, ◌&&◌, ◌||◌, Bool, true, false, not, if◌then◌else◌, List, [], ◌∷◌, length, Option, Some, None, slice_get, slice_index, arith, refl, sym, ap, ◌∙◌, ◌⊎◌, inl, inr, subst, filter, list_any, Litmus, is_before, is_read, is_write, writes_to, Entry, rank, part_of, part-small, IsIn, LeadsTo, at_once, onward, Candidate, Returns, is_access, share_location, in-case, in-none, in-first, in-later, in-filter, and-both, same-number, write-is-no-read, rank-before, before-trans, number, location, share, LinearExtension, Ordered, in-a-row, Known, bare, events_of, same_event, is_event, is_write_of, reads_from, comes_before, Source, on_location, global_in, is_edge, Model, Tso, Sequential, value_among, returned_from, returned, known_writes, all_known, IsPossibleSource, ArePossible, IsFull}
+use Rattle.refutation_laws.proofs.Vocabulary.{◌≡◌, ◌<◌, ◌≤◌, ℕ, zero, suc, ◌==◌, ◌&&◌, ◌||◌, Bool, true, false, if◌then◌else◌, List, [], ◌∷◌, length, Option, Some, None, slice_get, slice_index, arith, refl, sym, ap, ◌∙◌, ◌⊎◌, inl, inr, subst, filter, list_any, Litmus, is_before, is_read, is_write, writes_to, Entry, rank, part_of, part-small, IsIn, LeadsTo, at_once, onward, Candidate, Returns, is_access, share_location, in-case, in-none, in-first, in-later, in-filter, and-both, write-is-no-read, rank-before, before-trans, number, location, share, LinearExtension, Ordered, in-a-row, Known, bare, events_of, same_event, is_event, is_write_of, reads_from, comes_before, Source, on_location, global_in, is_edge, Model, Tso, Sequential, value_among, returned_from, returned, known_writes, all_known, IsPossibleSource, ArePossible, IsFull, order-of, halves, writes}
 use Rattle.refutation_laws.proofs.Standing.{Of, event-in, of-event, same-bare}
 use Rattle.refutation_laws.proofs.Soundness.{itself, bare-same}
-use Rattle.refutation_laws.proofs.Tests.{and-of, or-first, or-second, any-in}
+use Rattle.refutation_laws.proofs.Tests.{and-of, or-first, or-second, any-in, pick, pass, different}
 use Rattle.refutation_laws.proofs.Relating.{edge-by, of-bare}
 use Rattle.refutation_laws.proofs.Rows.{edge-forward, ordered-acyclic, Edge, edge-decided}
 use Rattle.refutation_laws.proofs.Building.{or_zero, reads_given, events_given, returns-chosen, one-event, same-place, known-value}
@@ -38,22 +38,14 @@ pub first-of : (t : Litmus) (ss : List Source) → ArePossible t ss → (r : Ent
 first-of t [] ps r h = let z : ⊥ = cc in absurd z
 first-of t (s ∷ ss) ps r h = go (same_event s.read r) refl h (λ g. first-of t ss ps.1 r g)
   where
-    if-true : {A : Type 0} (b : Bool) (x y : A) → b ≡ true → (if b then x else y) ≡ x
-    if-true true x y e = refl
-    if-true false x y e = let z : ⊥ = cc in absurd z
-
-    if-false : {A : Type 0} (b : Bool) (x y : A) → b ≡ false → (if b then x else y) ≡ y
-    if-false true x y e = let z : ⊥ = cc in absurd z
-    if-false false x y e = refl
-
     go : (b : Bool) → same_event s.read r ≡ b → (b || list_any (λ (s : Source). same_event s.read r) ss) ≡ true
         → (list_any (λ (s : Source). same_event s.read r) ss ≡ true → First t ss r) → First t (s ∷ ss) r
     go true q g later = record {
       source = s;
       same = q;
       possible = ps.0;
-      given = λ ws. if-true (same_event s.read r) (returned_from t ws (bare r) s.write) (returned t ws ss (bare r)) q;
-      from = λ es. if-true (same_event s.read r) (entry_of es s.write) (source_in es ss r) q;
+      given = λ ws. pick (same_event s.read r) (returned_from t ws (bare r) s.write) (returned t ws ss (bare r)) q;
+      from = λ es. pick (same_event s.read r) (entry_of es s.write) (source_in es ss r) q;
       among = λ p h. or-first (same_event s.read r && p s) _ (and-of (same_event s.read r) (p s) q h);
     }
     go false q g later =
@@ -62,8 +54,8 @@ first-of t (s ∷ ss) ps r h = go (same_event s.read r) refl h (λ g. first-of t
           source = f.source;
           same = f.same;
           possible = f.possible;
-          given = λ ws. if-false (same_event s.read r) (returned_from t ws (bare r) s.write) (returned t ws ss (bare r)) q ∙ f.given ws;
-          from = λ es. if-false (same_event s.read r) (entry_of es s.write) (source_in es ss r) q ∙ f.from es;
+          given = λ ws. pass (same_event s.read r) (returned_from t ws (bare r) s.write) (returned t ws ss (bare r)) q ∙ f.given ws;
+          from = λ es. pass (same_event s.read r) (entry_of es s.write) (source_in es ss r) q ∙ f.from es;
           among = λ p h. or-second (same_event s.read r && p s) _ (f.among p h);
         }
 
@@ -97,13 +89,6 @@ write-access x w = or-second (is_read x) (is_write x) w
 
 -- ---- edges
 
-far : (w r : Entry) → (w.core.0 ≡ r.core.0 → ⊥) → not (w.core.0 == r.core.0) ≡ true
-far w r n = go (w.core.0 == r.core.0) refl
-  where
-    go : (b : Bool) → (w.core.0 == r.core.0) ≡ b → not b ≡ true
-    go true q = absurd (n (let z : w.core.0 ≡ r.core.0 = same-number w.core.0 r.core.0 q in z))
-    go false q = refl
-
 -- a read before an access in its program
 pub read-edge : (model : Model) (t : Litmus) (k : Known) (x y : Entry) → is_before x y ≡ true → is_read x ≡ true → is_access y ≡ true
     → is_edge t k (global_in model) x y ≡ true
@@ -115,7 +100,7 @@ read-edge Sequential t k x y b r a = edge-by t k (global_in Sequential) x y (inl
 -- a read from another core's write
 pub other-edge : (model : Model) (t : Litmus) (k : Known) (w r : Entry) → reads_from k w r ≡ true → (w.core.0 ≡ r.core.0 → ⊥)
     → is_edge t k (global_in model) w r ≡ true
-other-edge Tso t k w r h n = edge-by t k (global_in Tso) w r (inr (inr (inr (inl (and-of (reads_from k w r) _ h (far w r n))))))
+other-edge Tso t k w r h n = edge-by t k (global_in Tso) w r (inr (inr (inr (inl (and-of (reads_from k w r) _ h (different w.core.0 r.core.0 n))))))
 other-edge Sequential t k w r h n = edge-by t k (global_in Sequential) w r (inr (inl h))
 
 po-edge : (t : Litmus) (k : Known) (x y : Entry) → is_before x y ≡ true → share_location x y ≡ true → is_edge t k on_location x y ≡ true
@@ -204,53 +189,34 @@ module _ (model : Model) (t : Litmus) (k : Known) (o : IsOpen model t k) where
   -- a source in the program of its read stands before it
   before-read : (x y : Entry) → IsIn own_events x → IsIn own_events y → is_read x ≡ true → writes_to x.loc.0 y ≡ true
       → reads_from k y x ≡ true → y.core.0 ≡ x.core.0 → is_before y x ≡ true
-  before-read x y i j r w f e = on (order-of (rank y) (rank x))
+  before-read x y i j r w f e = elim (order-of (rank y) (rank x)) [
+    | inl l ↦ rank-before y x e l
+    | inr (inl q) ↦
+        let s = halves y.place (part_of y.kind) x.place (part_of x.kind) (part-small y.kind) (part-small x.kind) q in
+        let same : y ≡ x = same-place t own_reads y x j i e s.0 s.1 in
+        absurd (write-is-no-read y is-write (subst (λ z. is_read z ≡ true) (sym same) r))
+    | inr (inr l) ↦
+        absurd (ordered-acyclic (Edge (is_edge t k on_location)) (events_of t) o.within_locations (bare x)
+        (onward (bare x) (bare y) (bare x) (own-in x i)
+        (of-bare t k on_location x y (po-edge t k x y (rank-before x y (sym e) l) (share x y (read-access x r) (write-access y is-write) (sym (location x.loc.0 y w)))))
+        (at_once (bare y) (bare x) (own-in y j) (own-in x i) (of-bare t k on_location y x (rf-edge t k y x f)))))
+  ]
     where
-      order-of : (m n : ℕ) → (m < n) ⊎ ((m ≡ n) ⊎ (n < m))
-      order-of m n = grind arith
-
-      halves : (p a q b : ℕ) → a ≤ 1 → b ≤ 1 → p + p + a ≡ q + q + b → (p ≡ q) × (a ≡ b)
-      halves p a q b l m h = (omega arith, omega arith)
-
-      writes : is_write y ≡ true
-      writes = (and-both (is_write y) (y.loc.0 == x.loc.0) w).0
-
-      back : is_before x y ≡ true → ⊥
-      back b =
-          ordered-acyclic (Edge (is_edge t k on_location)) (events_of t) o.within_locations (bare x)
-          (onward (bare x) (bare y) (bare x) (own-in x i)
-          (of-bare t k on_location x y (po-edge t k x y b (share x y (read-access x r) (write-access y writes) (sym (location x.loc.0 y w)))))
-          (at_once (bare y) (bare x) (own-in y j) (own-in x i) (of-bare t k on_location y x (rf-edge t k y x f))))
-
-      one : rank y ≡ rank x → ⊥
-      one q =
-          let s = halves y.place (part_of y.kind) x.place (part_of x.kind) (part-small y.kind) (part-small x.kind) q in
-          let same : y ≡ x = same-place t own_reads y x j i e s.0 s.1 in
-          write-is-no-read y writes (subst (λ z. is_read z ≡ true) (sym same) r)
-
-      on : (rank y < rank x) ⊎ ((rank y ≡ rank x) ⊎ (rank x < rank y)) → is_before y x ≡ true
-      on (inl l) = rank-before y x e l
-      on (inr (inl q)) = absurd (one q)
-      on (inr (inr l)) = absurd (back (rank-before x y (sym e) l))
+      is-write : is_write y ≡ true
+      is-write = writes x.loc.0 y w
 
   -- a read before the source of a read x stands before x in the row
   earlier : (x y z : Entry) → IsIn own_events x → IsIn own_events y → IsIn own_events z → is_read x ≡ true → writes_to x.loc.0 y ≡ true
       → reads_from k y x ≡ true → is_read z ≡ true → is_before z y ≡ true → (i j : ℕ)
       → slice_get o.globally.in_a_row.row i ≡ Some (bare x) → slice_get o.globally.in_a_row.row j ≡ Some (bare z) → j < i
-  earlier x y z ix iy iz rx w f rz b i j p q = go (number y.core.0 x.core.0)
-    where
-      writes : is_write y ≡ true
-      writes = (and-both (is_write y) (y.loc.0 == x.loc.0) w).0
-
-      go : (y.core.0 ≡ x.core.0) ⊎ (y.core.0 ≡ x.core.0 → ⊥) → j < i
-      go (inl e) =
-          edge-places z x j i q p
-          (read-edge model t k z x (before-trans z y x b (before-read x y ix iy rx w f e)) rz (read-access x rx))
-      go (inr n) =
-          let at = place y iy in
-          let l : j < at.0 = edge-places z y j at.0 q at.1 (read-edge model t k z y b rz (write-access y writes)) in
-          let m : at.0 < i = edge-places y x at.0 i at.1 p (other-edge model t k y x f n) in
-          omega (arith, l, m)
+  earlier x y z ix iy iz rx w f rz b i j p q = elim (number y.core.0 x.core.0) [
+    | inl e ↦ edge-places z x j i q p (read-edge model t k z x (before-trans z y x b (before-read x y ix iy rx w f e)) rz (read-access x rx))
+    | inr n ↦
+        let at = place y iy in
+        let l : j < at.0 = edge-places z y j at.0 q at.1 (read-edge model t k z y b rz (write-access y (writes x.loc.0 y w))) in
+        let m : at.0 < i = edge-places y x at.0 i at.1 p (other-edge model t k y x f n) in
+        omega (arith, l, m)
+  ]
 
   settle : (i : ℕ)
       → ((j : ℕ) → j < i → (z : Entry) → IsIn own_events z → is_read z ≡ true → slice_get o.globally.in_a_row.row j ≡ Some (bare z) → Settled z j)

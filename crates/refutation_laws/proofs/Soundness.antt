@@ -46,11 +46,8 @@ module _ (model : Model) (t : Litmus) (c : Candidate) (allowed : IsAllowedBy mod
   from-one : (k : Known) (r : Entry) (ws : List Entry) → Shut (map (with_source k r) (map (λ w. Some w) ws)) → (w : Entry) → IsIn ws w
       → Agrees t c (with_source k r (Some w)) → Fails
   from-one k r [] s w i a = absurd (in-none w i)
-  from-one k r (v ∷ vs) s w i a = go (in-case v vs w i) (λ j. from-one k r vs s.1 w j a)
-    where
-      go : (w ≡ v) ⊎ IsIn vs w → (IsIn vs w → Fails) → Fails
-      go (inl q) later = s.0 (subst (λ z. Agrees t c (with_source k r (Some z))) q a)
-      go (inr j) later = later j
+  from-one k r (v ∷ vs) s w i a =
+      elim (in-case v vs w i) [ inl q ↦ s.0 (subst (λ z. Agrees t c (with_source k r (Some z))) q a) | inr j ↦ from-one k r vs s.1 w j a ]
 
   by-source : (k : Known) (r : Entry) → is_event t r ≡ true → is_read r ≡ true → Shut (map (with_source k r) (sources_of t r))
       → Agrees t c k → Fails

@@ -1,5 +1,5 @@
 -- The events of a test are those of each of its candidates, without their values.
-use Rattle.refutation_laws.proofs.Vocabulary.{◌≡◌, ℕ, ◌+◌, ◌==◌, true, List, [], ◌∷◌, ◌++◌, slice_index, slice_index_or, refl, sym, ap, ◌∙◌, ◌⊎◌, inl, inr, subst, map, Litmus, action_of, entry, entries_by, registers_by, values_after, entries_of, same_kind, is_at, Instr, Action, Store, Load, Move, Fence, Lock, Entry, part_of, IsIn, Candidate, events_from, events, in-case, in-none, in-first, in-later, equal-kinds, apart-three, and-both, same-number, Sound, bare, events_of, same_event, is_event, Stands}
+use Rattle.refutation_laws.proofs.Vocabulary.{◌≡◌, ℕ, ◌+◌, ◌==◌, true, List, [], ◌∷◌, ◌++◌, slice_index, slice_index_or, refl, sym, ap, ◌∙◌, inl, inr, subst, map, Litmus, action_of, entry, entries_by, registers_by, values_after, entries_of, same_kind, is_at, Instr, Action, Store, Load, Move, Fence, Lock, Entry, part_of, IsIn, Candidate, events_from, events, in-case, in-none, in-first, in-later, equal-kinds, apart-three, and-both, same-number, Sound, bare, events_of, same_event, is_event, Stands, map-append}
 use Rattle.refutation_laws.proofs.Tests.{any-holds}
 
 -- ---- one event
@@ -20,10 +20,6 @@ same-bare x y h =
 
 -- ---- the same events, whatever the reads return
 
-pub map-append : (xs ys : List Entry) → map bare (xs ++ ys) ≡ map bare xs ++ map bare ys
-map-append [] ys = refl
-map-append (x ∷ xs) ys = ap (λ zs. bare x ∷ zs) (map-append xs ys)
-
 by-action : (core place : ℕ) (a : Action) (r s : List ℕ) (v w : ℕ)
     → map bare (entries_by core place a r v) ≡ map bare (entries_by core place a s w)
 by-action core place (Store loc operand) r s v w = refl
@@ -34,7 +30,7 @@ by-action core place (Lock loc reg update) r s v w = refl
 
 appended : (xs ys us vs : List Entry) → map bare xs ≡ map bare us → map bare ys ≡ map bare vs → map bare (xs ++ ys) ≡ map bare (us ++ vs)
 appended xs ys us vs p q =
-    map-append xs ys ∙ (ap (λ zs. zs ++ map bare ys) p ∙ (ap (λ zs. map bare us ++ zs) q ∙ sym (map-append us vs)))
+    map-append bare xs ys ∙ (ap (λ zs. zs ++ map bare ys) p ∙ (ap (λ zs. map bare us ++ zs) q ∙ sym (map-append bare us vs)))
 
 pub by-program : (core place : ℕ) (p : List Instr) (r s values others : List ℕ)
     → map bare (entries_of core place p r values) ≡ map bare (entries_of core place p s others)
@@ -62,13 +58,12 @@ bare-events t c = by-programs 0 t.programs t.registers c.reads []
 
 -- ---- where an event stands
 
-pub in-map : (xs : List Entry) (x : Entry) → IsIn xs x → IsIn (map bare xs) (bare x)
-in-map [] x i = absurd (in-none x i)
-in-map (y ∷ ys) x i = go (in-case y ys x i) (λ j. in-map ys x j)
-  where
-    go : (x ≡ y) ⊎ IsIn ys x → (IsIn ys x → IsIn (map bare ys) (bare x)) → IsIn (bare y ∷ map bare ys) (bare x)
-    go (inl q) later = in-first (bare y) (map bare ys) (bare x) (ap bare q)
-    go (inr j) later = in-later (bare y) (map bare ys) (bare x) (later j)
+pub in-map : (f : Entry → Entry) (xs : List Entry) (x : Entry) → IsIn xs x → IsIn (map f xs) (f x)
+in-map f [] x i = absurd (in-none x i)
+in-map f (y ∷ ys) x i = elim (in-case y ys x i) [
+  | inl e ↦ in-first (f y) (map f ys) (f x) (ap f e)
+  | inr j ↦ in-later (f y) (map f ys) (f x) (in-map f ys x j)
+]
 
 pub record Of (xs : List Entry) (e : Entry) : Type 0 where
   pub entry : Entry
@@ -77,15 +72,14 @@ pub record Of (xs : List Entry) (e : Entry) : Type 0 where
 
 pub of-map : (xs : List Entry) (e : Entry) → IsIn (map bare xs) e → Of xs e
 of-map [] e i = absurd (in-none e i)
-of-map (x ∷ xs) e i = go (in-case (bare x) (map bare xs) e i) (λ j. of-map xs e j)
-  where
-    go : (e ≡ bare x) ⊎ IsIn (map bare xs) e → (IsIn (map bare xs) e → Of xs e) → Of (x ∷ xs) e
-    go (inl q) later = record { entry = x; inside = in-first x xs x refl; same = q }
-    go (inr j) later = let o = later j in record { entry = o.entry; inside = in-later x xs o.entry o.inside; same = o.same }
+of-map (x ∷ xs) e i = elim (in-case (bare x) (map bare xs) e i) [
+  | inl q ↦ record { entry = x; inside = in-first x xs x refl; same = q }
+  | inr j ↦ let o = of-map xs e j in record { entry = o.entry; inside = in-later x xs o.entry o.inside; same = o.same }
+]
 
 -- an entry of a candidate is of an event of the test
 pub event-in : (t : Litmus) (c : Candidate) (x : Entry) → IsIn (events t c) x → IsIn (events_of t) (bare x)
-event-in t c x i = subst (λ es. IsIn es (bare x)) (bare-events t c) (in-map (events t c) x i)
+event-in t c x i = subst (λ es. IsIn es (bare x)) (bare-events t c) (in-map bare (events t c) x i)
 
 pub of-event : (t : Litmus) (c : Candidate) (e : Entry) → IsIn (events_of t) e → Of (events t c) e
 of-event t c e i = of-map (events t c) e (subst (λ es. IsIn es e) (sym (bare-events t c)) i)

@@ -1,29 +1,36 @@
 -- Tests put together and taken apart: conjunctions, disjunctions, and that a test holds of a member of a list.
-use Rattle.refutation_laws.proofs.Vocabulary.{◌≡◌, ◌&&◌, ◌||◌, Bool, true, false, not, List, [], ◌∷◌, refl, sym, ap, ◌⊎◌, inl, inr, subst, map, filter, list_any, Entry, IsIn, in-case, in-none, in-first, in-later, in-filter, filter-in}
+use Rattle.refutation_laws.proofs.Vocabulary.{◌≡◌, ◌&&◌, ◌||◌, Bool, true, false, not, List, [], ◌∷◌, refl, sym, ap, inl, inr, subst, map, filter, list_any, Entry, IsIn, in-case, in-none, in-first, in-later, in-filter, filter-in, ◌==◌, ◌≢◌, ℕ, if◌then◌else◌, is-false, same-number, arith}
 
 pub and-of : (a b : Bool) → a ≡ true → b ≡ true → (a && b) ≡ true
-and-of true b p q = q
-and-of false b p q = let z : ⊥ = cc in absurd z
+and-of a b p q = rw p q
 
 pub or-first : (a b : Bool) → a ≡ true → (a || b) ≡ true
-or-first true b h = refl
-or-first false b h = let z : ⊥ = cc in absurd z
+or-first a b h = rw h refl
 
 pub or-second : (a b : Bool) → b ≡ true → (a || b) ≡ true
-or-second true b h = refl
-or-second false b h = h
+or-second a b h = grind arith
 
 pub from-not : (x : Bool) → not x ≡ true → x ≡ false
-from-not true h = let z : ⊥ = cc in absurd z
-from-not false h = refl
+from-not x h = grind arith
+
+pub clash : (b : Bool) → b ≡ true → b ≡ false → ⊥
+clash b a h = let z : ⊥ = cc in z
+
+pub pick : {A : Type 0} (b : Bool) (u v : A) → b ≡ true → (if b then u else v) ≡ u
+pick b u v h = rw h refl
+
+pub pass : {A : Type 0} (b : Bool) (u v : A) → b ≡ false → (if b then u else v) ≡ v
+pass b u v h = rw h refl
+
+pub different : (m n : ℕ) → m ≢ n → not (m == n) ≡ true
+different m n d = ap not (is-false (m == n) (λ h. d (same-number m n h)))
 
 pub any-in : (p : Entry → Bool) (xs : List Entry) (x : Entry) → IsIn xs x → p x ≡ true → list_any p xs ≡ true
 any-in p [] x i h = absurd (in-none x i)
-any-in p (y ∷ ys) x i h = go (in-case y ys x i) (λ j. any-in p ys x j h)
-  where
-    go : (x ≡ y) ⊎ IsIn ys x → (IsIn ys x → list_any p ys ≡ true) → (p y || list_any p ys) ≡ true
-    go (inl q) later = or-first (p y) _ (subst (λ z. p z ≡ true) q h)
-    go (inr j) later = or-second (p y) _ (later j)
+any-in p (y ∷ ys) x i h = elim (in-case y ys x i) [
+  | inl q ↦ or-first (p y) _ (subst (λ z. p z ≡ true) q h)
+  | inr j ↦ or-second (p y) _ (any-in p ys x j h)
+]
 
 pub record Holds (xs : List Entry) (p : Entry → Bool) : Type 0 where
   pub entry : Entry

@@ -4,21 +4,21 @@ pub use Rattle.std.specs.Prelude.{map, filter, slice_set}
 pub use Rattle.std.specs.List.{list_any, list_all}
 pub use Rattle.tso_model.specs.declared.execution.Entry.{Entry}
 pub use Rattle.relational_model.specs.Events.{IsIn, IsEarlier, LeadsTo, at_once, onward, IsAcyclic}
-pub use Rattle.relational_model.proofs.Lists.{in-case, in-none, in-first, in-later, in-filter, filter-in, in-append, in-left, in-right, last-is-in, last-last, Precedes, from-precedes}
+pub use Rattle.relational_model.proofs.Lists.{in-case, in-none, in-first, in-later, in-filter, filter-in, in-append, in-left, in-right, last-is-in, last-last, Precedes, from-precedes, at-one}
 pub use Rattle.tso_model.specs.Litmus.{Litmus, IsTest, IsCondition}
 pub use Rattle.tso_model.specs.ProgramOrder.{is_before, is_read, is_write, writes_to, same_kind, may_be_passed}
 pub use Rattle.tso_model.specs.declared.execution.Kind.TheVariants.{F, LR, LW, R, W}
 pub use Rattle.relational_model.specs.Candidates.{Candidate, IsCandidate, events, words_left, registers_left, events_from, Returns, last_word, words_left_from, registers_left_from}
 pub use Rattle.relational_model.specs.Relations.{is_access, share_location, ReadsFrom, IsBefore, StandsAfter, FromReads}
 pub use Rattle.relational_model.specs.Model.{IsBeforeOnLocation, po_loc, rf, co, fr, HappensBefore, write_before_write, read_before_access, mfence, implied, rfe, IsAtomic, is_locked, IsAllowed, ArePair}
-pub use Rattle.relational_model.proofs.KindFacts.{and-both, or-either, number-same, same-number, write-is-no-read}
-pub use Rattle.relational_model.proofs.Found.{kind-itself, at-itself, equal-kinds, apart-three}
+pub use Rattle.relational_model.proofs.KindFacts.{and-both, or-either, number-same, same-number, write-is-no-read, writes}
+pub use Rattle.relational_model.proofs.Found.{kind-itself, at-itself, equal-kinds, apart-three, is-false}
 pub use Rattle.relational_model.proofs.Sources.{never-itself, one-way, never-back}
 pub use Rattle.relational_model.proofs.Order.{stand-once, location, share}
 pub use Rattle.relational_model.proofs.Forward.{starts-in}
 pub use Rattle.relational_model.specs.inner.Rows.{Ordered, GoesForward, Once, LinearExtension}
-pub use Rattle.relational_model.proofs.Events.{Sound, sound, same-events-from}
-pub use Rattle.relational_model.specs.SequentialModel.{IsBeforeSequentially, IsSequential}
+pub use Rattle.relational_model.proofs.Events.{Sound, sound, same-events-from, halves}
+pub use Rattle.relational_model.specs.SequentialModel.{IsBeforeSequentially}
 pub use Rattle.refutation_laws.specs.Known.{Known, bare, events_of, same_event, is_event, is_write_of, reads_from, comes_before, is_overwritten, from_reads, nothing, with_source, with_pair}
 pub use Rattle.refutation_laws.specs.declared.known.Source.{Source}
 pub use Rattle.refutation_laws.specs.Edges.{relates, on_location, global_in, is_edge, are_parts, is_between, leads_back, is_cycle}
@@ -50,7 +50,7 @@ pub use Rattle.tso_model.specs.declared.action.Action.TheVariants.{Store, Load, 
 pub use Rattle.tso_model.specs.declared.execution.Kind.{Kind}
 pub use Rattle.basic_laws.specs.Ranks.{rank, part_of}
 pub use Rattle.basic_laws.proofs.Basics.{part-small}
-pub use Rattle.relational_model.proofs.Ranks.{rank-before, before-trans}
+pub use Rattle.relational_model.proofs.Ranks.{rank-before, before-trans, order-of}
 pub use Rattle.relational_model.proofs.Same.{only, here-by, from-place}
 pub use Rattle.refutation_laws.specs.declared.known.Pair.{Pair}
 pub use Rattle.basic_laws.proofs.Lists.{Member}
@@ -58,13 +58,13 @@ pub use Rattle.refutation_laws.specs.Shown.{value_known, first_that_relates}
 pub use Rattle.tso_model.specs.ProgramEntries.{is_at}
 pub use Rattle.tso_model.specs.FinalState.{final_words, final_registers}
 pub use Rattle.relational_model.specs.CandidatesOfOrders.{LeaveTheSame, last_in, IsCandidateOf}
-pub use Rattle.relational_model.proofs.Fences.{parts}
-pub use Rattle.relational_model.proofs.Decisions.{Goes, kinds, member, number, is-true}
+pub use Rattle.relational_model.proofs.Fences.{parts, true-or}
+pub use Rattle.relational_model.proofs.Decisions.{Goes, member, number, is-true}
 pub use Rattle.relational_model.proofs.Together.{Toward, pair, answer, load-of, put, in-put, toward, pair-goes, way, others, is-other, other-is}
-pub use Rattle.relational_model.proofs.Converse.{CanBeKept, IsKeptIn, Others, in-order, goes-kept}
+pub use Rattle.relational_model.proofs.Converse.{CanBeKept, IsKeptIn, in-order, goes-kept}
 pub use Rattle.relational_model.proofs.SequentialOrders.{Step, keeps, step-kept}
 pub use Rattle.refutation_laws.specs.inner.Orders.{is_kept_by, must_precede, comes_toward, is_load_part, IsLinearExtension, value_or_zero, value_in_order, valued, with_loads, order_along}
-pub use Rattle.relational_model.proofs.Sorting.{in-a-row, Decided, GoesRound, ordered-or-round}
+pub use Rattle.relational_model.proofs.Sorting.{in-a-row, Decided, ordered-or-round}
 pub use Rattle.tso_model.specs.declared.condition.Quantifier.{Quantifier}
 pub use Rattle.tso_model.specs.declared.condition.Quantifier.TheVariants.{Exists, NotExists, Forall}
 pub use Rattle.tso_model.specs.Axioms.{IsTsoExecution}
@@ -76,3 +76,4 @@ pub use Rattle.outcome_laws.specs.Outcomes.{IsEnd}
 pub use Rattle.tso_model.specs.Examples.{sb, n6}
 pub use Rattle.relational_model.specs.WorkedCandidates.{sb_candidate, n6_candidate}
 pub use Rattle.refutation_laws.specs.Worked.{both_zero, own_last}
+pub use Rattle.std.proofs.lemmas.List.{map-append, length-set}
