@@ -15,6 +15,6 @@ events-more number ps registers values whole done after own within is more so =
     let rest : List Entry = events_from (number + 1) (drop (number + 1) ps) registers [] in
     so
     ∙ (ap (λ es. done ++ es) (at_drop_more (λ qs. map bare (events_from number qs registers [])) ps number [] within
-    ∙ (map-append first rest
+    ∙ (map-append bare first rest
     ∙ ap (λ es. es ++ map bare rest) (by-program number 0 p r r (slice_index_or [] number []) values ∙ ap (λ es. map bare es) (sym is))))
     ∙ (sym (append_assoc done (map bare own) (map bare rest)) ∙ ap (λ es. es ++ map bare rest) (sym more)))

@@ -4,14 +4,13 @@ use Rattle.refutations.proofs.Vocabulary.{◌≡◌, ◌<◌, ◌≤◌, ◌+◌
 pub settled : (t : Litmus) (k : Known) (n all : ℕ) → n ≤ all → known_writes t k (suc n) ≡ known_writes t k n
     → known_writes t k all ≡ known_writes t k n
 settled t k n zero l h = let e : zero ≡ n = omega (arith, l) in ap (known_writes t k) e
-settled t k n (suc all) l h = go (split n all l) (λ m. settled t k n all m h)
+settled t k n (suc all) l h = elim (split n all l) [
+  | inl e ↦ ap (known_writes t k) e
+  | inr m ↦ ap (λ ws. writes_from (returned t ws k.sources) 0 t.programs t.registers) (settled t k n all m h) ∙ h
+]
   where
     split : (i j : ℕ) → i ≤ suc j → (suc j ≡ i) ⊎ (i ≤ j)
     split i j m = grind arith
-
-    go : (suc all ≡ n) ⊎ (n ≤ all) → (n ≤ all → known_writes t k all ≡ known_writes t k n) → known_writes t k (suc all) ≡ known_writes t k n
-    go (inl e) later = ap (known_writes t k) e
-    go (inr m) later = ap (λ ws. writes_from (returned t ws k.sources) 0 t.programs t.registers) (later m) ∙ h
 
 -- what a round knows more
 pub one-round : (t : Litmus) (k : Known) (n : ℕ) (more writes before : List Entry) (sources : List Source) → before ≡ writes → sources ≡ k.sources

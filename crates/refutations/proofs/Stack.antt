@@ -1,5 +1,5 @@
 -- The stack of cases: what is pushed comes first.
-use Rattle.refutations.proofs.Vocabulary.{◌≡◌, ◌<◌, ◌≤◌, ℕ, suc, arith, ◌+◌, ◌==◌, ◌&&◌, Bool, true, false, cond, List, [], ◌∷◌, ◌++◌, length, get_or, drop, map, refl, ap, sym, ◌∙◌, filter, at_drop_more, at_drop_all, nat_tests, Litmus, Claim, Entry, is_node, branches, close, Model, Known, node_of, known_of, cases_of, Answers, Node}
+use Rattle.refutations.proofs.Vocabulary.{◌≡◌, ◌<◌, ◌≤◌, ℕ, suc, arith, ◌+◌, ◌==◌, ◌&&◌, Bool, true, false, List, [], ◌∷◌, ◌++◌, length, get_or, drop, map, refl, ap, sym, ◌∙◌, at_drop_more, at_drop_all, nat_tests, Litmus, Claim, is_node, branches, close, Model, Known, node_of, known_of, cases_of, Answers, Node}
 
 pub cases-push : (old : List Answers) (a : Answers) → cases_of (old ++ (a ∷ [])) ≡ known_of a ∷ cases_of old
 cases-push [] a = refl
@@ -11,13 +11,6 @@ pub pushed : (before after : List Answers) (a : Answers) (k : Known) → after �
 pushed before after a k e is = ap cases_of e ∙ cases-push before a ∙ ap (λ x. x ∷ cases_of before) is
 
 -- ---- the nodes, one by one
-
-pub kept-one : (p : Entry → Bool) (xs : List Entry) (i n : ℕ) (d : Entry) → n ≡ i + 1 → i < length xs → p (get_or xs i d) ≡ true
-    → filter p (drop i xs) ≡ get_or xs i d ∷ filter p (drop n xs)
-kept-one p xs i n d e within h =
-    at_drop_more (filter p) xs i d within
-    ∙ (ap (λ b. cond b (get_or xs i d ∷ filter p (drop (i + 1) xs)) (filter p (drop (i + 1) xs))) h
-    ∙ ap (λ m. get_or xs i d ∷ filter p (drop m xs)) (sym e))
 
 module _ (model : Model) (t : Litmus) (claim : Claim) (nodes : List Node) (i : ℕ) (s : Node) (within : i < length nodes) (is : s ≡ get_or nodes i s)
     (old new : List Answers) (a : Answers) (popped : old ≡ new ++ (a ∷ [])) (whole b : Bool) (judged : b ≡ is_node model t claim (known_of a) (node_of s))

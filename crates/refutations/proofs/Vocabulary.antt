@@ -6,7 +6,8 @@ pub use Rattle.tso_model.specs.declared.instruction.Instr.{Instr}
 pub use Rattle.tso_model.specs.declared.execution.Entry.{Entry}
 pub use Rattle.relational_model.specs.Candidates.{events_from}
 pub use Rattle.refutation_laws.specs.Known.{bare, Known, same_event, comes_before, events_of, is_event}
-pub use Rattle.refutation_laws.proofs.Standing.{map-append, by-program}
+pub use Rattle.refutation_laws.proofs.Standing.{by-program}
+pub use Rattle.std.proofs.lemmas.List.{map-append}
 pub use Rattle.std.specs.Prelude.{filter}
 pub use Rattle.std.specs.List.{list_any}
 pub use Rattle.tso_model.specs.Litmus.{Litmus, IsTest, IsCondition}

@@ -9,7 +9,9 @@ ghost use Rattle.refutations.specs.inner.Facts.{AreFacts};
 
 use crate::answers::Answers;
 use crate::events::is_read;
-use crate::values::{Walk, known_first_registers, returned, run_all, run_program, value_among};
+use crate::values::{
+    Reads, Walk, known_first_registers, returned, run_all, run_program, value_among,
+};
 use std::alloc::Global;
 use tso_model::{Core, Entry, NoMemory, Test};
 
@@ -76,6 +78,11 @@ fn all_left(
         ≡ spec.left_of (spec.returned test.now known.now (known_of answers.now).sources) core 0 (slice_index_or test.now.programs core [])
         (spec.known_first_registers test.now.registers core)) }
 {
+    let reads = Reads {
+        test,
+        writes: known,
+        sources: &answers.sources,
+    };
     let mut left = Vec::new(alloc);
     for number in 0..test.cores() {
         let core = Core(number);
@@ -83,7 +90,7 @@ fn all_left(
             writes: Vec::new(alloc),
             registers: known_first_registers(test, core),
         };
-        run_program(&mut walk, test, known, &answers.sources, core)?;
+        run_program(&mut walk, reads, core)?;
         left.push(walk.registers)?;
     }
     Ok(left)

@@ -15,6 +15,14 @@ pub struct Walk {
     pub registers: [Option<u32>; 6],
 }
 
+/// By what reads return values: the test, the writes whose values are known, and the sources that the answers tell.
+#[derive(Clone, Copy)]
+pub struct Reads<'a> {
+    pub test: &'a Test,
+    pub writes: &'a [Entry],
+    pub sources: &'a [Source],
+}
+
 fn known_operand(registers: &[Option<u32>; 6], operand: Operand) -> Option<u32>
     ensures { result ≡ spec.known_operand registers.now operand }
 {
@@ -79,15 +87,8 @@ pub fn returned(test: &Test, writes: &[Entry], sources: &[Source], r: &Entry) ->
     None
 }
 
-fn word_given(
-    test: &Test,
-    writes: &[Entry],
-    sources: &[Source],
-    core: Core,
-    place: u8,
-    action: Action,
-) -> Option<u32>
-    ensures { result ≡ spec.word_given (spec.returned test.now writes.now sources.now) core.0 place action }
+fn word_given(reads: Reads<'_>, core: Core, place: u8, action: Action) -> Option<u32>
+    ensures { result ≡ spec.word_given (spec.returned reads.entry.test.now reads.entry.writes.now reads.entry.sources.now) core.0 place action }
 {
     let (kind, loc) = match action {
         Action::Load(_, loc) => (Kind::R, loc),
@@ -101,28 +102,17 @@ fn word_given(
         loc,
         value: 0,
     };
-    returned(test, writes, sources, &read)
+    returned(reads.test, reads.writes, reads.sources, &read)
 }
 
-fn note(
-    walk: &mut Walk,
-    core: Core,
-    place: u8,
-    kind: Kind,
-    loc: Loc,
-    value: Option<u32>,
-) -> Result<(), NoMemory>
-    ensures writes { IfOk result (λ _. walk.new.writes.items ≡ walk.old.writes.items ++ spec.write_with core.0 place kind loc value) }
+/// Notes a write, if its value is known.
+fn note(walk: &mut Walk, write: Entry, value: Option<u32>) -> Result<(), NoMemory>
+    ensures writes { IfOk result (λ _. walk.new.writes.items
+        ≡ walk.old.writes.items ++ spec.write_with write.core.0 write.place write.kind write.loc value) }
     ensures registers { walk.new.registers ≡ walk.old.registers }
 {
     if let Some(value) = value {
-        walk.writes.push(Entry {
-            core,
-            place,
-            kind,
-            loc,
-            value,
-        })?;
+        walk.writes.push(Entry { value, ..write })?;
     }
     Ok(())
 }
@@ -141,7 +131,14 @@ fn act(
     match action {
         Action::Store(loc, operand) => {
             let value = known_operand(&walk.registers, operand);
-            note(walk, core, place, Kind::W, loc, value)?;
+            let write = Entry {
+                core,
+                place,
+                kind: Kind::W,
+                loc,
+                value: 0,
+            };
+            note(walk, write, value)?;
         }
         Action::Load(reg, _) => walk.registers[reg.index()] = word,
         Action::Move(reg, operand) => {
@@ -150,7 +147,14 @@ fn act(
         Action::Fence => {}
         Action::Lock(loc, reg, update) => {
             let value = known_update(update, word, walk.registers[reg.index()]);
-            note(walk, core, place, Kind::LW, loc, value)?;
+            let write = Entry {
+                core,
+                place,
+                kind: Kind::LW,
+                loc,
+                value: 0,
+            };
+            note(walk, write, value)?;
             walk.registers[reg.index()] = word;
         }
     }
@@ -160,42 +164,36 @@ fn act(
 /// Runs one instruction.
 fn run_instruction(
     walk: &mut Walk,
-    test: &Test,
-    before: &[Entry],
-    sources: &[Source],
+    reads: Reads<'_>,
     core: Core,
     place: u8,
     instr: Instr,
 ) -> Result<(), NoMemory>
     ensures writes { IfOk result (λ _. (rest : List Instr)
-        → walk.old.writes.items ++ spec.writes_of (spec.returned test.now before.now sources.now) core.0 place (instr ∷ rest) walk.old.registers
-        ≡ walk.new.writes.items ++ spec.writes_of (spec.returned test.now before.now sources.now) core.0 (place + 1) rest walk.new.registers) }
+        → walk.old.writes.items ++ spec.writes_of (spec.returned reads.entry.test.now reads.entry.writes.now reads.entry.sources.now) core.0 place (instr ∷ rest) walk.old.registers
+        ≡ walk.new.writes.items ++ spec.writes_of (spec.returned reads.entry.test.now reads.entry.writes.now reads.entry.sources.now) core.0 (place + 1) rest walk.new.registers) }
     ensures registers { IfOk result (λ _. (rest : List Instr)
-        → spec.left_of (spec.returned test.now before.now sources.now) core.0 place (instr ∷ rest) walk.old.registers
-        ≡ spec.left_of (spec.returned test.now before.now sources.now) core.0 (place + 1) rest walk.new.registers) }
+        → spec.left_of (spec.returned reads.entry.test.now reads.entry.writes.now reads.entry.sources.now) core.0 place (instr ∷ rest) walk.old.registers
+        ≡ spec.left_of (spec.returned reads.entry.test.now reads.entry.writes.now reads.entry.sources.now) core.0 (place + 1) rest walk.new.registers) }
 {
     let action = instr.action();
-    let word = word_given(test, before, sources, core, place, action);
+    let word = word_given(reads, core, place, action);
     act(walk, core, place, action, word)
 }
 
 /// Runs a core's program, where these writes are known before.
-pub fn run_program(
-    walk: &mut Walk,
-    test: &Test,
-    before: &[Entry],
-    sources: &[Source],
-    core: Core,
-) -> Result<(), NoMemory>
-    requires { core.0 < length test.now.programs }
+pub fn run_program(walk: &mut Walk, reads: Reads<'_>, core: Core) -> Result<(), NoMemory>
+    requires { core.0 < length reads.test.now.programs }
     ensures writes { IfOk result (λ _. walk.new.writes.items ≡ walk.old.writes.items
-        ++ spec.writes_of (spec.returned test.now before.now sources.now) core.0 0 (slice_index_or test.now.programs core.0 []) walk.old.registers) }
+        ++ spec.writes_of (spec.returned reads.entry.test.now reads.entry.writes.now reads.entry.sources.now) core.0 0
+        (slice_index_or reads.entry.test.now.programs core.0 []) walk.old.registers) }
     ensures registers { IfOk result (λ _. walk.new.registers
-        ≡ spec.left_of (spec.returned test.now before.now sources.now) core.0 0 (slice_index_or test.now.programs core.0 []) walk.old.registers) }
+        ≡ spec.left_of (spec.returned reads.entry.test.now reads.entry.writes.now reads.entry.sources.now) core.0 0
+        (slice_index_or reads.entry.test.now.programs core.0 []) walk.old.registers) }
 {
     let mut place = 0;
-    for instr in test.program(core) {
-        run_instruction(walk, test, before, sources, core, place, *instr)?;
+    for instr in reads.test.program(core) {
+        run_instruction(walk, reads, core, place, *instr)?;
         place += 1;
     }
     Ok(())
@@ -227,6 +225,11 @@ pub fn run_all(
     ensures { IfOk result (λ ws. ws.items
         ≡ spec.writes_from (spec.returned test.now before.now sources.now) 0 test.now.programs test.now.registers) }
 {
+    let reads = Reads {
+        test,
+        writes: before,
+        sources,
+    };
     let mut writes = Vec::new(alloc);
     for number in 0..test.cores() {
         let core = Core(number);
@@ -234,7 +237,7 @@ pub fn run_all(
             writes,
             registers: known_first_registers(test, core),
         };
-        run_program(&mut walk, test, before, sources, core)?;
+        run_program(&mut walk, reads, core)?;
         writes = walk.writes;
     }
     Ok(writes)

@@ -15,7 +15,7 @@ overflow_add-place c =
 
 pub loop-instr-preserved : goal.loop-instr-preserved
 loop-instr-preserved c =
-    let given = spec.returned c.args.test.now c.args.before.now c.args.sources.now in
+    let given = spec.returned c.args.reads.test.now c.args.reads.writes.now c.args.reads.sources.now in
     let i = c.loop-instr.instr-index in
     let now = c.loop-instr.walk in
     let new = c.run_instruction.new.walk in
@@ -31,14 +31,14 @@ loop-instr-preserved c =
 
 pub returns-clause-writes : goal.returns-clause-writes
 returns-clause-writes c =
-    let given = spec.returned c.args.test.now c.args.before.now c.args.sources.now in
+    let given = spec.returned c.args.reads.test.now c.args.reads.writes.now c.args.reads.sources.now in
     sym (all-done (λ p. c.loop-instr.walk.writes.items ++ spec.writes_of given c.args.core.0 c.loop-instr.place p c.loop-instr.walk.registers)
     c.program-instr-items.result.now c.loop-instr.instr-index c.loop-instr-test.false _ c.loop-instr.invariant.writes ∙ append-nil c.loop-instr.walk.writes.items)
     ∙ ap (λ p. c.args.walk.now.writes.items ++ spec.writes_of given c.args.core.0 0 p c.args.walk.now.registers) c.program-instr-items.ensures.value
 
 pub returns-clause-registers : goal.returns-clause-registers
 returns-clause-registers c =
-    let given = spec.returned c.args.test.now c.args.before.now c.args.sources.now in
+    let given = spec.returned c.args.reads.test.now c.args.reads.writes.now c.args.reads.sources.now in
     sym (all-done (λ p. spec.left_of given c.args.core.0 c.loop-instr.place p c.loop-instr.walk.registers)
     c.program-instr-items.result.now c.loop-instr.instr-index c.loop-instr-test.false _ c.loop-instr.invariant.registers)
     ∙ ap (λ p. spec.left_of given c.args.core.0 0 p c.args.walk.now.registers) c.program-instr-items.ensures.value

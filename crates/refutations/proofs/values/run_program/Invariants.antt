@@ -6,8 +6,8 @@ use Rattle.refutations.proofs.values.run_program.Given as goal
 abbrev pub invariant-loop-instr : goal.invariant-loop-instr
 invariant-loop-instr l = record {
   place : l.place ≡ l.instr-index;
-  writes : l.fn.walk.writes.items ++ spec.writes_of (spec.returned l.test l.before l.sources) l.core.0 0 l.instr-items l.fn.walk.registers
-      ≡ l.walk.writes.items ++ spec.writes_of (spec.returned l.test l.before l.sources) l.core.0 l.place (drop l.instr-index l.instr-items) l.walk.registers;
-  registers : spec.left_of (spec.returned l.test l.before l.sources) l.core.0 0 l.instr-items l.fn.walk.registers
-      ≡ spec.left_of (spec.returned l.test l.before l.sources) l.core.0 l.place (drop l.instr-index l.instr-items) l.walk.registers;
+  writes : l.fn.walk.writes.items ++ spec.writes_of (spec.returned l.reads.test.now l.reads.writes.now l.reads.sources.now) l.core.0 0 l.instr-items l.fn.walk.registers
+      ≡ l.walk.writes.items ++ spec.writes_of (spec.returned l.reads.test.now l.reads.writes.now l.reads.sources.now) l.core.0 l.place (drop l.instr-index l.instr-items) l.walk.registers;
+  registers : spec.left_of (spec.returned l.reads.test.now l.reads.writes.now l.reads.sources.now) l.core.0 0 l.instr-items l.fn.walk.registers
+      ≡ spec.left_of (spec.returned l.reads.test.now l.reads.writes.now l.reads.sources.now) l.core.0 l.place (drop l.instr-index l.instr-items) l.walk.registers;
 }
