@@ -1,21 +1,12 @@
 -- Entries of one core, place and kind, and lists in which no two are.
-use Rattle.axiom_checker.proofs.Vocabulary.{◌≡◌, ◌<◌, ◌+◌, ℕ, suc, zero, List, [], ◌∷◌, Some, slice_get, Bool, true, false, ◌==◌, ◌&&◌, ◌||◌, if◌then◌else◌, arith, ap, sym, ◌∙◌, ◌⊎◌, inl, inr, subst, refl, cases_order, eq-eqb, eqb-true, and_parts, entry, same_kind, is_read, is_write, rank, part_of, is_read_kind, is_write_kind, is_at, read_value, Entry, Kind, R, W, F, LR, LW, same_action, same_but_value}
+use Rattle.axiom_checker.proofs.Vocabulary.{◌≡◌, ◌<◌, ◌+◌, ℕ, suc, zero, List, [], ◌∷◌, Some, slice_get, Bool, true, false, ◌==◌, ◌&&◌, ◌||◌, if◌then◌else◌, arith, ap, sym, ◌∙◌, ◌⊎◌, inl, inr, subst, refl, cases_order, eq-eqb, eqb-true, and_parts, entry, same_kind, is_read, is_write, rank, part_of, is_read_kind, is_write_kind, is_at, read_value, Entry, Kind, F, same_action, same_but_value}
 use Rattle.axiom_checker.proofs.Firsts.{told-test}
 
 same_kind-is : (a b : Kind) → same_kind a b ≡ true → a ≡ b
-same_kind-is R R h = refl
-same_kind-is W W h = refl
-same_kind-is F F h = refl
-same_kind-is LR LR h = refl
-same_kind-is LW LW h = refl
-same_kind-is _ _ h = absurd (let z : ⊥ = cc in z)
+same_kind-is a b h = grind arith
 
 same_kind-itself : (a : Kind) → same_kind a a ≡ true
-same_kind-itself R = refl
-same_kind-itself W = refl
-same_kind-itself F = refl
-same_kind-itself LR = refl
-same_kind-itself LW = refl
+same_kind-itself a = grind arith
 
 pub kind-or-not : (a b : Kind) → (a ≡ b) ⊎ (a ≡ b → ⊥)
 kind-or-not a b = elim (told-test (same_kind a b)) [ inl t ↦ inl (same_kind-is a b t) | inr n ↦ inr (λ e. n (subst (λ k. same_kind a k ≡ true) e (same_kind-itself a))) ]
@@ -68,14 +59,11 @@ same_but_value-parts e x h =
       fence = λ f. eqb-true x.value e.value (neither x.kind (x.value == e.value) f p.1);
     }
 
+or-true : (a : Bool) → (a || true) ≡ true
+or-true a = grind arith
+
 pub same_but_value-itself : (x : Entry) → same_but_value x x ≡ true
-same_but_value-itself x = rw (same-itself x, eq-eqb x.loc.0 x.loc.0 refl, eq-eqb x.value x.value refl) (any_true (is_read x) (is_write x))
-  where
-    any_true : (a b : Bool) → (a || b || true) ≡ true
-    any_true true true = refl
-    any_true true false = refl
-    any_true false true = refl
-    any_true false false = refl
+same_but_value-itself x = rw (same-itself x, eq-eqb x.loc.0 x.loc.0 refl, eq-eqb x.value x.value refl) (or-true (is_read x || is_write x))
 
 -- no two entries of the list are of one core, place and kind
 abbrev pub NoneTwice : List Entry → Type 0

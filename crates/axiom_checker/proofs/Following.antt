@@ -1,5 +1,5 @@
 -- What is due to a read, by the write that its own program has before it.
-use Rattle.axiom_checker.proofs.Vocabulary.{◌≡◌, ◌<◌, ◌≤◌, ℕ, ◌+◌, suc, zero, List, [], ◌∷◌, Option, Some, None, slice_get, slice_index, take, drop, filter, Bool, true, false, not, ◌==◌, cond, if◌then◌else◌, arith, ap, sym, ◌∙◌, inl, inr, subst, refl, cases_order, eq-eqb, eqb-true, and_from, and_parts, not-true, and_right, not_from_false, leb_tells, Litmus, is_before, may_be_passed, is_read, is_load, is_store, is_write, writes_to, rank, is_load_kind, is_read_kind, is_write_kind, made, IsWhole, KeepsProgramOrder, last_value, Entry, Kind, R, W, F, LR, LW, due_at, IsLastOwn, IsSource, due_from}
+use Rattle.axiom_checker.proofs.Vocabulary.{◌≡◌, ◌<◌, ◌≤◌, ℕ, ◌+◌, suc, zero, List, [], ◌∷◌, Option, Some, None, slice_get, slice_index, take, drop, filter, Bool, true, false, not, ◌==◌, cond, if◌then◌else◌, arith, ap, sym, ◌∙◌, inl, inr, subst, refl, cases_order, eq-eqb, eqb-true, and_from, and_parts, not-true, and_right, not_from_false, leb_tells, Litmus, is_before, may_be_passed, is_read, is_load, is_store, is_write, writes_to, rank, is_load_kind, is_read_kind, is_write_kind, made, IsWhole, KeepsProgramOrder, last_value, Entry, Kind, due_at, IsLastOwn, IsSource, due_from}
 use Rattle.axiom_checker.proofs.Firsts.{some-is, at-place}
 use Rattle.axiom_checker.proofs.OwnReads.{made-read}
 use Rattle.axiom_checker.proofs.Actions.{SameAction, one-place}
@@ -55,18 +55,10 @@ at-after (x ∷ xs) (suc n) zero e l h = absurd (omega arith)
 at-after (x ∷ xs) (suc n) (suc k) e l h = let r = at-after xs n k e (omega arith) h in let q = r.2 in (r.0, r.1, omega arith)
 
 write-is-no-load : (k : Kind) → is_write_kind k ≡ true → is_load_kind k ≡ false
-write-is-no-load R h = absurd (let z : ⊥ = cc in z)
-write-is-no-load W h = refl
-write-is-no-load F h = refl
-write-is-no-load LR h = refl
-write-is-no-load LW h = refl
+write-is-no-load k h = grind arith
 
 write-is-no-read : (k : Kind) → is_write_kind k ≡ true → is_read_kind k ≡ true → ⊥
-write-is-no-read R h r = let z : ⊥ = cc in z
-write-is-no-read W h r = let z : ⊥ = cc in z
-write-is-no-read F h r = let z : ⊥ = cc in z
-write-is-no-read LR h r = let z : ⊥ = cc in z
-write-is-no-read LW h r = let z : ⊥ = cc in z
+write-is-no-read k h r = grind arith
 
 not-passed : (x y : Entry) → is_load y ≡ false → may_be_passed x y ≡ false
 not-passed x y h = and_right (is_store x) (is_load y) h

@@ -23,7 +23,7 @@ count-first core place (Move reg operand) values order n h = h
 count-first core place Fence values order n h = h
 count-first core place (Lock loc reg update) values order n h = ap suc h
 
-reads-count : (core place : ℕ) (program : List Instr) (order : List Entry) → length (read_values core place program order) ≡ reads_in program
+pub reads-count : (core place : ℕ) (program : List Instr) (order : List Entry) → length (read_values core place program order) ≡ reads_in program
 reads-count core place [] order = refl
 reads-count core place (i ∷ rest) order = count-first core place (action_of i) (read_values core (place + 1) rest order) order (reads_in rest) (reads-count core (place + 1) rest order)
 

@@ -1,5 +1,5 @@
 -- What the programs make has one shape, whatever their reads return: only values differ.
-use Rattle.axiom_checker.proofs.Vocabulary.{◌≡◌, ℕ, ◌+◌, suc, zero, List, [], ◌∷◌, ◌++◌, Some, slice_get, slice_index, slice_index_or, take, drop, map, Bool, true, false, ◌==◌, ◌&&◌, ◌||◌, if◌then◌else◌, ap, sym, ◌∙◌, refl, subst, map-append, action_of, entry, entries_by, entries_of, reads_in, Litmus, same_kind, is_read, is_write, is_read_kind, is_write_kind, made, Instr, Action, Store, Load, Move, Fence, Lock, Entry, Kind, R, W, F, LR, LW, same_action, same_but_value, IsExtra, made_reading}
+use Rattle.axiom_checker.proofs.Vocabulary.{◌≡◌, ℕ, ◌+◌, suc, zero, List, [], ◌∷◌, ◌++◌, Some, slice_get, slice_index, slice_index_or, take, drop, map, Bool, true, false, ◌==◌, ◌&&◌, ◌||◌, if◌then◌else◌, ap, sym, ◌∙◌, refl, subst, map-append, action_of, entry, entries_by, entries_of, reads_in, Litmus, same_kind, is_read, is_write, is_read_kind, is_write_kind, made, Instr, Action, Store, Load, Move, Fence, Lock, Entry, Kind, F, same_action, same_but_value, IsExtra, made_reading, arith}
 use Rattle.axiom_checker.proofs.Actions.{SameAction, same-parts}
 use Rattle.axiom_checker.proofs.Made.{of-made}
 
@@ -17,11 +17,7 @@ pub record IsAlike (x y : Entry) : Type 0 where
   pub tested : (z : Entry) → same_but_value x z ≡ same_but_value y z
 
 fence-alone : (k : Kind) (v w : ℕ) → (is_read_kind k || is_write_kind k || (v == w)) ≡ (is_read_kind k || is_write_kind k || (v == (if same_kind k F then w else 0)))
-fence-alone R v w = refl
-fence-alone W v w = refl
-fence-alone F v w = refl
-fence-alone LR v w = refl
-fence-alone LW v w = refl
+fence-alone k v w = grind arith
 
 where-same : (a b c d : Bool) → (a ≡ true → c ≡ d) → (a && b && c) ≡ (a && b && d)
 where-same true b c d h = ap (λ z. b && z) (h refl)
