@@ -1,22 +1,17 @@
 -- An order keeps all of program order exactly where no entry stands behind one that comes later in its program.
 use Rattle.std.proofs.Common.{◌≡◌, ◌<◌, ◌&&◌, ◌||◌, ℕ, zero, suc, true, false, not, Bool, List, [], ◌∷◌, Some, slice_get, arith, sym, refl, subst}
 use Rattle.std.specs.List.{list_any}
-use Rattle.std.proofs.lemmas.Bool.Decides.{nat_tests}
 use Rattle.tso_model.specs.ProgramOrder.{is_before}
 use Rattle.tso_model.specs.SequentialConsistency.{KeepsAllOrder}
 use Rattle.tso_model.specs.declared.execution.Entry.{Entry}
 use Rattle.execution_check.specs.inner.Orders.{is_preceded_by, keeps}
-
-never-itself : (x : Entry) → is_before x x ≡ true → ⊥
-never-itself x h = grind (arith, nat_tests)
+use Rattle.relational_model.proofs.Ranks.{before-irreflexive}
 
 not-both : (a b : Bool) → (not a && b) ≡ true → (a ≡ false) × (b ≡ true)
-not-both true b h = absurd (let z : ⊥ = cc in z)
-not-both false b h = (refl, h)
+not-both a b h = (grind arith, grind arith)
 
 any-parts : (a b : Bool) → (a || b) ≡ false → (a ≡ false) × (b ≡ false)
-any-parts true b h = absurd (let z : ⊥ = cc in z)
-any-parts false b h = (refl, h)
+any-parts a b h = (grind arith, grind arith)
 
 none-at : (p : Entry → Bool) (xs : List Entry) → list_any p xs ≡ false → (k : ℕ) (y : Entry) → slice_get xs k ≡ Some y → p y ≡ true → ⊥
 none-at p [] h k y e f = let z : ⊥ = cc in z
@@ -30,7 +25,7 @@ none-at p (x ∷ xs) h (suc k) y e f = none-at p xs (any-parts (p x) (list_any p
 pub keeps_all : (order : List Entry) → keeps order ≡ true → KeepsAllOrder order
 keeps_all [] h i j x y p q b = absurd (let z : ⊥ = cc in z)
 keeps_all (e ∷ es) h zero zero x y p q b =
-    let s : x ≡ y = cc in absurd (never-itself x (subst (λ v. is_before x v ≡ true) (sym s) b))
+    let s : x ≡ y = cc in absurd (before-irreflexive x (subst (λ v. is_before x v ≡ true) (sym s) b))
 keeps_all (e ∷ es) h zero (suc j) x y p q b = omega arith
 keeps_all (e ∷ es) h (suc i) zero x y p q b =
     let s : e ≡ y = cc in

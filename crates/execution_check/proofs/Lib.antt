@@ -1,4 +1,2 @@
-pub mod Walking
-pub mod Asked
 pub mod Counting
 pub mod Keeping
