@@ -1,5 +1,5 @@
 -- What a verdict means, that both commands print one, and that the status says the same.
-use Rattle.printed_laws.proofs.Vocabulary.{◌≡◌, ◌∙◌, ◌<◌, ◌==◌, ℕ, Bool, true, false, not, List, [], map, Contains, Some, refl, sym, ap, subst, eqb-true, arith, Litmus, IsTest, Claim, Condition, truth_of, final_words, final_registers, Entry, Model, Tso, Sequential, EndsAreWhatTsoAllows, SpellsTest, names_shown, values_at, truth_asked, is_met, is_well, is_as_claimed, verdict_word, Outcome, shown_values, held_in, failed_in, is_met_in, TruthIsShown, Search, parts_of, made-of, shown_after, AreExactly, PrintsAllOutcomes, HeadlineOfOutcomes, all, IsSoEverywhere, IsSoSomewhere, PrintsVerdict, IsAsClaimed, IsNotAsClaimed, VerdictMeans, VerdictsAgree, StatusTells}
+use Rattle.printed_laws.proofs.Vocabulary.{◌≡◌, ℕ, ◌<◌, Bool, true, false, List, [], refl, sym, ap, subst, ◌∙◌, arith, Some, ◌==◌, not, Contains, eqb-true, Litmus, IsTest, Condition, Claim, truth_of, Entry, names_shown, Outcome, shown_values, held_in, failed_in, is_met_in, verdict_word, is_well, is_met, is_as_claimed, PrintsVerdict, IsAsClaimed, IsNotAsClaimed, VerdictMeans, VerdictsAgree, StatusTells, IsSoEverywhere, IsSoSomewhere, Model, truth_asked, final_words, final_registers, EndsAreWhatTsoAllows, SpellsTest, TruthIsShown, parts_of, made-of, Search, shown_after, PrintsAllOutcomes, HeadlineOfOutcomes, all, AreExactly, Tso, Sequential}
 use Rattle.tso_model.specs.declared.condition.Quantifier.{Quantifier}
 use Rattle.tso_model.specs.declared.condition.Quantifier.TheVariants.{Exists, NotExists, Forall}
 use Rattle.refutation_laws.specs.Models.{IsExecutionOf, depth_of}
@@ -7,18 +7,18 @@ use Rattle.litmus_reader.specs.Spelling.{IsRefused as IsRefusedTest}
 use Rattle.litmus_reader.specs.declared.fault.TextFault.{TextFault}
 use Rattle.command_line.specs.Explanation.{Explanation}
 use Rattle.command_line.specs.declared.settings.Settings.TheVariants as settings
-use Rattle.commands.specs.Outcomes.{IsOutcomesAnswer, is_claimed_of, found, too_many}
+use Rattle.commands.specs.Outcomes.{IsOutcomesAnswer, found, too_many}
 use Rattle.commands.specs.Verdicts.{status_of_verdict}
 use Rattle.commands.specs.Why.{IsWhyAnswer, never, allowed, too_many}
 use Rattle.commands.specs.declared.answer.Status.{Status}
 use Rattle.commands.specs.declared.answer.Status.TheVariants.{Good}
-use Rattle.tso_cli.specs.Answers.{IsInputAnswer, too_large, refused, answered}
+use Rattle.tso_cli.specs.Answers.{too_large, refused, answered}
 use Rattle.tso_cli.specs.OutcomesHeadline.{too_many}
 use Rattle.tso_cli.specs.WhyHeadline.{IsSoIn, HeadlineOfReasons, never, allowed, too_many}
 use Rattle.printed_laws.proofs.Endings.{EndsIn, verdict_tail, ends-so, one-verdict}
 use Rattle.printed_laws.proofs.LastLines as outcomes
 use Rattle.printed_laws.proofs.LastLines.{outcomes-end}
-use Rattle.printed_laws.proofs.Meaning.{TestsAreWithin, none-counted, some-counted, some-if, mapped, not-true, not-false, same-truth, everywhere, somewhere}
+use Rattle.printed_laws.proofs.Meaning.{TestsAreWithin, none-counted, some-counted, some-if, mapped, not-true, not-false, everywhere, somewhere}
 use Rattle.printed_laws.proofs.ReasonEnds as reasons
 use Rattle.printed_laws.proofs.ReasonEnds.{refutation-end, execution-end}
 
@@ -61,9 +61,7 @@ unmet-nowhere Forall claim outcomes unmet =
 -- a truth isn't also its opposite
 both-ways : (a b : Bool) → a ≡ b → a ≡ not b → ⊥
 both-ways true true is isnt = let no : ⊥ = cc in no
-both-ways true false is isnt = let no : ⊥ = cc in no
-both-ways false true is isnt = let no : ⊥ = cc in no
-both-ways false false is isnt = let no : ⊥ = cc in no
+both-ways a b is isnt = let no : ⊥ = cc in no
 
 -- where it is there it is met
 there-met : (q : Quantifier) (claim : Claim) (outcomes : List Outcome) → IsThere q claim outcomes → is_met q (held_in claim outcomes) (failed_in claim outcomes) ≡ true

@@ -1,39 +1,31 @@
 -- The lines of choices and of caches, and the counts that they tell.
-use Rattle.printed_laws.proofs.Vocabulary.{◌≡◌, ℕ, ◌+◌, ◌-◌, ◌^◌, ◌<◌, ◌≤◌, List, [], ◌∷◌, ◌++◌, length, All, refl, sym, ◌∙◌, arith, codes, decimal, append_assoc, append_cancel_left, All-head, All-tail, IsAtMost, Counts, line, choices_line, cache_line, cache_lines}
-use Rattle.printed_laws.proofs.Cutting.{next-cut}
+use Rattle.printed_laws.proofs.Vocabulary.{◌≡◌, ℕ, ◌^◌, ◌<◌, List, [], ◌∷◌, ◌++◌, get_or, refl, sym, ap, ◌∙◌, ◌≤◌, arith, All, ◌-◌, decimal, append_cancel_left, append_assoc, codes, line, choices_line, cache_line, cache_lines, Litmus, IsAtMost, Counts, ShownRun}
+use Rattle.tso_report.specs.Limits.{IsSmall}
+use Rattle.printed_laws.proofs.Cutting.{AreSmall, unlike, filled-cut}
+use Rattle.printed_laws.proofs.Lists.{Tells, list-cut, all-told}
 
 -- ---- choices
 
 -- how many choices were used, how many of them stalled, and how many are left over
-pub record Choices : Type 0 where
-  pub used : ℕ
-  pub stalled : ℕ
-  pub unused : ℕ
+abbrev choice_labels : List (List ℕ)
+choice_labels = codes "Choices used=" ∷ codes " stalled=" ∷ codes " unused=" ∷ []
 
-pub record AreFewChoices (c : Choices) : Type 0 where
-  pub used : c.used < 2 ^ 64
-  pub stalled : c.stalled < 2 ^ 64
-  pub unused : c.unused < 2 ^ 64
-
-choices-flat : (used stalled unused rest : List ℕ)
+choices-filled : (used stalled unused rest : List ℕ)
     → (codes "Choices used=" ++ (used ++ (codes " stalled=" ++ (stalled ++ (codes " unused=" ++ line unused))))) ++ rest
     ≡ codes "Choices used=" ++ (used ++ (codes " stalled=" ++ (stalled ++ (codes " unused=" ++ (unused ++ 10 ∷ rest)))))
-choices-flat used stalled unused rest = simp append_assoc
+choices-filled used stalled unused rest = simp append_assoc
 
-pub choices-cut : (a b : Choices) (rest other : List ℕ) → AreFewChoices a → AreFewChoices b
-    → choices_line a.used a.stalled a.unused ++ rest ≡ choices_line b.used b.stalled b.unused ++ other → (a ≡ b) × (rest ≡ other)
-choices-cut a b rest other p q e =
-    let after_stalled = λ (unused after : List ℕ). codes " unused=" ++ (unused ++ 10 ∷ after) in
-    let after_used = λ (stalled unused after : List ℕ). codes " stalled=" ++ (stalled ++ after_stalled unused after) in
-    let flat = sym (choices-flat (decimal a.used) (decimal a.stalled) (decimal a.unused) rest) ∙ (e ∙ choices-flat (decimal b.used) (decimal b.stalled) (decimal b.unused) other) in
-    let used = next-cut (codes "Choices used=") a.used b.used (after_used (decimal a.stalled) (decimal a.unused) rest) (after_used (decimal b.stalled) (decimal b.unused) other) p.used q.used refl refl flat in
-    let stalled = next-cut (codes " stalled=") a.stalled b.stalled (after_stalled (decimal a.unused) rest) (after_stalled (decimal b.unused) other) p.stalled q.stalled refl refl used.1 in
-    let unused = next-cut (codes " unused=") a.unused b.unused (10 ∷ rest) (10 ∷ other) p.unused q.unused refl refl stalled.1 in
-    ((λ i. record { used = used.0 i; stalled = stalled.0 i; unused = unused.0 i }), append_cancel_left (10 ∷ []) rest other unused.1)
+pub choices-cut : (t : Litmus) (s o : ShownRun) (rest other : List ℕ) → IsSmall t s → IsSmall t o
+    → choices_line s.used s.stalled s.unused ++ rest ≡ choices_line o.used o.stalled o.unused ++ other → (s.used ∷ s.stalled ∷ s.unused ∷ [] ≡ o.used ∷ o.stalled ∷ o.unused ∷ []) × (rest ≡ other)
+choices-cut t s o rest other p q e =
+    let flat = λ (r : ShownRun) (after : List ℕ). choices-filled (decimal r.used) (decimal r.stalled) (decimal r.unused) after in
+    let cut = filled-cut choice_labels (s.used ∷ s.stalled ∷ s.unused ∷ []) (o.used ∷ o.stalled ∷ o.unused ∷ []) (10 ∷ rest) (10 ∷ other) refl refl refl
+    (p.used, (p.stalled, (p.unused, tt))) (q.used, (q.stalled, (q.unused, tt))) refl refl (sym (flat s rest) ∙ (e ∙ flat o other)) in
+    (cut.0, append_cancel_left (10 ∷ []) rest other cut.1)
 
 -- ---- caches
 
-small : (n : ℕ) → n ≤ 2 ^ 32 - 1 → n < 2 ^ 64
+pub small : (n : ℕ) → n ≤ 2 ^ 32 - 1 → n < 2 ^ 64
 small n h = omega (arith, h)
 
 pub same-counts : (a b : Counts) → a.hits ≡ b.hits → a.misses ≡ b.misses → a.upgrades ≡ b.upgrades → a.forwards ≡ b.forwards → a.write_backs ≡ b.write_backs → a.flushes ≡ b.flushes → a ≡ b
@@ -46,40 +38,30 @@ same-counts a b hits misses upgrades forwards write_backs flushes = λ i. record
   flushes = flushes i;
 }
 
-cache-flat : (core hits misses upgrades forwards write_backs flushes more : List ℕ)
+abbrev numbers_of : Counts → List ℕ
+numbers_of c = c.hits ∷ c.misses ∷ c.upgrades ∷ c.forwards ∷ c.write_backs ∷ c.flushes ∷ []
+
+abbrev cache_labels : ℕ → List (List ℕ)
+cache_labels core = (codes "Cache P" ++ (decimal core ++ codes " hits=")) ∷ codes " misses=" ∷ codes " upgrades=" ∷ codes " forwards=" ∷ codes " write_backs=" ∷ codes " flushes=" ∷ []
+
+cache-filled : (core hits misses upgrades forwards write_backs flushes more : List ℕ)
     → (codes "Cache P" ++ (core ++ (codes " hits=" ++ (hits ++ (codes " misses=" ++ (misses ++ (codes " upgrades=" ++ (upgrades
     ++ line (codes " forwards=" ++ (forwards ++ (codes " write_backs=" ++ (write_backs ++ (codes " flushes=" ++ flushes))))))))))))) ++ more
-    ≡ codes "Cache P" ++ (core ++ (codes " hits=" ++ (hits ++ (codes " misses=" ++ (misses ++ (codes " upgrades=" ++ (upgrades
-    ++ (codes " forwards=" ++ (forwards ++ (codes " write_backs=" ++ (write_backs ++ (codes " flushes=" ++ (flushes ++ 10 ∷ more)))))))))))))
-cache-flat core hits misses upgrades forwards write_backs flushes more = simp append_assoc
+    ≡ (codes "Cache P" ++ (core ++ codes " hits=")) ++ (hits ++ (codes " misses=" ++ (misses ++ (codes " upgrades=" ++ (upgrades
+    ++ (codes " forwards=" ++ (forwards ++ (codes " write_backs=" ++ (write_backs ++ (codes " flushes=" ++ (flushes ++ 10 ∷ more)))))))))))
+cache-filled core hits misses upgrades forwards write_backs flushes more = simp append_assoc
 
-cache-cut : (core : ℕ) (a b : Counts) (rest other : List ℕ) → IsAtMost (2 ^ 32 - 1) a → IsAtMost (2 ^ 32 - 1) b
-    → cache_line core a ++ rest ≡ cache_line core b ++ other → (a ≡ b) × (rest ≡ other)
-cache-cut core a b rest other p q e =
-    let at_flushes = λ (c : Counts) (after : List ℕ). codes " flushes=" ++ (decimal c.flushes ++ 10 ∷ after) in
-    let at_write_backs = λ (c : Counts) (after : List ℕ). codes " write_backs=" ++ (decimal c.write_backs ++ at_flushes c after) in
-    let at_forwards = λ (c : Counts) (after : List ℕ). codes " forwards=" ++ (decimal c.forwards ++ at_write_backs c after) in
-    let at_upgrades = λ (c : Counts) (after : List ℕ). codes " upgrades=" ++ (decimal c.upgrades ++ at_forwards c after) in
-    let at_misses = λ (c : Counts) (after : List ℕ). codes " misses=" ++ (decimal c.misses ++ at_upgrades c after) in
-    let at_hits = λ (c : Counts) (after : List ℕ). codes " hits=" ++ (decimal c.hits ++ at_misses c after) in
-    let flat = sym (cache-flat (decimal core) (decimal a.hits) (decimal a.misses) (decimal a.upgrades) (decimal a.forwards) (decimal a.write_backs) (decimal a.flushes) rest)
-    ∙ (e ∙ cache-flat (decimal core) (decimal b.hits) (decimal b.misses) (decimal b.upgrades) (decimal b.forwards) (decimal b.write_backs) (decimal b.flushes) other) in
-    let named = append_cancel_left (codes "Cache P") (decimal core ++ at_hits a rest) (decimal core ++ at_hits b other) flat in
-    let numbered = append_cancel_left (decimal core) (at_hits a rest) (at_hits b other) named in
-    let hits = next-cut (codes " hits=") a.hits b.hits (at_misses a rest) (at_misses b other) (small a.hits p.hits) (small b.hits q.hits) refl refl numbered in
-    let misses = next-cut (codes " misses=") a.misses b.misses (at_upgrades a rest) (at_upgrades b other) (small a.misses p.misses) (small b.misses q.misses) refl refl hits.1 in
-    let upgrades = next-cut (codes " upgrades=") a.upgrades b.upgrades (at_forwards a rest) (at_forwards b other) (small a.upgrades p.upgrades) (small b.upgrades q.upgrades) refl refl misses.1 in
-    let forwards = next-cut (codes " forwards=") a.forwards b.forwards (at_write_backs a rest) (at_write_backs b other) (small a.forwards p.forwards) (small b.forwards q.forwards) refl refl upgrades.1 in
-    let write_backs = next-cut (codes " write_backs=") a.write_backs b.write_backs (at_flushes a rest) (at_flushes b other) (small a.write_backs p.write_backs) (small b.write_backs q.write_backs) refl refl forwards.1 in
-    let flushes = next-cut (codes " flushes=") a.flushes b.flushes (10 ∷ rest) (10 ∷ other) (small a.flushes p.flushes) (small b.flushes q.flushes) refl refl write_backs.1 in
-    (same-counts a b hits.0 misses.0 upgrades.0 forwards.0 write_backs.0 flushes.0, append_cancel_left (10 ∷ []) rest other flushes.1)
+cache-cut : (core : ℕ) → Tells (IsAtMost (2 ^ 32 - 1)) (λ rest. Unit) (cache_line core) (λ c. c)
+cache-cut core a b rest other p q f f' e =
+    let flat = λ (c : Counts) (after : List ℕ). cache-filled (decimal core) (decimal c.hits) (decimal c.misses) (decimal c.upgrades) (decimal c.forwards) (decimal c.write_backs) (decimal c.flushes) after in
+    let few : (c : Counts) → IsAtMost (2 ^ 32 - 1) c → AreSmall (numbers_of c) = λ c most.
+    (small c.hits most.hits, (small c.misses most.misses, (small c.upgrades most.upgrades, (small c.forwards most.forwards, (small c.write_backs most.write_backs, (small c.flushes most.flushes, tt)))))) in
+    let cut = filled-cut (cache_labels core) (numbers_of a) (numbers_of b) (10 ∷ rest) (10 ∷ other) refl refl refl (few a p) (few b q) refl refl (sym (flat a rest) ∙ (e ∙ flat b other)) in
+    let told = λ (k : ℕ). ap (λ (l : List ℕ). get_or l k 0) cut.0 in
+    (same-counts a b (told 0) (told 1) (told 2) (told 3) (told 4) (told 5), append_cancel_left (10 ∷ []) rest other cut.1)
 
-pub caches-told : (core : ℕ) (xs ys : List Counts) → length xs ≡ length ys → All (IsAtMost (2 ^ 32 - 1)) xs → All (IsAtMost (2 ^ 32 - 1)) ys
-    → cache_lines core xs ≡ cache_lines core ys → xs ≡ ys
-caches-told core [] [] same p q e = refl
-caches-told core [] (y ∷ ys) same p q e = absurd (omega (arith, same))
-caches-told core (x ∷ xs) [] same p q e = absurd (omega (arith, same))
-caches-told core (x ∷ xs) (y ∷ ys) same p q e =
-    let first = cache-cut core x y (cache_lines (core + 1) xs) (cache_lines (core + 1) ys) (All-head (IsAtMost (2 ^ 32 - 1)) x xs p) (All-head (IsAtMost (2 ^ 32 - 1)) y ys q) e in
-    let further = caches-told (core + 1) xs ys (omega (arith, same)) (All-tail (IsAtMost (2 ^ 32 - 1)) x xs p) (All-tail (IsAtMost (2 ^ 32 - 1)) y ys q) first.1 in
-    λ i. first.0 i ∷ further i
+pub caches-told : (xs ys : List Counts) → All (IsAtMost (2 ^ 32 - 1)) xs → All (IsAtMost (2 ^ 32 - 1)) ys → cache_lines 0 xs ≡ cache_lines 0 ys → xs ≡ ys
+caches-told xs ys p q e =
+    let cut = list-cut (IsAtMost (2 ^ 32 - 1)) (λ rest. Unit) (λ rest. rest ≡ []) cache_line cache_lines (λ c. c) (λ n. refl) (λ n c cs. refl) cache-cut (λ n cs rest all f. tt)
+    (λ n c more rest fits f e. unlike 0 _ _ refl (e ∙ f)) 0 xs ys [] [] p q refl refl (ap (λ (l : List ℕ). l ++ []) e) in
+    all-told xs ys cut.0

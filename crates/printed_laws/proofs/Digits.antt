@@ -1,5 +1,5 @@
--- The digits of a number, however great, and texts that are cut at their last space.
-use Rattle.printed_laws.proofs.Vocabulary.{◌≡◌, ◌∙◌, ℕ, zero, suc, ◌+◌, ◌/◌, ◌%◌, ◌<◌, ◌==◌, Bool, true, false, not, cond, List, [], ◌∷◌, ◌++◌, get_or, drop, refl, sym, ap, subst, lt-ltb, le-leb, arith, decimal, list_all, is_ascii_digit, nat_tests, and_parts, and_from, list_all-append}
+-- The digits of a number, however great, and texts that are cut where a byte stands last.
+use Rattle.printed_laws.proofs.Vocabulary.{◌≡◌, ℕ, ◌<◌, Bool, true, false, List, [], ◌∷◌, ◌++◌, get_or, drop, refl, sym, ap, subst, ◌∙◌, zero, suc, arith, ◌+◌, ◌==◌, cond, not, ◌/◌, ◌%◌, lt-ltb, le-leb, eq-eqb, decimal, list_all, is_ascii_digit, and_parts, and_from, nat_tests, list_all-append}
 use Rattle.std.specs.Fmt.{digits, digits_onto, digit_glyph}
 
 -- ---- digits
@@ -23,35 +23,47 @@ pub all-digits : (n : ℕ) → list_all is_ascii_digit (decimal n) ≡ true
 unfolding digits
 all-digits n = onto-digits 64 n [] refl
 
--- ---- the last space
+-- ---- texts without a byte
 
-abbrev pub is_no_space : ℕ → Bool
-is_no_space b = not (b == 32)
+abbrev pub is_other : ℕ → ℕ → Bool
+is_other byte b = not (b == byte)
 
-digit-no-space : (b : ℕ) → is_ascii_digit b ≡ true → is_no_space b ≡ true
-digit-no-space b is = grind (arith, nat_tests)
-
-digits-no-space : (bs : List ℕ) → list_all is_ascii_digit bs ≡ true → list_all is_no_space bs ≡ true
-digits-no-space [] all = refl
-digits-no-space (b ∷ bs) all =
+pub digits-other : (byte : ℕ) (bs : List ℕ) → ((b : ℕ) → is_ascii_digit b ≡ true → is_other byte b ≡ true) → list_all is_ascii_digit bs ≡ true → list_all (is_other byte) bs ≡ true
+digits-other byte [] other all = refl
+digits-other byte (b ∷ bs) other all =
     let parts = and_parts (is_ascii_digit b) (list_all is_ascii_digit bs) all in
-    and_from _ _ (digit-no-space b parts.0) (digits-no-space bs parts.1)
+    and_from _ _ (other b parts.0) (digits-other byte bs other parts.1)
 
-pub number-no-space : (n : ℕ) → list_all is_no_space (decimal n) ≡ true
-number-no-space n = digits-no-space (decimal n) (all-digits n)
+pub both-other : (byte : ℕ) (xs ys : List ℕ) → list_all (is_other byte) xs ≡ true → list_all (is_other byte) ys ≡ true → list_all (is_other byte) (xs ++ ys) ≡ true
+both-other byte xs ys p q = list_all-append (is_other byte) xs ys ∙ and_from _ _ p q
 
-pub both-no-space : (xs ys : List ℕ) → list_all is_no_space xs ≡ true → list_all is_no_space ys ≡ true → list_all is_no_space (xs ++ ys) ≡ true
-both-no-space xs ys p q = list_all-append is_no_space xs ys ∙ and_from _ _ p q
+pub there : (byte : ℕ) (xs ys : List ℕ) → list_all (is_other byte) (xs ++ byte ∷ ys) ≡ true → ⊥
+there byte [] ys all = clash (byte == byte) (eq-eqb byte byte refl) (and_parts _ _ all).0
+  where
+    clash : (b : Bool) → b ≡ true → not b ≡ true → ⊥
+    clash b is isnt = cc
+there byte (x ∷ xs) ys all = there byte xs ys (and_parts _ _ all).1
 
-pub space-there : (xs ys : List ℕ) → list_all is_no_space (xs ++ 32 ∷ ys) ≡ true → ⊥
-space-there [] ys all = let no : ⊥ = cc in no
-space-there (x ∷ xs) ys all = space-there xs ys (and_parts _ _ all).1
-
-pub last-cut : (xs ys a b : List ℕ) → list_all is_no_space a ≡ true → list_all is_no_space b ≡ true → xs ++ 32 ∷ a ≡ ys ++ 32 ∷ b → (xs ≡ ys) × (a ≡ b)
-last-cut [] [] a b p q e = (refl, ap (λ (l : List ℕ). drop 1 l) e)
-last-cut [] (y ∷ ys) a b p q e = absurd (space-there ys b (subst (λ (l : List ℕ). list_all is_no_space l ≡ true) (ap (λ (l : List ℕ). drop 1 l) e) p))
-last-cut (x ∷ xs) [] a b p q e = absurd (space-there xs a (subst (λ (l : List ℕ). list_all is_no_space l ≡ true) (sym (ap (λ (l : List ℕ). drop 1 l) e)) q))
-last-cut (x ∷ xs) (y ∷ ys) a b p q e =
+-- of texts that are cut where the byte stands last
+pub last-cut : (byte : ℕ) (xs ys a b : List ℕ) → list_all (is_other byte) a ≡ true → list_all (is_other byte) b ≡ true → xs ++ byte ∷ a ≡ ys ++ byte ∷ b → (xs ≡ ys) × (a ≡ b)
+last-cut byte [] [] a b p q e = (refl, ap (λ (l : List ℕ). drop 1 l) e)
+last-cut byte [] (y ∷ ys) a b p q e = absurd (there byte ys b (subst (λ (l : List ℕ). list_all (is_other byte) l ≡ true) (ap (λ (l : List ℕ). drop 1 l) e) p))
+last-cut byte (x ∷ xs) [] a b p q e = absurd (there byte xs a (subst (λ (l : List ℕ). list_all (is_other byte) l ≡ true) (sym (ap (λ (l : List ℕ). drop 1 l) e)) q))
+last-cut byte (x ∷ xs) (y ∷ ys) a b p q e =
     let first : x ≡ y = ap (λ (l : List ℕ). get_or l 0 0) e in
-    let more = last-cut xs ys a b p q (ap (λ (l : List ℕ). drop 1 l) e) in
+    let more = last-cut byte xs ys a b p q (ap (λ (l : List ℕ). drop 1 l) e) in
     ((λ i. first i ∷ more.0 i), more.1)
+
+-- ---- numbers in a word, and in a line
+
+pub number-no-space : (n : ℕ) → list_all (is_other 32) (decimal n) ≡ true
+number-no-space n = digits-other 32 (decimal n) no-space (all-digits n)
+  where
+    no-space : (b : ℕ) → is_ascii_digit b ≡ true → is_other 32 b ≡ true
+    no-space b is = grind (arith, nat_tests)
+
+pub number-in-line : (n : ℕ) → list_all (is_other 10) (decimal n) ≡ true
+number-in-line n = digits-other 10 (decimal n) no-feed (all-digits n)
+  where
+    no-feed : (b : ℕ) → is_ascii_digit b ≡ true → is_other 10 b ≡ true
+    no-feed b is = grind (arith, nat_tests)

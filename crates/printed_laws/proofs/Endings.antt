@@ -1,7 +1,9 @@
 -- What a text ends in; and that it ends in one verdict at most.
-use Rattle.printed_laws.proofs.Vocabulary.{◌≡◌, ◌∙◌, ℕ, suc, ◌+◌, ◌==◌, Bool, true, false, not, List, [], ◌∷◌, ◌++◌, length, drop, get_or, refl, sym, ap, subst, arith, codes, list_all, flat_map, and_parts, append_assoc, append_cancel_right, length-append, line, verdict_word, PrintsVerdict}
-use Rattle.std.proofs.lemmas.List.{append-nil}
-use Rattle.printed_laws.proofs.OutcomeLines.{is_in_line}
+use Rattle.printed_laws.proofs.Vocabulary.{◌≡◌, ℕ, Bool, true, false, List, [], ◌∷◌, ◌++◌, drop, refl, sym, ap, subst, ◌∙◌, suc, arith, length, append-nil, list_all, flat_map, append_cancel_right, append_assoc, length-append, Data, string, Members, no_members, member, object, compact_text, codes, line, escape_byte, verdict_word, PrintsVerdict}
+use Rattle.json.specs.Print.{quoted}
+use Rattle.serde_json.specs.Written.{members_text}
+use Rattle.printed_laws.proofs.Cutting.{unlike}
+use Rattle.printed_laws.proofs.Digits.{is_other, there}
 
 abbrev pub EndsIn : List ℕ → List ℕ → Type 0
 EndsIn tail text = (front : List ℕ) × (text ≡ front ++ tail)
@@ -44,20 +46,6 @@ all-feeds f each front first (x ∷ xs) =
 pub line-feed : (text : List ℕ) → EndsIn (10 ∷ []) (line text)
 line-feed text = (text, refl)
 
-pub feed-there : (xs ys : List ℕ) → list_all is_in_line (xs ++ 10 ∷ ys) ≡ true → ⊥
-feed-there [] ys all = let no : ⊥ = cc in no
-feed-there (x ∷ xs) ys all = feed-there xs ys (and_parts _ _ all).1
-
--- of texts that are cut at their last line feed
-pub last-line : (xs ys a b : List ℕ) → list_all is_in_line a ≡ true → list_all is_in_line b ≡ true → xs ++ 10 ∷ a ≡ ys ++ 10 ∷ b → (xs ≡ ys) × (a ≡ b)
-last-line [] [] a b p q e = (refl, ap (λ (l : List ℕ). drop 1 l) e)
-last-line [] (y ∷ ys) a b p q e = absurd (feed-there ys b (subst (λ (l : List ℕ). list_all is_in_line l ≡ true) (ap (λ (l : List ℕ). drop 1 l) e) p))
-last-line (x ∷ xs) [] a b p q e = absurd (feed-there xs a (subst (λ (l : List ℕ). list_all is_in_line l ≡ true) (sym (ap (λ (l : List ℕ). drop 1 l) e)) q))
-last-line (x ∷ xs) (y ∷ ys) a b p q e =
-    let first : x ≡ y = ap (λ (l : List ℕ). get_or l 0 0) e in
-    let more = last-line xs ys a b p q (ap (λ (l : List ℕ). drop 1 l) e) in
-    ((λ i. first i ∷ more.0 i), more.1)
-
 -- ---- the verdict
 
 -- as a line, or as the last member of an object
@@ -72,14 +60,12 @@ ends-so true verdict out says = (says.front, says.text)
 pub one-verdict : (json verdict other : Bool) (out : List ℕ) → EndsIn (verdict_tail json verdict) out → EndsIn (verdict_tail json other) out → verdict ≡ other
 one-verdict json true true out p q = refl
 one-verdict json false false out p q = refl
-one-verdict false true false out p q = absurd (omega (arith, ap (λ (l : List ℕ). get_or l 10 0) (one-tail out (verdict_tail false true) (verdict_tail false false) refl p q)))
-one-verdict false false true out p q = absurd (omega (arith, ap (λ (l : List ℕ). get_or l 10 0) (one-tail out (verdict_tail false false) (verdict_tail false true) refl p q)))
-one-verdict true true false out p q = absurd (omega (arith, ap (λ (l : List ℕ). get_or l 13 0) (one-tail out (verdict_tail true true) (verdict_tail true false) refl p q)))
-one-verdict true false true out p q = absurd (omega (arith, ap (λ (l : List ℕ). get_or l 13 0) (one-tail out (verdict_tail true false) (verdict_tail true true) refl p q)))
+one-verdict false verdict other out p q = unlike 10 (verdict_tail false verdict) (verdict_tail false other) refl (one-tail out (verdict_tail false verdict) (verdict_tail false other) refl p q)
+one-verdict true verdict other out p q = unlike 13 (verdict_tail true verdict) (verdict_tail true other) refl (one-tail out (verdict_tail true verdict) (verdict_tail true other) refl p q)
 
 -- one line alone has none
-pub no-verdict-line : (verdict : Bool) (text : List ℕ) → list_all is_in_line text ≡ true → EndsIn (verdict_tail false verdict) (line text) → ⊥
-no-verdict-line verdict text plain e = feed-there e.0 (codes "Verdict " ++ verdict_word verdict) (subst (λ (l : List ℕ). list_all is_in_line l ≡ true) (cut verdict (e.1)) plain)
+pub no-verdict-line : (verdict : Bool) (text : List ℕ) → list_all (is_other 10) text ≡ true → EndsIn (verdict_tail false verdict) (line text) → ⊥
+no-verdict-line verdict text plain e = there 10 e.0 (codes "Verdict " ++ verdict_word verdict) (subst (λ (l : List ℕ). list_all (is_other 10) l ≡ true) (cut verdict (e.1)) plain)
   where
     cut : (v : Bool) → line text ≡ e.0 ++ verdict_tail false v → text ≡ e.0 ++ 10 ∷ (codes "Verdict " ++ verdict_word v)
     cut true is = append_cancel_right text (e.0 ++ 10 ∷ codes "Verdict Ok") (10 ∷ []) (is ∙ sym (append_assoc e.0 (10 ∷ codes "Verdict Ok") (10 ∷ [])))
@@ -87,7 +73,35 @@ no-verdict-line verdict text plain e = feed-there e.0 (codes "Verdict " ++ verdi
 
 -- an object whose last member is an object has none
 pub no-verdict-member : (verdict : Bool) (text : List ℕ) → EndsIn (codes "}}\n") text → EndsIn (verdict_tail true verdict) text → ⊥
-no-verdict-member true text p q =
-    omega (arith, ap (λ (l : List ℕ). get_or l 0 0) (one-tail text (codes "}}\n") (codes "\"}\n") refl p (shorter text (codes ",\"verdict\":\"Ok") (codes "\"}\n") q)))
-no-verdict-member false text p q =
-    omega (arith, ap (λ (l : List ℕ). get_or l 0 0) (one-tail text (codes "}}\n") (codes "\"}\n") refl p (shorter text (codes ",\"verdict\":\"No") (codes "\"}\n") q)))
+no-verdict-member verdict text p q =
+    let last = subst (λ (l : List ℕ). EndsIn l text) (sym (append_assoc (codes ",\"verdict\":\"") (verdict_word verdict) (codes "\"}\n"))) q in
+    unlike 0 (codes "}}\n") (codes "\"}\n") refl (one-tail text (codes "}}\n") (codes "\"}\n") refl p (shorter text (codes ",\"verdict\":\"" ++ verdict_word verdict) (codes "\"}\n") last))
+
+-- ---- the last member of an object
+
+abbrev last_of : Members → Members
+last_of (member k d (member l e ms)) = last_of (member l e ms)
+last_of ms = ms
+
+members-end : (ms : Members) → EndsIn (members_text true (last_of ms)) (members_text true ms)
+members-end (member k d (member l e ms)) =
+    let tail = members_text true (last_of (member l e ms)) in
+    behind (codes ",") _ tail (behind (quoted k) _ tail (behind (58 ∷ compact_text d) _ tail (members-end (member l e ms))))
+members-end no_members = itself (members_text true no_members)
+members-end (member k d no_members) = itself (members_text true (member k d no_members))
+
+verdict-end : (verdict : Bool) (text : List ℕ) → EndsIn (members_text true (member (codes "verdict") (string (verdict_word verdict)) no_members)) text → EndsIn (verdict_tail true verdict) (line text)
+unfolding escape_byte
+verdict-end true text e = with-more text (members_text true (member (codes "verdict") (string (verdict_word true)) no_members)) (10 ∷ []) e
+verdict-end false text e = with-more text (members_text true (member (codes "verdict") (string (verdict_word false)) no_members)) (10 ∷ []) e
+
+abbrev last_in : Data → Members
+last_in (object (member k d ms)) = last_of ms
+last_in _ = no_members
+
+-- an object whose last member is a verdict
+pub object-ends : (verdict : Bool) (value : Data) → last_in value ≡ member (codes "verdict") (string (verdict_word verdict)) no_members → EndsIn (verdict_tail true verdict) (line (compact_text value))
+object-ends verdict (object (member k d ms)) last =
+    let tail = members_text true (member (codes "verdict") (string (verdict_word verdict)) no_members) in
+    verdict-end verdict _ (behind (123 ∷ quoted k) _ tail (behind (58 ∷ compact_text d) _ tail (subst (λ l. EndsIn (members_text true l) (members_text true ms)) last (members-end ms))))
+object-ends verdict _ last = absurd cc

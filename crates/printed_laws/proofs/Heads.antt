@@ -1,40 +1,30 @@
 -- The first two lines of a report, and of a sweep, tell the test's name, the protocol and the configuration.
-use Rattle.printed_laws.proofs.Vocabulary.{◌≡◌, ℕ, ◌^◌, ◌<◌, true, List, [], ◌∷◌, ◌++◌, get_or, inl, inr, refl, sym, ap, ◌∙◌, arith, codes, decimal, list_all, and_parts, append_assoc, append_cancel_left, Litmus, IsTest, is_printable, is_test_name, Bus, Atomic, Split, protocol_name, ProtocolKind, IsLineSize, Configuration, IsConfigurationWithinLimits, line, bus_text, machine_line, head, NameTheSame}
+use Rattle.printed_laws.proofs.Vocabulary.{◌≡◌, ℕ, ◌^◌, ◌<◌, true, List, [], ◌∷◌, ◌++◌, get_or, refl, sym, ap, ◌∙◌, arith, inl, inr, ◌==◌, if◌then◌else◌, decimal, list_all, and_parts, append_cancel_left, append_assoc, codes, line, bus_text, machine_line, head, NameTheSame, Litmus, IsTest, is_printable, is_test_name, Bus, Atomic, Split, protocol_name, ProtocolKind, IsLineSize, Configuration, IsConfigurationWithinLimits}
 use Rattle.protocol_tables.specs.declared.kind.ProtocolKind.TheVariants.{Msi, Mesi, Moesi, Mosi}
-use Rattle.printed_laws.proofs.Cutting.{Stops, run-cut, next-cut}
-
-byte-at : (n x y : ℕ) (xs ys : List ℕ) → xs ≡ ys → get_or xs n 0 ≡ x → get_or ys n 0 ≡ y → x ≡ y
-byte-at n x y xs ys same p q = sym p ∙ (ap (λ (l : List ℕ). get_or l n 0) same ∙ q)
+use Rattle.printed_laws.proofs.Cutting.{Stops, AreSmall, unlike, filled, run-cut, filled-cut, same-cut}
 
 -- ---- the parts
 
+abbrev read_protocol : List ℕ → ProtocolKind
+read_protocol text = if get_or text 1 0 == 115 then Msi else if get_or text 1 0 == 101 then Mesi else if get_or text 2 0 == 101 then Moesi else Mosi
+
+protocol-again : (kind : ProtocolKind) (rest : List ℕ) → read_protocol (protocol_name kind ++ 32 ∷ rest) ≡ kind
+protocol-again Msi rest = refl
+protocol-again kind rest = refl
+
 pub protocol-cut : (a b : ProtocolKind) (rest other : List ℕ) → protocol_name a ++ 32 ∷ rest ≡ protocol_name b ++ 32 ∷ other → (a ≡ b) × (rest ≡ other)
-protocol-cut Msi Msi rest other e = (refl, append_cancel_left (codes "msi ") rest other e)
-protocol-cut Mesi Mesi rest other e = (refl, append_cancel_left (codes "mesi ") rest other e)
-protocol-cut Moesi Moesi rest other e = (refl, append_cancel_left (codes "moesi ") rest other e)
-protocol-cut Mosi Mosi rest other e = (refl, append_cancel_left (codes "mosi ") rest other e)
-protocol-cut Msi Mesi rest other e = absurd (omega (arith, byte-at 1 115 101 _ _ e refl refl))
-protocol-cut Msi Moesi rest other e = absurd (omega (arith, byte-at 1 115 111 _ _ e refl refl))
-protocol-cut Msi Mosi rest other e = absurd (omega (arith, byte-at 1 115 111 _ _ e refl refl))
-protocol-cut Mesi Msi rest other e = absurd (omega (arith, byte-at 1 101 115 _ _ e refl refl))
-protocol-cut Mesi Moesi rest other e = absurd (omega (arith, byte-at 1 101 111 _ _ e refl refl))
-protocol-cut Mesi Mosi rest other e = absurd (omega (arith, byte-at 1 101 111 _ _ e refl refl))
-protocol-cut Moesi Msi rest other e = absurd (omega (arith, byte-at 1 111 115 _ _ e refl refl))
-protocol-cut Moesi Mesi rest other e = absurd (omega (arith, byte-at 1 111 101 _ _ e refl refl))
-protocol-cut Moesi Mosi rest other e = absurd (omega (arith, byte-at 2 101 115 _ _ e refl refl))
-protocol-cut Mosi Msi rest other e = absurd (omega (arith, byte-at 1 111 115 _ _ e refl refl))
-protocol-cut Mosi Mesi rest other e = absurd (omega (arith, byte-at 1 111 101 _ _ e refl refl))
-protocol-cut Mosi Moesi rest other e = absurd (omega (arith, byte-at 2 115 101 _ _ e refl refl))
+protocol-cut a b rest other e =
+    let same : a ≡ b = sym (protocol-again a rest) ∙ (ap read_protocol e ∙ protocol-again b other) in
+    (same, append_cancel_left (32 ∷ []) rest other (same-cut (protocol_name a) (protocol_name b) (32 ∷ rest) (32 ∷ other) (ap protocol_name same) e))
 
 bus-stops : (bus : Bus) (rest : List ℕ) → Stops (bus_text bus ++ 10 ∷ rest)
 bus-stops Atomic rest = refl
-bus-stops Split rest = refl
+bus-stops bus rest = refl
 
 bus-cut : (a b : Bus) (rest other : List ℕ) → bus_text a ++ 10 ∷ rest ≡ bus_text b ++ 10 ∷ other → (a ≡ b) × (rest ≡ other)
 bus-cut Atomic Atomic rest other e = (refl, append_cancel_left (10 ∷ []) rest other e)
 bus-cut Split Split rest other e = (refl, append_cancel_left (codes " bus=split\n") rest other e)
-bus-cut Atomic Split rest other e = absurd (omega (arith, byte-at 0 10 32 _ _ e refl refl))
-bus-cut Split Atomic rest other e = absurd (omega (arith, byte-at 0 32 10 _ _ e refl refl))
+bus-cut a b rest other e = unlike 0 (bus_text a ++ 10 ∷ rest) (bus_text b ++ 10 ∷ other) refl e
 
 pub line-small : (words : ℕ) → IsLineSize words → words < 2 ^ 64
 line-small words (inl e) = omega (arith, e)
@@ -58,25 +48,24 @@ machine-flat name depth sets ways words bus rest = simp append_assoc
 pub same-configuration : (c d : Configuration) → c.depth ≡ d.depth → c.shape.sets ≡ d.shape.sets → c.shape.ways ≡ d.shape.ways → c.shape.words ≡ d.shape.words → c.bus ≡ d.bus → c ≡ d
 same-configuration c d depth sets ways words bus = λ i. record { depth = depth i; shape = record { sets = sets i; ways = ways i; words = words i }; bus = bus i }
 
+abbrev machine_numbers : Configuration → List ℕ
+machine_numbers c = c.depth ∷ c.shape.sets ∷ c.shape.ways ∷ c.shape.words ∷ []
+
 machine-cut : (kind other_kind : ProtocolKind) (c d : Configuration) (rest other : List ℕ) → IsConfigurationWithinLimits c → IsConfigurationWithinLimits d
     → machine_line kind c ++ rest ≡ machine_line other_kind d ++ other → (kind ≡ other_kind) × (c ≡ d) × (rest ≡ other)
 machine-cut kind other_kind c d rest other p q e =
-    let from_bus = λ (x : Configuration) (after : List ℕ). bus_text x.bus ++ 10 ∷ after in
-    let from_words = λ (x : Configuration) (after : List ℕ). codes " words=" ++ (decimal x.shape.words ++ from_bus x after) in
-    let from_ways = λ (x : Configuration) (after : List ℕ). codes " ways=" ++ (decimal x.shape.ways ++ from_words x after) in
-    let from_sets = λ (x : Configuration) (after : List ℕ). codes " sets=" ++ (decimal x.shape.sets ++ from_ways x after) in
-    let from_depth = λ (x : Configuration) (after : List ℕ). codes "depth=" ++ (decimal x.depth ++ from_sets x after) in
-    let flat = sym (machine-flat (protocol_name kind) (decimal c.depth) (decimal c.shape.sets) (decimal c.shape.ways) (decimal c.shape.words) (bus_text c.bus) rest)
-    ∙ (e ∙ machine-flat (protocol_name other_kind) (decimal d.depth) (decimal d.shape.sets) (decimal d.shape.ways) (decimal d.shape.words) (bus_text d.bus) other) in
-    let named = append_cancel_left (codes "Machine ") (protocol_name kind ++ 32 ∷ from_depth c rest) (protocol_name other_kind ++ 32 ∷ from_depth d other) flat in
-    let protocol = protocol-cut kind other_kind (from_depth c rest) (from_depth d other) named in
-    let depth = next-cut (codes "depth=") c.depth d.depth (from_sets c rest) (from_sets d other) (omega (arith, p.0)) (omega (arith, q.0)) refl refl protocol.1 in
-    let sets = next-cut (codes " sets=") c.shape.sets d.shape.sets (from_ways c rest) (from_ways d other) (omega (arith, p.1.few_sets)) (omega (arith, q.1.few_sets)) refl refl depth.1 in
-    let ways = next-cut (codes " ways=") c.shape.ways d.shape.ways (from_words c rest) (from_words d other) (omega (arith, p.1.few_ways)) (omega (arith, q.1.few_ways)) refl refl sets.1 in
-    let words = next-cut (codes " words=") c.shape.words d.shape.words (from_bus c rest) (from_bus d other) (line-small c.shape.words p.1.line_size) (line-small d.shape.words q.1.line_size)
-    (bus-stops c.bus rest) (bus-stops d.bus other) ways.1 in
-    let bus = bus-cut c.bus d.bus rest other words.1 in
-    (protocol.0, same-configuration c d depth.0 sets.0 ways.0 words.0 bus.0, bus.1)
+    let flat = λ (k : ProtocolKind) (x : Configuration) (after : List ℕ).
+    machine-flat (protocol_name k) (decimal x.depth) (decimal x.shape.sets) (decimal x.shape.ways) (decimal x.shape.words) (bus_text x.bus) after in
+    let labels = codes "depth=" ∷ codes " sets=" ∷ codes " ways=" ∷ codes " words=" ∷ [] in
+    let from_depth = λ (x : Configuration) (after : List ℕ). filled labels (machine_numbers x) (bus_text x.bus ++ 10 ∷ after) in
+    let few : (x : Configuration) → IsConfigurationWithinLimits x → AreSmall (machine_numbers x) = λ x within.
+    (omega (arith, within.0), (omega (arith, within.1.few_sets), (omega (arith, within.1.few_ways), (line-small x.shape.words within.1.line_size, tt)))) in
+    let protocol = protocol-cut kind other_kind (from_depth c rest) (from_depth d other) (append_cancel_left (codes "Machine ") _ _ (sym (flat kind c rest) ∙ (e ∙ flat other_kind d other))) in
+    let numbers = filled-cut labels (machine_numbers c) (machine_numbers d) (bus_text c.bus ++ 10 ∷ rest) (bus_text d.bus ++ 10 ∷ other) refl refl refl (few c p) (few d q)
+    (bus-stops c.bus rest) (bus-stops d.bus other) protocol.1 in
+    let told = λ (k : ℕ). ap (λ (l : List ℕ). get_or l k 0) numbers.0 in
+    let bus = bus-cut c.bus d.bus rest other numbers.1 in
+    (protocol.0, same-configuration c d (told 0) (told 1) (told 2) (told 3) bus.0, bus.1)
 
 test-flat : (name machine rest : List ℕ) → ((codes "Test " ++ line name) ++ machine) ++ rest ≡ codes "Test " ++ (name ++ 10 ∷ (machine ++ rest))
 test-flat name machine rest = simp append_assoc

@@ -1,15 +1,7 @@
--- The compact text of a JSON value tells the value, up to how its numbers are spelled; and what stands where in a value.
-use Rattle.printed_laws.proofs.Vocabulary.{◌≡◌, ℕ, zero, suc, ◌≤◌, Bool, true, false, List, [], Option, unwrap_or, sym, ap, ◌∙◌, document, max_depth, depth, HasNumbers, Data, outline, compact_text, print-outline}
+-- What stands where in a JSON value.
+use Rattle.printed_laws.proofs.Vocabulary.{◌≡◌, ℕ, Bool, true, false, List, [], ◌∷◌, refl, sym, ap, zero, suc, All, map, Data, string, outline, items_outline, All-head, All-tail, items_of}
 use Rattle.json.specs.Json as json
-use Rattle.json.proofs.Printed.Trees.{document-print}
-
-pub value-told : (d e : Data) → HasNumbers (outline d) → HasNumbers (outline e) → depth (outline d) ≤ max_depth → depth (outline e) ≤ max_depth
-    → compact_text d ≡ compact_text e → outline d ≡ outline e
-value-told d e numbers numbers' shallow shallow' same =
-    let read = sym (document-print (outline d) numbers shallow) ∙ (ap document (print-outline d ∙ (same ∙ sym (print-outline e))) ∙ document-print (outline e) numbers' shallow') in
-    ap (λ (o : Option json.Json). unwrap_or o json.null) read
-
--- ---- what stands where
+use Rattle.printed_laws.proofs.Lists.{all-told}
 
 abbrev pub members_in : json.Json → json.Members
 members_in (json.object ms) = ms
@@ -56,3 +48,32 @@ has_item (json.item j js) = true
 -- one array has an item, and the other none
 pub uneven : {A : Type 0} → true ≡ false → A
 uneven e = absurd cc
+
+-- the texts of a list
+abbrev pub texts_of : json.Items → List (List ℕ)
+texts_of json.no_items = []
+texts_of (json.item j js) = text_in j ∷ texts_of js
+
+pub texts-there : {A : Type 0} (print : A → List ℕ) (xs : List A) → texts_of (items_outline (items_of (map (λ x. string (print x)) xs))) ≡ map print xs
+texts-there print [] = refl
+texts-there print (x ∷ xs) = ap (λ (l : List (List ℕ)). print x ∷ l) (texts-there print xs)
+
+pub words-there : (xs : List (List ℕ)) → texts_of (items_outline (items_of (map string xs))) ≡ xs
+words-there [] = refl
+words-there (x ∷ xs) = ap (λ (l : List (List ℕ)). x ∷ l) (words-there xs)
+
+-- what a list's values tell
+pub items-told : {A B : Type 0} (Fits : A → Type 0) (value : A → Data) (told : A → B) → ((x y : A) → Fits x → Fits y → outline (value x) ≡ outline (value y) → told x ≡ told y)
+    → (xs ys : List A) → All Fits xs → All Fits ys → items_outline (items_of (map value xs)) ≡ items_outline (items_of (map value ys)) → map told xs ≡ map told ys
+items-told Fits value told each [] [] p q same = refl
+items-told Fits value told each (x ∷ xs) (y ∷ ys) p q same =
+    let first = each x y (All-head Fits x xs p) (All-head Fits y ys q) (ap first_item same) in
+    let further = items-told Fits value told each xs ys (All-tail Fits x xs p) (All-tail Fits y ys q) (ap more_items same) in
+    λ i. first i ∷ further i
+items-told Fits value told each [] _ p q same = uneven (sym (ap has_item same))
+items-told Fits value told each _ [] p q same = uneven (ap has_item same)
+
+-- the same where each tells itself
+pub items-alike : {A : Type 0} (Fits : A → Type 0) (value : A → Data) → ((x y : A) → Fits x → Fits y → outline (value x) ≡ outline (value y) → x ≡ y)
+    → (xs ys : List A) → All Fits xs → All Fits ys → items_outline (items_of (map value xs)) ≡ items_outline (items_of (map value ys)) → xs ≡ ys
+items-alike Fits value each xs ys p q same = all-told xs ys (items-told Fits value (λ x. x) each xs ys p q same)

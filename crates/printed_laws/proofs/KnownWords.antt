@@ -1,7 +1,8 @@
 -- The values that the answers of a refutation tell are words, and a fence has none.
-use Rattle.printed_laws.proofs.Vocabulary.{◌≡◌, ◌∙◌, ℕ, zero, suc, ◌+◌, Bool, true, false, cond, List, [], ◌∷◌, map, All, Option, Some, None, IfSome, slice_index, slice_index_or, refl, ap, arith, filter, All-nil, All-cons, All-head, All-tail, All-append, All-map, Litmus, IsTest, ConstantIsWord, IsWord, AreRegisters, index_of, action_of, entry, is_read, Reg, Loc, Instr, Operand, Number, Held, Update, Exchange, Add, Action, Store, Load, Move, Fence, Lock, Entry, Kind, R, W, F, LR, LW, Known, events_of, same_event, Source, known_in, known_operand, known_update, word_given, write_with, writes_by, registers_left_by, writes_of, left_of, known_first_registers, writes_from, value_among, returned_from, returned, known_writes, all_known, value_read, register_at_end, words_at_end, can_be_last, value_known, same-bare, IsValueFor}
+use Rattle.printed_laws.proofs.Vocabulary.{◌≡◌, ℕ, Bool, true, false, List, [], ◌∷◌, refl, ap, ◌∙◌, zero, suc, Option, arith, ◌+◌, slice_index, All, Some, None, cond, map, slice_index_or, IfSome, filter, Litmus, IsTest, ConstantIsWord, All-head, All-tail, All-map, All-cons, All-nil, All-append, IsWord, AreRegisters, index_of, entry, Reg, Entry, Loc, Kind, R, W, F, LR, LW, action_of, is_read, Instr, Operand, Number, Held, Update, Exchange, Add, Action, Store, Load, Move, Fence, Lock, IsValueFor, Known, events_of, same_event, Source, known_in, known_operand, known_update, word_given, write_with, writes_by, registers_left_by, writes_of, left_of, known_first_registers, writes_from, value_among, returned_from, returned, known_writes, all_known, value_read, register_at_end, words_at_end, can_be_last, value_known, same-bare}
 use Rattle.std.specs.Prelude.{slice_set}
 use Rattle.tso_model.specs.declared.instruction.Instr.TheVariants as instr
+use Rattle.printed_laws.proofs.Lists.{word-at}
 
 -- a word, if it is known
 abbrev pub MayBeWord : Option ℕ → Type 0
@@ -10,11 +11,6 @@ MayBeWord o = IfSome o IsWord
 pub either : {A : Type 0} (P : A → Type 0) (b : Bool) (x y : A) → P x → P y → P (cond b x y)
 either P true x y p q = p
 either P false x y p q = q
-
-pub word-at : (ns : List ℕ) (i : ℕ) → All IsWord ns → IsWord (slice_index ns i)
-word-at [] i all = omega arith
-word-at (n ∷ ns) zero all = All-head IsWord n ns all
-word-at (n ∷ ns) (suc i) all = word-at ns i (All-tail IsWord n ns all)
 
 -- ---- registers
 
@@ -47,13 +43,8 @@ ActionFits _ = Unit {0}
 
 action-fits : (i : Instr) → ConstantIsWord i → ActionFits (action_of i)
 action-fits (instr.StoreImm loc value) fits = fits
-action-fits (instr.StoreReg loc reg) fits = tt
-action-fits (instr.Load reg loc) fits = tt
 action-fits (instr.SetImm reg value) fits = fits
-action-fits (instr.SetReg reg other) fits = tt
-action-fits instr.Fence fits = tt
-action-fits (instr.Xchg loc reg) fits = tt
-action-fits (instr.Xadd loc reg) fits = tt
+action-fits i fits = tt
 
 operand-word : (os : List (Option ℕ)) (operand : Operand) → All MayBeWord os → OperandFits operand → MayBeWord (known_operand os operand)
 operand-word os (Number value) all fits = fits
@@ -83,17 +74,13 @@ module _ (given : Entry → Option ℕ) (gives : GivesWords given) where
   word-given : (core place : ℕ) (a : Action) → MayBeWord (word_given given core place a)
   word-given core place (Load reg loc) = gives (entry core place R loc 0)
   word-given core place (Lock loc reg update) = gives (entry core place LR loc 0)
-  word-given core place (Store loc operand) = tt
-  word-given core place (Move reg operand) = tt
-  word-given core place Fence = tt
+  word-given core place a = tt
 
   by-words : (core place : ℕ) (a : Action) (os : List (Option ℕ)) (o : Option ℕ) → All MayBeWord os → ActionFits a → All IsWriteOfWord (writes_by core place a os o)
   by-words core place (Store loc operand) os o all fits = with-word core place W loc (known_operand os operand) (λ e. let no : ⊥ = cc in no) (operand-word os operand all fits)
-  by-words core place (Load reg loc) os o all fits = All-nil IsWriteOfWord
-  by-words core place (Move reg operand) os o all fits = All-nil IsWriteOfWord
-  by-words core place Fence os o all fits = All-nil IsWriteOfWord
   by-words core place (Lock loc reg update) os o all fits =
       with-word core place LW loc (known_update update o (known_in os reg)) (λ e. let no : ⊥ = cc in no) (update-word update o (known_in os reg) (known-at os (index_of reg) all))
+  by-words core place a os o all fits = All-nil IsWriteOfWord
 
   left-words : (a : Action) (os : List (Option ℕ)) (o : Option ℕ) → All MayBeWord os → MayBeWord o → ActionFits a → All MayBeWord (registers_left_by a os o)
   left-words (Store loc operand) os o all word fits = all
@@ -174,11 +161,8 @@ module _ (t : Litmus) (test : IsTest t) (k : Known) where
       ap (λ (b : Bool). cond b (value_read t k e) (value_among (all_known t k) e)) unread ∙ no-fence (all_known t k) e all-words fence
 
   by-kind : (kind : Kind) (o : Option ℕ) → MayBeWord o → (kind ≡ F → o ≡ None) → IsValueFor kind o
-  by-kind R o word none = word
-  by-kind W o word none = word
   by-kind F o word none = none refl
-  by-kind LR o word none = word
-  by-kind LW o word none = word
+  by-kind kind o word none = word
 
   pub value-fits : (e : Entry) → IsValueFor e.kind (value_known t k e)
   value-fits e = by-kind e.kind (value_known t k e) (known-word e) (fence-none e)

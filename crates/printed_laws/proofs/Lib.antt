@@ -1,6 +1,9 @@
 pub mod Vocabulary
+pub mod Digits
 pub mod Cutting
+pub mod Lists
 pub mod JsonTexts
+pub mod JsonReading
 pub mod Unfinished
 pub mod Heads
 pub mod Lines
@@ -12,7 +15,6 @@ pub mod JsonMemory
 pub mod JsonReports
 pub mod PrintedRuns
 pub mod Machines
-pub mod Digits
 pub mod Keys
 pub mod OutcomeLines
 pub mod Endings

@@ -1,5 +1,5 @@
 -- The JSON value of a machine tells its cores and its memory.
-use Rattle.printed_laws.proofs.Vocabulary.{◌≡◌, ◌∙◌, ℕ, zero, suc, ◌+◌, ◌/◌, ◌==◌, ◌<◌, Bool, true, false, if◌then◌else◌, Option, Some, None, IfSome, List, [], ◌∷◌, ◌++◌, map, length, get_or, take, drop, All, refl, sym, ap, subst, arith, codes, option_map, decimal, decimal_injective, All-head, All-tail, Data, array, items_of, outline, items_outline, Litmus, IsTest, CoreState, core_of, chosen, IsWord, index_of, CoresExist, value_in, Choice, Entry, Reg, Eax, Ebx, Ecx, Edx, Esi, Edi, table_of, Transient, IsD, ImD, SmD, bus_holder_of, BusHolder, Configuration, Running, new_machine, machine_after, count, registers_value, memory_value, names_in_line, line_name, store_text, transient_name, line_state, IsTraced, LineState, traced-first, traced-next, array_of_texts, words_per_line, copy_json, cached_lines_in, sets_json, words_in_line, words_on_bus, bus_json, core_with, core_json, cores_json, machine_json, bare_store}
+use Rattle.printed_laws.proofs.Vocabulary.{◌≡◌, ℕ, ◌<◌, Bool, true, false, List, [], ◌∷◌, ◌++◌, get_or, drop, refl, sym, ap, subst, ◌∙◌, zero, suc, Option, arith, ◌+◌, length, All, Some, None, ◌==◌, map, ◌/◌, if◌then◌else◌, take, IfSome, decimal, decimal_injective, max_depth, Data, array, outline, items_outline, codes, count, registers_value, memory_value, Litmus, IsTest, Configuration, All-head, All-tail, value_in, Reg, Entry, items_of, CoresExist, Choice, chosen, CoreState, core_of, IsD, ImD, SmD, line_name, store_text, names_in_line, transient_name, LineState, option_map, bare_store, array_of_texts, table_of, Running, new_machine, machine_after, line_state, IsTraced, traced-first, traced-next, Transient, bus_holder_of, BusHolder, words_per_line, copy_json, sets_json, core_json, cores_json, words_in_line, words_on_bus, bus_json, machine_json, cached_lines_in, core_with}
 use Rattle.std.proofs.lemmas.List.{append-nil}
 use Rattle.json.specs.Json as json
 use Rattle.snoop_bus.specs.declared.looking.CachedLine.{CachedLine}
@@ -7,12 +7,14 @@ use Rattle.trace_report.specs.StepLaws.{after_choices}
 use Rattle.trace_json.proofs.Tracing.{each-after}
 use Rattle.printed_laws.specs.TracedMachines.{copy_shown, copies_shown, holder_shown, ShowTheSameMachine, AreWordsOf, MachinesAreTold}
 use Rattle.printed_laws.proofs.JsonMemory.{memory-told}
-use Rattle.printed_laws.proofs.JsonTexts.{value-told, members_in, items_in, text_in, value_at, text_at, first_item, more_items, uneven}
-use Rattle.printed_laws.proofs.MachinesFit.{word-at, PendingFits, CoreFits}
+use Rattle.printed_laws.proofs.JsonReading.{deeper, text-told}
+use Rattle.printed_laws.proofs.JsonReports.{registers-told}
+use Rattle.printed_laws.proofs.JsonTexts.{members_in, items_in, value_at, text_at, first_item, more_items, uneven, texts_of, words-there}
+use Rattle.printed_laws.proofs.MachinesFit.{PendingFits, CoreFits}
 use Rattle.printed_laws.proofs.StepsFit.{MachineFits, fits-first, fits-next}
 use Rattle.printed_laws.proofs.TraceLines.{core-small, same-store}
-use Rattle.printed_laws.proofs.TraceNumbers.{holder-small, machine-readable}
-use Rattle.printed_laws.proofs.TraceObjects.{texts_of, words-there, option-told}
+use Rattle.printed_laws.proofs.TraceNumbers.{holder-small, machine-back}
+use Rattle.printed_laws.proofs.TraceObjects.{option-told}
 use Rattle.printed_laws.proofs.TraceParts.{read_state, state-again}
 use Rattle.printed_laws.proofs.TraceWords.{value-cut, choice-cut}
 
@@ -46,34 +48,16 @@ core-told : (t : Litmus) (lines others : Data) (s u : CoreState) → IsTest t �
 core-told t lines others s u test p q same =
     let few = p.place in
     let few' = q.place in
-    let told : (reg : Reg) → decimal (value_in s.registers reg) ≡ decimal (value_in u.registers reg) → value_in s.registers reg ≡ value_in u.registers reg = λ reg digits.
-    let x : IsWord (value_in s.registers reg) = word-at s.registers (index_of reg) p.registers in
-    let y : IsWord (value_in u.registers reg) = word-at u.registers (index_of reg) q.registers in
-    decimal_injective (value_in s.registers reg) (value_in u.registers reg) (omega (arith, x)) (omega (arith, y)) digits in
     record {
       place = decimal_injective s.place u.place (omega (arith, few)) (omega (arith, few')) (ap (text_at 2) same);
-      registers = by_register told;
+      registers = registers-told s.registers u.registers p.registers q.registers (ap (value_at 3) same);
       buffer = stores-told t s.pending u.pending test p.pending q.pending
           (sym (words-there (map (store_text t) s.pending)) ∙ (ap (λ (j : json.Json). texts_of (items_in (value_at 0 j))) same ∙ words-there (map (store_text t) u.pending)));
     }
-  where
-    by_register : ((reg : Reg) → decimal (value_in s.registers reg) ≡ decimal (value_in u.registers reg) → value_in s.registers reg ≡ value_in u.registers reg)
-        → (reg : Reg) → value_in s.registers reg ≡ value_in u.registers reg
-    by_register told Eax = told Eax (ap (λ (j : json.Json). text_at 0 (value_at 3 j)) same)
-    by_register told Ebx = told Ebx (ap (λ (j : json.Json). text_at 1 (value_at 3 j)) same)
-    by_register told Ecx = told Ecx (ap (λ (j : json.Json). text_at 2 (value_at 3 j)) same)
-    by_register told Edx = told Edx (ap (λ (j : json.Json). text_at 4 (value_at 3 j)) same)
-    by_register told Esi = told Esi (ap (λ (j : json.Json). text_at 5 (value_at 3 j)) same)
-    by_register told Edi = told Edi (ap (λ (j : json.Json). text_at 3 (value_at 3 j)) same)
 
 -- ---- the copies in its cache
 
--- the digits of numbers
-abbrev digits_in : json.Items → List (List ℕ)
-digits_in json.no_items = []
-digits_in (json.item j js) = text_in j ∷ digits_in js
-
-digits-there : (numbers : List ℕ) → digits_in (items_outline (items_of (map count numbers))) ≡ map decimal numbers
+digits-there : (numbers : List ℕ) → texts_of (items_outline (items_of (map count numbers))) ≡ map decimal numbers
 digits-there [] = refl
 digits-there (n ∷ ns) = ap (λ (l : List (List ℕ)). decimal n ∷ l) (digits-there ns)
 
@@ -82,7 +66,7 @@ Shown = List ℕ × LineState × List (List ℕ)
 
 -- what a copy's value shows, a set's, and those of all sets
 abbrev copy_in : json.Json → Shown
-copy_in j = (text_at 0 j, read_state (text_at 1 j), digits_in (items_in (value_at 2 j)))
+copy_in j = (text_at 0 j, read_state (text_at 1 j), texts_of (items_in (value_at 2 j)))
 
 abbrev set_in : json.Items → List Shown
 set_in json.no_items = []
@@ -114,8 +98,7 @@ read_transient text = if get_or text 0 0 == 83 then SmD else if get_or text 1 0 
 
 transient-again : (x : Transient) → read_transient (transient_name x) ≡ x
 transient-again IsD = refl
-transient-again ImD = refl
-transient-again SmD = refl
+transient-again x = refl
 
 transient-told : (a b : Option Transient) → option_map transient_name a ≡ option_map transient_name b → a ≡ b
 transient-told a b same = sym (there a) ∙ (ap (option_map read_transient) same ∙ there b)
@@ -139,7 +122,7 @@ bus-told m n (Some h) (Some k) p q same =
     let line : line_name m.test (words_per_line m) (h.loc.0 / words_per_line m) ≡ line_name n.test (words_per_line n) (k.loc.0 / words_per_line n) = ap (text_at 2) same in
     let kept = λ (x : Running) (b : BusHolder). words_on_bus b.transient (words_in_line (words_per_line x) x.state.flat.memory (b.loc.0 / words_per_line x)) in
     let words : map decimal (kept m h) ≡ map decimal (kept n k) =
-    sym (digits-there (kept m h)) ∙ (ap (λ (j : json.Json). digits_in (items_in (value_at 4 j))) same ∙ digits-there (kept n k)) in
+    sym (digits-there (kept m h)) ∙ (ap (λ (j : json.Json). texts_of (items_in (value_at 4 j))) same ∙ digits-there (kept n k)) in
     λ i. Some (choice.0 i, line i, state i, words i)
 
 -- ---- the cores
@@ -225,8 +208,6 @@ machines-told t kind other_kind c d choices other own other_own test exist exist
     (record { traced = traced-first (table_of kind) c t; fits = fits-first (table_of kind) c t test; each = test.words_given }) in
     let g = follows t d (new_machine (table_of other_kind) d t) other test exist'
     (record { traced = traced-first (table_of other_kind) d t; fits = fits-first (table_of other_kind) d t test; each = test.words_given }) in
-    let x = machine-readable m own f.fits p.words_are in
-    let y = machine-readable n other_own g.fits q.words_are in
-    let deep = x.depth in
-    let deep' = y.depth in
-    machine-told t c d m n own other_own test f g p q (value-told (machine_json m own) (machine_json n other_own) x.numbers y.numbers (omega (arith, deep)) (omega (arith, deep')) e)
+    let x = deeper 7 max_depth (outline (machine_json m own)) (omega arith) (machine-back m own f.fits p.words_are) in
+    let y = deeper 7 max_depth (outline (machine_json n other_own)) (omega arith) (machine-back n other_own g.fits q.words_are) in
+    machine-told t c d m n own other_own test f g p q (text-told (machine_json m own) (machine_json n other_own) x y e)

@@ -1,26 +1,22 @@
 -- What a machine holds fits its test, whatever the choices: its words are words, its pending stores and what it commits are entries
 -- that an order of the test may have, and no core stands past its program.
-use Rattle.printed_laws.proofs.Vocabulary.{◌≡◌, ℕ, zero, suc, ◌+◌, ◌<◌, ◌≤◌, Bool, true, false, nat_lt, if◌then◌else◌, List, [], ◌∷◌, ◌++◌, length, take, drop, All, Option, Some, None, IfSome, slice_get, slice_index, slice_index_or, slice_set, inl, inr, refl, sym, subst, arith, All-nil, All-cons, All-head, All-tail, All-push, All-set, All-filter, All-drop, Litmus, IsTest, IsProgram, KnownLocation, ConstantIsWord, IsWord, AreRegisters, index_of, action_of, is_write, writes_to, entry, fence, value_in, value_of, sum_of, updated, CoreState, State, Effect, is_none_pending, stalled, advanced_with, stored, load_value, effect_by, idle, program_of, core_of, chosen, effect_of, memory_after, applied, started, start, MemoryAccess, NoAccess, Writes, Locks, access_of, Holder, Free, HeldBy, HeldBetween, Attempt, BusEffect, same_choice, needs_bus, acts, asks, begins, completes, as_read, writes_last, split_effect, Reg, Instr, Operand, Number, Held, Update, Exchange, Add, Action, Store, Load, Move, Fence, Lock, Bus, Atomic, Split, Choice, Drain, Stall, Committed, Buffered, Entry, Kind, R, W, F, LR, LW, HasAccess, IsEntryFor, ActionKnown, AccessKnown}
+use Rattle.printed_laws.proofs.Vocabulary.{◌≡◌, ℕ, ◌<◌, Bool, true, false, List, [], ◌∷◌, ◌++◌, drop, refl, sym, subst, zero, suc, ◌≤◌, Option, arith, inl, inr, ◌+◌, length, slice_index, All, Some, None, slice_index_or, if◌then◌else◌, take, IfSome, nat_lt, slice_get, slice_set, Litmus, IsTest, IsProgram, KnownLocation, ConstantIsWord, Bus, Atomic, Split, All-head, All-tail, All-cons, All-nil, All-push, All-set, All-filter, All-drop, IsWord, AreRegisters, index_of, value_in, entry, fence, value_of, sum_of, updated, Reg, Entry, HasAccess, IsEntryFor, Choice, Drain, chosen, CoreState, State, Effect, is_none_pending, stalled, advanced_with, stored, load_value, effect_by, idle, program_of, core_of, effect_of, memory_after, applied, started, start, Kind, R, W, F, LR, LW, Stall, Committed, Buffered, action_of, is_write, writes_to, MemoryAccess, Locks, access_of, Holder, Free, HeldBy, HeldBetween, Attempt, BusEffect, same_choice, needs_bus, acts, asks, begins, completes, as_read, writes_last, split_effect, Instr, Operand, Number, Held, Update, Exchange, Add, Action, Store, Load, Move, Fence, Lock, ActionKnown, AccessKnown}
 use Rattle.std.proofs.Common.{filter}
 use Rattle.tso_model.specs.Axioms.{last_value}
 use Rattle.tso_model.specs.FlatMachine.{step_of}
-use Rattle.tso_model.specs.MemoryAccess.{Reads, next_of}
+use Rattle.tso_model.specs.MemoryAccess.{next_of}
 use Rattle.tso_model.specs.EitherBus.{BusState, effect_on}
 use Rattle.tso_model.specs.declared.instruction.Instr.TheVariants.{StoreImm, SetImm}
 use Rattle.tso_model.specs.declared.choice.Choice.TheVariants.{Step}
 use Rattle.tso_model.specs.declared.choice.Stall.TheVariants as stall
 use Rattle.basic_laws.proofs.Cores.{starts-idle}
 use Rattle.split_laws.proofs.Cores.{core-cases}
+use Rattle.printed_laws.proofs.Lists.{word-at}
 
 -- ---- words
 
 no-word : IsWord 0
 no-word = omega arith
-
-pub word-at : (words : List ℕ) (i : ℕ) → All IsWord words → IsWord (slice_index words i)
-word-at [] i h = no-word
-word-at (w ∷ ws) zero h = All-head IsWord w ws h
-word-at (w ∷ ws) (suc i) h = word-at ws i (All-tail IsWord w ws h)
 
 sum-word : (word value : ℕ) → IsWord (sum_of word value)
 sum-word word value = omega arith
@@ -65,10 +61,7 @@ entry-word t e p = by_kind e.kind p.access
   where
     by_kind : (k : Kind) → HasAccess t k e.loc.0 e.value → IsWord e.value
     by_kind F a = let none = a.1 in omega (arith, none)
-    by_kind R a = a.1
-    by_kind W a = a.1
-    by_kind LR a = a.1
-    by_kind LW a = a.1
+    by_kind k a = a.1
 
 last-word : (t : Litmus) (es : List Entry) (word : ℕ) → All (PendingFits t) es → IsWord word → IsWord (last_value es word)
 last-word t [] word h w = w
@@ -222,9 +215,6 @@ module _ (t : Litmus) where
 
   completes-fits : (depth : ℕ) (state : State) (a : Choice) (what : MemoryAccess) → IsTest t → chosen a < 256 → All IsWord state.memory → CoresFit state → AccessKnown t what
       → BusFits (completes t depth state a what)
-  completes-fits depth state a NoAccess test small m h k = record { effect = flat-fits depth state a test small m h; holder = tt }
-  completes-fits depth state a (Reads loc) test small m h k = record { effect = flat-fits depth state a test small m h; holder = tt }
-  completes-fits depth state a (Writes loc) test small m h k = record { effect = flat-fits depth state a test small m h; holder = tt }
   completes-fits depth state a (Locks loc) test small m h k =
       let s = core_of state (chosen a) in
       let w : IsWord (slice_index state.memory loc.0) = word-at state.memory loc.0 m in
@@ -233,6 +223,7 @@ module _ (t : Litmus) where
         effect = record { after = h (chosen a); commits = one (entry (chosen a) s.place LR loc (slice_index state.memory loc.0)) (record { core = small; place = omega (arith, place); access = (k, w) }) };
         holder = (small, w);
       }
+  completes-fits depth state a what test small m h k = record { effect = flat-fits depth state a test small m h; holder = tt }
 
   split-fits : (depth : ℕ) (state : State) (a : Attempt) (holder : Holder) → IsTest t → chosen a.choice < 256 → All IsWord state.memory → CoresFit state → HolderFits holder
       → ((c : Choice) → AccessKnown t (access_of t depth state c)) → BusFits (split_effect t depth state a holder)

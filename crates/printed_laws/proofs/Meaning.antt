@@ -1,6 +1,7 @@
 -- What the word of a condition means: for each end of the machine's runs, and for each execution.
-use Rattle.printed_laws.proofs.Vocabulary.{◌≡◌, ◌∙◌, ◌<◌, ◌+◌, ◌==◌, ℕ, zero, suc, Bool, true, false, not, cond, List, [], ◌∷◌, map, length, get_or, Contains, Some, refl, sym, ap, subst, eqb-true, arith, codes, count_by, list_all, All-contains, sum_by-cons, Litmus, IsTest, Claim, Condition, truth_of, final_words, final_registers, registers_in, run, IsEnd, EndsAreWhatTsoAllows, SpellsTest, frequency, Named, names_shown, values_at, Outcome, shown_values, held_in, failed_in, TruthIsShown, parts_of, Leads, made-of, Search, shown_after, PrintsAllOutcomes, HeadlineOfOutcomes, all, too_many, PrintsWord, IsSoEverywhere, IsSoSomewhere, IsSoNowhere, IsAlwaysSo, IsSometimesSo, WordMeans}
-use Rattle.printed_laws.proofs.Digits.{is_no_space}
+use Rattle.printed_laws.proofs.Vocabulary.{◌≡◌, ℕ, ◌<◌, Bool, true, false, List, [], ◌∷◌, get_or, refl, sym, ap, subst, ◌∙◌, zero, suc, arith, ◌+◌, length, Some, ◌==◌, cond, map, not, Contains, eqb-true, list_all, codes, count_by, Litmus, IsTest, All-contains, Condition, Claim, truth_of, sum_by-cons, Named, frequency, run, names_shown, values_at, Outcome, shown_values, held_in, failed_in, PrintsWord, IsSoEverywhere, IsSoSomewhere, IsSoNowhere, IsAlwaysSo, IsSometimesSo, WordMeans, final_words, final_registers, registers_in, IsEnd, EndsAreWhatTsoAllows, SpellsTest, TruthIsShown, parts_of, Leads, made-of, Search, shown_after, PrintsAllOutcomes, HeadlineOfOutcomes, all, too_many}
+use Rattle.printed_laws.proofs.Cutting.{unlike}
+use Rattle.printed_laws.proofs.Digits.{is_other}
 use Rattle.printed_laws.proofs.Words.{is_unquoted, word-is, word-isnt}
 
 -- ---- counts
@@ -30,24 +31,20 @@ some-counted {X} p (y ∷ ys) some =
 
 -- ---- words
 
-first-byte : (x y : ℕ) (xs ys : List ℕ) → x ∷ xs ≡ y ∷ ys → x ≡ y
-first-byte x y xs ys same = ap (λ (l : List ℕ). get_or l 0 0) same
-
 is-never : (held failed : ℕ) → frequency held failed ≡ codes "Never" → held ≡ 0
 is-never held failed = by (held == 0) (failed == 0) refl
   where
     by : (never always : Bool) → (held == 0) ≡ never → cond never (codes "Never") (cond always (codes "Always") (codes "Sometimes")) ≡ codes "Never" → held ≡ 0
     by true always is word = eqb-true held 0 is
-    by false true is word = absurd (omega (arith, first-byte 65 78 _ _ word))
-    by false false is word = absurd (omega (arith, first-byte 83 78 _ _ word))
+    by false true is word = unlike 0 (codes "Always") (codes "Never") refl word
+    by false false is word = unlike 0 (codes "Sometimes") (codes "Never") refl word
 
 is-always : (held failed : ℕ) → frequency held failed ≡ codes "Always" → failed ≡ 0
 is-always held failed = by (held == 0) (failed == 0) refl
   where
     by : (never always : Bool) → (failed == 0) ≡ always → cond never (codes "Never") (cond always (codes "Always") (codes "Sometimes")) ≡ codes "Always" → failed ≡ 0
-    by true always is word = absurd (omega (arith, first-byte 78 65 _ _ word))
     by false true is word = eqb-true failed 0 is
-    by false false is word = absurd (omega (arith, first-byte 83 65 _ _ word))
+    by never always is word = unlike 0 (cond never (codes "Never") (cond always (codes "Always") (codes "Sometimes"))) (codes "Always") refl word
 
 pub some-if : (n : ℕ) → (n == 0) ≡ false → 0 < n
 some-if zero is = absurd (let no : ⊥ = cc in no)
@@ -58,9 +55,8 @@ is-sometimes held failed = by (held == 0) (failed == 0) refl refl
   where
     by : (never always : Bool) → (held == 0) ≡ never → (failed == 0) ≡ always
         → cond never (codes "Never") (cond always (codes "Always") (codes "Sometimes")) ≡ codes "Sometimes" → (0 < held) × (0 < failed)
-    by true always is too word = absurd (omega (arith, first-byte 78 83 _ _ word))
-    by false true is too word = absurd (omega (arith, first-byte 65 83 _ _ word))
     by false false is too word = (some-if held is, some-if failed too)
+    by never always is too word = unlike 0 (cond never (codes "Never") (cond always (codes "Always") (codes "Sometimes"))) (codes "Sometimes") refl word
 
 -- ---- ends and executions
 
@@ -134,7 +130,7 @@ TestsAreWithin = (text : List ℕ) (t : Litmus) → SpellsTest text t → IsTest
 
 -- a word is one of the three: it has no space and no quotation mark
 record IsWord (word : List ℕ) : Type 0 where
-  spaceless : list_all is_no_space word ≡ true
+  spaceless : list_all (is_other 32) word ≡ true
   unquoted : list_all is_unquoted word ≡ true
 
 -- from the states that were printed to what is meant of the test

@@ -1,5 +1,5 @@
 -- Whether nodes close a case is a matter of the events in its answers: the values that these are written with don't count.
-use Rattle.printed_laws.proofs.Vocabulary.{◌≡◌, ◌==◌, ℕ, zero, suc, ◌&&◌, ◌||◌, Bool, true, false, not, cond, List, [], ◌∷◌, ◌++◌, map, length, Option, Some, None, slice_index, slice_index_or, refl, sym, ap, ◌∙◌, filter, list_any, list_all, option_map, Litmus, Claim, TruthClaim, RegClaim, LocClaim, NotClaim, AndClaim, OrClaim, writes_to, Reg, Entry, Known, bare, events_of, same_event, is_event, with_source, with_pair, is_write_of, reads_from, comes_before, is_overwritten, from_reads, relates, on_location, global_in, is_edge, is_cycle, are_parts, left_of, known_in, known_first_registers, writes_from, value_among, returned_from, returned, known_writes, all_known, value_read, register_at_end, can_be_last, words_at_end, can_be, allows, Node, ReadsFrom, ComesFirst, OnLocation, Globally, Between, FalseClaim, sources_of, is_node, branches, close, Source, Model, Relation, Po, PoLoc, PoGhb, Mfence, Implied, Rf, Rfe, Co, Fr, Reply, Reads, First, with_reply}
+use Rattle.printed_laws.proofs.Vocabulary.{◌≡◌, ℕ, Bool, true, false, List, [], ◌∷◌, ◌++◌, refl, sym, ap, ◌∙◌, zero, suc, Option, length, slice_index, Some, None, ◌==◌, cond, map, not, ◌||◌, ◌&&◌, slice_index_or, list_all, list_any, filter, Litmus, Claim, TruthClaim, RegClaim, LocClaim, NotClaim, AndClaim, OrClaim, Reg, Entry, Node, ReadsFrom, ComesFirst, OnLocation, Globally, Between, FalseClaim, sources_of, is_node, branches, close, Model, with_reply, option_map, writes_to, on_location, global_in, relates, is_edge, is_cycle, are_parts, Relation, Rf, Rfe, Co, Fr, Known, events_of, same_event, bare, is_event, with_source, with_pair, is_write_of, reads_from, comes_before, is_overwritten, from_reads, Source, known_in, left_of, known_first_registers, writes_from, value_among, returned_from, returned, known_writes, all_known, value_read, register_at_end, words_at_end, can_be_last, can_be, allows, Reply, Reads, First}
 use mathlib.Core.Path.{fun_ext, ap₂}
 use Rattle.refutation_laws.specs.declared.known.Pair.{Pair}
 
@@ -48,15 +48,11 @@ from-same k r v =
 
 module _ (t : Litmus) where
   relation-same : (k : Known) (r : Relation) (x y : Entry) → relates t (plain k) r x y ≡ relates t k r x y
-  relation-same k Po x y = refl
-  relation-same k PoLoc x y = refl
-  relation-same k PoGhb x y = refl
-  relation-same k Mfence x y = refl
-  relation-same k Implied x y = refl
   relation-same k Rf x y = reads-same k x y
   relation-same k Rfe x y = ap (λ b. b && not (x.core.0 == y.core.0)) (reads-same k x y)
   relation-same k Co x y = comes-same k x y
   relation-same k Fr x y = from-same k x y
+  relation-same k r x y = refl
 
   relates-same : (k : Known) → relates t (plain k) ≡ relates t k
   relates-same k = fun_ext (λ r. fun_ext (λ x. fun_ext (λ y. relation-same k r x y)))
@@ -140,10 +136,7 @@ module _ (t : Litmus) where
     branches-alike : (k j : Known) (n : Node) → plain k ≡ plain j → map plain (branches t k n) ≡ map plain (branches t j n)
     branches-alike k j (ReadsFrom r) alike = source-alike k j r (sources_of t r) alike
     branches-alike k j (ComesFirst w v) alike = ap (λ (p : Known). with_pair p (bare w) (bare v) ∷ (with_pair p (bare v) (bare w) ∷ [])) alike
-    branches-alike k j (OnLocation cycle) alike = refl
-    branches-alike k j (Globally cycle) alike = refl
-    branches-alike k j (Between r v w) alike = refl
-    branches-alike k j FalseClaim alike = refl
+    branches-alike k j n alike = refl
 
     plain-append : (js ks : List Known) → map plain (js ++ ks) ≡ map plain js ++ map plain ks
     plain-append [] ks = refl
@@ -151,16 +144,12 @@ module _ (t : Litmus) where
 
     -- the same nodes close cases that are alike
     pub close-alike : (ns : List Node) (ks js : List Known) → map plain ks ≡ map plain js → close model t claim ks ns ≡ close model t claim js ns
-    close-alike [] [] [] alike = refl
-    close-alike [] [] (j ∷ js) alike = absurd (let no : ⊥ = cc in no)
-    close-alike [] (k ∷ ks) [] alike = absurd (let no : ⊥ = cc in no)
     close-alike [] (k ∷ ks) (j ∷ js) alike = refl
-    close-alike (n ∷ ns) [] [] alike = refl
-    close-alike (n ∷ ns) [] (j ∷ js) alike = absurd (let no : ⊥ = cc in no)
-    close-alike (n ∷ ns) (k ∷ ks) [] alike = absurd (let no : ⊥ = cc in no)
     close-alike (n ∷ ns) (k ∷ ks) (j ∷ js) alike =
         let one : plain k ≡ plain j = cc in
         let others : map plain ks ≡ map plain js = cc in
         ap₂ (λ a b. a && b) (node-alike k j n one)
         (close-alike ns (branches t k n ++ ks) (branches t j n ++ js)
         (plain-append (branches t k n) ks ∙ (ap₂ (λ (ps qs : List Known). ps ++ qs) (branches-alike k j n one) others ∙ sym (plain-append (branches t j n) js))))
+    close-alike ns [] [] alike = refl
+    close-alike _ _ _ alike = absurd (let no : ⊥ = cc in no)

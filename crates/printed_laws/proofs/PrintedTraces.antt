@@ -1,15 +1,17 @@
 -- What `trace` prints tells the run and its steps.
-use Rattle.printed_laws.proofs.Vocabulary.{◌≡◌, ◌∙◌, ℕ, ◌+◌, ◌^◌, ◌<◌, ◌≤◌, Bool, true, false, cond, List, [], ◌∷◌, ◌++◌, length, get_or, refl, sym, ap, arith, codes, append_cancel_left, append_cancel_right, max_depth, print, escape_byte, json_tokens, depth, members_depth, HasNumbers, MembersHaveNumbers, IsNumber-decimal, Data, Members, put, outline, members_outline, compact_text, print-outline, Litmus, IsTest, Run, CoresExist, Choice, ProtocolKind, Configuration, IsConfigurationWithinLimits, ShownRun, head, body, run_members, run_value, unfinished_members, unfinished_run_value, json_report, json_unfinished, trace_text, trace_under, programs_value, proposition_value, trace_json, report_in, unfinished_in, run_under, counts_under, RunFitsTest, shown_under, EndedRunsFit, ChoicesAreCounted, PrintedRunsAreTold, ReportsTellTheirMachines, told_by_line, told_by_object, TraceValuesTellTheirSteps, PrintedTracesAreTold, PrintedTracesNameTheSame}
+use Rattle.printed_laws.proofs.Vocabulary.{◌≡◌, ℕ, ◌^◌, ◌<◌, Bool, true, false, List, [], ◌∷◌, ◌++◌, refl, sym, ap, ◌∙◌, ◌≤◌, arith, ◌+◌, length, cond, append_cancel_left, max_depth, json_tokens, Data, Members, put, outline, compact_text, members_outline, print-outline, codes, IsNumber-decimal, head, body, unfinished_run_value, run_value, run_members, unfinished_members, json_report, json_unfinished, ReportsTellTheirMachines, Litmus, IsTest, ProtocolKind, Configuration, IsConfigurationWithinLimits, ShownRun, RunFitsTest, shown_under, EndedRunsFit, ChoicesAreCounted, print, escape_byte, Run, CoresExist, report_in, unfinished_in, run_under, counts_under, PrintedRunsAreTold, Choice, trace_text, told_by_line, told_by_object, TraceValuesTellTheirSteps, PrintedTracesAreTold, PrintedTracesNameTheSame, trace_under, programs_value, proposition_value, trace_json}
 use Rattle.json.specs.Json as json
 use Rattle.trace_json.specs.TracedRun.{with_trace, ended_value, unended_value, json_ended, json_unended}
 use Rattle.commands.specs.Lines.{unfinished_run_line}
 use Rattle.commands.specs.Trace.{ending_text}
 use Rattle.printed_laws.proofs.Heads.{head-cut}
-use Rattle.printed_laws.proofs.JsonNumbers.{run-numbers, run-depth}
-use Rattle.printed_laws.proofs.JsonTexts.{value-told, value_at}
+use Rattle.printed_laws.proofs.Cutting.{unlike}
+use Rattle.printed_laws.proofs.JsonReading.{ReadsBack, MembersReadBack, deeper, put-back, line-told, text-told}
+use Rattle.printed_laws.proofs.JsonNumbers.{run-back}
+use Rattle.printed_laws.proofs.JsonTexts.{value_at}
 use Rattle.printed_laws.proofs.StepsFit.{traces-fit}
 use Rattle.printed_laws.proofs.TraceLines.{lines-tell}
-use Rattle.printed_laws.proofs.TraceNumbers.{put-numbers, put-depth, trace-readable, programs-readable, proposition-readable}
+use Rattle.printed_laws.proofs.TraceNumbers.{trace-back, programs-back, proposition-back}
 use Rattle.printed_laws.proofs.TraceRuns.{same-steps, choices-told, trace-told}
 
 -- ---- lines
@@ -24,8 +26,7 @@ Report json b t kind c s r = cond b (report_in json t kind c s) (unfinished_in j
 ending-told : (t : Litmus) (kind : ProtocolKind) (c : Configuration) (s u : ShownRun) (r o : Run) (b d : Bool) → Ending b t s r ≡ Ending d t u o → Report false b t kind c s r ≡ Report false d t kind c u o
 ending-told t kind c s u r o true true same = ap (λ (l : List ℕ). head t kind c ++ l) same
 ending-told t kind c s u r o false false same = same
-ending-told t kind c s u r o true false same = let first : 79 ≡ 85 = ap (λ (l : List ℕ). get_or l 0 0) same in absurd (omega (arith, first))
-ending-told t kind c s u r o false true same = let first : 85 ≡ 79 = ap (λ (l : List ℕ). get_or l 0 0) same in absurd (omega (arith, first))
+ending-told t kind c s u r o b d same = unlike 0 (Ending b t s r) (Ending d t u o) refl same
 
 pub lines-told : PrintedRunsAreTold → PrintedTracesAreTold false
 lines-told runs t kind c choices other test within p q same =
@@ -50,44 +51,23 @@ lines-named t u kind other_kind c d choices other test test' within within' p q 
 -- ---- JSON
 
 module _ (t : Litmus) (kind : ProtocolKind) (c : Configuration) (test : IsTest t) where
-  members-numbers : (choices : List Choice) (ms : Members) → CoresExist (length t.programs) choices → MembersHaveNumbers (members_outline ms)
-      → MembersHaveNumbers (members_outline (with_trace t kind c choices ms))
-  members-numbers choices ms exist all =
+  members-back : (choices : List Choice) (ms : Members) → CoresExist (length t.programs) choices → MembersReadBack 127 (members_outline ms)
+      → MembersReadBack 127 (members_outline (with_trace t kind c choices ms))
+  members-back choices ms exist all =
       let traced : Members = put (codes "trace") (trace_json t kind c choices) ms in
       let asked : Members = put (codes "proposition") (proposition_value t) traced in
-      put-numbers (codes "programs") (programs_value t) asked (programs-readable t).numbers
-      (put-numbers (codes "proposition") (proposition_value t) traced (proposition-readable t).numbers
-      (put-numbers (codes "trace") (trace_json t kind c choices) ms (trace-readable t kind c choices test exist).numbers all))
+      let trace = deeper 10 127 (outline (trace_json t kind c choices)) (omega arith) (trace-back t kind c choices test exist) in
+      let proposition = deeper 0 127 (outline (proposition_value t)) (omega arith) (proposition-back t) in
+      let programs = deeper 2 127 (outline (programs_value t)) (omega arith) (programs-back t) in
+      put-back 127 (codes "programs") (programs_value t) asked programs
+      (put-back 127 (codes "proposition") (proposition_value t) traced proposition (put-back 127 (codes "trace") (trace_json t kind c choices) ms trace all))
 
-  members-depth : (choices : List Choice) (ms : Members) → CoresExist (length t.programs) choices → members_depth (members_outline ms) ≤ 127
-      → members_depth (members_outline (with_trace t kind c choices ms)) ≤ 127
-  members-depth choices ms exist flat =
-      let traced : Members = put (codes "trace") (trace_json t kind c choices) ms in
-      let asked : Members = put (codes "proposition") (proposition_value t) traced in
-      let deep = (trace-readable t kind c choices test exist).depth in
-      let programs = (programs-readable t).depth in
-      let proposition = (proposition-readable t).depth in
-      put-depth 127 (codes "programs") (programs_value t) asked (omega (arith, programs))
-      (put-depth 127 (codes "proposition") (proposition_value t) traced (omega (arith, proposition))
-      (put-depth 127 (codes "trace") (trace_json t kind c choices) ms (omega (arith, deep)) flat))
+  ended-back : (choices : List Choice) (s : ShownRun) → IsConfigurationWithinLimits c → CoresExist (length t.programs) choices → RunFitsTest t s → ReadsBack max_depth (outline (ended_value t kind c choices s))
+  ended-back choices s within exist fits = members-back choices (run_members t kind c s) exist (run-back t kind c s within fits.small)
 
-  ended-numbers : (choices : List Choice) (s : ShownRun) → IsConfigurationWithinLimits c → CoresExist (length t.programs) choices → RunFitsTest t s → HasNumbers (outline (ended_value t kind c choices s))
-  ended-numbers choices s within exist fits = members-numbers choices (run_members t kind c s) exist (run-numbers t kind c s within fits.small)
-
-  ended-depth : (choices : List Choice) (s : ShownRun) → CoresExist (length t.programs) choices → depth (outline (ended_value t kind c choices s)) ≤ max_depth
-  ended-depth choices s exist =
-      let run = run-depth t kind c s in
-      let all = members-depth choices (run_members t kind c s) exist (omega (arith, run)) in
-      omega (arith, all)
-
-  unended-numbers : (choices : List Choice) (used stalled : ℕ) → CoresExist (length t.programs) choices → used < 2 ^ 64 → stalled < 2 ^ 64 → HasNumbers (outline (unended_value t kind c choices used stalled))
-  unended-numbers choices used stalled exist small small' =
-      members-numbers choices (unfinished_members used stalled) exist ((IsNumber-decimal stalled small', (IsNumber-decimal used small, tt)), tt)
-
-  unended-depth : (choices : List Choice) (used stalled : ℕ) → CoresExist (length t.programs) choices → depth (outline (unended_value t kind c choices used stalled)) ≤ max_depth
-  unended-depth choices used stalled exist =
-      let all = members-depth choices (unfinished_members used stalled) exist (omega arith) in
-      omega (arith, all)
+  unended-back : (choices : List Choice) (used stalled : ℕ) → CoresExist (length t.programs) choices → used < 2 ^ 64 → stalled < 2 ^ 64
+      → ReadsBack max_depth (outline (unended_value t kind c choices used stalled))
+  unended-back choices used stalled exist small small' = members-back choices (unfinished_members used stalled) exist ((IsNumber-decimal stalled small', (IsNumber-decimal used small, tt)), tt)
 
 -- the members of a run among those of its trace
 abbrev run_in : json.Json → json.Json
@@ -114,8 +94,7 @@ ended-told : (t u : Litmus) (kind other_kind : ProtocolKind) (c d : Configuratio
 ended-told t u kind other_kind c d xs ys s o test test' within within' exist exist' fits fits' e =
     let a = ended_value t kind c xs s in
     let b = ended_value u other_kind d ys o in
-    let same = value-told a b (ended-numbers t kind c test xs s within exist fits) (ended-numbers u other_kind d test' ys o within' exist' fits')
-    (ended-depth t kind c test xs s exist) (ended-depth u other_kind d test' ys o exist') (append_cancel_right (compact_text a) (compact_text b) (10 ∷ []) e) in
+    let same = line-told a b (ended-back t kind c test xs s within exist fits) (ended-back u other_kind d test' ys o within' exist' fits') e in
     (same-text (run_value t kind c s) (run_value u other_kind d o) (ap run_in same), ap (value_at 10) same)
 
 unended-told : (t : Litmus) (kind : ProtocolKind) (c : Configuration) (xs ys : List Choice) (r o : Run) → IsTest t → CoresExist (length t.programs) xs → CoresExist (length t.programs) ys
@@ -124,14 +103,13 @@ unended-told : (t : Litmus) (kind : ProtocolKind) (c : Configuration) (xs ys : L
 unended-told t kind c xs ys r o test exist exist' used stalled used' stalled' e =
     let a = unended_value t kind c xs r.used r.stalled in
     let b = unended_value t kind c ys o.used o.stalled in
-    let same = value-told a b (unended-numbers t kind c test xs r.used r.stalled exist used stalled) (unended-numbers t kind c test ys o.used o.stalled exist' used' stalled')
-    (unended-depth t kind c test xs r.used r.stalled exist) (unended-depth t kind c test ys o.used o.stalled exist') (append_cancel_right (compact_text a) (compact_text b) (10 ∷ []) e) in
+    let same = line-told a b (unended-back t kind c test xs r.used r.stalled exist used stalled) (unended-back t kind c test ys o.used o.stalled exist' used' stalled') e in
     (same-text (unfinished_run_value r.used r.stalled) (unfinished_run_value o.used o.stalled) (ap unfinished_in_object same), ap (value_at 2) same)
 
 -- the first key of a run that ended is `cache`, and of one that didn't `programs`
 apart : (t : Litmus) (kind : ProtocolKind) (c : Configuration) (xs ys : List Choice) (s : ShownRun) (used stalled : ℕ) → json_ended t kind c xs s ≡ json_unended t kind c ys used stalled → ⊥
 unfolding escape_byte
-apart t kind c xs ys s used stalled same = let third : 99 ≡ 112 = ap (λ (l : List ℕ). get_or l 2 0) same in absurd (omega (arith, third))
+apart t kind c xs ys s used stalled same = unlike 2 (json_ended t kind c xs s) (json_unended t kind c ys used stalled) refl same
 
 -- a run of so many choices: what is shown of it fits the test, where it ended, and each choice was used or is left over
 record IsFit (t : Litmus) (n : ℕ) (b : Bool) (s : ShownRun) (r : Run) : Type 0 where
@@ -179,11 +157,9 @@ pub values-told : TraceValuesTellTheirSteps
 values-told t kind other_kind c d choices other test within within' words exist exist' same =
     let a = trace_json t kind c choices in
     let b = trace_json t other_kind d other in
-    let p = trace-readable t kind c choices test exist in
-    let q = trace-readable t other_kind d other test exist' in
-    let deep = p.depth in
-    let deep' = q.depth in
-    trace-told t c d test (sym words) kind other_kind choices other within within' exist exist' (value-told a b p.numbers q.numbers (omega (arith, deep)) (omega (arith, deep')) same)
+    let p = deeper 10 max_depth (outline a) (omega arith) (trace-back t kind c choices test exist) in
+    let q = deeper 10 max_depth (outline b) (omega arith) (trace-back t other_kind d other test exist') in
+    trace-told t c d test (sym words) kind other_kind choices other within within' exist exist' (text-told a b p q same)
 
 pub objects-named : ReportsTellTheirMachines true → EndedRunsFit → PrintedTracesNameTheSame true
 objects-named names fits t u kind other_kind c d choices other test test' within within' p q ended same =

@@ -1,5 +1,5 @@
 -- The tree that is read from steps is the same of steps of which the same is told, so the printed lines and the JSON value tell it.
-use Rattle.printed_laws.proofs.Vocabulary.{◌≡◌, ◌∙◌, ℕ, true, List, [], ◌∷◌, ◌++◌, map, Option, Some, None, refl, sym, ap, subst, flat_map, option_map, Litmus, Entry, Node, OnLocation, Globally, asked_claim, refutes, Reply, Reads, Event, Edge, Answer, From, Before, Closing, Uniproc, Cycle, Amid, False, ReasonStep, Case, So, Leaf, Endcases, steps_of, told_event, told_edge, told_answer, told_closing, told_reason_step, told_by_value, entry_of_event, source_in, leaf_in, replies_in, ReadPart, Closed, Cases, nodes_of, parts_before, parts_in, tree_of, LinesTellTheirTree, PrintedTreesRefute, ValuesTellTheirTree, PrintedValuesRefute}
+use Rattle.printed_laws.proofs.Vocabulary.{◌≡◌, ℕ, true, List, [], ◌∷◌, ◌++◌, refl, sym, ap, subst, ◌∙◌, Option, Some, None, map, flat_map, Litmus, Entry, Node, asked_claim, OnLocation, Globally, refutes, ReasonStep, Case, So, Leaf, Endcases, steps_of, Answer, From, Before, Closing, Uniproc, Cycle, Amid, False, option_map, Event, told_event, told_edge, told_answer, told_closing, told_reason_step, told_by_value, Edge, Reply, Reads, entry_of_event, replies_in, source_in, leaf_in, ReadPart, Closed, Cases, nodes_of, parts_before, parts_in, tree_of, LinesTellTheirTree, PrintedTreesRefute, ValuesTellTheirTree, PrintedValuesRefute}
 use mathlib.Core.Path.{ap₂}
 use Rattle.printed_laws.proofs.ReasonLines.{lines-tell}
 use Rattle.printed_laws.proofs.ReasonValues.{values-tell}
@@ -56,9 +56,7 @@ module _ (t : Litmus) where
   value-read (So depth a) ps = so-alike depth (told_answer a) a ps (answer-read a)
   value-read (Leaf depth (Uniproc edges)) ps = closed-alike depth (told_closing (Uniproc edges)) (Uniproc edges) ps (leaf-read (Uniproc edges))
   value-read (Leaf depth (Cycle edges)) ps = closed-alike depth (told_closing (Cycle edges)) (Cycle edges) ps (leaf-read (Cycle edges))
-  value-read (Leaf depth (Amid r v w)) ps = refl
-  value-read (Leaf depth (False places)) ps = refl
-  value-read (Endcases depth) ps = refl
+  value-read s ps = refl
 
   -- ---- all steps
 

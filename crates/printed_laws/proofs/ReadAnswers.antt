@@ -1,5 +1,5 @@
 -- The answers of a refutation, as they are read from its steps.
-use Rattle.printed_laws.proofs.Vocabulary.{◌≡◌, ◌&&◌, Bool, true, false, not, cond, List, [], ◌∷◌, ◌++◌, map, Option, Some, None, refl, sym, ap, ◌∙◌, ◌⊎◌, inl, inr, filter, list_any, option_map, and_parts, and_from, or_right, Litmus, Entry, Each, each-map, Known, bare, same_event, Node, ReadsFrom, ComesFirst, OnLocation, Globally, Between, FalseClaim, sources_of, same-bare, itself, Reply, Reads, First, replies, Branch, write_of_answer, answer_at, is_source, groups, entry_of_event, replies_in, ReadCase, same_source, same_reply}
+use Rattle.printed_laws.proofs.Vocabulary.{◌≡◌, Bool, true, false, List, [], ◌∷◌, ◌++◌, refl, sym, ap, ◌∙◌, Option, inl, inr, Some, None, cond, map, not, ◌&&◌, ◌⊎◌, list_any, and_parts, and_from, or_right, filter, Litmus, Entry, Node, ReadsFrom, ComesFirst, sources_of, replies, Branch, write_of_answer, answer_at, groups, is_source, option_map, Known, same_event, bare, same-bare, Reply, Reads, First, Each, each-map, itself, entry_of_event, replies_in, ReadCase, same_source, same_reply}
 use mathlib.Core.Path.{fun_ext, ap₂}
 use Rattle.printed_laws.proofs.PlainAnswers.{plain-reply}
 
@@ -53,15 +53,11 @@ sources-answer r (w ∷ ws) = (refl, sources-answer r ws)
 pub replies-answer : (t : Litmus) (n : Node) → Each (Answers n) (replies t n)
 replies-answer t (ReadsFrom r) = sources-answer r (sources_of t r)
 replies-answer t (ComesFirst w v) = (inl (refl, refl), (inr (refl, refl), tt))
-replies-answer t (OnLocation cycle) = tt
-replies-answer t (Globally cycle) = tt
-replies-answer t (Between r v w) = tt
-replies-answer t FalseClaim = tt
+replies-answer t n = tt
 
 pub plain-twice : (r : Reply) → plain-reply (plain-reply r) ≡ plain-reply r
 plain-twice (Reads r None) = refl
-plain-twice (Reads r (Some w)) = refl
-plain-twice (First w v) = refl
+plain-twice r = refl
 
 same-sources : (w v : Option Entry) → same_source w v ≡ true → option_map bare w ≡ option_map bare v
 same-sources None None is = refl
@@ -90,15 +86,13 @@ itself-reply (First w v) = and_from (same_event w w) (same_event v v) (itself w)
 
 plain-source-same : (w v : Option Entry) → same_source w (option_map bare v) ≡ same_source w v
 plain-source-same None None = refl
-plain-source-same None (Some v) = refl
 plain-source-same (Some w) None = refl
-plain-source-same (Some w) (Some v) = refl
+plain-source-same w v = refl
 
 pub plain-reply-same : (r q : Reply) → same_reply r (plain-reply q) ≡ same_reply r q
 plain-reply-same (Reads r w) (Reads q v) = ap (λ b. same_event r q && b) (plain-source-same w v)
-plain-reply-same (Reads r w) (First x y) = refl
-plain-reply-same (First w v) (Reads q o) = refl
 plain-reply-same (First w v) (First x y) = refl
+plain-reply-same r q = refl
 
 -- a case with this reply is among these
 abbrev pub IsGiven : List ReadCase → Reply → Type 0
@@ -126,8 +120,7 @@ others-given news cs groups given =
 -- what is read of one answer, and of several sources of a read
 pub one-read : (t : Litmus) (k : Known) (r : Reply) → replies_in (answer_at t k r (r ∷ [])) ≡ plain-reply r ∷ []
 one-read t k (Reads r None) = refl
-one-read t k (Reads r (Some w)) = refl
-one-read t k (First w v) = refl
+one-read t k r = refl
 
 writes-read : (t : Litmus) (k : Known) (r : Entry) (all : List Reply) → Each (Answers (ReadsFrom r)) all
     → map (λ w. Reads (bare r) (option_map entry_of_event w)) (map (write_of_answer t k) all) ≡ map plain-reply all
@@ -141,8 +134,4 @@ pub several-read : (t : Litmus) (n : Node) (k : Known) (r : Reply) (all : List R
 several-read t n k (First w v) all source answers each = absurd (let no : ⊥ = cc in no)
 several-read t (ReadsFrom r) k (Reads e w) all source answers each =
     ap (λ (x : Entry). map (λ o. Reads (bare x) (option_map entry_of_event o)) (map (write_of_answer t k) all)) answers ∙ writes-read t k r all each
-several-read t (ComesFirst x y) k (Reads e w) all source answers each = absurd answers
-several-read t (OnLocation cycle) k (Reads e w) all source answers each = absurd answers
-several-read t (Globally cycle) k (Reads e w) all source answers each = absurd answers
-several-read t (Between x y z) k (Reads e w) all source answers each = absurd answers
-several-read t FalseClaim k (Reads e w) all source answers each = absurd answers
+several-read t n k r all source answers each = absurd answers

@@ -1,5 +1,5 @@
 -- The cases of one question, as they are read from its steps: each answer has a case, and its part closes it.
-use Rattle.printed_laws.proofs.Vocabulary.{◌≡◌, ℕ, ◌+◌, ◌||◌, Bool, true, false, cond, List, [], ◌∷◌, ◌++◌, map, refl, sym, ap, ◌∙◌, subst, append-nil, filter, list_any, flat_map, and_parts, and_from, or_right, Litmus, Claim, Each, each-append, each-map, Known, Node, ReadsFrom, ComesFirst, OnLocation, Globally, Between, FalseClaim, is_node, branches, close, Model, Reply, ReasonStep, Case, So, Endcases, is_false, replies, with_reply, Part, Branch, is_closed, is_source, is_false_source, are_alike, groups, closed_case, answer_of_case, answer_of_branch, case_steps, so_steps, rest_steps, leaf_in, replies_in, ReadCase, ReadPart, Closed, Cases, same_reply, nodes_with, nodes_of, cases_with, parts_before, parts_in}
+use Rattle.printed_laws.proofs.Vocabulary.{◌≡◌, ℕ, Bool, true, false, List, [], ◌∷◌, ◌++◌, refl, sym, ap, subst, ◌∙◌, ◌+◌, cond, map, ◌||◌, append-nil, flat_map, list_any, and_parts, and_from, or_right, filter, Litmus, Claim, Node, FalseClaim, is_node, branches, close, Model, ReasonStep, Case, So, Endcases, replies, with_reply, Part, Branch, is_closed, are_alike, groups, closed_case, case_steps, so_steps, rest_steps, is_false_source, is_source, is_false, answer_of_case, answer_of_branch, Known, Reply, Each, each-map, each-append, replies_in, ReadCase, same_reply, leaf_in, ReadPart, Closed, Cases, nodes_with, nodes_of, cases_with, parts_before, parts_in}
 use Rattle.std.proofs.Common.{append_assoc}
 use Rattle.refutation_laws.proofs.Composing.{side-by-side}
 use Rattle.printed_laws.proofs.PlainAnswers.{plain-reply, reply-alike, close-alike}
@@ -24,12 +24,8 @@ module _ (model : Model) (t : Litmus) (claim : Claim) where
     pub reads : (depth : ℕ) (ss : List ReasonStep) → PartReads k (p.steps depth k) ss
 
   false-is : (n : Node) → is_false n ≡ true → n ≡ FalseClaim
-  false-is (ReadsFrom r) is = absurd (let no : ⊥ = cc in no)
-  false-is (ComesFirst w v) is = absurd (let no : ⊥ = cc in no)
-  false-is (OnLocation cycle) is = absurd (let no : ⊥ = cc in no)
-  false-is (Globally cycle) is = absurd (let no : ⊥ = cc in no)
-  false-is (Between r v w) is = absurd (let no : ⊥ = cc in no)
   false-is FalseClaim is = refl
+  false-is n is = absurd (let no : ⊥ = cc in no)
 
   false-root : (b : Branch) → is_false_source b ≡ true → b.part.root ≡ FalseClaim
   false-root b is = false-is b.part.root (and_parts (is_source b.reply) (is_false b.part.root) is).1

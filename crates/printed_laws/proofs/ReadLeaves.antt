@@ -1,5 +1,5 @@
 -- The leaves of a refutation, as they are read from its steps: without the values that their entries are written with.
-use Rattle.printed_laws.proofs.Vocabulary.{◌≡◌, ℕ, ◌==◌, ◌&&◌, Bool, true, not, List, [], ◌∷◌, map, Option, Some, None, refl, ap, ◌∙◌, list_any, list_all, and_from, Litmus, Claim, Entry, Known, bare, same_event, is_event, is_write_of, reads_from, comes_before, is_overwritten, from_reads, relates, on_location, global_in, is_edge, is_cycle, leads_back, are_parts, Node, ReadsFrom, ComesFirst, OnLocation, Globally, Between, FalseClaim, is_node, close, Source, Model, Relation, Po, PoLoc, PoGhb, Mfence, Implied, Rf, Rfe, Co, Fr, Closing, Uniproc, Cycle, Amid, False, Leaf, edges_back, edges_of, is_leaf, leaf_steps, source_in, leaf_in}
+use Rattle.printed_laws.proofs.Vocabulary.{◌≡◌, ℕ, Bool, true, List, [], ◌∷◌, refl, ap, ◌∙◌, Option, Some, None, ◌==◌, map, not, ◌&&◌, list_all, list_any, and_from, Litmus, Claim, Entry, Node, ReadsFrom, ComesFirst, OnLocation, Globally, Between, FalseClaim, is_node, close, Model, Leaf, Closing, Uniproc, Cycle, Amid, False, edges_back, edges_of, is_leaf, leaf_steps, on_location, global_in, relates, is_edge, is_cycle, leads_back, are_parts, Relation, Rf, Rfe, Fr, Known, same_event, bare, is_event, is_write_of, reads_from, comes_before, is_overwritten, from_reads, Source, source_in, leaf_in}
 use mathlib.Core.Path.{fun_ext, ap₂}
 
 -- ---- leaves without values
@@ -28,15 +28,10 @@ module _ (t : Litmus) where
   bare-from k r v = ap (λ (p : Source → Bool). list_any p k.sources) (fun_ext (λ (s : Source). ap (λ b. same_event s.read r && b) (bare-over k r s.write v)))
 
   bare-relation : (k : Known) (r : Relation) (x y : Entry) → relates t k r (bare x) (bare y) ≡ relates t k r x y
-  bare-relation k Po x y = refl
-  bare-relation k PoLoc x y = refl
-  bare-relation k PoGhb x y = refl
-  bare-relation k Mfence x y = refl
-  bare-relation k Implied x y = refl
   bare-relation k Rf x y = bare-reads k x y
   bare-relation k Rfe x y = ap (λ b. b && not (x.core.0 == y.core.0)) (bare-reads k x y)
-  bare-relation k Co x y = refl
   bare-relation k Fr x y = bare-from k x y
+  bare-relation k r x y = refl
 
   bare-edge : (k : Known) (relations : List Relation) (x y : Entry) → is_edge t k relations (bare x) (bare y) ≡ is_edge t k relations x y
   bare-edge k relations x y = ap (λ (p : Relation → Bool). list_any p relations) (fun_ext (λ (r : Relation). bare-relation k r x y))
@@ -56,13 +51,11 @@ module _ (t : Litmus) where
 
   module _ (model : Model) (claim : Claim) where
     bare-node : (k : Known) (n : Node) → is_node model t claim k (plain-node n) ≡ is_node model t claim k n
-    bare-node k (ReadsFrom r) = refl
-    bare-node k (ComesFirst w v) = refl
     bare-node k (OnLocation cycle) = bare-cycle k on_location cycle
     bare-node k (Globally cycle) = bare-cycle k (global_in model) cycle
     bare-node k (Between r v w) =
         ap (λ b. list_all (is_event t) (r ∷ (v ∷ (w ∷ []))) && are_parts r w && not (r.core.0 == v.core.0) && b && comes_before k v w) (bare-from k r v)
-    bare-node k FalseClaim = refl
+    bare-node k n = refl
 
     -- a leaf closes the case that it may stand in
     pub leaf-closes : (k : Known) (n : Node) → is_leaf n ≡ true → is_node model t claim k n ≡ true → close model t claim (k ∷ []) (plain-node n ∷ []) ≡ true

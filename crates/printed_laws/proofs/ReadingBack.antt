@@ -1,11 +1,12 @@
 -- What is read back from the steps of a refutation refutes: each question has a part for each of its answers, and each part closes
 -- the case of its answer.
-use Rattle.printed_laws.proofs.Vocabulary.{◌≡◌, ℕ, ◌==◌, Bool, true, false, not, cond, List, [], ◌∷◌, ◌++◌, map, length, drop, Option, refl, sym, ap, ◌∙◌, subst, ◌⊎◌, inl, inr, append-nil, filter, flat_map, and_parts, and_from, Litmus, Claim, is_write, Entry, length-map, Each, each-left, each-right, Known, bare, nothing, same_event, is_event, with_source, Node, ReadsFrom, ComesFirst, OnLocation, Globally, Between, FalseClaim, sources_of, is_node, branches, close, Model, same-bare, bare-same, Reply, Reads, First, ReasonStep, is_leaf, leaf_steps, replies, with_reply, Part, Branch, branches_with, is_closed, groups, rest_steps, question_steps, grown, question_answered, ReadCase, Closed, Cases, nodes_with, nodes_of, parts_in, tree_of, StepsOfRefutationsRefute}
+use Rattle.printed_laws.proofs.Vocabulary.{◌≡◌, ℕ, Bool, true, false, List, [], ◌∷◌, ◌++◌, drop, refl, sym, ap, subst, ◌∙◌, Option, inl, inr, length, ◌==◌, cond, map, not, ◌⊎◌, append-nil, flat_map, and_parts, and_from, length-map, filter, Litmus, Claim, Entry, Node, ReadsFrom, ComesFirst, OnLocation, Globally, Between, FalseClaim, sources_of, is_node, branches, close, Model, ReasonStep, is_leaf, leaf_steps, replies, with_reply, Part, Branch, branches_with, is_closed, groups, rest_steps, question_steps, grown, is_write, Known, same_event, bare, is_event, nothing, same-bare, Reply, Reads, First, Each, each-left, each-right, bare-same, ReadCase, Closed, Cases, nodes_with, nodes_of, parts_in, question_answered, tree_of, StepsOfRefutationsRefute}
 use mathlib.Core.Path.{ap₂}
 use Rattle.relational_model.proofs.KindFacts.{number-same, same-number}
 use Rattle.reason_report.specs.Steps.{parts_of_nodes}
 use Rattle.printed_laws.proofs.PlainAnswers.{plain-reply}
 use Rattle.printed_laws.proofs.CaseGroups.{all-grouped}
+use Rattle.printed_laws.proofs.ReasonsFit.{branches-are}
 use Rattle.printed_laws.proofs.ReadAnswers.{each-mapped, each-filter, kept, both-kept, Answers, replies-answer, IsGiven, given-alike}
 use Rattle.printed_laws.proofs.ReadLeaves.{plain-node, leaf-closes, leaf-line}
 use Rattle.printed_laws.proofs.ReadCases.{PartReads, Whole, BranchReads, CaseCloses, asked-closes, groups-read, groups-are, rest-read}
@@ -30,18 +31,6 @@ module _ (model : Model) (t : Litmus) (claim : Claim) where
       apart true same is = absurd (let back : same_event w v ≡ true = bare-same w v (sym (same-bare v w same)) in let no : ⊥ = cc in no)
       apart false same is = refl
 
-  told-by-replies : (k : Known) (r : Entry) (ws : List (Option Entry)) → map (with_source k r) ws ≡ map (with_reply k) (map (Reads r) ws)
-  told-by-replies k r [] = refl
-  told-by-replies k r (w ∷ ws) = ap (λ (ks : List Known). with_source k r w ∷ ks) (told-by-replies k r ws)
-
-  branches-are : (k : Known) (n : Node) → branches t k n ≡ map (with_reply k) (replies t n)
-  branches-are k (ReadsFrom r) = told-by-replies k r (sources_of t r)
-  branches-are k (ComesFirst w v) = refl
-  branches-are k (OnLocation cycle) = refl
-  branches-are k (Globally cycle) = refl
-  branches-are k (Between r v w) = refl
-  branches-are k FalseClaim = refl
-
   asks-source : (r : Entry) (q : Reply) → Answers (ReadsFrom r) q → question_answered (plain-reply q) ≡ ReadsFrom (bare r)
   asks-source r (Reads e w) answers = ap (λ (x : Entry). ReadsFrom (bare x)) answers
   asks-source r (First x y) answers = absurd answers
@@ -57,7 +46,7 @@ module _ (model : Model) (t : Litmus) (claim : Claim) where
   question-closes k (ReadsFrom r) leaf is [] each given = absurd (let first = given.0 in let no : ⊥ = cc in no)
   question-closes k (ReadsFrom r) leaf is (c ∷ cs) each given =
       subst (λ (q : Node). Closes k (q ∷ flat_map (nodes_with (c ∷ cs)) (replies t q))) (sym (ap question_answered each.0.is ∙ asks-source r each.0.reply each.0.answers))
-      (asked-closes model t claim k (ReadsFrom r) (c ∷ cs) each (ReadsFrom (bare r)) is (branches-are k (ReadsFrom (bare r))) (plainly (sources_of t r) given))
+      (asked-closes model t claim k (ReadsFrom r) (c ∷ cs) each (ReadsFrom (bare r)) is (branches-are t k (ReadsFrom (bare r))) (plainly (sources_of t r) given))
     where
       plainly : (ws : List (Option Entry)) → Each (IsGiven (c ∷ cs)) (map (Reads r) ws) → Each (IsGiven (c ∷ cs)) (map (Reads (bare r)) ws)
       plainly [] each = tt
@@ -143,7 +132,7 @@ module _ (model : Model) (t : Litmus) (claim : Claim) where
   grown-reads k n ks ps is are = (record { node = is; reads = by (is_leaf n) refl }, subst (λ (m : ℕ). AreWhole ks (drop m ps)) size (dropped (map (with_reply k) (replies t n)) ks ps now))
     where
       now : AreWhole (map (with_reply k) (replies t n) ++ ks) ps
-      now = subst (λ (js : List Known). AreWhole (js ++ ks) ps) (branches-are k n) are
+      now = subst (λ (js : List Known). AreWhole (js ++ ks) ps) (branches-are t k n) are
 
       size : length (map (with_reply k) (replies t n)) ≡ length (replies t n)
       size = length-map (replies t n) (with_reply k)

@@ -1,9 +1,10 @@
 -- The lines of a reason tell its steps.
-use Rattle.printed_laws.proofs.Vocabulary.{◌≡◌, ◌∙◌, ℕ, zero, suc, ◌==◌, Bool, true, false, if◌then◌else◌, List, [], ◌∷◌, ◌++◌, map, length, get_or, All, Option, Some, None, refl, sym, ap, codes, decimal, list_all, flat_map, is_ascii_digit, and_parts, append_assoc, append_cancel_left, length-replicate, All-head, All-tail, Litmus, IsTest, Condition, is_printable, is_test_name, line, test_line, on_location, global_in, Model, Tso, Sequential, Event, Closing, Uniproc, Cycle, Amid, False, ReasonStep, Case, So, Leaf, Endcases, leaves_in, verdict_line, model_name, asked_line, event_text, cycle_text, answer_text, place_text, closing_text, blanks, reason_step_line, never_line, told_closing, told_reason_step, ClosingFits, ReasonsTellTheirTests, ReasonsTellTheirSteps}
+use Rattle.printed_laws.proofs.Vocabulary.{◌≡◌, ℕ, Bool, true, false, List, [], ◌∷◌, ◌++◌, get_or, refl, sym, ap, ◌∙◌, zero, suc, Option, length, All, Some, None, ◌==◌, map, if◌then◌else◌, decimal, list_all, flat_map, is_ascii_digit, append_cancel_left, append_assoc, length-replicate, codes, line, test_line, Litmus, IsTest, is_printable, All-head, All-tail, Condition, verdict_line, Model, ReasonStep, Case, So, Leaf, Endcases, leaves_in, Closing, Uniproc, Cycle, Amid, False, model_name, asked_line, never_line, reason_step_line, blanks, answer_text, closing_text, event_text, cycle_text, place_text, Tso, Sequential, on_location, global_in, Event, told_closing, told_reason_step, ClosingFits, ReasonsTellTheirTests, ReasonsTellTheirSteps}
 use Rattle.printed_laws.specs.Reasons.{ReasonStepFits}
-use Rattle.printed_laws.proofs.Cutting.{run-cut}
+use Rattle.printed_laws.proofs.Cutting.{unlike, run-cut}
 use Rattle.printed_laws.proofs.Digits.{all-digits}
-use Rattle.printed_laws.proofs.TraceWords.{read-cut, apart}
+use Rattle.printed_laws.proofs.TraceWords.{read-cut}
+use Rattle.printed_laws.proofs.Heads.{printable-name}
 use Rattle.printed_laws.proofs.ReasonParts.{answer-cut, cycle-cut, places-cut}
 use Rattle.printed_laws.proofs.ReasonWords.{event-cut, uniproc-told, global-told}
 
@@ -12,9 +13,6 @@ use Rattle.printed_laws.proofs.ReasonWords.{event-cut, uniproc-told, global-told
 amid-flat : (read between write rest : List ℕ) → (codes "Between " ++ (read ++ (codes " " ++ (between ++ (codes " " ++ write))))) ++ rest
     ≡ codes "Between " ++ (read ++ (codes " " ++ (between ++ (codes " " ++ (write ++ rest)))))
 amid-flat read between write rest = simp append_assoc
-
-headed-flat : (head body rest : List ℕ) → (head ++ body) ++ rest ≡ head ++ (body ++ rest)
-headed-flat head body rest = append_assoc head body rest
 
 closing-cut : (model : Model) (t : Litmus) (a b : Closing) (rest other : List ℕ) → IsTest t → ClosingFits model t a → ClosingFits model t b
     → closing_text t a ++ 10 ∷ rest ≡ closing_text t b ++ 10 ∷ other → (told_closing a ≡ told_closing b) × (rest ≡ other)
@@ -36,18 +34,7 @@ closing-cut model t (Amid a b c) (Amid r v w) rest other test p q e =
 closing-cut model t (False xs) (False ys) rest other test p q e =
     let cut = places-cut t xs ys rest other test p q (append_cancel_left (codes "False") (flat_map (place_text t) xs ++ 10 ∷ rest) (flat_map (place_text t) ys ++ 10 ∷ other) e) in
     (ap False cut.0, cut.1)
-closing-cut model t (Uniproc es) (Cycle fs) rest other test p q e = apart 85 67 _ _ refl e
-closing-cut model t (Uniproc es) (Amid r v w) rest other test p q e = apart 85 66 _ _ refl e
-closing-cut model t (Uniproc es) (False ys) rest other test p q e = apart 85 70 _ _ refl e
-closing-cut model t (Cycle es) (Uniproc fs) rest other test p q e = apart 67 85 _ _ refl e
-closing-cut model t (Cycle es) (Amid r v w) rest other test p q e = apart 67 66 _ _ refl e
-closing-cut model t (Cycle es) (False ys) rest other test p q e = apart 67 70 _ _ refl e
-closing-cut model t (Amid a b c) (Uniproc fs) rest other test p q e = apart 66 85 _ _ refl e
-closing-cut model t (Amid a b c) (Cycle fs) rest other test p q e = apart 66 67 _ _ refl e
-closing-cut model t (Amid a b c) (False ys) rest other test p q e = apart 66 70 _ _ refl e
-closing-cut model t (False xs) (Uniproc fs) rest other test p q e = apart 70 85 _ _ refl e
-closing-cut model t (False xs) (Cycle fs) rest other test p q e = apart 70 67 _ _ refl e
-closing-cut model t (False xs) (Amid r v w) rest other test p q e = apart 70 66 _ _ refl e
+closing-cut model t a b rest other test p q e = unlike 0 (closing_text t a ++ 10 ∷ rest) (closing_text t b ++ 10 ∷ other) refl e
 
 -- ---- steps
 
@@ -81,40 +68,24 @@ is_blank b = b == 32
 
 -- the first byte behind the blanks
 abbrev first_byte : ReasonStep → ℕ
-first_byte (Case depth answer) = 67
 first_byte (So depth answer) = 83
 first_byte (Leaf depth (Uniproc edges)) = 85
-first_byte (Leaf depth (Cycle edges)) = 67
 first_byte (Leaf depth (Amid r v w)) = 66
 first_byte (Leaf depth (False places)) = 70
 first_byte (Endcases depth) = 69
+first_byte s = 67
 
 body-begins : (t : Litmus) (s : ReasonStep) (after : List ℕ) → (more : List ℕ) × (body t s after ≡ first_byte s ∷ more)
-body-begins t (Case depth answer) after = (_, refl)
-body-begins t (So depth answer) after = (_, refl)
 body-begins t (Leaf depth (Uniproc edges)) after = (_, refl)
-body-begins t (Leaf depth (Cycle edges)) after = (_, refl)
-body-begins t (Leaf depth (Amid r v w)) after = (_, refl)
-body-begins t (Leaf depth (False places)) after = (_, refl)
-body-begins t (Endcases depth) after = (_, refl)
+body-begins t s after = (_, refl)
 
 no-blank : (s : ReasonStep) → is_blank (first_byte s) ≡ false
-no-blank (Case depth answer) = refl
-no-blank (So depth answer) = refl
 no-blank (Leaf depth (Uniproc edges)) = refl
-no-blank (Leaf depth (Cycle edges)) = refl
-no-blank (Leaf depth (Amid r v w)) = refl
-no-blank (Leaf depth (False places)) = refl
-no-blank (Endcases depth) = refl
+no-blank s = refl
 
 no-verdict : (s : ReasonStep) → (first_byte s == 86) ≡ false
-no-verdict (Case depth answer) = refl
-no-verdict (So depth answer) = refl
 no-verdict (Leaf depth (Uniproc edges)) = refl
-no-verdict (Leaf depth (Cycle edges)) = refl
-no-verdict (Leaf depth (Amid r v w)) = refl
-no-verdict (Leaf depth (False places)) = refl
-no-verdict (Endcases depth) = refl
+no-verdict s = refl
 
 all-blank : (n : ℕ) → list_all is_blank (blanks n) ≡ true
 all-blank zero = refl
@@ -137,36 +108,11 @@ body-cut model t (Leaf m a) (Leaf n b) rest other test p q same e =
     let cut = closing-cut model t a b rest other test p q e in
     ((λ i. Leaf (same i) (cut.0 i)), cut.1)
 body-cut model t (Endcases m) (Endcases n) rest other test p q same e = (ap Endcases same, append_cancel_left (codes "Endcases\n") rest other e)
-body-cut model t (Case m a) (So n b) rest other test p q same e = apart 67 83 _ _ refl e
-body-cut model t (Case m a) (Leaf n (Uniproc es)) rest other test p q same e = apart 67 85 _ _ refl e
-body-cut model t (Case m a) (Leaf n (Cycle es)) rest other test p q same e = apart 97 121 _ _ refl (append_cancel_left (codes "C") (codes "ase " ++ (answer_text t a ++ 10 ∷ rest)) (codes "ycle" ++ (cycle_text t es ++ 10 ∷ other)) e)
-body-cut model t (Case m a) (Leaf n (Amid r v w)) rest other test p q same e = apart 67 66 _ _ refl e
-body-cut model t (Case m a) (Leaf n (False ps)) rest other test p q same e = apart 67 70 _ _ refl e
-body-cut model t (Case m a) (Endcases n) rest other test p q same e = apart 67 69 _ _ refl e
-body-cut model t (So m a) (Case n b) rest other test p q same e = apart 83 67 _ _ refl e
-body-cut model t (So m a) (Leaf n (Uniproc es)) rest other test p q same e = apart 83 85 _ _ refl e
-body-cut model t (So m a) (Leaf n (Cycle es)) rest other test p q same e = apart 83 67 _ _ refl e
-body-cut model t (So m a) (Leaf n (Amid r v w)) rest other test p q same e = apart 83 66 _ _ refl e
-body-cut model t (So m a) (Leaf n (False ps)) rest other test p q same e = apart 83 70 _ _ refl e
-body-cut model t (So m a) (Endcases n) rest other test p q same e = apart 83 69 _ _ refl e
-body-cut model t (Leaf n (Uniproc es)) (Case m a) rest other test p q same e = apart 85 67 _ _ refl e
-body-cut model t (Leaf n (Cycle es)) (Case m a) rest other test p q same e = apart 121 97 _ _ refl (append_cancel_left (codes "C") (codes "ycle" ++ (cycle_text t es ++ 10 ∷ rest)) (codes "ase " ++ (answer_text t a ++ 10 ∷ other)) e)
-body-cut model t (Leaf n (Amid r v w)) (Case m a) rest other test p q same e = apart 66 67 _ _ refl e
-body-cut model t (Leaf n (False ps)) (Case m a) rest other test p q same e = apart 70 67 _ _ refl e
-body-cut model t (Leaf n (Uniproc es)) (So m a) rest other test p q same e = apart 85 83 _ _ refl e
-body-cut model t (Leaf n (Cycle es)) (So m a) rest other test p q same e = apart 67 83 _ _ refl e
-body-cut model t (Leaf n (Amid r v w)) (So m a) rest other test p q same e = apart 66 83 _ _ refl e
-body-cut model t (Leaf n (False ps)) (So m a) rest other test p q same e = apart 70 83 _ _ refl e
-body-cut model t (Leaf n (Uniproc es)) (Endcases m) rest other test p q same e = apart 85 69 _ _ refl e
-body-cut model t (Leaf n (Cycle es)) (Endcases m) rest other test p q same e = apart 67 69 _ _ refl e
-body-cut model t (Leaf n (Amid r v w)) (Endcases m) rest other test p q same e = apart 66 69 _ _ refl e
-body-cut model t (Leaf n (False ps)) (Endcases m) rest other test p q same e = apart 70 69 _ _ refl e
-body-cut model t (Endcases m) (Case n b) rest other test p q same e = apart 69 67 _ _ refl e
-body-cut model t (Endcases m) (So n b) rest other test p q same e = apart 69 83 _ _ refl e
-body-cut model t (Endcases m) (Leaf n (Uniproc es)) rest other test p q same e = apart 69 85 _ _ refl e
-body-cut model t (Endcases m) (Leaf n (Cycle es)) rest other test p q same e = apart 69 67 _ _ refl e
-body-cut model t (Endcases m) (Leaf n (Amid r v w)) rest other test p q same e = apart 69 66 _ _ refl e
-body-cut model t (Endcases m) (Leaf n (False ps)) rest other test p q same e = apart 69 70 _ _ refl e
+body-cut model t (Case m a) (Leaf n (Cycle es)) rest other test p q same e = unlike 1 (body t (Case m a) rest) (body t (Leaf n (Cycle es)) other) refl e
+body-cut model t (Leaf n (Cycle es)) (Case m a) rest other test p q same e = unlike 1 (body t (Leaf n (Cycle es)) rest) (body t (Case m a) other) refl e
+body-cut model t (Leaf n (Uniproc es)) s rest other test p q same e = unlike 0 (body t (Leaf n (Uniproc es)) rest) (body t s other) refl e
+body-cut model t r (Leaf n (Uniproc es)) rest other test p q same e = unlike 0 (body t r rest) (body t (Leaf n (Uniproc es)) other) refl e
+body-cut model t r s rest other test p q same e = unlike 0 (body t r rest) (body t s other) refl e
 
 step-cut : (model : Model) (t : Litmus) (a b : ReasonStep) (rest other : List ℕ) → IsTest t → ReasonStepFits model t a → ReasonStepFits model t b
     → reason_step_line t a ++ rest ≡ reason_step_line t b ++ other → (told_reason_step a ≡ told_reason_step b) × (rest ≡ other)
@@ -192,8 +138,8 @@ no-step {A} t s ss end other ends e =
     (ap (λ (l : List ℕ). blanks (depth_of s) ++ l) (sym x.1) ∙ (sym (step-split t s after) ∙ (sym (append_assoc (reason_step_line t s) (flat_map (reason_step_line t) ss) end) ∙ e)))
   where
     by_depth : (n b : ℕ) (more : List ℕ) → (b == 86) ≡ false → blanks n ++ b ∷ more ≡ other → A
-    by_depth zero b more differ same = apart b 86 [] [] differ (ap (λ (n : ℕ). n ∷ []) (ap (λ (l : List ℕ). get_or l 0 86) same ∙ ends))
-    by_depth (suc n) b more differ same = apart 32 86 [] [] refl (ap (λ (n : ℕ). n ∷ []) (ap (λ (l : List ℕ). get_or l 0 86) same ∙ ends))
+    by_depth zero b more differ same = unlike 0 (b ∷ []) (86 ∷ []) differ (ap (λ (l : List ℕ). get_or l 0 86 ∷ []) same ∙ ap (λ (n : ℕ). n ∷ []) ends)
+    by_depth (suc n) b more differ same = unlike 0 (32 ∷ []) (86 ∷ []) refl (ap (λ (l : List ℕ). get_or l 0 86 ∷ []) same ∙ ap (λ (n : ℕ). n ∷ []) ends)
 
 lines-cut : (model : Model) (t : Litmus) (xs ys : List ReasonStep) (end other : List ℕ) → IsTest t → All (ReasonStepFits model t) xs → All (ReasonStepFits model t) ys → NoStep end → NoStep other
     → flat_map (reason_step_line t) xs ++ end ≡ flat_map (reason_step_line t) ys ++ other → map told_reason_step xs ≡ map told_reason_step ys
@@ -242,10 +188,6 @@ lines-tell model t xs ys test p q e =
     lines-cut model t xs ys end end test p q (verdict-no-step t.condition) (verdict-no-step t.condition) (append_cancel_left (asked_line t.condition) (lines xs) (lines ys) begun.1)
 
 -- ---- the test
-
-printable-name : (name : List ℕ) → is_test_name name ≡ true → list_all is_printable name ≡ true
-printable-name [] is = absurd cc
-printable-name (c ∷ cs) is = let whole = and_parts _ _ is in let front = and_parts _ _ whole.0 in front.1
 
 test-flat : (name rest : List ℕ) → (codes "Test " ++ line name) ++ rest ≡ codes "Test " ++ (name ++ 10 ∷ rest)
 test-flat name rest = simp append_assoc

@@ -1,12 +1,15 @@
 -- The JSON value of a reason tells its steps.
-use Rattle.printed_laws.proofs.Vocabulary.{◌≡◌, ◌∙◌, ℕ, ◌^◌, ◌<◌, ◌≤◌, ◌==◌, if◌then◌else◌, false, List, [], ◌∷◌, ◌++◌, map, get_or, All, Option, Some, None, IfSome, refl, sym, ap, arith, codes, option_map, decimal_injective, append_cancel_right, All-head, All-tail, max_depth, items_depth, members_depth, HasNumbers, ItemsHaveNumbers, MembersHaveNumbers, IsNumber-decimal, string, array, items_of, outline, items_outline, members_outline, compact_text, Litmus, IsTest, Condition, IsWord, count, key_of, on_location, global_in, Model, Relation, Place, Event, Edge, Answer, From, Before, Uniproc, Cycle, Amid, False, ReasonStep, Case, So, Leaf, Endcases, leaves_in, event_text, relation_text, source_text, outcomes_verdict_value, asked_value, edge_value, answer_value, place_members, step_value, never_value_of, told_event, told_edge, told_answer, told_by_value, depth_in, EventFits, LeadFrom, CycleFits, CaseFits, PlaceFits, AreCounted, ReasonValuesTellTheirSteps}
+use Rattle.printed_laws.proofs.Vocabulary.{◌≡◌, ℕ, ◌^◌, ◌<◌, false, List, [], ◌∷◌, ◌++◌, get_or, refl, sym, ap, ◌∙◌, Option, arith, All, Some, None, ◌==◌, map, if◌then◌else◌, IfSome, decimal_injective, max_depth, string, array, outline, items_outline, members_outline, codes, IsNumber-decimal, count, Litmus, IsTest, All-head, All-tail, Condition, items_of, key_of, Model, ReasonStep, Case, So, Leaf, Endcases, leaves_in, Answer, From, Before, Uniproc, Cycle, Amid, False, event_text, relation_text, source_text, asked_value, step_value, edge_value, answer_value, place_members, never_value_of, option_map, on_location, global_in, Relation, Event, told_event, EventFits, told_edge, told_answer, LeadFrom, CycleFits, CaseFits, PlaceFits, told_by_value, depth_in, AreCounted, ReasonValuesTellTheirSteps, Place, Edge}
 use Rattle.json.specs.Json as json
-use Rattle.json.specs.Tree.{depth as depth_of}
 use Rattle.printed_laws.specs.Reasons.{ReasonStepFits}
-use Rattle.printed_laws.proofs.JsonTexts.{value-told, members_in, items_in, text_in, value_at, text_at, first_item, more_items, has_item, uneven}
+use Rattle.printed_laws.proofs.Lists.{both-fit}
+use Rattle.printed_laws.proofs.Cutting.{unlike}
+use Rattle.printed_laws.proofs.JsonReading.{ReadsBack, MembersReadBack, deeper, put-back, each-back, all-back, words-back, line-told}
+use Rattle.printed_laws.proofs.OutcomeObjects.{verdict-back}
+use Rattle.printed_laws.proofs.JsonTexts.{members_in, items_in, text_in, value_at, text_at, first_item, more_items, has_item, items-told}
 use Rattle.printed_laws.proofs.ReasonWords.{event-cut, AreTold, uniproc-told, global-told, relation-cut}
 use Rattle.printed_laws.proofs.ReasonParts.{source-cut}
-use Rattle.printed_laws.proofs.TraceNumbers.{put-numbers, put-depth}
+use Rattle.reason_report.specs.ReasonJson.{cycle_value}
 
 -- ---- texts with nothing behind them
 
@@ -24,14 +27,9 @@ sources t ws = items_outline (items_of (map (λ w. string (source_text t w)) ws)
 
 sources-same : (t : Litmus) (ws vs : List (Option Event)) → IsTest t → All (SourceFits t) ws → All (SourceFits t) vs → sources t ws ≡ sources t vs
     → map (option_map told_event) ws ≡ map (option_map told_event) vs
-sources-same t [] [] test p q same = refl
-sources-same t [] (v ∷ vs) test p q same = uneven (sym (ap has_item same))
-sources-same t (w ∷ ws) [] test p q same = uneven (ap has_item same)
-sources-same t (w ∷ ws) (v ∷ vs) test p q same =
-    let first = source-cut t w v [] [] test (All-head (SourceFits t) w ws p) (All-head (SourceFits t) v vs q) tt tt
-    (alone (source_text t w) (source_text t v) (ap (λ (js : json.Items). text_in (first_item js)) same)) in
-    let further = sources-same t ws vs test (All-tail (SourceFits t) w ws p) (All-tail (SourceFits t) v vs q) (ap more_items same) in
-    λ i. first.0 i ∷ further i
+sources-same t ws vs test p q same =
+    items-told (SourceFits t) (λ w. string (source_text t w)) (option_map told_event)
+    (λ w v fits fits' e. (source-cut t w v [] [] test fits fits' tt tt (alone (source_text t w) (source_text t v) (ap text_in e))).0) ws vs p q same
 
 -- ---- answers
 
@@ -50,10 +48,7 @@ answer-told t step m n (Before a b) (Before w v) test p q same =
     let first = event-same t a w test p.0 q.0 (ap (text_at 1) same) in
     let second = event-same t b v test p.1 q.1 (ap (text_at 2) same) in
     λ i. Before (first i) (second i)
-answer-told t step m n (From r ws) (Before w v) test p q same =
-    let keys : 114 ≡ 105 = ap (λ (j : json.Json). second_key (members_in j)) same in absurd (omega (arith, keys))
-answer-told t step m n (Before w v) (From r ws) test p q same =
-    let keys : 105 ≡ 114 = ap (λ (j : json.Json). second_key (members_in j)) same in absurd (omega (arith, keys))
+answer-told t step m n a b test p q same = unlike 0 _ _ refl (ap (λ (j : json.Json). second_key (members_in j) ∷ []) same)
 
 -- ---- cycles
 
@@ -63,8 +58,6 @@ edges t es = items_outline (items_of (map (edge_value t) es))
 edges-told : (t : Litmus) (relations : List Relation) (a b : Event) (es fs : List Edge) → IsTest t → AreTold relations → told_event a ≡ told_event b
     → LeadFrom t relations a es → LeadFrom t relations b fs → edges t es ≡ edges t fs → map told_edge es ≡ map told_edge fs
 edges-told t relations a b [] [] test told same p q e = refl
-edges-told t relations a b [] (y ∷ fs) test told same p q e = uneven (sym (ap has_item e))
-edges-told t relations a b (x ∷ es) [] test told same p q e = uneven (ap has_item e)
 edges-told t relations a b (x ∷ es) (y ∷ fs) test told same p q e =
     let relation = relation-cut relations x.relation y.relation [] [] told p.1 q.1 tt tt
     (alone (relation_text x.relation) (relation_text y.relation) (ap (λ (js : json.Items). text_at 1 (first_item js)) e)) in
@@ -72,14 +65,14 @@ edges-told t relations a b (x ∷ es) (y ∷ fs) test told same p q e =
     let source : told_event x.source ≡ told_event y.source = ap told_event p.0 ∙ (same ∙ ap told_event (sym q.0)) in
     let further = edges-told t relations x.target y.target es fs test told target p.3 q.3 (ap more_items e) in
     λ i. record { source = source i; relation = relation.0 i; target = target i } ∷ further i
+edges-told t relations a b es fs test told same p q e = let uneven = ap has_item e in absurd cc
 
 cycle-told : (t : Litmus) (relations : List Relation) (es fs : List Edge) → IsTest t → AreTold relations → CycleFits t relations es → CycleFits t relations fs
     → edges t es ≡ edges t fs → map told_edge es ≡ map told_edge fs
 cycle-told t relations [] [] test told p q e = refl
-cycle-told t relations [] (y ∷ fs) test told p q e = uneven (sym (ap has_item e))
-cycle-told t relations (x ∷ es) [] test told p q e = uneven (ap has_item e)
 cycle-told t relations (x ∷ es) (y ∷ fs) test told p q e =
     edges-told t relations x.source y.source (x ∷ es) (y ∷ fs) test told (event-same t x.source y.source test p.0 q.0 (ap (λ (js : json.Items). text_at 0 (first_item js)) e)) p.1 q.1 e
+cycle-told t relations es fs test told p q e = let uneven = ap has_item e in absurd cc
 
 -- ---- steps
 
@@ -107,21 +100,15 @@ kind_of (Endcases depth) = 7
 
 kind-there : (t : Litmus) (s : ReasonStep) → kind_in (outline (step_value t s)) ≡ kind_of s
 kind-there t (Case depth (From r ws)) = refl
-kind-there t (Case depth (Before w v)) = refl
 kind-there t (So depth (From r ws)) = refl
-kind-there t (So depth (Before w v)) = refl
 kind-there t (Leaf depth (Uniproc es)) = refl
-kind-there t (Leaf depth (Cycle es)) = refl
-kind-there t (Leaf depth (Amid r v w)) = refl
-kind-there t (Leaf depth (False places)) = refl
-kind-there t (Endcases depth) = refl
+kind-there t s = refl
 
 -- the text of the depth of an answer
 answer-depth : (t : Litmus) (step : List ℕ) (m n : ℕ) (a b : Answer) → m < 2 ^ 64 → n < 2 ^ 64 → outline (answer_value t step m a) ≡ outline (answer_value t step n b) → m ≡ n
 answer-depth t step m n (From r ws) (From s vs) p q same = decimal_injective m n p q (ap (text_at 0) same)
-answer-depth t step m n (From r ws) (Before w v) p q same = decimal_injective m n p q (ap (text_at 0) same)
-answer-depth t step m n (Before w v) (From r ws) p q same = decimal_injective m n p q (ap (text_at 0) same)
-answer-depth t step m n (Before a b) (Before w v) p q same = decimal_injective m n p q (ap (text_at 0) same)
+answer-depth t step m n (Before w v) (Before x y) p q same = decimal_injective m n p q (ap (text_at 0) same)
+answer-depth t step m n a b p q same = decimal_injective m n p q (ap (text_at 0) same)
 
 same-kind : (model : Model) (t : Litmus) (a b : ReasonStep) → IsTest t → ReasonStepFits model t a → ReasonStepFits model t b → depth_in a < 2 ^ 64 → depth_in b < 2 ^ 64 → kind_of a ≡ kind_of b
     → outline (step_value t a) ≡ outline (step_value t b) → told_by_value a ≡ told_by_value b
@@ -151,165 +138,58 @@ same-kind model t (Leaf m (False xs)) (Leaf n (False ys)) test p q c d kind same
     let depth = decimal_injective m n c d (ap (text_at 0) same) in
     λ i. Leaf (depth i) (False [])
 same-kind model t (Endcases m) (Endcases n) test p q c d kind same = ap Endcases (decimal_injective m n c d (ap (text_at 0) same))
-same-kind model t (Case m a) (So n b) test p q c d kind same = absurd (omega (arith, kind))
-same-kind model t (Case m a) (Leaf n (Uniproc fs)) test p q c d kind same = absurd (omega (arith, kind))
-same-kind model t (Case m a) (Leaf n (Cycle fs)) test p q c d kind same = absurd (omega (arith, kind))
-same-kind model t (Case m a) (Leaf n (Amid r v w)) test p q c d kind same = absurd (omega (arith, kind))
-same-kind model t (Case m a) (Leaf n (False ys)) test p q c d kind same = absurd (omega (arith, kind))
-same-kind model t (Case m a) (Endcases n) test p q c d kind same = absurd (omega (arith, kind))
-same-kind model t (So m a) (Case n b) test p q c d kind same = absurd (omega (arith, kind))
-same-kind model t (So m a) (Leaf n (Uniproc fs)) test p q c d kind same = absurd (omega (arith, kind))
-same-kind model t (So m a) (Leaf n (Cycle fs)) test p q c d kind same = absurd (omega (arith, kind))
-same-kind model t (So m a) (Leaf n (Amid r v w)) test p q c d kind same = absurd (omega (arith, kind))
-same-kind model t (So m a) (Leaf n (False ys)) test p q c d kind same = absurd (omega (arith, kind))
-same-kind model t (So m a) (Endcases n) test p q c d kind same = absurd (omega (arith, kind))
-same-kind model t (Leaf m (Uniproc es)) (Case n b) test p q c d kind same = absurd (omega (arith, kind))
-same-kind model t (Leaf m (Uniproc es)) (So n b) test p q c d kind same = absurd (omega (arith, kind))
-same-kind model t (Leaf m (Uniproc es)) (Leaf n (Cycle fs)) test p q c d kind same = absurd (omega (arith, kind))
-same-kind model t (Leaf m (Uniproc es)) (Leaf n (Amid r v w)) test p q c d kind same = absurd (omega (arith, kind))
-same-kind model t (Leaf m (Uniproc es)) (Leaf n (False ys)) test p q c d kind same = absurd (omega (arith, kind))
-same-kind model t (Leaf m (Uniproc es)) (Endcases n) test p q c d kind same = absurd (omega (arith, kind))
-same-kind model t (Leaf m (Cycle es)) (Case n b) test p q c d kind same = absurd (omega (arith, kind))
-same-kind model t (Leaf m (Cycle es)) (So n b) test p q c d kind same = absurd (omega (arith, kind))
-same-kind model t (Leaf m (Cycle es)) (Leaf n (Uniproc fs)) test p q c d kind same = absurd (omega (arith, kind))
-same-kind model t (Leaf m (Cycle es)) (Leaf n (Amid r v w)) test p q c d kind same = absurd (omega (arith, kind))
-same-kind model t (Leaf m (Cycle es)) (Leaf n (False ys)) test p q c d kind same = absurd (omega (arith, kind))
-same-kind model t (Leaf m (Cycle es)) (Endcases n) test p q c d kind same = absurd (omega (arith, kind))
-same-kind model t (Leaf m (Amid x y z)) (Case n b) test p q c d kind same = absurd (omega (arith, kind))
-same-kind model t (Leaf m (Amid x y z)) (So n b) test p q c d kind same = absurd (omega (arith, kind))
-same-kind model t (Leaf m (Amid x y z)) (Leaf n (Uniproc fs)) test p q c d kind same = absurd (omega (arith, kind))
-same-kind model t (Leaf m (Amid x y z)) (Leaf n (Cycle fs)) test p q c d kind same = absurd (omega (arith, kind))
-same-kind model t (Leaf m (Amid x y z)) (Leaf n (False ys)) test p q c d kind same = absurd (omega (arith, kind))
-same-kind model t (Leaf m (Amid x y z)) (Endcases n) test p q c d kind same = absurd (omega (arith, kind))
-same-kind model t (Leaf m (False xs)) (Case n b) test p q c d kind same = absurd (omega (arith, kind))
-same-kind model t (Leaf m (False xs)) (So n b) test p q c d kind same = absurd (omega (arith, kind))
-same-kind model t (Leaf m (False xs)) (Leaf n (Uniproc fs)) test p q c d kind same = absurd (omega (arith, kind))
-same-kind model t (Leaf m (False xs)) (Leaf n (Cycle fs)) test p q c d kind same = absurd (omega (arith, kind))
-same-kind model t (Leaf m (False xs)) (Leaf n (Amid r v w)) test p q c d kind same = absurd (omega (arith, kind))
-same-kind model t (Leaf m (False xs)) (Endcases n) test p q c d kind same = absurd (omega (arith, kind))
-same-kind model t (Endcases m) (Case n b) test p q c d kind same = absurd (omega (arith, kind))
-same-kind model t (Endcases m) (So n b) test p q c d kind same = absurd (omega (arith, kind))
-same-kind model t (Endcases m) (Leaf n (Uniproc fs)) test p q c d kind same = absurd (omega (arith, kind))
-same-kind model t (Endcases m) (Leaf n (Cycle fs)) test p q c d kind same = absurd (omega (arith, kind))
-same-kind model t (Endcases m) (Leaf n (Amid r v w)) test p q c d kind same = absurd (omega (arith, kind))
-same-kind model t (Endcases m) (Leaf n (False ys)) test p q c d kind same = absurd (omega (arith, kind))
+same-kind model t a (Leaf n (Uniproc fs)) test p q c d kind same = absurd (omega (arith, kind))
+same-kind model t a b test p q c d kind same = absurd (omega (arith, kind))
 
 step-told : (model : Model) (t : Litmus) (a b : ReasonStep) → IsTest t → ReasonStepFits model t a → ReasonStepFits model t b → depth_in a < 2 ^ 64 → depth_in b < 2 ^ 64
     → outline (step_value t a) ≡ outline (step_value t b) → told_by_value a ≡ told_by_value b
 step-told model t a b test p q c d same = same-kind model t a b test p q c d (sym (kind-there t a) ∙ (ap kind_in same ∙ kind-there t b)) same
 
-abbrev steps_in : Litmus → List ReasonStep → json.Items
-steps_in t ss = items_outline (items_of (map (step_value t) ss))
-
 abbrev IsShallow : ReasonStep → Type 0
 IsShallow s = depth_in s < 2 ^ 64
 
-steps-told : (model : Model) (t : Litmus) (xs ys : List ReasonStep) → IsTest t → All (ReasonStepFits model t) xs → All (ReasonStepFits model t) ys → All IsShallow xs → All IsShallow ys
-    → steps_in t xs ≡ steps_in t ys → map told_by_value xs ≡ map told_by_value ys
-steps-told model t [] [] test p q c d same = refl
-steps-told model t [] (y ∷ ys) test p q c d same = uneven (sym (ap has_item same))
-steps-told model t (x ∷ xs) [] test p q c d same = uneven (ap has_item same)
-steps-told model t (x ∷ xs) (y ∷ ys) test p q c d same =
-    let first = step-told model t x y test (All-head (ReasonStepFits model t) x xs p) (All-head (ReasonStepFits model t) y ys q) (All-head IsShallow x xs c) (All-head IsShallow y ys d) (ap first_item same) in
-    let further = steps-told model t xs ys test (All-tail (ReasonStepFits model t) x xs p) (All-tail (ReasonStepFits model t) y ys q) (All-tail IsShallow x xs c) (All-tail IsShallow y ys d) (ap more_items same) in
-    λ i. first i ∷ further i
-
 -- ---- its text is read back
 
-sources-numbers : (t : Litmus) (ws : List (Option Event)) → ItemsHaveNumbers (sources t ws)
-sources-numbers t [] = tt
-sources-numbers t (w ∷ ws) = (tt, sources-numbers t ws)
+abbrev Fits : Model → Litmus → ReasonStep → Type 0
+Fits model t s = ReasonStepFits model t s × IsShallow s
 
-sources-depth : (t : Litmus) (ws : List (Option Event)) → items_depth (sources t ws) ≤ 0
-sources-depth t [] = omega arith
-sources-depth t (w ∷ ws) = omega (arith, sources-depth t ws)
+answer-back : (t : Litmus) (step : List ℕ) (m : ℕ) (a : Answer) → m < 2 ^ 64 → ReadsBack 4 (outline (answer_value t step m a))
+answer-back t step m (From r ws) small = (IsNumber-decimal m small, (each-back 2 (λ w. string (source_text t w)) ws (λ w. tt), (tt, (tt, tt))))
+answer-back t step m (Before w v) small = (IsNumber-decimal m small, (tt, (tt, (tt, tt))))
 
-edges-numbers : (t : Litmus) (es : List Edge) → ItemsHaveNumbers (edges t es)
-edges-numbers t [] = tt
-edges-numbers t (e ∷ es) = ((tt, (tt, (tt, tt))), edges-numbers t es)
+cycle-back : (t : Litmus) (step : List ℕ) (m : ℕ) (es : List Edge) → m < 2 ^ 64 → ReadsBack 4 (outline (cycle_value t step m es))
+cycle-back t step m es small = (each-back 2 (edge_value t) es (λ e. (tt, (tt, (tt, tt)))), (IsNumber-decimal m small, (tt, tt)))
 
-edges-depth : (t : Litmus) (es : List Edge) → items_depth (edges t es) ≤ 1
-edges-depth t [] = omega arith
-edges-depth t (e ∷ es) = omega (arith, edges-depth t es)
+places-back : (t : Litmus) (ps : List Place) → All (PlaceFits t) ps → MembersReadBack 2 (members_outline (place_members t ps))
+places-back t [] all = tt
+places-back t (p ∷ ps) all =
+    put-back 2 (key_of t p.named) (array (items_of (map count p.values))) (place_members t ps) (words-back 1 p.values (All-head (PlaceFits t) p ps all).values)
+    (places-back t ps (All-tail (PlaceFits t) p ps all))
 
-words-numbers : (vs : List ℕ) → All IsWord vs → ItemsHaveNumbers (items_outline (items_of (map count vs)))
-words-numbers [] all = tt
-words-numbers (v ∷ vs) all = let small : IsWord v = All-head IsWord v vs all in (IsNumber-decimal v (omega (arith, small)), words-numbers vs (All-tail IsWord v vs all))
+reason-step-back : (model : Model) (t : Litmus) (s : ReasonStep) → Fits model t s → ReadsBack 4 (outline (step_value t s))
+reason-step-back model t (Case m a) p = answer-back t (codes "case") m a p.1
+reason-step-back model t (So m a) p = answer-back t (codes "so") m a p.1
+reason-step-back model t (Leaf m (Uniproc es)) p = cycle-back t (codes "uniproc") m es p.1
+reason-step-back model t (Leaf m (Cycle es)) p = cycle-back t (codes "cycle") m es p.1
+reason-step-back model t (Leaf m (Amid r v w)) p = (tt, (IsNumber-decimal m p.1, (tt, (tt, (tt, tt)))))
+reason-step-back model t (Leaf m (False ps)) p = (IsNumber-decimal m p.1, (places-back t ps p.0, (tt, tt)))
+reason-step-back model t (Endcases m) p = (IsNumber-decimal m p.1, (tt, tt))
 
-words-depth : (vs : List ℕ) → items_depth (items_outline (items_of (map count vs))) ≤ 0
-words-depth [] = omega arith
-words-depth (v ∷ vs) = omega (arith, words-depth vs)
+asked-back : (c : Option Condition) → ReadsBack 1 (outline (asked_value c))
+asked-back None = tt
+asked-back (Some c) = (tt, (tt, tt))
 
-places-numbers : (t : Litmus) (ps : List Place) → All (PlaceFits t) ps → MembersHaveNumbers (members_outline (place_members t ps))
-places-numbers t [] all = tt
-places-numbers t (p ∷ ps) all =
-    put-numbers (key_of t p.named) (array (items_of (map count p.values))) (place_members t ps) (words-numbers p.values (All-head (PlaceFits t) p ps all).values)
-    (places-numbers t ps (All-tail (PlaceFits t) p ps all))
-
-places-depth : (t : Litmus) (ps : List Place) → members_depth (members_outline (place_members t ps)) ≤ 1
-places-depth t [] = omega arith
-places-depth t (p ∷ ps) =
-    let words = words-depth p.values in
-    put-depth 1 (key_of t p.named) (array (items_of (map count p.values))) (place_members t ps) (omega (arith, words)) (places-depth t ps)
-
-step-numbers : (model : Model) (t : Litmus) (s : ReasonStep) → ReasonStepFits model t s → depth_in s < 2 ^ 64 → HasNumbers (outline (step_value t s))
-step-numbers model t (Case m (From r ws)) p c = (IsNumber-decimal m c, (sources-numbers t ws, (tt, (tt, tt))))
-step-numbers model t (Case m (Before w v)) p c = (IsNumber-decimal m c, (tt, (tt, (tt, tt))))
-step-numbers model t (So m (From r ws)) p c = (IsNumber-decimal m c, (sources-numbers t ws, (tt, (tt, tt))))
-step-numbers model t (So m (Before w v)) p c = (IsNumber-decimal m c, (tt, (tt, (tt, tt))))
-step-numbers model t (Leaf m (Uniproc es)) p c = (edges-numbers t es, (IsNumber-decimal m c, (tt, tt)))
-step-numbers model t (Leaf m (Cycle es)) p c = (edges-numbers t es, (IsNumber-decimal m c, (tt, tt)))
-step-numbers model t (Leaf m (Amid r v w)) p c = (tt, (IsNumber-decimal m c, (tt, (tt, (tt, tt)))))
-step-numbers model t (Leaf m (False ps)) p c = (IsNumber-decimal m c, (places-numbers t ps p, (tt, tt)))
-step-numbers model t (Endcases m) p c = (IsNumber-decimal m c, (tt, tt))
-
-step-depth : (t : Litmus) (s : ReasonStep) → depth_of (outline (step_value t s)) ≤ 3
-step-depth t (Case m (From r ws)) = omega (arith, sources-depth t ws)
-step-depth t (Case m (Before w v)) = omega arith
-step-depth t (So m (From r ws)) = omega (arith, sources-depth t ws)
-step-depth t (So m (Before w v)) = omega arith
-step-depth t (Leaf m (Uniproc es)) = omega (arith, edges-depth t es)
-step-depth t (Leaf m (Cycle es)) = omega (arith, edges-depth t es)
-step-depth t (Leaf m (Amid r v w)) = omega arith
-step-depth t (Leaf m (False ps)) = omega (arith, places-depth t ps)
-step-depth t (Endcases m) = omega arith
-
-steps-numbers : (model : Model) (t : Litmus) (ss : List ReasonStep) → All (ReasonStepFits model t) ss → All IsShallow ss → ItemsHaveNumbers (steps_in t ss)
-steps-numbers model t [] p c = tt
-steps-numbers model t (s ∷ ss) p c =
-    (step-numbers model t s (All-head (ReasonStepFits model t) s ss p) (All-head IsShallow s ss c), steps-numbers model t ss (All-tail (ReasonStepFits model t) s ss p) (All-tail IsShallow s ss c))
-
-steps-depth : (t : Litmus) (ss : List ReasonStep) → items_depth (steps_in t ss) ≤ 3
-steps-depth t [] = omega arith
-steps-depth t (s ∷ ss) = omega (arith, step-depth t s, steps-depth t ss)
-
-asked-numbers : (c : Option Condition) → HasNumbers (outline (asked_value c))
-asked-numbers None = tt
-asked-numbers (Some c) = (tt, (tt, tt))
-
-asked-depth : (c : Option Condition) → depth_of (outline (asked_value c)) ≤ 1
-asked-depth None = omega arith
-asked-depth (Some c) = omega arith
-
-verdict-numbers : (c : Option Condition) → HasNumbers (outline (outcomes_verdict_value c false))
-verdict-numbers None = tt
-verdict-numbers (Some c) = tt
-
-verdict-depth : (c : Option Condition) → depth_of (outline (outcomes_verdict_value c false)) ≤ 0
-verdict-depth None = omega arith
-verdict-depth (Some c) = omega arith
-
-whole-numbers : (model : Model) (t : Litmus) (ss : List ReasonStep) → All (ReasonStepFits model t) ss → AreCounted ss → HasNumbers (outline (never_value_of model t ss))
-whole-numbers model t ss p c =
-    (tt, (asked-numbers t.condition, (IsNumber-decimal (leaves_in ss) c.few, (tt, (steps-numbers model t ss p c.depths, (tt, (verdict-numbers t.condition, tt)))))))
-
-whole-depth : (model : Model) (t : Litmus) (ss : List ReasonStep) → depth_of (outline (never_value_of model t ss)) ≤ max_depth
-whole-depth model t ss = omega (arith, asked-depth t.condition, steps-depth t ss, verdict-depth t.condition)
+never-back : (model : Model) (t : Litmus) (ss : List ReasonStep) → All (ReasonStepFits model t) ss → AreCounted ss → ReadsBack 6 (outline (never_value_of model t ss))
+never-back model t ss p c =
+    let asked = deeper 1 5 (outline (asked_value t.condition)) (omega arith) (asked-back t.condition) in
+    let steps = all-back 4 (Fits model t) (step_value t) ss (reason-step-back model t) (both-fit (ReasonStepFits model t) IsShallow ss p c.depths) in
+    (tt, (asked, (IsNumber-decimal (leaves_in ss) c.few, (tt, (steps, (tt, (verdict-back 5 t.condition false, tt)))))))
 
 pub values-tell : ReasonValuesTellTheirSteps
 values-tell model t xs ys test p q c d e =
     let a = never_value_of model t xs in
     let b = never_value_of model t ys in
-    let same = value-told a b (whole-numbers model t xs p c) (whole-numbers model t ys q d) (whole-depth model t xs) (whole-depth model t ys)
-    (append_cancel_right (compact_text a) (compact_text b) (10 ∷ []) e) in
-    steps-told model t xs ys test p q c.depths d.depths (ap (λ (j : json.Json). items_in (value_at 4 j)) same)
+    let x = deeper 6 max_depth (outline a) (omega arith) (never-back model t xs p c) in
+    let y = deeper 6 max_depth (outline b) (omega arith) (never-back model t ys q d) in
+    items-told (Fits model t) (step_value t) told_by_value (λ s u f g same. step-told model t s u test f.0 g.0 f.1 g.1 same) xs ys
+    (both-fit (ReasonStepFits model t) IsShallow xs p c.depths) (both-fit (ReasonStepFits model t) IsShallow ys q d.depths) (ap (λ (j : json.Json). items_in (value_at 4 j)) (line-told a b x y e))

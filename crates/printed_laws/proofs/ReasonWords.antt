@@ -1,7 +1,7 @@
 -- The words of a reason: events, relations and places. What each begins a text with is told by the text.
-use Rattle.printed_laws.proofs.Vocabulary.{◌≡◌, ◌∙◌, ℕ, ◌^◌, ◌<◌, ◌==◌, ◌&&◌, Bool, true, false, not, if◌then◌else◌, List, [], ◌∷◌, ◌++◌, length, get_or, Option, Some, None, IfSome, inl, inr, refl, sym, ap, subst, arith, codes, decimal, list_all, nat_tests, append_assoc, append_cancel_left, Litmus, IsTest, continues_name, IsWord, Entry, Kind, R, W, F, LR, LW, letters_of, printed_access, HasAccess, on_location, global_in, Model, Tso, Sequential, Relation, Po, PoLoc, PoGhb, Mfence, Implied, Rf, Rfe, Co, Fr, Event, location_text, entry_text, event_text, relation_text, told_event, IsValueFor, EventFits, IsRelationAmong}
+use Rattle.printed_laws.proofs.Vocabulary.{◌≡◌, ℕ, ◌^◌, ◌<◌, Bool, true, false, List, [], ◌∷◌, ◌++◌, get_or, refl, sym, ap, subst, ◌∙◌, Option, arith, inl, inr, length, Some, None, ◌==◌, not, ◌&&◌, if◌then◌else◌, IfSome, decimal, list_all, AllByRecursion, append_cancel_left, append_assoc, codes, Litmus, IsTest, continues_name, IsWord, Entry, letters_of, printed_access, HasAccess, nat_tests, Model, location_text, entry_text, event_text, relation_text, Tso, Sequential, Kind, F, on_location, global_in, Relation, Po, PoLoc, PoGhb, Mfence, Implied, Rf, Rfe, Co, Fr, Event, told_event, IsValueFor, EventFits, IsRelationAmong}
 use Rattle.printed_laws.proofs.Cutting.{BeginsWithout, run-cut, next-cut}
-use Rattle.printed_laws.proofs.TraceWords.{Ends, word-cut, same-core, same-loc, apart, location-cut, value-cut}
+use Rattle.printed_laws.proofs.TraceWords.{Ends, read_kind, kind-plain, kind-again, word-cut, same-core, same-loc, apart, location-cut, value-cut}
 
 -- ---- blanks
 
@@ -25,24 +25,6 @@ gap-ends (b ∷ bs) gap = gap-name b gap
 
 -- ---- events
 
-abbrev read_kind : List ℕ → Kind
-read_kind text =
-    if get_or text 0 0 == 82 then R else if get_or text 0 0 == 87 then W else if get_or text 0 0 == 70 then F else if get_or text 1 0 == 82 then LR else LW
-
-kind-plain : (kind : Kind) → list_all continues_name (letters_of kind) ≡ true
-kind-plain R = refl
-kind-plain W = refl
-kind-plain F = refl
-kind-plain LR = refl
-kind-plain LW = refl
-
-kind-again : (kind : Kind) → read_kind (letters_of kind) ≡ kind
-kind-again R = refl
-kind-again W = refl
-kind-again F = refl
-kind-again LR = refl
-kind-again LW = refl
-
 -- where an event goes, and its value where that is known
 abbrev access : Litmus → Kind → ℕ → Option ℕ → List ℕ
 access t kind loc None = location_text t kind loc
@@ -51,14 +33,8 @@ access t kind loc (Some value) = printed_access t kind loc value
 access-gap : (t : Litmus) (kind : Kind) (loc : ℕ) (value : Option ℕ) (rest : List ℕ) → Gap rest → Ends (access t kind loc value ++ rest)
 access-gap t F loc None rest gap = gap-ends rest gap
 access-gap t F loc (Some value) rest gap = gap-ends rest gap
-access-gap t R loc None rest gap = refl
-access-gap t R loc (Some value) rest gap = refl
-access-gap t W loc None rest gap = refl
-access-gap t W loc (Some value) rest gap = refl
-access-gap t LR loc None rest gap = refl
-access-gap t LR loc (Some value) rest gap = refl
-access-gap t LW loc None rest gap = refl
-access-gap t LW loc (Some value) rest gap = refl
+access-gap t kind loc None rest gap = refl
+access-gap t kind loc value rest gap = refl
 
 -- ` x`, and ` x=1`
 abbrev named : Litmus → ℕ → Option ℕ → List ℕ
@@ -104,16 +80,9 @@ named-cut t i j (Some v) (Some w) rest other test known known' p q gap gap' e =
     (cut.0, ap Some cut.1, cut.2)
 
 as-named : (t : Litmus) (loc : ℕ) (v : Option ℕ) (kind : Kind) → (kind ≡ F → ⊥) → access t kind loc v ≡ named t loc v
-as-named t loc None R other = refl
-as-named t loc None W other = refl
 as-named t loc None F other = absurd (other refl)
-as-named t loc None LR other = refl
-as-named t loc None LW other = refl
-as-named t loc (Some v) R other = refl
-as-named t loc (Some v) W other = refl
 as-named t loc (Some v) F other = absurd (other refl)
-as-named t loc (Some v) LR other = refl
-as-named t loc (Some v) LW other = refl
+as-named t loc v kind other = refl
 
 by-name : (t : Litmus) (kind : Kind) (i j : ℕ) (v w : Option ℕ) (rest other : List ℕ) → IsTest t → (kind ≡ F → ⊥) → (i < length t.locations) × (0 < 2 ^ 32) → (j < length t.locations) × (0 < 2 ^ 32)
     → IfSome v IsWord → IfSome w IsWord → Gap rest → Gap other
@@ -128,10 +97,7 @@ access-cut : (t : Litmus) (kind : Kind) (i j : ℕ) (v w : Option ℕ) (rest oth
 access-cut t F i j None None rest other test p q a b gap gap' e = (p.0 ∙ sym q.0, refl, e)
 access-cut t F i j None (Some w) rest other test p q a b gap gap' e = absurd (let no : ⊥ = cc in no)
 access-cut t F i j (Some v) w rest other test p q a b gap gap' e = absurd (let no : ⊥ = cc in no)
-access-cut t R i j v w rest other test p q a b gap gap' e = by-name t R i j v w rest other test (λ same. let no : ⊥ = cc in no) p q a b gap gap' e
-access-cut t W i j v w rest other test p q a b gap gap' e = by-name t W i j v w rest other test (λ same. let no : ⊥ = cc in no) p q a b gap gap' e
-access-cut t LR i j v w rest other test p q a b gap gap' e = by-name t LR i j v w rest other test (λ same. let no : ⊥ = cc in no) p q a b gap gap' e
-access-cut t LW i j v w rest other test p q a b gap gap' e = by-name t LW i j v w rest other test (λ same. let no : ⊥ = cc in no) p q a b gap gap' e
+access-cut t kind i j v w rest other test p q a b gap gap' e = by-name t kind i j v w rest other test (λ same. let no : ⊥ = cc in no) p q a b gap gap' e
 
 event-flat : (core place kind access rest : List ℕ)
     → (codes "P" ++ (core ++ (codes ":" ++ (place ++ (codes " " ++ (kind ++ access)))))) ++ rest
@@ -175,16 +141,8 @@ event-cut t a b rest other test p q gap gap' e =
 -- ---- relations
 
 relation-plain : (r : Option Relation) → list_all continues_name (relation_text r) ≡ true
-relation-plain None = refl
 relation-plain (Some Po) = refl
-relation-plain (Some PoLoc) = refl
-relation-plain (Some PoGhb) = refl
-relation-plain (Some Mfence) = refl
-relation-plain (Some Implied) = refl
-relation-plain (Some Rf) = refl
-relation-plain (Some Rfe) = refl
-relation-plain (Some Co) = refl
-relation-plain (Some Fr) = refl
+relation-plain r = refl
 
 -- the relation of a name, where `po` and `rf` stand for these
 abbrev read_relation : Relation → Relation → List ℕ → Option Relation
@@ -198,38 +156,18 @@ pub record AreTold (relations : List Relation) : Type 0 where
   pub read : List ℕ → Option Relation
   pub again : (r : Option Relation) → IsRelationAmong relations r → read (relation_text r) ≡ r
 
-read-as : (read : List ℕ → Option Relation) (r : Option Relation) (x : Relation) → read (relation_text (Some x)) ≡ Some x → r ≡ Some x → read (relation_text r) ≡ r
-read-as read r x again same = subst (λ (s : Option Relation). read (relation_text s) ≡ s) (sym same) again
-
-uniproc-again : (r : Option Relation) → IsRelationAmong on_location r → read_relation PoLoc Rf (relation_text r) ≡ r
-uniproc-again r (inl is) = read-as (read_relation PoLoc Rf) r PoLoc refl is
-uniproc-again r (inr (inl is)) = read-as (read_relation PoLoc Rf) r Rf refl is
-uniproc-again r (inr (inr (inl is))) = read-as (read_relation PoLoc Rf) r Co refl is
-uniproc-again r (inr (inr (inr (inl is)))) = read-as (read_relation PoLoc Rf) r Fr refl is
-uniproc-again r (inr (inr (inr (inr none)))) = absurd none
-
-tso-again : (r : Option Relation) → IsRelationAmong (global_in Tso) r → read_relation PoGhb Rfe (relation_text r) ≡ r
-tso-again r (inl is) = read-as (read_relation PoGhb Rfe) r PoGhb refl is
-tso-again r (inr (inl is)) = read-as (read_relation PoGhb Rfe) r Mfence refl is
-tso-again r (inr (inr (inl is))) = read-as (read_relation PoGhb Rfe) r Implied refl is
-tso-again r (inr (inr (inr (inl is)))) = read-as (read_relation PoGhb Rfe) r Rfe refl is
-tso-again r (inr (inr (inr (inr (inl is))))) = read-as (read_relation PoGhb Rfe) r Co refl is
-tso-again r (inr (inr (inr (inr (inr (inl is)))))) = read-as (read_relation PoGhb Rfe) r Fr refl is
-tso-again r (inr (inr (inr (inr (inr (inr none)))))) = absurd none
-
-sequential-again : (r : Option Relation) → IsRelationAmong (global_in Sequential) r → read_relation Po Rf (relation_text r) ≡ r
-sequential-again r (inl is) = read-as (read_relation Po Rf) r Po refl is
-sequential-again r (inr (inl is)) = read-as (read_relation Po Rf) r Rf refl is
-sequential-again r (inr (inr (inl is))) = read-as (read_relation Po Rf) r Co refl is
-sequential-again r (inr (inr (inr (inl is)))) = read-as (read_relation Po Rf) r Fr refl is
-sequential-again r (inr (inr (inr (inr none)))) = absurd none
+told-again : (read : List ℕ → Option Relation) (relations : List Relation) → AllByRecursion (λ x. read (relation_text (Some x)) ≡ Some x) relations
+    → (r : Option Relation) → IsRelationAmong relations r → read (relation_text r) ≡ r
+told-again read [] all r none = absurd none
+told-again read (x ∷ xs) all r (inl is) = subst (λ (s : Option Relation). read (relation_text s) ≡ s) (sym is) all.0
+told-again read (x ∷ xs) all r (inr more) = told-again read xs all.1 r more
 
 pub uniproc-told : AreTold on_location
-uniproc-told = record { read = read_relation PoLoc Rf; again = uniproc-again }
+uniproc-told = record { read = read_relation PoLoc Rf; again = told-again (read_relation PoLoc Rf) on_location (refl, (refl, (refl, (refl, tt)))) }
 
 pub global-told : (model : Model) → AreTold (global_in model)
-global-told Tso = record { read = read_relation PoGhb Rfe; again = tso-again }
-global-told Sequential = record { read = read_relation Po Rf; again = sequential-again }
+global-told Tso = record { read = read_relation PoGhb Rfe; again = told-again (read_relation PoGhb Rfe) (global_in Tso) (refl, (refl, (refl, (refl, (refl, (refl, tt)))))) }
+global-told Sequential = record { read = read_relation Po Rf; again = told-again (read_relation Po Rf) (global_in Sequential) (refl, (refl, (refl, (refl, tt)))) }
 
 pub relation-cut : (relations : List Relation) (a b : Option Relation) (rest other : List ℕ) → AreTold relations → IsRelationAmong relations a → IsRelationAmong relations b → Ends rest → Ends other
     → relation_text a ++ rest ≡ relation_text b ++ other → (a ≡ b) × (rest ≡ other)

@@ -1,5 +1,5 @@
 -- The steps of a refutation fit its test.
-use Rattle.printed_laws.proofs.Vocabulary.{◌≡◌, ℕ, zero, suc, ◌+◌, ◌≤◌, ◌||◌, Bool, true, false, not, cond, List, [], ◌∷◌, ◌++◌, map, length, drop, All, Option, Some, None, IfSome, inl, inr, refl, ap, subst, arith, filter, list_any, list_all, flat_map, and_parts, length-map, All-nil, All-cons, All-head, All-tail, All-append, All-map, All-filter, All-weaker, Litmus, IsTest, Claim, IsWord, writes_to, Reg, Entry, all_registers, looked_at, is_looked_at, named_register, named_registers, named_locations, Named, Register, Location, Known, nothing, events_of, is_event, with_source, relates, on_location, global_in, is_edge, is_cycle, leads_back, first_that_relates, Node, ReadsFrom, ComesFirst, OnLocation, Globally, Between, FalseClaim, sources_of, is_node, branches, close, asked_claim, Model, Relation, words_at, known_among, unseen, suffices, place_with_values, places_in, Reply, Reads, First, Event, ReasonStep, Case, So, Endcases, event_at, edges_back, edges_of, is_leaf, leaf_steps, replies, with_reply, Part, Branch, branches_with, is_closed, write_of_answer, answer_at, are_alike, groups, known_of_case, closed_case, case_steps, so_steps, rest_steps, question_steps, grown, steps_of, EventFits, IsRelationAmong, LeadFrom, CycleFits, CaseFits, IsNamed, PlaceFits, StepsOfRefutationsFit, PrintedRefutationsTellTheirSteps}
+use Rattle.printed_laws.proofs.Vocabulary.{◌≡◌, ℕ, Bool, true, false, List, [], ◌∷◌, ◌++◌, drop, refl, ap, subst, zero, suc, ◌≤◌, Option, arith, inl, inr, ◌+◌, length, All, Some, None, cond, map, not, ◌||◌, IfSome, list_all, flat_map, list_any, and_parts, length-map, filter, all_registers, Litmus, IsTest, All-head, All-tail, All-weaker, All-map, All-cons, All-nil, All-filter, All-append, Claim, IsWord, Reg, Entry, Named, Register, Location, looked_at, named_register, named_registers, named_locations, is_looked_at, Node, asked_claim, ReadsFrom, ComesFirst, OnLocation, Globally, Between, FalseClaim, sources_of, is_node, branches, close, Model, ReasonStep, Case, So, Endcases, steps_of, event_at, edges_back, edges_of, is_leaf, leaf_steps, replies, with_reply, Part, Branch, branches_with, is_closed, write_of_answer, answer_at, are_alike, groups, known_of_case, closed_case, case_steps, so_steps, rest_steps, question_steps, grown, writes_to, on_location, global_in, relates, is_edge, is_cycle, leads_back, Relation, Event, EventFits, IsRelationAmong, LeadFrom, CycleFits, CaseFits, IsNamed, PlaceFits, StepsOfRefutationsFit, PrintedRefutationsTellTheirSteps, words_at, known_among, unseen, suffices, place_with_values, places_in, Known, events_of, is_event, nothing, with_source, first_that_relates, Reply, Reads, First}
 use Rattle.reason_report.specs.Steps.{parts_of_nodes}
 use Rattle.printed_laws.specs.Reasons.{ReasonStepFits}
 use Rattle.printed_laws.proofs.KnownWords.{MayBeWord, either, value-fits, register-word, location-words}
@@ -45,6 +45,14 @@ unseen-words seen (v ∷ vs) all =
     let later = All-tail IsWord v vs all in
     either (All IsWord) _ (unseen seen vs) (v ∷ unseen (seen ++ (v ∷ [])) vs) (unseen-words seen vs later)
     (All-cons IsWord v (unseen (seen ++ (v ∷ [])) vs) (All-head IsWord v vs all) (unseen-words (seen ++ (v ∷ [])) vs later))
+
+told-by-replies : (k : Known) (r : Entry) (ws : List (Option Entry)) → map (with_source k r) ws ≡ map (with_reply k) (map (Reads r) ws)
+told-by-replies k r [] = refl
+told-by-replies k r (w ∷ ws) = ap (λ (ks : List Known). with_source k r w ∷ ks) (told-by-replies k r ws)
+
+pub branches-are : (t : Litmus) (k : Known) (n : Node) → branches t k n ≡ map (with_reply k) (replies t n)
+branches-are t k (ReadsFrom r) = told-by-replies k r (sources_of t r)
+branches-are t k n = refl
 
 module _ (t : Litmus) (test : IsTest t) where
   there-words : (k : Known) (named : Named) → All MayBeWord (words_at t k named)
@@ -153,10 +161,7 @@ module _ (t : Litmus) (test : IsTest t) where
         let a = event-fits t w test both.0 in
         let b = event-fits t v test both.1 in
         All-cons ReplyFits (First w v) (First v w ∷ []) (a, b) (All-cons ReplyFits (First v w) [] (b, a) (All-nil ReplyFits))
-    replies-fit k (OnLocation cycle) is = All-nil ReplyFits
-    replies-fit k (Globally cycle) is = All-nil ReplyFits
-    replies-fit k (Between r v w) is = All-nil ReplyFits
-    replies-fit k FalseClaim is = All-nil ReplyFits
+    replies-fit k n is = All-nil ReplyFits
 
     -- ---- parts and branches
 
@@ -236,21 +241,9 @@ module _ (t : Litmus) (test : IsTest t) where
 
     -- ---- a refutation
 
-    told-by-replies : (k : Known) (r : Entry) (ws : List (Option Entry)) → map (with_source k r) ws ≡ map (with_reply k) (map (Reads r) ws)
-    told-by-replies k r [] = refl
-    told-by-replies k r (w ∷ ws) = ap (λ (ks : List Known). with_source k r w ∷ ks) (told-by-replies k r ws)
-
-    branches-are : (k : Known) (n : Node) → branches t k n ≡ map (with_reply k) (replies t n)
-    branches-are k (ReadsFrom r) = told-by-replies k r (sources_of t r)
-    branches-are k (ComesFirst w v) = refl
-    branches-are k (OnLocation cycle) = refl
-    branches-are k (Globally cycle) = refl
-    branches-are k (Between r v w) = refl
-    branches-are k FalseClaim = refl
-
     grown-fits : (k : Known) (n : Node) (ks : List Known) (ps : List Part) → is_node model t claim k n ≡ true → AreParts (branches t k n ++ ks) ps → AreParts (k ∷ ks) (grown model t claim n ps)
     grown-fits k n ks ps is are =
-        let now = subst (λ (js : List Known). AreParts (js ++ ks) ps) (branches-are k n) are in
+        let now = subst (λ (js : List Known). AreParts (js ++ ks) ps) (branches-are t k n) are in
         let size : length (map (with_reply k) (replies t n)) ≡ length (replies t n) = length-map (replies t n) (with_reply k) in (
           record {
             node = is;

@@ -1,8 +1,8 @@
 -- The lines of a report tell its run.
-use Rattle.printed_laws.proofs.Vocabulary.{◌≡◌, ℕ, ◌^◌, ◌<◌, false, List, [], ◌∷◌, ◌++◌, length, refl, sym, ap, subst, ◌∙◌, arith, codes, append_assoc, append_cancel_left, Litmus, IsTest, Entry, printed_order, SpellsOrder, ProtocolKind, Configuration, IsConfigurationWithinLimits, ReportSpellsItsOrder, ReportsAreShort, ShownRun, line, head, report, register_lines, printed_words, memory_line, printed_verdict, condition_line, choices_line, cache_lines, RunFitsTest, ReportsTellTheirRuns}
+use Rattle.printed_laws.proofs.Vocabulary.{◌≡◌, ℕ, ◌^◌, ◌<◌, false, List, [], ◌∷◌, ◌++◌, get_or, refl, sym, ap, subst, ◌∙◌, arith, length, append_cancel_left, append_assoc, codes, line, head, register_lines, printed_words, printed_verdict, choices_line, cache_lines, report, memory_line, condition_line, ReportsTellTheirRuns, Litmus, IsTest, ProtocolKind, Configuration, IsConfigurationWithinLimits, Entry, printed_order, SpellsOrder, ReportSpellsItsOrder, ReportsAreShort, ShownRun, RunFitsTest}
 use Rattle.printed_laws.proofs.Cutting.{same-cut}
 use Rattle.printed_laws.proofs.Lines.{register-lines-cut, words-cut, verdict-cut}
-use Rattle.printed_laws.proofs.Counted.{Choices, AreFewChoices, choices-cut, caches-told}
+use Rattle.printed_laws.proofs.Counted.{choices-cut, caches-told}
 
 -- what a law of order texts says: a text spells one order at most
 abbrev pub OrderIsSpelledOnce : Type 0
@@ -24,12 +24,6 @@ memory-flat words rest = simp append_assoc
 condition-flat : (verdict rest : List ℕ) → (codes "Condition " ++ line verdict) ++ rest ≡ codes "Condition " ++ (verdict ++ 10 ∷ rest)
 condition-flat verdict rest = simp append_assoc
 
-abbrev choices-in : ShownRun → Choices
-choices-in s = record { used = s.used; stalled = s.stalled; unused = s.unused }
-
-are-few : (t : Litmus) (s : ShownRun) → RunFitsTest t s → AreFewChoices (choices-in s)
-are-few t s p = record { used = p.small.used; stalled = p.small.stalled; unused = p.small.unused }
-
 pub lines-tell : OrderIsSpelledOnce → ReportSpellsItsOrder → ReportsAreShort → ReportsTellTheirRuns false
 lines-tell once spells short t kind c s o test within p q e =
     let choices = λ (r : ShownRun). choices_line r.used r.stalled r.unused ++ cache_lines 0 r.counts in
@@ -39,7 +33,7 @@ lines-tell once spells short t kind c s o test within p q e =
     let order = order-told once spells short t kind c s o test within p q e in
     let from_order = append_cancel_left (head t kind c) (printed_order t s.order ++ registers s) (printed_order t o.order ++ registers o) e in
     let from_registers = same-cut (printed_order t s.order) (printed_order t o.order) (registers s) (registers o) (ap (printed_order t) order) from_order in
-    let first = register-lines-cut 0 s.registers o.registers (memory s) (memory o) (p.of_test.registers ∙ sym q.of_test.registers) p.small.registers q.small.registers from_registers in
+    let first = register-lines-cut s.registers o.registers (memory s) (memory o) p.small.registers q.small.registers refl refl from_registers in
     let flat_memory = sym (memory-flat (printed_words t.locations s.memory) (verdict s)) ∙ (first.1 ∙ memory-flat (printed_words t.locations o.memory) (verdict o)) in
     let second = words-cut t.locations s.memory o.memory (10 ∷ verdict s) (10 ∷ verdict o) p.of_test.memory q.of_test.memory p.small.memory q.small.memory refl refl
     (append_cancel_left (codes "Memory") (printed_words t.locations s.memory ++ 10 ∷ verdict s) (printed_words t.locations o.memory ++ 10 ∷ verdict o) flat_memory) in
@@ -48,15 +42,15 @@ lines-tell once spells short t kind c s o test within p q e =
     let third = verdict-cut t.condition s.holds o.holds (10 ∷ choices s) (10 ∷ choices o) p.of_test.verdict q.of_test.verdict
     (append_cancel_left (codes "Condition ") (printed_verdict t.condition s.holds ++ 10 ∷ choices s) (printed_verdict t.condition o.holds ++ 10 ∷ choices o) flat_verdict) in
     let from_choices = append_cancel_left (10 ∷ []) (choices s) (choices o) third.1 in
-    let fourth = choices-cut (choices-in s) (choices-in o) (cache_lines 0 s.counts) (cache_lines 0 o.counts) (are-few t s p) (are-few t o q) from_choices in
-    let counts = caches-told 0 s.counts o.counts (p.of_test.counts ∙ sym q.of_test.counts) p.small.counts q.small.counts fourth.1 in
+    let fourth = choices-cut t s o (cache_lines 0 s.counts) (cache_lines 0 o.counts) p.small q.small from_choices in
+    let counts = caches-told s.counts o.counts p.small.counts q.small.counts fourth.1 in
     λ i. record {
       order = order i;
       registers = first.0 i;
       memory = second.0 i;
       holds = third.0 i;
-      used = (fourth.0 i).used;
-      stalled = (fourth.0 i).stalled;
-      unused = (fourth.0 i).unused;
+      used = get_or (fourth.0 i) 0 0;
+      stalled = get_or (fourth.0 i) 1 0;
+      unused = get_or (fourth.0 i) 2 0;
       counts = counts i;
     }

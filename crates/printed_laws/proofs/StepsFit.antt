@@ -1,17 +1,18 @@
 -- Each step of a trace fits its test.
-use Rattle.printed_laws.proofs.Vocabulary.{◌≡◌, ◌∙◌, ℕ, zero, suc, ◌+◌, ◌<◌, ◌≤◌, ◌==◌, Bool, true, false, if◌then◌else◌, List, [], ◌∷◌, ◌++◌, length, drop, All, Option, Some, None, IfSome, slice_get, subst, arith, length-replicate, All-nil, All-cons, All-head, All-tail, All-append, All-drop, All-weaker, Litmus, IsTest, IsWord, index_of, action_of, core_of, chosen, program_of, access_of, has_ended, CoresExist, Bus, Atomic, Split, Choice, Drain, Committed, Buffered, Moved, Asked, Stalled, Core, Instr, Action, Store, Load, Move, Fence, Lock, Entry, HasWord, IsEntryFor, Table, table_of, ProtocolKind, Awaited, is_awaited, Configuration, IsConfigurationWithinLimits, Running, new_machine, machine_after, IsAt, AreStoresKnown, moved_by, moved_at, moved_from, buffer_if_changed, sent_on, placed, line_states, placed_states_from, number_of_lines, states_of, number_of_state, change_of, changes_in, trace_step_of, steps_from, trace_under, IsTraced, LineRequest, StateChange, access-known, traced-first, step-known, traced-next, TraceStepFits}
+use Rattle.printed_laws.proofs.Vocabulary.{◌≡◌, ℕ, ◌<◌, Bool, true, false, List, [], ◌∷◌, ◌++◌, drop, subst, ◌∙◌, zero, suc, ◌≤◌, Option, arith, ◌+◌, length, All, Some, None, ◌==◌, if◌then◌else◌, IfSome, slice_get, length-replicate, Litmus, IsTest, Bus, Atomic, Split, ProtocolKind, Configuration, IsConfigurationWithinLimits, All-head, All-tail, All-weaker, All-cons, All-nil, All-drop, All-append, IsWord, index_of, Entry, HasWord, IsEntryFor, has_ended, CoresExist, Choice, Drain, chosen, program_of, core_of, Core, IsAt, AreStoresKnown, LineRequest, StateChange, Asked, TraceStepFits, action_of, access_of, Instr, Action, Move, access-known, Table, table_of, Awaited, is_awaited, Running, new_machine, machine_after, moved_by, moved_at, moved_from, buffer_if_changed, sent_on, placed, line_states, placed_states_from, number_of_lines, states_of, number_of_state, change_of, changes_in, steps_from, trace_under, trace_step_of, IsTraced, traced-first, step-known, traced-next}
 use Rattle.tso_model.specs.declared.choice.Choice.TheVariants.{Step}
 use Rattle.tso_model.specs.declared.choice.Outcome.{Outcome}
 use Rattle.machine_core.specs.Statistics.{no_counts}
 use Rattle.machine_core.specs.Running.{attempt_on, machine_effect, machine_use}
 use Rattle.machine_core.specs.declared.accesses.CacheUse.{CacheUse}
-use Rattle.machine_core.specs.declared.accesses.CacheUse.TheVariants.{Unused, Forwarded, Through}
+use Rattle.machine_core.specs.declared.accesses.CacheUse.TheVariants.{Through}
 use Rattle.machine_core.specs.inner.Keeping.{IsAmong, IsFlusherAmong, IsSenderAmong}
 use Rattle.machine_core.proofs.CountBounds.{length-counted}
 use Rattle.machine_core.proofs.CountsOnBus.{senders}
 use Rattle.trace_report.specs.declared.states.PlacedState.{PlacedState}
 use Rattle.trace_report.proofs.FlushesTold.{IsSound, sound-first, sound-after}
-use Rattle.printed_laws.proofs.MachinesFit.{word-at, PendingFits, pending-entry, CoresFit, HolderFits, BusFits, effect-fits, memory-fits, cores-fit, start-fits}
+use Rattle.printed_laws.proofs.MachinesFit.{PendingFits, pending-entry, CoresFit, HolderFits, BusFits, effect-fits, memory-fits, cores-fit, start-fits}
+use Rattle.printed_laws.proofs.Lists.{word-at}
 
 -- ---- a machine
 
@@ -59,11 +60,8 @@ moved-word t place (Drain core) registers all = tt
 moved-word t place (Step core) registers all = at (slice_get (program_of t core.0) place)
   where
     by_action : (a : Action) → IfSome (moved_by a registers) (λ m. IsWord m.value)
-    by_action (Store loc operand) = tt
-    by_action (Load reg loc) = tt
     by_action (Move reg operand) = word-at registers (index_of reg) all
-    by_action Fence = tt
-    by_action (Lock loc reg update) = tt
+    by_action a = tt
 
     at : (i : Option Instr) → IfSome (moved_at i registers) (λ m. IsWord m.value)
     at None = tt
@@ -83,15 +81,9 @@ small-core n (Some core) few among = omega (arith, few, among)
 
 sent-among : (n : ℕ) (bus : Bus) (outcome : Outcome) (request : Option LineRequest) (how : CacheUse) (awaited : Option Awaited) → IsFlusherAmong n how → IsSenderAmong n awaited
     → IsAmong n (sent_on bus outcome request how awaited).flushed
-sent-among n Atomic outcome request Unused awaited p q = tt
-sent-among n Atomic outcome request Forwarded awaited p q = tt
 sent-among n Atomic outcome request (Through a) awaited p q = p
-sent-among n Split Committed request how awaited p q = tt
-sent-among n Split Buffered request how awaited p q = tt
-sent-among n Split Moved request how awaited p q = tt
-sent-among n Split Asked request how None p q = tt
 sent-among n Split Asked request how (Some a) p q = q
-sent-among n Split (Stalled why) request how awaited p q = tt
+sent-among n bus outcome request how awaited p q = tt
 
 abbrev IsOfCore : PlacedState → Type 0
 IsOfCore p = p.core.0 < 256

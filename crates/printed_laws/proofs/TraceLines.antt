@@ -1,5 +1,5 @@
 -- The lines of a trace tell its steps.
-use Rattle.printed_laws.proofs.Vocabulary.{◌≡◌, ◌∙◌, ℕ, ◌+◌, ◌^◌, ◌<◌, ◌==◌, List, [], ◌∷◌, ◌++◌, map, length, get_or, All, Option, Some, None, IfSome, if◌then◌else◌, refl, sym, ap, arith, codes, option_map, decimal, is_ascii_digit, append_assoc, append_cancel_left, length-map, All-head, All-tail, All-cons, All-nil, Litmus, IsTest, continues_name, chosen, Choice, Drain, Stall, Done, Full, Empty, Committed, Buffered, Moved, Asked, Stalled, Entry, printed_choice, HasWord, all_of_location, IsAt, IsLine, outcome_name, entries_text, moved_text, forwarded_text, access_text, request_text, flush_text, write_back_text, changes_text, store_text, later_stores, stores_text, buffer_text, step_lines, StateChange, bare_store, told_by_line, TraceStepFits, TracesTellTheirSteps}
+use Rattle.printed_laws.proofs.Vocabulary.{◌≡◌, ℕ, ◌^◌, ◌<◌, List, [], ◌∷◌, ◌++◌, get_or, refl, sym, ap, ◌∙◌, Option, arith, ◌+◌, length, All, Some, None, ◌==◌, map, if◌then◌else◌, IfSome, decimal, is_ascii_digit, append_cancel_left, append_assoc, length-map, codes, Litmus, IsTest, continues_name, All-head, All-tail, Entry, HasWord, Choice, Drain, printed_choice, chosen, all_of_location, IsLine, IsAt, entries_text, moved_text, forwarded_text, access_text, request_text, flush_text, write_back_text, changes_text, outcome_name, store_text, later_stores, stores_text, buffer_text, step_lines, StateChange, option_map, Stall, Done, Full, Empty, Committed, Buffered, Moved, Asked, Stalled, bare_store, told_by_line, TraceStepFits, TracesTellTheirSteps}
 use Rattle.tso_model.specs.declared.choice.Choice.TheVariants.{Step}
 use Rattle.tso_model.specs.declared.choice.Stall.TheVariants.{Fence, Lock, Bus}
 use Rattle.tso_model.specs.declared.choice.Outcome.{Outcome}
@@ -7,6 +7,7 @@ use Rattle.protocol_tables.specs.PrintedTable.{line}
 use Rattle.trace_report.specs.Lines.{trace_step_line}
 use Rattle.trace_report.specs.Shown.{ShownStep}
 use Rattle.printed_laws.proofs.Cutting.{run-cut}
+use Rattle.printed_laws.proofs.Lists.{both-fit}
 use Rattle.printed_laws.proofs.Digits.{all-digits}
 use Rattle.printed_laws.proofs.TraceWords.{Ends, read-cut, core_in, choice-cut, apart, same-loc, value-cut}
 use Rattle.printed_laws.proofs.TraceParts.{Follows, rank, missing, core-rank, is-part, earlier, ending-follows, ChangeFits}
@@ -26,16 +27,8 @@ read_outcome text =
     else Stalled (stall_by (get_or text 8 0) (get_or text 9 0))
 
 outcome-again : (o : Outcome) (rest : List ℕ) → read_outcome (outcome_name o ++ rest) ≡ o
-outcome-again Committed rest = refl
-outcome-again Buffered rest = refl
-outcome-again Moved rest = refl
-outcome-again Asked rest = refl
 outcome-again (Stalled Done) rest = refl
-outcome-again (Stalled Full) rest = refl
-outcome-again (Stalled Fence) rest = refl
-outcome-again (Stalled Lock) rest = refl
-outcome-again (Stalled Empty) rest = refl
-outcome-again (Stalled Bus) rest = refl
+outcome-again o rest = refl
 
 -- ---- the buffer
 
@@ -43,15 +36,8 @@ outcome-again (Stalled Bus) rest = refl
 abbrev StoreFits : Litmus → Entry → Type 0
 StoreFits t e = (e.loc.0 < length t.locations) × (e.value < 2 ^ 32)
 
-both : {A : Type 0} (P Q : A → Type 0) (xs : List A) → All P xs → All Q xs → All (λ x. P x × Q x) xs
-both P Q [] p q = All-nil (λ x. P x × Q x)
-both P Q (x ∷ xs) p q = All-cons (λ x. P x × Q x) x xs (All-head P x xs p, All-head Q x xs q) (both P Q xs (All-tail P x xs p) (All-tail Q x xs q))
-
 store-flat : (name value more rest : List ℕ) → ((name ++ (codes "=" ++ value)) ++ more) ++ rest ≡ name ++ (codes "=" ++ (value ++ (more ++ rest)))
 store-flat name value more rest = simp append_assoc
-
-later-flat : (store more rest : List ℕ) → (codes " " ++ (store ++ more)) ++ rest ≡ codes " " ++ ((store ++ more) ++ rest)
-later-flat store more rest = refl
 
 later-end : (t : Litmus) (es : List Entry) (rest : List ℕ) → Ends (later_stores t es ++ 93 ∷ rest)
 later-end t [] rest = refl
@@ -204,10 +190,10 @@ module _ (t : Litmus) (words : ℕ) where
 
   stores-fit : (b : Option (List Entry)) → IfSome b (All (IsAt t)) → IfSome b (All HasWord) → BufferFits t b
   stores-fit None at word = tt
-  stores-fit (Some stores) at word = both (IsAt t) HasWord stores at word
+  stores-fit (Some stores) at word = both-fit (IsAt t) HasWord stores at word
 
   pub changes-fit : (s : ShownStep) → TraceStepFits t words s → All (ChangeFits t words) s.changes
-  changes-fit s p = both (λ (c : StateChange). c.core.0 < 256) (λ (c : StateChange). IsLine t words c.line) s.changes p.changes p.known.changes
+  changes-fit s p = both-fit (λ (c : StateChange). c.core.0 < 256) (λ (c : StateChange). IsLine t words c.line) s.changes p.changes p.known.changes
 
   step-cut : (number : ℕ) (a b : ShownStep) (rest other : List ℕ) → IsTest t → TraceStepFits t words a → TraceStepFits t words b
       → trace_step_line t words number a ++ rest ≡ trace_step_line t words number b ++ other → (told_by_line a ≡ told_by_line b) × (rest ≡ other)

@@ -1,15 +1,15 @@
 -- The object of a step tells the step: each member is read as the part of a line that has the same words.
-use Rattle.printed_laws.proofs.Vocabulary.{◌≡◌, ◌∙◌, ℕ, ◌+◌, ◌<◌, ◌≤◌, ◌==◌, if◌then◌else◌, List, [], ◌∷◌, ◌++◌, map, get_or, Option, Some, None, IfSome, refl, sym, ap, arith, codes, option_map, max_depth, items_depth, HasNumbers, ItemsHaveNumbers, Data, string, items_of, outline, items_outline, Litmus, IsTest, Stall, Done, Full, Empty, Committed, Buffered, Moved, Asked, Stalled, Entry, Core, printed_choice, printed_entry, AccessKind, stall_name, line_name, access_name, printed_move, printed_request, printed_core, printed_change, entries_text, moved_text, access_text, request_text, flush_text, write_back_text, changes_text, LineRequest, StateChange, text_or_null, outcome_word, stall_in, step_json, told_by_object, TraceStepFits, SourceFits, ObjectsTellTheirSteps}
+use Rattle.printed_laws.proofs.Vocabulary.{◌≡◌, ℕ, List, [], ◌∷◌, ◌++◌, get_or, refl, sym, ap, ◌∙◌, suc, ◌≤◌, Option, arith, Some, None, ◌==◌, map, if◌then◌else◌, IfSome, Data, string, outline, codes, Litmus, IsTest, IsReadable, Entry, printed_entry, printed_choice, Core, AccessKind, access_name, line_name, entries_text, moved_text, access_text, request_text, flush_text, write_back_text, changes_text, stall_name, printed_move, printed_request, printed_core, printed_change, LineRequest, StateChange, option_map, Stall, Done, Committed, Buffered, Moved, Asked, Stalled, TraceStepFits, told_by_object, SourceFits, ObjectsTellTheirSteps, text_or_null, outcome_word, stall_in, step_json}
 use Rattle.json.specs.Json as json
-use Rattle.json.specs.Tree.{depth as depth_of}
-use Rattle.tso_model.specs.declared.choice.Stall.TheVariants.{Fence, Lock, Bus}
 use Rattle.tso_model.specs.declared.choice.Outcome.{Outcome}
 use Rattle.trace_report.specs.Shown.{ShownStep}
 use Rattle.trace_report.specs.declared.step.Moved as move
 use Rattle.trace_json.specs.Supplied.{supplier_text}
 use Rattle.trace_json.specs.declared.supplied.Source.{Source}
 use Rattle.trace_json.specs.declared.supplied.Source.TheVariants.{Buffer, Cache, Other, Bus as OnBus, Memory}
-use Rattle.printed_laws.proofs.JsonTexts.{value-told, items_in, text_in, truth_in, value_at, text_at}
+use Rattle.printed_laws.proofs.Cutting.{unlike}
+use Rattle.printed_laws.proofs.JsonTexts.{items_in, truth_in, value_at, text_at, texts_of, texts-there, words-there}
+use Rattle.printed_laws.proofs.JsonReading.{ReadsBack, back-at, each-back, strings-back, text-back, text-told}
 use Rattle.printed_laws.proofs.TraceWords.{choice-cut}
 use Rattle.printed_laws.proofs.TraceParts.{Follows, entries-cut, moved-cut, access-cut, request-cut, flush-cut, write-back-cut, changes-cut}
 use Rattle.printed_laws.proofs.TraceLines.{core-small, changes-fit, stall_by}
@@ -27,19 +27,6 @@ text-there (Some text) = refl
 
 pub option-told : (a b : Option (List ℕ)) → outline (text_or_null a) ≡ outline (text_or_null b) → a ≡ b
 option-told a b e = sym (text-there a) ∙ (ap text_of e ∙ text-there b)
-
--- the texts of a list
-abbrev pub texts_of : json.Items → List (List ℕ)
-texts_of json.no_items = []
-texts_of (json.item j js) = text_in j ∷ texts_of js
-
-texts-there : {A : Type 0} (print : A → List ℕ) (xs : List A) → texts_of (items_outline (items_of (map (λ x. string (print x)) xs))) ≡ map print xs
-texts-there print [] = refl
-texts-there print (x ∷ xs) = ap (λ (l : List (List ℕ)). print x ∷ l) (texts-there print xs)
-
-pub words-there : (xs : List (List ℕ)) → texts_of (items_outline (items_of (map string xs))) ≡ xs
-words-there [] = refl
-words-there (x ∷ xs) = ap (λ (l : List (List ℕ)). x ∷ l) (words-there xs)
 
 -- ---- each member as a part of a line
 
@@ -108,11 +95,7 @@ read_stall text = stall_by (get_or text 0 0) (get_or text 1 0)
 
 stall-again : (why : Stall) → read_stall (stall_name why) ≡ why
 stall-again Done = refl
-stall-again Full = refl
-stall-again Fence = refl
-stall-again Lock = refl
-stall-again Empty = refl
-stall-again Bus = refl
+stall-again why = refl
 
 -- of its word and the word of its stall
 abbrev outcome_from : List ℕ → Option (List ℕ) → Outcome
@@ -122,11 +105,8 @@ outcome_from word None =
     if first == 99 then Committed else if first == 98 then Buffered else if first == 109 then Moved else Asked
 
 outcome-there : (o : Outcome) → outcome_from (outcome_word o) (option_map stall_name (stall_in o)) ≡ o
-outcome-there Committed = refl
-outcome-there Buffered = refl
-outcome-there Moved = refl
-outcome-there Asked = refl
 outcome-there (Stalled why) = ap Stalled (stall-again why)
+outcome-there o = refl
 
 outcome-told : (a b : Outcome) → outcome_word a ≡ outcome_word b → option_map stall_name (stall_in a) ≡ option_map stall_name (stall_in b) → a ≡ b
 outcome-told a b word stall = sym (outcome-there a) ∙ ((λ i. outcome_from (word i) (stall i)) ∙ outcome-there b)
@@ -184,83 +164,20 @@ step-told t words a b u v after other test p q same =
 
 -- ---- its text is read back
 
-pub text-numbers : (o : Option (List ℕ)) → HasNumbers (outline (text_or_null o))
-text-numbers None = tt
-text-numbers (Some text) = tt
-
-pub text-depth : (o : Option (List ℕ)) → depth_of (outline (text_or_null o)) ≤ 0
-text-depth None = omega arith
-text-depth (Some text) = omega arith
-
-list-numbers : {A : Type 0} (print : A → List ℕ) (xs : List A) → ItemsHaveNumbers (items_outline (items_of (map (λ x. string (print x)) xs)))
-list-numbers print [] = tt
-list-numbers print (x ∷ xs) = (tt, list-numbers print xs)
-
-list-depth : {A : Type 0} (print : A → List ℕ) (xs : List A) → items_depth (items_outline (items_of (map (λ x. string (print x)) xs))) ≤ 0
-list-depth print [] = omega arith
-list-depth print (x ∷ xs) = omega (arith, list-depth print xs)
-
-pub words-numbers : (xs : List (List ℕ)) → ItemsHaveNumbers (items_outline (items_of (map string xs)))
-words-numbers [] = tt
-words-numbers (x ∷ xs) = (tt, words-numbers xs)
-
-pub words-depth : (xs : List (List ℕ)) → items_depth (items_outline (items_of (map string xs))) ≤ 0
-words-depth [] = omega arith
-words-depth (x ∷ xs) = omega (arith, words-depth xs)
-
-pub step-numbers : (t : Litmus) (words : ℕ) (s : ShownStep) (u : Option Source) (after : Data) → HasNumbers (outline after) → HasNumbers (outline (step_json t words s u after))
-step-numbers t words s u after numbers = (
-  text-numbers (option_map access_name s.access),
-  (
-    numbers,
-    (
-      tt,
-      (
-        list-numbers (printed_entry t) s.entries,
-        (
-          text-numbers (option_map printed_core s.flushed),
-          (
-            tt,
-            (
-              text-numbers (option_map printed_move s.moved),
-              (
-                tt,
-                (
-                  text-numbers (option_map stall_name (stall_in s.outcome)),
-                  (
-                    words-numbers (map (printed_change t words) s.changes),
-                    (
-                      text-numbers (option_map supplier_text u),
-                      (text-numbers (option_map (printed_request t words) s.request), (text-numbers (option_map (line_name t words) s.wrote_back), tt)),
-                    ),
-                  ),
-                ),
-              ),
-            ),
-          ),
-        ),
-      ),
-    ),
-  ),
-)
-
-pub step-depth : (t : Litmus) (words : ℕ) (s : ShownStep) (u : Option Source) (after : Data) (levels : ℕ) → 0 < levels → depth_of (outline after) ≤ levels
-    → depth_of (outline (step_json t words s u after)) ≤ levels + 1
-step-depth t words s u after levels some deep =
-    omega (
-      arith,
-      some,
-      deep,
-      text-depth (option_map access_name s.access),
-      list-depth (printed_entry t) s.entries,
-      text-depth (option_map printed_core s.flushed),
-      text-depth (option_map printed_move s.moved),
-      text-depth (option_map stall_name (stall_in s.outcome)),
-      words-depth (map (printed_change t words) s.changes),
-      text-depth (option_map supplier_text u),
-      text-depth (option_map (printed_request t words) s.request),
-      text-depth (option_map (line_name t words) s.wrote_back),
-    )
+pub step-back : (levels : ℕ) (t : Litmus) (words : ℕ) (s : ShownStep) (u : Option Source) (after : Data) → ReadsBack (suc levels) (outline after)
+    → ReadsBack (suc (suc levels)) (outline (step_json t words s u after))
+step-back levels t words s u after deep =
+    let text = text-back (suc levels) in
+    let entries = each-back levels (λ e. string (printed_entry t e)) s.entries (λ e. tt) in
+    let changes = strings-back levels (map (printed_change t words) s.changes) in
+    let request = text (option_map (printed_request t words) s.request) in
+    let wrote_back = text (option_map (line_name t words) s.wrote_back) in
+    let access = text (option_map access_name s.access) in
+    let flushed = text (option_map printed_core s.flushed) in
+    let moved = text (option_map printed_move s.moved) in
+    let stall = text (option_map stall_name (stall_in s.outcome)) in
+    let supplied = text (option_map supplier_text u) in
+    (access, (deep, (tt, (entries, (flushed, (tt, (moved, (tt, (stall, (changes, (supplied, (request, (wrote_back, tt)))))))))))))
 
 -- ---- where a word is found
 
@@ -274,9 +191,6 @@ plain-told : (a b : Source) → read_source (supplier_text a) ≡ a → read_sou
 plain-told a b again again' same = sym again ∙ (ap read_source same ∙ again')
 
 -- a core's name begins with P, and no other with it
-first-told : (a b : Source) → supplier_text a ≡ supplier_text b → get_or (supplier_text a) 0 0 ≡ get_or (supplier_text b) 0 0
-first-told a b same = ap (λ (l : List ℕ). get_or l 0 0) same
-
 source-told : (a b : Source) → SourceFits a → SourceFits b → supplier_text a ≡ supplier_text b → a ≡ b
 source-told (Other i) (Other j) p q same =
     let cut = flush-cut (Some i) (Some j) [] [] p q (nothing-follows 7 (omega arith)) (nothing-follows 7 (omega arith))
@@ -286,30 +200,9 @@ source-told (Other i) (Other j) p q same =
     by_core : Option Core → Source
     by_core None = Memory
     by_core (Some core) = Other core
-source-told (Other i) Buffer p q same = let e = first-told (Other i) Buffer same in absurd (omega (arith, e))
-source-told (Other i) Cache p q same = let e = first-told (Other i) Cache same in absurd (omega (arith, e))
-source-told (Other i) OnBus p q same = let e = first-told (Other i) OnBus same in absurd (omega (arith, e))
-source-told (Other i) Memory p q same = let e = first-told (Other i) Memory same in absurd (omega (arith, e))
-source-told Buffer (Other j) p q same = let e = first-told Buffer (Other j) same in absurd (omega (arith, e))
-source-told Cache (Other j) p q same = let e = first-told Cache (Other j) same in absurd (omega (arith, e))
-source-told OnBus (Other j) p q same = let e = first-told OnBus (Other j) same in absurd (omega (arith, e))
-source-told Memory (Other j) p q same = let e = first-told Memory (Other j) same in absurd (omega (arith, e))
-source-told Buffer Buffer p q same = refl
-source-told Buffer Cache p q same = plain-told Buffer Cache refl refl same
-source-told Buffer OnBus p q same = plain-told Buffer OnBus refl refl same
-source-told Buffer Memory p q same = plain-told Buffer Memory refl refl same
-source-told Cache Buffer p q same = plain-told Cache Buffer refl refl same
-source-told Cache Cache p q same = refl
-source-told Cache OnBus p q same = plain-told Cache OnBus refl refl same
-source-told Cache Memory p q same = plain-told Cache Memory refl refl same
-source-told OnBus Buffer p q same = plain-told OnBus Buffer refl refl same
-source-told OnBus Cache p q same = plain-told OnBus Cache refl refl same
-source-told OnBus OnBus p q same = refl
-source-told OnBus Memory p q same = plain-told OnBus Memory refl refl same
-source-told Memory Buffer p q same = plain-told Memory Buffer refl refl same
-source-told Memory Cache p q same = plain-told Memory Cache refl refl same
-source-told Memory OnBus p q same = plain-told Memory OnBus refl refl same
-source-told Memory Memory p q same = refl
+source-told (Other i) b p q same = unlike 0 (supplier_text (Other i)) (supplier_text b) refl same
+source-told a (Other j) p q same = unlike 0 (supplier_text a) (supplier_text (Other j)) refl same
+source-told a b p q same = plain-told a b refl refl same
 
 supplied-told : (u v : Option Source) → IfSome u SourceFits → IfSome v SourceFits → option_map supplier_text u ≡ option_map supplier_text v → u ≡ v
 supplied-told None None p q same = refl
@@ -321,12 +214,14 @@ supplied-told (Some a) (Some b) p q same = ap Some (source-told a b p q (ap text
     text_or_nothing None = []
     text_or_nothing (Some text) = text
 
+-- of a value that stands in the object
+inner-back : (d : Data) → IsReadable 100 d → ReadsBack 127 (outline d)
+inner-back d readable = let deep = readable.depth in back-at 127 (outline d) readable.numbers (omega (arith, deep))
+
 pub objects-tell : ObjectsTellTheirSteps
 objects-tell t words a b u v after other test p q f g readable readable' e =
-    let deep = step-depth t words a u after 100 (omega arith) readable.depth in
-    let deep' = step-depth t words b v other 100 (omega arith) readable'.depth in
-    let x = step_json t words a u after in
-    let y = step_json t words b v other in
-    let same = value-told x y (step-numbers t words a u after readable.numbers) (step-numbers t words b v other readable'.numbers) (omega (arith, deep)) (omega (arith, deep')) e in
+    let x = step-back 126 t words a u after (inner-back after readable) in
+    let y = step-back 126 t words b v other (inner-back other readable') in
+    let same = text-told (step_json t words a u after) (step_json t words b v other) x y e in
     let told = step-told t words a b u v after other test p q same in
     (told.0, (supplied-told u v f g (option-told (option_map supplier_text u) (option_map supplier_text v) (ap (value_at 10) same)), told.1))

@@ -1,6 +1,6 @@
 -- The parts of a step's line, each after a space: what each begins a text with is told by the text. A part may be missing; which one
 -- stands there is told by its first letters, or behind a core's number by the byte after it.
-use Rattle.printed_laws.proofs.Vocabulary.{◌≡◌, ◌∙◌, ℕ, ◌+◌, ◌*◌, ◌/◌, ◌<◌, ◌≤◌, ◌==◌, Bool, true, false, ◌||◌, if◌then◌else◌, List, [], ◌∷◌, ◌++◌, length, take, drop, get_or, All, Option, Some, None, IfSome, refl, sym, ap, arith, codes, decimal, list_all, is_ascii_digit, and_parts, append_assoc, append_cancel_left, drop_more, get_or-take, length-take, All-head, All-tail, Litmus, IsTest, continues_name, IsWord, name_of, Eax, Ebx, Ecx, Edx, Esi, Edi, Reg, Core, Entry, letters_of, printed_access, printed_entry, IsEntryFor, IsOrderFor, IsD, ImD, SmD, AccessKind, IsLine, access_name, request_name, state_name, after_plus, joined_by_plus, line_name, entries_text, moved_text, forwarded_text, access_text, request_text, flush_text, write_back_text, changes_text, LineRequest, LineState, StateChange}
+use Rattle.printed_laws.proofs.Vocabulary.{◌≡◌, ℕ, ◌<◌, Bool, true, false, List, [], ◌∷◌, ◌++◌, get_or, drop, refl, sym, ap, ◌∙◌, ◌≤◌, Option, arith, ◌+◌, length, All, Some, None, ◌==◌, ◌||◌, ◌/◌, if◌then◌else◌, ◌*◌, take, IfSome, decimal, list_all, is_ascii_digit, and_parts, append_cancel_left, append_assoc, drop_more, get_or-take, length-take, codes, Litmus, IsTest, continues_name, All-head, All-tail, IsWord, name_of, Reg, Entry, printed_entry, letters_of, printed_access, IsOrderFor, IsEntryFor, Eax, Core, IsD, ImD, SmD, AccessKind, IsLine, access_name, request_name, state_name, after_plus, joined_by_plus, line_name, entries_text, moved_text, forwarded_text, access_text, request_text, flush_text, write_back_text, changes_text, LineRequest, LineState, StateChange}
 use Rattle.std.proofs.Math.Nat.{mul-div_cancel}
 use Rattle.protocol_tables.specs.declared.requests.Request.{Request}
 use Rattle.protocol_tables.specs.declared.requests.Request.TheVariants.{GetS, GetM}
@@ -109,11 +109,7 @@ moved-flat name value rest = simp append_assoc
 
 moved-rank : (reg : Reg) (value : ℕ) (rest : List ℕ) → rank (moved_text (Some (record { reg = reg; value = value })) ++ rest) ≡ 2
 moved-rank Eax value rest = refl
-moved-rank Ebx value rest = refl
-moved-rank Ecx value rest = refl
-moved-rank Edx value rest = refl
-moved-rank Esi value rest = refl
-moved-rank Edi value rest = refl
+moved-rank reg value rest = refl
 
 pub moved-follows : (m : Option Moved) (rest : List ℕ) → Follows 3 rest → Follows 2 (moved_text m ++ rest)
 moved-follows None rest f = earlier 2 rest f
@@ -144,8 +140,7 @@ forwarded-cut true true rest other f f' e = (refl, append_cancel_left (codes " f
 
 access-rank : (kind : AccessKind) (rest : List ℕ) → rank (access_text (Some kind) ++ rest) ≡ 4
 access-rank Hit rest = refl
-access-rank Upgrade rest = refl
-access-rank Miss rest = refl
+access-rank kind rest = refl
 
 pub access-follows : (a : Option AccessKind) (rest : List ℕ) → Follows 5 rest → Follows 4 (access_text a ++ rest)
 access-follows None rest f = earlier 4 rest f
@@ -156,8 +151,7 @@ read_access text = if get_or text 0 0 == 104 then Hit else if get_or text 0 0 ==
 
 access-again : (kind : AccessKind) (rest : List ℕ) → read_access (access_name kind ++ rest) ≡ kind
 access-again Hit rest = refl
-access-again Upgrade rest = refl
-access-again Miss rest = refl
+access-again kind rest = refl
 
 pub access-cut : (a b : Option AccessKind) (rest other : List ℕ) → Follows 5 rest → Follows 5 other → access_text a ++ rest ≡ access_text b ++ other → (a ≡ b) × (rest ≡ other)
 access-cut None None rest other f f' e = (refl, e)
@@ -271,23 +265,13 @@ read_state text =
 
 state-plain : (s : LineState) → list_all continues_name (state_name s) ≡ true
 state-plain (state.Stable tag.I) = refl
-state-plain (state.Stable tag.S) = refl
-state-plain (state.Stable tag.E) = refl
-state-plain (state.Stable tag.O) = refl
-state-plain (state.Stable tag.M) = refl
 state-plain (state.Transient IsD) = refl
-state-plain (state.Transient ImD) = refl
-state-plain (state.Transient SmD) = refl
+state-plain s = refl
 
 pub state-again : (s : LineState) → read_state (state_name s) ≡ s
 state-again (state.Stable tag.I) = refl
-state-again (state.Stable tag.S) = refl
-state-again (state.Stable tag.E) = refl
-state-again (state.Stable tag.O) = refl
-state-again (state.Stable tag.M) = refl
 state-again (state.Transient IsD) = refl
-state-again (state.Transient ImD) = refl
-state-again (state.Transient SmD) = refl
+state-again s = refl
 
 change-flat : (core line before after more rest : List ℕ)
     → ((codes " " ++ (codes "P" ++ (core ++ (codes "." ++ (line ++ (codes " " ++ (before ++ (codes ">" ++ after)))))))) ++ more) ++ rest

@@ -1,5 +1,5 @@
 -- The words of a trace: what each begins a text with is told by the text.
-use Rattle.printed_laws.proofs.Vocabulary.{◌≡◌, ◌∙◌, ℕ, ◌^◌, ◌<◌, ◌==◌, true, false, if◌then◌else◌, List, [], ◌∷◌, ◌++◌, length, get_or, Option, unwrap_or, refl, sym, ap, subst, arith, codes, decimal, list_all, is_ascii_digit, nat_tests, append_assoc, append_cancel_left, Litmus, IsTest, continues_name, name_of, Reg, Eax, Ebx, Ecx, Edx, Esi, Edi, Core, Loc, Choice, Drain, Entry, Kind, R, W, F, LR, LW, printed_choice, letters_of, printed_access, printed_entry, HasAccess, IsEntryFor, all_of_location, location_again}
+use Rattle.printed_laws.proofs.Vocabulary.{◌≡◌, ℕ, ◌^◌, ◌<◌, true, false, List, [], ◌∷◌, ◌++◌, get_or, refl, sym, ap, subst, ◌∙◌, Option, unwrap_or, arith, length, ◌==◌, if◌then◌else◌, decimal, list_all, is_ascii_digit, append_cancel_left, append_assoc, codes, Litmus, IsTest, continues_name, name_of, Reg, Entry, printed_entry, letters_of, printed_access, HasAccess, IsEntryFor, Eax, Ebx, Ecx, Edx, Esi, Edi, nat_tests, Choice, Drain, printed_choice, Core, Loc, Kind, R, W, F, LR, LW, all_of_location, location_again}
 use Rattle.tso_model.specs.declared.choice.Choice.TheVariants.{Step}
 use Rattle.order_builder.specs.inner.Reading.{location_named}
 use Rattle.printed_laws.proofs.Cutting.{BeginsWithout, Stops, run-cut, number-cut, next-cut, same-cut}
@@ -43,11 +43,7 @@ read_register text = register_by (get_or text 1 0) (get_or text 2 0)
 
 register-again : (reg : Reg) (after : List ℕ) → read_register (name_of reg ++ after) ≡ reg
 register-again Eax after = refl
-register-again Ebx after = refl
-register-again Ecx after = refl
-register-again Edx after = refl
-register-again Esi after = refl
-register-again Edi after = refl
+register-again reg after = refl
 
 pub register-cut : (a b : Reg) (rest other : List ℕ) → name_of a ++ rest ≡ name_of b ++ other → (a ≡ b) × (rest ≡ other)
 register-cut a b rest other e = read-cut name_of read_register a b rest other register-again e
@@ -101,23 +97,17 @@ location-cut t i j rest other test known known' ends ends' e =
 
 -- ---- entries
 
-abbrev read_kind : List ℕ → Kind
+abbrev pub read_kind : List ℕ → Kind
 read_kind text =
     if get_or text 0 0 == 82 then R else if get_or text 0 0 == 87 then W else if get_or text 0 0 == 70 then F else if get_or text 1 0 == 82 then LR else LW
 
-kind-plain : (kind : Kind) → list_all continues_name (letters_of kind) ≡ true
+pub kind-plain : (kind : Kind) → list_all continues_name (letters_of kind) ≡ true
 kind-plain R = refl
-kind-plain W = refl
-kind-plain F = refl
-kind-plain LR = refl
-kind-plain LW = refl
+kind-plain kind = refl
 
-kind-again : (kind : Kind) → read_kind (letters_of kind) ≡ kind
+pub kind-again : (kind : Kind) → read_kind (letters_of kind) ≡ kind
 kind-again R = refl
-kind-again W = refl
-kind-again F = refl
-kind-again LR = refl
-kind-again LW = refl
+kind-again kind = refl
 
 -- ` x=1`, and the same location and value
 named-flat : (name value rest : List ℕ) → (codes " " ++ (name ++ (codes "=" ++ value))) ++ rest ≡ codes " " ++ (name ++ (codes "=" ++ (value ++ rest)))
@@ -133,10 +123,7 @@ value-cut t i j v w rest other test known known' small small' ends ends' e =
 -- what follows a kind is the end of a word
 access-ends : (t : Litmus) (kind : Kind) (loc value : ℕ) (rest : List ℕ) → Ends rest → Ends (printed_access t kind loc value ++ rest)
 access-ends t F loc value rest ends = ends
-access-ends t R loc value rest ends = refl
-access-ends t W loc value rest ends = refl
-access-ends t LR loc value rest ends = refl
-access-ends t LW loc value rest ends = refl
+access-ends t kind loc value rest ends = refl
 
 by-name : (t : Litmus) (i j v w : ℕ) (rest other : List ℕ) → IsTest t → (i < length t.locations) × (v < 2 ^ 32) → (j < length t.locations) × (w < 2 ^ 32) → Ends rest → Ends other
     → (codes " " ++ (get_or t.locations i [] ++ (codes "=" ++ decimal v))) ++ rest ≡ (codes " " ++ (get_or t.locations j [] ++ (codes "=" ++ decimal w))) ++ other → (i ≡ j) × (v ≡ w) × (rest ≡ other)
@@ -147,10 +134,7 @@ by-name t i j v w rest other test p q ends ends' e =
 access-cut : (t : Litmus) (kind : Kind) (i j v w : ℕ) (rest other : List ℕ) → IsTest t → HasAccess t kind i v → HasAccess t kind j w → Ends rest → Ends other
     → printed_access t kind i v ++ rest ≡ printed_access t kind j w ++ other → (i ≡ j) × (v ≡ w) × (rest ≡ other)
 access-cut t F i j v w rest other test p q ends ends' e = (p.0 ∙ sym q.0, p.1 ∙ sym q.1, e)
-access-cut t R i j v w rest other test p q ends ends' e = by-name t i j v w rest other test p q ends ends' e
-access-cut t W i j v w rest other test p q ends ends' e = by-name t i j v w rest other test p q ends ends' e
-access-cut t LR i j v w rest other test p q ends ends' e = by-name t i j v w rest other test p q ends ends' e
-access-cut t LW i j v w rest other test p q ends ends' e = by-name t i j v w rest other test p q ends ends' e
+access-cut t kind i j v w rest other test p q ends ends' e = by-name t i j v w rest other test p q ends ends' e
 
 pub entry-flat : (core place kind access rest : List ℕ)
     → (codes "P" ++ (core ++ (codes ":" ++ (place ++ (codes " " ++ (kind ++ access)))))) ++ rest

@@ -1,5 +1,5 @@
 -- `True` has the numbers of the states in which a claim is true, and no others.
-use Rattle.printed_laws.proofs.Vocabulary.{◌≡◌, ◌∙◌, ◌⊎◌, inl, inr, ◌<◌, ◌≤◌, ◌+◌, ◌↔◌, ℕ, zero, suc, Bool, true, false, cond, List, [], ◌∷◌, length, Contains, Some, refl, sym, ap, subst, arith, Litmus, IsTest, Claim, Condition, truth_of, names_shown, values_at, Outcome, shown_values, true_from, true_in, holds_in, TruthIsShown, Search, PrintsAllOutcomes, EndsInNumbers, NumbersOfTrueStates, TrueNamesTrueStates, HoldsTellsTrueStates}
+use Rattle.printed_laws.proofs.Vocabulary.{◌≡◌, ◌∙◌, inl, inr, ◌<◌, ◌≤◌, ◌+◌, ℕ, zero, suc, Bool, true, false, cond, List, [], ◌∷◌, length, Contains, Some, refl, sym, ap, subst, arith, Claim, truth_of, names_shown, values_at, Outcome, shown_values, true_from, true_in, holds_in, TruthIsShown, EndsInNumbers, TrueNamesTrueStates, HoldsTellsTrueStates}
 use Rattle.std.specs.List.{slice_get}
 use Rattle.std.proofs.lemmas.Option.{slice_get_within, get_or_from_slice_get}
 use Rattle.outcome_report.proofs.Members.{Member, to-member, member-place}

@@ -1,11 +1,11 @@
 -- The names that the proofs of this crate bring in from definitions and from crates below; each file takes its own from here.
-pub use Rattle.std.proofs.Common.{◌≡◌, ℕ, ◌^◌, ◌<◌, Bool, true, false, List, [], ◌∷◌, ◌++◌, get_or, drop, refl, sym, ap, subst, ◌∙◌, rules, zero, suc, ◌≤◌, Option, unwrap_or, arith, inl, inr, ◌+◌, length, slice_index, All, Some, None, is_some, ◌-◌, ◌==◌, cond, map, ◌≢◌, not, ◌||◌, ◌/◌, ◌%◌, lt-ltb, le-leb, ◌&&◌, slice_index_or, eq-eqb, Contains, eqb-true, ◌⊎◌, ◌↔◌, if◌then◌else◌, ◌*◌, take, IfSome, nat_lt, slice_get, slice_set, append-nil}
+pub use Rattle.std.proofs.Common.{◌≡◌, ℕ, ◌^◌, ◌<◌, Bool, true, false, List, [], ◌∷◌, ◌++◌, get_or, drop, refl, sym, ap, subst, ◌∙◌, zero, suc, ◌≤◌, Option, unwrap_or, arith, inl, inr, ◌+◌, length, slice_index, All, Some, None, is_some, ◌-◌, ◌==◌, cond, map, ◌≢◌, not, ◌||◌, ◌/◌, ◌%◌, lt-ltb, le-leb, ◌&&◌, slice_index_or, eq-eqb, Contains, eqb-true, ◌⊎◌, if◌then◌else◌, ◌*◌, take, IfSome, nat_lt, slice_get, slice_set, append-nil}
 pub use Rattle.std.specs.Fmt.{decimal}
 pub use Rattle.std.specs.List.{list_all, AllByRecursion, flat_map, range_with_len, list_any}
 pub use Rattle.std.specs.Char.{is_ascii_digit}
 pub use Rattle.std.proofs.lemmas.Bool.{and_parts, and_from, or_cases, or_right}
-pub use Rattle.std.proofs.lemmas.Fmt.{decimal_injective, digits_decimal, decimal_nonempty}
-pub use Rattle.std.proofs.lemmas.List.{append_cancel_left, append_cancel_right, append_assoc, ext_get_or, length-append, length-map, map-append, drop_more, get_or-take, length-take, length-replicate}
+pub use Rattle.std.proofs.lemmas.Fmt.{decimal_injective, decimal_nonempty}
+pub use Rattle.std.proofs.lemmas.List.{append_cancel_left, append_cancel_right, append_assoc, length-append, length-map, map-append, drop_more, get_or-take, length-take, length-replicate}
 pub use Rattle.json.specs.Json.{document, max_depth}
 pub use Rattle.json.specs.Tree.{depth, HasNumbers, items_depth, members_depth, ItemsHaveNumbers, MembersHaveNumbers, json_tokens}
 pub use Rattle.serde_json.specs.Data.{Data, string, Members, no_members, member, put, object, array}
@@ -68,7 +68,7 @@ pub use Rattle.outcome_report.specs.Outcomes.{Outcome, shown_values, outcomes_li
 pub use Rattle.outcome_report.proofs.Alike.{alike}
 pub use Rattle.printed_laws.specs.Outcomes.{OutcomesTellTheirStates, OutcomesTellTheirTests, OutcomesFit, PrintedStatesFit}
 pub use Rattle.outcome_report.specs.Verdict.{verdict_word, is_well, outcomes_verdict_value, verdict_line, is_met, is_as_claimed}
-pub use Rattle.printed_laws.specs.Verdicts.{PrintsVerdict, EndsInNumbers, IsAsClaimed, IsNotAsClaimed, VerdictMeans, VerdictsAgree, StatusTells, NumbersOfTrueStates, TrueNamesTrueStates, HoldsTellsTrueStates}
+pub use Rattle.printed_laws.specs.Verdicts.{PrintsVerdict, EndsInNumbers, IsAsClaimed, IsNotAsClaimed, VerdictMeans, VerdictsAgree, StatusTells, TrueNamesTrueStates, HoldsTellsTrueStates}
 pub use Rattle.outcome_report.specs.Printed.{outcomes_in, unfinished_search_in}
 pub use Rattle.printed_laws.specs.Observed.{EndsInWord, HasWordInObject, PrintsWord, IsSoEverywhere, IsSoSomewhere, IsSoNowhere, IsAlwaysSo, IsSometimesSo, WordMeans}
 pub use Rattle.relational_model.specs.Candidates.{Candidate, events_from}
@@ -76,7 +76,7 @@ pub use Rattle.refutation_laws.specs.Refutations.{Node, asked_claim, ReadsFrom, 
 pub use Rattle.refutation_laws.specs.declared.model.Model.{Model}
 pub use Rattle.reason_report.specs.Steps.{ReasonStep, Case, So, Leaf, Endcases, steps_of, leaves_in, Answer, From, Before, Closing, Uniproc, Cycle, Amid, False, event_at, edges_back, edges_of, is_leaf, leaf_steps, replies, with_reply, Part, Branch, branches_with, is_closed, write_of_answer, answer_at, are_alike, groups, known_of_case, closed_case, case_steps, so_steps, rest_steps, question_steps, grown, is_false_source, is_source, is_false, answer_of_case, answer_of_branch}
 pub use Rattle.reason_report.specs.ReasonText.{model_name, truth_asked, asked_line, never_line, reason_step_line, blanks, answer_text, closing_text, from_line, reads_of, coherence_lines, values_left, location_text, entry_text, event_text, relation_text, hop_text, cycle_text, source_text, or_text, sources_text, bar_text, words_text, place_text}
-pub use Rattle.reason_report.specs.ReasonJson.{asked_value, step_value, from_value, coherence_members, edge_value, answer_value, place_members, never_value_of}
+pub use Rattle.reason_report.specs.ReasonJson.{asked_value, step_value, edge_value, answer_value, place_members, never_value_of}
 pub use Rattle.tso_model.specs.FinalState.{final_words, final_registers}
 pub use Rattle.tso_model.specs.FlatMachine.{registers_in, chosen, CoreState, State, Effect, is_none_pending, stalled, advanced_with, stored, load_value, effect_by, idle, program_of, core_of, effect_of, memory_after, applied, started, start}
 pub use Rattle.outcome_laws.specs.Outcomes.{IsEnd, EndsAreWhatTsoAllows}

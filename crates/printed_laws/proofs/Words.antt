@@ -1,19 +1,20 @@
 -- The word that is printed of a condition is that of its counts.
-use Rattle.printed_laws.proofs.Vocabulary.{◌≡◌, ◌∙◌, ℕ, ◌==◌, Bool, true, false, not, cond, List, [], ◌∷◌, ◌++◌, length, get_or, Some, refl, sym, ap, subst, arith, codes, decimal, list_all, append_assoc, append_cancel_left, append_cancel_right, escape, escape_byte, Data, string, object, no_members, member, compact_text, Litmus, Condition, line, test_line, count, frequency, Named, is_well, verdict_word, outcomes_verdict_value, Outcome, outcomes_line, outcome_lines, condition_lines, unfinished_outcomes_line, held_in, failed_in, true_in, is_met_in, printed_numbers, states_value, observed_value, observation_value, unfinished_outcomes_json, outcomes_in, unfinished_search_in, EndsInWord, HasWordInObject, PrintsWord, is_ascii_digit}
+use Rattle.printed_laws.proofs.Vocabulary.{◌≡◌, ℕ, Bool, true, false, List, [], ◌∷◌, ◌++◌, get_or, refl, sym, ap, subst, ◌∙◌, arith, length, Some, ◌==◌, cond, decimal, list_all, is_ascii_digit, append_cancel_left, append_cancel_right, append_assoc, Data, string, no_members, member, object, compact_text, codes, line, test_line, count, Litmus, Condition, Named, frequency, escape, escape_byte, states_value, observed_value, observation_value, unfinished_outcomes_json, Outcome, outcomes_line, outcome_lines, condition_lines, unfinished_outcomes_line, held_in, failed_in, true_in, is_met_in, printed_numbers, verdict_word, is_well, outcomes_verdict_value, outcomes_in, unfinished_search_in, EndsInWord, HasWordInObject, PrintsWord}
 use Rattle.printed_laws.proofs.Cutting.{Stops, run-cut}
-use Rattle.printed_laws.proofs.Digits.{all-digits, is_no_space, number-no-space, both-no-space, last-cut}
-use Rattle.printed_laws.proofs.OutcomeLines.{is_in_line, digits-in-line, both-in-line}
-use Rattle.printed_laws.proofs.Endings.{feed-there, last-line}
+use Rattle.printed_laws.proofs.Digits.{all-digits, is_other, number-no-space, number-in-line, both-other, there, last-cut}
 
 -- ---- lines
 
-frequency-no-space : (held failed : ℕ) → list_all is_no_space (frequency held failed) ≡ true
-frequency-no-space held failed = by (held == 0) (failed == 0)
+frequency-is : (p : List ℕ → Bool) → p (codes "Never") ≡ true → p (codes "Always") ≡ true → p (codes "Sometimes") ≡ true → (held failed : ℕ) → p (frequency held failed) ≡ true
+frequency-is p never always sometimes held failed = by (held == 0) (failed == 0)
   where
-    by : (never always : Bool) → list_all is_no_space (cond never (codes "Never") (cond always (codes "Always") (codes "Sometimes"))) ≡ true
-    by true always = refl
-    by false true = refl
-    by false false = refl
+    by : (none all : Bool) → p (cond none (codes "Never") (cond all (codes "Always") (codes "Sometimes"))) ≡ true
+    by true all = never
+    by false true = always
+    by false false = sometimes
+
+frequency-no-space : (held failed : ℕ) → list_all (is_other 32) (frequency held failed) ≡ true
+frequency-no-space = frequency-is (list_all (is_other 32)) refl refl refl
 
 -- the last words of a line: what stands before, the word, and two numbers
 grouped : (front word held failed : List ℕ) → front ++ (codes " " ++ (word ++ (codes " " ++ (held ++ (codes " " ++ line failed)))))
@@ -39,24 +40,24 @@ with-feed : (front word held failed : List ℕ) → (front ++ (codes " " ++ (wor
     ≡ front ++ (codes " " ++ (word ++ (codes " " ++ (held ++ (codes " " ++ line failed)))))
 with-feed front word held failed = simp append_assoc
 
-last-word : (front other word again : List ℕ) (h f k g : ℕ) → list_all is_no_space word ≡ true → list_all is_no_space again ≡ true
+last-word : (front other word again : List ℕ) (h f k g : ℕ) → list_all (is_other 32) word ≡ true → list_all (is_other 32) again ≡ true
     → front ++ (codes " " ++ (word ++ (codes " " ++ (decimal h ++ (codes " " ++ line (decimal f))))))
     ≡ other ++ (codes " " ++ (again ++ (codes " " ++ (decimal k ++ (codes " " ++ line (decimal g)))))) → word ≡ again
 last-word front other word again h f k g p q e =
     let flat = sym (grouped front word (decimal h) (decimal f)) ∙ (e ∙ grouped other again (decimal k) (decimal g)) in
-    let failed = last-cut _ _ _ _ (both-no-space (decimal f) (10 ∷ []) (number-no-space f) refl) (both-no-space (decimal g) (10 ∷ []) (number-no-space g) refl) flat in
-    let held = last-cut _ _ _ _ (number-no-space h) (number-no-space k) failed.0 in
-    (last-cut _ _ _ _ p q held.0).1
+    let failed = last-cut 32 _ _ _ _ (both-other 32 (decimal f) (10 ∷ []) (number-no-space f) refl) (both-other 32 (decimal g) (10 ∷ []) (number-no-space g) refl) flat in
+    let held = last-cut 32 _ _ _ _ (number-no-space h) (number-no-space k) failed.0 in
+    (last-cut 32 _ _ _ _ p q held.0).1
 
-numbers-in-line : (numbers : List ℕ) → list_all is_in_line (printed_numbers numbers) ≡ true
+numbers-in-line : (numbers : List ℕ) → list_all (is_other 10) (printed_numbers numbers) ≡ true
 numbers-in-line [] = refl
-numbers-in-line (n ∷ ns) = both-in-line (codes " " ++ decimal n) (printed_numbers ns) (digits-in-line (decimal n) (all-digits n)) (numbers-in-line ns)
+numbers-in-line (n ∷ ns) = both-other 10 (codes " " ++ decimal n) (printed_numbers ns) (number-in-line n) (numbers-in-line ns)
 
-verdict-in-line : (verdict : Bool) → list_all is_in_line (codes "Verdict " ++ verdict_word verdict) ≡ true
+verdict-in-line : (verdict : Bool) → list_all (is_other 10) (codes "Verdict " ++ verdict_word verdict) ≡ true
 verdict-in-line true = refl
 verdict-in-line false = refl
 
-in-lines : (t : Litmus) (names : List Named) (condition : Condition) (depth : ℕ) (outcomes : List Outcome) (word : List ℕ) → list_all is_no_space word ≡ true
+in-lines : (t : Litmus) (names : List Named) (condition : Condition) (depth : ℕ) (outcomes : List Outcome) (word : List ℕ) → list_all (is_other 32) word ≡ true
     → EndsInWord word (test_line t ++ (outcomes_line depth (length outcomes) ++ (outcome_lines t names outcomes ++ condition_lines t.name (Some condition) outcomes)))
     → frequency (held_in condition.claim outcomes) (failed_in condition.claim outcomes) ≡ word
 in-lines t names condition depth outcomes word plain says =
@@ -74,8 +75,8 @@ in-lines t names condition depth outcomes word plain says =
     (printed_numbers (true_in condition.claim outcomes)) (verdict_word claimed))
     ∙ (says.text ∙ said-flat says.front word (decimal says.held) (decimal says.failed) (printed_numbers says.numbers) (verdict_word says.as_claimed)) in
     let lines = append_cancel_right (((front ++ seen) ++ 10 ∷ numbers) ++ 10 ∷ verdict) (((says.front ++ said) ++ 10 ∷ others) ++ 10 ∷ other) (10 ∷ []) flat in
-    let before = last-line ((front ++ seen) ++ 10 ∷ numbers) ((says.front ++ said) ++ 10 ∷ others) verdict other (verdict-in-line claimed) (verdict-in-line says.as_claimed) lines in
-    let first = last-line (front ++ seen) (says.front ++ said) numbers others (numbers-in-line (true_in condition.claim outcomes)) (numbers-in-line says.numbers) before.0 in
+    let before = last-cut 10 ((front ++ seen) ++ 10 ∷ numbers) ((says.front ++ said) ++ 10 ∷ others) verdict other (verdict-in-line claimed) (verdict-in-line says.as_claimed) lines in
+    let first = last-cut 10 (front ++ seen) (says.front ++ said) numbers others (numbers-in-line (true_in condition.claim outcomes)) (numbers-in-line says.numbers) before.0 in
     last-word front says.front (frequency h f) word h f says.held says.failed (frequency-no-space h f) plain
     (sym (with-feed front (frequency h f) (decimal h) (decimal f)) ∙ (ap (λ (l : List ℕ). l ++ 10 ∷ []) first.0 ∙ with-feed says.front word (decimal says.held) (decimal says.failed)))
 
@@ -86,7 +87,7 @@ no-word limit word says =
     let verdict = codes "Verdict " ++ verdict_word says.as_claimed in
     let flat = says.text ∙ said-flat says.front word (decimal says.held) (decimal says.failed) (printed_numbers says.numbers) (verdict_word says.as_claimed) in
     let text = append_cancel_right (codes "Unfinished states=" ++ decimal limit) (before ++ 10 ∷ verdict) (10 ∷ []) flat in
-    feed-there before verdict (subst (λ (l : List ℕ). list_all is_in_line l ≡ true) text (digits-in-line (decimal limit) (all-digits limit)))
+    there 10 before verdict (subst (λ (l : List ℕ). list_all (is_other 10) l ≡ true) text (number-in-line limit))
 
 -- ---- JSON
 
@@ -122,7 +123,7 @@ object_value t names condition depth outcomes =
     (member (codes "test") (string t.name)
     (member (codes "verdict") (outcomes_verdict_value (Some condition) (is_met_in (Some condition) outcomes)) no_members)))))
 
-pub object-text : (t : Litmus) (names : List Named) (condition : Condition) (depth : ℕ) (outcomes : List Outcome)
+object-text : (t : Litmus) (names : List Named) (condition : Condition) (depth : ℕ) (outcomes : List Outcome)
     → line (compact_text (object_value t names condition depth outcomes))
     ≡ line (codes "{\"depth\":" ++ (decimal depth ++ (codes ",\"observation\":" ++ (compact_text (observed_value (held_in condition.claim outcomes) (failed_in condition.claim outcomes))
     ++ (codes ",\"states\":" ++ (compact_text (states_value t names outcomes) ++ (codes ",\"test\":" ++ (compact_text (string t.name)
@@ -132,7 +133,7 @@ object-text t names condition depth outcomes = refl
 
 -- the word of an object stands before a quotation mark, and has none
 abbrev pub is_unquoted : ℕ → Bool
-is_unquoted b = not (b == 34)
+is_unquoted = is_other 34
 
 same-word : (depth other failed other_failed held other_held : ℕ) (word again back rest : List ℕ) → list_all is_unquoted word ≡ true → list_all is_unquoted again ≡ true
     → codes "{\"depth\":" ++ (decimal depth ++ (codes ",\"observation\":{\"false\":" ++ (decimal failed ++ (codes ",\"true\":" ++ (decimal held ++ (codes ",\"word\":\"" ++ (word ++ 34 ∷ back)))))))
@@ -148,12 +149,7 @@ same-word depth other failed other_failed held other_held word again back rest p
     (run-cut is_unquoted word again (34 ∷ back) (34 ∷ rest) p q refl refl words).0
 
 frequency-unquoted : (held failed : ℕ) → list_all is_unquoted (frequency held failed) ≡ true
-frequency-unquoted held failed = by (held == 0) (failed == 0)
-  where
-    by : (never always : Bool) → list_all is_unquoted (cond never (codes "Never") (cond always (codes "Always") (codes "Sometimes"))) ≡ true
-    by true always = refl
-    by false true = refl
-    by false false = refl
+frequency-unquoted = frequency-is (list_all is_unquoted) refl refl refl
 
 in-object : (t : Litmus) (names : List Named) (condition : Condition) (depth : ℕ) (outcomes : List Outcome) (word : List ℕ) → list_all is_unquoted word ≡ true
     → HasWordInObject word (line (compact_text (object_value t names condition depth outcomes))) → frequency (held_in condition.claim outcomes) (failed_in condition.claim outcomes) ≡ word
@@ -177,14 +173,14 @@ no-word-in-object t limit word says = omega (arith, sym (third-byte t limit) ∙
 -- ---- either form
 
 -- what is printed as JSON of a test with this condition; the states stay as they are
-pub of-condition : (t : Litmus) (names : List Named) (condition : Condition) (depth : ℕ) (outcomes : List Outcome) → t.condition ≡ Some condition
+of-condition : (t : Litmus) (names : List Named) (condition : Condition) (depth : ℕ) (outcomes : List Outcome) → t.condition ≡ Some condition
     → outcomes_in true t names depth outcomes ≡ line (compact_text (object_value t names condition depth outcomes))
 of-condition t names condition depth outcomes is =
     ap (λ c. line (compact_text (object (member (codes "depth") (count depth) (member (codes "observation") (observation_value c outcomes)
     (member (codes "states") (states_value t names outcomes) (member (codes "test") (string t.name) (member (codes "verdict") (outcomes_verdict_value c (is_met_in c outcomes)) no_members)))))))) is
 
 pub word-is : (json : Bool) (t : Litmus) (names : List Named) (condition : Condition) (depth : ℕ) (outcomes : List Outcome) (word : List ℕ) → t.condition ≡ Some condition
-    → list_all is_no_space word ≡ true → list_all is_unquoted word ≡ true
+    → list_all (is_other 32) word ≡ true → list_all is_unquoted word ≡ true
     → PrintsWord json word (outcomes_in json t names depth outcomes) → frequency (held_in condition.claim outcomes) (failed_in condition.claim outcomes) ≡ word
 word-is false t names condition depth outcomes word is plain unquoted says =
     in-lines t names condition depth outcomes word plain
