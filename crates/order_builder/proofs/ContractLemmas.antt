@@ -1,5 +1,5 @@
 -- What the answer of a reader that gives its text's reading says of that text.
-use Rattle.order_builder.proofs.Vocabulary.{◌≡◌, ◌≢◌, ℕ, ◌^◌, ◌<◌, List, length, Some, None, Result, Ok, Err, All, ◌⊎◌, inl, inr, refl, subst, IfOk, IfErr, Litmus, IsTest, Entry, Execution, HasAccess, IsEntryFor, IsOrderFor, SpellsOrder, HasFault, IsLocationFor, HasLocation, All-weaker, Kind, R, W, F, LR, LW, entries_of_order, Gives, order_of, order_start, entries_in, lines_of, OrderFault, NoOrder, BadLine, BadCount, NoMemory}
+use Rattle.order_builder.proofs.Vocabulary.{◌≡◌, ◌≢◌, ℕ, ◌^◌, ◌<◌, List, length, Some, None, Result, Ok, Err, All, ◌⊎◌, inl, inr, refl, subst, IfOk, IfErr, Litmus, IsTest, Entry, Execution, HasAccess, IsEntryFor, IsOrderFor, SpellsOrder, HasFault, IsLocationFor, HasLocation, All-weaker, Kind, F, entries_of_order, Gives, order_of, order_start, entries_in, lines_of, OrderFault, NoOrder, BadLine, BadCount, NoMemory}
 use Rattle.order_builder.proofs.SpellingLaws.{spelled_from_read, read_from_spelled}
 use Rattle.order_builder.proofs.FaultLaws.{order_fault_found, order_fault_again}
 
@@ -58,11 +58,8 @@ one_fault t text fault other test has has_other =
     cc
 
 location_for : (t : Litmus) (kind : Kind) (loc value : ℕ) → HasAccess t kind loc value → IsLocationFor t kind loc
-location_for t R loc value has = has.0
-location_for t W loc value has = has.0
 location_for t F loc value has = tt
-location_for t LR loc value has = has.0
-location_for t LW loc value has = has.0
+location_for t kind loc value has = has.0
 
 pub all_printable : (t : Litmus) (order : List Entry) → IsOrderFor t order → All (HasLocation t) order
 all_printable t order are = All-weaker (IsEntryFor t) (HasLocation t) (λ e is. location_for t e.kind e.loc.0 e.value is.access) order are

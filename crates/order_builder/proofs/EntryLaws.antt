@@ -103,19 +103,13 @@ access_found t text access e =
 
 -- the kinds that have a location
 abbrev pub IsAccess : Kind → Type 0
-IsAccess R = Unit {0}
-IsAccess W = Unit {0}
 IsAccess F = ⊥
-IsAccess LR = Unit {0}
-IsAccess LW = Unit {0}
+IsAccess kind = Unit {0}
 
 kind_again : (kind : Kind) → IsAccess kind → kind_of (letters_of kind) ≡ Some kind
 unfolding kind_of
-kind_again R is = refl
-kind_again W is = refl
 kind_again F is = absurd is
-kind_again LR is = refl
-kind_again LW is = refl
+kind_again kind is = refl
 
 kind_found : (text : List ℕ) (kind : Kind) → kind_of text ≡ Some kind → (text ≡ letters_of kind) × IsAccess kind
 unfolding kind_of
@@ -136,10 +130,7 @@ kind_found text kind e =
 
 no_fence : (kind : Kind) (rest : List ℕ) → bytes_eq (letters_of kind ++ 32 ∷ rest) (codes "F") ≡ false
 no_fence R rest = refl
-no_fence W rest = refl
-no_fence F rest = refl
-no_fence LR rest = refl
-no_fence LW rest = refl
+no_fence kind rest = refl
 
 lacks-letters : (kind : Kind) → Lacks 32 (letters_of kind)
 unfolding no_space
@@ -159,25 +150,16 @@ word_again t at kind loc value is test known small =
 action_again : (t : Litmus) (at : ℕ × ℕ) (kind : Kind) (loc value : ℕ) → IsTest t → HasAccess t kind loc value
     → action_in t at (letters_of kind ++ printed_access t kind loc value) ≡ Some (entry_at at kind loc value)
 unfolding action_in
-action_again t at R loc value test has = word_again t at R loc value tt test has.0 has.1
-action_again t at W loc value test has = word_again t at W loc value tt test has.0 has.1
 action_again t at F loc value test has = rw (has.0, has.1) refl
-action_again t at LR loc value test has = word_again t at LR loc value tt test has.0 has.1
-action_again t at LW loc value test has = word_again t at LW loc value tt test has.0 has.1
+action_again t at kind loc value test has = word_again t at kind loc value tt test has.0 has.1
 
 has_access : (t : Litmus) (kind : Kind) (loc value : ℕ) → IsAccess kind → loc < length t.locations → value < 2 ^ 32 → HasAccess t kind loc value
-has_access t R loc value is known small = (known, small)
-has_access t W loc value is known small = (known, small)
 has_access t F loc value is known small = absurd is
-has_access t LR loc value is known small = (known, small)
-has_access t LW loc value is known small = (known, small)
+has_access t kind loc value is known small = (known, small)
 
 printed_word_is : (t : Litmus) (kind : Kind) (loc value : ℕ) → IsAccess kind → 32 ∷ printed_word t loc value ≡ printed_access t kind loc value
-printed_word_is t R loc value is = refl
-printed_word_is t W loc value is = refl
 printed_word_is t F loc value is = absurd is
-printed_word_is t LR loc value is = refl
-printed_word_is t LW loc value is = refl
+printed_word_is t kind loc value is = refl
 
 -- an entry with this core and place, printed with what stands after them
 record IsActionOf (t : Litmus) (at : ℕ × ℕ) (text : List ℕ) (e : Entry) : Type 0 where

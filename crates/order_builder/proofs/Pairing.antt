@@ -1,13 +1,10 @@
 -- Where each load part is put directly before its store part, the pairs are kept.
-use Rattle.order_builder.proofs.Vocabulary.{◌≡◌, ◌≢◌, zero, suc, ◌==◌, ◌&&◌, Bool, true, false, if◌then◌else◌, List, [], ◌∷◌, Some, slice_get, refl, sym, ap, ◌∙◌, subst, same_kind, is_at, IsAdjacent, IsStorePart, put_before, put_together, Entry, Kind, R, W, F, LR, LW, IsPaired, has_its_store_part, are_answered}
+use Rattle.order_builder.proofs.Vocabulary.{◌≡◌, ◌≢◌, zero, suc, ◌==◌, ◌&&◌, Bool, true, false, if◌then◌else◌, List, [], ◌∷◌, Some, slice_get, refl, sym, ap, ◌∙◌, subst, same_kind, is_at, IsAdjacent, IsStorePart, put_before, put_together, Entry, Kind, LR, LW, IsPaired, has_its_store_part, are_answered}
 use Rattle.order_builder.proofs.Together.{and_first, and_second, is_core, isn't_core, load_kind, same-core, skipped, answers, no_load_part, elsewhere}
 
 store_kind : (k : Kind) → same_kind k LW ≡ true → k ≡ LW
-store_kind R h = absurd (let z : ⊥ = cc in z)
-store_kind W h = absurd (let z : ⊥ = cc in z)
-store_kind F h = absurd (let z : ⊥ = cc in z)
-store_kind LR h = absurd (let z : ⊥ = cc in z)
 store_kind LW h = refl
+store_kind k h = absurd (let z : ⊥ = cc in z)
 
 IsStorePart-from_test : (x y : Entry) → is_at x.core.0 x.place LW y ≡ true → IsStorePart x y
 IsStorePart-from_test x y h =

@@ -1,5 +1,5 @@
 -- What is printed of an order spells it, in the midst of other lines too.
-use Rattle.order_builder.proofs.Vocabulary.{◌≡◌, ℕ, zero, suc, ◌+◌, ◌-◌, ◌/◌, ◌%◌, ◌<◌, Bool, true, false, not, eqb, ltb, leb, inl, inr, List, [], ◌∷◌, ◌++◌, length, map, get_or, take, All, refl, sym, ap, ◌∙◌, arith, codes, decimal, digits, digits_onto, digit_glyph, list_all, strip_carriage_return, and_parts, and_from, eqb-true, nat_tests, append_assoc, append-nil, take_all, take_more, All-cons, All-nil, All-head, All-tail, All-get_or, list_all-append, Litmus, IsTest, continues_name, Entry, Kind, R, W, F, LR, LW, lines_of, letters_of, printed_access, printed_entry, printed_end, order_lines, printed_lines, printed_order, HasAccess, IsEntryFor, IsOrderFor, IsNotOrderLine, IsLineBeforeOrder, SpellsOrder}
+use Rattle.order_builder.proofs.Vocabulary.{◌≡◌, ℕ, zero, suc, ◌+◌, ◌-◌, ◌/◌, ◌%◌, ◌<◌, Bool, true, false, not, eqb, ltb, leb, inl, inr, List, [], ◌∷◌, ◌++◌, length, map, get_or, take, All, refl, sym, ap, ◌∙◌, arith, codes, decimal, digits, digits_onto, digit_glyph, list_all, strip_carriage_return, and_parts, and_from, eqb-true, nat_tests, append_assoc, append-nil, take_all, take_more, All-cons, All-nil, All-head, All-tail, All-get_or, list_all-append, Litmus, IsTest, continues_name, Entry, Kind, R, F, lines_of, letters_of, printed_access, printed_entry, printed_end, order_lines, printed_lines, printed_order, HasAccess, IsEntryFor, IsOrderFor, IsNotOrderLine, IsLineBeforeOrder, SpellsOrder}
 use Rattle.order_builder.proofs.Choosing.{chosen}
 use Rattle.order_builder.proofs.LineLemmas.{Lacks, lines_of-line}
 use Rattle.order_builder.proofs.NameLaws.{lacks_from_all, all_of_location}
@@ -46,19 +46,13 @@ unfolding is_graphic
 graphic-word t loc value test known = joined (get_or t.locations loc []) (codes "=" ++ decimal value) (graphic-location t loc test known) (graphic-decimal value)
 
 graphic-access : (t : Litmus) (kind : Kind) (loc value : ℕ) → IsTest t → HasAccess t kind loc value → list_all is_graphic (printed_access t kind loc value) ≡ true
-graphic-access t R loc value test has = graphic-word t loc value test has.0
-graphic-access t W loc value test has = graphic-word t loc value test has.0
 graphic-access t F loc value test has = refl
-graphic-access t LR loc value test has = graphic-word t loc value test has.0
-graphic-access t LW loc value test has = graphic-word t loc value test has.0
+graphic-access t kind loc value test has = graphic-word t loc value test has.0
 
 graphic-letters : (kind : Kind) → list_all is_graphic (letters_of kind) ≡ true
 unfolding is_graphic
 graphic-letters R = refl
-graphic-letters W = refl
-graphic-letters F = refl
-graphic-letters LR = refl
-graphic-letters LW = refl
+graphic-letters kind = refl
 
 graphic-entry : (t : Litmus) (e : Entry) → IsTest t → IsEntryFor t e → list_all is_graphic (printed_entry t e) ≡ true
 unfolding is_graphic

@@ -1,5 +1,5 @@
 -- The loop that puts each load part directly before its store part.
-use Rattle.order_builder.proofs.Vocabulary.{◌≡◌, ◌≢◌, ◌<◌, ◌+◌, ℕ, zero, suc, ◌==◌, ◌&&◌, Bool, true, false, if◌then◌else◌, List, [], ◌∷◌, ◌++◌, length, take, drop, drop-cons, add-one, slice_index_or, None, Some, refl, sym, ap, ◌∙◌, arith, subst, nat_tests, same_kind, is_at, put_before, put_together, Entry, Kind, R, W, F, LR, LW, has_its_store_part, are_answered, all_put, first_of_core, others_of, IsNoneOf, AreWaiting, IsBuiltSoFar}
+use Rattle.order_builder.proofs.Vocabulary.{◌≡◌, ◌≢◌, ◌<◌, ◌+◌, ℕ, zero, suc, ◌==◌, ◌&&◌, Bool, true, false, if◌then◌else◌, List, [], ◌∷◌, ◌++◌, length, take, drop, drop-cons, add-one, slice_index_or, None, Some, refl, sym, ap, ◌∙◌, arith, subst, nat_tests, same_kind, is_at, put_before, put_together, Entry, Kind, LR, LW, has_its_store_part, are_answered, all_put, first_of_core, others_of, IsNoneOf, AreWaiting, IsBuiltSoFar}
 use Rattle.std.proofs.Common.{append_assoc, append-nil}
 
 pub same-core : (m n : ℕ) → m ≡ n → (m == n) ≡ true
@@ -23,11 +23,8 @@ and_second true b h = h
 and_second false b h = absurd (let z : ⊥ = cc in z)
 
 pub load_kind : (k : Kind) → same_kind k LR ≡ true → k ≡ LR
-load_kind R h = absurd (let z : ⊥ = cc in z)
-load_kind W h = absurd (let z : ⊥ = cc in z)
-load_kind F h = absurd (let z : ⊥ = cc in z)
 load_kind LR h = refl
-load_kind LW h = absurd (let z : ⊥ = cc in z)
+load_kind k h = absurd (let z : ⊥ = cc in z)
 
 -- an entry of another core is no store part of this one, and a load part is none
 pub elsewhere : (x e : Entry) → e.core.0 ≢ x.core.0 → is_at x.core.0 x.place LW e ≡ false
