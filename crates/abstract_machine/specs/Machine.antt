@@ -3,9 +3,7 @@
 use Rattle.std.specs.Prelude.{ℕ, ◌+◌, ◌≡◌, ◌⊎◌, List, [], ◌∷◌, Option, Some, None, slice_index_or, slice_set}
 use Rattle.tso_model.specs.Litmus.{Litmus}
 use Rattle.tso_model.specs.Thread.{with_value}
-use Rattle.tso_model.specs.declared.register.Reg.{Reg}
-use Rattle.tso_model.specs.declared.instruction.Instr.{Instr}
-use Rattle.tso_model.specs.declared.execution.Entry.{Entry}
+use Rattle.basic_laws.specs.Types.{Reg, Instr, Entry}
 
 -- how far a thread is with a locked instruction: it isn't in one; it has begun one; it has read this value; it has written
 pub data Progress : Type 0 where

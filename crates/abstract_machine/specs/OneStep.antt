@@ -4,12 +4,8 @@
 use Rattle.std.specs.Prelude.{ℕ, ◌≡◌, ◌≢◌, ◌⊎◌, List, [], ◌∷◌, ◌++◌, Some, None, slice_get}
 use Rattle.tso_model.specs.Litmus.{Litmus}
 use Rattle.tso_model.specs.Thread.{fence}
-use Rattle.tso_model.specs.declared.register.Reg.{Reg}
-use Rattle.tso_model.specs.declared.instruction.Loc.{Loc}
-use Rattle.tso_model.specs.declared.action.Operand.{Operand}
-use Rattle.tso_model.specs.declared.action.Update.{Update}
+use Rattle.basic_laws.specs.Types.{Reg, Loc, Operand, Update, Entry}
 use Rattle.tso_model.specs.declared.action.Action.TheVariants.{Store, Move, Lock}
-use Rattle.tso_model.specs.declared.execution.Entry.{Entry}
 use Rattle.abstract_machine.specs.Machine.{NotLocked, HasRead, HasWritten, HardwareThread, Machine}
 use Rattle.abstract_machine.specs.Steps.{StandsAt, ThreadStep}
 

@@ -5,15 +5,8 @@ use Rattle.tso_model.specs.Litmus.{Litmus}
 use Rattle.tso_model.specs.Actions.{action_of}
 use Rattle.tso_model.specs.Thread.{entry, fence, value_in, value_of, updated}
 use Rattle.tso_model.specs.ProgramOrder.{writes_to}
-use Rattle.tso_model.specs.declared.register.Reg.{Reg}
-use Rattle.tso_model.specs.declared.instruction.Loc.{Loc}
-use Rattle.tso_model.specs.declared.instruction.Instr.{Instr}
-use Rattle.tso_model.specs.declared.action.Operand.{Operand}
-use Rattle.tso_model.specs.declared.action.Update.{Update}
-use Rattle.tso_model.specs.declared.action.Action.{Action}
+use Rattle.basic_laws.specs.Types.{Reg, Loc, Instr, Operand, Update, Action, Entry, R, W, LR, LW}
 use Rattle.tso_model.specs.declared.action.Action.TheVariants.{Store, Load, Move, Fence, Lock}
-use Rattle.tso_model.specs.declared.execution.Entry.{Entry}
-use Rattle.tso_model.specs.declared.execution.Kind.TheVariants.{R, W, LR, LW}
 use Rattle.abstract_machine.specs.Machine.{Progress, NotLocked, HasBegun, HasRead, HasWritten, HardwareThread, Machine, IsNotBlocked}
 use Rattle.abstract_machine.specs.Machine.{with_thread, with_lock, with_write, passed, with_register, with_buffer, with_progress}
 

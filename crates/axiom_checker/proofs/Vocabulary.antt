@@ -2,7 +2,7 @@
 pub use Rattle.std.proofs.Common.{◌≡◌, ◌<◌, ◌≤◌, ℕ, ◌+◌, suc, zero, List, length, Some, slice_get, Bool, true, false, arith, ap, sym, ◌∙◌, ◌⊎◌, inl, inr, subst, [], ◌∷◌, ◌++◌, filter, refl, cond, ◌==◌, ◌&&◌, ◌||◌, if◌then◌else◌, slice_index, slice_index_or, length-append, Option, None, take, drop, not, ◌≢◌, ◌*◌, IfSome, All, map, slice_set, replicate, max, nat_lt, get_or, IsNone, append_assoc, append-nil, IfOk}
 pub use Rattle.std.proofs.lemmas.Bool.{cases_Bool, cases_lt, false_from_ne_true, cases_order, eq-eqb, eqb-true, and_parts, cases_eq, and_from, not_from_false, not-true, ne_eqb, and_left, and_right, not_from_true, lt-ltb, ltb-true, ltb-false, eqb-false, true≢false}
 pub use Rattle.std.proofs.lemmas.Option.{slice_get_within, slice_get_cases, slice_get-get_or, get_or_from_slice_get}
-pub use Rattle.tso_model.specs.declared.execution.Entry.{Entry}
+pub use Rattle.basic_laws.specs.Types.{Entry, Kind, R, W, F, LR, LW, Instr, Action}
 pub use Rattle.axiom_checker.specs.First.{NoneBefore, IsEarliest, IsNowhere, IsFirst}
 pub use Rattle.tso_model.specs.ProgramOrder.{writes_to, is_before, same_kind, is_read, is_write, may_be_passed, IsStorePart, is_load, is_store}
 pub use Rattle.tso_model.specs.Axioms.{last_value, counting, IsWhole, KeepsProgramOrder, IsAdjacent, HasReadValues, due_value, IsTsoExecution}
@@ -10,13 +10,9 @@ pub use Rattle.tso_model.specs.Thread.{entry, fence, entries_by, registers_by, v
 pub use Rattle.basic_laws.specs.Ranks.{rank, part_of}
 pub use Rattle.basic_laws.proofs.Ranks.{is_read_kind, is_write_kind, by-rank, is_load_kind}
 pub use Rattle.tso_model.specs.ProgramEntries.{is_at, read_value, values_by, made_by, made_from, made, read_values}
-pub use Rattle.tso_model.specs.declared.execution.Kind.{Kind}
-pub use Rattle.tso_model.specs.declared.execution.Kind.TheVariants.{R, W, F, LR, LW}
 pub use Rattle.axiom_checker.specs.Entries.{same_action, same_but_value, IsExtra, IsStray, IsMissing, IsWrongWrite, written_value, IsTwice}
 pub use Rattle.tso_model.specs.Actions.{action_of, location_of}
 pub use Rattle.tso_model.specs.Litmus.{Litmus, KnownLocation, IsProgram, IsTest}
-pub use Rattle.tso_model.specs.declared.instruction.Instr.{Instr}
-pub use Rattle.tso_model.specs.declared.action.Action.{Action}
 pub use Rattle.tso_model.specs.declared.action.Action.TheVariants.{Store, Load, Move, Fence, Lock}
 pub use Rattle.basic_laws.proofs.Lists.{Each, each-append, Member, member-at, each-at}
 pub use Rattle.basic_laws.proofs.Basics.{not-itself, max-left, max-right, max-first, max-second, le-cases}

@@ -4,8 +4,7 @@ use Rattle.std.specs.Prelude.{ℕ, ◌<◌, ◌≡◌, ◌≢◌, ◌&&◌, not,
 use Rattle.tso_model.specs.Litmus.{Litmus}
 use Rattle.tso_model.specs.ProgramOrder.{is_before, may_be_passed, is_read, IsStorePart}
 use Rattle.tso_model.specs.Axioms.{due_value}
-use Rattle.tso_model.specs.declared.execution.Entry.{Entry}
-use Rattle.tso_model.specs.declared.execution.Kind.TheVariants.{LR}
+use Rattle.basic_laws.specs.Types.{Entry, LR}
 
 -- a stands before b in their program, and the axioms keep the two in order: a plain load alone may pass a plain store
 abbrev pub must_stand_before : Entry → Entry → Bool

@@ -11,8 +11,7 @@ use Rattle.axiom_checker.specs.Entries.{IsExtra, IsStray, IsMissing, IsWrongWrit
 use Rattle.axiom_checker.specs.AxiomBreaches.{Overtakes, IsLate, IsSeparated, IsWrongRead, due_at}
 use Rattle.tso_model.specs.declared.execution.Entry.{Entry}
 use Rattle.axiom_checker.specs.declared.breach.Breach.{Breach}
-use Rattle.axiom_checker.specs.declared.breach.Breach.TheVariants.{Extra, Twice, Missing, WrongValue, ProgramOrder}
-use Rattle.axiom_checker.specs.declared.breach.Breach.TheVariants.{NotAdjacent, ReadValue, NoMemory}
+use Rattle.axiom_checker.specs.declared.breach.Breach.TheVariants.{Extra, Twice, Missing, WrongValue, ProgramOrder, NotAdjacent, ReadValue, NoMemory}
 
 -- An entry that is both extra and there twice is extra. `made` goes core by core and in program order, the load part of
 -- a locked instruction before its store part, so the first of its entries that is missing is the first by core, place

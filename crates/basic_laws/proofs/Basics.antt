@@ -4,9 +4,7 @@ use Rattle.std.proofs.lemmas.Bool.Decides.{nat_tests}
 use Rattle.tso_model.specs.ProgramOrder.{is_before}
 use Rattle.basic_laws.specs.Ranks.{part_of, rank}
 use Rattle.basic_laws.proofs.Ranks.{is_load_kind, by-rank}
-use Rattle.tso_model.specs.declared.execution.Entry.{Entry}
-use Rattle.tso_model.specs.declared.execution.Kind.{Kind}
-use Rattle.tso_model.specs.declared.execution.Kind.TheVariants.{R, W, F, LR, LW}
+use Rattle.basic_laws.specs.Types.{Entry, Kind, R, W, F, LR, LW}
 
 pub test-false : (a b : ℕ) → a ≢ b → (a == b) ≡ false
 test-false a b h = grind (arith, nat_tests)

@@ -2,9 +2,7 @@
 use Rattle.std.proofs.Common.{◌≡◌, ℕ, ◌+◌, Bool, true, false, not, ◌==◌, ◌&&◌, ◌||◌, nat_lt, arith, ap}
 use Rattle.std.proofs.lemmas.Bool.Decides.{nat_tests}
 use Rattle.tso_model.specs.ProgramOrder.{same_kind, is_before}
-use Rattle.tso_model.specs.declared.execution.Entry.{Entry}
-use Rattle.tso_model.specs.declared.execution.Kind.{Kind}
-use Rattle.tso_model.specs.declared.execution.Kind.TheVariants.{R, W, LR, LW}
+use Rattle.basic_laws.specs.Types.{Entry, Kind, R, W, LR, LW}
 use Rattle.basic_laws.specs.Ranks.{part_of, rank}
 
 abbrev pub is_load_kind : Kind → Bool

@@ -2,12 +2,8 @@
 use Rattle.std.proofs.Common.{ℕ, List, [], ◌∷◌, take, drop, if◌then◌else◌}
 use Rattle.tso_model.specs.Thread.{entry, fence}
 use Rattle.tso_model.specs.FlatMachine.{CoreState, Effect, is_none_pending, stalled, advanced, advanced_with}
-use Rattle.tso_model.specs.declared.register.Reg.{Reg}
-use Rattle.tso_model.specs.declared.instruction.Loc.{Loc}
-use Rattle.tso_model.specs.declared.execution.Entry.{Entry}
-use Rattle.tso_model.specs.declared.execution.Kind.TheVariants.{LR, LW}
+use Rattle.basic_laws.specs.Types.{Reg, Loc, Entry, LR, LW, Committed}
 use Rattle.tso_model.specs.declared.choice.Stall.TheVariants as stall
-use Rattle.tso_model.specs.declared.choice.Outcome.TheVariants.{Committed}
 
 abbrev pub fenced_with : ℕ → CoreState → List Entry → Effect
 fenced_with core s pending =

@@ -1,22 +1,14 @@
 -- What a choice of the flat machine commits, against the access that it makes.
-use Rattle.bus_laws.proofs.Vocabulary.{◌≡◌, ◌↔◌, ℕ, zero, suc, Bool, true, false, if◌then◌else◌, List, [], ◌∷◌, filter, length, Option, Some, None, slice_get, nat_lt, refl, sym, ap, ◌⊎◌, inl, inr, subst, chosen, MemoryAccess, NoAccess, store_access, load_access, locked_access, step_access, drain_access, next_of, access_of, Loc, table_of_rows, IsUseFor, IsHitUse, use_at, access_by, cases_Bool, at_access}
+use Rattle.bus_laws.proofs.Vocabulary.{◌≡◌, ◌↔◌, ℕ, zero, suc, Bool, true, false, if◌then◌else◌, List, [], ◌∷◌, filter, length, Option, Some, None, slice_get, nat_lt, refl, sym, ap, ◌⊎◌, inl, inr, subst, chosen, MemoryAccess, NoAccess, store_access, load_access, locked_access, step_access, drain_access, next_of, access_of, Loc, table_of_rows, IsUseFor, IsHitUse, use_at, access_by, cases_Bool, at_access, Reg, Instr, Action, Entry, W, Choice, Step, Drain, Caches, Used, not_through, whole_by, load_after, use_of, hits_by}
 use Rattle.std.specs.List.{list_any}
 use Rattle.tso_model.specs.Litmus.{Litmus}
 use Rattle.tso_model.specs.Actions.{action_of}
 use Rattle.tso_model.specs.Thread.{entry}
 use Rattle.tso_model.specs.ProgramOrder.{writes_to}
 use Rattle.tso_model.specs.FlatMachine.{CoreState, State, Effect, stored, effect_by, step_of, core_of}
-use Rattle.tso_model.specs.declared.register.Reg.{Reg}
-use Rattle.tso_model.specs.declared.instruction.Instr.{Instr}
-use Rattle.tso_model.specs.declared.action.Action.{Action}
 use Rattle.tso_model.specs.declared.action.Action.TheVariants.{Store, Load, Move, Fence, Lock}
-use Rattle.tso_model.specs.declared.execution.Entry.{Entry}
-use Rattle.tso_model.specs.declared.execution.Kind.TheVariants.{W}
-use Rattle.tso_model.specs.declared.choice.Choice.{Choice}
-use Rattle.tso_model.specs.declared.choice.Choice.TheVariants.{Step, Drain}
 use Rattle.split_laws.specs.inner.Pending.{IsStoreOf, PendingIsOwn}
 use Rattle.machine_core.specs.declared.accesses.CacheUse.TheVariants.{Unused, Forwarded}
-use Rattle.machine_core.specs.Caches.{Caches, Used, not_through, whole_by, load_after, use_of, hits_by}
 use Rattle.basic_laws.proofs.WithPending.{drain_with, fenced_with, locked_with}
 use Rattle.bus_laws.proofs.Told.{access-told}
 

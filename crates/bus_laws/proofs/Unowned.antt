@@ -1,7 +1,6 @@
 -- A line of memory that changes has no dirty copy then: the one that was sent or written back was the only one.
-use Rattle.bus_laws.proofs.Vocabulary.{◌≡◌, ◌≢◌, ◌∙◌, ℕ, suc, Bool, true, false, if◌then◌else◌, List, [], ◌∷◌, Option, Some, None, option_map, inl, inr, refl, sym, ap, subst, get_or-set_other, decide, is_dirty, Table, table_of, ProtocolKind, State, I, M, Snoop, Line, Victim, table_of_rows, rows_of, Words, line_in, state_of_copy, may_share, leaving, filled, TagSets, tags_at, tag_in, at_line, sets_of, requested, filled_by, Sets, copy_at, copy_in, tags_of, written_back, flushed, sent_of, first_of_two, sent_words, tag_at, or_invalid, tag_at-copy, cases_Bool}
+use Rattle.bus_laws.proofs.Vocabulary.{◌≡◌, ◌≢◌, ◌∙◌, ℕ, suc, Bool, true, false, if◌then◌else◌, List, [], ◌∷◌, Option, Some, None, option_map, inl, inr, refl, sym, ap, subst, get_or-set_other, decide, is_dirty, Table, table_of, ProtocolKind, State, I, M, Snoop, Line, Victim, table_of_rows, rows_of, Words, line_in, state_of_copy, may_share, leaving, filled, TagSets, tags_at, tag_in, at_line, sets_of, requested, filled_by, Sets, copy_at, copy_in, tags_of, written_back, flushed, sent_of, first_of_two, sent_words, tag_at, or_invalid, tag_at-copy, cases_Bool, is_written_back, filled_by_sharing, get_s_flushing, get_s_owning}
 use Rattle.bus_laws.proofs.Changed.{core-at}
-use Rattle.protocol_tables.specs.Tables.{is_written_back, filled_by_sharing, get_s_flushing, get_s_owning}
 use Rattle.protocol_tables.specs.declared.kind.ProtocolKind.TheVariants.{Msi, Mesi, Moesi, Mosi}
 use Rattle.snoop_bus.proofs.RowLemmas.{table_of-rows}
 use Rattle.bus_laws.proofs.Victims.{AreNeat, AllNeat, sets-leave}

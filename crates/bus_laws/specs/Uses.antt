@@ -5,8 +5,7 @@ use Rattle.tso_model.specs.FlatMachine.{State, chosen, core_of, effect_of}
 use Rattle.tso_model.specs.MemoryAccess.{MemoryAccess, NoAccess, Reads, Writes, Locks, access_of}
 use Rattle.tso_model.specs.EitherBus.{BusState}
 use Rattle.tso_model.specs.declared.choice.Bus as kind
-use Rattle.tso_model.specs.declared.execution.Entry.{Entry}
-use Rattle.tso_model.specs.declared.choice.Choice.{Choice}
+use Rattle.basic_laws.specs.Types.{Entry, Choice}
 use Rattle.split_laws.specs.BusChoices.{IsPossibleOn}
 use Rattle.snoop_bus.specs.declared.access.AccessKind.TheVariants.{Hit}
 use Rattle.machine_core.specs.declared.accesses.CacheUse.{CacheUse}

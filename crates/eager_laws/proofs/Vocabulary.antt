@@ -4,11 +4,8 @@ pub use Rattle.std.proofs.lemmas.Bool.{cases_Bool}
 pub use Rattle.tso_model.specs.Actions.{action_of, location_of}
 pub use Rattle.tso_model.specs.Litmus.{Litmus, IsTest, KnownLocation}
 pub use Rattle.tso_model.specs.FlatMachine.{CoreState, State, program_of, core_of, Effect, idle, effect_by, step_of, drain_of, applied, after_choice, stored, stalled, step, drain, effect_of, memory_after, is_none_pending, when_drained, locked, load_value, chosen, start, registers_in, started, loaded, advanced}
-pub use Rattle.tso_model.specs.declared.instruction.Instr.{Instr}
-pub use Rattle.tso_model.specs.declared.action.Action.{Action}
+pub use Rattle.basic_laws.specs.Types.{Instr, Action, Choice, Step, Drain, W, LR, LW, R, Entry, Stall, Buffered, Committed, Reg, Loc, Update, Operand, Number, Held}
 pub use Rattle.tso_model.specs.declared.action.Action.TheVariants.{Store, Load, Move, Fence, Lock}
-pub use Rattle.tso_model.specs.declared.choice.Choice.{Choice}
-pub use Rattle.tso_model.specs.declared.choice.Choice.TheVariants.{Step, Drain}
 pub use Rattle.eager_laws.specs.Eager.{Avoids, OthersAvoid, IsEagerBy, IsEager, IsEagerStep, IsEagerDrain, meets}
 pub use Rattle.eager_laws.specs.Dead.{hidden_of, AreAlike, dead_before, dead_at, cleared, forgotten_core, forgotten_cores, forgotten, unless_read, none_hidden, seen_from, seen}
 pub use Rattle.std.proofs.lemmas.Bool.Decides.{nat_tests}
@@ -16,8 +13,6 @@ pub use Rattle.std.specs.Prelude.{filter, IfSome}
 pub use Rattle.tso_model.specs.Axioms.{last_value}
 pub use Rattle.tso_model.specs.ProgramOrder.{is_write, writes_to}
 pub use Rattle.tso_model.specs.Thread.{entry, value_of, with_value, updated, value_in}
-pub use Rattle.tso_model.specs.declared.execution.Kind.TheVariants.{W, LR, LW, R}
-pub use Rattle.tso_model.specs.declared.execution.Entry.{Entry}
 pub use Rattle.std.proofs.Math.ListN.{length-set}
 pub use Rattle.std.proofs.lemmas.List.Edits.{length-swap}
 pub use Rattle.std.proofs.lemmas.List.{length-map, map-append, set-get_or, set_past}
@@ -26,13 +21,6 @@ pub use Rattle.basic_laws.proofs.Basics.{decide, test-true, test-false, lt-or, a
 pub use Rattle.eager_laws.specs.Exchanged.{exchanged_core, exchanged_choice, exchanged_entry, renamed, exchanged, exchanged_by, IsOneOf, AreOf, AreAllAlike, IsExchangeable, CoresAreAlike}
 pub use Rattle.basic_laws.proofs.Lists.{drop-at, drop-end, Each}
 pub use Rattle.tso_model.specs.Registers.{index_of}
-pub use Rattle.tso_model.specs.declared.choice.Stall.{Stall}
-pub use Rattle.tso_model.specs.declared.choice.Outcome.TheVariants.{Buffered, Committed}
-pub use Rattle.tso_model.specs.declared.register.Reg.{Reg}
-pub use Rattle.tso_model.specs.declared.instruction.Loc.{Loc}
-pub use Rattle.tso_model.specs.declared.action.Update.{Update}
-pub use Rattle.tso_model.specs.declared.action.Operand.{Operand}
-pub use Rattle.tso_model.specs.declared.action.Operand.TheVariants.{Number, Held}
 pub use Rattle.tso_model.specs.Runs.{run, stall_count, is_done, all_done, has_ended}
 pub use Rattle.tso_laws.specs.Choices.{state_after}
 pub use Rattle.tso_laws.specs.inner.Laws.{RunsStopWhereTheyEnd}

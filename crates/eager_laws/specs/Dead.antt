@@ -7,12 +7,8 @@ use Rattle.tso_model.specs.Actions.{action_of}
 use Rattle.tso_model.specs.Litmus.{Litmus}
 use Rattle.tso_model.specs.FlatMachine.{CoreState, State, program_of, effect_of, after_choice, registers_in}
 use Rattle.tso_model.specs.Runs.{has_ended}
-use Rattle.tso_model.specs.declared.instruction.Instr.{Instr}
-use Rattle.tso_model.specs.declared.action.Operand.{Operand}
-use Rattle.tso_model.specs.declared.action.Operand.TheVariants.{Number, Held}
-use Rattle.tso_model.specs.declared.action.Action.{Action}
+use Rattle.basic_laws.specs.Types.{Instr, Operand, Number, Held, Action, Choice}
 use Rattle.tso_model.specs.declared.action.Action.TheVariants.{Store, Load, Move, Fence, Lock}
-use Rattle.tso_model.specs.declared.choice.Choice.{Choice}
 
 -- ---- which registers are dead
 

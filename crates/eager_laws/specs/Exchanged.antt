@@ -5,9 +5,7 @@ use Rattle.std.specs.Prelude.{ℕ, ◌<◌, ◌≡◌, ◌==◌, Bool, if◌then
 use Rattle.tso_model.specs.Litmus.{Litmus}
 use Rattle.tso_model.specs.FlatMachine.{CoreState, State, program_of, effect_of, after_choice, start, step, drain}
 use Rattle.tso_model.specs.Runs.{has_ended}
-use Rattle.tso_model.specs.declared.execution.Entry.{Entry}
-use Rattle.tso_model.specs.declared.choice.Choice.{Choice}
-use Rattle.tso_model.specs.declared.choice.Choice.TheVariants.{Step, Drain}
+use Rattle.basic_laws.specs.Types.{Entry, Choice, Step, Drain}
 use Rattle.eager_laws.specs.Dead.{hidden_of, forgotten}
 
 -- two cores of the test that are alike

@@ -1,8 +1,7 @@
 -- How many cores and locations a final state has.
 use Rattle.std.proofs.Common.{◌≡◌, ℕ, ◌+◌, suc, List, [], ◌∷◌, length, ap, refl}
 use Rattle.tso_model.specs.FinalState.{registers_from, words_from}
-use Rattle.tso_model.specs.declared.instruction.Instr.{Instr}
-use Rattle.tso_model.specs.declared.execution.Entry.{Entry}
+use Rattle.basic_laws.specs.Types.{Instr, Entry}
 
 -- the final state has registers for each core, and a word for each location
 pub registers-count : (core : ℕ) (programs : List (List Instr)) (registers : List (List ℕ)) (order : List Entry)

@@ -5,8 +5,7 @@ pub use Rattle.basic_laws.proofs.Basics.{lt-or, and-left, and-right}
 pub use Rattle.basic_laws.proofs.Lists.{drop-at, append-nil, drop-end}
 pub use Rattle.tso_model.specs.Litmus.{Litmus, IsTest}
 pub use Rattle.tso_model.specs.FlatMachine.{State, CoreState, idle, program_of, after_choice, effect_of, start, chosen, step, drain, core_of, is_none_pending, step_of, drain_of, registers_in, started}
-pub use Rattle.tso_model.specs.declared.choice.Choice.{Choice}
-pub use Rattle.tso_model.specs.declared.instruction.Instr.{Instr}
+pub use Rattle.basic_laws.specs.Types.{Choice, Instr, Entry, Step, Drain, Action}
 pub use Rattle.eager_laws.specs.Exchanged.{exchanged, exchanged_by, IsOneOf, AreOf, CoresAreAlike, AreAllAlike, AlikeCoresAreExchangeable, exchanged_core, exchanged_choice, renamed, IsExchangeable, exchanged_entry}
 pub use Rattle.flat_machine.specs.State.{core_of_processor, state_of_snapshot}
 pub use Rattle.explorer.specs.inner.Arranged.{played, IsArranged, ArePairs, HasExchanged, AreExchanged}
@@ -22,8 +21,6 @@ pub use Rattle.explorer.specs.inner.Planned.{AreDead}
 pub use Rattle.std.specs.List.{list_any, AllByRecursion}
 unfoldable pub use Rattle.std.specs.List.{IsDistinct}
 pub use Rattle.indexmap.specs.IndexSet.{insert_key}
-pub use Rattle.tso_model.specs.declared.execution.Entry.{Entry}
-pub use Rattle.tso_model.specs.declared.choice.Choice.TheVariants.{Step, Drain}
 pub use Rattle.tso_model.specs.Runs.{stall_count, CoresExist, is_done, all_done, has_ended, resting, then_run, run_from, run}
 pub use Rattle.eager_laws.specs.Eager.{IsEager, Avoids, meets}
 pub use Rattle.eager_laws.specs.Closed.{LeadsEagerly, IsAmongStates, IsCovered, IsExpanded, AreClosed, ClosedStatesMissNone}
@@ -34,7 +31,6 @@ pub use Rattle.explorer.specs.declared.link.Link.{Link}
 pub use Rattle.explorer.specs.declared.link.Turn.TheVariants.{Made, Exchanged}
 pub use Rattle.std.proofs.lemmas.Map.Keys.{IsDistinct-head, IsDistinct-tail, IsDistinct-cons}
 pub use Rattle.tso_model.specs.Actions.{action_of}
-pub use Rattle.tso_model.specs.declared.action.Action.{Action}
 pub use Rattle.std.specs.Cmp.Lexicographic.{pointwise}
 pub use Rattle.std.proofs.lemmas.Bool.{eqb-true, eq-eqb, both_ways}
 pub use Rattle.std.specs.Prelude.{not}

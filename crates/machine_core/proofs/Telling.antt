@@ -1,6 +1,5 @@
 -- What a choice makes of a machine, from what it makes of its hardware.
-use Rattle.machine_core.proofs.Vocabulary.{◌≡◌, ◌≢◌, ◌++◌, ℕ, Bool, false, List, Result, Ok, Err, IsOk, IfOk, OnOk, OnErr, refl, sym, ◌∙◌, is_err, Litmus, BusState, after_on, Bus, Choice, Committed, Entry, NoMemory, Hardware, ChoiceAnswer, HasEffect, state_in, Running, machine_after, Statistics, statistics_in, attempt_in, effect_in, use_in, statistics_next, SucceedsUnlessCommitting, HasFailed}
-use Rattle.machine_core.specs.Running.{machine_effect, machine_use}
+use Rattle.machine_core.proofs.Vocabulary.{◌≡◌, ◌≢◌, ◌++◌, ℕ, Bool, false, List, Result, Ok, Err, IsOk, IfOk, OnOk, OnErr, refl, sym, ◌∙◌, is_err, Litmus, BusState, after_on, Bus, Choice, Committed, Entry, NoMemory, Hardware, ChoiceAnswer, HasEffect, state_in, Running, machine_after, Statistics, statistics_in, attempt_in, effect_in, use_in, statistics_next, SucceedsUnlessCommitting, HasFailed, machine_effect, machine_use}
 use Rattle.machine_core.specs.inner.Machine.{running_of}
 use Rattle.machine_core.proofs.RunningLemmas.{same-state}
 

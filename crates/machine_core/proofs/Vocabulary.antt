@@ -9,10 +9,7 @@ pub use Rattle.std.specs.Option.{option_map, IsSome}
 pub use Rattle.std.specs.List.{last_or, list_any, sum_by}
 pub use Rattle.tso_model.specs.ProgramOrder.{writes_to, same_kind}
 pub use Rattle.tso_model.specs.FlatMachine.{CoreState, Effect, stalled, memory_after, stored, State, after_choice, chosen, core_of, idle, effect_by, step_of, effect_of, program_of, advanced_with, started, is_none_pending, start, drain_of}
-pub use Rattle.tso_model.specs.declared.register.Reg.{Reg}
-pub use Rattle.tso_model.specs.declared.instruction.Loc.{Loc}
-pub use Rattle.tso_model.specs.declared.action.Update.{Update}
-pub use Rattle.tso_model.specs.declared.execution.Entry.{Entry}
+pub use Rattle.basic_laws.specs.Types.{Reg, Loc, Update, Entry, Core, Outcome, Committed, Stalled, Buffered, Moved, W, R, F, LR, LW, NoMemory, Split, Atomic, Choice, Bus, Instr, Action, Step, Drain, Kind}
 pub use Rattle.store_buffer.specs.declared.Pending.{Pending}
 pub use Rattle.store_buffer.specs.inner.Newest.{newest_for}
 pub use Rattle.snoop_bus.specs.declared.access.Access.{Access}
@@ -25,9 +22,6 @@ pub use Rattle.machine_core.specs.Caches.{Caches, caches_of, not_through, load_a
 pub use Rattle.machine_core.specs.Effects.{HasUsed, ChoiceAnswer, HasEffect}
 pub use Rattle.basic_laws.proofs.WithPending.{drain_with, fenced_with, locked_with}
 pub use Rattle.tso_model.specs.MemoryAccess.{MemoryAccess, NoAccess, Writes, drain_access, store_access, Reads, load_access, locked_access, Locks, access_of, access_by, step_access}
-pub use Rattle.tso_model.specs.declared.instruction.Core.{Core}
-pub use Rattle.tso_model.specs.declared.choice.Outcome.{Outcome}
-pub use Rattle.tso_model.specs.declared.choice.Outcome.TheVariants.{Committed, Stalled, Buffered, Moved}
 pub use Rattle.order_builder.specs.inner.Noted.{Noted}
 pub use Rattle.machine_core.specs.declared.turn.Way.{Way}
 pub use Rattle.machine_core.specs.declared.turn.Way.TheVariants.{Whole, Asked}
@@ -36,14 +30,10 @@ pub use Rattle.machine_core.specs.inner.Effects.{MayMakeBy, MayMake, MayAccess, 
 pub use Rattle.machine_core.specs.inner.Turns.{HasAsked, by_way, whole}
 pub use Rattle.machine_core.specs.inner.OneCore.{HasActed, Waits, IsMade, IsStored, Acts, SucceedsUnlessCommitting, Notes, AreUnchanged}
 pub use Rattle.tso_model.specs.Thread.{entry, value_in, with_value, value_of, updated}
-pub use Rattle.tso_model.specs.declared.execution.Kind.TheVariants.{W, R, F, LR, LW}
-pub use Rattle.tso_model.specs.declared.out_of_memory.NoMemory.{NoMemory}
 pub use Rattle.std.proofs.lemmas.List.{set-get_or, length-map, length-replicate, with_items_is}
 pub use Rattle.tso_model.specs.Litmus.{Litmus, IsTest, KnownLocation}
 pub use Rattle.tso_model.specs.SplitMachine.{Holder, Free, HeldBy, HeldBetween, Attempt, BusEffect, acts, asks, needs_bus, same_choice, begins, completes, writes_last, as_read, split_effect, reads_first, after_first}
 pub use Rattle.tso_model.specs.EitherBus.{BusState, HitFits, effect_on, unheld, after_on}
-pub use Rattle.tso_model.specs.declared.choice.Bus.TheVariants.{Split, Atomic}
-pub use Rattle.tso_model.specs.declared.choice.Choice.{Choice}
 pub use Rattle.split_laws.specs.Holders.{HolderFits, HasRead}
 pub use Rattle.snoop_bus.specs.declared.holding.Stage.TheVariants.{Locked}
 pub use Rattle.machine_core.specs.declared.accesses.Next.{Next}
@@ -54,18 +44,13 @@ pub use Rattle.machine_core.specs.Split.{use_by, completes_in}
 pub use Rattle.machine_core.specs.inner.Split.{IsOther, begins_in, split_effect_in, writes_last_in, IsLock, WritesAs}
 pub use Rattle.machine_core.specs.OneChoice.{HasMade, IsUndone, AreConsistent}
 pub use Rattle.machine_core.specs.inner.OneChoice.{effect_made_in, AnswerFitsIn, use_in, statistics_next, IsAloneIn}
-pub use Rattle.tso_model.specs.declared.choice.Bus.{Bus}
 pub use Rattle.snoop_bus.specs.Held.{holder_in, transaction_in, holder}
 pub use Rattle.snoop_bus.specs.Asks.{awaited_in, Awaited, asking, asked_for, completed, completed_in, flusher_of, request_for, awaited_as, whole_in}
 unfoldable pub use Rattle.snoop_bus.specs.Asks.{awaiting}
 pub use Rattle.tso_model.specs.Actions.{action_of}
-pub use Rattle.tso_model.specs.declared.instruction.Instr.{Instr}
-pub use Rattle.tso_model.specs.declared.action.Action.{Action}
 pub use Rattle.tso_model.specs.declared.action.Action.TheVariants.{Store, Load, Move, Fence, Lock}
-pub use Rattle.tso_model.specs.declared.choice.Choice.TheVariants.{Step, Drain}
 pub use Rattle.std.proofs.lemmas.List.Elements.{All-set, All-append, All-drop, All-replicate, All-head, All-tail, All-weaker}
 pub use Rattle.tso_model.specs.Limits.{most_instructions}
-pub use Rattle.tso_model.specs.declared.execution.Kind.{Kind}
 pub use Rattle.protocol_tables.specs.Tables.{Table}
 pub use Rattle.snoop_bus.specs.Rows.{table_of_rows}
 pub use Rattle.snoop_bus.specs.CacheContents.{TagSets, sends_in, flusher_from, tags_at}
@@ -78,6 +63,6 @@ pub use Rattle.snoop_bus.specs.inner.Accesses.{MayGoOn, StandsAlone, memory_word
 pub use Rattle.split_laws.specs.BusChoices.{IsPossibleOn}
 pub use Rattle.split_laws.proofs.Ways.{same-is, if-by, begins-by, completes-by, split-by}
 pub use Rattle.split_laws.specs.Between.{IsAnswered, ArePaired}
-pub use Rattle.machine_core.specs.Running.{Running, machine_after, AnswerFits, restarted}
+pub use Rattle.machine_core.specs.Running.{Running, machine_after, AnswerFits, restarted, machine_effect, machine_use}
 pub use Rattle.std.specs.Result.{is_err}
 pub use Rattle.machine_core.specs.inner.Running.{HasFailed, is_ended}

@@ -5,8 +5,7 @@ use Rattle.tso_model.specs.Litmus.{Litmus}
 use Rattle.tso_model.specs.FlatMachine.{start}
 use Rattle.tso_model.specs.SplitMachine.{Attempt}
 use Rattle.tso_model.specs.EitherBus.{BusState, unheld}
-use Rattle.tso_model.specs.declared.choice.Bus.{Bus}
-use Rattle.tso_model.specs.declared.choice.Choice.{Choice}
+use Rattle.basic_laws.specs.Types.{Bus, Choice}
 use Rattle.protocol_tables.specs.Tables.{Table}
 use Rattle.snoop_bus.specs.Geometry.{Geometry}
 use Rattle.machine_core.specs.Caches.{Caches, attempt_of, use_on, state_after_on}

@@ -9,11 +9,7 @@ use Rattle.tso_model.specs.FlatMachine.{State, chosen, core_of}
 use Rattle.tso_model.specs.MemoryAccess.{MemoryAccess, NoAccess, Reads, Writes, Locks, access_of}
 use Rattle.tso_model.specs.SplitMachine.{Holder, Free, HeldBy, HeldBetween, Attempt, BusEffect}
 use Rattle.tso_model.specs.EitherBus.{BusState, effect_on, after_on}
-use Rattle.tso_model.specs.declared.instruction.Loc.{Loc}
-use Rattle.tso_model.specs.declared.execution.Entry.{Entry}
-use Rattle.tso_model.specs.declared.execution.Kind.{Kind}
-use Rattle.tso_model.specs.declared.execution.Kind.TheVariants.{R, W, F, LR, LW}
-use Rattle.tso_model.specs.declared.choice.Choice.{Choice}
+use Rattle.basic_laws.specs.Types.{Loc, Entry, Kind, R, W, F, LR, LW, Choice}
 use Rattle.snoop_bus.specs.Geometry.{Geometry}
 use Rattle.snoop_bus.specs.Rows.{TableColumns, table_of_rows}
 use Rattle.snoop_bus.specs.CacheContents.{TagSets, Accessed}

@@ -3,8 +3,7 @@
 use Rattle.std.specs.Prelude.{ℕ, ◌+◌, ◌<◌, List, [], ◌∷◌, map, All}
 use Rattle.tso_model.specs.Thread.{entry}
 use Rattle.tso_model.specs.FlatMachine.{CoreState, State}
-use Rattle.tso_model.specs.declared.execution.Entry.{Entry}
-use Rattle.tso_model.specs.declared.execution.Kind.TheVariants.{W}
+use Rattle.basic_laws.specs.Types.{Entry, W}
 use Rattle.store_buffer.specs.declared.Pending.{Pending}
 use Rattle.store_buffer.specs.Stores.{Stores}
 use Rattle.store_buffer.specs.inner.Stores.{stores}

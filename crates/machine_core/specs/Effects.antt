@@ -3,8 +3,7 @@
 use Rattle.std.specs.Prelude.{◌≡◌, ◌++◌}
 use Rattle.tso_model.specs.FlatMachine.{applied, chosen}
 use Rattle.tso_model.specs.SplitMachine.{BusEffect}
-use Rattle.tso_model.specs.declared.choice.Choice.{Choice}
-use Rattle.tso_model.specs.declared.choice.Outcome.{Outcome}
+use Rattle.basic_laws.specs.Types.{Choice, Outcome}
 use Rattle.snoop_bus.specs.Bus.{BusModel}
 use Rattle.machine_core.specs.declared.accesses.CacheUse.{CacheUse}
 use Rattle.machine_core.specs.declared.hardware.Hardware.{Hardware}

@@ -6,9 +6,7 @@ use Rattle.tso_model.specs.FlatMachine.{State}
 use Rattle.tso_model.specs.MemoryAccess.{MemoryAccess, access_of}
 use Rattle.tso_model.specs.SplitMachine.{Holder, Free, HeldBy, HeldBetween}
 use Rattle.tso_model.specs.EitherBus.{BusState}
-use Rattle.tso_model.specs.declared.instruction.Core.{Core}
-use Rattle.tso_model.specs.declared.choice.Choice.{Choice}
-use Rattle.tso_model.specs.declared.choice.Choice.TheVariants.{Step, Drain}
+use Rattle.basic_laws.specs.Types.{Core, Choice, Step, Drain}
 use Rattle.snoop_bus.specs.Bus.{words_of, cores_of, holder_of}
 use Rattle.snoop_bus.specs.declared.holding.Stage.TheVariants.{Locked}
 use Rattle.machine_core.specs.declared.processor.Processor.{Processor}

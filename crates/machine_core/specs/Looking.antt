@@ -5,9 +5,7 @@ use Rattle.tso_model.specs.Litmus.{Litmus}
 use Rattle.tso_model.specs.FlatMachine.{State}
 use Rattle.tso_model.specs.MemoryAccess.{access_of}
 use Rattle.tso_model.specs.SplitMachine.{Holder, Free, HeldBy, HeldBetween}
-use Rattle.tso_model.specs.declared.instruction.Loc.{Loc}
-use Rattle.tso_model.specs.declared.choice.Choice.{Choice}
-use Rattle.tso_model.specs.declared.choice.Choice.TheVariants.{Step}
+use Rattle.basic_laws.specs.Types.{Loc, Choice, Step}
 use Rattle.snoop_bus.specs.Asks.{Awaited}
 use Rattle.machine_core.specs.declared.looking.BusHolder.{BusHolder}
 use Rattle.machine_core.specs.Caches.{at_access}

@@ -4,11 +4,7 @@ use Rattle.std.specs.Prelude.{ℕ, List, [], ◌∷◌, None, codes}
 use Rattle.tso_model.specs.FlatMachine.{step, drain}
 use Rattle.tso_model.specs.Litmus.{Litmus}
 use Rattle.tso_model.specs.Examples.{loc_x, loc_y, zeros}
-use Rattle.tso_model.specs.declared.register.Reg.TheVariants.{Eax, Ebx}
-use Rattle.tso_model.specs.declared.instruction.Loc.{Loc}
-use Rattle.tso_model.specs.declared.instruction.Instr.{Instr}
-use Rattle.tso_model.specs.declared.instruction.Instr.TheVariants.{StoreImm, Load, Xchg, Xadd}
-use Rattle.tso_model.specs.declared.choice.Choice.{Choice}
+use Rattle.basic_laws.specs.Types.{Eax, Ebx, Loc, Instr, StoreImm, Load, Xchg, Xadd, Choice}
 use Rattle.snoop_bus.specs.Geometry.{Geometry, geometry}
 use Rattle.machine_core.specs.declared.counts.Counts.{Counts}
 use Rattle.machine_core.specs.Statistics.{counts}

@@ -4,25 +4,15 @@ pub use Rattle.tso_model.specs.Actions.{action_of}
 pub use Rattle.tso_model.specs.Litmus.{Litmus, IsTest}
 pub use Rattle.tso_model.specs.Thread.{entry, value_of}
 pub use Rattle.tso_model.specs.FlatMachine.{CoreState, State, idle, advanced, advanced_with, moved, step_of, core_of, program_of, effect_of, after_choice, applied, step, Effect, is_none_pending, stalled, stored, when_drained, effect_by, drain_of, memory_after, drain, chosen, loaded, load_value, started, start}
-pub use Rattle.tso_model.specs.declared.instruction.Instr.{Instr}
-pub use Rattle.tso_model.specs.declared.instruction.Loc.{Loc}
-pub use Rattle.tso_model.specs.declared.register.Reg.{Reg}
-pub use Rattle.tso_model.specs.declared.action.Operand.{Operand}
+pub use Rattle.basic_laws.specs.Types.{Instr, Loc, Reg, Operand, Entry, W, R, Action, Choice, Stall, Committed, Buffered, Stalled, Step, Drain}
 pub use Rattle.tso_model.specs.declared.action.Action.TheVariants.{Store, Move, Load, Fence, Lock}
-pub use Rattle.tso_model.specs.declared.execution.Entry.{Entry}
-pub use Rattle.tso_model.specs.declared.execution.Kind.TheVariants.{W, R}
 pub use Rattle.tso_model.specs.Runs.{CoresExist, is_done, all_done, has_ended, run}
 pub use Rattle.tso_laws.specs.Choices.{state_after, commits_of}
 pub use Rattle.tso_laws.specs.Along.{steps}
 pub use Rattle.basic_laws.proofs.Basics.{decide, and-left, and-right, before}
 pub use Rattle.basic_laws.proofs.Lists.{append-nil, Member, member-at}
-pub use Rattle.tso_model.specs.declared.action.Action.{Action}
-pub use Rattle.tso_model.specs.declared.choice.Choice.{Choice}
-pub use Rattle.tso_model.specs.declared.choice.Stall.{Stall}
-pub use Rattle.tso_model.specs.declared.choice.Outcome.TheVariants.{Committed, Buffered, Stalled}
 pub use Rattle.tso_laws.specs.inner.Laws.{StallsChangeNothing, RunsStopWhereTheyEnd}
 pub use Rattle.std.proofs.Math.ListN.{length-set}
-pub use Rattle.tso_model.specs.declared.choice.Choice.TheVariants.{Step, Drain}
 pub use Rattle.tso_laws.specs.Counting.{instructions, stores_of_all}
 pub use Rattle.tso_laws.specs.Laws.{RunsAreCounted, RunsReachExactlyTheExecutions}
 pub use Rattle.outcome_laws.specs.Outcomes.{LeadToEnd, ChoicesToAnEndAreCounted, IsSequentiallyConsistent, UnbufferedRunsReachExactlyTheSequentiallyConsistent, IsEnd, IsAllowedAtDepth, IsAllowedByTso, IsAllowedSequentially, EndsAreWhatTsoAllows}

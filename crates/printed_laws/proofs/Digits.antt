@@ -1,6 +1,5 @@
 -- The digits of a number, however great, and texts that are cut where a byte stands last.
-use Rattle.printed_laws.proofs.Vocabulary.{◌≡◌, ℕ, ◌<◌, Bool, true, false, List, [], ◌∷◌, ◌++◌, get_or, drop, refl, sym, ap, subst, ◌∙◌, zero, suc, arith, ◌+◌, ◌==◌, cond, not, ◌/◌, ◌%◌, lt-ltb, le-leb, eq-eqb, decimal, list_all, is_ascii_digit, and_parts, and_from, nat_tests, list_all-append}
-use Rattle.std.specs.Fmt.{digits, digits_onto, digit_glyph}
+use Rattle.printed_laws.proofs.Vocabulary.{◌≡◌, ℕ, ◌<◌, Bool, true, false, List, [], ◌∷◌, ◌++◌, get_or, drop, refl, sym, ap, subst, ◌∙◌, zero, suc, arith, ◌+◌, ◌==◌, cond, not, ◌/◌, ◌%◌, lt-ltb, le-leb, eq-eqb, decimal, list_all, is_ascii_digit, and_parts, and_from, nat_tests, list_all-append, digits, digits_onto, digit_glyph}
 
 -- ---- digits
 

@@ -1,7 +1,5 @@
 -- What a text ends in; and that it ends in one verdict at most.
-use Rattle.printed_laws.proofs.Vocabulary.{◌≡◌, ℕ, Bool, true, false, List, [], ◌∷◌, ◌++◌, drop, refl, sym, ap, subst, ◌∙◌, suc, arith, length, append-nil, list_all, flat_map, append_cancel_right, append_assoc, length-append, Data, string, Members, no_members, member, object, compact_text, codes, line, escape_byte, verdict_word, PrintsVerdict}
-use Rattle.json.specs.Print.{quoted}
-use Rattle.serde_json.specs.Written.{members_text}
+use Rattle.printed_laws.proofs.Vocabulary.{◌≡◌, ℕ, Bool, true, false, List, [], ◌∷◌, ◌++◌, drop, refl, sym, ap, subst, ◌∙◌, suc, arith, length, append-nil, list_all, flat_map, append_cancel_right, append_assoc, length-append, Data, string, Members, no_members, member, object, compact_text, codes, line, escape_byte, verdict_word, PrintsVerdict, quoted, members_text}
 use Rattle.printed_laws.proofs.Cutting.{unlike}
 use Rattle.printed_laws.proofs.Digits.{is_other, there}
 

@@ -1,9 +1,7 @@
 -- JSON values that are read back from their text: each number is one, and nothing nests too deep. Such a text tells the value, up to
 -- how its numbers are spelled.
-use Rattle.printed_laws.proofs.Vocabulary.{◌≡◌, ℕ, List, [], ◌∷◌, ◌++◌, sym, ap, ◌∙◌, zero, suc, ◌≤◌, Option, unwrap_or, arith, All, Some, None, map, append_cancel_right, document, max_depth, depth, HasNumbers, items_depth, members_depth, ItemsHaveNumbers, MembersHaveNumbers, Data, string, Members, no_members, member, put, outline, compact_text, items_outline, members_outline, print-outline, IsNumber-decimal, count, All-head, All-tail, IsWord, nat_cmp, match_ordering, slice_cmp, Ordering, Less, Equal, Greater, items_of, text_or_null}
-use Rattle.std.specs.Prelude.{max}
+use Rattle.printed_laws.proofs.Vocabulary.{◌≡◌, ℕ, List, [], ◌∷◌, ◌++◌, sym, ap, ◌∙◌, zero, suc, ◌≤◌, Option, unwrap_or, arith, All, Some, None, map, append_cancel_right, document, max_depth, depth, HasNumbers, items_depth, members_depth, ItemsHaveNumbers, MembersHaveNumbers, Data, string, Members, no_members, member, put, outline, compact_text, items_outline, members_outline, print-outline, IsNumber-decimal, count, All-head, All-tail, IsWord, nat_cmp, match_ordering, slice_cmp, Ordering, Less, Equal, Greater, items_of, text_or_null, max, IsNumber}
 use Rattle.json.specs.Json as json
-use Rattle.json.specs.Print.{IsNumber}
 use Rattle.json.proofs.Printed.Trees.{document-print}
 
 -- the value's numbers are JSON's, and it nests no deeper than this

@@ -1,8 +1,7 @@
 -- Reports, their JSON objects and the lines of sweeps tell the test's name, the protocol and the configuration.
-use Rattle.printed_laws.proofs.Vocabulary.{◌≡◌, ℕ, true, false, List, [], ◌∷◌, ◌++◌, get_or, refl, sym, ap, ◌∙◌, arith, decimal, decimal_injective, append_assoc, object, outline, codes, line, register_lines, choices_line, cache_lines, memory_line, condition_line, with_bus, configuration_members, machine_value, run_value, ReportsTellTheirMachines, SweepsTellTheirMachines, Litmus, Bus, Atomic, Split, protocol_name, ProtocolKind, Configuration, IsConfigurationWithinLimits, printed_order, ShownRun, RunCounts, ended_in, counted_state_lines, observation, tally_text, runs_in}
+use Rattle.printed_laws.proofs.Vocabulary.{◌≡◌, ℕ, true, false, List, [], ◌∷◌, ◌++◌, get_or, refl, sym, ap, ◌∙◌, arith, decimal, decimal_injective, append_assoc, object, outline, codes, line, register_lines, choices_line, cache_lines, memory_line, condition_line, with_bus, configuration_members, machine_value, run_value, ReportsTellTheirMachines, SweepsTellTheirMachines, Litmus, Bus, Atomic, Split, protocol_name, ProtocolKind, Configuration, IsConfigurationWithinLimits, printed_order, ShownRun, RunCounts, ended_in, counted_state_lines, observation, tally_text, runs_in, ends_text}
 use Rattle.json.specs.Json as json
 use Rattle.scheduler.specs.Plan.{Plan}
-use Rattle.tso_report.specs.Tally.{ends_text}
 use Rattle.printed_laws.proofs.Cutting.{unlike, filled-cut}
 use Rattle.printed_laws.proofs.Heads.{protocol-cut, line-small, same-configuration, head-cut}
 use Rattle.printed_laws.proofs.JsonTexts.{members_in, value_at, text_at}

@@ -1,9 +1,8 @@
 -- What is read back from the steps of a refutation refutes: each question has a part for each of its answers, and each part closes
 -- the case of its answer.
-use Rattle.printed_laws.proofs.Vocabulary.{◌≡◌, ℕ, Bool, true, false, List, [], ◌∷◌, ◌++◌, drop, refl, sym, ap, subst, ◌∙◌, Option, inl, inr, length, ◌==◌, cond, map, not, ◌⊎◌, append-nil, flat_map, and_parts, and_from, length-map, filter, Litmus, Claim, Entry, Node, ReadsFrom, ComesFirst, OnLocation, Globally, Between, FalseClaim, sources_of, is_node, branches, close, Model, ReasonStep, is_leaf, leaf_steps, replies, with_reply, Part, Branch, branches_with, is_closed, groups, rest_steps, question_steps, grown, is_write, Known, same_event, bare, is_event, nothing, same-bare, Reply, Reads, First, Each, each-left, each-right, bare-same, ReadCase, Closed, Cases, nodes_with, nodes_of, parts_in, question_answered, tree_of, StepsOfRefutationsRefute}
+use Rattle.printed_laws.proofs.Vocabulary.{◌≡◌, ℕ, Bool, true, false, List, [], ◌∷◌, ◌++◌, drop, refl, sym, ap, subst, ◌∙◌, Option, inl, inr, length, ◌==◌, cond, map, not, ◌⊎◌, append-nil, flat_map, and_parts, and_from, length-map, filter, Litmus, Claim, Entry, Node, ReadsFrom, ComesFirst, OnLocation, Globally, Between, FalseClaim, sources_of, is_node, branches, close, Model, ReasonStep, is_leaf, leaf_steps, replies, with_reply, Part, Branch, branches_with, is_closed, groups, rest_steps, question_steps, grown, is_write, Known, same_event, bare, is_event, nothing, same-bare, Reply, Reads, First, Each, each-left, each-right, bare-same, ReadCase, Closed, Cases, nodes_with, nodes_of, parts_in, question_answered, tree_of, StepsOfRefutationsRefute, parts_of_nodes}
 use mathlib.Core.Path.{ap₂}
 use Rattle.relational_model.proofs.KindFacts.{number-same, same-number}
-use Rattle.reason_report.specs.Steps.{parts_of_nodes}
 use Rattle.printed_laws.proofs.PlainAnswers.{plain-reply}
 use Rattle.printed_laws.proofs.CaseGroups.{all-grouped}
 use Rattle.printed_laws.proofs.ReasonsFit.{branches-are}

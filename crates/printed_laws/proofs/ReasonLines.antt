@@ -1,6 +1,5 @@
 -- The lines of a reason tell its steps.
-use Rattle.printed_laws.proofs.Vocabulary.{◌≡◌, ℕ, Bool, true, false, List, [], ◌∷◌, ◌++◌, get_or, refl, sym, ap, ◌∙◌, zero, suc, Option, length, All, Some, None, ◌==◌, map, if◌then◌else◌, decimal, list_all, flat_map, is_ascii_digit, append_cancel_left, append_assoc, length-replicate, codes, line, test_line, Litmus, IsTest, is_printable, All-head, All-tail, Condition, verdict_line, Model, ReasonStep, Case, So, Leaf, Endcases, leaves_in, Closing, Uniproc, Cycle, Amid, False, model_name, asked_line, never_line, reason_step_line, blanks, answer_text, closing_text, event_text, cycle_text, place_text, Tso, Sequential, on_location, global_in, Event, told_closing, told_reason_step, ClosingFits, ReasonsTellTheirTests, ReasonsTellTheirSteps}
-use Rattle.printed_laws.specs.Reasons.{ReasonStepFits}
+use Rattle.printed_laws.proofs.Vocabulary.{◌≡◌, ℕ, Bool, true, false, List, [], ◌∷◌, ◌++◌, get_or, refl, sym, ap, ◌∙◌, zero, suc, Option, length, All, Some, None, ◌==◌, map, if◌then◌else◌, decimal, list_all, flat_map, is_ascii_digit, append_cancel_left, append_assoc, length-replicate, codes, line, test_line, Litmus, IsTest, is_printable, All-head, All-tail, Condition, verdict_line, Model, ReasonStep, Case, So, Leaf, Endcases, leaves_in, Closing, Uniproc, Cycle, Amid, False, model_name, asked_line, never_line, reason_step_line, blanks, answer_text, closing_text, event_text, cycle_text, place_text, Tso, Sequential, on_location, global_in, Event, told_closing, told_reason_step, ClosingFits, ReasonsTellTheirTests, ReasonsTellTheirSteps, ReasonStepFits}
 use Rattle.printed_laws.proofs.Cutting.{unlike, run-cut}
 use Rattle.printed_laws.proofs.Digits.{all-digits}
 use Rattle.printed_laws.proofs.TraceWords.{read-cut}

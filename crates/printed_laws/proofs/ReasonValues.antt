@@ -1,7 +1,6 @@
 -- The JSON value of a reason tells its steps.
-use Rattle.printed_laws.proofs.Vocabulary.{◌≡◌, ℕ, ◌^◌, ◌<◌, false, List, [], ◌∷◌, ◌++◌, get_or, refl, sym, ap, ◌∙◌, Option, arith, All, Some, None, ◌==◌, map, if◌then◌else◌, IfSome, decimal_injective, max_depth, string, array, outline, items_outline, members_outline, codes, IsNumber-decimal, count, Litmus, IsTest, All-head, All-tail, Condition, items_of, key_of, Model, ReasonStep, Case, So, Leaf, Endcases, leaves_in, Answer, From, Before, Uniproc, Cycle, Amid, False, event_text, relation_text, source_text, asked_value, step_value, edge_value, answer_value, place_members, never_value_of, option_map, on_location, global_in, Relation, Event, told_event, EventFits, told_edge, told_answer, LeadFrom, CycleFits, CaseFits, PlaceFits, told_by_value, depth_in, AreCounted, ReasonValuesTellTheirSteps, Place, Edge}
+use Rattle.printed_laws.proofs.Vocabulary.{◌≡◌, ℕ, ◌^◌, ◌<◌, false, List, [], ◌∷◌, ◌++◌, get_or, refl, sym, ap, ◌∙◌, Option, arith, All, Some, None, ◌==◌, map, if◌then◌else◌, IfSome, decimal_injective, max_depth, string, array, outline, items_outline, members_outline, codes, IsNumber-decimal, count, Litmus, IsTest, All-head, All-tail, Condition, items_of, key_of, Model, ReasonStep, Case, So, Leaf, Endcases, leaves_in, Answer, From, Before, Uniproc, Cycle, Amid, False, event_text, relation_text, source_text, asked_value, step_value, edge_value, answer_value, place_members, never_value_of, option_map, on_location, global_in, Relation, Event, told_event, EventFits, told_edge, told_answer, LeadFrom, CycleFits, CaseFits, PlaceFits, told_by_value, depth_in, AreCounted, ReasonValuesTellTheirSteps, Place, Edge, ReasonStepFits, cycle_value}
 use Rattle.json.specs.Json as json
-use Rattle.printed_laws.specs.Reasons.{ReasonStepFits}
 use Rattle.printed_laws.proofs.Lists.{both-fit}
 use Rattle.printed_laws.proofs.Cutting.{unlike}
 use Rattle.printed_laws.proofs.JsonReading.{ReadsBack, MembersReadBack, deeper, put-back, each-back, all-back, words-back, line-told}
@@ -9,7 +8,6 @@ use Rattle.printed_laws.proofs.OutcomeObjects.{verdict-back}
 use Rattle.printed_laws.proofs.JsonTexts.{members_in, items_in, text_in, value_at, text_at, first_item, more_items, has_item, items-told}
 use Rattle.printed_laws.proofs.ReasonWords.{event-cut, AreTold, uniproc-told, global-told, relation-cut}
 use Rattle.printed_laws.proofs.ReasonParts.{source-cut}
-use Rattle.reason_report.specs.ReasonJson.{cycle_value}
 
 -- ---- texts with nothing behind them
 

@@ -1,7 +1,5 @@
 -- The steps of a refutation fit its test.
-use Rattle.printed_laws.proofs.Vocabulary.{◌≡◌, ℕ, Bool, true, false, List, [], ◌∷◌, ◌++◌, drop, refl, ap, subst, zero, suc, ◌≤◌, Option, arith, inl, inr, ◌+◌, length, All, Some, None, cond, map, not, ◌||◌, IfSome, list_all, flat_map, list_any, and_parts, length-map, filter, all_registers, Litmus, IsTest, All-head, All-tail, All-weaker, All-map, All-cons, All-nil, All-filter, All-append, Claim, IsWord, Reg, Entry, Named, Register, Location, looked_at, named_register, named_registers, named_locations, is_looked_at, Node, asked_claim, ReadsFrom, ComesFirst, OnLocation, Globally, Between, FalseClaim, sources_of, is_node, branches, close, Model, ReasonStep, Case, So, Endcases, steps_of, event_at, edges_back, edges_of, is_leaf, leaf_steps, replies, with_reply, Part, Branch, branches_with, is_closed, write_of_answer, answer_at, are_alike, groups, known_of_case, closed_case, case_steps, so_steps, rest_steps, question_steps, grown, writes_to, on_location, global_in, relates, is_edge, is_cycle, leads_back, Relation, Event, EventFits, IsRelationAmong, LeadFrom, CycleFits, CaseFits, IsNamed, PlaceFits, StepsOfRefutationsFit, PrintedRefutationsTellTheirSteps, words_at, known_among, unseen, suffices, place_with_values, places_in, Known, events_of, is_event, nothing, with_source, first_that_relates, Reply, Reads, First}
-use Rattle.reason_report.specs.Steps.{parts_of_nodes}
-use Rattle.printed_laws.specs.Reasons.{ReasonStepFits}
+use Rattle.printed_laws.proofs.Vocabulary.{◌≡◌, ℕ, Bool, true, false, List, [], ◌∷◌, ◌++◌, drop, refl, ap, subst, zero, suc, ◌≤◌, Option, arith, inl, inr, ◌+◌, length, All, Some, None, cond, map, not, ◌||◌, IfSome, list_all, flat_map, list_any, and_parts, length-map, filter, all_registers, Litmus, IsTest, All-head, All-tail, All-weaker, All-map, All-cons, All-nil, All-filter, All-append, Claim, IsWord, Reg, Entry, Named, Register, Location, looked_at, named_register, named_registers, named_locations, is_looked_at, Node, asked_claim, ReadsFrom, ComesFirst, OnLocation, Globally, Between, FalseClaim, sources_of, is_node, branches, close, Model, ReasonStep, Case, So, Endcases, steps_of, event_at, edges_back, edges_of, is_leaf, leaf_steps, replies, with_reply, Part, Branch, branches_with, is_closed, write_of_answer, answer_at, are_alike, groups, known_of_case, closed_case, case_steps, so_steps, rest_steps, question_steps, grown, writes_to, on_location, global_in, relates, is_edge, is_cycle, leads_back, Relation, Event, EventFits, IsRelationAmong, LeadFrom, CycleFits, CaseFits, IsNamed, PlaceFits, StepsOfRefutationsFit, PrintedRefutationsTellTheirSteps, words_at, known_among, unseen, suffices, place_with_values, places_in, Known, events_of, is_event, nothing, with_source, first_that_relates, Reply, Reads, First, parts_of_nodes, ReasonStepFits}
 use Rattle.printed_laws.proofs.KnownWords.{MayBeWord, either, value-fits, register-word, location-words}
 use Rattle.printed_laws.proofs.ReasonLines.{lines-tell}
 use Rattle.printed_laws.proofs.EventsFit.{IsEventFor, events-fit, event-fits}

@@ -1,18 +1,14 @@
 -- The lines of a trace tell its steps.
-use Rattle.printed_laws.proofs.Vocabulary.{◌≡◌, ℕ, ◌^◌, ◌<◌, List, [], ◌∷◌, ◌++◌, get_or, refl, sym, ap, ◌∙◌, Option, arith, ◌+◌, length, All, Some, None, ◌==◌, map, if◌then◌else◌, IfSome, decimal, is_ascii_digit, append_cancel_left, append_assoc, length-map, codes, Litmus, IsTest, continues_name, All-head, All-tail, Entry, HasWord, Choice, Drain, printed_choice, chosen, all_of_location, IsLine, IsAt, entries_text, moved_text, forwarded_text, access_text, request_text, flush_text, write_back_text, changes_text, outcome_name, store_text, later_stores, stores_text, buffer_text, step_lines, StateChange, option_map, Stall, Done, Full, Empty, Committed, Buffered, Moved, Asked, Stalled, bare_store, told_by_line, TraceStepFits, TracesTellTheirSteps}
-use Rattle.tso_model.specs.declared.choice.Choice.TheVariants.{Step}
+use Rattle.printed_laws.proofs.Vocabulary.{◌≡◌, ℕ, ◌^◌, ◌<◌, List, [], ◌∷◌, ◌++◌, get_or, refl, sym, ap, ◌∙◌, Option, arith, ◌+◌, length, All, Some, None, ◌==◌, map, if◌then◌else◌, IfSome, decimal, is_ascii_digit, append_cancel_left, append_assoc, length-map, codes, Litmus, IsTest, continues_name, All-head, All-tail, Entry, HasWord, Choice, Drain, printed_choice, chosen, all_of_location, IsLine, IsAt, entries_text, moved_text, forwarded_text, access_text, request_text, flush_text, write_back_text, changes_text, outcome_name, store_text, later_stores, stores_text, buffer_text, step_lines, StateChange, option_map, Stall, Done, Full, Empty, Committed, Buffered, Moved, Asked, Stalled, bare_store, told_by_line, TraceStepFits, TracesTellTheirSteps, trace_step_line}
+use Rattle.basic_laws.specs.Types.{Step, Outcome}
 use Rattle.tso_model.specs.declared.choice.Stall.TheVariants.{Fence, Lock, Bus}
-use Rattle.tso_model.specs.declared.choice.Outcome.{Outcome}
 use Rattle.protocol_tables.specs.PrintedTable.{line}
-use Rattle.trace_report.specs.Lines.{trace_step_line}
 use Rattle.trace_report.specs.Shown.{ShownStep}
 use Rattle.printed_laws.proofs.Cutting.{run-cut}
 use Rattle.printed_laws.proofs.Lists.{both-fit}
 use Rattle.printed_laws.proofs.Digits.{all-digits}
 use Rattle.printed_laws.proofs.TraceWords.{Ends, read-cut, core_in, choice-cut, apart, same-loc, value-cut}
-use Rattle.printed_laws.proofs.TraceParts.{Follows, rank, missing, core-rank, is-part, earlier, ending-follows, ChangeFits}
-use Rattle.printed_laws.proofs.TraceParts.{moved-follows, forwarded-follows, access-follows, request-follows, flush-follows, write-back-follows, changes-follow}
-use Rattle.printed_laws.proofs.TraceParts.{entries-cut, moved-cut, forwarded-cut, access-cut, request-cut, flush-cut, write-back-cut, changes-cut}
+use Rattle.printed_laws.proofs.TraceParts.{Follows, rank, missing, core-rank, is-part, earlier, ending-follows, ChangeFits, moved-follows, forwarded-follows, access-follows, request-follows, flush-follows, write-back-follows, changes-follow, entries-cut, moved-cut, forwarded-cut, access-cut, request-cut, flush-cut, write-back-cut, changes-cut}
 
 -- ---- the outcome
 

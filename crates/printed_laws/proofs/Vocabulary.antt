@@ -1,6 +1,6 @@
 -- The names that the proofs of this crate bring in from definitions and from crates below; each file takes its own from here.
 pub use Rattle.std.proofs.Common.{◌≡◌, ℕ, ◌^◌, ◌<◌, Bool, true, false, List, [], ◌∷◌, ◌++◌, get_or, drop, refl, sym, ap, subst, ◌∙◌, zero, suc, ◌≤◌, Option, unwrap_or, arith, inl, inr, ◌+◌, length, slice_index, All, Some, None, is_some, ◌-◌, ◌==◌, cond, map, ◌≢◌, not, ◌||◌, ◌/◌, ◌%◌, lt-ltb, le-leb, ◌&&◌, slice_index_or, eq-eqb, Contains, eqb-true, ◌⊎◌, if◌then◌else◌, ◌*◌, take, IfSome, nat_lt, slice_get, slice_set, append-nil}
-pub use Rattle.std.specs.Fmt.{decimal}
+pub use Rattle.std.specs.Fmt.{decimal, digits, digits_onto, digit_glyph}
 pub use Rattle.std.specs.List.{list_all, AllByRecursion, flat_map, range_with_len, list_any}
 pub use Rattle.std.specs.Char.{is_ascii_digit}
 pub use Rattle.std.proofs.lemmas.Bool.{and_parts, and_from, or_cases, or_right}
@@ -9,9 +9,9 @@ pub use Rattle.std.proofs.lemmas.List.{append_cancel_left, append_cancel_right, 
 pub use Rattle.json.specs.Json.{document, max_depth}
 pub use Rattle.json.specs.Tree.{depth, HasNumbers, items_depth, members_depth, ItemsHaveNumbers, MembersHaveNumbers, json_tokens}
 pub use Rattle.serde_json.specs.Data.{Data, string, Members, no_members, member, put, object, array}
-pub use Rattle.serde_json.specs.Written.{outline, compact_text, items_outline, members_outline}
+pub use Rattle.serde_json.specs.Written.{outline, compact_text, items_outline, members_outline, members_text}
 pub use Rattle.serde_json.proofs.Texts.{print-outline}
-pub use Rattle.std.specs.Prelude.{codes, sum, count_by, filter}
+pub use Rattle.std.specs.Prelude.{codes, sum, count_by, filter, max}
 pub use Rattle.json.proofs.Printed.Decimals.{IsNumber-decimal}
 pub use Rattle.tso_report.specs.Report.{line, bus_text, machine_line, head, printed_registers, register_lines, printed_words, printed_quantifier, printed_truth, printed_verdict, choices_line, cache_line, cache_lines, report, memory_line, condition_line, test_line, body}
 unfoldable pub use Rattle.tso_report.specs.Report.{all_registers}
@@ -19,8 +19,7 @@ pub use Rattle.tso_report.specs.Json.{unfinished_run_value, count, counts_value,
 pub use Rattle.printed_laws.specs.Telling.{UnfinishedRunsAreTold, NameTheSame, ReportsTellTheirRuns, SweepsTellTheirCounts, ReportsTellTheirMachines, SweepsTellTheirMachines}
 pub use Rattle.tso_model.specs.Litmus.{Litmus, IsTest, are_distinct, IsProgram, KnownLocation, ConstantIsWord}
 pub use Rattle.tso_model.specs.Names.{is_printable, is_test_name, is_among, is_name, is_location_name, continues_name}
-pub use Rattle.tso_model.specs.declared.choice.Bus.{Bus}
-pub use Rattle.tso_model.specs.declared.choice.Bus.TheVariants.{Atomic, Split}
+pub use Rattle.basic_laws.specs.Types.{Bus, Atomic, Split, Reg, Entry, Eax, Ebx, Ecx, Edx, Esi, Edi, Choice, Drain, Core, Loc, Kind, R, W, F, LR, LW, Stall, Committed, Buffered, Moved, Asked, Stalled, Instr, Operand, Number, Held, Update, Exchange, Add, Action, Quantifier, Exists, NotExists, Forall}
 pub use Rattle.protocol_tables.specs.Names.{protocol_name}
 pub use Rattle.protocol_tables.specs.declared.kind.ProtocolKind.{ProtocolKind}
 pub use Rattle.snoop_bus.specs.Geometry.{IsLineSize}
@@ -29,10 +28,8 @@ pub use Rattle.std.proofs.lemmas.List.Elements.{All-head, All-tail, All-contains
 pub use Rattle.tso_model.specs.Condition.{Condition, Claim, truth_of, TruthClaim, RegClaim, LocClaim, NotClaim, AndClaim, OrClaim}
 pub use Rattle.tso_model.specs.Registers.{IsWord, AreRegisters, index_of, name_of}
 pub use Rattle.tso_model.specs.Thread.{value_in, entry, fence, value_of, sum_of, updated, entries_by, registers_by, values_after, entries_of}
-pub use Rattle.tso_model.specs.declared.register.Reg.{Reg}
 pub use Rattle.machine_core.specs.Keeping.{IsAtMost}
 pub use Rattle.machine_core.specs.declared.counts.Counts.{Counts}
-pub use Rattle.tso_model.specs.declared.execution.Entry.{Entry}
 pub use Rattle.order_builder.specs.PrintedOrder.{printed_order, printed_entry, printed_end, printed_lines, letters_of, printed_access, HasWord}
 pub use Rattle.order_builder.specs.Spelling.{SpellsOrder, IsOrderFor, HasAccess, IsEntryFor}
 pub use Rattle.tso_report.specs.Laws.{ReportSpellsItsOrder, ReportsAreShort}
@@ -41,16 +38,15 @@ pub use Rattle.tso_cli.specs.Fitting.{RunFitsTest, IsStateOf, shown_under, Ended
 pub use Rattle.std.proofs.lemmas.List.Sums.{sum_by-cons, count_by-le-length}
 pub use Rattle.tso_report.specs.declared.named.Named.{Named}
 pub use Rattle.tso_report.specs.declared.named.Named.TheVariants.{Register, Location}
-pub use Rattle.tso_report.specs.Tally.{RunCounts, looked_at, ended_in, printed_value, printed_values, counted_state_lines, sweep_line, frequency, observed_line, observation, tally_text, runs_in, named_register, named_registers, named_locations, is_looked_at}
+pub use Rattle.tso_report.specs.Tally.{RunCounts, looked_at, ended_in, printed_value, printed_values, counted_state_lines, sweep_line, frequency, observed_line, observation, tally_text, runs_in, named_register, named_registers, named_locations, is_looked_at, ends_text}
 pub use Rattle.std.specs.Ordering.{nat_cmp, match_ordering, is_eq}
 pub use Rattle.std.specs.Cmp.Lexicographic.{slice_cmp}
 pub use Rattle.std.specs.declared.cmp.Ordering.{Ordering}
 pub use Rattle.std.specs.declared.cmp.Ordering.TheVariants.{Less, Equal, Greater}
 pub use Rattle.serde_json.specs.View.{items_of}
-pub use Rattle.tso_model.specs.declared.register.Reg.TheVariants.{Eax, Ebx, Ecx, Edx, Esi, Edi}
 pub use Rattle.std.specs.Str.{bytes_eq}
 pub use Rattle.std.proofs.lemmas.Slice.Eq.{bytes_eq-Decides}
-pub use Rattle.json.specs.Print.{escape, print}
+pub use Rattle.json.specs.Print.{escape, print, quoted, IsNumber}
 unfoldable pub use Rattle.json.specs.Print.{escape_byte}
 pub use Rattle.tso_model.specs.Runs.{Run, run, has_ended, CoresExist}
 pub use Rattle.commands.specs.RunTexts.{report_in, unfinished_in}
@@ -61,8 +57,6 @@ pub use Rattle.std.proofs.lemmas.List.Folds.{list_all-append, list_any-append}
 pub use Rattle.shown_values.specs.Shown.{is_shown, names_shown, values_at}
 pub use Rattle.shown_values.specs.declared.show.Show.{Show}
 pub use Rattle.outcome_report.specs.OutcomesJson.{key_of, states_value, observed_value, observation_value, unfinished_outcomes_json, value_members, holds_in, with_holds, state_value, outcomes_value}
-pub use Rattle.tso_model.specs.declared.choice.Choice.{Choice}
-pub use Rattle.tso_model.specs.declared.choice.Choice.TheVariants.{Drain}
 pub use Rattle.scheduler.specs.Printed.{printed_choice, printed_after, printed_choices}
 pub use Rattle.outcome_report.specs.Outcomes.{Outcome, shown_values, outcomes_line, outcome_lines, condition_lines, unfinished_outcomes_line, held_in, failed_in, true_in, is_met_in, printed_numbers, observation_line, true_line, by_line, state_line, true_from}
 pub use Rattle.outcome_report.proofs.Alike.{alike}
@@ -74,11 +68,11 @@ pub use Rattle.printed_laws.specs.Observed.{EndsInWord, HasWordInObject, PrintsW
 pub use Rattle.relational_model.specs.Candidates.{Candidate, events_from}
 pub use Rattle.refutation_laws.specs.Refutations.{Node, asked_claim, ReadsFrom, ComesFirst, OnLocation, Globally, Between, FalseClaim, sources_of, is_node, branches, close, refutes}
 pub use Rattle.refutation_laws.specs.declared.model.Model.{Model}
-pub use Rattle.reason_report.specs.Steps.{ReasonStep, Case, So, Leaf, Endcases, steps_of, leaves_in, Answer, From, Before, Closing, Uniproc, Cycle, Amid, False, event_at, edges_back, edges_of, is_leaf, leaf_steps, replies, with_reply, Part, Branch, branches_with, is_closed, write_of_answer, answer_at, are_alike, groups, known_of_case, closed_case, case_steps, so_steps, rest_steps, question_steps, grown, is_false_source, is_source, is_false, answer_of_case, answer_of_branch}
+pub use Rattle.reason_report.specs.Steps.{ReasonStep, Case, So, Leaf, Endcases, steps_of, leaves_in, Answer, From, Before, Closing, Uniproc, Cycle, Amid, False, event_at, edges_back, edges_of, is_leaf, leaf_steps, replies, with_reply, Part, Branch, branches_with, is_closed, write_of_answer, answer_at, are_alike, groups, known_of_case, closed_case, case_steps, so_steps, rest_steps, question_steps, grown, is_false_source, is_source, is_false, answer_of_case, answer_of_branch, parts_of_nodes}
 pub use Rattle.reason_report.specs.ReasonText.{model_name, truth_asked, asked_line, never_line, reason_step_line, blanks, answer_text, closing_text, from_line, reads_of, coherence_lines, values_left, location_text, entry_text, event_text, relation_text, hop_text, cycle_text, source_text, or_text, sources_text, bar_text, words_text, place_text}
-pub use Rattle.reason_report.specs.ReasonJson.{asked_value, step_value, edge_value, answer_value, place_members, never_value_of}
+pub use Rattle.reason_report.specs.ReasonJson.{asked_value, step_value, edge_value, answer_value, place_members, never_value_of, allowed_value, unfinished_reason_json, cycle_value}
 pub use Rattle.tso_model.specs.FinalState.{final_words, final_registers}
-pub use Rattle.tso_model.specs.FlatMachine.{registers_in, chosen, CoreState, State, Effect, is_none_pending, stalled, advanced_with, stored, load_value, effect_by, idle, program_of, core_of, effect_of, memory_after, applied, started, start}
+pub use Rattle.tso_model.specs.FlatMachine.{registers_in, chosen, CoreState, State, Effect, is_none_pending, stalled, advanced_with, stored, load_value, effect_by, idle, program_of, core_of, effect_of, memory_after, applied, started, start, step_of}
 pub use Rattle.outcome_laws.specs.Outcomes.{IsEnd, EndsAreWhatTsoAllows}
 pub use Rattle.litmus_reader.specs.Spelling.{SpellsTest}
 pub use Rattle.outcome_report.specs.Laws.{TruthIsShown}
@@ -87,41 +81,29 @@ pub use Rattle.commands.proofs.FoundOutcomes.{Leads, made-of}
 pub use Rattle.command_line.specs.Search.{Search}
 pub use Rattle.tso_cli.specs.OutcomesHeadline.{shown_after, PrintsAllOutcomes, HeadlineOfOutcomes, all, too_many, AreExactly}
 pub use Rattle.refutation_laws.specs.declared.model.Model.TheVariants.{Tso, Sequential}
-pub use Rattle.tso_model.specs.declared.instruction.Core.{Core}
-pub use Rattle.tso_model.specs.declared.instruction.Loc.{Loc}
-pub use Rattle.tso_model.specs.declared.execution.Kind.{Kind}
-pub use Rattle.tso_model.specs.declared.execution.Kind.TheVariants.{R, W, F, LR, LW}
 pub use Rattle.order_builder.proofs.NameLaws.{all_of_location, location_again}
 pub use Rattle.protocol_tables.specs.declared.requests.Transient.TheVariants.{IsD, ImD, SmD}
 pub use Rattle.snoop_bus.specs.declared.access.AccessKind.{AccessKind}
 pub use Rattle.trace_report.specs.Known.{IsLine, IsAt, AreStoresKnown}
-pub use Rattle.trace_report.specs.Lines.{access_name, request_name, state_name, after_plus, joined_by_plus, line_name, entries_text, moved_text, forwarded_text, access_text, request_text, flush_text, write_back_text, changes_text, outcome_name, store_text, later_stores, stores_text, buffer_text, step_lines, stall_name, printed_move, printed_request, printed_core, printed_change, names_in_line, transient_name, trace_text}
+pub use Rattle.trace_report.specs.Lines.{access_name, request_name, state_name, after_plus, joined_by_plus, line_name, entries_text, moved_text, forwarded_text, access_text, request_text, flush_text, write_back_text, changes_text, outcome_name, store_text, later_stores, stores_text, buffer_text, step_lines, stall_name, printed_move, printed_request, printed_core, printed_change, names_in_line, transient_name, trace_text, trace_step_line}
 pub use Rattle.trace_report.specs.declared.step.LineRequest.{LineRequest}
 pub use Rattle.trace_report.specs.declared.step.LineState.{LineState}
 pub use Rattle.trace_report.specs.declared.step.StateChange.{StateChange}
 pub use Rattle.std.specs.Option.{option_map}
-pub use Rattle.tso_model.specs.declared.choice.Stall.{Stall}
 pub use Rattle.tso_model.specs.declared.choice.Stall.TheVariants.{Done, Full, Empty}
-pub use Rattle.tso_model.specs.declared.choice.Outcome.TheVariants.{Committed, Buffered, Moved, Asked, Stalled}
 pub use Rattle.printed_laws.specs.Traces.{bare_store, told_by_line, TraceStepFits, TracesTellTheirSteps, told_by_object, SourceFits, ObjectsTellTheirSteps, IsReadable, TraceValuesTellTheirSteps, PrintedTracesAreTold, PrintedTracesNameTheSame}
 pub use Rattle.trace_json.specs.Values.{text_or_null, array_of_texts}
 pub use Rattle.trace_json.specs.StepJson.{outcome_word, stall_in, step_json}
 pub use Rattle.tso_model.specs.Actions.{action_of, location_of}
 pub use Rattle.tso_model.specs.ProgramOrder.{is_write, writes_to, is_read}
-pub use Rattle.tso_model.specs.MemoryAccess.{MemoryAccess, NoAccess, Writes, Locks, access_of}
+pub use Rattle.tso_model.specs.MemoryAccess.{MemoryAccess, NoAccess, Writes, Locks, access_of, next_of}
 pub use Rattle.tso_model.specs.SplitMachine.{Holder, Free, HeldBy, HeldBetween, Attempt, BusEffect, same_choice, needs_bus, acts, asks, begins, completes, as_read, writes_last, split_effect}
-pub use Rattle.tso_model.specs.declared.instruction.Instr.{Instr}
-pub use Rattle.tso_model.specs.declared.action.Operand.{Operand}
-pub use Rattle.tso_model.specs.declared.action.Operand.TheVariants.{Number, Held}
-pub use Rattle.tso_model.specs.declared.action.Update.{Update}
-pub use Rattle.tso_model.specs.declared.action.Update.TheVariants.{Exchange, Add}
-pub use Rattle.tso_model.specs.declared.action.Action.{Action}
 pub use Rattle.tso_model.specs.declared.action.Action.TheVariants.{Store, Load, Move, Fence, Lock}
 pub use Rattle.trace_report.proofs.Places.{ActionKnown, AccessKnown, access-known}
 pub use Rattle.protocol_tables.specs.Tables.{Table, table_of}
 pub use Rattle.snoop_bus.specs.Asks.{Awaited}
 pub use Rattle.machine_core.specs.Caches.{is_awaited, at_access}
-pub use Rattle.machine_core.specs.Running.{Running, new_machine, machine_after}
+pub use Rattle.machine_core.specs.Running.{Running, new_machine, machine_after, attempt_on, machine_effect, machine_use}
 pub use Rattle.trace_report.specs.Steps.{moved_by, moved_at, moved_from, buffer_if_changed, sent_on, placed, line_states, placed_states_from, number_of_lines, states_of, number_of_state, change_of, changes_in, steps_from, trace_under, line_state}
 unfoldable pub use Rattle.trace_report.specs.Steps.{trace_step_of}
 pub use Rattle.trace_report.specs.Told.{IsTraced}
@@ -139,7 +121,7 @@ pub use Rattle.refutation_laws.specs.Edges.{on_location, global_in, relates, is_
 pub use Rattle.refutation_laws.specs.declared.model.Relation.{Relation}
 pub use Rattle.refutation_laws.specs.declared.model.Relation.TheVariants.{Po, PoLoc, PoGhb, Mfence, Implied, Rf, Rfe, Co, Fr}
 pub use Rattle.reason_report.specs.declared.steps.Event.{Event}
-pub use Rattle.printed_laws.specs.Reasons.{told_event, IsValueFor, EventFits, IsRelationAmong, told_edge, told_answer, LeadFrom, CycleFits, CaseFits, IsNamed, PlaceFits, told_closing, told_reason_step, ClosingFits, ReasonsTellTheirTests, ReasonsTellTheirSteps, StepsOfRefutationsFit, PrintedRefutationsTellTheirSteps, told_by_value, depth_in, AreCounted, ReasonValuesTellTheirSteps}
+pub use Rattle.printed_laws.specs.Reasons.{told_event, IsValueFor, EventFits, IsRelationAmong, told_edge, told_answer, LeadFrom, CycleFits, CaseFits, IsNamed, PlaceFits, told_closing, told_reason_step, ClosingFits, ReasonsTellTheirTests, ReasonsTellTheirSteps, StepsOfRefutationsFit, PrintedRefutationsTellTheirSteps, told_by_value, depth_in, AreCounted, ReasonValuesTellTheirSteps, ReasonStepFits}
 pub use Rattle.reason_report.specs.Places.{Place, words_at, known_among, unseen, suffices, place_with_values, places_in, name_the_same}
 pub use Rattle.reason_report.specs.declared.steps.Edge.{Edge}
 pub use Rattle.refutation_laws.specs.Known.{Known, events_of, same_event, bare, is_event, nothing, with_source, with_pair, is_write_of, reads_from, comes_before, is_overwritten, from_reads}

@@ -8,8 +8,7 @@ use Rattle.tso_model.specs.FlatMachine.{core_of}
 use Rattle.tso_model.specs.Registers.{IsWord}
 use Rattle.tso_model.specs.Runs.{CoresExist}
 use Rattle.tso_model.specs.Thread.{value_in}
-use Rattle.tso_model.specs.declared.choice.Choice.{Choice}
-use Rattle.tso_model.specs.declared.register.Reg.{Reg}
+use Rattle.basic_laws.specs.Types.{Choice, Reg}
 use Rattle.protocol_tables.specs.Tables.{table_of}
 use Rattle.protocol_tables.specs.declared.kind.ProtocolKind.{ProtocolKind}
 use Rattle.protocol_tables.specs.declared.requests.Transient.{Transient}

@@ -8,9 +8,7 @@ use Rattle.tso_model.specs.Litmus.{Litmus, IsTest}
 use Rattle.tso_model.specs.Registers.{IsWord}
 use Rattle.tso_model.specs.FlatMachine.{chosen}
 use Rattle.tso_model.specs.Runs.{CoresExist}
-use Rattle.tso_model.specs.declared.choice.Choice.{Choice}
-use Rattle.tso_model.specs.declared.execution.Entry.{Entry}
-use Rattle.tso_model.specs.declared.execution.Kind.TheVariants.{W}
+use Rattle.basic_laws.specs.Types.{Choice, Entry, W}
 use Rattle.scheduler.specs.Limits.{most_choices}
 use Rattle.order_builder.specs.PrintedOrder.{HasWord}
 use Rattle.order_builder.specs.Spelling.{IsOrderFor}

@@ -3,8 +3,7 @@
 use Rattle.std.specs.Prelude.{ℕ, ◌+◌, ◌≡◌, ◌<◌, ◌≤◌, ◌↔◌, Bool, true, false, List, ◌++◌, length, Some, Contains, slice_get, codes}
 use Rattle.tso_model.specs.Litmus.{Litmus, IsTest}
 use Rattle.tso_model.specs.Condition.{Claim, Condition, truth_of}
-use Rattle.tso_model.specs.declared.condition.Quantifier.{Quantifier}
-use Rattle.tso_model.specs.declared.condition.Quantifier.TheVariants.{Exists, NotExists, Forall}
+use Rattle.basic_laws.specs.Types.{Quantifier, Exists, NotExists, Forall}
 use Rattle.refutation_laws.specs.Models.{depth_of}
 use Rattle.litmus_reader.specs.Spelling.{SpellsTest}
 use Rattle.tso_report.specs.Report.{line}

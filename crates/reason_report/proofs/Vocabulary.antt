@@ -15,7 +15,7 @@ pub use Rattle.std.specs.List.{flat_map, list_any, list_all}
 pub use Rattle.tso_model.specs.Condition.{Claim, Condition}
 pub use Rattle.refutations.specs.inner.Trees.{known_of, relations_of}
 pub use Rattle.tso_report.specs.declared.named.Named.{Named}
-pub use Rattle.tso_report.specs.Tally.{looked_at}
+pub use Rattle.tso_report.specs.Tally.{looked_at, values_in, shown_value}
 pub use Rattle.reason_report.specs.Places.{suffices, name_the_same, Place, place_with_values, words_at, distinct, unseen, known_among}
 pub use Rattle.reason_report.specs.Views.{reason_step_of, place_of}
 pub use Rattle.reason_report.specs.declared.closed.Closed.{Closed}
@@ -42,7 +42,7 @@ pub use Rattle.tso_model.specs.declared.instruction.Instr.{Instr}
 pub use Rattle.relational_model.specs.Events.{IsIn}
 pub use Rattle.relational_model.specs.CandidatesOfOrders.{IsCandidateOf, LeaveTheSame, last_in}
 pub use Rattle.refutation_laws.specs.Models.{IsExecutionOf}
-pub use Rattle.tso_report.specs.Report.{line, test_line}
+pub use Rattle.tso_report.specs.Report.{line, test_line, all_registers}
 pub use Rattle.tso_report.specs.inner.Tally.{NameExists}
 pub use Rattle.reason_report.specs.Printed.{allowed_in, ShowsExecution}
 pub use Rattle.std.proofs.lemmas.Result.{IfOk-weaker, on_ok_weaker}

@@ -21,10 +21,8 @@ use Rattle.outcome_report.specs.OutcomesJson.{key_of, value_members}
 use Rattle.reason_report.specs.Places.{Place}
 use Rattle.reason_report.specs.declared.steps.Event.{Event}
 use Rattle.reason_report.specs.declared.steps.Edge.{Edge}
-use Rattle.reason_report.specs.Steps.{Answer, From, Before, Closing, Uniproc, Cycle, Amid, False, ReasonStep, Case, So, Leaf}
-use Rattle.reason_report.specs.Steps.{Endcases, steps_of, leaves_in}
-use Rattle.reason_report.specs.ReasonText.{model_name, truth_asked, event_text, relation_text}
-use Rattle.reason_report.specs.ReasonText.{source_text, read_source, reads_of, values_left}
+use Rattle.reason_report.specs.Steps.{Answer, From, Before, Closing, Uniproc, Cycle, Amid, False, ReasonStep, Case, So, Leaf, Endcases, steps_of, leaves_in}
+use Rattle.reason_report.specs.ReasonText.{model_name, truth_asked, event_text, relation_text, source_text, read_source, reads_of, values_left}
 
 -- ---- what is asked
 

@@ -1,6 +1,5 @@
 -- What `why` prints as lines of text: why what a test asks is never so, or an execution in which it is.
-use Rattle.std.specs.Prelude.{ℕ, suc, Bool, true, false, List, [], ◌∷◌, ◌++◌, filter, Option, Some, None}
-use Rattle.std.specs.Prelude.{slice_index_or, codes, replicate}
+use Rattle.std.specs.Prelude.{ℕ, suc, Bool, true, false, List, [], ◌∷◌, ◌++◌, filter, Option, Some, None, slice_index_or, codes, replicate}
 use Rattle.std.specs.List.{flat_map}
 use Rattle.std.specs.Fmt.{decimal}
 use Rattle.tso_model.specs.Litmus.{Litmus}
@@ -18,8 +17,7 @@ use Rattle.refutation_laws.specs.Refutations.{Node, asked_claim}
 use Rattle.refutation_laws.specs.declared.model.Model.{Model}
 use Rattle.refutation_laws.specs.declared.model.Model.TheVariants.{Tso, Sequential}
 use Rattle.refutation_laws.specs.declared.model.Relation.{Relation}
-use Rattle.refutation_laws.specs.declared.model.Relation.TheVariants.{Po, PoLoc, PoGhb, Mfence, Implied, Rf, Rfe, Co}
-use Rattle.refutation_laws.specs.declared.model.Relation.TheVariants.{Fr}
+use Rattle.refutation_laws.specs.declared.model.Relation.TheVariants.{Po, PoLoc, PoGhb, Mfence, Implied, Rf, Rfe, Co, Fr}
 use Rattle.order_builder.specs.PrintedOrder.{letters_of, printed_entry}
 use Rattle.tso_report.specs.Report.{line, test_line, printed_quantifier, printed_truth}
 use Rattle.tso_report.specs.Tally.{looked_at, values_in}
@@ -29,8 +27,7 @@ use Rattle.outcome_report.specs.OutcomesJson.{key_of}
 use Rattle.reason_report.specs.Places.{Place}
 use Rattle.reason_report.specs.declared.steps.Event.{Event}
 use Rattle.reason_report.specs.declared.steps.Edge.{Edge}
-use Rattle.reason_report.specs.Steps.{Answer, From, Before, Closing, Uniproc, Cycle, Amid, False, ReasonStep, Case, So, Leaf}
-use Rattle.reason_report.specs.Steps.{Endcases, steps_of, leaves_in}
+use Rattle.reason_report.specs.Steps.{Answer, From, Before, Closing, Uniproc, Cycle, Amid, False, ReasonStep, Case, So, Leaf, Endcases, steps_of, leaves_in}
 
 -- ---- what is asked
 abbrev pub model_name : Model → List ℕ

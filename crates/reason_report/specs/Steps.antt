@@ -1,8 +1,7 @@
 -- A refutation as it is printed, step by step. Lines of text and JSON are both functions of these steps, so they can't disagree.
 -- Of a question's cases those come first that a leaf closes at once. The others follow, each with its part one step deeper; where
 -- only one is left, it is what follows, and its part stands at the same depth.
-use Rattle.std.specs.Prelude.{ℕ, ◌+◌, ◌&&◌, Bool, true, false, not, if◌then◌else◌, Option, Some, None}
-use Rattle.std.specs.Prelude.{List, [], ◌∷◌, ◌++◌, map, filter, length, drop}
+use Rattle.std.specs.Prelude.{ℕ, ◌+◌, ◌&&◌, Bool, true, false, not, if◌then◌else◌, Option, Some, None, List, [], ◌∷◌, ◌++◌, map, filter, length, drop}
 use Rattle.std.specs.List.{list_any, flat_map}
 use Rattle.tso_model.specs.Litmus.{Litmus}
 use Rattle.tso_model.specs.Condition.{Claim}

@@ -1,8 +1,6 @@
 -- A full case that no leaf closes: all of its events can be put in a row; and a write between two parts is found where there is one.
-use Rattle.reasons.proofs.Vocabulary.{◌≡◌, ℕ, Bool, true, false, not, if◌then◌else◌, List, [], ◌∷◌, length, Option, Some, None, map, refl, sym, ap, ◌∙◌, ◌⊎◌, inl, inr, subst, Litmus, IsTest, IsCondition, Claim, Condition, NamesExist, Entry, IsIn, in-case, in-none, in-first, in-later, in-filter, filter-in, and-both, once-filter, once-events, Ordered, Once, Known, bare, events_of, on_location, global_in, is_edge, are_parts, is_between, is_node, asked_claim, asked_by, IsFull, IsSound, NoneBetween, Model, IsOpen, node_of, Node, is_leaf, IsSorted, IsLeafless, LeafOrNone, first_of_two, between_these, between_from, first_between}
+use Rattle.reasons.proofs.Vocabulary.{◌≡◌, ℕ, Bool, true, false, not, if◌then◌else◌, List, [], ◌∷◌, length, Option, Some, None, map, refl, sym, ap, ◌∙◌, ◌⊎◌, inl, inr, subst, Litmus, IsTest, IsCondition, Claim, Condition, NamesExist, Entry, IsIn, in-case, in-none, in-first, in-later, in-filter, filter-in, and-both, once-filter, once-events, Ordered, Once, Known, bare, events_of, on_location, global_in, is_edge, are_parts, is_between, is_node, asked_claim, asked_by, IsFull, IsSound, NoneBetween, Model, IsOpen, node_of, Node, is_leaf, IsSorted, IsLeafless, LeafOrNone, first_of_two, between_these, between_from, first_between, Quantifier, Exists, NotExists, Forall}
 use Rattle.std.proofs.Common.{filter}
-use Rattle.tso_model.specs.declared.condition.Quantifier.{Quantifier}
-use Rattle.tso_model.specs.declared.condition.Quantifier.TheVariants.{Exists, NotExists, Forall}
 use Rattle.relational_model.specs.Candidates.{events_from}
 use Rattle.refutation_laws.specs.Values.{allows}
 use Rattle.refutation_laws.specs.Models.{IsMet}

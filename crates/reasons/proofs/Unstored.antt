@@ -1,6 +1,6 @@
 -- The steps among the choices along a sequentially consistent order lead to it on a machine without store buffers: it follows any other
 -- run of that machine with that order, and makes a core's register moves where its next entry is committed.
-use Rattle.reasons.proofs.Vocabulary.{◌≡◌, ◌<◌, ◌≤◌, ℕ, ◌+◌, ◌-◌, suc, Bool, true, false, if◌then◌else◌, List, [], ◌∷◌, ◌++◌, Option, Some, None, slice_index_or, length, inl, inr, arith, ap, sym, ◌∙◌, subst, refl, set-get_or, length-set, Litmus, is_store, Entry, steps, drained, choices_for, places_after, last_steps, choices_from, beginnings, choices_along, LeadTo, is_step}
+use Rattle.reasons.proofs.Vocabulary.{◌≡◌, ◌<◌, ◌≤◌, ℕ, ◌+◌, ◌-◌, suc, Bool, true, false, if◌then◌else◌, List, [], ◌∷◌, ◌++◌, Option, Some, None, slice_index_or, length, inl, inr, arith, ap, sym, ◌∙◌, subst, refl, set-get_or, length-set, Litmus, is_store, Entry, steps, drained, choices_for, places_after, last_steps, choices_from, beginnings, choices_along, LeadTo, is_step, Instr, Loc, Reg, Action, LR, LW, Choice, Step, Drain, Stall, Committed, Stalled}
 use Rattle.std.proofs.Common.{◌≢◌, max, zero, filter, slice_get, slice_set, slice_index, append_assoc, get_or-set_same, get_or-set_other}
 use Rattle.basic_laws.proofs.Basics.{decide}
 use Rattle.basic_laws.proofs.Lists.{append-nil}
@@ -8,17 +8,8 @@ use Rattle.tso_model.specs.Actions.{action_of}
 use Rattle.tso_model.specs.Thread.{entry, fence, value_in, value_of, updated}
 use Rattle.tso_model.specs.FlatMachine.{CoreState, State, Effect, idle, advanced, advanced_with, moved, when_drained, effect_by, step_of, drain_of, core_of, program_of, effect_of, chosen, memory_after, after_choice, applied, start, started, step, drain}
 use Rattle.tso_model.specs.Runs.{CoresExist, stall_count, is_done, all_done, has_ended, run_from}
-use Rattle.tso_model.specs.declared.instruction.Instr.{Instr}
-use Rattle.tso_model.specs.declared.instruction.Loc.{Loc}
-use Rattle.tso_model.specs.declared.register.Reg.{Reg}
-use Rattle.tso_model.specs.declared.action.Action.{Action}
 use Rattle.tso_model.specs.declared.action.Action.TheVariants.{Store, Load, Move, Fence, Lock}
-use Rattle.tso_model.specs.declared.execution.Kind.TheVariants.{LR, LW}
-use Rattle.tso_model.specs.declared.choice.Choice.{Choice}
-use Rattle.tso_model.specs.declared.choice.Choice.TheVariants.{Step, Drain}
-use Rattle.tso_model.specs.declared.choice.Stall.{Stall}
 use Rattle.tso_model.specs.declared.choice.Stall.TheVariants as stall
-use Rattle.tso_model.specs.declared.choice.Outcome.TheVariants.{Committed, Stalled}
 use Rattle.tso_laws.specs.Choices.{state_after, commits_of}
 use Rattle.tso_laws.specs.Reached.{IsReached}
 use Rattle.tso_laws.specs.inner.Laws.{StallsChangeNothing, RunsStopWhereTheyEnd}

@@ -2,7 +2,7 @@
 pub use Rattle.std.proofs.Common.{◌≡◌, ◌<◌, ◌+◌, ◌==◌, ℕ, suc, Bool, true, false, not, if◌then◌else◌, List, [], ◌∷◌, ◌++◌, length, arith, refl, sym, ap, ◌∙◌, ◌⊎◌, inl, inr, subst, ◌-◌, Option, Some, None, option_map, slice_index_or, map, ◌≤◌, ◌*◌, ◌&&◌, ◌||◌, drop}
 pub use Rattle.std.specs.Prelude.{filter}
 pub use Rattle.std.specs.List.{list_any, list_all}
-pub use Rattle.tso_model.specs.declared.execution.Entry.{Entry}
+pub use Rattle.basic_laws.specs.Types.{Entry, Quantifier, Exists, NotExists, Forall, Instr, Loc, Reg, Action, LR, LW, Choice, Step, Drain, Stall, Committed, Stalled}
 pub use Rattle.relational_model.specs.Events.{IsIn}
 pub use Rattle.relational_model.proofs.Lists.{in-none, in-first, in-later, in-append, in-left, in-right, in-filter, filter-in, in-case, Precedes}
 pub use Rattle.relational_model.proofs.KindFacts.{same-number, number-same, and-both}

@@ -2,12 +2,11 @@
 pub use Rattle.std.proofs.Common.{◌≡◌, ◌&&◌, ◌||◌, Bool, true, false, not, List, [], ◌∷◌, refl, sym, ap, ◌⊎◌, inl, inr, subst, ◌≢◌, ℕ, ◌==◌, if◌then◌else◌, Option, Some, None, ◌∙◌, ◌++◌, length, ◌<◌, ◌≤◌, zero, suc, ◌+◌, slice_index, slice_index_or, arith, slice_get, append-nil, append_assoc}
 pub use Rattle.std.specs.Prelude.{map, filter, slice_set}
 pub use Rattle.std.specs.List.{list_any, list_all}
-pub use Rattle.tso_model.specs.declared.execution.Entry.{Entry}
+pub use Rattle.basic_laws.specs.Types.{Entry, F, LR, LW, R, W, Reg, Eax, Ebx, Ecx, Edx, Esi, Edi, Loc, Instr, Operand, Number, Held, Update, Exchange, Add, Action, Kind, Quantifier, Exists, NotExists, Forall}
 pub use Rattle.relational_model.specs.Events.{IsIn, IsEarlier, LeadsTo, at_once, onward, IsAcyclic}
 pub use Rattle.relational_model.proofs.Lists.{in-case, in-none, in-first, in-later, in-filter, filter-in, in-append, in-left, in-right, last-is-in, last-last, Precedes, from-precedes, at-one}
 pub use Rattle.tso_model.specs.Litmus.{Litmus, IsTest, IsCondition}
 pub use Rattle.tso_model.specs.ProgramOrder.{is_before, is_read, is_write, writes_to, same_kind, may_be_passed}
-pub use Rattle.tso_model.specs.declared.execution.Kind.TheVariants.{F, LR, LW, R, W}
 pub use Rattle.relational_model.specs.Candidates.{Candidate, IsCandidate, events, words_left, registers_left, events_from, Returns, last_word, words_left_from, registers_left_from}
 pub use Rattle.relational_model.specs.Relations.{is_access, share_location, ReadsFrom, IsBefore, StandsAfter, FromReads}
 pub use Rattle.relational_model.specs.Model.{IsBeforeOnLocation, po_loc, rf, co, fr, HappensBefore, write_before_write, read_before_access, mfence, implied, rfe, IsAtomic, is_locked, IsAllowed, ArePair}
@@ -37,17 +36,7 @@ pub use Rattle.refutation_laws.specs.Refutations.{Node, ComesFirst, OnLocation, 
 pub use Rattle.tso_model.specs.Registers.{index_of, AreRegisters}
 pub use Rattle.tso_model.specs.Actions.{action_of}
 pub use Rattle.tso_model.specs.Thread.{entry, value_in, value_of, updated, entries_by, registers_by, values_after, entries_of, registers_after, sum_of, fence}
-pub use Rattle.tso_model.specs.declared.register.Reg.{Reg}
-pub use Rattle.tso_model.specs.declared.register.Reg.TheVariants.{Eax, Ebx, Ecx, Edx, Esi, Edi}
-pub use Rattle.tso_model.specs.declared.instruction.Loc.{Loc}
-pub use Rattle.tso_model.specs.declared.instruction.Instr.{Instr}
-pub use Rattle.tso_model.specs.declared.action.Operand.{Operand}
-pub use Rattle.tso_model.specs.declared.action.Operand.TheVariants.{Number, Held}
-pub use Rattle.tso_model.specs.declared.action.Update.{Update}
-pub use Rattle.tso_model.specs.declared.action.Update.TheVariants.{Exchange, Add}
-pub use Rattle.tso_model.specs.declared.action.Action.{Action}
 pub use Rattle.tso_model.specs.declared.action.Action.TheVariants.{Store, Load, Move, Fence, Lock}
-pub use Rattle.tso_model.specs.declared.execution.Kind.{Kind}
 pub use Rattle.basic_laws.specs.Ranks.{rank, part_of}
 pub use Rattle.basic_laws.proofs.Basics.{part-small}
 pub use Rattle.relational_model.proofs.Ranks.{rank-before, before-trans, order-of}
@@ -65,8 +54,6 @@ pub use Rattle.relational_model.proofs.Converse.{CanBeKept, IsKeptIn, in-order, 
 pub use Rattle.relational_model.proofs.SequentialOrders.{Step, keeps, step-kept}
 pub use Rattle.refutation_laws.specs.inner.Orders.{is_kept_by, must_precede, comes_toward, is_load_part, IsLinearExtension, value_or_zero, value_in_order, valued, with_loads, order_along}
 pub use Rattle.relational_model.proofs.Sorting.{in-a-row, Decided, ordered-or-round}
-pub use Rattle.tso_model.specs.declared.condition.Quantifier.{Quantifier}
-pub use Rattle.tso_model.specs.declared.condition.Quantifier.TheVariants.{Exists, NotExists, Forall}
 pub use Rattle.tso_model.specs.Axioms.{IsTsoExecution}
 pub use Rattle.tso_model.specs.Limits.{most_depth}
 pub use Rattle.tso_model.specs.Runs.{run, Run}

@@ -5,8 +5,7 @@ use Rattle.std.specs.Prelude.{◌==◌, ◌&&◌, ◌||◌, Bool, false, not, Li
 use Rattle.std.specs.List.{list_any, list_all}
 use Rattle.tso_model.specs.Litmus.{Litmus}
 use Rattle.tso_model.specs.ProgramOrder.{is_before, is_read, is_write, same_kind}
-use Rattle.tso_model.specs.declared.execution.Entry.{Entry}
-use Rattle.tso_model.specs.declared.execution.Kind.TheVariants.{F, LR, LW}
+use Rattle.basic_laws.specs.Types.{Entry, F, LR, LW}
 use Rattle.relational_model.specs.Relations.{is_access, share_location}
 use Rattle.relational_model.specs.Model.{is_locked}
 use Rattle.refutation_laws.specs.Known.{Known, events_of, is_event, reads_from, comes_before, from_reads}

@@ -8,8 +8,7 @@ use Rattle.tso_model.specs.Axioms.{IsTsoExecution}
 use Rattle.tso_model.specs.FinalState.{final_words, final_registers}
 use Rattle.tso_model.specs.FlatMachine.{registers_in}
 use Rattle.tso_model.specs.Runs.{run, CoresExist}
-use Rattle.tso_model.specs.declared.choice.Choice.{Choice}
-use Rattle.tso_model.specs.declared.execution.Entry.{Entry}
+use Rattle.basic_laws.specs.Types.{Choice, Entry}
 use Rattle.tso_laws.specs.EndedRuns.{End}
 use Rattle.outcome_laws.specs.Outcomes.{IsAllowedByTso, IsSequentiallyConsistent, IsAllowedSequentially}
 use Rattle.relational_model.specs.Candidates.{Candidate, registers_left, words_left}

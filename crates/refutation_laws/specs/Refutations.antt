@@ -5,9 +5,7 @@ use Rattle.std.specs.Prelude.{◌&&◌, Bool, true, false, not, List, [], ◌∷
 use Rattle.tso_model.specs.Litmus.{Litmus}
 use Rattle.tso_model.specs.Condition.{Claim, TruthClaim, NotClaim, Condition}
 use Rattle.tso_model.specs.ProgramOrder.{is_read, is_write, writes_to}
-use Rattle.tso_model.specs.declared.condition.Quantifier.{Quantifier}
-use Rattle.tso_model.specs.declared.condition.Quantifier.TheVariants.{Exists, NotExists, Forall}
-use Rattle.tso_model.specs.declared.execution.Entry.{Entry}
+use Rattle.basic_laws.specs.Types.{Quantifier, Exists, NotExists, Forall, Entry}
 use Rattle.refutation_laws.specs.Known.{Known, events_of, same_event, is_event, nothing, with_source, with_pair}
 use Rattle.refutation_laws.specs.Edges.{is_edge, on_location, global_in, is_cycle, is_between}
 use Rattle.refutation_laws.specs.Values.{allows}

@@ -3,9 +3,7 @@ use Rattle.std.specs.Prelude.{List, [], ◌∷◌}
 use Rattle.tso_model.specs.Thread.{entry}
 use Rattle.tso_model.specs.Condition.{Claim, RegClaim, LocClaim, AndClaim}
 use Rattle.tso_model.specs.Examples.{loc_x, loc_y}
-use Rattle.tso_model.specs.declared.register.Reg.TheVariants.{Eax, Ebx}
-use Rattle.tso_model.specs.declared.execution.Entry.{Entry}
-use Rattle.tso_model.specs.declared.execution.Kind.TheVariants.{R, W, LR, LW}
+use Rattle.basic_laws.specs.Types.{Eax, Ebx, Entry, R, W, LR, LW}
 use Rattle.refutation_laws.specs.Refutations.{Node, ReadsFrom, ComesFirst, OnLocation, Globally, Between, FalseClaim}
 
 -- store buffering: both loads read 0

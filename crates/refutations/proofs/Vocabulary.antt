@@ -1,13 +1,11 @@
 -- The names that the proofs of this crate bring in from definitions and from crates below; each file takes its own from here.
 pub use Rattle.std.proofs.Common.{◌≡◌, ◌<◌, ◌+◌, ℕ, List, [], ◌++◌, length, slice_index_or, drop, append_assoc, sym, ap, ◌∙◌, map, ◌≤◌, ◌∷◌, get_or, ◌&&◌, ◌||◌, cond, Bool, true, false, Option, if◌then◌else◌, refl, Some, None, suc, arith, ◌==◌, subst, zero, ◌⊎◌, inl, inr, rules, append-nil}
-pub use Rattle.std.proofs.lemmas.List.{at_drop_more, at_drop_all}
+pub use Rattle.std.proofs.lemmas.List.{at_drop_more, at_drop_all, map-append}
 pub use Rattle.tso_model.specs.Thread.{entries_of}
-pub use Rattle.tso_model.specs.declared.instruction.Instr.{Instr}
-pub use Rattle.tso_model.specs.declared.execution.Entry.{Entry}
+pub use Rattle.basic_laws.specs.Types.{Instr, Entry, Cond}
 pub use Rattle.relational_model.specs.Candidates.{events_from}
 pub use Rattle.refutation_laws.specs.Known.{bare, Known, same_event, comes_before, events_of, is_event}
 pub use Rattle.refutation_laws.proofs.Standing.{by-program}
-pub use Rattle.std.proofs.lemmas.List.{map-append}
 pub use Rattle.std.specs.Prelude.{filter}
 pub use Rattle.std.specs.List.{list_any}
 pub use Rattle.tso_model.specs.Litmus.{Litmus, IsTest, IsCondition}
@@ -26,7 +24,6 @@ pub use Rattle.refutations.specs.inner.Trees.{known_of, relations_of}
 pub use Rattle.refutations.specs.inner.Stack.{cases_of}
 pub use Rattle.refutations.specs.declared.answers.Answers.{Answers}
 pub use Rattle.refutations.specs.declared.tree.Node.{Node}
-pub use Rattle.tso_model.specs.declared.condition.Cond.{Cond}
 pub use Rattle.std.specs.Cmp.Lexicographic.{pointwise}
 pub use Rattle.refutation_laws.specs.declared.known.Source.{Source}
 pub use Rattle.relational_model.proofs.KindFacts.{and-both}

@@ -8,17 +8,13 @@ pub use Rattle.tso_model.specs.Axioms.{last_value, counting, IsTsoExecution, IsA
 pub use Rattle.tso_model.specs.ProgramEntries.{read_values, made_by, made_from, is_at, made, read_value, values_by}
 pub use Rattle.tso_model.specs.FinalState.{word_after, words_from, registers_of, registers_from, final_words, final_registers}
 pub use Rattle.tso_model.specs.Litmus.{Litmus}
-pub use Rattle.tso_model.specs.declared.instruction.Instr.{Instr}
-pub use Rattle.tso_model.specs.declared.action.Action.{Action}
+pub use Rattle.basic_laws.specs.Types.{Instr, Action, Entry, R, LR, W, LW, F, Kind}
 pub use Rattle.tso_model.specs.declared.action.Action.TheVariants.{Store, Load, Move, Fence, Lock}
-pub use Rattle.tso_model.specs.declared.execution.Entry.{Entry}
-pub use Rattle.tso_model.specs.declared.execution.Kind.TheVariants.{R, LR, W, LW, F}
 pub use Rattle.relational_model.specs.Candidates.{Candidate, events_from, last_word, words_left_from, registers_left_from, events, Returns, IsCandidate, registers_left}
 pub use Rattle.relational_model.specs.CandidatesOfOrders.{IsCandidateOf, LeaveTheSame, last_in, IsOfAnExecution, IsOfASequentialExecution}
 pub use Rattle.std.proofs.lemmas.Bool.Decides.{nat_tests}
 pub use Rattle.relational_model.specs.Events.{IsIn, LeadsTo, at_once, onward, IsAcyclic, IsEarlier}
 pub use Rattle.relational_model.specs.Model.{ArePair, is_locked_kind, HappensBefore, write_before_write, read_before_access, mfence, implied, rfe, co, fr, IsAllowed, IsForbidden, IsForbiddenByUniproc, IsBeforeOnLocation, po_loc, is_locked, IsAtomic}
-pub use Rattle.tso_model.specs.declared.execution.Kind.{Kind}
 pub use Rattle.relational_model.specs.Relations.{ReadsFrom, StandsAfter, FromReads, IsBefore, is_access, share_location}
 pub use Rattle.tso_model.specs.Examples.{loc_x, loc_y, zeros, sb, sb_order, n6, n6_order}
 pub use Rattle.relational_model.specs.WorkedCandidates.{of_x_and_y, fenced, fenced_candidate, exchanged, exchanged_candidate, passing, passing_candidate, buffering, buffering_candidate, independent, independent_candidate, between, between_candidate, unseen, unseen_candidate, opposite_registers, sb_candidate, n6_candidate}

@@ -4,9 +4,7 @@
 use Rattle.std.specs.Prelude.{◌≡◌, ◌≢◌, ◌||◌, Bool, true, false, List}
 use Rattle.tso_model.specs.Litmus.{Litmus}
 use Rattle.tso_model.specs.ProgramOrder.{is_before, is_read, is_write}
-use Rattle.tso_model.specs.declared.execution.Entry.{Entry}
-use Rattle.tso_model.specs.declared.execution.Kind.{Kind}
-use Rattle.tso_model.specs.declared.execution.Kind.TheVariants.{F, LR, LW}
+use Rattle.basic_laws.specs.Types.{Entry, Kind, F, LR, LW}
 use Rattle.relational_model.specs.Events.{IsIn, IsAcyclic}
 use Rattle.relational_model.specs.Candidates.{Candidate, IsCandidate, events}
 use Rattle.relational_model.specs.Relations.{is_access, share_location, ReadsFrom, IsBefore, FromReads}

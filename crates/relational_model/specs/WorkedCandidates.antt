@@ -3,11 +3,7 @@ use Rattle.std.specs.Prelude.{ℕ, ◌==◌, ◌&&◌, if◌then◌else◌, List
 use Rattle.tso_model.specs.Litmus.{Litmus}
 use Rattle.tso_model.specs.Thread.{entry}
 use Rattle.tso_model.specs.Examples.{loc_x, loc_y, zeros}
-use Rattle.tso_model.specs.declared.register.Reg.TheVariants.{Eax, Ebx}
-use Rattle.tso_model.specs.declared.instruction.Instr.{Instr}
-use Rattle.tso_model.specs.declared.instruction.Instr.TheVariants.{StoreImm, Load, Fence, Xchg, Xadd}
-use Rattle.tso_model.specs.declared.execution.Entry.{Entry}
-use Rattle.tso_model.specs.declared.execution.Kind.TheVariants.{W, LW}
+use Rattle.basic_laws.specs.Types.{Eax, Ebx, Instr, StoreImm, Load, Fence, Xchg, Xadd, Entry, W, LW}
 use Rattle.relational_model.specs.Candidates.{Candidate}
 
 -- the coherence orders of x and y

@@ -13,8 +13,7 @@ use Rattle.snoop_bus.specs.CacheContents.{TagSets, Accessed}
 use Rattle.snoop_bus.specs.Copies.{cache_of, tags_of}
 use Rattle.snoop_bus.specs.Bus.{BusModel, bus_with, words_of, holder_of, empty_caches}
 use Rattle.snoop_bus.specs.Held.{transaction_in, holder, stage_for}
-use Rattle.snoop_bus.specs.Asks.{Awaited, AskedAccess, hits, request_for, asking, asked_memory, awaited_in, completed}
-use Rattle.snoop_bus.specs.Asks.{completed_memory, whole_access, whole_memory}
+use Rattle.snoop_bus.specs.Asks.{Awaited, AskedAccess, hits, request_for, asking, asked_memory, awaited_in, completed, completed_memory, whole_access, whole_memory}
 use Rattle.protocol_tables.specs.declared.state.State.{State}
 use Rattle.snoop_bus.specs.declared.looking.CachedLine.{CachedLine}
 

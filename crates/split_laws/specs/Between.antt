@@ -3,8 +3,7 @@
 use Rattle.std.specs.Prelude.{◌≡◌, ◌≢◌, List, [], ◌∷◌, ◌⊎◌}
 use Rattle.tso_model.specs.ProgramOrder.{IsStorePart}
 use Rattle.tso_model.specs.SplitMachine.{Holder, HeldBetween}
-use Rattle.tso_model.specs.declared.execution.Entry.{Entry}
-use Rattle.tso_model.specs.declared.execution.Kind.TheVariants.{LR, LW}
+use Rattle.basic_laws.specs.Types.{Entry, LR, LW}
 
 -- an entry of another core than x's, and no part of a locked instruction
 pub record IsApart (x e : Entry) : Type 0 where

@@ -4,8 +4,7 @@ use Rattle.tso_model.specs.Litmus.{Litmus}
 use Rattle.tso_model.specs.FlatMachine.{start}
 use Rattle.tso_model.specs.SplitMachine.{Attempt}
 use Rattle.tso_model.specs.EitherBus.{BusState, unheld, effect_on, after_on, HitsFit}
-use Rattle.tso_model.specs.declared.choice.Bus.{Bus}
-use Rattle.tso_model.specs.declared.execution.Entry.{Entry}
+use Rattle.basic_laws.specs.Types.{Bus, Entry}
 
 -- the state after these choices
 abbrev pub state_on : Bus → Litmus → ℕ → BusState → List Attempt → BusState

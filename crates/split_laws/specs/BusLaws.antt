@@ -7,10 +7,7 @@ use Rattle.tso_model.specs.Runs.{run, has_ended}
 use Rattle.tso_model.specs.SplitMachine.{Free, Attempt}
 use Rattle.tso_model.specs.EitherBus.{BusState, unheld, run_on, choices_in, HitsFit}
 use Rattle.tso_model.specs.Together.{put_together, together}
-use Rattle.tso_model.specs.declared.choice.Bus.{Bus}
-use Rattle.tso_model.specs.declared.choice.Bus.TheVariants.{Atomic}
-use Rattle.tso_model.specs.declared.execution.Entry.{Entry}
-use Rattle.tso_model.specs.declared.choice.Choice.{Choice}
+use Rattle.basic_laws.specs.Types.{Bus, Atomic, Entry, Choice}
 use Rattle.tso_laws.specs.EndedRuns.{IsExecution}
 use Rattle.tso_laws.specs.Counting.{instructions}
 use Rattle.tso_laws.specs.Rounds.{CanBeCutIntoRounds}

@@ -8,13 +8,7 @@ use Rattle.tso_model.specs.Runs.{run, CoresExist}
 use Rattle.tso_model.specs.SplitMachine.{Holder, Free, HeldBy, HeldBetween, Attempt}
 use Rattle.tso_model.specs.EitherBus.{BusState, BusRun, unheld, run_on, effect_on, after_on, choices_in}
 use Rattle.tso_model.specs.Together.{put_together}
-use Rattle.tso_model.specs.declared.choice.Bus.{Bus}
-use Rattle.tso_model.specs.declared.execution.Entry.{Entry}
-use Rattle.tso_model.specs.declared.execution.Kind.TheVariants.{LR}
-use Rattle.tso_model.specs.declared.choice.Choice.{Choice}
-use Rattle.tso_model.specs.declared.choice.Stall.{Stall}
-use Rattle.tso_model.specs.declared.choice.Outcome.{Outcome}
-use Rattle.tso_model.specs.declared.choice.Outcome.TheVariants.{Asked, Stalled}
+use Rattle.basic_laws.specs.Types.{Bus, Entry, LR, Choice, Stall, Outcome, Asked, Stalled}
 use Rattle.tso_model.specs.declared.choice.Stall.TheVariants as stall
 
 -- the choices end the test

@@ -4,8 +4,7 @@ use Rattle.std.specs.Prelude.{ℕ, ◌≡◌, List, ◌++◌}
 use Rattle.tso_model.specs.Litmus.{Litmus}
 use Rattle.tso_model.specs.EitherBus.{BusState}
 use Rattle.tso_model.specs.Together.{put_together}
-use Rattle.tso_model.specs.declared.choice.Bus.{Bus}
-use Rattle.tso_model.specs.declared.execution.Entry.{Entry}
+use Rattle.basic_laws.specs.Types.{Bus, Entry}
 use Rattle.tso_laws.specs.Choices.{IsPossible}
 use Rattle.split_laws.specs.Holders.{HolderFits}
 use Rattle.split_laws.specs.Between.{ArePaired}

@@ -5,11 +5,7 @@ use Rattle.tso_model.specs.Litmus.{Litmus}
 use Rattle.tso_model.specs.FlatMachine.{State, core_of}
 use Rattle.tso_model.specs.MemoryAccess.{NoAccess, Locks, access_of}
 use Rattle.tso_model.specs.SplitMachine.{Holder, Free, HeldBy, HeldBetween}
-use Rattle.tso_model.specs.declared.choice.Bus.{Bus}
-use Rattle.tso_model.specs.declared.choice.Bus.TheVariants.{Atomic, Split}
-use Rattle.tso_model.specs.declared.execution.Entry.{Entry}
-use Rattle.tso_model.specs.declared.execution.Kind.TheVariants.{LR}
-use Rattle.tso_model.specs.declared.choice.Choice.TheVariants.{Step}
+use Rattle.basic_laws.specs.Types.{Bus, Atomic, Split, Entry, LR, Step}
 
 -- the locked instruction with this load part has read and not yet written: its core stands where it stood, its step still
 -- makes that access, and memory still has the word that was read

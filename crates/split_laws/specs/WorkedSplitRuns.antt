@@ -6,13 +6,7 @@ use Rattle.tso_model.specs.Thread.{entry}
 use Rattle.tso_model.specs.Examples.{loc_x, loc_y, zeros, n6}
 use Rattle.tso_model.specs.SplitMachine.{Attempt}
 use Rattle.tso_model.specs.EitherBus.{BusState, BusRun, run_on}
-use Rattle.tso_model.specs.declared.choice.Bus.TheVariants.{Split}
-use Rattle.tso_model.specs.declared.register.Reg.TheVariants.{Eax, Ebx}
-use Rattle.tso_model.specs.declared.instruction.Instr.{Instr}
-use Rattle.tso_model.specs.declared.instruction.Instr.TheVariants.{StoreImm, Load, Xchg, Xadd}
-use Rattle.tso_model.specs.declared.execution.Entry.{Entry}
-use Rattle.tso_model.specs.declared.execution.Kind.TheVariants.{R, W, LR, LW}
-use Rattle.tso_model.specs.declared.choice.Choice.{Choice}
+use Rattle.basic_laws.specs.Types.{Split, Eax, Ebx, Instr, StoreImm, Load, Xchg, Xadd, Entry, R, W, LR, LW, Choice}
 use Rattle.split_laws.specs.BusRuns.{left_by}
 
 -- a choice whose access misses, and one whose access hits

@@ -11,8 +11,7 @@ pub use Rattle.serde_json.specs.Written.{has_float, items_have_float, members_ha
 pub use Rattle.tso_model.specs.Litmus.{Litmus}
 pub use Rattle.tso_model.specs.FlatMachine.{core_of, CoreState, idle, memory_after, chosen}
 pub use Rattle.tso_model.specs.Runs.{has_ended, CoresExist}
-pub use Rattle.tso_model.specs.declared.execution.Entry.{Entry}
-pub use Rattle.tso_model.specs.declared.choice.Choice.{Choice}
+pub use Rattle.basic_laws.specs.Types.{Entry, Choice}
 pub use Rattle.order_builder.specs.PrintedOrder.{printed_entry, HasLocation}
 pub use Rattle.protocol_tables.specs.Tables.{table_of, Table}
 pub use Rattle.protocol_tables.specs.declared.kind.ProtocolKind.{ProtocolKind}

@@ -5,10 +5,7 @@ use Rattle.serde_json.specs.Data.{Data, array}
 use Rattle.serde_json.specs.View.{items_of}
 use Rattle.tso_model.specs.Litmus.{Litmus}
 use Rattle.tso_model.specs.Registers.{name_of}
-use Rattle.tso_model.specs.declared.instruction.Loc.{Loc}
-use Rattle.tso_model.specs.declared.instruction.Instr.{Instr}
-use Rattle.tso_model.specs.declared.instruction.Instr.TheVariants.{StoreImm, StoreReg, Load, SetImm, SetReg, Fence}
-use Rattle.tso_model.specs.declared.instruction.Instr.TheVariants.{Xchg, Xadd}
+use Rattle.basic_laws.specs.Types.{Loc, Instr, StoreImm, StoreReg, Load, SetImm, SetReg, Fence, Xchg, Xadd}
 use Rattle.trace_json.specs.Values.{array_of_texts}
 
 abbrev pub location_name : Litmus → Loc → List ℕ

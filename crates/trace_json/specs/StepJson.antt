@@ -3,9 +3,7 @@
 use Rattle.std.specs.Prelude.{ℕ, List, map, Option, Some, None, option_map, codes}
 use Rattle.serde_json.specs.Data.{Data, boolean, string, object, no_members, member}
 use Rattle.tso_model.specs.Litmus.{Litmus}
-use Rattle.tso_model.specs.declared.choice.Stall.{Stall}
-use Rattle.tso_model.specs.declared.choice.Outcome.{Outcome}
-use Rattle.tso_model.specs.declared.choice.Outcome.TheVariants.{Committed, Buffered, Moved, Asked, Stalled}
+use Rattle.basic_laws.specs.Types.{Stall, Outcome, Committed, Buffered, Moved, Asked, Stalled}
 use Rattle.scheduler.specs.Printed.{printed_choice}
 use Rattle.tso_report.specs.Json.{order_value}
 use Rattle.trace_report.specs.Shown.{ShownStep}

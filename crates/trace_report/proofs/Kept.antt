@@ -1,12 +1,11 @@
 -- What a machine keeps along the choices of a run: its lines are neat, their sets have their room, and what it awaits may come in.
-use Rattle.trace_report.proofs.Vocabulary.{arith, ◌≡◌, ◌≢◌, ◌∙◌, ◌/◌, ◌<◌, ℕ, zero, suc, Bool, true, false, List, length, map, replicate, slice_index_or, Some, inl, inr, refl, sym, ap, subst, div_ceil, div_ceil_times, length-replicate, div-mul-le_self, mul-le-mul_right, lt-or, Litmus, IsTest, chosen, MemoryAccess, NoAccess, access_of, Choice, Table, table_of_rows, rows_of, tags_in, TagSet, Configuration, no_counts, Running, new_machine, machine_use, machine_after, length-counted, AreStoresKnown, number_of_lines, KeepsNoCopyInI, IsNeat, none-neat, no-sets, no_set, AllNeat, Geometry, [], after_choices, core_of, is_awaited, ◌∷◌}
+use Rattle.trace_report.proofs.Vocabulary.{arith, ◌≡◌, ◌≢◌, ◌∙◌, ◌/◌, ◌<◌, ℕ, zero, suc, Bool, true, false, List, length, map, replicate, slice_index_or, Some, inl, inr, refl, sym, ap, subst, div_ceil, div_ceil_times, length-replicate, div-mul-le_self, mul-le-mul_right, lt-or, Litmus, IsTest, chosen, MemoryAccess, NoAccess, access_of, Choice, Table, table_of_rows, rows_of, tags_in, TagSet, Configuration, no_counts, Running, new_machine, machine_use, machine_after, length-counted, AreStoresKnown, number_of_lines, KeepsNoCopyInI, IsNeat, none-neat, no-sets, no_set, AllNeat, Geometry, [], after_choices, core_of, is_awaited, ◌∷◌, machine_effect}
 use Rattle.protocol_tables.specs.declared.state.State as protocol
 use Rattle.protocol_tables.specs.declared.state.State.TheVariants as tag
 use Rattle.trace_report.proofs.Awaiting.{HolderMayMake, IsWithin, FillsIf, neat-after, may-after, fills-by}
 use Rattle.machine_core.proofs.EachUse.{used-machine}
 use Rattle.trace_report.proofs.Rooms.{room_of, rooms_of, used-rooms}
 use Rattle.trace_report.proofs.FlushesTold.{IsSound, sound-first, sound-after, uses-of}
-use Rattle.machine_core.specs.Running.{machine_effect}
 use Rattle.trace_report.proofs.Places.{AccessKnown, access-known, stores-first}
 use Rattle.trace_report.proofs.Whole.{shape-kept, words-kept, stores-kept}
 

@@ -1,7 +1,5 @@
 -- What is looked up of a core on a machine.
-use Rattle.trace_report.proofs.Vocabulary.{◌≡◌, ◌∙◌, ℕ, zero, suc, ◌+◌, ◌-◌, ◌<◌, List, [], ◌∷◌, ◌++◌, length, take, Option, Some, None, option_map, slice_get, slice_index_or, refl, sym, ap, arith, length-append, option_and_then, unwrap_or, action_of, value_in, CoreState, idle, core_of, Action, Move, Instr, Entry, Running, moved_by}
-use Rattle.tso_model.specs.declared.register.Reg.{Reg}
-use Rattle.tso_model.specs.declared.action.Operand.{Operand}
+use Rattle.trace_report.proofs.Vocabulary.{◌≡◌, ◌∙◌, ℕ, zero, suc, ◌+◌, ◌-◌, ◌<◌, List, [], ◌∷◌, ◌++◌, length, take, Option, Some, None, option_map, slice_get, slice_index_or, refl, sym, ap, arith, length-append, option_and_then, unwrap_or, action_of, value_in, CoreState, idle, core_of, Action, Move, Instr, Entry, Running, moved_by, Reg, Operand}
 use Rattle.machine_core.specs.inner.Looking.{core_numbered, pending_at}
 use Rattle.trace_report.specs.declared.step.Moved.{Moved}
 

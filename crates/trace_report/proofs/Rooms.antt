@@ -1,9 +1,8 @@
 -- No use of the caches changes for how many lines each of their sets has room.
-use Rattle.trace_report.proofs.Vocabulary.{Awaited, Bool, Caches, Entry, I, List, M, MemoryAccess, None, Option, Request, SmD, Some, Table, TagSet, TagSets, Transient, Used, [], ap, asked_caches_in, asked_for, at_line, at_others, completed, completed_in, filled, in_next, map, next_in_place, no_set, refl, request_for, requested, sets_of, snoop_column, snooped, snooped_in, suc, table_of_rows, tag_at, tag_of, tags_at, used, used_between, used_by, whole_access, whole_in, zero, ℕ, ◌/◌, ◌∙◌, ◌∷◌, ◌≡◌, awaiting, awaited_as}
+use Rattle.trace_report.proofs.Vocabulary.{Awaited, Bool, Caches, Entry, I, List, M, MemoryAccess, None, Option, Request, SmD, Some, Table, TagSet, TagSets, Transient, Used, [], ap, asked_caches_in, asked_for, at_line, at_others, completed, completed_in, filled, in_next, map, next_in_place, no_set, refl, request_for, requested, sets_of, snoop_column, snooped, snooped_in, suc, table_of_rows, tag_at, tag_of, tags_at, used, used_between, used_by, whole_access, whole_in, zero, ℕ, ◌/◌, ◌∙◌, ◌∷◌, ◌≡◌, awaiting, awaited_as, at_core}
 use Rattle.std.proofs.Math.Seq.{map-set_same}
 use Rattle.protocol_tables.specs.declared.state.State.{State}
 use Rattle.protocol_tables.specs.declared.state.Snoop.{Snoop}
-use Rattle.snoop_bus.specs.CacheContents.{at_core}
 use Rattle.machine_core.proofs.EachUse.{each-use}
 
 -- for how many lines each set of a cache has room, and each set of each core's

@@ -8,9 +8,7 @@ pub use Rattle.trace_report.specs.Lines.{after_plus, joined_by_plus, line_name, 
 pub use Rattle.std.specs.List.{list_any}
 pub use Rattle.tso_model.specs.ProgramOrder.{writes_to}
 pub use Rattle.tso_model.specs.MemoryAccess.{MemoryAccess, NoAccess, Reads, Writes, Locks, access_of, next_of, access_by, step_access, load_access, locked_access, store_access, drain_access}
-pub use Rattle.tso_model.specs.declared.execution.Entry.{Entry}
-pub use Rattle.tso_model.specs.declared.execution.Kind.{Kind}
-pub use Rattle.tso_model.specs.declared.execution.Kind.TheVariants.{R, W, F, LR, LW}
+pub use Rattle.basic_laws.specs.Types.{Entry, Kind, R, W, F, LR, LW, Bus, Atomic, Split, Instr, Action, Choice, Step, Drain, Outcome, Committed, Buffered, Moved, Asked, Stalled, Stall, Loc, Core, Reg, Operand}
 pub use Rattle.machine_core.specs.Caches.{Caches, not_through, asking_by, completing_by, use_by_kind, use_of, used_between, is_awaited, use_on, state_after_on, Used, load_after, hits_by, would_hit, attempt_of, at_access, through, completion_by, whole_by}
 pub use Rattle.machine_core.specs.declared.accesses.CacheUse.TheVariants.{Forwarded, Unused, Through}
 pub use Rattle.tso_model.specs.Actions.{action_of, location_of}
@@ -18,16 +16,7 @@ pub use Rattle.tso_model.specs.FlatMachine.{CoreState, State, Effect, is_none_pe
 pub use Rattle.basic_laws.proofs.WithPending.{drain_with}
 pub use Rattle.tso_model.specs.SplitMachine.{Holder, Free, HeldBy, HeldBetween, Attempt, same_choice, needs_bus, acts, asks, begins, completes, as_read, after_first, writes_last, split_effect, load_part, BusEffect}
 pub use Rattle.tso_model.specs.EitherBus.{BusState, effect_on, BusRun, unheld, then_on, resting_on, run_on, run_on_from, choices_in, after_on}
-pub use Rattle.tso_model.specs.declared.choice.Bus.{Bus}
-pub use Rattle.tso_model.specs.declared.choice.Bus.TheVariants.{Atomic, Split}
-pub use Rattle.tso_model.specs.declared.instruction.Instr.{Instr}
-pub use Rattle.tso_model.specs.declared.action.Action.{Action}
 pub use Rattle.tso_model.specs.declared.action.Action.TheVariants.{Store, Load, Move, Fence, Lock}
-pub use Rattle.tso_model.specs.declared.choice.Choice.{Choice}
-pub use Rattle.tso_model.specs.declared.choice.Choice.TheVariants.{Step, Drain}
-pub use Rattle.tso_model.specs.declared.choice.Outcome.{Outcome}
-pub use Rattle.tso_model.specs.declared.choice.Outcome.TheVariants.{Committed, Buffered, Moved, Asked, Stalled}
-pub use Rattle.tso_model.specs.declared.choice.Stall.{Stall}
 pub use Rattle.split_laws.proofs.Following.{needs-some}
 pub use Rattle.split_laws.proofs.Stopping.{ended-free}
 pub use Rattle.split_laws.proofs.Ways.{IsOther, if-by, begins-by, completes-by, split-by, effect-by}
@@ -40,13 +29,12 @@ pub use Rattle.std.proofs.Math.Nat.{div-mul-le_self, mul-le-mul_right, add-mul}
 pub use Rattle.std.proofs.lemmas.List.Elements.{All-nil, All-cons, All-head, All-tail, All-push, All-drop, All-append, All-weaker}
 pub use Rattle.tso_model.specs.Thread.{entry, fence, value_in, value_of, updated}
 pub use Rattle.std.specs.Prelude.{filter, Ok}
-pub use Rattle.tso_model.specs.declared.instruction.Loc.{Loc}
 pub use Rattle.order_builder.specs.PrintedOrder.{HasLocation, IsLocationFor}
 pub use Rattle.split_laws.proofs.Cores.{core-cases, quiet-same}
 pub use Rattle.basic_laws.proofs.Cores.{starts-idle, length-starts}
 pub use Rattle.trace_report.specs.Known.{IsAt, IsLine, AreStoresKnown, StepNamesExist}
 pub use Rattle.std.proofs.lemmas.Bool.Decides.{nat_tests, eqb_tells}
-pub use Rattle.snoop_bus.specs.Asks.{Awaited, tag_at, or_invalid, asking, completed, completed_in, asked_caches_in, asked_for, awaited_by, next_in_place, awaited_as, request_for, whole_in, whole_access, asked_at_once}
+pub use Rattle.snoop_bus.specs.Asks.{Awaited, tag_at, or_invalid, asking, completed, completed_in, asked_caches_in, asked_for, awaited_by, next_in_place, awaited_as, request_for, whole_in, whole_access, asked_at_once, to_fill}
 unfoldable pub use Rattle.snoop_bus.specs.Asks.{awaiting}
 pub use Rattle.machine_core.specs.Running.{Running, attempt_on, machine_use, machine_after, new_machine, configuration_of, machine_effect}
 pub use Rattle.machine_core.specs.declared.accesses.CacheUse.{CacheUse}
@@ -56,7 +44,6 @@ pub use Rattle.trace_report.specs.declared.step.LineRequest.{LineRequest}
 pub use Rattle.trace_report.specs.declared.step.StateChange.{StateChange}
 pub use Rattle.trace_report.specs.declared.states.PlacedState.{PlacedState}
 pub use Rattle.std.specs.Option.{option_and_then, unwrap_or}
-pub use Rattle.tso_model.specs.declared.instruction.Core.{Core}
 pub use Rattle.snoop_bus.specs.declared.access.AccessKind.{AccessKind}
 pub use Rattle.snoop_bus.specs.Geometry.{Geometry, IsLineSize}
 pub use Rattle.basic_laws.proofs.Basics.{test-true, lt-or, test-false, and-false, decide}
@@ -81,7 +68,7 @@ pub use Rattle.protocol_tables.specs.declared.requests.Request.{Request}
 pub use Rattle.protocol_tables.specs.declared.requests.Request.TheVariants.{GetS, GetM}
 pub use Rattle.protocol_tables.specs.declared.requests.Transient.{Transient}
 pub use Rattle.snoop_bus.specs.Rows.{table_of_rows, rows_of}
-pub use Rattle.snoop_bus.specs.CacheContents.{TagSets, tags_at, tag_in, at_line, sets_of, dirty_in, writes_back, filled_by, used_by, at_others, is_held, requested}
+pub use Rattle.snoop_bus.specs.CacheContents.{TagSets, tags_at, tag_in, at_line, sets_of, dirty_in, writes_back, filled_by, used_by, at_others, is_held, requested, at_core}
 pub use Rattle.split_laws.proofs.Waiting.{AllStores, access-kept, choice-stores, start-stores}
 pub use Rattle.split_laws.proofs.Effects.{HolderWaits, Live, LiveIn, live-after, live-start}
 pub use Rattle.protocol_tables.specs.declared.state.State.TheVariants.{I, S, E, O, M}

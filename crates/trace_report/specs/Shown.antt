@@ -1,10 +1,7 @@
 -- What a trace shows of a choice, as one record: text and JSON are functions of it.
 use Rattle.std.specs.Prelude.{ℕ, Bool, List, Option}
 use Rattle.std.specs.Option.{option_map}
-use Rattle.tso_model.specs.declared.instruction.Core.{Core}
-use Rattle.tso_model.specs.declared.choice.Choice.{Choice}
-use Rattle.tso_model.specs.declared.choice.Outcome.{Outcome}
-use Rattle.tso_model.specs.declared.execution.Entry.{Entry}
+use Rattle.basic_laws.specs.Types.{Core, Choice, Outcome, Entry}
 use Rattle.snoop_bus.specs.declared.access.AccessKind.{AccessKind}
 use Rattle.trace_report.specs.declared.step.Step.{Step}
 use Rattle.trace_report.specs.declared.step.Moved.{Moved}

@@ -1,8 +1,6 @@
 -- What is shown of a choice that stalls, and its line: why it stalled and nothing else, since nothing changed.
 use Rattle.std.specs.Prelude.{ℕ, false, List, [], None}
-use Rattle.tso_model.specs.declared.choice.Choice.{Choice}
-use Rattle.tso_model.specs.declared.choice.Outcome.TheVariants.{Stalled}
-use Rattle.tso_model.specs.declared.choice.Stall.{Stall}
+use Rattle.basic_laws.specs.Types.{Choice, Stalled, Stall}
 use Rattle.protocol_tables.specs.PrintedTable.{line}
 use Rattle.trace_report.specs.Lines.{outcome_text}
 use Rattle.trace_report.specs.Shown.{ShownStep}

@@ -7,20 +7,9 @@ use Rattle.tso_model.specs.Thread.{with_value}
 use Rattle.tso_model.specs.FlatMachine.{State, core_of, chosen, after_choice}
 use Rattle.tso_model.specs.MemoryAccess.{access_of, next_of}
 use Rattle.tso_model.specs.SplitMachine.{Holder, Free, HeldBy, HeldBetween, same_choice, needs_bus}
-use Rattle.tso_model.specs.declared.choice.Bus.TheVariants.{Atomic, Split}
-use Rattle.tso_model.specs.declared.instruction.Core.{Core}
-use Rattle.tso_model.specs.declared.instruction.Loc.{Loc}
-use Rattle.tso_model.specs.declared.instruction.Instr.{Instr}
-use Rattle.tso_model.specs.declared.register.Reg.{Reg}
-use Rattle.tso_model.specs.declared.action.Operand.{Operand}
-use Rattle.tso_model.specs.declared.action.Update.{Update}
+use Rattle.basic_laws.specs.Types.{Atomic, Split, Core, Loc, Instr, Reg, Operand, Update, Choice, Step, Drain, Stall, Stalled, Entry}
 use Rattle.tso_model.specs.declared.action.Action.TheVariants.{Store, Fence, Lock}
-use Rattle.tso_model.specs.declared.choice.Choice.{Choice}
-use Rattle.tso_model.specs.declared.choice.Choice.TheVariants.{Step, Drain}
-use Rattle.tso_model.specs.declared.choice.Stall.{Stall}
-use Rattle.tso_model.specs.declared.choice.Outcome.TheVariants.{Stalled}
 use Rattle.tso_model.specs.declared.choice.Outcome.TheVariants as out
-use Rattle.tso_model.specs.declared.execution.Entry.{Entry}
 use Rattle.protocol_tables.specs.Tables.{Table}
 use Rattle.protocol_tables.specs.declared.state.State as protocol
 use Rattle.snoop_bus.specs.Asks.{tag_at}

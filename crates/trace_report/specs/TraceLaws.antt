@@ -6,12 +6,7 @@ use Rattle.tso_model.specs.FlatMachine.{chosen}
 use Rattle.tso_model.specs.Runs.{Run, CoresExist, run, stall_count}
 use Rattle.tso_model.specs.EitherBus.{run_on}
 use Rattle.tso_model.specs.Together.{put_together, together}
-use Rattle.tso_model.specs.declared.choice.Bus.TheVariants.{Atomic}
-use Rattle.tso_model.specs.declared.instruction.Core.{Core}
-use Rattle.tso_model.specs.declared.choice.Choice.{Choice}
-use Rattle.tso_model.specs.declared.choice.Outcome.{Outcome}
-use Rattle.tso_model.specs.declared.choice.Outcome.TheVariants.{Committed, Buffered, Moved, Asked, Stalled}
-use Rattle.tso_model.specs.declared.execution.Entry.{Entry}
+use Rattle.basic_laws.specs.Types.{Atomic, Core, Choice, Outcome, Committed, Buffered, Moved, Asked, Stalled, Entry}
 use Rattle.protocol_tables.specs.Tables.{Table, table_of}
 use Rattle.protocol_tables.specs.declared.kind.ProtocolKind.{ProtocolKind}
 use Rattle.protocol_tables.specs.declared.state.State.{State}

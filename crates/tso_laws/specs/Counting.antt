@@ -2,8 +2,7 @@
 -- numbers the choices of a run are counted, and the rounds that end it.
 use Rattle.std.specs.Prelude.{max, ℕ, ◌+◌, List, [], ◌∷◌, length}
 use Rattle.tso_model.specs.Actions.{action_of}
-use Rattle.tso_model.specs.declared.instruction.Instr.{Instr}
-use Rattle.tso_model.specs.declared.action.Action.{Action}
+use Rattle.basic_laws.specs.Types.{Instr, Action}
 use Rattle.tso_model.specs.declared.action.Action.TheVariants.{Store}
 
 -- 1 for a plain store, else 0

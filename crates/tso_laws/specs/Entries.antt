@@ -3,8 +3,7 @@
 use Rattle.std.specs.Prelude.{◌<◌, ◌≡◌, ◌≢◌, length}
 use Rattle.tso_model.specs.Litmus.{Litmus}
 use Rattle.tso_model.specs.FlatMachine.{program_of}
-use Rattle.tso_model.specs.declared.execution.Entry.{Entry}
-use Rattle.tso_model.specs.declared.execution.Kind.TheVariants.{F}
+use Rattle.basic_laws.specs.Types.{Entry, F}
 
 -- its core is one of the test's, its place is one of that core's program, and its location is one of the test's; but a
 -- fence has location 0 and value 0

@@ -6,8 +6,7 @@ use Rattle.tso_model.specs.Litmus.{Litmus, IsTest}
 use Rattle.tso_model.specs.Axioms.{IsTsoExecution}
 use Rattle.tso_model.specs.FlatMachine.{State, start}
 use Rattle.tso_model.specs.Runs.{run}
-use Rattle.tso_model.specs.declared.execution.Entry.{Entry}
-use Rattle.tso_model.specs.declared.choice.Choice.{Choice}
+use Rattle.basic_laws.specs.Types.{Entry, Choice}
 use Rattle.tso_laws.specs.Choices.{state_after, commits_of, IsPossible}
 use Rattle.tso_laws.specs.SoFar.{SoFar}
 use Rattle.tso_laws.specs.EndedRuns.{End}

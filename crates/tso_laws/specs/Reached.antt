@@ -2,8 +2,7 @@
 use Rattle.std.specs.Prelude.{ℕ, ◌≡◌, true, List, length}
 use Rattle.tso_model.specs.Litmus.{Litmus}
 use Rattle.tso_model.specs.Runs.{run, CoresExist}
-use Rattle.tso_model.specs.declared.execution.Entry.{Entry}
-use Rattle.tso_model.specs.declared.choice.Choice.{Choice}
+use Rattle.basic_laws.specs.Types.{Entry, Choice}
 
 -- at this depth some choices of the test's cores end the test with this very order
 pub record IsReached (t : Litmus) (depth : ℕ) (order : List Entry) : Type 0 where

@@ -1,7 +1,6 @@
 -- What holds of the commits and the state after any list of choices, whether the test has ended or not: the invariant from
 -- which it follows that an ended run is a TSO execution. (Primer, chapter 4; x86-TSO, section 3.)
-use Rattle.std.specs.Prelude.{ℕ, ◌<◌, ◌≤◌, ◌≡◌, ◌&&◌, ◌||◌, not, Bool, true, false}
-use Rattle.std.specs.Prelude.{List, [], ◌∷◌, ◌++◌, filter, length, take, slice_index_or, All}
+use Rattle.std.specs.Prelude.{ℕ, ◌<◌, ◌≤◌, ◌≡◌, ◌&&◌, ◌||◌, not, Bool, true, false, List, [], ◌∷◌, ◌++◌, filter, length, take, slice_index_or, All}
 use Rattle.tso_model.specs.Litmus.{Litmus}
 use Rattle.tso_model.specs.ProgramOrder.{is_read, is_store}
 use Rattle.tso_model.specs.ProgramEntries.{is_at, made_by}

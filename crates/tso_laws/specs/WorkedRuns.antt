@@ -3,8 +3,7 @@
 use Rattle.std.specs.Prelude.{List, [], ◌∷◌}
 use Rattle.tso_model.specs.Thread.{entry}
 use Rattle.tso_model.specs.Examples.{loc_x, loc_y}
-use Rattle.tso_model.specs.declared.execution.Entry.{Entry}
-use Rattle.tso_model.specs.declared.execution.Kind.TheVariants.{R, W}
+use Rattle.basic_laws.specs.Types.{Entry, R, W}
 
 -- ---- orders that TSO doesn't allow, one for each part of an execution
 

@@ -1,9 +1,8 @@
 -- The flat machine: one memory, and for each core the stores that are pending. One choice acts at a time.
 -- (x86-TSO, section 3, the abstract machine; the bounded buffer, the stalls and the locked instruction
 -- in one step are this project's profile.)
-use Rattle.std.specs.Prelude.{ℕ, ◌+◌, nat_lt, if◌then◌else◌, List, [], ◌∷◌, ◌++◌, map, filter, length, Option, Some}
+use Rattle.std.specs.Prelude.{ℕ, ◌+◌, nat_lt, if◌then◌else◌, List, [], ◌∷◌, ◌++◌, map, filter, length, Option, Some, true, false}
 use Rattle.std.specs.Prelude.{None, slice_get, slice_index, slice_index_or, slice_set, take, drop, zero, suc, Bool}
-use Rattle.std.specs.Prelude.{true, false}
 use Rattle.tso_model.specs.Actions.{action_of}
 use Rattle.tso_model.specs.Thread.{entry, fence, value_in, with_value, value_of, updated}
 use Rattle.tso_model.specs.ProgramOrder.{is_write, writes_to}

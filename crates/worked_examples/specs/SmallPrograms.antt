@@ -9,8 +9,7 @@ use Rattle.tso_model.specs.FlatMachine.{CoreState, Effect, effect_of}
 use Rattle.tso_model.specs.Runs.{run}
 use Rattle.tso_model.specs.declared.register.Reg.TheVariants.{Eax, Ebx, Ecx, Edx}
 use Rattle.tso_model.specs.declared.instruction.Instr.{Instr}
-use Rattle.tso_model.specs.declared.instruction.Instr.TheVariants.{StoreImm, StoreReg, SetImm, SetReg, Fence, Xchg}
-use Rattle.tso_model.specs.declared.instruction.Instr.TheVariants.{Xadd}
+use Rattle.tso_model.specs.declared.instruction.Instr.TheVariants.{StoreImm, StoreReg, SetImm, SetReg, Fence, Xchg, Xadd}
 use Rattle.tso_model.specs.declared.execution.Entry.{Entry}
 use Rattle.tso_model.specs.declared.execution.Kind.TheVariants.{W}
 use Rattle.tso_model.specs.declared.choice.Choice.{Choice}

@@ -1,7 +1,6 @@
 -- What the second pass over an order goes by: each action stands there once, so how far each core has come is enough to
 -- judge an entry.
-use Rattle.std.specs.Prelude.{ℕ, ◌<◌, ◌≡◌, ◌≢◌, nat_le, true, if◌then◌else◌, List, length, Option, Some, None, IfSome, IsNone}
-use Rattle.std.specs.Prelude.{slice_get, slice_index}
+use Rattle.std.specs.Prelude.{ℕ, ◌<◌, ◌≡◌, ◌≢◌, nat_le, true, if◌then◌else◌, List, length, Option, Some, None, IfSome, IsNone, slice_get, slice_index}
 use Rattle.tso_model.specs.Litmus.{Litmus}
 use Rattle.tso_model.specs.ProgramOrder.{is_read, is_write}
 use Rattle.basic_laws.specs.Ranks.{rank}

@@ -1,12 +1,10 @@
 -- What the programs make for given read values: first for zeros, which shows which entries there must be, then for the
 -- order's own.
-use Rattle.std.specs.Prelude.{ℕ, ◌+◌, List, [], ◌∷◌, ◌++◌, Option, None, if◌then◌else◌, slice_index_or, take}
-use Rattle.std.specs.Prelude.{drop}
+use Rattle.std.specs.Prelude.{ℕ, ◌+◌, List, [], ◌∷◌, ◌++◌, Option, None, if◌then◌else◌, slice_index_or, take, drop}
 use Rattle.std.specs.Option.{unwrap_or}
 use Rattle.tso_model.specs.Thread.{entries_of, reads_in}
 use Rattle.tso_model.specs.ProgramOrder.{is_read}
-use Rattle.tso_model.specs.declared.instruction.Instr.{Instr}
-use Rattle.tso_model.specs.declared.execution.Entry.{Entry}
+use Rattle.basic_laws.specs.Types.{Instr, Entry}
 
 -- how many values all programs read
 abbrev pub reads_of_all : List (List Instr) → ℕ

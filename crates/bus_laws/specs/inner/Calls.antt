@@ -1,7 +1,6 @@
 -- The calls of a bus that change it, as their contracts have them.
 use Rattle.std.specs.Prelude.{ℕ, ◌≡◌, Bool, true, false, Some, None}
-use Rattle.tso_model.specs.declared.instruction.Core.{Core}
-use Rattle.tso_model.specs.declared.instruction.Loc.{Loc}
+use Rattle.basic_laws.specs.Types.{Core, Loc}
 use Rattle.snoop_bus.specs.declared.access.Access.{Access}
 use Rattle.snoop_bus.specs.declared.holding.Stage.{Stage}
 use Rattle.snoop_bus.specs.Bus.{BusModel, IsFree, holder_of}

@@ -1,7 +1,6 @@
 -- What each call makes of one set's copies, and what a set always keeps: no line twice, none in state I, no more than its
 -- ways. Of a line that stood there twice one copy would miss what is written to the other.
-use Rattle.std.specs.Prelude.{◌≡◌, ◌≢◌, ◌<◌, ◌≤◌, ℕ, nat_eq, if◌then◌else◌, ⊤, List, [], ◌∷◌, length, map, take, Option}
-use Rattle.std.specs.Prelude.{Some, None}
+use Rattle.std.specs.Prelude.{◌≡◌, ◌≢◌, ◌<◌, ◌≤◌, ℕ, nat_eq, if◌then◌else◌, ⊤, List, [], ◌∷◌, length, map, take, Option, Some, None}
 use Rattle.std.specs.Option.{option_map_or}
 use Rattle.std.specs.Map.{lookup, remove_entry}
 use Rattle.protocol_tables.specs.declared.state.State.TheVariants.{I}

@@ -7,14 +7,8 @@ use Rattle.tso_model.specs.ProgramOrder.{writes_to}
 use Rattle.tso_model.specs.Axioms.{last_value}
 use Rattle.tso_model.specs.Thread.{entry}
 use Rattle.tso_model.specs.FlatMachine.{Effect, stored, fenced, effect_by, drain_of}
-use Rattle.tso_model.specs.declared.instruction.Loc.{Loc}
-use Rattle.tso_model.specs.declared.instruction.Instr.{Instr}
-use Rattle.tso_model.specs.declared.register.Reg.{Reg}
-use Rattle.tso_model.specs.declared.action.Update.{Update}
-use Rattle.tso_model.specs.declared.action.Action.{Action}
+use Rattle.basic_laws.specs.Types.{Loc, Instr, Reg, Update, Action, Entry, W, LR, LW}
 use Rattle.tso_model.specs.declared.action.Action.TheVariants.{Load, Lock}
-use Rattle.tso_model.specs.declared.execution.Entry.{Entry}
-use Rattle.tso_model.specs.declared.execution.Kind.TheVariants.{W, LR, LW}
 use Rattle.store_buffer.specs.Stores.{Stores}
 use Rattle.store_buffer.specs.inner.Stores.{stores}
 use Rattle.snoop_bus.specs.Bus.{BusModel, words_of}

@@ -6,9 +6,7 @@ use Rattle.tso_model.specs.FlatMachine.{Effect, effect_of, chosen}
 use Rattle.tso_model.specs.MemoryAccess.{MemoryAccess, access_of}
 use Rattle.tso_model.specs.SplitMachine.{HeldBy, Attempt, BusEffect, needs_bus}
 use Rattle.tso_model.specs.EitherBus.{effect_on}
-use Rattle.tso_model.specs.declared.instruction.Core.{Core}
-use Rattle.tso_model.specs.declared.instruction.Loc.{Loc}
-use Rattle.tso_model.specs.declared.choice.Choice.{Choice}
+use Rattle.basic_laws.specs.Types.{Core, Loc, Choice}
 use Rattle.snoop_bus.specs.Bus.{BusModel, words_of, cores_of, IsFree}
 use Rattle.machine_core.specs.declared.hardware.Hardware.{Hardware}
 use Rattle.machine_core.specs.Caches.{caches_of, hits_by, attempt_of}

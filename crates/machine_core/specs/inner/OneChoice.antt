@@ -5,9 +5,7 @@ use Rattle.tso_model.specs.FlatMachine.{start}
 use Rattle.tso_model.specs.MemoryAccess.{MemoryAccess, Writes}
 use Rattle.tso_model.specs.SplitMachine.{Free, HeldBetween, BusEffect, acts}
 use Rattle.tso_model.specs.EitherBus.{unheld, HitFits}
-use Rattle.tso_model.specs.declared.instruction.Loc.{Loc}
-use Rattle.tso_model.specs.declared.execution.Entry.{Entry}
-use Rattle.tso_model.specs.declared.choice.Choice.{Choice}
+use Rattle.basic_laws.specs.Types.{Loc, Entry, Choice}
 use Rattle.snoop_bus.specs.Bus.{BusModel, holder_of}
 use Rattle.snoop_bus.specs.Held.{holder}
 use Rattle.snoop_bus.specs.declared.holding.Stage.TheVariants.{Locked}

@@ -3,11 +3,7 @@
 use Rattle.std.specs.Prelude.{◌≡◌, ◌≢◌, ◌++◌, ◌∷◌, [], ℕ, Bool, List, None, Result, IsOk, length, slice_set}
 use Rattle.tso_model.specs.FlatMachine.{Effect, memory_after}
 use Rattle.tso_model.specs.MemoryAccess.{MemoryAccess}
-use Rattle.tso_model.specs.declared.out_of_memory.NoMemory.{NoMemory}
-use Rattle.tso_model.specs.declared.instruction.Loc.{Loc}
-use Rattle.tso_model.specs.declared.execution.Entry.{Entry}
-use Rattle.tso_model.specs.declared.choice.Outcome.{Outcome}
-use Rattle.tso_model.specs.declared.choice.Outcome.TheVariants.{Committed}
+use Rattle.basic_laws.specs.Types.{NoMemory, Loc, Entry, Outcome, Committed}
 use Rattle.store_buffer.specs.declared.Pending.{Pending}
 use Rattle.order_builder.specs.inner.Noted.{Noted}
 use Rattle.snoop_bus.specs.Bus.{BusModel, words_of, cores_of, holder_of}

@@ -3,15 +3,10 @@
 use Rattle.std.specs.Prelude.{◌≡◌, ◌<◌, ℕ, false, List}
 use Rattle.tso_model.specs.Litmus.{Litmus}
 use Rattle.tso_model.specs.MemoryAccess.{MemoryAccess, NoAccess, Reads, Writes, Locks}
-use Rattle.tso_model.specs.SplitMachine.{Holder, Free, HeldBy, HeldBetween, BusEffect, same_choice, begins, writes_last}
-use Rattle.tso_model.specs.SplitMachine.{split_effect}
+use Rattle.tso_model.specs.SplitMachine.{Holder, Free, HeldBy, HeldBetween, BusEffect, same_choice, begins, writes_last, split_effect}
 use Rattle.tso_model.specs.Thread.{value_in, updated}
-use Rattle.tso_model.specs.declared.register.Reg.{Reg}
-use Rattle.tso_model.specs.declared.action.Action.{Action}
+use Rattle.basic_laws.specs.Types.{Reg, Action, Entry, Choice, Step}
 use Rattle.tso_model.specs.declared.action.Action.TheVariants.{Lock}
-use Rattle.tso_model.specs.declared.execution.Entry.{Entry}
-use Rattle.tso_model.specs.declared.choice.Choice.{Choice}
-use Rattle.tso_model.specs.declared.choice.Choice.TheVariants.{Step}
 use Rattle.machine_core.specs.declared.hardware.Hardware.{Hardware}
 use Rattle.machine_core.specs.Keeping.{state_in}
 use Rattle.machine_core.specs.inner.Effects.{attempt_in}

@@ -1,7 +1,6 @@
 -- The choices of a machine without store buffers: steps alone.
 use Rattle.std.specs.Prelude.{Bool, true, false}
-use Rattle.tso_model.specs.declared.choice.Choice.{Choice}
-use Rattle.tso_model.specs.declared.choice.Choice.TheVariants.{Step, Drain}
+use Rattle.basic_laws.specs.Types.{Choice, Step, Drain}
 
 abbrev pub is_step : Choice → Bool
 is_step (Step core) = true

@@ -5,8 +5,7 @@ use Rattle.std.specs.List.{list_any}
 use Rattle.tso_model.specs.Litmus.{Litmus}
 use Rattle.tso_model.specs.Thread.{entry}
 use Rattle.tso_model.specs.ProgramOrder.{is_before, may_be_passed, same_kind}
-use Rattle.tso_model.specs.declared.execution.Entry.{Entry}
-use Rattle.tso_model.specs.declared.execution.Kind.TheVariants.{LR}
+use Rattle.basic_laws.specs.Types.{Entry, LR}
 use Rattle.relational_model.specs.Events.{IsIn}
 use Rattle.relational_model.specs.Relations.{is_access}
 use Rattle.relational_model.specs.inner.Rows.{GoesForward, Once}

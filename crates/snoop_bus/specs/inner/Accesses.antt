@@ -1,7 +1,6 @@
 -- What the calls of a bus leave, said of its copies, and when a call is refused memory. Beside an action that holds the bus
 -- only a hit may be made, and none at the line that is being written.
-use Rattle.std.specs.Prelude.{◌≡◌, ◌≢◌, ◌⊎◌, ℕ, Bool, false, IsTrue, Option, Some, None, option_map, List, []}
-use Rattle.std.specs.Prelude.{slice_get, slice_index_or}
+use Rattle.std.specs.Prelude.{◌≡◌, ◌≢◌, ◌⊎◌, ℕ, Bool, false, IsTrue, Option, Some, None, option_map, List, [], slice_get, slice_index_or}
 use Rattle.tso_model.specs.declared.instruction.Core.{Core}
 use Rattle.tso_model.specs.declared.instruction.Loc.{Loc}
 use Rattle.protocol_tables.specs.declared.state.State.{State}

@@ -1,6 +1,5 @@
 -- The caches of all cores and memory at an access that is made whole: what it rests on, and what it leaves.
-use Rattle.std.specs.Prelude.{◌≡◌, ◌<◌, ◌≤◌, ◌⊎◌, ℕ, Bool, true, false, IsTrue, nat_eq, if◌then◌else◌, List, length, slice_set}
-use Rattle.std.specs.Prelude.{slice_index, Option, Some, None, IfSome}
+use Rattle.std.specs.Prelude.{◌≡◌, ◌<◌, ◌≤◌, ◌⊎◌, ℕ, Bool, true, false, IsTrue, nat_eq, if◌then◌else◌, List, length, slice_set, slice_index, Option, Some, None, IfSome}
 use Rattle.protocol_tables.specs.declared.state.State.TheVariants.{M}
 use Rattle.protocol_tables.specs.Tables.{Table}
 use Rattle.cache_set.specs.inner.Copy.{copy_with}

@@ -1,7 +1,6 @@
 -- Where copies of a line are, and what a fill leaves of them: one copy more of the line, and one copy less of the line that
 -- gave way.
-use Rattle.std.specs.Prelude.{◌≡◌, ◌≢◌, ◌<◌, ◌%◌, ℕ, List, [], length, map, slice_index_or, nat_eq, if◌then◌else◌}
-use Rattle.std.specs.Prelude.{Option, None, option_map}
+use Rattle.std.specs.Prelude.{◌≡◌, ◌≢◌, ◌<◌, ◌%◌, ℕ, List, [], length, map, slice_index_or, nat_eq, if◌then◌else◌, Option, None, option_map}
 use Rattle.protocol_tables.specs.declared.state.State.{State}
 use Rattle.cache_set.specs.declared.Line.{Line}
 use Rattle.cache_set.specs.declared.Victim.{Victim}

@@ -8,11 +8,7 @@ use Rattle.tso_model.specs.MemoryAccess.{NoAccess, access_of}
 use Rattle.tso_model.specs.SplitMachine.{Free, Attempt, same_choice}
 use Rattle.tso_model.specs.EitherBus.{BusState, unheld, effect_on, after_on, run_on, HitFits, HitsFit}
 use Rattle.tso_model.specs.Together.{put_together}
-use Rattle.tso_model.specs.declared.choice.Bus.{Bus}
-use Rattle.tso_model.specs.declared.execution.Entry.{Entry}
-use Rattle.tso_model.specs.declared.choice.Choice.{Choice}
-use Rattle.tso_model.specs.declared.choice.Stall.{Stall}
-use Rattle.tso_model.specs.declared.choice.Outcome.TheVariants.{Stalled}
+use Rattle.basic_laws.specs.Types.{Bus, Entry, Choice, Stall, Stalled}
 use Rattle.split_laws.specs.BusChoices.{IsPossibleOn}
 use Rattle.split_laws.specs.inner.Pending.{PendingIsOwn}
 use Rattle.split_laws.specs.BusRuns.{EndOn, left_by}

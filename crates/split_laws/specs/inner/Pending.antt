@@ -1,8 +1,7 @@
 -- What is pending at a core: plain stores of its own, and nothing else.
 use Rattle.std.specs.Prelude.{ℕ, ◌≡◌, Some, slice_get}
 use Rattle.tso_model.specs.FlatMachine.{State, core_of}
-use Rattle.tso_model.specs.declared.execution.Entry.{Entry}
-use Rattle.tso_model.specs.declared.execution.Kind.TheVariants.{W}
+use Rattle.basic_laws.specs.Types.{Entry, W}
 
 -- a plain store of this core
 pub record IsStoreOf (core : ℕ) (e : Entry) : Type 0 where

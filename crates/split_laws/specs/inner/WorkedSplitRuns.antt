@@ -5,10 +5,7 @@ use Rattle.tso_model.specs.Litmus.{Litmus}
 use Rattle.tso_model.specs.Thread.{entry}
 use Rattle.tso_model.specs.Examples.{loc_x}
 use Rattle.tso_model.specs.SplitMachine.{Attempt}
-use Rattle.tso_model.specs.declared.register.Reg.TheVariants.{Eax}
-use Rattle.tso_model.specs.declared.instruction.Instr.TheVariants.{StoreImm, Xadd}
-use Rattle.tso_model.specs.declared.execution.Entry.{Entry}
-use Rattle.tso_model.specs.declared.execution.Kind.TheVariants.{W, LR, LW}
+use Rattle.basic_laws.specs.Types.{Eax, StoreImm, Xadd, Entry, W, LR, LW}
 use Rattle.split_laws.specs.WorkedSplitRuns.{added_beside, alone, hitting, missing, one}
 
 -- beside a store to x, 0s 0s 1s 1d 0s, where the store is said to hit between the two parts of the addition

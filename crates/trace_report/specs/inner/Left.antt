@@ -2,9 +2,7 @@
 use Rattle.std.specs.Prelude.{ℕ, ◌≡◌, List, ◌++◌, length, drop}
 use Rattle.std.specs.Option.{option_map}
 use Rattle.tso_model.specs.FlatMachine.{core_of, chosen}
-use Rattle.tso_model.specs.declared.choice.Choice.{Choice}
-use Rattle.tso_model.specs.declared.choice.Outcome.{Outcome}
-use Rattle.tso_model.specs.declared.execution.Entry.{Entry}
+use Rattle.basic_laws.specs.Types.{Choice, Outcome, Entry}
 use Rattle.machine_core.specs.Running.{Running}
 use Rattle.trace_report.specs.inner.Steps.{waited_before}
 use Rattle.trace_report.specs.Steps.{states_of, changes_in, buffer_if_changed}

@@ -1,9 +1,6 @@
 -- How many stores were pending before a choice, told from after it: so no copy of a buffer has to be kept.
 use Rattle.std.specs.Prelude.{ℕ, ◌+◌, ◌-◌}
-use Rattle.tso_model.specs.declared.choice.Choice.{Choice}
-use Rattle.tso_model.specs.declared.choice.Choice.TheVariants.{Step, Drain}
-use Rattle.tso_model.specs.declared.choice.Outcome.{Outcome}
-use Rattle.tso_model.specs.declared.choice.Outcome.TheVariants.{Committed, Buffered, Asked, Stalled}
+use Rattle.basic_laws.specs.Types.{Choice, Step, Drain, Outcome, Committed, Buffered, Asked, Stalled}
 use Rattle.tso_model.specs.declared.choice.Outcome.TheVariants as out
 
 -- of a choice with this outcome that left so many stores pending, how many waited before it

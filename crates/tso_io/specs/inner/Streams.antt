@@ -1,7 +1,6 @@
 -- What a call adds to the counts of failed calls: one where it failed, and nothing else. The count stops at its maximum,
 -- and never wraps.
-use Rattle.std.specs.Prelude.{ℕ, ◌+◌, ◌-◌, ◌^◌, ◌≡◌, ◌==◌, ◌&&◌, nat_lt, min, if◌then◌else◌, List, length, Result}
-use Rattle.std.specs.Prelude.{MatchResult, is_ok}
+use Rattle.std.specs.Prelude.{ℕ, ◌+◌, ◌-◌, ◌^◌, ◌≡◌, ◌==◌, ◌&&◌, nat_lt, min, if◌then◌else◌, List, length, Result, MatchResult, is_ok}
 use Rattle.tso_io.specs.declared.streams.RunFault.{RunFault}
 use Rattle.tso_io.specs.declared.streams.RunFault.TheVariants.{Device, NoMemory}
 

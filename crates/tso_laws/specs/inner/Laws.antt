@@ -6,10 +6,7 @@ use Rattle.tso_model.specs.Axioms.{IsWhole}
 use Rattle.tso_model.specs.Standing.{StandsIn}
 use Rattle.tso_model.specs.FlatMachine.{State, start, effect_of, after_choice}
 use Rattle.tso_model.specs.Runs.{run}
-use Rattle.tso_model.specs.declared.execution.Entry.{Entry}
-use Rattle.tso_model.specs.declared.choice.Choice.{Choice}
-use Rattle.tso_model.specs.declared.choice.Stall.{Stall}
-use Rattle.tso_model.specs.declared.choice.Outcome.TheVariants.{Stalled}
+use Rattle.basic_laws.specs.Types.{Entry, Choice, Stall, Stalled}
 use Rattle.tso_laws.specs.Choices.{IsPossible}
 use Rattle.tso_laws.specs.Entries.{FitsTest}
 use Rattle.tso_laws.specs.EndedRuns.{End}

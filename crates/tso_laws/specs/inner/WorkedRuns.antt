@@ -4,12 +4,7 @@ use Rattle.tso_model.specs.FlatMachine.{step, drain}
 use Rattle.tso_model.specs.Litmus.{Litmus}
 use Rattle.tso_model.specs.Thread.{entry}
 use Rattle.tso_model.specs.Examples.{loc_x, loc_y, zeros}
-use Rattle.tso_model.specs.declared.register.Reg.TheVariants.{Eax}
-use Rattle.tso_model.specs.declared.instruction.Loc.{Loc}
-use Rattle.tso_model.specs.declared.instruction.Instr.TheVariants.{StoreImm, Load, SetImm}
-use Rattle.tso_model.specs.declared.execution.Entry.{Entry}
-use Rattle.tso_model.specs.declared.execution.Kind.TheVariants.{R, W}
-use Rattle.tso_model.specs.declared.choice.Choice.{Choice}
+use Rattle.basic_laws.specs.Types.{Eax, Loc, StoreImm, Load, SetImm, Entry, R, W, Choice}
 
 -- along the order of n6: 0s 0s 0s 1s 1d 1s 1d 0d
 abbrev pub n6_along : List Choice

@@ -1,7 +1,6 @@
-use Rattle.reason_report.proofs.Vocabulary.{refl}
+use Rattle.reason_report.proofs.Vocabulary.{refl, all_registers}
 use Rattle.std.specs.Fmt.{digits}
 use Rattle.json.specs.Print.{escape_byte, print_from}
-use Rattle.tso_report.specs.Report.{all_registers}
 use Rattle.reason_report.proofs.worked.worked_reasons.Goals as goal
 
 pub returns-clause-passing : goal.returns-clause-passing
