@@ -41,8 +41,6 @@ STAY = {
     "judged": "what is read, judged by the limits",
     "located": "a name with its location",
     "name_of": "the name as it is printed",
-    "negated": "the same with a negation before it",
-    "opened_at": "what stands after the bracket that opens a part",
     "part_of": "which part of a text, and of a locked instruction",
     "program_of": "a core's program",
     "registers_of": "the registers of a core",

@@ -17,38 +17,24 @@ pub data ArgumentTerm : Type 0 where
 abbrev pub as_constant : List ℕ × List Piece → Option (ArgumentTerm × List Piece)
 as_constant found = Some (constant (decimal_value found.0), found.1)
 
--- `v`, after its `$`
-abbrev pub dollar_at : List Piece → Option (ArgumentTerm × List Piece)
-dollar_at ps = there (number_at ps) as_constant None
-
-abbrev pub closed_memory : List ℕ × List Piece → Option (ArgumentTerm × List Piece)
-closed_memory found = there (symbol_at CloseSquare found.1) (λ rest. Some (in_memory found.0, rest)) None
-
 -- `x]`, after its `[`
 abbrev pub memory_at : List Piece → Option (ArgumentTerm × List Piece)
-memory_at ps = there (location_at ps) closed_memory None
-
-abbrev pub as_register : Reg × List Piece → Option (ArgumentTerm × List Piece)
-as_register found = Some (in_register found.0, found.1)
+memory_at ps = there (location_at ps) (λ x. there (symbol_at CloseSquare x.1) (λ rest. Some (in_memory x.0, rest)) None) None
 
 -- `v`, `$v`, `[x]` or `REG` at the front, and what stands after it
 unfoldable pub argument_at : List Piece → Option (ArgumentTerm × List Piece)
 argument_at ps =
     there (number_at ps) as_constant
-    (there (symbol_at Dollar ps) dollar_at
+    (there (symbol_at Dollar ps) (λ rest. there (number_at rest) as_constant None)
     (there (symbol_at OpenSquare ps) memory_at
-    (there (register_at ps) as_register None)))
+    (there (register_at ps) (λ reg. Some (in_register reg.0, reg.1)) None)))
 
+-- both operands, if nothing more stands after the second
 abbrev pub if_last : ArgumentTerm → ArgumentTerm × List Piece → Option (ArgumentTerm × ArgumentTerm)
 if_last first (second, []) = Some (first, second)
 if_last first (second, p ∷ ps) = None
 
-abbrev pub second_of : ArgumentTerm → List Piece → Option (ArgumentTerm × ArgumentTerm)
-second_of first ps = there (argument_at ps) (if_last first) None
-
-abbrev pub after_operand : ArgumentTerm × List Piece → Option (ArgumentTerm × ArgumentTerm)
-after_operand found = there (symbol_at Comma found.1) (second_of found.0) None
-
 -- two operands with a comma between them, and nothing more
 unfoldable pub two_arguments : List Piece → Option (ArgumentTerm × ArgumentTerm)
-two_arguments ps = there (argument_at ps) after_operand None
+two_arguments ps =
+    there (argument_at ps) (λ first. there (symbol_at Comma first.1) (λ rest. there (argument_at rest) (if_last first.0) None) None) None

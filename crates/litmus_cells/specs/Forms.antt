@@ -11,29 +11,21 @@ use Rattle.litmus_cells.specs.Shapes.{Shape, store_imm, store_reg, load, set_imm
 abbrev pub mov_of : ArgumentTerm × ArgumentTerm → Option Shape
 mov_of (in_memory x, constant v) = Some (store_imm x v)
 mov_of (in_memory x, in_register r) = Some (store_reg x r)
-mov_of (in_memory x, in_memory y) = None
 mov_of (in_register r, in_memory x) = Some (load r x)
 mov_of (in_register r, constant v) = Some (set_imm r v)
 mov_of (in_register r, in_register s) = Some (set_reg r s)
-mov_of (constant v, other) = None
+mov_of others = None
 
 -- `XCHG` of two operands, a location and a register in either order
 abbrev pub xchg_of : ArgumentTerm × ArgumentTerm → Option Shape
 xchg_of (in_memory x, in_register r) = Some (xchg x r)
-xchg_of (in_memory x, in_memory y) = None
-xchg_of (in_memory x, constant v) = None
 xchg_of (in_register r, in_memory x) = Some (xchg x r)
-xchg_of (in_register r, in_register s) = None
-xchg_of (in_register r, constant v) = None
-xchg_of (constant v, other) = None
+xchg_of others = None
 
 -- `XADD` of two operands, a location and a register
 abbrev pub xadd_of : ArgumentTerm × ArgumentTerm → Option Shape
 xadd_of (in_memory x, in_register r) = Some (xadd x r)
-xadd_of (in_memory x, in_memory y) = None
-xadd_of (in_memory x, constant v) = None
-xadd_of (in_register r, other) = None
-xadd_of (constant v, other) = None
+xadd_of others = None
 
 abbrev pub no_more : List Piece → Option Shape
 no_more [] = Some fence

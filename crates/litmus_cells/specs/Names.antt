@@ -7,16 +7,10 @@ use Rattle.litmus_tokens.specs.Pieces.{Piece}
 use Rattle.litmus_tokens.specs.Front.{name_at}
 use Rattle.litmus_cells.specs.Faults.{there}
 
-abbrev pub if_location : List ℕ × List Piece → Option (List ℕ × List Piece)
-if_location found = if is_location_name found.0 then Some found else None
-
 -- a name that a location may have, at the front
 unfoldable pub location_at : List Piece → Option (List ℕ × List Piece)
-location_at ps = there (name_at ps) if_location None
-
-abbrev pub if_register : List ℕ × List Piece → Option (Reg × List Piece)
-if_register found = there (register_named found.0) (λ reg. Some (reg, found.1)) None
+location_at ps = there (name_at ps) (λ x. if is_location_name x.0 then Some x else None) None
 
 -- a register's name at the front
 unfoldable pub register_at : List Piece → Option (Reg × List Piece)
-register_at ps = there (name_at ps) if_register None
+register_at ps = there (name_at ps) (λ x. there (register_named x.0) (λ reg. Some (reg, x.1)) None) None

@@ -1,6 +1,9 @@
 -- Propositions with a symbol between them, one after the other.
-use Rattle.litmus_reader.proofs.Vocabulary.{◌≡◌, ℕ, zero, suc, ◌≤◌, ◌<◌, List, [], ◌∷◌, length, Some, None, Result, Ok, Err, refl, sym, ap, subst, ◌∙◌, arith, Claim, Symbol, Piece, symbol_at, Fault, ReadError, Fails, ◌>>=◌, Claimed, claimed, Proposition, joined_to, chain, chain_of}
+use Rattle.litmus_reader.proofs.Vocabulary.{◌≡◌, ℕ, zero, suc, ◌≤◌, ◌<◌, List, [], ◌∷◌, length, Some, None, Result, Ok, Err, refl, sym, ap, subst, ◌∙◌, arith, Claim, Symbol, Piece, symbol_at, Fault, ReadError, Fails, ◌>>=◌, Claimed, claimed, Proposition, chain, chain_of}
 use Rattle.litmus_cells.specs.declared.fault.ReadError.TheVariants as errors
+
+abbrev pub joined_to : (Claim → Claim → Claim) → Claim → Claimed → Claimed
+joined_to join left right = record right { claim = join left right.claim }
 
 -- the total is what has been read and then what the rest gives, in some number of steps that is enough
 pub record ChainAfter (symbol : Symbol) (join : Claim → Claim → Claim) (unit : Proposition) (c : Claimed) (total : Result Claimed Fault) : Type 0 where

@@ -1,14 +1,14 @@
 -- The columns of the header row, by the number of their core.
-use Rattle.litmus_reader.proofs.Vocabulary.{◌≡◌, ℕ, suc, zero, ◌+◌, ◌-◌, ◌≤◌, ◌<◌, List, Ok, Err, cond, arith, most_cores, Stop, Piece, TooLarge, ◌>>=◌, or_unfit, columns, core_at, separator_at, in_columns, fault, remaining_of}
+use Rattle.litmus_reader.proofs.Vocabulary.{◌≡◌, ℕ, suc, zero, ◌+◌, ◌-◌, ◌≤◌, ◌<◌, List, Ok, Err, cond, arith, most_cores, Stop, Piece, TooLarge, ◌>>=◌, or_unfit, columns, separator_at, fault, remaining_of, part_of, BadHeaderRow, word_after, core_name}
 
 pub columns_next : (stop : Stop) (core : ℕ) (ps : List Piece) → core < most_cores → columns stop (most_cores - core) core ps ≡
-    (or_unfit (in_columns stop) ps (core_at core ps) >>= λ rest.
-    or_unfit (in_columns stop) rest (separator_at rest) >>= λ separator.
+    (or_unfit (part_of BadHeaderRow stop) ps (word_after (core_name core) ps) >>= λ rest.
+    or_unfit (part_of BadHeaderRow stop) rest (separator_at rest) >>= λ separator.
     cond separator.0 (columns stop (most_cores - (core + 1)) (core + 1) separator.1) (Ok (core + 1, separator.1)))
 unfolding columns
 columns_next stop core ps lt = let e : most_cores - core ≡ suc (most_cores - (core + 1)) = omega arith in rw e
 
 pub columns_last : (stop : Stop) (core : ℕ) (ps : List Piece) → most_cores ≤ core → columns stop (most_cores - core) core ps ≡
-    (or_unfit (in_columns stop) ps (core_at core ps) >>= λ rest. Err (fault TooLarge (remaining_of ps)))
+    (or_unfit (part_of BadHeaderRow stop) ps (word_after (core_name core) ps) >>= λ rest. Err (fault TooLarge (remaining_of ps)))
 unfolding columns
 columns_last stop core ps le = let e : most_cores - core ≡ zero = omega arith in rw e

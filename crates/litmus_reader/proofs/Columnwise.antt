@@ -1,5 +1,5 @@
 -- Rows by their columns, and as one list of instructions with their cores.
-use Rattle.litmus_reader.proofs.Vocabulary.{◌≡◌, ℕ, zero, suc, ◌+◌, ◌<◌, ◌≤◌, Bool, true, false, cond, eqb, eqb-true, eq-eqb, List, [], ◌∷◌, ◌++◌, length, map, filter, All, Option, Some, None, refl, sym, ap, subst, ◌∙◌, arith, count_by, slice_index_or, range_with_len, flat_map, map-append, sum_by-append, All-nil, All-cons, All-head, All-tail, Instr, CoreInstr, of_core, program_of, programs_from, numbered, in_rows, column, location_in, instr_with, ValueFits, AreWithin, in_field, Shape}
+use Rattle.litmus_reader.proofs.Vocabulary.{◌≡◌, ℕ, zero, suc, ◌+◌, ◌<◌, ◌≤◌, Bool, true, false, cond, eqb, eq-eqb, List, [], ◌∷◌, ◌++◌, length, map, filter, All, Option, Some, None, refl, sym, ap, subst, ◌∙◌, arith, count_by, slice_index_or, range_with_len, flat_map, map-append, sum_by-append, All-nil, All-cons, All-head, All-tail, Instr, CoreInstr, of_core, program_of, numbered, in_rows, column, location_in, instr_with, ValueFits, AreWithin, in_field, Shape, ne_eqb}
 use Rattle.litmus_reader.proofs.Placed.{Placed, placed_from, placed_in, locations_of, instrs_with, ValuesFit, EntriesWithin}
 
 -- ---- all instructions
@@ -71,17 +71,10 @@ picked-append core (x ∷ xs) ys = by_test (eqb x.core core) (picked-append core
     by_test true others = ap (λ (l : List Shape). x.shape ∷ l) others
     by_test false others = others
 
-apart : (m n : ℕ) → (m ≡ n → ⊥) → eqb m n ≡ false
-apart m n differ = by_test (eqb m n) refl
-  where
-    by_test : (b : Bool) → eqb m n ≡ b → eqb m n ≡ false
-    by_test true e = absurd (differ (eqb-true _ _ e))
-    by_test false e = e
-
 none-before : (cells : List (Option Shape)) (core other : ℕ) → other < core → picked other (placed_from core cells) ≡ []
 none-before [] core other lt = refl
 none-before (None ∷ cells) core other lt = none-before cells (core + 1) other (omega arith)
-none-before (Some shape ∷ cells) core other lt = rw (apart core other (λ same. omega (arith, same, lt))) (none-before cells (core + 1) other (omega arith))
+none-before (Some shape ∷ cells) core other lt = rw (ne_eqb core other (λ same. omega (arith, same, lt))) (none-before cells (core + 1) other (omega arith))
 
 picked-from : (cells : List (Option Shape)) (place core other : ℕ) → other ≡ core + place → picked other (placed_from core cells) ≡ field_of place cells
 picked-from [] place core other e = refl
@@ -90,7 +83,7 @@ picked-from (Some shape ∷ cells) zero core other e =
     rw (eq-eqb core other (omega arith)) (ap (λ (l : List Shape). shape ∷ l) (none-before cells (core + 1) other (omega arith)))
 picked-from (None ∷ cells) (suc place) core other e = picked-from cells place (core + 1) other (omega arith)
 picked-from (Some shape ∷ cells) (suc place) core other e =
-    rw (apart core other (λ same. omega (arith, same, e))) (picked-from cells place (core + 1) other (omega arith))
+    rw (ne_eqb core other (λ same. omega (arith, same, e))) (picked-from cells place (core + 1) other (omega arith))
 
 picked-column : (core : ℕ) (table : List (List (Option Shape))) → picked core (placed_in table) ≡ column core table
 picked-column core [] = refl
@@ -115,10 +108,10 @@ picked-program core names (e ∷ es) = by_test (eqb e.core core) (picked-program
     by_test true others = ap (λ (l : List Instr). instr_with names e.shape ∷ l) others
     by_test false others = others
 
-pub programs-columns : (names : List (List ℕ)) (table : List (List (Option Shape))) (cores core : ℕ) → programs_from core cores (instrs_with names (placed_in table)) ≡ map (program names table) (range_with_len core cores)
+pub programs-columns : (names : List (List ℕ)) (table : List (List (Option Shape))) (cores core : ℕ) → map (program_of (instrs_with names (placed_in table))) (range_with_len core cores) ≡ map (program names table) (range_with_len core cores)
 programs-columns names table zero core = refl
 programs-columns names table (suc cores) core =
-    ap (λ (l : List Instr). l ∷ programs_from (core + 1) cores (instrs_with names (placed_in table))) (picked-program core names (placed_in table) ∙ ap (map (instr_with names)) (picked-column core table))
+    ap (λ (l : List Instr). l ∷ map (program_of (instrs_with names (placed_in table))) (range_with_len (core + 1) cores)) (picked-program core names (placed_in table) ∙ ap (map (instr_with names)) (picked-column core table))
     ∙ ap (λ (l : List (List Instr)). program names table core ∷ l) (programs-columns names table cores (core + 1))
 
 -- ---- what fits
@@ -136,7 +129,3 @@ columns_within names table h = record {
   few = λ core. omega (arith, h.few core, picked-count core (placed_in table), ap (λ (l : List Shape). length l) (picked-column core table));
   room = subst (λ (l : List (List ℕ)). length (numbered names l) ≤ 16) (named-same table) h.room;
 }
-
--- ---- one row more, and one cell more
-
--- ---- faults

@@ -1,6 +1,6 @@
 -- Atoms are read as they are spelled.
-use Rattle.litmus_reader.proofs.Vocabulary.{◌≡◌, ℕ, ◌+◌, ◌≤◌, ◌<◌, ◌^◌, Bool, true, false, cond, ltb, not, ◌&&◌, List, [], ◌∷◌, ◌++◌, length, Some, None, Ok, Err, refl, sym, ap, subst, ◌∙◌, inl, inr, arith, codes, bytes_eq, ltb-true, lt-ltb, and_parts, not-true, length-append, bytes_eq-Decides, Claim, TruthClaim, RegClaim, LocClaim, is_name, is_register_word, is_keyword, is_location_name, Loc, Stop, Equals, Colon, OpenSquare, CloseSquare, OpenRound, decimal_value, Term, number, name, symbol, Piece, is_symbol, symbol_at, name_at, TooLarge, NoSuchCore, there, if_word, word_after, located, or_bad_number, word_at, setting_at, core_of, claim_in, Claimed, claimed, one_more, truth_at, truth_atom, setting_atom, atom_at, negation_at, in_condition, terms, IsSetting, sets_register, sets_location, sets_in_squares, names_in, is_allowed, numbered, number_of, with_name, location, IsAtom, says_true, says_false, says_setting, PhraseFits, claim_by, IsWithin, fault, remaining_of, Setting, of_register, of_location, truth, atom}
-use Rattle.litmus_reader.proofs.GrammarTokens.{chosen, there_is, there_some, some_is, ok_is, ok_pair, bind_ok, opened, name_takes}
+use Rattle.litmus_reader.proofs.Vocabulary.{◌≡◌, ℕ, ◌+◌, ◌≤◌, ◌<◌, ◌^◌, Bool, true, false, cond, ltb, not, ◌&&◌, List, [], ◌∷◌, ◌++◌, length, Some, None, Ok, Err, refl, sym, ap, subst, ◌∙◌, inl, inr, arith, codes, bytes_eq, ltb-true, lt-ltb, and_parts, not-true, length-append, bytes_eq-Decides, Claim, TruthClaim, RegClaim, LocClaim, is_name, is_register_word, is_keyword, is_location_name, Loc, Stop, Equals, Colon, OpenSquare, CloseSquare, OpenRound, decimal_value, Term, number, name, symbol, Piece, is_symbol, symbol_at, name_at, TooLarge, NoSuchCore, there, word_after, located, word_at, setting_at, core_of, claim_in, Claimed, claimed, one_more, truth_at, setting_atom, atom_at, negation_at, terms, IsSetting, sets_register, sets_location, sets_in_squares, names_in, is_allowed, numbered, number_of, with_name, location, IsAtom, says_true, says_false, says_setting, PhraseFits, claim_by, IsWithin, fault, remaining_of, Setting, of_register, of_location, truth, atom, or_fault, BadNumber, part_of, BadCondition, ◌>>=◌}
+use Rattle.litmus_reader.proofs.GrammarTokens.{chosen, there_is, there_some, some_is, ok_is, ok_pair, bind_ok, opened, terms_append, word_taken}
 use Rattle.litmus_reader.proofs.GrammarItems.{setting_found, setting_taken}
 use Rattle.litmus_reader.proofs.GrammarPhrases.{Finds, Taken, Takes, Anything}
 use Rattle.litmus_reader.proofs.GrammarNames.{with_name_by, place_below, place_none, known_with, number_with}
@@ -37,14 +37,14 @@ one_more_is remaining atoms few = let lt : ltb atoms 256 ≡ true = lt-ltb _ _ (
 pub word_ok : (remaining v n : ℕ) → word_at remaining v ≡ Ok n → (v ≡ n) × (v < 2 ^ 32)
 word_ok remaining v n e = by_room (ltb v (2 ^ 32)) refl e
   where
-    by_room : (b : Bool) → ltb v (2 ^ 32) ≡ b → or_bad_number remaining (cond b (Some v) None) ≡ Ok n → (v ≡ n) × (v < 2 ^ 32)
+    by_room : (b : Bool) → ltb v (2 ^ 32) ≡ b → or_fault (cond b (Some v) None) (fault BadNumber remaining) ≡ Ok n → (v ≡ n) × (v < 2 ^ 32)
     by_room true is h = (ok_is v n h, ltb-true _ _ is)
     by_room false is h = absurd cc
 
 pub word_is : (remaining v : ℕ) → v < 2 ^ 32 → word_at remaining v ≡ Ok v
 word_is remaining v small = rw (lt-ltb v (2 ^ 32) small) refl
 
-core_ok : (cores remaining : ℕ) (digits : List ℕ) (n : ℕ) → core_of cores remaining digits ≡ Ok n → (decimal_value digits ≡ n) × (decimal_value digits < cores)
+pub core_ok : (cores remaining : ℕ) (digits : List ℕ) (n : ℕ) → core_of cores remaining digits ≡ Ok n → (decimal_value digits ≡ n) × (decimal_value digits < cores)
 core_ok cores remaining digits n e =
     elim (chosen (ltb (decimal_value digits) cores) (Ok (decimal_value digits)) (Err (fault NoSuchCore remaining)) (Ok n) e) [
       | inl hit ↦ (ok_is (decimal_value digits) n hit.1, ltb-true _ _ hit.0)
@@ -155,7 +155,7 @@ setting_atom_found : (stop : Stop) (cores : ℕ) (ts : List Term) (s : Setting) 
 unfolding atom_at setting_atom
 setting_atom_found stop cores ts s is atoms names allowed back ps e =
     let plain = setting_plain ts back s is ps e in
-    let f = setting_found (in_condition stop) ts back s is ps e in
+    let f = setting_found (part_of BadCondition stop) ts back s is ps e in
     let claim = claim_found cores (remaining_of ps) names s (fits_atom cores s allowed.fits) allowed.room in
     let done : atom_at stop cores atoms names ps ≡ Ok (given_by atoms names (atom s) f.rest) = rw (plain.no_truth, f.is, claim, one_more_is (remaining_of ps) atoms allowed.few) refl in
     record { rest = f.rest; is = done; after_it = f.after_it }
@@ -172,17 +172,6 @@ atom_found stop cores _ _ (says_setting ts s is) atoms names allowed back ok ps 
 
 -- ---- atoms taken
 
-pub word_taken : (word : List ℕ) (ps rest : List Piece) → word_after word ps ≡ Some rest → terms ps ≡ name word ∷ terms rest
-unfolding word_after
-word_taken word ps rest e =
-    let n = there_some (name_at ps) (if_word word) rest e in
-    elim (chosen (bytes_eq n.0.0 word) (Some n.0.1) None (Some rest) n.2) [
-      | inl hit ↦
-          let is : n.0.0 ≡ word = (bytes_eq-Decides n.0.0 word).0 hit.0 in
-          name_takes ps n.0.1 n.0.0 n.1 ∙ ap (λ (x : List ℕ). name x ∷ terms n.0.1) is ∙ ap (λ (l : List Piece). name word ∷ terms l) (some_is n.0.1 rest hit.1)
-      | inr miss ↦ absurd cc
-    ]
-
 pub truth_taken : (ps : List Piece) (t : Bool × List Piece) → truth_at ps ≡ Some t → Begins (λ ts. IsAtom ts (truth t.0)) ps t.1
 unfolding truth_at
 truth_taken ps t e =
@@ -198,17 +187,17 @@ truth_taken ps t e =
 setting_atom_taken : (stop : Stop) (cores atoms : ℕ) (names : List (List ℕ)) (ps : List Piece) (c : Claimed) → setting_atom stop cores atoms names ps ≡ Ok c → Taken cores IsAtom atoms names ps c
 unfolding setting_atom
 setting_atom_taken stop cores atoms names ps c e =
-    let a = bind_ok (setting_at (in_condition stop) ps) _ c e in
+    let a = bind_ok (setting_at (part_of BadCondition stop) ps) _ c e in
     let b = bind_ok (claim_in cores (remaining_of ps) names a.0.0) _ c a.2 in
     let n = bind_ok (one_more (remaining_of ps) atoms) _ c b.2 in
-    let t = setting_taken (in_condition stop) ps a.0.1 a.0.0 a.1 in
+    let t = setting_taken (part_of BadCondition stop) ps a.0.1 a.0.0 a.1 in
     let claim = claim_taken cores (remaining_of ps) names a.0.0 b.0 b.1 in
     let count = one_more_ok (remaining_of ps) atoms n.0 n.1 in
     subst (Taken cores IsAtom atoms names ps) (ok_is (claimed b.0.0 n.0 b.0.1 a.0.1) c n.2) (record {
-      ts = t.ts;
+      ts = terms t.front;
       phrase = atom a.0.0;
-      is = says_setting t.ts a.0.0 t.is;
-      parts = t.parts;
+      is = says_setting (terms t.front) a.0.0 t.is;
+      parts = ap terms t.parts ∙ terms_append t.front a.0.1;
       fits = atom_fits cores a.0.0 claim.fits;
       names_are = claim.names_are;
       claim_is = claim.claim_is;
@@ -217,7 +206,8 @@ setting_atom_taken stop cores atoms names ps c e =
       room = claim.room;
     })
 
-truth_atom_taken : (remaining cores atoms : ℕ) (names : List (List ℕ)) (ps : List Piece) (t : Bool × List Piece) (c : Claimed) → truth_at ps ≡ Some t → truth_atom remaining atoms names t ≡ Ok c → Taken cores IsAtom atoms names ps c
+truth_atom_taken : (remaining cores atoms : ℕ) (names : List (List ℕ)) (ps : List Piece) (t : Bool × List Piece) (c : Claimed) → truth_at ps ≡ Some t
+    → (one_more remaining atoms >>= λ n. Ok (claimed (TruthClaim t.0) n names t.1)) ≡ Ok c → Taken cores IsAtom atoms names ps c
 unfolding numbered
 truth_atom_taken remaining cores atoms names ps t c at e =
     let n = bind_ok (one_more remaining atoms) _ c e in
@@ -239,7 +229,7 @@ truth_atom_taken remaining cores atoms names ps t c at e =
 pub atom_taken : (stop : Stop) (cores : ℕ) → Takes cores (atom_at stop cores) IsAtom
 unfolding atom_at
 atom_taken stop cores atoms names ps c e =
-    elim (there_is (truth_at ps) (truth_atom (remaining_of ps) atoms names) (setting_atom stop cores atoms names ps) (Ok c) e) [
+    elim (there_is (truth_at ps) _ (setting_atom stop cores atoms names ps) (Ok c) e) [
       | inl t ↦ truth_atom_taken (remaining_of ps) cores atoms names ps t.0 c t.1 t.2
       | inr none ↦ setting_atom_taken stop cores atoms names ps c none.1
     ]

@@ -1,10 +1,9 @@
 -- Units and propositions are read as they are spelled.
-use Rattle.litmus_reader.proofs.Vocabulary.{◌≡◌, ℕ, zero, suc, ◌+◌, ◌≤◌, Bool, true, false, ◌||◌, List, [], ◌∷◌, ◌++◌, length, Some, None, Ok, Err, refl, sym, ap, subst, ◌∙◌, ◌⊎◌, inl, inr, append_assoc, arith, codes, Claim, NotClaim, Stop, OpenRound, CloseRound, And, Or, Tilde, Term, name, symbol, number, Piece, is_symbol, is_symbol_term, symbol_at, name_at, TooLarge, there, or_unfit, word_after, Claimed, claimed, atom_at, Proposition, disjunction, negation_at, opens_unit, negated, bracketed, unit_by, unit_at, proposition_at, in_condition, terms, numbered, IsAtom, says_true, says_false, says_setting, IsProposition, in_brackets, is_negation, IsUnit, locations_in, atoms_of, claim_by, IsWithin, fault, remaining_of, Phrase, negation, Symbol, bytes_eq}
+use Rattle.litmus_reader.proofs.Vocabulary.{◌≡◌, ℕ, zero, suc, ◌+◌, ◌≤◌, Bool, true, false, List, [], ◌∷◌, ◌++◌, length, Some, None, Ok, Err, refl, sym, ap, subst, ◌∙◌, ◌⊎◌, inl, inr, append_assoc, arith, codes, Claim, NotClaim, Stop, OpenRound, CloseRound, And, Or, Tilde, Term, name, symbol, number, Piece, is_symbol, is_symbol_term, symbol_at, name_at, TooLarge, there, or_unfit, word_after, Claimed, claimed, atom_at, Proposition, disjunction, negation_at, opens_unit, bracketed, unit_by, unit_at, proposition_at, terms, numbered, IsAtom, says_true, says_false, says_setting, IsProposition, in_brackets, is_negation, IsUnit, locations_in, atoms_of, claim_by, IsWithin, fault, remaining_of, Phrase, negation, Symbol, bytes_eq, part_of, BadCondition, ◌>>=◌, ◌||◌}
 use Rattle.litmus_reader.specs.GrammarConditions.{plain, negated as negated_by}
-use Rattle.litmus_reader.proofs.GrammarTokens.{chosen, there_is, some_is, ok_is, bind_ok, or_unfit_ok, front, opened, symbol_takes}
+use Rattle.litmus_reader.proofs.GrammarTokens.{chosen, there_is, some_is, ok_is, bind_ok, or_unfit_ok, front, opened, symbol_takes, word_taken}
 use Rattle.litmus_reader.proofs.GrammarPhrases.{Finds, Taken, Takes, Anything, proposition_takes, proposition_finds}
-use Rattle.litmus_reader.proofs.GrammarLast.{unit_leaves}
-use Rattle.litmus_reader.proofs.GrammarAtoms.{word_taken, setting_plain, atom_found, atom_taken}
+use Rattle.litmus_reader.proofs.GrammarAtoms.{setting_plain, atom_found, atom_taken}
 use Rattle.litmus_reader.proofs.Readings.{given_by, ReadsPhrase, SpellsPhrase}
 use Rattle.litmus_reader.proofs.GrammarPhrases.{begins_with}
 
@@ -29,7 +28,7 @@ abbrev negated_claim : Claimed → Claimed
 negated_claim c = claimed (NotClaim c.claim) c.atoms c.names c.rest
 
 negated_found : (inner : Proposition) (atoms : ℕ) (names : List (List ℕ)) (p : Phrase) (back : List Term) (ps : List Piece) (f : ReadsPhrase inner atoms names p back ps)
-    → negated inner atoms names ps ≡ Ok (given_by atoms names (negation p) f.rest)
+    → (inner atoms names ps >>= λ c. Ok (negated_claim c)) ≡ Ok (given_by atoms names (negation p) f.rest)
 negated_found inner atoms names p back ps f = rw f.is refl
 
 plain_found : (stop : Stop) (cores n : ℕ) (ts : List Term) (p : Phrase) → IsAtom ts p → (atoms : ℕ) (names : List (List ℕ)) → IsWithin cores atoms names p
@@ -73,7 +72,7 @@ next_found stop cores n finds _ _ (negated_by t ts p is_not is) atoms names allo
     record { rest = f.rest; is = rw there (negated_found (unit_at stop cores n) atoms names p back rest f); after_it = f.after_it })
 next_found stop cores n finds _ _ (in_brackets ts p is) atoms names allowed back ok ps e =
     opened (ReadsPhrase (unit_at stop cores (suc n)) atoms names p back) ps (symbol OpenRound) ((ts ++ symbol CloseRound ∷ []) ++ back) e (λ a rest is_open after_it.
-    let f = proposition_finds (IsUnit n) cores (unit_at stop cores n) finds (unit_leaves stop cores n) ts p is atoms names allowed (symbol CloseRound ∷ back) ((tt, refl), refl) rest (after_it ∙ append_assoc ts (symbol CloseRound ∷ []) back) in
+    let f = proposition_finds (IsUnit n) cores (unit_at stop cores n) finds ts p is atoms names allowed (symbol CloseRound ∷ back) ((tt, refl), refl) rest (after_it ∙ append_assoc ts (symbol CloseRound ∷ []) back) in
     let g = front f.rest (symbol CloseRound) back f.after_it in
     record { rest = g.rest; is = rw is_open (bracketed_found stop (unit_at stop cores n) atoms names p rest f.rest g.rest g.first f.is g.parts g.is); after_it = g.after_it })
 
@@ -163,7 +162,7 @@ plain_taken cores n atoms names ps c t = record {
 next_taken : (stop : Stop) (cores n : ℕ) → Takes cores (unit_at stop cores n) (IsUnit n) → Takes cores (unit_at stop cores (suc n)) (IsUnit (suc n))
 unfolding unit_at unit_by
 next_taken stop cores n takes atoms names ps c e =
-    elim (there_is (negation_at ps) (negated (unit_at stop cores n) atoms names)
+    elim (there_is (negation_at ps) _
     (there (symbol_at OpenRound ps) (bracketed stop (unit_at stop cores n) atoms names) (atom_at stop cores atoms names ps)) (Ok c) e) [
       | inl at ↦
           let b = bind_ok (unit_at stop cores n atoms names at.0) _ c at.2 in
@@ -172,8 +171,8 @@ next_taken stop cores n takes atoms names ps c e =
       | inr no_negation ↦ elim (there_is (symbol_at OpenRound ps) (bracketed stop (unit_at stop cores n) atoms names) (atom_at stop cores atoms names ps) (Ok c) no_negation.1) [
         | inl at ↦
             let b = bind_ok (disjunction (unit_at stop cores n) atoms names at.0) _ c at.2 in
-            let r = bind_ok (or_unfit (in_condition stop) b.0.rest (symbol_at CloseRound b.0.rest)) _ c b.2 in
-            let close = or_unfit_ok (in_condition stop) b.0.rest (symbol_at CloseRound b.0.rest) r.0 r.1 in
+            let r = bind_ok (or_unfit (part_of BadCondition stop) b.0.rest (symbol_at CloseRound b.0.rest)) _ c b.2 in
+            let close = or_unfit_ok (part_of BadCondition stop) b.0.rest (symbol_at CloseRound b.0.rest) r.0 r.1 in
             subst (Taken cores (IsUnit (suc n)) atoms names ps) (ok_is (claimed b.0.claim b.0.atoms b.0.names r.0) c r.2)
             (bracketed_taken cores n atoms names ps at.0 r.0 b.0 at.1 (proposition_takes (IsUnit n) cores (unit_at stop cores n) takes atoms names at.0 b.0 b.1) close)
         | inr no_bracket ↦ plain_taken cores n atoms names ps c (atom_taken stop cores atoms names ps c no_bracket.1)
@@ -203,7 +202,7 @@ pub proposition_again : (stop : Stop) (cores opens atoms : ℕ) (names : List (L
     → IsProposition (IsUnit opens) ts p → IsWithin cores atoms names p → terms ps ≡ ts ++ back → begins_with (is_symbol_term And) back ≡ false → begins_with (is_symbol_term Or) back ≡ false
     → ReadsPhrase (proposition_at stop cores opens) atoms names p back ps
 proposition_again stop cores opens atoms names ps ts back p is within e no_and no_or =
-    proposition_finds (IsUnit opens) cores (unit_at stop cores opens) (unit_finds stop cores opens) (unit_leaves stop cores opens) ts p is atoms names within back ((tt, no_and), no_or) ps e
+    proposition_finds (IsUnit opens) cores (unit_at stop cores opens) (unit_finds stop cores opens) ts p is atoms names within back ((tt, no_and), no_or) ps e
 
 pub proposition_spelled : (stop : Stop) (cores opens atoms : ℕ) (names : List (List ℕ)) (ps : List Piece) (c : Claimed)
     → length names ≤ 16 → proposition_at stop cores opens atoms names ps ≡ Ok c → SpellsPhrase (IsProposition (IsUnit opens)) cores atoms names ps c

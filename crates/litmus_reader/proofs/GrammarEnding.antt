@@ -1,9 +1,11 @@
 -- What stands after the rows is read as it is spelled.
-use Rattle.litmus_reader.proofs.Vocabulary.{◌≡◌, ℕ, ◌≤◌, List, [], ◌∷◌, length, Option, Some, None, Ok, refl, sym, ap, subst, ◌∙◌, inl, inr, codes, bytes_eq, bytes_eq-Decides, Condition, Stop, End, Symbol, OpenSquare, Tilde, Term, number, name, symbol, Piece, pieces_of, is_symbol, symbol_at, name_then, name_at, ◌>>=◌, there, or_unfit, word_after, if_word, square_end, brackets_end, brackets_tokens, ending_tokens, in_observed, Conditioned, condition_at, end_at, ending_at, tail_at, terms, numbered, ClosesBrackets, condition, says_exists, says_forall, says_not_exists, MayAsk, nothing, a_condition, IsEnding, at_once, after_locations, names_asked, condition_of, IsAskedWithin, remaining_of, from_place, WrittenCondition, Phrase, Quantifier}
+use Rattle.litmus_reader.proofs.Vocabulary.{◌≡◌, ℕ, ◌≤◌, List, [], ◌∷◌, length, Option, Some, None, Ok, refl, sym, ap, subst, ◌∙◌, inl, inr, codes, Condition, Stop, End, OpenSquare, Tilde, Term, name, symbol, Piece, pieces_of, is_symbol, symbol_at, name_at, ◌>>=◌, or_unfit, word_after, square_end, brackets_end, ending_tokens, Conditioned, condition_at, end_at, tail_at, terms, numbered, ClosesBrackets, condition, says_exists, says_forall, says_not_exists, MayAsk, nothing, a_condition, IsEnding, at_once, after_locations, names_asked, condition_of, IsAskedWithin, remaining_of, from_place, WrittenCondition, Phrase, Quantifier, part_of, Result, Fault}
 use Rattle.std.proofs.Common.{append-nil}
 use Rattle.litmus_tokens.specs.declared.token.Stop.TheVariants.{BadToken, Unclosed}
-use Rattle.litmus_reader.proofs.GrammarTokens.{there_is, ok_is, some_is, chosen, bind_ok, or_unfit_ok, opened, no_terms, symbol_is}
+use Rattle.litmus_cells.specs.declared.fault.Why.TheVariants as whys
+use Rattle.litmus_reader.proofs.GrammarTokens.{there_is, ok_is, bind_ok, or_unfit_ok, opened, no_terms, symbol_found, word_found}
 use Rattle.litmus_reader.proofs.GrammarQuantified.{condition_again, condition_takes}
+use Rattle.litmus_reader.proofs.GrammarBrackets.{brackets_again, brackets_take}
 
 abbrev pub asked : Quantifier → Phrase → Option WrittenCondition
 asked quantifier phrase = Some (record { quantifier = quantifier; phrase = phrase })
@@ -20,6 +22,10 @@ Given = Option Condition × List (List ℕ)
 abbrev pub given : List (List ℕ) → Option WrittenCondition → Given
 given names c = (condition_of (numbered names (names_asked c)) c, numbered names (names_asked c))
 
+-- the condition, and then the end
+abbrev ending_at : Stop → ℕ → List (List ℕ) → List Piece → Result Given Fault
+ending_at stop cores names ps = condition_at stop cores names ps >>= λ c. end_at stop c.rest >>= λ end. Ok (c.condition, c.names)
+
 -- ---- found
 
 end_found : (stop : Stop) → stop ≡ End → end_at stop [] ≡ Ok tt
@@ -28,7 +34,7 @@ end_found stop ended = rw ended refl
 
 ending_found : (stop : Stop) (cores : ℕ) (names : List (List ℕ)) (ps : List Piece) (c : Option WrittenCondition) (ts : List Term) → stop ≡ End → terms ps ≡ ts → MayAsk ts c → IsAskedWithin cores names c
     → ending_at stop cores names ps ≡ Ok (given names c)
-unfolding ending_at condition_at word_after name_at symbol_at numbered end_at
+unfolding condition_at word_after name_at symbol_at numbered end_at
 ending_found stop cores names ps _ _ ended e nothing within = rw (no_terms ps e, ended) refl
 ending_found stop cores names ps _ _ ended e (a_condition ts quantifier phrase is) within =
     let f = condition_again stop cores names ps ts [] quantifier phrase is within (e ∙ sym (append-nil ts)) refl refl in
@@ -44,25 +50,18 @@ no_locations ps _ _ e (a_condition _ _ _ (condition _ us _ phrase says_forall is
 no_locations ps _ _ e (a_condition _ _ _ (condition _ us _ phrase says_not_exists is)) =
     opened (λ ps. word_after (codes "locations") ps ≡ None) ps (symbol Tilde) (name (codes "exists") ∷ us) e (λ p rest is after_it. rw is refl)
 
--- the law of the brackets, as this file uses it
-abbrev pub Closes : Type 0
-Closes = (remaining : ℕ) (bytes rest : List ℕ) → ClosesBrackets bytes rest → square_end remaining bytes ≡ Ok rest
-
-abbrev pub Closed : Type 0
-Closed = (remaining : ℕ) (bytes rest : List ℕ) → square_end remaining bytes ≡ Ok rest → ClosesBrackets bytes rest
-
-pub observed_found : (text : List ℕ) (stop : Stop) (word opener : Piece) (ps : List Piece) (bytes : List ℕ) → Closes → word.term ≡ name (codes "locations") → opener.term ≡ symbol OpenSquare
+pub observed_found : (text : List ℕ) (stop : Stop) (word opener : Piece) (ps : List Piece) (bytes : List ℕ) → word.term ≡ name (codes "locations") → opener.term ≡ symbol OpenSquare
     → ClosesBrackets (from_place text opener.remaining) bytes → ending_tokens text stop (word ∷ opener ∷ ps) ≡ Ok (pieces_of bytes)
 unfolding ending_tokens word_after name_at brackets_end symbol_at is_symbol
-observed_found text stop word opener ps bytes closes is_word is_opener found = rw (is_word, is_opener, closes opener.remaining (from_place text opener.remaining) bytes found) refl
+observed_found text stop word opener ps bytes is_word is_opener found = rw (is_word, is_opener, brackets_again opener.remaining (from_place text opener.remaining) bytes found) refl
 
-pub tail_again : (text : List ℕ) (stop : Stop) (cores : ℕ) (names : List (List ℕ)) (ps : List Piece) (c : Option WrittenCondition) → Closes → IsEnding text stop ps c → IsAskedWithin cores names c
+pub tail_again : (text : List ℕ) (stop : Stop) (cores : ℕ) (names : List (List ℕ)) (ps : List Piece) (c : Option WrittenCondition) → IsEnding text stop ps c → IsAskedWithin cores names c
     → tail_at text stop cores names ps ≡ Ok (given names c)
 unfolding tail_at ending_tokens
-tail_again text stop cores names _ _ closes (at_once ps c ended is) within =
+tail_again text stop cores names _ _ (at_once ps c ended is) within =
     rw (no_locations ps c (terms ps) refl is) (ending_found stop cores names ps c (terms ps) ended refl is within)
-tail_again text stop cores names _ _ closes (after_locations word opener ps bytes c is_word is_opener found ended is) within =
-    rw (observed_found text stop word opener ps bytes closes is_word is_opener found) (ending_found (pieces_of bytes).1 cores names (pieces_of bytes).0 c (terms (pieces_of bytes).0) ended refl is within)
+tail_again text stop cores names _ _ (after_locations word opener ps bytes c is_word is_opener found ended is) within =
+    rw (observed_found text stop word opener ps bytes is_word is_opener found) (ending_found (pieces_of bytes).1 cores names (pieces_of bytes).0 c (terms (pieces_of bytes).0) ended refl is within)
 
 -- ---- taken
 
@@ -81,7 +80,7 @@ pub record Ends (stop : Stop) (cores : ℕ) (names : List (List ℕ)) (ps : List
   pub gives : g ≡ given names c
 
 ending_taken : (stop : Stop) (cores : ℕ) (names : List (List ℕ)) (ps : List Piece) (g : Given) → length names ≤ 16 → ending_at stop cores names ps ≡ Ok g → Ends stop cores names ps g
-unfolding ending_at numbered
+unfolding numbered
 ending_taken stop cores names ps g le e =
     let a = bind_ok (condition_at stop cores names ps) (λ c. end_at stop c.rest >>= λ end. Ok (c.condition, c.names)) g e in
     let b = bind_ok (end_at stop a.0.rest) (λ end. Ok (a.0.condition, a.0.names)) g a.2 in
@@ -108,29 +107,6 @@ ending_taken stop cores names ps g le e =
       }
     ]
 
-pub word_found : (word : List ℕ) (ps rest : List Piece) → word_after word ps ≡ Some rest → (p : Piece) × (ps ≡ p ∷ rest) × (p.term ≡ name word)
-unfolding word_after name_at
-word_found word [] rest e = absurd cc
-word_found word (p ∷ ps) rest e = by_term p.term refl e
-  where
-    by_term : (t : Term) → p.term ≡ t → there (name_then t ps) (if_word word) None ≡ Some rest → (q : Piece) × (p ∷ ps ≡ q ∷ rest) × (q.term ≡ name word)
-    by_term (number d) is h = absurd cc
-    by_term (symbol s) is h = absurd cc
-    by_term (name x) is h =
-        elim (chosen (bytes_eq x word) (Some ps) None (Some rest) h) [
-          | inl hit ↦ let same : x ≡ word = (bytes_eq-Decides x word).0 hit.0 in let last : ps ≡ rest = some_is ps rest hit.1 in (p, ap (λ (l : List Piece). p ∷ l) last, is ∙ ap (λ (y : List ℕ). name y) same)
-          | inr miss ↦ absurd cc
-        ]
-
-pub symbol_found : (s : Symbol) (ps rest : List Piece) → symbol_at s ps ≡ Some rest → (p : Piece) × (ps ≡ p ∷ rest) × (p.term ≡ symbol s)
-unfolding symbol_at
-symbol_found s [] rest e = absurd cc
-symbol_found s (p ∷ ps) rest e =
-    elim (chosen (is_symbol s p) (Some ps) None (Some rest) e) [
-      | inl hit ↦ (p, ap (λ (l : List Piece). p ∷ l) (some_is ps rest hit.1), symbol_is s p hit.0)
-      | inr miss ↦ absurd cc
-    ]
-
 -- what was read after these names is what the rest of the text spells
 pub record Tail (text : List ℕ) (stop : Stop) (cores : ℕ) (names : List (List ℕ)) (ps : List Piece) (g : Given) : Type 0 where
   pub c : Option WrittenCondition
@@ -138,20 +114,20 @@ pub record Tail (text : List ℕ) (stop : Stop) (cores : ℕ) (names : List (Lis
   pub within : IsAskedWithin cores names c
   pub gives : g ≡ given names c
 
-pub tail_takes : (text : List ℕ) (stop : Stop) (cores : ℕ) (names : List (List ℕ)) (ps : List Piece) (g : Given) → Closed → length names ≤ 16
+pub tail_takes : (text : List ℕ) (stop : Stop) (cores : ℕ) (names : List (List ℕ)) (ps : List Piece) (g : Given) → length names ≤ 16
     → tail_at text stop cores names ps ≡ Ok g → Tail text stop cores names ps g
 unfolding tail_at ending_tokens brackets_end
-tail_takes text stop cores names ps g closed le e =
+tail_takes text stop cores names ps g le e =
     let a = bind_ok (ending_tokens text stop ps) (λ rest. ending_at rest.1 cores names rest.0) g e in
-    elim (there_is (word_after (codes "locations") ps) (brackets_tokens text stop) (Ok (ps, stop)) (Ok a.0) a.1) [
+    elim (there_is (word_after (codes "locations") ps) _ (Ok (ps, stop)) (Ok a.0) a.1) [
       | inl at ↦
           let w = word_found (codes "locations") ps at.0 at.1 in
           let b = bind_ok (brackets_end text stop at.0) (λ bytes. Ok (pieces_of bytes)) a.0 at.2 in
-          let d = bind_ok (or_unfit (in_observed stop) at.0 (symbol_at OpenSquare at.0)) (λ rest. square_end (remaining_of at.0) (from_place text (remaining_of at.0))) b.0 b.1 in
-          let o = symbol_found OpenSquare at.0 d.0 (or_unfit_ok (in_observed stop) at.0 (symbol_at OpenSquare at.0) d.0 d.1) in
+          let d = bind_ok (or_unfit (part_of whys.BadToken stop) at.0 (symbol_at OpenSquare at.0)) (λ rest. square_end (remaining_of at.0) (from_place text (remaining_of at.0))) b.0 b.1 in
+          let o = symbol_found OpenSquare at.0 d.0 (or_unfit_ok _ at.0 (symbol_at OpenSquare at.0) d.0 d.1) in
           let tokens : pieces_of b.0 ≡ a.0 = ok_is (pieces_of b.0) a.0 b.2 in
           let ends = ending_taken (pieces_of b.0).1 cores names (pieces_of b.0).0 g le (subst (λ (rest : List Piece × Stop). ending_at rest.1 cores names rest.0 ≡ Ok g) (sym tokens) a.2) in
-          let place : ClosesBrackets (from_place text o.0.remaining) b.0 = closed o.0.remaining (from_place text o.0.remaining) b.0 (subst (λ (l : List Piece). square_end (remaining_of l) (from_place text (remaining_of l)) ≡ Ok b.0) o.1 d.2) in
+          let place : ClosesBrackets (from_place text o.0.remaining) b.0 = brackets_take o.0.remaining (from_place text o.0.remaining) b.0 (subst (λ (l : List Piece). square_end (remaining_of l) (from_place text (remaining_of l)) ≡ Ok b.0) o.1 d.2) in
           record {
             c = ends.c;
             ending = subst (λ l. IsEnding text stop l ends.c) (sym (w.1 ∙ ap (λ (l : List Piece). w.0 ∷ l) o.1)) (after_locations w.0 o.0 d.0 b.0 ends.c w.2 o.2 place ends.ends.ended ends.ends.is);

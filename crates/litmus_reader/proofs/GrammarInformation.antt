@@ -1,9 +1,9 @@
 -- Information lines are read where they are spelled.
-use Rattle.litmus_reader.proofs.Vocabulary.{◌≡◌, ℕ, zero, suc, ◌<◌, Bool, true, false, cond, ◌||◌, eqb, eqb-true, List, [], ◌∷◌, ◌++◌, length, drop, Option, Some, None, Ok, refl, sym, ap, subst, ◌∙◌, inl, inr, arith, is_ascii_alphabetic, list_all, prefix_len, not-true, length-append, gap_end, from_gap, ◌>>=◌, quotation_end, information_end, begins_initial, braces_within, braces_at, first_line, is_quoted, IsInformation, quotation, key_line, AreInformationLines, none, continues_key}
+use Rattle.litmus_reader.proofs.Vocabulary.{◌≡◌, ℕ, zero, suc, ◌<◌, Bool, true, false, cond, eqb, eqb-true, List, [], ◌∷◌, ◌++◌, length, drop, Some, None, Ok, refl, sym, ap, subst, ◌∙◌, inl, inr, arith, is_ascii_alphabetic, list_all, prefix_len, not-true, length-append, gap_end, from_gap, ◌>>=◌, quotation_end, information_end, begins_initial, braces_within, braces_at, first_line, is_quoted, IsInformation, quotation, key_line, AreInformationLines, none, continues_key, ◌||◌}
 use Rattle.std.specs.Int.{is_in_range}
-use Rattle.litmus_reader.specs.Information.{closed_quotation, key_value, key_line_end}
+use Rattle.litmus_reader.specs.Information.{key_value, key_line_end}
 use Rattle.litmus_reader.specs.GrammarText.{more}
-use Rattle.litmus_reader.proofs.GrammarTokens.{chosen, some_is, ok_is, bind_ok}
+use Rattle.litmus_reader.proofs.GrammarTokens.{chosen, some_is, ok_is, bind_ok, or_fault_ok}
 use Rattle.litmus_reader.proofs.GrammarGaps.{gap_within, from_gap_ok}
 use Rattle.litmus_reader.proofs.GrammarRuns.{both, differs, Stops, run, run_after, line_within}
 
@@ -32,10 +32,6 @@ quotation_again [] after_it all = refl
 quotation_again (b ∷ bs) after_it all =
     let parts = both (is_quoted b) (list_all is_quoted bs) all in
     rw (not-true (eqb b 34) parts.0) (quotation_again bs after_it parts.1)
-
-closed_ok : (remaining : ℕ) (o : Option (List ℕ)) (rest : List ℕ) → closed_quotation remaining o ≡ Ok rest → o ≡ Some rest
-closed_ok remaining (Some x) rest e = ap (λ (l : List ℕ). Some l) (ok_is x rest e)
-closed_ok remaining None rest e = absurd cc
 
 -- ---- key lines
 
@@ -84,7 +80,7 @@ information_takes (b ∷ bs) after_it e =
     elim (chosen (eqb b 34) _ _ (Ok after_it) e) [
       | inl hit ↦
           let mark : b ≡ 34 = eqb-true _ _ hit.0 in
-          let q = quotation_takes bs after_it (closed_ok _ (quotation_end bs) after_it hit.1) in
+          let q = quotation_takes bs after_it (or_fault_ok (quotation_end bs) _ after_it hit.1) in
           rw (mark, q.parts) (quotation q.inside after_it q.all)
       | inr miss ↦ elim (chosen (is_ascii_alphabetic b) _ _ (Ok after_it) miss.1) [
         | inl letter ↦ key_line_takes b bs after_it letter.0 letter.1

@@ -1,11 +1,11 @@
 -- Initial states are read as they are spelled.
-use Rattle.litmus_reader.proofs.Vocabulary.{◌≡◌, ℕ, zero, suc, ◌<◌, Bool, true, false, cond, ◌||◌, List, [], ◌∷◌, ◌++◌, length, Some, None, Ok, Err, refl, sym, ap, subst, ◌∙◌, inl, inr, append_assoc, arith, length-append, length-map, append-nil, Stop, OpenCurly, CloseCurly, Semicolon, Term, number, name, symbol, Piece, is_symbol, symbol_at, Part, ◌>>=◌, setting_at, Initial, initial, judged, item_in, step_in, items_within, items_at, before_initial, opened_at, initial_at, ends_item, terms, IsSetting, sets_register, sets_location, sets_in_squares, IsInitialItem, AreInitialItems, last, more, IsInitialState, in_braces, Fits, unfit, remaining_of, in_initial, Setting}
+use Rattle.litmus_reader.proofs.Vocabulary.{◌≡◌, ℕ, zero, suc, ◌<◌, Bool, true, false, cond, List, [], ◌∷◌, ◌++◌, length, Some, None, Ok, Err, refl, sym, ap, subst, ◌∙◌, inl, inr, append_assoc, arith, length-append, length-map, append-nil, Stop, OpenCurly, CloseCurly, Semicolon, Term, number, name, symbol, Piece, is_symbol, symbol_at, Part, ◌>>=◌, setting_at, Initial, initial, judged, item_in, step_in, items_within, items_at, initial_at, ends_item, terms, IsSetting, sets_register, sets_location, sets_in_squares, IsInitialItem, AreInitialItems, last, more, IsInitialState, in_braces, Fits, unfit, remaining_of, in_initial, Setting, or_unfit, Passes, ◌||◌}
 use Rattle.litmus_reader.specs.GrammarInitial.{empty, given}
 use Rattle.litmus_reader.proofs.ItemSteps.{ReadItems, ItemsAfter, items_start, items_end, items_go_on}
-use Rattle.litmus_reader.proofs.GrammarTokens.{chosen, there_is, bind_ok, or_unfit_ok, ok_pair, opened, symbol_takes}
+use Rattle.litmus_reader.proofs.GrammarTokens.{chosen, there_is, bind_ok, or_unfit_ok, ok_pair, opened, symbol_found, terms_append}
 use Rattle.litmus_reader.proofs.GrammarItems.{setting_found, setting_taken}
 use Rattle.litmus_reader.proofs.GrammarInitialJudged.{Holds, judged_found, judged_taken}
-use Rattle.litmus_reader.proofs.Readings.{Reads, Begins}
+use Rattle.litmus_reader.proofs.Readings.{Reads}
 
 -- ---- found
 
@@ -143,10 +143,12 @@ item_at_hand ps _ _ (after_one ts s is end) = given ts s is
 
 -- what stands before the `}`, after what is at hand
 record ItemsTaken (ts : List Term) (item done : List Setting) (ps rest : List Piece) (i : Initial) : Type 0 where
-  pub further : List Term
+  pub further : List Piece
+  pub last : Piece
   pub settings : List Setting
-  pub are : AreInitialItems (ts ++ further) (item ++ settings)
-  pub parts : terms ps ≡ further ++ symbol CloseCurly ∷ terms rest
+  pub are : AreInitialItems (ts ++ terms further) (item ++ settings)
+  pub parts : ps ≡ further ++ last ∷ rest
+  pub closes : last.term ≡ symbol CloseCurly
   pub holds : Holds (done ++ settings) i
   pub fits : Fits (done ++ settings)
 
@@ -162,10 +164,8 @@ not_ended (p ∷ ps) curly semicolon e = by_tests (is_symbol Semicolon p) (is_sy
 
 -- an item that was taken in
 pub record ItemTaken (ps rest : List Piece) (done : List Setting) (after : Initial) : Type 0 where
-  pub ts : List Term
   pub s : Setting
-  pub is : IsSetting ts s
-  pub parts : terms ps ≡ ts ++ terms rest
+  pub spelled : Passes (λ ts. IsSetting ts s) ps rest
   pub ends : ends_item rest ≡ true
   pub holds : Holds (done ++ s ∷ []) after
   pub fits : Fits (done ++ s ∷ [])
@@ -182,10 +182,8 @@ item_taken part i ps done after e h fits =
           let same = ok_pair noted.0 after.0 found.0.1 after.1 noted.2 in
           let both = judged_taken (remaining_of ps) i noted.0 done s noted.1 h fits in
           record {
-            ts = taken.ts;
             s = s;
-            is = taken.is;
-            parts = taken.parts ∙ ap (λ (l : List Piece). taken.ts ++ terms l) same.1;
+            spelled = record { front = taken.front; parts = taken.parts ∙ ap (λ (l : List Piece). taken.front ++ l) same.1; is = taken.is };
             ends = ap ends_item (sym same.1) ∙ end.0;
             holds = subst (Holds (done ++ s ∷ [])) same.0 both.0;
             fits = both.1;
@@ -194,14 +192,16 @@ item_taken part i ps done after e h fits =
     ]
 
 onto : (ts : List Term) (item done : List Setting) (ps after_it rest : List Piece) (i j : Initial) → AtHand ps ts item → symbol_at CloseCurly ps ≡ None → symbol_at Semicolon ps ≡ None
-    → (one : ItemTaken ps after_it done i) → ItemsTaken one.ts (one.s ∷ []) (done ++ one.s ∷ []) after_it rest j → ItemsTaken ts item done ps rest j
+    → (one : ItemTaken ps after_it done i) → ItemsTaken (terms one.spelled.front) (one.s ∷ []) (done ++ one.s ∷ []) after_it rest j → ItemsTaken ts item done ps rest j
 onto _ _ done ps after_it rest i j before_any curly semicolon one others =
     let all : (done ++ one.s ∷ []) ++ others.settings ≡ done ++ one.s ∷ others.settings = append_assoc done (one.s ∷ []) others.settings in
     record {
-      further = one.ts ++ others.further;
+      further = one.spelled.front ++ others.further;
+      last = others.last;
       settings = one.s ∷ others.settings;
-      are = others.are;
-      parts = one.parts ∙ ap (λ (l : List Term). one.ts ++ l) others.parts ∙ sym (append_assoc one.ts others.further (symbol CloseCurly ∷ terms rest));
+      are = subst (λ ts. AreInitialItems ts (one.s ∷ others.settings)) (sym (terms_append one.spelled.front others.further)) others.are;
+      parts = one.spelled.parts ∙ ap (λ (l : List Piece). one.spelled.front ++ l) others.parts ∙ sym (append_assoc one.spelled.front others.further (others.last ∷ rest));
+      closes = others.closes;
       holds = subst (λ (l : List Setting). Holds l j) all others.holds;
       fits = subst Fits all others.fits;
     }
@@ -217,11 +217,14 @@ items_taken (suc n) part i j ps rest ts item done hand h fits e =
     elim (there_is (symbol_at CloseCurly ps) (λ (rest : List Piece). Ok (i, rest)) (step_in part i ps >>= λ read. items_within n part read.0 read.1) (Ok (j, rest)) e) [
       | inl close ↦
           let same = ok_pair i j close.0 rest close.2 in
+          let curly = symbol_found CloseCurly ps close.0 close.1 in
           record {
             further = [];
+            last = curly.0;
             settings = [];
             are = last (ts ++ []) (item ++ []) (subst (λ (l : List Term). IsInitialItem l (item ++ [])) (sym (append-nil ts)) (subst (λ (l : List Setting). IsInitialItem ts l) (sym (append-nil item)) (item_at_hand ps ts item hand)));
-            parts = symbol_takes CloseCurly ps close.0 close.1 ∙ ap (λ (l : List Piece). symbol CloseCurly ∷ terms l) same.1;
+            parts = curly.1 ∙ ap (λ (l : List Piece). curly.0 ∷ l) same.1;
+            closes = curly.2;
             holds = subst (λ (l : List Setting). Holds l j) (sym (append-nil done)) (subst (Holds done) same.0 h);
             fits = subst Fits (sym (append-nil done)) fits;
           }
@@ -231,40 +234,43 @@ items_taken (suc n) part i j ps rest ts item done hand h fits e =
             | inl end ↦
                 let same = ok_pair i stepped.0.0 end.0 stepped.0.1 end.2 in
                 let others = items_taken n part stepped.0.0 j stepped.0.1 rest [] [] done before_any (subst (Holds done) same.0 h) fits stepped.2 in
+                let semicolon = symbol_found Semicolon ps end.0 end.1 in
                 record {
-                  further = symbol Semicolon ∷ others.further;
+                  further = semicolon.0 ∷ others.further;
+                  last = others.last;
                   settings = others.settings;
-                  are = more ts others.further item others.settings (item_at_hand ps ts item hand) others.are;
-                  parts = symbol_takes Semicolon ps end.0 end.1 ∙ ap (λ (l : List Term). symbol Semicolon ∷ l) (ap terms same.1 ∙ others.parts);
+                  are = rw semicolon.2 (more ts (terms others.further) item others.settings (item_at_hand ps ts item hand) others.are);
+                  parts = semicolon.1 ∙ ap (λ (l : List Piece). semicolon.0 ∷ l) (same.1 ∙ others.parts);
+                  closes = others.closes;
                   holds = others.holds;
                   fits = others.fits;
                 }
             | inr no_end ↦
                 let one = item_taken part i ps done stepped.0 no_end.1 h fits in
-                let others = items_taken n part stepped.0.0 j stepped.0.1 rest one.ts (one.s ∷ []) (done ++ one.s ∷ []) (after_one one.ts one.s one.is one.ends) one.holds one.fits stepped.2 in
+                let others = items_taken n part stepped.0.0 j stepped.0.1 rest (terms one.spelled.front) (one.s ∷ []) (done ++ one.s ∷ []) (after_one (terms one.spelled.front) one.s one.spelled.is one.ends) one.holds one.fits stepped.2 in
                 onto ts item done ps stepped.0.1 rest stepped.0.0 j hand open_still.0 no_end.0 one others
           ]
     ]
 
 pub record InitialTaken (ps rest : List Piece) (i : Initial) : Type 0 where
   pub settings : List Setting
-  pub spelled : Begins (λ ts. IsInitialState ts settings) ps rest
+  pub spelled : Passes (λ ts. IsInitialState ts settings) ps rest
   pub holds : Holds settings i
   pub fits : Fits settings
 
 pub initial_taken : (stop : Stop) (ps rest : List Piece) (i : Initial) → initial_at stop [] ps ≡ Ok (i, rest) → InitialTaken ps rest i
-unfolding initial_at items_at
+unfolding initial_at
 initial_taken stop ps rest i e =
-    let front = bind_ok (opened_at stop ps) _ (i, rest) e in
+    let front = bind_ok (or_unfit _ ps (symbol_at OpenCurly ps)) _ (i, rest) e in
     let part = in_initial (remaining_of ps) stop in
     let all = items_taken (length front.0) part (initial [] [] []) i front.0 rest [] [] [] before_any nothing (record { once = refl; values = refl; few = omega arith }) front.2 in
-    let curly = symbol_takes OpenCurly ps front.0 (or_unfit_ok (before_initial stop) ps (symbol_at OpenCurly ps) front.0 front.1) in
+    let curly = symbol_found OpenCurly ps front.0 (or_unfit_ok _ ps (symbol_at OpenCurly ps) front.0 front.1) in
     record {
       settings = all.settings;
       spelled = record {
-        ts = symbol OpenCurly ∷ all.further ++ symbol CloseCurly ∷ [];
-        is = in_braces all.further all.settings all.are;
-        parts = curly ∙ ap (λ (l : List Term). symbol OpenCurly ∷ l) (all.parts ∙ sym (append_assoc all.further (symbol CloseCurly ∷ []) (terms rest)));
+        front = curly.0 ∷ all.further ++ all.last ∷ [];
+        is = rw (curly.2, terms_append all.further (all.last ∷ []), all.closes) (in_braces (terms all.further) all.settings all.are);
+        parts = curly.1 ∙ ap (λ (l : List Piece). curly.0 ∷ l) (all.parts ∙ sym (append_assoc all.further (all.last ∷ []) rest));
       };
       holds = all.holds;
       fits = all.fits;

@@ -1,8 +1,10 @@
 -- An item more of the initial state, and what is given so far.
-use Rattle.litmus_reader.proofs.Vocabulary.{◌≡◌, ℕ, suc, ◌+◌, ◌≤◌, ◌<◌, ◌^◌, Bool, true, false, cond, ltb, not, ◌||◌, List, [], ◌∷◌, ◌++◌, length, map, Some, None, Ok, Err, refl, sym, ap, subst, ◌∙◌, inl, inr, arith, list_any, list_all, bytes_eq, ltb-true, ltb-false, and_parts, or_parts, not-true, length-append, map-append, list_any-append, list_all-append, Reg, Loc, TwiceInit, located, or_bad_number, word_at, Given, given, Initial, initial, gives, judged, given_value, same_place, each_once, names_in, Fits, fault, number_of, with_name, location, Setting, of_register, of_location}
+use Rattle.litmus_reader.proofs.Vocabulary.{◌≡◌, ℕ, suc, ◌+◌, ◌≤◌, ◌<◌, ◌^◌, Bool, true, false, cond, ltb, not, List, [], ◌∷◌, ◌++◌, length, map, Ok, Err, refl, sym, ap, subst, ◌∙◌, inl, inr, arith, list_any, list_all, bytes_eq, ltb-false, and_parts, or_parts, not-true, length-append, map-append, list_any-append, list_all-append, Reg, Loc, TwiceInit, located, word_at, Given, given, Initial, initial, gives, judged, given_value, same_place, each_once, names_in, Fits, fault, number_of, location, Setting, of_register, of_location, append-nil, lt-ltb, le-ltb, ◌||◌}
 use Rattle.litmus_reader.proofs.Maps.{list_any_map}
 use Rattle.litmus_reader.proofs.GrammarNames.{place_below, place_none}
 use Rattle.litmus_reader.proofs.GrammarTokens.{chosen, ok_is, bind_ok}
+use Rattle.litmus_reader.proofs.GrammarPhrases.{names_in-append}
+use Rattle.litmus_reader.proofs.GrammarAtoms.{word_ok, located_ok}
 
 -- ---- what settings give
 
@@ -26,11 +28,6 @@ pub record Holds (done : List Setting) (i : Initial) : Type 0 where
   pub names : i.names ≡ names_in done
   pub words : i.words ≡ words_in done
   pub registers : map unplaced i.registers ≡ settings_of_registers done
-
-pub names_in-append : (xs ys : List Setting) → names_in (xs ++ ys) ≡ names_in xs ++ names_in ys
-names_in-append [] ys = refl
-names_in-append (of_register core reg v ∷ xs) ys = names_in-append xs ys
-names_in-append (of_location x v ∷ xs) ys = ap (λ (l : List (List ℕ)). x ∷ l) (names_in-append xs ys)
 
 pub words_in-append : (xs ys : List Setting) → words_in (xs ++ ys) ≡ words_in xs ++ words_in ys
 words_in-append [] ys = refl
@@ -86,13 +83,6 @@ once_more (d ∷ ds) s e new =
 
 -- ---- a word
 
-room_is : (remaining v w : ℕ) → word_at remaining v ≡ Ok w → (ltb v (2 ^ 32) ≡ true) × (v ≡ w)
-room_is remaining v w e = by_room (ltb v (2 ^ 32)) refl e
-  where
-    by_room : (b : Bool) → ltb v (2 ^ 32) ≡ b → or_bad_number remaining (cond b (Some v) None) ≡ Ok w → (ltb v (2 ^ 32) ≡ true) × (v ≡ w)
-    by_room true is h = (is, ok_is v w h)
-    by_room false is h = absurd cc
-
 has_room : (remaining v : ℕ) → ltb v (2 ^ 32) ≡ true → word_at remaining v ≡ Ok v
 has_room remaining v e = rw e refl
 
@@ -102,29 +92,15 @@ located_new : (remaining : ℕ) (names : List (List ℕ)) (x : List ℕ) → lis
 unfolding located
 located_new remaining names x new room =
     let at_end : number_of names x ≡ length names = place_none (bytes_eq x) names new in
-    let fits : ltb (length names) 16 ≡ true = below (length names) 16 room in
-    rw (at_end, fits, new) refl
-  where
-    below : (m n : ℕ) → m < n → ltb m n ≡ true
-    below m n lt = by_test (ltb m n) refl
-      where
-        by_test : (b : Bool) → ltb m n ≡ b → ltb m n ≡ true
-        by_test true e = e
-        by_test false e = let past = ltb-false _ _ e in absurd (omega arith)
+    rw (at_end, lt-ltb (length names) 16 room, new) refl
 
 -- where a location's number is none of those that have a word
 located_is : (remaining : ℕ) (names : List (List ℕ)) (x : List ℕ) (loc : Loc × List (List ℕ)) → located remaining names x ≡ Ok loc → ltb loc.0.0 (length names) ≡ false
     → (list_any (bytes_eq x) names ≡ false) × (length names < 16) × (loc.1 ≡ names ++ x ∷ [])
-unfolding located
 located_is remaining names x loc e past =
-    elim (chosen (ltb (number_of names x) 16) (Ok (location (number_of names x), with_name names x)) _ (Ok loc) e) [
-      | inl hit ↦
-          let same : (location (number_of names x), with_name names x) ≡ loc = ok_is _ loc hit.1 in
-          let number : number_of names x ≡ loc.0.0 = ap (λ (l : Loc × List (List ℕ)). l.0.0) same in
-          let after_it : length names ≤ number_of names x = rw number (ltb-false _ _ past) in
-          by_known (list_any (bytes_eq x) names) refl (ltb-true _ _ hit.0) after_it (ap (λ (l : Loc × List (List ℕ)). l.1) same)
-      | inr miss ↦ absurd cc
-    ]
+    let found = located_ok remaining names x loc e in
+    let after_it : length names ≤ number_of names x = rw found.0 at (ltb-false _ _ past) in
+    by_known (list_any (bytes_eq x) names) refl found.2 after_it (sym found.1)
   where
     by_known : (b : Bool) → list_any (bytes_eq x) names ≡ b → number_of names x < 16 → length names ≤ number_of names x → cond b names (names ++ x ∷ []) ≡ loc.1
         → (list_any (bytes_eq x) names ≡ false) × (length names < 16) × (loc.1 ≡ names ++ x ∷ [])
@@ -151,30 +127,18 @@ pub record Judged (remaining : ℕ) (i : Initial) (done : List Setting) (s : Set
 hold_register : (done : List Setting) (i : Initial) (remaining : ℕ) (core : List ℕ) (reg : Reg) (v : ℕ) → Holds done i
     → Holds (done ++ of_register core reg v ∷ []) (initial i.names i.words (i.registers ++ given remaining core reg v ∷ []))
 hold_register done i remaining core reg v h = record {
-  names = h.names ∙ sym (append_nil_names (names_in done)) ∙ sym (names_in-append done (of_register core reg v ∷ []));
-  words = h.words ∙ sym (append_nil_words (words_in done)) ∙ sym (words_in-append done (of_register core reg v ∷ []));
+  names = h.names ∙ sym (append-nil (names_in done)) ∙ sym (names_in-append done (of_register core reg v ∷ []));
+  words = h.words ∙ sym (append-nil (words_in done)) ∙ sym (words_in-append done (of_register core reg v ∷ []));
   registers = map-append unplaced i.registers (given remaining core reg v ∷ []) ∙ ap (λ (l : List Setting). l ++ of_register core reg v ∷ []) h.registers ∙ sym (settings_of_registers-append done (of_register core reg v ∷ []));
 }
-  where
-    append_nil_names : (l : List (List ℕ)) → l ++ [] ≡ l
-    append_nil_names [] = refl
-    append_nil_names (x ∷ xs) = ap (λ (l : List (List ℕ)). x ∷ l) (append_nil_names xs)
-
-    append_nil_words : (l : List ℕ) → l ++ [] ≡ l
-    append_nil_words [] = refl
-    append_nil_words (x ∷ xs) = ap (λ (l : List ℕ). x ∷ l) (append_nil_words xs)
 
 hold_location : (done : List Setting) (i : Initial) (x : List ℕ) (v : ℕ) (names : List (List ℕ)) → Holds done i → names ≡ names_in done ++ x ∷ []
     → Holds (done ++ of_location x v ∷ []) (initial names (i.words ++ v ∷ []) i.registers)
 hold_location done i x v names h e = record {
   names = e ∙ sym (names_in-append done (of_location x v ∷ []));
   words = ap (λ (l : List ℕ). l ++ v ∷ []) h.words ∙ sym (words_in-append done (of_location x v ∷ []));
-  registers = h.registers ∙ sym (append_nil (settings_of_registers done)) ∙ sym (settings_of_registers-append done (of_location x v ∷ []));
+  registers = h.registers ∙ sym (append-nil (settings_of_registers done)) ∙ sym (settings_of_registers-append done (of_location x v ∷ []));
 }
-  where
-    append_nil : (l : List Setting) → l ++ [] ≡ l
-    append_nil [] = refl
-    append_nil (x ∷ xs) = ap (λ (l : List Setting). x ∷ l) (append_nil xs)
 
 pub judged_found : (remaining : ℕ) (i : Initial) (done rest : List Setting) (s : Setting) → Holds done i → Fits (done ++ s ∷ rest) → Judged remaining i done s
 unfolding judged
@@ -190,57 +154,50 @@ judged_found remaining i done rest (of_location x v) h fits =
     let some : length i.names < 16 = omega (arith, count, same, fits.few) in
     let words : length i.words ≡ length i.names = ap length h.words ∙ a_word_each done ∙ sym same in
     let found = located_new remaining i.names x apart some in
-    let new : ltb (length i.names) (length i.names) ≡ false = itself (length i.names) in
+    let new : ltb (length i.names) (length i.names) ≡ false = le-ltb (length i.names) (length i.names) (omega arith) in
     record {
       after = initial (i.names ++ x ∷ []) (i.words ++ v ∷ []) i.registers;
       is = rw (room, found, words, new) refl;
       holds = hold_location done i x v (i.names ++ x ∷ []) h (ap (λ (l : List (List ℕ)). l ++ x ∷ []) h.names);
     }
-  where
-    itself : (n : ℕ) → ltb n n ≡ false
-    itself n = by_test (ltb n n) refl
-      where
-        by_test : (b : Bool) → ltb n n ≡ b → ltb n n ≡ false
-        by_test true e = let less = ltb-true _ _ e in absurd (omega arith)
-        by_test false e = e
 
 pub judged_taken : (remaining : ℕ) (i after : Initial) (done : List Setting) (s : Setting) → judged remaining i s ≡ Ok after → Holds done i → Fits done
     → Holds (done ++ s ∷ []) after × Fits (done ++ s ∷ [])
 unfolding judged
 judged_taken remaining i after done (of_register core reg v) e h fits =
     let value = bind_ok (word_at remaining v) _ after e in
-    let room = room_is remaining v value.0 value.1 in
+    let word = word_ok remaining v value.0 value.1 in
     elim (chosen (list_any (gives core reg) i.registers) (Err (fault TwiceInit remaining)) (Ok (initial i.names i.words (i.registers ++ given remaining core reg value.0 ∷ []))) (Ok after) value.2) [
       | inl twice ↦ absurd cc
       | inr once ↦
           let same : initial i.names i.words (i.registers ++ given remaining core reg value.0 ∷ []) ≡ after = ok_is _ after once.1 in
-          let is : initial i.names i.words (i.registers ++ given remaining core reg v ∷ []) ≡ after = ap (λ (n : ℕ). initial i.names i.words (i.registers ++ given remaining core reg n ∷ [])) room.1 ∙ same in
+          let is : initial i.names i.words (i.registers ++ given remaining core reg v ∷ []) ≡ after = ap (λ (n : ℕ). initial i.names i.words (i.registers ++ given remaining core reg n ∷ [])) word.0 ∙ same in
           let apart = register_given core reg v done i.registers h.registers ∙ once.0 in (
             subst (Holds (done ++ of_register core reg v ∷ [])) is (hold_register done i remaining core reg v h),
             record {
               once = once_more done (of_register core reg v) fits.once apart;
-              values = values_more done (of_register core reg v) fits.values room.0;
+              values = values_more done (of_register core reg v) fits.values (lt-ltb v (2 ^ 32) word.1);
               few = omega (arith, fits.few, ap length (names_in-append done (of_register core reg v ∷ [])), length-append (names_in done) []);
             },
           )
     ]
 judged_taken remaining i after done (of_location x v) e h fits =
     let value = bind_ok (word_at remaining v) _ after e in
-    let room = room_is remaining v value.0 value.1 in
+    let word = word_ok remaining v value.0 value.1 in
     let loc = bind_ok (located remaining i.names x) _ after value.2 in
     let words : length i.words ≡ length i.names = ap length h.words ∙ a_word_each done ∙ sym (ap length h.names) in
     elim (chosen (ltb loc.0.0.0 (length i.words)) (Err (fault TwiceInit remaining)) (Ok (initial loc.0.1 (i.words ++ value.0 ∷ []) i.registers)) (Ok after) loc.2) [
       | inl twice ↦ absurd cc
       | inr once ↦
           let same : initial loc.0.1 (i.words ++ value.0 ∷ []) i.registers ≡ after = ok_is _ after once.1 in
-          let is : initial loc.0.1 (i.words ++ v ∷ []) i.registers ≡ after = ap (λ (n : ℕ). initial loc.0.1 (i.words ++ n ∷ []) i.registers) room.1 ∙ same in
+          let is : initial loc.0.1 (i.words ++ v ∷ []) i.registers ≡ after = ap (λ (n : ℕ). initial loc.0.1 (i.words ++ n ∷ []) i.registers) word.0 ∙ same in
           let new = located_is remaining i.names x loc.0 loc.1 (rw (← words) once.0) in
           let apart : list_any (same_place (of_location x v)) done ≡ false = location_given x v done ∙ ap (list_any (bytes_eq x)) (sym h.names) ∙ new.0 in
           let known : length i.names ≡ length (names_in done) = ap length h.names in (
             subst (Holds (done ++ of_location x v ∷ [])) is (hold_location done i x v loc.0.1 h (new.2 ∙ ap (λ (l : List (List ℕ)). l ++ x ∷ []) h.names)),
             record {
               once = once_more done (of_location x v) fits.once apart;
-              values = values_more done (of_location x v) fits.values room.0;
+              values = values_more done (of_location x v) fits.values (lt-ltb v (2 ^ 32) word.1);
               few = omega (arith, new.1, known, ap length (names_in-append done (of_location x v ∷ [])), length-append (names_in done) (x ∷ []));
             },
           )

@@ -1,8 +1,10 @@
 -- What has been read of the initial state is what its settings say.
-use Rattle.litmus_reader.proofs.Vocabulary.{◌≡◌, ℕ, zero, suc, ◌+◌, ◌-◌, ◌<◌, Bool, true, false, cond, eqb, eqb-true, ltb, not, ◌||◌, ◌&&◌, List, [], ◌∷◌, ◌++◌, length, map, get_or, replicate, Result, Ok, Err, refl, sym, ap, subst, ◌∙◌, append_assoc, arith, list_any, list_all, range_with_len, bytes_eq, ltb-true, eqb-false, and_parts, or_parts, not-true, bytes_eq-Decides, length-append, append-nil, map-append, length-set, ext_get_or, get_or-set_same, get_or-set_other, length-map-range_with_len, get_or-map-range_with_len, list_any-append, list_all-append, index_of, with_value, Reg, Eax, Ebx, Ecx, Edx, Esi, Edi, decimal_value, Fault, NoSuchCore, ◌>>=◌, core_of, Given, Initial, no_registers, with_register, registers_with, words_of, same_place, each_once, names_in, Fits, has_core, value_in, names_register, first_words, first_registers_of, first_registers, numbered, with_name, fault, Setting, of_register, of_location}
+use Rattle.litmus_reader.proofs.Vocabulary.{◌≡◌, ℕ, zero, suc, ◌+◌, ◌-◌, ◌<◌, Bool, true, false, cond, eqb, eqb-true, ltb, not, ◌&&◌, List, [], ◌∷◌, ◌++◌, length, map, get_or, replicate, Result, Ok, refl, sym, ap, subst, ◌∙◌, append_assoc, arith, list_any, list_all, range_with_len, bytes_eq, ltb-true, and_parts, or_parts, not-true, bytes_eq-Decides, length-append, append-nil, map-append, length-set, ext_get_or, get_or-set_same, get_or-set_other, length-map-range_with_len, get_or-map-range_with_len, list_any-append, list_all-append, index_of, with_value, Reg, Eax, Ebx, Ecx, Edx, Esi, Edi, decimal_value, Fault, ◌>>=◌, core_of, Given, Initial, with_register, registers_with, words_of, same_place, each_once, names_in, Fits, has_core, value_in, names_register, first_words, first_registers_of, first_registers, numbered, with_name, Setting, of_register, of_location, eq-eqb, lt-ltb, ◌||◌}
 use Rattle.litmus_reader.proofs.GrammarTokens.{bind_ok}
+use Rattle.litmus_reader.proofs.GrammarPhrases.{names_in-append}
+use Rattle.litmus_reader.proofs.GrammarAtoms.{core_ok}
 use Rattle.litmus_reader.proofs.GrammarNames.{same_bytes}
-use Rattle.litmus_reader.proofs.GrammarInitialJudged.{words_in, settings_of_registers, unplaced, Holds, names_in-append, a_word_each, location_given, once_apart}
+use Rattle.litmus_reader.proofs.GrammarInitialJudged.{words_in, settings_of_registers, unplaced, Holds, a_word_each, location_given, once_apart}
 use Rattle.litmus_reader.proofs.Readings.{Says}
 
 -- ---- first words and registers
@@ -123,13 +125,6 @@ words_said settings others once =
 
 -- ---- first registers
 
-same_number : (n : ℕ) → eqb n n ≡ true
-same_number n = by_test (eqb n n) refl
-  where
-    by_test : (b : Bool) → eqb n n ≡ b → eqb n n ≡ true
-    by_test true e = e
-    by_test false e = absurd (eqb-false n n e refl)
-
 register_more : (core : ℕ) (reg : Reg) (otherwise : ℕ) (done : List Setting) (c : List ℕ) (r : Reg) (v : ℕ)
     → first_register core reg otherwise (done ++ of_register c r v ∷ []) ≡ cond (eqb (decimal_value c) core && eqb (index_of r) (index_of reg)) v (first_register core reg otherwise done)
 register_more core reg otherwise [] c r v = refl
@@ -144,7 +139,7 @@ other_row done core c r v other = rw (kept Eax, kept Ebx, kept Ecx, kept Edx, ke
 
 this_entry : (done : List Setting) (c : List ℕ) (r : Reg) (v : ℕ) (reg : Reg) → first_register (decimal_value c) reg 0 (done ++ of_register c r v ∷ []) ≡ cond (eqb (index_of r) (index_of reg)) v (first_register (decimal_value c) reg 0 done)
 this_entry done c r v reg =
-    register_more (decimal_value c) reg 0 done c r v ∙ ap (λ (b : Bool). cond (b && eqb (index_of r) (index_of reg)) v (first_register (decimal_value c) reg 0 done)) (same_number (decimal_value c))
+    register_more (decimal_value c) reg 0 done c r v ∙ ap (λ (b : Bool). cond (b && eqb (index_of r) (index_of reg)) v (first_register (decimal_value c) reg 0 done)) (eq-eqb (decimal_value c) (decimal_value c) refl)
 
 this_row : (done : List Setting) (c : List ℕ) (r : Reg) (v : ℕ) → with_value (first_registers_of done (decimal_value c)) r v ≡ first_registers_of (done ++ of_register c r v ∷ []) (decimal_value c)
 this_row done c Eax v = let e : (reg : Reg) → _ = this_entry done c Eax v in rw (e Eax, e Ebx, e Ecx, e Edx, e Esi, e Edi) refl
@@ -178,7 +173,7 @@ register_noted done cores c r v lt =
         ∙ ap (λ (l : List ℕ). with_value l r v) (row_at done cores (decimal_value c) lt) ∙ this_row done c r v ∙ sym (row_at (done ++ of_register c r v ∷ []) cores (decimal_value c) lt))
     by_row k below false e =
         let table = first_registers done cores in
-        get_or-set_other table (decimal_value c) k (with_value (get_or table (decimal_value c) []) r v) [] (λ is. let hit : eqb (decimal_value c) k ≡ true = ap (eqb (decimal_value c)) is ∙ same_number (decimal_value c) in cc)
+        get_or-set_other table (decimal_value c) k (with_value (get_or table (decimal_value c) []) r v) [] (λ is. let hit : eqb (decimal_value c) k ≡ true = ap (eqb (decimal_value c)) is ∙ eq-eqb (decimal_value c) (decimal_value c) refl in cc)
         ∙ row_at done cores k below ∙ sym (other_row done k c r v e) ∙ sym (row_at (done ++ of_register c r v ∷ []) cores k below)
 
 core_there : (cores remaining : ℕ) (digits : List ℕ) → ltb (decimal_value digits) cores ≡ true → core_of cores remaining digits ≡ Ok (decimal_value digits)
@@ -202,16 +197,12 @@ registers_taken cores registers table [] e = refl
 registers_taken cores registers table (g ∷ gs) e =
     let core = bind_ok (core_of cores g.remaining g.core) _ table e in
     let further = registers_taken cores (with_register registers core.0 g.reg g.value) table gs core.2 in
-    let there : ltb (decimal_value g.core) cores ≡ true = by_test (ltb (decimal_value g.core) cores) core.0 core.1 in
+    let there : ltb (decimal_value g.core) cores ≡ true = lt-ltb _ _ (core_ok cores g.remaining g.core core.0 core.1).1 in
     rw (there, further) refl
-  where
-    by_test : (b : Bool) (n : ℕ) → (let r : Result ℕ Fault = cond b (Ok (decimal_value g.core)) (Err (fault NoSuchCore g.remaining)) in r) ≡ Ok n → b ≡ true
-    by_test true n h = refl
-    by_test false n h = absurd cc
 
-nothing_first : (a n : ℕ) → replicate n no_registers ≡ map (first_registers_of []) (range_with_len a n)
+nothing_first : (a n : ℕ) → replicate n (replicate 6 0) ≡ map (first_registers_of []) (range_with_len a n)
 nothing_first a zero = refl
-nothing_first a (suc n) = ap (λ (l : List (List ℕ)). no_registers ∷ l) (nothing_first (a + 1) n)
+nothing_first a (suc n) = ap (λ (l : List (List ℕ)). (replicate 6 0) ∷ l) (nothing_first (a + 1) n)
 
 of_registers_alone : (core : ℕ) (reg : Reg) (otherwise : ℕ) (settings : List Setting) → first_register core reg otherwise (settings_of_registers settings) ≡ first_register core reg otherwise settings
 of_registers_alone core reg otherwise [] = refl
@@ -238,5 +229,5 @@ said settings i h fits = record {
       let here : list_all (has_core cores) (map unplaced i.registers) ≡ true = ap (list_all (has_core cores)) h.registers ∙ cores_alone cores settings ∙ has in
       ap (λ (l : List (List ℕ)). registers_with cores l i.registers) (nothing_first 0 cores) ∙ registers_found cores i.registers [] here
       ∙ ap (λ (l : List Setting). Ok (first_registers l cores)) h.registers ∙ ap (λ (l : List (List ℕ)). Ok l) (rows_alone settings (range_with_len 0 cores));
-  cores = λ cores table e. sym (cores_alone cores settings) ∙ ap (list_all (has_core cores)) (sym h.registers) ∙ registers_taken cores (replicate cores no_registers) table i.registers e;
+  cores = λ cores table e. sym (cores_alone cores settings) ∙ ap (list_all (has_core cores)) (sym h.registers) ∙ registers_taken cores (replicate cores (replicate 6 0)) table i.registers e;
 }

@@ -1,8 +1,8 @@
 -- Items are read where they are spelled.
-use Rattle.litmus_reader.proofs.Vocabulary.{◌≡◌, ℕ, List, [], ◌∷◌, ◌++◌, Ok, refl, ap, subst, ◌∙◌, inl, inr, Equals, Colon, OpenSquare, CloseSquare, decimal_value, Term, number, name, symbol, Piece, is_symbol, symbol_at, name_at, number_at, Part, there, or_unfit, location_at, register_at, value_at, register_setting, square_setting, plain_setting, setting_at, terms, IsSetting, sets_register, sets_location, sets_in_squares, Setting, of_register, of_location}
-use Rattle.litmus_reader.proofs.GrammarTokens.{there_is, ok_pair, bind_ok, or_unfit_ok, opened, number_takes, symbol_takes}
-use Rattle.litmus_reader.proofs.GrammarCells.{location_takes, register_takes}
-use Rattle.litmus_reader.proofs.Readings.{Reads, Begins}
+use Rattle.litmus_reader.proofs.Vocabulary.{◌≡◌, ℕ, List, [], ◌∷◌, ◌++◌, Ok, refl, ap, subst, ◌∙◌, inl, inr, Equals, Colon, OpenSquare, CloseSquare, decimal_value, Term, number, name, symbol, Piece, is_symbol, symbol_at, name_at, number_at, Part, or_unfit, location_at, register_at, value_at, register_setting, square_setting, plain_setting, setting_at, terms, IsSetting, sets_register, sets_location, sets_in_squares, Setting, of_register, of_location, Passes, append_assoc, sym}
+use Rattle.litmus_reader.proofs.GrammarTokens.{there_is, ok_pair, bind_ok, or_unfit_ok, opened, terms_append, Takes, number_found, symbol_found}
+use Rattle.litmus_reader.proofs.GrammarCells.{location_found, register_found}
+use Rattle.litmus_reader.proofs.Readings.{Reads}
 
 abbrev Found : Part → Setting → List Term → List Piece → Type 0
 Found part s back ps = Reads (setting_at part ps) s back
@@ -34,55 +34,78 @@ setting_found part _ back _ (sets_in_squares x v good) ps e =
 
 -- ---- taken
 
-value_taken : (part : Part) (ps rest : List Piece) (v : ℕ) → value_at part ps ≡ Ok (v, rest) → (digits : List ℕ) × (terms ps ≡ symbol Equals ∷ number digits ∷ terms rest) × (decimal_value digits ≡ v)
+-- `=` and the digits of a value were taken
+record ValueTaken (ps rest : List Piece) (v : ℕ) : Type 0 where
+  pub digits : List ℕ
+  pub equals : Piece
+  pub value : Piece
+  pub parts : ps ≡ equals ∷ value ∷ rest
+  pub is_equals : equals.term ≡ symbol Equals
+  pub is_value : value.term ≡ number digits
+  pub says : decimal_value digits ≡ v
+
+value_taken : (part : Part) (ps rest : List Piece) (v : ℕ) → value_at part ps ≡ Ok (v, rest) → ValueTaken ps rest v
 unfolding value_at
 value_taken part ps rest v e =
     let a = bind_ok (or_unfit part ps (symbol_at Equals ps)) _ (v, rest) e in
     let b = bind_ok (or_unfit part a.0 (number_at a.0)) _ (v, rest) a.2 in
     let same = ok_pair (decimal_value b.0.0) v b.0.1 rest b.2 in
-    let equals = symbol_takes Equals ps a.0 (or_unfit_ok part ps (symbol_at Equals ps) a.0 a.1) in
-    let digits = number_takes a.0 b.0.1 b.0.0 (or_unfit_ok part a.0 (number_at a.0) b.0 b.1) in
-    (b.0.0, equals ∙ ap (λ (ts : List Term). symbol Equals ∷ ts) (digits ∙ ap (λ (l : List Piece). number b.0.0 ∷ terms l) same.1), same.0)
+    let equals = symbol_found Equals ps a.0 (or_unfit_ok part ps (symbol_at Equals ps) a.0 a.1) in
+    let digits = number_found a.0 b.0.1 b.0.0 (or_unfit_ok part a.0 (number_at a.0) b.0 b.1) in
+    record {
+      digits = b.0.0;
+      equals = equals.0;
+      value = digits.0;
+      parts = equals.1 ∙ ap (λ (l : List Piece). equals.0 ∷ l) (digits.1 ∙ ap (λ (l : List Piece). digits.0 ∷ l) same.1);
+      is_equals = equals.2;
+      is_value = digits.2;
+      says = same.0;
+    }
 
 abbrev Taken : List Piece → Setting → List Piece → Type 0
-Taken ps s rest = Begins (λ ts. IsSetting ts s) ps rest
+Taken ps s rest = Passes (λ ts. IsSetting ts s) ps rest
 
-register_taken : (part : Part) (core : List ℕ) (all ps rest : List Piece) (s : Setting) → terms all ≡ number core ∷ terms ps → register_setting part core ps ≡ Ok (s, rest) → Taken all s rest
+-- a value after some tokens, which say of what
+after_these : (make : ℕ → Setting) (s : Setting) (front ps rest after all : List Piece) (v : ℕ) → all ≡ front ++ ps → (t : ValueTaken ps after v) → (make v ≡ s) × (after ≡ rest)
+    → ((w : List ℕ) → IsSetting (terms front ++ symbol Equals ∷ number w ∷ []) (make (decimal_value w))) → Taken all s rest
+after_these make s front ps rest after all v begins t same spelled =
+    let last = t.equals ∷ t.value ∷ [] in
+    let said : make (decimal_value t.digits) ≡ s = ap make t.says ∙ same.0 in
+    let are : terms (front ++ last) ≡ terms front ++ symbol Equals ∷ number t.digits ∷ [] = terms_append front last ∙ rw (t.is_equals, t.is_value) refl in
+    record {
+      front = front ++ last;
+      parts = begins ∙ ap (λ (l : List Piece). front ++ l) (t.parts ∙ ap (λ (l : List Piece). t.equals ∷ t.value ∷ l) same.1) ∙ sym (append_assoc front last rest);
+      is = subst (λ (ts : List Term). IsSetting ts s) (sym are) (subst (IsSetting (terms front ++ symbol Equals ∷ number t.digits ∷ [])) said (spelled t.digits));
+    }
+
+register_taken : (part : Part) (core : List ℕ) (all ps rest : List Piece) (s : Setting) → Takes (number core) all ps → register_setting part core ps ≡ Ok (s, rest) → Taken all s rest
 unfolding register_setting
-register_taken part core all ps rest s front e =
+register_taken part core all ps rest s first e =
     let a = bind_ok (or_unfit part ps (symbol_at Colon ps)) _ (s, rest) e in
     let b = bind_ok (or_unfit part a.0 (register_at a.0)) _ (s, rest) a.2 in
     let c = bind_ok (value_at part b.0.1) _ (s, rest) b.2 in
-    let same = ok_pair (of_register core b.0.0 c.0.0) s c.0.1 rest c.2 in
-    let colon = symbol_takes Colon ps a.0 (or_unfit_ok part ps (symbol_at Colon ps) a.0 a.1) in
-    let reg = register_takes a.0 b.0.1 b.0.0 (or_unfit_ok part a.0 (register_at a.0) b.0 b.1) in
-    let v = value_taken part b.0.1 c.0.1 c.0.0 c.1 in
-    let is : of_register core b.0.0 (decimal_value v.0) ≡ s = ap (λ (n : ℕ). of_register core b.0.0 n) v.2 ∙ same.0 in
-    record {
-      ts = number core ∷ symbol Colon ∷ name reg.0 ∷ symbol Equals ∷ number v.0 ∷ [];
-      is = subst (λ (t : Setting). IsSetting (number core ∷ symbol Colon ∷ name reg.0 ∷ symbol Equals ∷ number v.0 ∷ []) t) is (sets_register core reg.0 v.0 b.0.0 reg.2);
-      parts = front ∙ ap (λ (ts : List Term). number core ∷ ts) (colon ∙ ap (λ (ts : List Term). symbol Colon ∷ ts) (reg.1 ∙ ap (λ (ts : List Term). name reg.0 ∷ ts)
-          (v.1 ∙ ap (λ (l : List Piece). symbol Equals ∷ number v.0 ∷ terms l) same.1)));
-    }
+    let colon = symbol_found Colon ps a.0 (or_unfit_ok part ps (symbol_at Colon ps) a.0 a.1) in
+    let reg = register_found a.0 b.0.1 b.0.0 (or_unfit_ok part a.0 (register_at a.0) b.0 b.1) in
+    let word = reg.1 in
+    let front = first.0 ∷ colon.0 ∷ word.0 ∷ [] in
+    let begins : all ≡ front ++ b.0.1 = first.1 ∙ ap (λ (l : List Piece). first.0 ∷ l) (colon.1 ∙ ap (λ (l : List Piece). colon.0 ∷ l) word.1) in
+    after_these (of_register core b.0.0) s front b.0.1 rest c.0.1 all c.0.0 begins (value_taken part b.0.1 c.0.1 c.0.0 c.1) (ok_pair (of_register core b.0.0 c.0.0) s c.0.1 rest c.2)
+    (λ w. rw (first.2, colon.2, word.2) (sets_register core reg.0 w b.0.0 reg.2))
 
-square_taken : (part : Part) (all ps rest : List Piece) (s : Setting) → terms all ≡ symbol OpenSquare ∷ terms ps → square_setting part ps ≡ Ok (s, rest) → Taken all s rest
+square_taken : (part : Part) (all ps rest : List Piece) (s : Setting) → Takes (symbol OpenSquare) all ps → square_setting part ps ≡ Ok (s, rest) → Taken all s rest
 unfolding square_setting
-square_taken part all ps rest s front e =
+square_taken part all ps rest s first e =
     let a = bind_ok (or_unfit part ps (location_at ps)) _ (s, rest) e in
     let b = bind_ok (or_unfit part a.0.1 (symbol_at CloseSquare a.0.1)) _ (s, rest) a.2 in
     let c = bind_ok (value_at part b.0) _ (s, rest) b.2 in
     let x = a.0.0 in
-    let same = ok_pair (of_location x c.0.0) s c.0.1 rest c.2 in
-    let loc = location_takes ps a.0.1 x (or_unfit_ok part ps (location_at ps) a.0 a.1) in
-    let close = symbol_takes CloseSquare a.0.1 b.0 (or_unfit_ok part a.0.1 (symbol_at CloseSquare a.0.1) b.0 b.1) in
-    let v = value_taken part b.0 c.0.1 c.0.0 c.1 in
-    let is : of_location x (decimal_value v.0) ≡ s = ap (λ (n : ℕ). of_location x n) v.2 ∙ same.0 in
-    record {
-      ts = symbol OpenSquare ∷ name x ∷ symbol CloseSquare ∷ symbol Equals ∷ number v.0 ∷ [];
-      is = subst (λ (t : Setting). IsSetting (symbol OpenSquare ∷ name x ∷ symbol CloseSquare ∷ symbol Equals ∷ number v.0 ∷ []) t) is (sets_in_squares x v.0 loc.1);
-      parts = front ∙ ap (λ (ts : List Term). symbol OpenSquare ∷ ts) (loc.0 ∙ ap (λ (ts : List Term). name x ∷ ts) (close ∙ ap (λ (ts : List Term). symbol CloseSquare ∷ ts)
-          (v.1 ∙ ap (λ (l : List Piece). symbol Equals ∷ number v.0 ∷ terms l) same.1)));
-    }
+    let loc = location_found ps a.0.1 x (or_unfit_ok part ps (location_at ps) a.0 a.1) in
+    let word = loc.0 in
+    let close = symbol_found CloseSquare a.0.1 b.0 (or_unfit_ok part a.0.1 (symbol_at CloseSquare a.0.1) b.0 b.1) in
+    let front = first.0 ∷ word.0 ∷ close.0 ∷ [] in
+    let begins : all ≡ front ++ b.0 = first.1 ∙ ap (λ (l : List Piece). first.0 ∷ l) (word.1 ∙ ap (λ (l : List Piece). word.0 ∷ l) close.1) in
+    after_these (of_location x) s front b.0 rest c.0.1 all c.0.0 begins (value_taken part b.0 c.0.1 c.0.0 c.1) (ok_pair (of_location x c.0.0) s c.0.1 rest c.2)
+    (λ w. rw (first.2, word.2, close.2) (sets_in_squares x w loc.1))
 
 plain_taken : (part : Part) (ps rest : List Piece) (s : Setting) → plain_setting part ps ≡ Ok (s, rest) → Taken ps s rest
 unfolding plain_setting
@@ -90,23 +113,18 @@ plain_taken part ps rest s e =
     let a = bind_ok (or_unfit part ps (location_at ps)) _ (s, rest) e in
     let c = bind_ok (value_at part a.0.1) _ (s, rest) a.2 in
     let x = a.0.0 in
-    let same = ok_pair (of_location x c.0.0) s c.0.1 rest c.2 in
-    let loc = location_takes ps a.0.1 x (or_unfit_ok part ps (location_at ps) a.0 a.1) in
-    let v = value_taken part a.0.1 c.0.1 c.0.0 c.1 in
-    let is : of_location x (decimal_value v.0) ≡ s = ap (λ (n : ℕ). of_location x n) v.2 ∙ same.0 in
-    record {
-      ts = name x ∷ symbol Equals ∷ number v.0 ∷ [];
-      is = subst (λ (t : Setting). IsSetting (name x ∷ symbol Equals ∷ number v.0 ∷ []) t) is (sets_location x v.0 loc.1);
-      parts = loc.0 ∙ ap (λ (ts : List Term). name x ∷ ts) (v.1 ∙ ap (λ (l : List Piece). symbol Equals ∷ number v.0 ∷ terms l) same.1);
-    }
+    let loc = location_found ps a.0.1 x (or_unfit_ok part ps (location_at ps) a.0 a.1) in
+    let word = loc.0 in
+    after_these (of_location x) s (word.0 ∷ []) a.0.1 rest c.0.1 ps c.0.0 word.1 (value_taken part a.0.1 c.0.1 c.0.0 c.1) (ok_pair (of_location x c.0.0) s c.0.1 rest c.2)
+    (λ w. rw word.2 (sets_location x w loc.1))
 
 pub setting_taken : (part : Part) (ps rest : List Piece) (s : Setting) → setting_at part ps ≡ Ok (s, rest) → Taken ps s rest
 unfolding setting_at
 setting_taken part ps rest s e =
-    elim (there_is (number_at ps) (λ core. register_setting part core.0 core.1) (there (symbol_at OpenSquare ps) (square_setting part) (plain_setting part ps)) (Ok (s, rest)) e) [
-      | inl core ↦ register_taken part core.0.0 ps core.0.1 rest s (number_takes ps core.0.1 core.0.0 core.1) core.2
+    elim (there_is (number_at ps) (λ core. register_setting part core.0 core.1) _ (Ok (s, rest)) e) [
+      | inl core ↦ register_taken part core.0.0 ps core.0.1 rest s (number_found ps core.0.1 core.0.0 core.1) core.2
       | inr no_core ↦ elim (there_is (symbol_at OpenSquare ps) (square_setting part) (plain_setting part ps) (Ok (s, rest)) no_core.1) [
-        | inl square ↦ square_taken part ps square.0 rest s (symbol_takes OpenSquare ps square.0 square.1) square.2
+        | inl square ↦ square_taken part ps square.0 rest s (symbol_found OpenSquare ps square.0 square.1) square.2
         | inr no_square ↦ plain_taken part ps rest s no_square.1
       ]
     ]

@@ -1,5 +1,5 @@
 -- Locations keep their numbers as others appear.
-use Rattle.litmus_reader.proofs.Vocabulary.{◌≡◌, ℕ, ◌≤◌, ◌<◌, Bool, true, false, cond, ◌||◌, List, [], ◌∷◌, ◌++◌, length, refl, ◌∙◌, arith, list_any, position_or_len, bytes_eq, bytes_eq-Decides, length-append, numbered, number_of, with_name}
+use Rattle.litmus_reader.proofs.Vocabulary.{◌≡◌, ℕ, ◌≤◌, ◌<◌, Bool, true, false, cond, List, [], ◌∷◌, ◌++◌, length, refl, ◌∙◌, arith, list_any, position_or_len, bytes_eq, bytes_eq-Decides, length-append, numbered, number_of, with_name, list_any-append, ◌||◌}
 
 abbrev pub Known : List (List ℕ) → List ℕ → Type 0
 Known names x = list_any (bytes_eq x) names ≡ true
@@ -8,12 +8,7 @@ pub same_bytes : (x : List ℕ) → bytes_eq x x ≡ true
 same_bytes x = (bytes_eq-Decides x x).1 refl
 
 any_push : (p : List ℕ → Bool) (names : List (List ℕ)) (y : List ℕ) → list_any p names ≡ true → list_any p (names ++ y ∷ []) ≡ true
-any_push p [] y e = absurd cc
-any_push p (n ∷ ns) y e = by_first (λ h. any_push p ns y h) (p n) refl e
-  where
-    by_first : (list_any p ns ≡ true → list_any p (ns ++ y ∷ []) ≡ true) → (b : Bool) → p n ≡ b → (b || list_any p ns) ≡ true → (p n || list_any p (ns ++ y ∷ [])) ≡ true
-    by_first further true is h = rw is refl
-    by_first further false is h = rw is (further h)
+any_push p names y e = list_any-append p names (y ∷ []) ∙ rw e refl
 
 any_last : (p : List ℕ → Bool) (names : List (List ℕ)) (y : List ℕ) → p y ≡ true → list_any p (names ++ y ∷ []) ≡ true
 any_last p [] y e = rw e refl
@@ -96,3 +91,21 @@ pub grows : (xs names : List (List ℕ)) → length names ≤ length (numbered n
 unfolding numbered
 grows [] names = omega arith
 grows (y ∷ ys) names = let a = grows_with names y in let b = grows ys (with_name names y) in omega (arith, a, b)
+
+-- all of these are among the names
+abbrev pub AllKnown : List (List ℕ) → List (List ℕ) → Type 0
+AllKnown names [] = Unit {0}
+AllKnown names (x ∷ xs) = Known names x × AllKnown names xs
+
+pub all_known_more : (xs others names : List (List ℕ)) → AllKnown names xs → AllKnown (numbered names others) xs
+all_known_more [] others names are = tt
+all_known_more (x ∷ xs) others names are = (known_more others names x are.0, all_known_more xs others names are.1)
+
+pub all_known : (xs names : List (List ℕ)) → AllKnown (numbered names xs) xs
+unfolding numbered
+all_known [] names = tt
+all_known (x ∷ xs) names = (known_more xs (with_name names x) x (known_with names x), all_known xs (with_name names x))
+
+pub known_parts : (xs ys names : List (List ℕ)) → AllKnown names (xs ++ ys) → AllKnown names xs × AllKnown names ys
+known_parts [] ys names are = (tt, are)
+known_parts (x ∷ xs) ys names are = let parts = known_parts xs ys names are.1 in ((are.0, parts.0), parts.1)

@@ -1,18 +1,15 @@
 -- Propositions by their phrases: claims as names appear, and parts with a symbol between them.
-use Rattle.litmus_reader.proofs.Vocabulary.{◌≡◌, ℕ, zero, suc, ◌+◌, ◌≤◌, Bool, true, false, List, [], ◌∷◌, ◌++◌, length, Some, None, Ok, refl, sym, ap, subst, ◌∙◌, inl, inr, append_assoc, arith, list_all, and_from, and_parts, length-append, length-map, list_all-append, Claim, LocClaim, NotClaim, Symbol, And, Or, Term, symbol, Piece, is_symbol, is_symbol_term, symbol_at, ◌>>=◌, claim_in, Claimed, claimed, one_more, truth_at, truth_atom, setting_atom, atom_at, Proposition, joined_to, chain, chain_of, conjunction, disjunction, negation_at, opens_unit, negated, bracketed, unit_by, unit_at, proposition_at, terms, numbered, names_in, is_allowed, AreJoined, one, IsConjunction, IsProposition, settings_in, locations_in, atoms_of, PhraseFits, claim_by, IsWithin, Setting, of_register, of_location, Phrase, truth, atom, negation}
-use Rattle.litmus_reader.specs.Conditions as reading
+use Rattle.litmus_reader.proofs.Vocabulary.{◌≡◌, ℕ, zero, suc, ◌+◌, ◌≤◌, Bool, true, false, List, [], ◌∷◌, ◌++◌, length, Some, None, Ok, refl, sym, ap, subst, ◌∙◌, inl, inr, append_assoc, arith, list_all, and_from, and_parts, length-append, length-map, list_all-append, Claim, LocClaim, NotClaim, Symbol, And, Or, Term, symbol, Piece, is_symbol, is_symbol_term, symbol_at, ◌>>=◌, Claimed, claimed, Proposition, chain, chain_of, conjunction, disjunction, terms, numbered, names_in, is_allowed, AreJoined, one, IsConjunction, IsProposition, settings_in, locations_in, atoms_of, PhraseFits, claim_by, IsWithin, Setting, of_register, of_location, Phrase, truth, atom, negation, AndClaim, OrClaim}
 use Rattle.litmus_reader.specs.GrammarConditions.{more}
-use Rattle.litmus_reader.proofs.Keeps.{ok_is as keeps_ok, some_is as keeps_some}
-use Rattle.litmus_reader.proofs.GrammarAfter.{last_further, symbol_leaves}
-use Rattle.litmus_reader.proofs.GrammarLast.{LeavesLast, chain_leaves}
+use Rattle.litmus_reader.proofs.Chains.{joined_to}
 use Rattle.litmus_reader.proofs.GrammarTokens.{there_is, ok_is, bind_ok, front, symbol_takes, spelled_so}
-use Rattle.litmus_reader.proofs.GrammarNames.{Known, known_with, known_more, number_more, numbered_append, grows}
-use Rattle.litmus_reader.proofs.Readings.{given_by, ReadsPhrase, AreLast}
+use Rattle.litmus_reader.proofs.GrammarNames.{AllKnown, all_known, known_parts, number_more, numbered_append, grows}
+use Rattle.litmus_reader.proofs.Readings.{given_by, ReadsPhrase}
 use Rattle.litmus_reader.specs.Written.{both, either}
 
 -- ---- claims stay as more names appear
 
-names_in-append : (before after : List Setting) → names_in (before ++ after) ≡ names_in before ++ names_in after
+pub names_in-append : (before after : List Setting) → names_in (before ++ after) ≡ names_in before ++ names_in after
 names_in-append [] after = refl
 names_in-append (of_register core reg v ∷ before) after = names_in-append before after
 names_in-append (of_location x v ∷ before) after = ap (λ (l : List (List ℕ)). x ∷ l) (names_in-append before after)
@@ -21,46 +18,21 @@ names_in-append (of_location x v ∷ before) after = ap (λ (l : List (List ℕ)
 pub numbered_both : (p q : Phrase) (names : List (List ℕ)) → numbered names (names_in (settings_in p ++ settings_in q)) ≡ numbered (numbered names (locations_in p)) (locations_in q)
 numbered_both p q names = ap (λ (l : List (List ℕ)). numbered names l) (names_in-append (settings_in p) (settings_in q)) ∙ numbered_append (locations_in p) (locations_in q) names
 
-abbrev AllKnown : List (List ℕ) → Phrase → Type 0
-AllKnown names (truth b) = Unit {0}
-AllKnown names (atom (of_register core reg v)) = Unit {0}
-AllKnown names (atom (of_location x v)) = Known names x
-AllKnown names (negation p) = AllKnown names p
-AllKnown names (both p q) = AllKnown names p × AllKnown names q
-AllKnown names (either p q) = AllKnown names p × AllKnown names q
+-- the names of two phrases are known
+pub known_both : (p q : Phrase) (names : List (List ℕ)) → AllKnown names (names_in (settings_in p ++ settings_in q)) → AllKnown names (locations_in p) × AllKnown names (locations_in q)
+known_both p q names k = known_parts (locations_in p) (locations_in q) names (subst (AllKnown names) (names_in-append (settings_in p) (settings_in q)) k)
 
-all_known_more : (p : Phrase) (xs names : List (List ℕ)) → AllKnown names p → AllKnown (numbered names xs) p
-all_known_more (truth b) xs names k = tt
-all_known_more (atom (of_register core reg v)) xs names k = tt
-all_known_more (atom (of_location x v)) xs names k = known_more xs names x k
-all_known_more (negation p) xs names k = all_known_more p xs names k
-all_known_more (both p q) xs names k = (all_known_more p xs names k.0, all_known_more q xs names k.1)
-all_known_more (either p q) xs names k = (all_known_more p xs names k.0, all_known_more q xs names k.1)
-
-all_known : (p : Phrase) (names : List (List ℕ)) → AllKnown (numbered names (locations_in p)) p
-unfolding numbered
-all_known (truth b) names = tt
-all_known (atom (of_register core reg v)) names = tt
-all_known (atom (of_location x v)) names = known_with names x
-all_known (negation p) names = all_known p names
-all_known (both p q) names =
-    let one = all_known_more p (locations_in q) (numbered names (locations_in p)) (all_known p names) in
-    subst (λ (l : List (List ℕ)). AllKnown l p × AllKnown l q) (sym (numbered_both p q names)) (one, all_known q (numbered names (locations_in p)))
-all_known (either p q) names =
-    let one = all_known_more p (locations_in q) (numbered names (locations_in p)) (all_known p names) in
-    subst (λ (l : List (List ℕ)). AllKnown l p × AllKnown l q) (sym (numbered_both p q names)) (one, all_known q (numbered names (locations_in p)))
-
-pub stays : (p : Phrase) (xs names : List (List ℕ)) → AllKnown names p → claim_by (numbered names xs) p ≡ claim_by names p
+pub stays : (p : Phrase) (xs names : List (List ℕ)) → AllKnown names (locations_in p) → claim_by (numbered names xs) p ≡ claim_by names p
 stays (truth b) xs names k = refl
 stays (atom (of_register core reg v)) xs names k = refl
-stays (atom (of_location x v)) xs names k = ap (λ (n : ℕ). LocClaim n v) (number_more xs names x k)
+stays (atom (of_location x v)) xs names k = ap (λ (n : ℕ). LocClaim n v) (number_more xs names x k.0)
 stays (negation p) xs names k = ap (λ (c : Claim). NotClaim c) (stays p xs names k)
-stays (both p q) xs names k = rw (stays p xs names k.0, stays q xs names k.1) refl
-stays (either p q) xs names k = rw (stays p xs names k.0, stays q xs names k.1) refl
+stays (both p q) xs names k = let parts = known_both p q names k in rw (stays p xs names parts.0, stays q xs names parts.1) refl
+stays (either p q) xs names k = let parts = known_both p q names k in rw (stays p xs names parts.0, stays q xs names parts.1) refl
 
 -- the first claim of two, where the second brought more names
 first_stays : (p : Phrase) (xs names : List (List ℕ)) → claim_by (numbered (numbered names (locations_in p)) xs) p ≡ claim_by (numbered names (locations_in p)) p
-first_stays p xs names = stays p xs (numbered names (locations_in p)) (all_known p names)
+first_stays p xs names = stays p xs (numbered names (locations_in p)) (all_known (locations_in p) names)
 
 -- ---- what is found and what is taken
 
@@ -96,13 +68,13 @@ pub record Joining (join : Claim → Claim → Claim) (phrases : Phrase → Phra
 both_fit : (cores : ℕ) (p q : Phrase) → PhraseFits cores p → PhraseFits cores q → list_all (is_allowed cores) (settings_in p ++ settings_in q) ≡ true
 both_fit cores p q f g = list_all-append (is_allowed cores) (settings_in p) (settings_in q) ∙ and_from _ _ f g
 
-each_fits : (cores : ℕ) (p q : Phrase) → list_all (is_allowed cores) (settings_in p ++ settings_in q) ≡ true → PhraseFits cores p × PhraseFits cores q
+pub each_fits : (cores : ℕ) (p q : Phrase) → list_all (is_allowed cores) (settings_in p ++ settings_in q) ≡ true → PhraseFits cores p × PhraseFits cores q
 each_fits cores p q f = and_parts (list_all (is_allowed cores) (settings_in p)) (list_all (is_allowed cores) (settings_in q)) (sym (list_all-append (is_allowed cores) (settings_in p) (settings_in q)) ∙ f)
 
-pub joining_both : Joining reading.both both
+pub joining_both : Joining AndClaim both
 joining_both = record { claims = λ names p q. refl; locations = λ p q. names_in-append (settings_in p) (settings_in q); counts = λ p q. refl; fit = both_fit; parts_fit = each_fits }
 
-pub joining_either : Joining reading.either either
+pub joining_either : Joining OrClaim either
 joining_either = record { claims = λ names p q. refl; locations = λ p q. names_in-append (settings_in p) (settings_in q); counts = λ p q. refl; fit = both_fit; parts_fit = each_fits }
 
 names_joined : (join : Claim → Claim → Claim) (phrases : Phrase → Phrase → Phrase) → Joining join phrases → (names : List (List ℕ)) (p q : Phrase)
@@ -192,11 +164,11 @@ joined_takes s join phrases IsPart j cores unit takes atoms names ps d e =
     chain_taken s join phrases IsPart j cores unit takes (length first.0.rest) atoms names ps first.0 d a first.2
 
 pub conjunction_takes : (IsPart : List Term → Phrase → Type 0) (cores : ℕ) (unit : Proposition) → Takes cores unit IsPart → Takes cores (conjunction unit) (IsConjunction IsPart)
-conjunction_takes IsPart cores unit takes = joined_takes And reading.both both IsPart joining_both cores unit takes
+conjunction_takes IsPart cores unit takes = joined_takes And AndClaim both IsPart joining_both cores unit takes
 
 pub proposition_takes : (IsPart : List Term → Phrase → Type 0) (cores : ℕ) (unit : Proposition) → Takes cores unit IsPart → Takes cores (disjunction unit) (IsProposition IsPart)
 proposition_takes IsPart cores unit takes =
-    joined_takes Or reading.either either (IsConjunction IsPart) joining_either cores (conjunction unit) (conjunction_takes IsPart cores unit takes)
+    joined_takes Or OrClaim either (IsConjunction IsPart) joining_either cores (conjunction unit) (conjunction_takes IsPart cores unit takes)
 
 -- ---- found
 
@@ -207,7 +179,6 @@ pub record ChainAt (s : Symbol) (join : Claim → Claim → Claim) (unit : Propo
   pub enough : length rest ≤ count
   pub same : chain_of s join unit atoms names ps ≡ chain s join unit count (given_by atoms names p rest)
   pub after_it : terms rest ≡ back
-  pub last : AreLast ps rest
 
 chain_step : (s : Symbol) (join : Claim → Claim → Claim) (unit : Proposition) (k : ℕ) (c right : Claimed) (after : List Piece) → symbol_at s c.rest ≡ Some after → unit c.atoms c.names after ≡ Ok right
     → chain s join unit (suc k) c ≡ chain s join unit k (joined_to join c.claim right)
@@ -219,7 +190,7 @@ unfolding chain
 chain_ends s join unit zero c none = refl
 chain_ends s join unit (suc k) c none = rw none refl
 
-terms_length : (ps : List Piece) (ts : List Term) → terms ps ≡ ts → length ps ≡ length ts
+pub terms_length : (ps : List Piece) (ts : List Term) → terms ps ≡ ts → length ps ≡ length ts
 terms_length ps ts e = sym (length-map ps (λ p. p.term)) ∙ ap length e
 
 pub symbol_there : (s : Symbol) (ps rest : List Piece) (p : Piece) → ps ≡ p ∷ rest → p.term ≡ symbol s → symbol_at s ps ≡ Some rest
@@ -236,15 +207,12 @@ unfolding symbol_at is_symbol
 no_symbol s [] none = refl
 no_symbol s (p ∷ ps) none = rw none refl
 
-pub last_of : (unit : Proposition) → LeavesLast unit → (atoms : ℕ) (names : List (List ℕ)) (ps : List Piece) (c : Claimed) → unit atoms names ps ≡ Ok c → AreLast ps c.rest
-last_of unit leaves atoms names ps c e = keeps_ok (λ c. AreLast ps c.rest) (unit atoms names ps) c (leaves atoms names ps) e
-
-chain_started : (s : Symbol) (join : Claim → Claim → Claim) (unit : Proposition) (atoms : ℕ) (names : List (List ℕ)) (p : Phrase) (back : List Term) (ps : List Piece) → LeavesLast unit → ReadsPhrase unit atoms names p back ps
+chain_started : (s : Symbol) (join : Claim → Claim → Claim) (unit : Proposition) (atoms : ℕ) (names : List (List ℕ)) (p : Phrase) (back : List Term) (ps : List Piece) → ReadsPhrase unit atoms names p back ps
     → ChainAt s join unit atoms names p back ps
 unfolding chain_of
-chain_started s join unit atoms names p back ps leaves f =
+chain_started s join unit atoms names p back ps f =
     let same : chain_of s join unit atoms names ps ≡ chain s join unit (length f.rest) (given_by atoms names p f.rest) = rw f.is refl in
-    record { rest = f.rest; count = length f.rest; enough = omega arith; same = same; after_it = f.after_it; last = last_of unit leaves atoms names ps (given_by atoms names p f.rest) f.is }
+    record { rest = f.rest; count = length f.rest; enough = omega arith; same = same; after_it = f.after_it }
 
 pub first_allowed : (join : Claim → Claim → Claim) (phrases : Phrase → Phrase → Phrase) → Joining join phrases → (cores atoms : ℕ) (names : List (List ℕ)) (p q : Phrase)
     → IsWithin cores atoms names (phrases p q) → IsWithin cores atoms names p
@@ -265,8 +233,8 @@ second_allowed join phrases j cores atoms names p q a =
 
 chain_further : (s : Symbol) (join : Claim → Claim → Claim) (phrases : Phrase → Phrase → Phrase) → Joining join phrases → (unit : Proposition) (atoms : ℕ) (names : List (List ℕ)) (p q : Phrase)
     → (us back : List Term) (ps after : List Piece) (left : ChainAt s join unit atoms names p (symbol s ∷ us ++ back) ps) → symbol_at s left.rest ≡ Some after
-    → LeavesLast unit → ReadsPhrase unit (atoms + atoms_of p) (numbered names (locations_in p)) q back after → ChainAt s join unit atoms names (phrases p q) back ps
-chain_further s join phrases j unit atoms names p q us back ps after left at leaves right = by_count left.count left.enough left.same
+    → ReadsPhrase unit (atoms + atoms_of p) (numbered names (locations_in p)) q back after → ChainAt s join unit atoms names (phrases p q) back ps
+chain_further s join phrases j unit atoms names p q us back ps after left at right = by_count left.count left.enough left.same
   where
     by_count : (k : ℕ) → length left.rest ≤ k → chain_of s join unit atoms names ps ≡ chain s join unit k (given_by atoms names p left.rest) → ChainAt s join unit atoms names (phrases p q) back ps
     by_count zero enough same = let long = terms_length left.rest (symbol s ∷ us ++ back) left.after_it in absurd (omega arith)
@@ -281,28 +249,26 @@ chain_further s join phrases j unit atoms names p q us back ps after left at lea
           same = same ∙ chain_step s join unit k (given_by atoms names p left.rest) (given_by (atoms + atoms_of p) (numbered names (locations_in p)) q right.rest) after at right.is
               ∙ ap (λ (c : Claimed). chain s join unit k c) (sym (given_joined join phrases j atoms names p q right.rest));
           after_it = right.after_it;
-          last = last_further ps left.rest right.rest left.last (last_further left.rest after right.rest (keeps_some (AreLast left.rest) (symbol_at s left.rest) after (symbol_leaves s left.rest) at)
-              (last_of unit leaves (atoms + atoms_of p) (numbered names (locations_in p)) after (given_by (atoms + atoms_of p) (numbered names (locations_in p)) q right.rest) right.is));
         }
 
 pub chain_found : (s : Symbol) (join : Claim → Claim → Claim) (phrases : Phrase → Phrase → Phrase) (IsPart : List Term → Phrase → Type 0) → Joining join phrases
-    → (cores : ℕ) (unit : Proposition) (After : List Term → Type 0) → Finds cores unit IsPart After → LeavesLast unit → ((l : List Term) → After (symbol s ∷ l))
+    → (cores : ℕ) (unit : Proposition) (After : List Term → Type 0) → Finds cores unit IsPart After → ((l : List Term) → After (symbol s ∷ l))
     → (ts : List Term) (p : Phrase) → AreJoined s phrases IsPart ts p → (atoms : ℕ) (names : List (List ℕ)) → IsWithin cores atoms names p
     → (back : List Term) → After back → (ps : List Piece) → terms ps ≡ ts ++ back → ChainAt s join unit atoms names p back ps
-chain_found s join phrases IsPart j cores unit After finds leaves separated _ _ (one ts p is) atoms names allowed back ok ps e =
-    chain_started s join unit atoms names p back ps leaves (finds ts p is atoms names allowed back ok ps e)
-chain_found s join phrases IsPart j cores unit After finds leaves separated _ _ (more ts us p q are is) atoms names allowed back ok ps e =
-    let left = chain_found s join phrases IsPart j cores unit After finds leaves separated ts p are atoms names (first_allowed join phrases j cores atoms names p q allowed)
+chain_found s join phrases IsPart j cores unit After finds separated _ _ (one ts p is) atoms names allowed back ok ps e =
+    chain_started s join unit atoms names p back ps (finds ts p is atoms names allowed back ok ps e)
+chain_found s join phrases IsPart j cores unit After finds separated _ _ (more ts us p q are is) atoms names allowed back ok ps e =
+    let left = chain_found s join phrases IsPart j cores unit After finds separated ts p are atoms names (first_allowed join phrases j cores atoms names p q allowed)
     (symbol s ∷ us ++ back) (separated (us ++ back)) ps (e ∙ append_assoc ts (symbol s ∷ us) back) in
     let f = front left.rest (symbol s) (us ++ back) left.after_it in
     let right = finds us q is (atoms + atoms_of p) (numbered names (locations_in p)) (second_allowed join phrases j cores atoms names p q allowed) back ok f.rest f.after_it in
-    chain_further s join phrases j unit atoms names p q us back ps f.rest left (symbol_there s left.rest f.rest f.first f.parts f.is) leaves right
+    chain_further s join phrases j unit atoms names p q us back ps f.rest left (symbol_there s left.rest f.rest f.first f.parts f.is) right
 
 joined_finds : (s : Symbol) (join : Claim → Claim → Claim) (phrases : Phrase → Phrase → Phrase) (IsPart : List Term → Phrase → Type 0) → Joining join phrases
-    → (cores : ℕ) (unit : Proposition) (After : List Term → Type 0) → Finds cores unit IsPart After → LeavesLast unit → ((l : List Term) → After (symbol s ∷ l))
+    → (cores : ℕ) (unit : Proposition) (After : List Term → Type 0) → Finds cores unit IsPart After → ((l : List Term) → After (symbol s ∷ l))
     → Finds cores (chain_of s join unit) (AreJoined s phrases IsPart) (λ back. After back × (begins_with (is_symbol_term s) back ≡ false))
-joined_finds s join phrases IsPart j cores unit After finds leaves separated ts p are atoms names allowed back ok ps e =
-    let c = chain_found s join phrases IsPart j cores unit After finds leaves separated ts p are atoms names allowed back ok.0 ps e in
+joined_finds s join phrases IsPart j cores unit After finds separated ts p are atoms names allowed back ok ps e =
+    let c = chain_found s join phrases IsPart j cores unit After finds separated ts p are atoms names allowed back ok.0 ps e in
     let none : begins_with (is_symbol_term s) (terms c.rest) ≡ false = ap (λ (l : List Term). begins_with (is_symbol_term s) l) c.after_it ∙ ok.1 in
     record { rest = c.rest; is = c.same ∙ chain_ends s join unit c.count (given_by atoms names p c.rest) (no_symbol s c.rest none); after_it = c.after_it }
 
@@ -314,11 +280,11 @@ Anything back = Unit {0}
 abbrev pub EndsThere : List Term → Type 0
 EndsThere back = (Anything back × (begins_with (is_symbol_term And) back ≡ false)) × (begins_with (is_symbol_term Or) back ≡ false)
 
-pub conjunction_finds : (IsPart : List Term → Phrase → Type 0) (cores : ℕ) (unit : Proposition) → Finds cores unit IsPart Anything → LeavesLast unit
+pub conjunction_finds : (IsPart : List Term → Phrase → Type 0) (cores : ℕ) (unit : Proposition) → Finds cores unit IsPart Anything
     → Finds cores (conjunction unit) (IsConjunction IsPart) (λ back. Anything back × (begins_with (is_symbol_term And) back ≡ false))
-conjunction_finds IsPart cores unit finds leaves = joined_finds And reading.both both IsPart joining_both cores unit Anything finds leaves (λ l. tt)
+conjunction_finds IsPart cores unit finds = joined_finds And AndClaim both IsPart joining_both cores unit Anything finds (λ l. tt)
 
-pub proposition_finds : (IsPart : List Term → Phrase → Type 0) (cores : ℕ) (unit : Proposition) → Finds cores unit IsPart Anything → LeavesLast unit → Finds cores (disjunction unit) (IsProposition IsPart) EndsThere
-proposition_finds IsPart cores unit finds leaves =
-    joined_finds Or reading.either either (IsConjunction IsPart) joining_either cores (conjunction unit) (λ back. Anything back × (begins_with (is_symbol_term And) back ≡ false))
-    (conjunction_finds IsPart cores unit finds leaves) (chain_leaves And reading.both unit leaves) (λ l. (tt, refl))
+pub proposition_finds : (IsPart : List Term → Phrase → Type 0) (cores : ℕ) (unit : Proposition) → Finds cores unit IsPart Anything → Finds cores (disjunction unit) (IsProposition IsPart) EndsThere
+proposition_finds IsPart cores unit finds =
+    joined_finds Or OrClaim either (IsConjunction IsPart) joining_either cores (conjunction unit) (λ back. Anything back × (begins_with (is_symbol_term And) back ≡ false))
+    (conjunction_finds IsPart cores unit finds) (λ l. (tt, refl))

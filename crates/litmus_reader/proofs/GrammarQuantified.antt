@@ -1,9 +1,8 @@
 -- Conditions are read as they are spelled.
-use Rattle.litmus_reader.proofs.Vocabulary.{◌≡◌, ℕ, ◌≤◌, false, List, [], ◌∷◌, ◌++◌, length, None, Ok, refl, sym, ap, subst, ◌∙◌, ◌⊎◌, inl, inr, append_assoc, codes, Quantifier, Exists, NotExists, Forall, Stop, And, Or, Tilde, Term, name, symbol, Piece, is_symbol, is_symbol_term, symbol_at, name_at, most_open, there, or_unfit, word_after, Conditioned, conditioned, with_claim, quantified, not_exists, condition_at, proposition_at, in_condition, terms, IsUnit, IsProposition, IsWithin, IsQuantifier, says_exists, says_forall, says_not_exists, IsCondition, condition, Phrase}
-use Rattle.litmus_reader.proofs.GrammarTokens.{there_is, ok_is, bind_ok, or_unfit_ok, opened, symbol_takes}
-use Rattle.litmus_reader.proofs.GrammarAtoms.{word_taken}
+use Rattle.litmus_reader.proofs.Vocabulary.{◌≡◌, ℕ, ◌≤◌, false, List, [], ◌∷◌, ◌++◌, length, None, Ok, refl, sym, ap, subst, ◌∙◌, ◌⊎◌, inl, inr, append_assoc, codes, Quantifier, Exists, NotExists, Forall, Stop, And, Or, Tilde, Term, name, symbol, Piece, is_symbol, is_symbol_term, symbol_at, name_at, most_open, there, or_unfit, word_after, Conditioned, conditioned, quantified, condition_at, proposition_at, terms, IsUnit, IsProposition, IsWithin, IsQuantifier, says_exists, says_forall, says_not_exists, IsCondition, condition, Phrase, part_of, BadCondition}
+use Rattle.litmus_reader.proofs.GrammarTokens.{there_is, ok_is, bind_ok, or_unfit_ok, opened, symbol_takes, word_taken}
 use Rattle.litmus_reader.proofs.GrammarConditions.{proposition_again, proposition_spelled}
-use Rattle.litmus_reader.proofs.Readings.{condition_by, ReadsCondition, SpellsCondition, ReadsNone}
+use Rattle.litmus_reader.proofs.Readings.{with_claim, condition_by, ReadsCondition, SpellsCondition, ReadsNone}
 use Rattle.litmus_reader.proofs.GrammarPhrases.{begins_with}
 
 -- ---- found
@@ -19,7 +18,7 @@ quantified_found stop cores quantifier names ps us back p is within e no_and no_
 
 after_quantifier : (stop : Stop) (cores : ℕ) (names : List (List ℕ)) (ps : List Piece) (ts us : List Term) (quantifier : Quantifier) → IsQuantifier ts quantifier → terms ps ≡ ts ++ us
     → (rest : List Piece) × (condition_at stop cores names ps ≡ quantified stop cores quantifier names rest) × (terms rest ≡ us)
-unfolding condition_at not_exists word_after name_at symbol_at is_symbol
+unfolding condition_at word_after name_at symbol_at is_symbol
 after_quantifier stop cores names ps _ us _ says_exists e =
     opened (λ ps. (rest : List Piece) × (condition_at stop cores names ps ≡ quantified stop cores Exists names rest) × (terms rest ≡ us)) ps (name (codes "exists")) us e
     (λ p rest is after_it. (rest, rw is refl, after_it))
@@ -59,18 +58,18 @@ quantified_taken stop cores quantifier names all ps ts c le is front e =
 
 pub condition_takes : (stop : Stop) (cores : ℕ) (names : List (List ℕ)) (ps : List Piece) (c : Conditioned) → length names ≤ 16 → condition_at stop cores names ps ≡ Ok c
     → SpellsCondition cores names ps c ⊎ ReadsNone names ps c
-unfolding condition_at not_exists
+unfolding condition_at
 condition_takes stop cores names ps c le e =
     elim (there_is (word_after (codes "exists") ps) (quantified stop cores Exists names) (there (word_after (codes "forall") ps) (quantified stop cores Forall names)
-    (there (symbol_at Tilde ps) (not_exists stop cores names) (Ok (conditioned None names ps)))) (Ok c) e) [
+    (there (symbol_at Tilde ps) _ (Ok (conditioned None names ps)))) (Ok c) e) [
       | inl at ↦ inl (quantified_taken stop cores Exists names ps at.0 (name (codes "exists") ∷ []) c le says_exists (word_taken (codes "exists") ps at.0 at.1) at.2)
       | inr no_exists ↦ elim (there_is (word_after (codes "forall") ps) (quantified stop cores Forall names)
-          (there (symbol_at Tilde ps) (not_exists stop cores names) (Ok (conditioned None names ps))) (Ok c) no_exists.1) [
+          (there (symbol_at Tilde ps) _ (Ok (conditioned None names ps))) (Ok c) no_exists.1) [
             | inl at ↦ inl (quantified_taken stop cores Forall names ps at.0 (name (codes "forall") ∷ []) c le says_forall (word_taken (codes "forall") ps at.0 at.1) at.2)
-            | inr no_forall ↦ elim (there_is (symbol_at Tilde ps) (not_exists stop cores names) (Ok (conditioned None names ps)) (Ok c) no_forall.1) [
+            | inr no_forall ↦ elim (there_is (symbol_at Tilde ps) _ (Ok (conditioned None names ps)) (Ok c) no_forall.1) [
               | inl at ↦
-                  let b = bind_ok (or_unfit (in_condition stop) at.0 (word_after (codes "exists") at.0)) (λ rest. quantified stop cores NotExists names rest) c at.2 in
-                  let word = word_taken (codes "exists") at.0 b.0 (or_unfit_ok (in_condition stop) at.0 (word_after (codes "exists") at.0) b.0 b.1) in
+                  let b = bind_ok (or_unfit (part_of BadCondition stop) at.0 (word_after (codes "exists") at.0)) (λ rest. quantified stop cores NotExists names rest) c at.2 in
+                  let word = word_taken (codes "exists") at.0 b.0 (or_unfit_ok (part_of BadCondition stop) at.0 (word_after (codes "exists") at.0) b.0 b.1) in
                   inl (quantified_taken stop cores NotExists names ps b.0 (symbol Tilde ∷ name (codes "exists") ∷ []) c le says_not_exists
                   (symbol_takes Tilde ps at.0 at.1 ∙ ap (λ (l : List Term). symbol Tilde ∷ l) word) b.2)
               | inr none ↦ inr (sym (ok_is (conditioned None names ps) c none.1))

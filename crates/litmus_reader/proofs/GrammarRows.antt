@@ -1,10 +1,11 @@
 -- Rows are separated into cells as they are spelled.
-use Rattle.litmus_reader.proofs.Vocabulary.{◌≡◌, ℕ, suc, ◌+◌, ◌<◌, Bool, true, false, ltb, List, [], ◌∷◌, ◌++◌, length, Option, Some, None, Ok, Err, refl, sym, ap, subst, ◌∙◌, inl, inr, append_assoc, arith, slice_split, onto_first, position_or_len, before_first, after_first, ltb-true, lt-ltb, append-nil, slice_split-cons_yes, slice_split-cons_no, Stop, Symbol, OpenSquare, CloseSquare, Comma, Dollar, Semicolon, Bar, Term, symbol, Piece, is_symbol_term, is_symbol, name_at, Reg, Unclosed, spelled_in, row_at, terms, IsConstant, plain, with_dollar, IsMemory, in_squares, IsRegister, named, IsMnemonic, spelled, separated, IsExchange, memory_first, register_first, IsCell, stores_constant, stores_register, loads, sets_constant, fences, exchanges, locks_exchange, locks_add, moves, IsField, empty, full, AreFields, IsRow, row, fault, at_stop, remaining_of, Shape, cells_of}
-use Rattle.litmus_reader.specs.GrammarCells.{sets_register}
+use Rattle.litmus_reader.proofs.Vocabulary.{◌≡◌, ℕ, suc, ◌+◌, ◌<◌, Bool, true, false, ltb, List, [], ◌∷◌, ◌++◌, length, Option, Some, None, Ok, Err, refl, sym, ap, subst, ◌∙◌, inl, inr, append_assoc, arith, slice_split, onto_first, position_or_len, before_first, after_first, ltb-true, lt-ltb, append-nil, slice_split-cons_yes, slice_split-cons_no, Stop, Symbol, OpenSquare, CloseSquare, Comma, Dollar, Semicolon, Bar, Term, symbol, Piece, is_symbol_term, is_symbol, name_at, Unclosed, spelled_in, row_at, terms, IsCell, IsField, empty, full, AreFields, IsRow, row, fault, at_stop, remaining_of, Shape, cells_of, ArgumentTerm, codes, IsOperand, IsCall, Passes}
+use Rattle.litmus_reader.specs.GrammarCells.{IsLocked}
+use Rattle.litmus_reader.specs.GrammarCells as cells
 use Rattle.litmus_reader.specs.GrammarRows.{last, more}
-use Rattle.litmus_reader.proofs.GrammarTokens.{chosen, ok_pair, symbol_is, spelled_so}
+use Rattle.litmus_reader.proofs.GrammarTokens.{chosen, ok_pair, symbol_is, spelled_so, terms_append}
 use Rattle.litmus_reader.proofs.GrammarCells.{cell_again, cell_takes}
-use Rattle.litmus_reader.proofs.Readings.{Begins, ReadsRow, IsReadAs, AreReadAs}
+use Rattle.litmus_reader.proofs.Readings.{ReadsRow, IsReadAs, AreReadAs}
 
 -- ---- cells have no `|` and no `;`
 
@@ -30,36 +31,24 @@ bar_parts = record { no_open = refl; no_close = refl; no_comma = refl; no_dollar
 semicolon_parts : Parts Semicolon
 semicolon_parts = record { no_open = refl; no_close = refl; no_comma = refl; no_dollar = refl }
 
-constant_lacks : (s : Symbol) → Parts s → (ts : List Term) (v : ℕ) → IsConstant ts v → Lacks s ts
-constant_lacks s p _ _ (plain v) = (refl, tt)
-constant_lacks s p _ _ (with_dollar v) = (p.no_dollar, (refl, tt))
+operand_lacks : (s : Symbol) → Parts s → (ts : List Term) (o : ArgumentTerm) → IsOperand ts o → Lacks s ts
+operand_lacks s p _ _ (cells.plain v) = (refl, tt)
+operand_lacks s p _ _ (cells.with_dollar v) = (p.no_dollar, (refl, tt))
+operand_lacks s p _ _ (cells.in_squares x good) = (p.no_open, (refl, (p.no_close, tt)))
+operand_lacks s p _ _ (cells.named word reg is) = (refl, tt)
 
-memory_lacks : (s : Symbol) → Parts s → (ts : List Term) (x : List ℕ) → IsMemory ts x → Lacks s ts
-memory_lacks s p _ _ (in_squares x good) = (p.no_open, (refl, (p.no_close, tt)))
+call_lacks : (s : Symbol) → Parts s → (word : List ℕ) (ts : List Term) (a b : ArgumentTerm) → IsCall word ts a b → Lacks s ts
+call_lacks s p word _ _ _ (cells.call letters a b first second is f g) = (refl, lacks-append s a (symbol Comma ∷ b) (operand_lacks s p a first f) (p.no_comma, operand_lacks s p b second g))
 
-register_lacks : (s : Symbol) → Parts s → (ts : List Term) (reg : Reg) → IsRegister ts reg → Lacks s ts
-register_lacks s p _ _ (named word reg is) = (refl, tt)
-
-mnemonic_lacks : (s : Symbol) (word : List ℕ) (m : Term) → IsMnemonic word m → is_symbol_term s m ≡ false
-mnemonic_lacks s word _ (spelled letters is) = refl
-
-two_lack : (s : Symbol) → Parts s → (word : List ℕ) (m : Term) (a b : List Term) → IsMnemonic word m → Lacks s a → Lacks s b → Lacks s (m ∷ separated a b)
-two_lack s p word m a b is h k = (mnemonic_lacks s word m is, lacks-append s a (symbol Comma ∷ b) h (p.no_comma, k))
-
-exchange_lacks : (s : Symbol) → Parts s → (ts : List Term) (shape : Shape) → IsExchange ts shape → Lacks s ts
-exchange_lacks s p _ _ (memory_first m a b x reg is f g) = two_lack s p _ m a b is (memory_lacks s p a x f) (register_lacks s p b reg g)
-exchange_lacks s p _ _ (register_first m a b reg x is f g) = two_lack s p _ m a b is (register_lacks s p a reg f) (memory_lacks s p b x g)
+locked_lacks : (s : Symbol) → Parts s → (ts : List Term) (shape : Shape) → IsLocked ts shape → Lacks s ts
+locked_lacks s p _ _ (cells.locked_exchange ts a b shape is made) = call_lacks s p (codes "XCHG") ts a b is
+locked_lacks s p _ _ (cells.locked_addition ts a b shape is made) = call_lacks s p (codes "XADD") ts a b is
 
 cell_lacks : (s : Symbol) → Parts s → (ts : List Term) (shape : Shape) → IsCell ts shape → Lacks s ts
-cell_lacks s p _ _ (moves m a b _ is (stores_constant x v f g)) = two_lack s p _ m a b is (memory_lacks s p a x f) (constant_lacks s p b v g)
-cell_lacks s p _ _ (moves m a b _ is (stores_register x reg f g)) = two_lack s p _ m a b is (memory_lacks s p a x f) (register_lacks s p b reg g)
-cell_lacks s p _ _ (moves m a b _ is (loads reg x f g)) = two_lack s p _ m a b is (register_lacks s p a reg f) (memory_lacks s p b x g)
-cell_lacks s p _ _ (moves m a b _ is (sets_constant reg v f g)) = two_lack s p _ m a b is (register_lacks s p a reg f) (constant_lacks s p b v g)
-cell_lacks s p _ _ (moves m a b _ is (sets_register reg other f g)) = two_lack s p _ m a b is (register_lacks s p a reg f) (register_lacks s p b other g)
-cell_lacks s p _ _ (fences m is) = (mnemonic_lacks s _ m is, tt)
-cell_lacks s p _ _ (exchanges ts shape is) = exchange_lacks s p ts shape is
-cell_lacks s p _ _ (locks_exchange l ts shape lock is) = (mnemonic_lacks s _ l lock, exchange_lacks s p ts shape is)
-cell_lacks s p _ _ (locks_add l m a b x reg lock is f g) = (mnemonic_lacks s _ l lock, two_lack s p _ m a b is (memory_lacks s p a x f) (register_lacks s p b reg g))
+cell_lacks s p _ _ (cells.moves ts a b shape is made) = call_lacks s p (codes "MOV") ts a b is
+cell_lacks s p _ _ (cells.fences letters is) = (refl, tt)
+cell_lacks s p _ _ (cells.exchanges ts a b shape is made) = call_lacks s p (codes "XCHG") ts a b is
+cell_lacks s p _ _ (cells.locks letters ts shape is locked) = (refl, locked_lacks s p ts shape locked)
 
 field_lacks : (s : Symbol) → Parts s → (ts : List Term) (c : Option Shape) → IsField ts c → Lacks s ts
 field_lacks s p _ _ empty = tt
@@ -175,18 +164,18 @@ row_again stop cores ps _ back _ (row ts cells are count) e =
 
 -- ---- taken
 
-row_cut : (s : Symbol) (ps : List Piece) → position_or_len (is_symbol s) ps < length ps → terms ps ≡ terms (before_first (is_symbol s) ps) ++ symbol s ∷ terms (after_first (is_symbol s) ps)
+row_cut : (s : Symbol) (ps : List Piece) → position_or_len (is_symbol s) ps < length ps → (p : Piece) × (ps ≡ before_first (is_symbol s) ps ++ p ∷ after_first (is_symbol s) ps) × (p.term ≡ symbol s)
 row_cut s [] lt = absurd (omega arith)
 row_cut s (p ∷ ps) lt = by_first (λ h. row_cut s ps h) (is_symbol s p) refl
   where
-    by_first : (position_or_len (is_symbol s) ps < length ps → terms ps ≡ terms (before_first (is_symbol s) ps) ++ symbol s ∷ terms (after_first (is_symbol s) ps)) → (b : Bool) → is_symbol s p ≡ b
-        → terms (p ∷ ps) ≡ terms (before_first (is_symbol s) (p ∷ ps)) ++ symbol s ∷ terms (after_first (is_symbol s) (p ∷ ps))
-    by_first further true is = rw (is, symbol_is s p is) refl
+    by_first : (position_or_len (is_symbol s) ps < length ps → (q : Piece) × (ps ≡ before_first (is_symbol s) ps ++ q ∷ after_first (is_symbol s) ps) × (q.term ≡ symbol s)) → (b : Bool) → is_symbol s p ≡ b
+        → (q : Piece) × (p ∷ ps ≡ before_first (is_symbol s) (p ∷ ps) ++ q ∷ after_first (is_symbol s) (p ∷ ps)) × (q.term ≡ symbol s)
+    by_first further true is = (p, rw is refl, symbol_is s p is)
     by_first further false is =
         let lower : position_or_len (is_symbol s) (p ∷ ps) < length (p ∷ ps) = lt in
         let apart : 1 + position_or_len (is_symbol s) ps < suc (length ps) = rw is at lower in
-        let shorter : position_or_len (is_symbol s) ps < length ps = omega (arith, apart) in
-        rw (before_miss s p ps is, after_miss s p ps is) (ap (λ (l : List Term). p.term ∷ l) (further shorter))
+        let found = further (omega (arith, apart)) in
+        (found.0, rw (before_miss s p ps is, after_miss s p ps is) (ap (λ (l : List Piece). p ∷ l) found.1), found.2)
 
 -- cells with vertical bars between them
 abbrev after_bars : List (List Piece) → List Term
@@ -237,7 +226,7 @@ fields_made (ps ∷ []) (c ∷ d ∷ cs) some are = absurd are.1
 fields_made (ps ∷ qs ∷ rest) (c ∷ cs) some are = more (terms ps) (joined (qs ∷ rest)) c cs (field_made ps c are.0) (fields_made (qs ∷ rest) cs tt are.1)
 
 pub row_takes : (stop : Stop) (cores : ℕ) (ps front rest : List Piece) (cells : List (Option Shape)) → row_at stop ps ≡ Ok (front, rest) → AreReadAs (cells_of front) cells → length cells ≡ cores
-    → Begins (λ ts. IsRow cores ts cells) ps rest
+    → Passes (λ ts. IsRow cores ts cells) ps rest
 unfolding row_at
 row_takes stop cores ps front rest cells e are count =
     elim (chosen (ltb (position_or_len (is_symbol Semicolon) ps) (length ps)) (Ok (before_first (is_symbol Semicolon) ps, after_first (is_symbol Semicolon) ps))
@@ -248,10 +237,10 @@ row_takes stop cores ps front rest cells e are count =
           let split = split_joined front in
           let fields = subst (λ (ts : List Term). AreFields ts cells) split.1 (fields_made (cells_of front) cells split.0 are) in
           record {
-            ts = terms front ++ symbol Semicolon ∷ [];
-            is = row (terms front) cells fields count;
-            parts = whole ∙ ap (λ (l : List Piece). terms l ++ symbol Semicolon ∷ terms (after_first (is_symbol Semicolon) ps)) same.0
-                ∙ ap (λ (l : List Piece). terms front ++ symbol Semicolon ∷ terms l) same.1 ∙ sym (append_assoc (terms front) (symbol Semicolon ∷ []) (terms rest));
+            front = front ++ whole.0 ∷ [];
+            is = rw (terms_append front (whole.0 ∷ []), whole.2) (row (terms front) cells fields count);
+            parts = whole.1 ∙ ap (λ (l : List Piece). l ++ whole.0 ∷ after_first (is_symbol Semicolon) ps) same.0
+                ∙ ap (λ (l : List Piece). front ++ whole.0 ∷ l) same.1 ∙ sym (append_assoc front (whole.0 ∷ []) rest);
           }
       | inr miss ↦ absurd cc
     ]

@@ -1,10 +1,11 @@
 -- Rows one after the other are read as they are spelled.
-use Rattle.litmus_reader.proofs.Vocabulary.{◌≡◌, ℕ, zero, suc, ◌≤◌, ◌<◌, Bool, true, false, eqb, eqb-true, eq-eqb, IsTrue, List, [], ◌∷◌, ◌++◌, length, Option, Ok, Err, refl, sym, ap, subst, ◌∙◌, inl, inr, append_assoc, arith, codes, bytes_eq, bytes_eq-Decides, length-append, length-map, append-nil, same_letters, Stop, Semicolon, Bar, Term, symbol, Piece, is_symbol, WrongCells, CoreInstr, ◌>>=◌, cells_in, cells_of, row_at, counted, row_in, Rows, rows, rows_within, rows_at, terms, IsMnemonic, spelled, separated, IsExchange, memory_first, register_first, IsCell, stores_constant, stores_register, loads, sets_constant, fences, exchanges, locks_exchange, locks_add, moves, numbered, IsField, empty, full, AreFields, IsRow, row, AreRows, ends_rows, fault, remaining_of, Shape}
-use Rattle.litmus_reader.specs.GrammarCells.{sets_register}
+use Rattle.litmus_reader.proofs.Vocabulary.{◌≡◌, ℕ, zero, suc, ◌≤◌, ◌<◌, Bool, true, false, eqb, eqb-true, eq-eqb, IsTrue, List, [], ◌∷◌, ◌++◌, length, Option, Ok, Err, refl, sym, ap, subst, ◌∙◌, inl, inr, append_assoc, arith, codes, bytes_eq, bytes_eq-Decides, length-append, length-map, append-nil, same_letters, Stop, Semicolon, Bar, Term, symbol, Piece, is_symbol, WrongCells, CoreInstr, ◌>>=◌, cells_of, row_at, row_in, Rows, rows, rows_within, rows_at, terms, IsCell, numbered, IsField, empty, full, AreFields, IsRow, row, AreRows, ends_rows, fault, remaining_of, Shape, ArgumentTerm, IsCall, Comma, name, Passes}
+use Rattle.litmus_reader.specs.GrammarCells as cells
 use Rattle.litmus_reader.specs.GrammarRows as grammar
 use Rattle.litmus_reader.specs.GrammarTable.{none, more}
 use Rattle.litmus_reader.proofs.Placed.{Placed, placed_from, placed_in, EntriesWithin}
-use Rattle.litmus_reader.proofs.GrammarTokens.{chosen, ok_is, bind_ok}
+use Rattle.litmus_reader.proofs.GrammarTokens.{chosen, ok_is, bind_ok, terms_append}
+use Rattle.litmus_reader.proofs.GrammarPhrases.{terms_length}
 use Rattle.litmus_reader.proofs.GrammarRows.{row_again, row_takes}
 use Rattle.litmus_reader.proofs.GrammarTableEntries.{names_of, instrs_of, Read, read_of, within_first, within_none, cells_found, CellsTaken, cells_taken}
 use Rattle.litmus_reader.proofs.Readings.{AreReadAs, rows_by, ReadsPlaced, SpellsRows, ends_table}
@@ -27,36 +28,18 @@ record IsOther (word : List ℕ) : Type 0 where
   pub no_exists : same_letters (codes "exists") word ≡ false
   pub no_forall : same_letters (codes "forall") word ≡ false
 
-mnemonic_begins : (word : List ℕ) → IsOther word → (m : Term) → IsMnemonic word m → (back : List Term) → ends_table (m ∷ back) ≡ false
-mnemonic_begins word o _ (spelled letters is) back =
+mnemonic_begins : (word : List ℕ) → IsOther word → (letters : List ℕ) → IsTrue (same_letters letters word) → (back : List Term) → ends_table (name letters ∷ back) ≡ false
+mnemonic_begins word o letters is back =
     rw (other_word letters (codes "locations") word is o.no_locations, other_word letters (codes "exists") word is o.no_exists, other_word letters (codes "forall") word is o.no_forall) refl
 
-mov_other : IsOther (codes "MOV")
-mov_other = record { no_locations = refl; no_exists = refl; no_forall = refl }
-
-fence_other : IsOther (codes "MFENCE")
-fence_other = record { no_locations = refl; no_exists = refl; no_forall = refl }
-
-xchg_other : IsOther (codes "XCHG")
-xchg_other = record { no_locations = refl; no_exists = refl; no_forall = refl }
-
-lock_other : IsOther (codes "LOCK")
-lock_other = record { no_locations = refl; no_exists = refl; no_forall = refl }
-
-exchange_begins : (ts : List Term) (shape : Shape) → IsExchange ts shape → (back : List Term) → ends_table (ts ++ back) ≡ false
-exchange_begins _ _ (memory_first m a b x reg is _ _) back = mnemonic_begins (codes "XCHG") xchg_other m is (separated a b ++ back)
-exchange_begins _ _ (register_first m a b reg x is _ _) back = mnemonic_begins (codes "XCHG") xchg_other m is (separated a b ++ back)
+call_begins : (word : List ℕ) → IsOther word → (ts : List Term) (a b : ArgumentTerm) → IsCall word ts a b → (back : List Term) → ends_table (ts ++ back) ≡ false
+call_begins word o _ _ _ (cells.call letters a b first second is _ _) back = mnemonic_begins word o letters is ((a ++ symbol Comma ∷ b) ++ back)
 
 cell_begins : (ts : List Term) (shape : Shape) → IsCell ts shape → (back : List Term) → ends_table (ts ++ back) ≡ false
-cell_begins _ _ (moves m a b _ is (stores_constant x v _ _)) back = mnemonic_begins (codes "MOV") mov_other m is (separated a b ++ back)
-cell_begins _ _ (moves m a b _ is (stores_register x reg _ _)) back = mnemonic_begins (codes "MOV") mov_other m is (separated a b ++ back)
-cell_begins _ _ (moves m a b _ is (loads reg x _ _)) back = mnemonic_begins (codes "MOV") mov_other m is (separated a b ++ back)
-cell_begins _ _ (moves m a b _ is (sets_constant reg v _ _)) back = mnemonic_begins (codes "MOV") mov_other m is (separated a b ++ back)
-cell_begins _ _ (moves m a b _ is (sets_register reg other _ _)) back = mnemonic_begins (codes "MOV") mov_other m is (separated a b ++ back)
-cell_begins _ _ (fences m is) back = mnemonic_begins (codes "MFENCE") fence_other m is back
-cell_begins _ _ (exchanges ts shape is) back = exchange_begins ts shape is back
-cell_begins _ _ (locks_exchange l ts shape is _) back = mnemonic_begins (codes "LOCK") lock_other l is (ts ++ back)
-cell_begins _ _ (locks_add l m a b x reg is _ _ _) back = mnemonic_begins (codes "LOCK") lock_other l is (m ∷ separated a b ++ back)
+cell_begins _ _ (cells.moves ts a b shape is _) back = call_begins (codes "MOV") (record { no_locations = refl; no_exists = refl; no_forall = refl }) ts a b is back
+cell_begins _ _ (cells.fences letters is) back = mnemonic_begins (codes "MFENCE") (record { no_locations = refl; no_exists = refl; no_forall = refl }) letters is back
+cell_begins _ _ (cells.exchanges ts a b shape is _) back = call_begins (codes "XCHG") (record { no_locations = refl; no_exists = refl; no_forall = refl }) ts a b is back
+cell_begins _ _ (cells.locks letters ts shape is _) back = mnemonic_begins (codes "LOCK") (record { no_locations = refl; no_exists = refl; no_forall = refl }) letters is (ts ++ back)
 
 field_begins : (ts : List Term) (c : Option Shape) → IsField ts c → (t : Term) (back : List Term) → ends_table (t ∷ back) ≡ false → ends_table (ts ++ t ∷ back) ≡ false
 field_begins _ _ empty t back other = other
@@ -80,9 +63,6 @@ pub ends_is : (ps : List Piece) → ends_rows ps ≡ ends_table (terms ps)
 unfolding ends_rows is_symbol
 ends_is [] = refl
 ends_is (p ∷ ps) = refl
-
-terms_length : (ps : List Piece) (ts : List Term) → terms ps ≡ ts → length ps ≡ length ts
-terms_length ps ts e = sym (length-map ps (λ p. p.term)) ∙ ap length e
 
 -- a row is a token or more
 pub row_shorter : (cores : ℕ) (ts : List Term) (cells : List (Option Shape)) (ps rest : List Piece) → IsRow cores ts cells → terms ps ≡ ts ++ terms rest → length rest < length ps
@@ -116,12 +96,8 @@ pub row_taken : (cores remaining : ℕ) (names : List (List ℕ)) (done : List P
     → row_in cores remaining (instrs_of names done) (names_of names done) front ≡ Ok r → RowTaken cores names done front r
 unfolding row_in
 row_taken cores remaining names done front r h e =
-    let b = bind_ok (counted cores remaining (cells_of front)) (λ cells. cells_in 0 (instrs_of names done) (names_of names done) cells) r e in
-    elim (chosen (eqb (length (cells_of front)) cores) (Ok (cells_of front)) (Err (fault WrongCells remaining)) (Ok b.0) b.1) [
-      | inl hit ↦
-          let further : cells_in 0 (instrs_of names done) (names_of names done) (cells_of front) ≡ Ok r =
-          ap (λ (l : List (List Piece)). cells_in 0 (instrs_of names done) (names_of names done) l) (ok_is (cells_of front) b.0 hit.1) ∙ b.2 in
-          record { count = eqb-true _ _ hit.0; cells = cells_taken (cells_of front) 0 names done r h further }
+    elim (chosen (eqb (length (cells_of front)) cores) _ (Err (fault WrongCells remaining)) (Ok r) e) [
+      | inl hit ↦ record { count = eqb-true _ _ hit.0; cells = cells_taken (cells_of front) 0 names done r h hit.1 }
       | inr miss ↦ absurd cc
     ]
 
@@ -177,7 +153,7 @@ rows_found stop cores names _ _ (more ts us cells others is are) n ps enough don
 
 pub rows_again : (stop : Stop) (cores : ℕ) (names : List (List ℕ)) (ps : List Piece) (ts back : List Term) (table : List (List (Option Shape))) → AreRows cores ts table
     → EntriesWithin names (placed_in table) → terms ps ≡ ts ++ back → ends_table back ≡ true → ReadsPlaced (rows_at stop cores names ps) names (placed_in table) back
-unfolding rows_at numbered
+unfolding numbered
 rows_again stop cores names ps ts back table are h e end =
     let f = rows_found stop cores names ts table are (length ps) ps (omega arith) [] h back e end in
     record { rest = f.rest; is = f.is; after_it = f.after_it }
@@ -185,10 +161,8 @@ rows_again stop cores names ps ts back table are h e end =
 -- ---- rows taken
 
 record RowsTaken (cores : ℕ) (names : List (List ℕ)) (done : List Placed) (ps : List Piece) (r : Rows) : Type 0 where
-  pub ts : List Term
   pub table : List (List (Option Shape))
-  pub are : AreRows cores ts table
-  pub parts : terms ps ≡ ts ++ terms r.rest
+  pub spelled : Passes (λ ts. AreRows cores ts table) ps r.rest
   pub within : EntriesWithin names (done ++ placed_in table)
   pub given : r ≡ rows_by names (done ++ placed_in table) r.rest
   pub ended : ends_rows r.rest ≡ true
@@ -198,10 +172,8 @@ no_more : (cores : ℕ) (names : List (List ℕ)) (done : List Placed) (ps : Lis
 no_more cores names done ps r h end is =
     let same = append-nil done in
     subst (λ (r : Rows). RowsTaken cores names done ps r) is (record {
-      ts = [];
       table = [];
-      are = none;
-      parts = refl;
+      spelled = record { front = []; parts = refl; is = none };
       within = subst (λ (l : List Placed). EntriesWithin names l) (sym same) h;
       given = ap (λ (l : List Placed). rows_by names l ps) (sym same);
       ended = end;
@@ -224,16 +196,18 @@ rows_taken (suc n) stop cores names done ps r enough h e =
           let one = placed_from 0 cells in
           let count : length cells ≡ cores = sym (as_many (cells_of a.0.0) cells t.cells.are) ∙ t.count in
           let front = row_takes stop cores ps a.0.0 a.0.1 cells a.1 t.cells.are count in
-          let shorter = row_shorter cores front.ts cells ps a.0.1 front.is front.parts in
+          let shorter = row_shorter cores (terms front.front) cells ps a.0.1 front.is (ap terms front.parts ∙ terms_append front.front a.0.1) in
           let further : rows_within n stop cores (instrs_of names (done ++ one)) (names_of names (done ++ one)) a.0.1 ≡ Ok r =
           ap (λ (read : Read). rows_within n stop cores read.0 read.1 a.0.1) (sym t.cells.given) ∙ b.2 in
           let others = rows_taken n stop cores names (done ++ one) a.0.1 r (omega arith) t.cells.within further in
           let regroup : (done ++ one) ++ placed_in others.table ≡ done ++ (one ++ placed_in others.table) = append_assoc done one (placed_in others.table) in
           record {
-            ts = front.ts ++ others.ts;
             table = cells ∷ others.table;
-            are = more front.ts others.ts cells others.table front.is others.are;
-            parts = front.parts ∙ ap (λ (l : List Term). front.ts ++ l) others.parts ∙ sym (append_assoc front.ts others.ts (terms r.rest));
+            spelled = record {
+              front = front.front ++ others.spelled.front;
+              parts = front.parts ∙ ap (λ (l : List Piece). front.front ++ l) others.spelled.parts ∙ sym (append_assoc front.front others.spelled.front r.rest);
+              is = rw (terms_append front.front others.spelled.front) (more (terms front.front) (terms others.spelled.front) cells others.table front.is others.spelled.is);
+            };
             within = subst (λ (l : List Placed). EntriesWithin names l) regroup others.within;
             given = others.given ∙ ap (λ (l : List Placed). rows_by names l r.rest) regroup;
             ended = others.ended;
@@ -241,7 +215,7 @@ rows_taken (suc n) stop cores names done ps r enough h e =
     ]
 
 pub rows_take : (stop : Stop) (cores : ℕ) (names : List (List ℕ)) (ps : List Piece) (r : Rows) → length names ≤ 16 → rows_at stop cores names ps ≡ Ok r → SpellsRows cores names ps r
-unfolding rows_at numbered
+unfolding numbered
 rows_take stop cores names ps r le e =
     let t = rows_taken (length ps) stop cores names [] ps r (omega arith) (within_none names le) e in
-    record { ts = t.ts; table = t.table; are = t.are; parts = t.parts; within = t.within; given = t.given; ended = t.ended }
+    record { table = t.table; spelled = t.spelled; within = t.within; given = t.given; ended = t.ended }

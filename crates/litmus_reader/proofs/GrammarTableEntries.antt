@@ -1,10 +1,10 @@
 -- Entries of rows: their instructions and locations, as cells are read one after the other.
-use Rattle.litmus_reader.proofs.Vocabulary.{◌≡◌, ℕ, ◌+◌, ◌≤◌, ◌<◌, Bool, true, false, cond, eqb, eqb-true, eq-eqb, ltb, List, [], ◌∷◌, ◌++◌, length, Option, Some, None, Result, Ok, Err, refl, sym, ap, subst, ◌∙◌, inl, inr, append_assoc, arith, count_by, bytes_eq, ltb-true, lt-ltb, append-nil, map-append, sum_by-append, Loc, Instr, StoreImm, StoreReg, Load, SetImm, SetReg, Fence, Xchg, Xadd, Piece, TooLarge, Fault, CoreInstr, ◌>>=◌, located, word_at, spelled_in, instr_of, count_of, or_bad_instruction, cell_in, of_core, cells_in, numbered, number_of, with_name, location, location_in, instr_with, ValueFits, fault, Shape, store_imm, store_reg, load, set_imm, set_reg, fence, xchg, xadd}
+use Rattle.litmus_reader.proofs.Vocabulary.{◌≡◌, ℕ, ◌+◌, ◌≤◌, ◌<◌, Bool, true, false, cond, eqb, eqb-true, eq-eqb, ltb, List, [], ◌∷◌, ◌++◌, length, Option, Some, None, Result, Ok, Err, refl, sym, ap, subst, ◌∙◌, inl, inr, append_assoc, arith, count_by, bytes_eq, ltb-true, lt-ltb, append-nil, map-append, sum_by-append, Loc, Instr, StoreImm, StoreReg, Load, SetImm, SetReg, Fence, Xchg, Xadd, Piece, TooLarge, Fault, CoreInstr, ◌>>=◌, located, word_at, spelled_in, instr_of, count_of, cell_in, of_core, cells_in, numbered, number_of, with_name, location, location_in, instr_with, ValueFits, fault, Shape, store_imm, store_reg, load, set_imm, set_reg, fence, xchg, xadd, or_fault, BadInstruction}
 use Rattle.litmus_reader.proofs.Placed.{Placed, placed, placed_from, locations_of, instrs_with, ValuesFit, EntriesWithin}
-use Rattle.litmus_reader.proofs.GrammarTokens.{chosen, ok_is, ok_pair, bind_ok}
-use Rattle.litmus_reader.proofs.GrammarNames.{place_below, known_with, number_with, numbered_append, grows}
+use Rattle.litmus_reader.proofs.GrammarTokens.{chosen, ok_is, ok_pair, bind_ok, or_fault_ok}
+use Rattle.litmus_reader.proofs.GrammarNames.{place_below, known_with, number_with, numbered_append, grows, all_known}
 use Rattle.litmus_reader.proofs.GrammarAtoms.{word_is, word_ok, located_ok, room_with}
-use Rattle.litmus_reader.proofs.GrammarShapes.{entries_known, instrs_stay}
+use Rattle.litmus_reader.proofs.GrammarShapes.{instrs_stay}
 use Rattle.litmus_reader.proofs.Readings.{AreReadAs}
 
 -- ---- entries so far
@@ -43,7 +43,7 @@ read-push names xs core shape =
     let last = of_core core (instr_with new shape) ∷ [] in
     let instrs : instrs_with new (xs ++ placed core shape ∷ []) ≡ instrs_of names xs ++ last =
     map-append (λ (e : Placed). of_core e.core (instr_with new e.shape)) xs (placed core shape ∷ [])
-    ∙ ap (λ (l : List CoreInstr). l ++ last) (instrs_stay xs (location_in shape) (names_of names xs) (entries_known xs names)) in
+    ∙ ap (λ (l : List CoreInstr). l ++ last) (instrs_stay xs (location_in shape) (names_of names xs) (all_known (locations_of xs) names)) in
     let pair : List CoreInstr → Read = λ l. (l, new) in
     ap pair (sym instrs) ∙ ap (λ (l : List (List ℕ)). (let r : Read = (instrs_with l (xs ++ placed core shape ∷ []), l) in r)) (sym (names-push names xs core shape))
 
@@ -154,10 +154,6 @@ instr_taken remaining names (xadd x reg) r e =
 
 -- ---- cells
 
-or_bad_ok : (remaining : ℕ) (o : Option Shape) (shape : Shape) → or_bad_instruction remaining o ≡ Ok shape → o ≡ Some shape
-or_bad_ok remaining (Some other) shape e = ap (λ (s : Shape). Some s) (ok_is other shape e)
-or_bad_ok remaining None shape e = absurd cc
-
 pub cell_found : (core : ℕ) (names : List (List ℕ)) (done : List Placed) (p : Piece) (ps : List Piece) (shape : Shape) → spelled_in (p ∷ ps) ≡ Some shape → EntriesWithin names (done ++ placed core shape ∷ [])
     → cell_in core (instrs_of names done) (names_of names done) (p ∷ ps) ≡ Ok (read_of names (done ++ placed core shape ∷ []))
 unfolding cell_in
@@ -203,7 +199,7 @@ pub cell_taken : (core : ℕ) (names : List (List ℕ)) (done : List Placed) (p 
 unfolding cell_in
 cell_taken core names done p ps r h e =
     let before = names_of names done in
-    let s = bind_ok (or_bad_instruction p.remaining (spelled_in (p ∷ ps))) _ r e in
+    let s = bind_ok (or_fault (spelled_in (p ∷ ps)) (fault BadInstruction p.remaining)) _ r e in
     let i = bind_ok (instr_of p.remaining before s.0) _ r s.2 in
     let t = instr_taken p.remaining before s.0 i.0 i.1 in
     elim (chosen (ltb (count_of core (instrs_of names done)) 32) (Ok (instrs_of names done ++ of_core core i.0.0 ∷ [], i.0.1)) (Err (fault TooLarge p.remaining)) (Ok r) i.2) [
@@ -212,7 +208,7 @@ cell_taken core names done p ps r h e =
           let room : count_in core done < 32 = omega (arith, below, count-instrs core before done) in
           record {
             shape = s.0;
-            is = or_bad_ok p.remaining (spelled_in (p ∷ ps)) s.0 s.1;
+            is = or_fault_ok (spelled_in (p ∷ ps)) _ s.0 s.1;
             within = within_push core names done s.0 h t.fits room (t.room h.room);
             given = sym (ok_is (instrs_of names done ++ of_core core i.0.0 ∷ [], i.0.1) r hit.1)
                 ∙ ap (λ (n : Instr). (let r : Read = (instrs_of names done ++ of_core core n ∷ [], i.0.1) in r)) t.instr_is

@@ -1,5 +1,5 @@
 -- Tokens at the front, found and taken.
-use Rattle.litmus_reader.proofs.Vocabulary.{◌≡◌, ℕ, Bool, true, false, cond, List, [], ◌∷◌, Option, Some, None, Result, Ok, Err, refl, sym, ap, ◌∙◌, ◌⊎◌, inl, inr, bytes_eq, bytes_eq-Decides, Symbol, Equals, Semicolon, Colon, OpenSquare, CloseSquare, OpenCurly, CloseCurly, Bar, Comma, Dollar, Tilde, OpenRound, CloseRound, And, Or, Term, number, name, symbol, spelling_of, symbols, symbol_of, Piece, is_symbol_term, is_symbol, symbol_at, name_then, name_at, number_then, number_at, Fault, Part, ◌>>=◌, there, or_unfit, terms}
+use Rattle.litmus_reader.proofs.Vocabulary.{◌≡◌, ℕ, Bool, true, false, cond, List, [], ◌∷◌, Option, Some, None, Result, Ok, Err, refl, sym, ap, ◌∙◌, ◌⊎◌, inl, inr, bytes_eq, bytes_eq-Decides, Symbol, Equals, Semicolon, Colon, OpenSquare, CloseSquare, OpenCurly, CloseCurly, Bar, Comma, Dollar, Tilde, OpenRound, CloseRound, And, Or, Term, number, name, symbol, spelling_of, symbols, symbol_of, Piece, is_symbol_term, is_symbol, symbol_at, name_then, name_at, number_then, number_at, Fault, Part, ◌>>=◌, there, or_unfit, terms, or_fault, word_after, ◌++◌}
 
 -- which way a test went
 pub chosen : {A : Type 0} (b : Bool) (x y z : A) → cond b x y ≡ z → ((b ≡ true) × (x ≡ z)) ⊎ ((b ≡ false) × (y ≡ z))
@@ -31,9 +31,12 @@ pub bind_ok : {A B : Type 0} (r : Result A Fault) (f : A → Result B Fault) (y 
 bind_ok (Ok x) f y e = (x, refl, e)
 bind_ok (Err d) f y e = absurd cc
 
+pub or_fault_ok : {A : Type 0} (o : Option A) (f : Fault) (x : A) → or_fault o f ≡ Ok x → o ≡ Some x
+or_fault_ok (Some y) f x e = ap (λ a. Some a) (ok_is y x e)
+or_fault_ok None f x e = absurd cc
+
 pub or_unfit_ok : {A : Type 0} (part : Part) (ps : List Piece) (o : Option A) (x : A) → or_unfit part ps o ≡ Ok x → o ≡ Some x
-or_unfit_ok part ps (Some y) x e = ap (λ a. Some a) (ok_is y x e)
-or_unfit_ok part ps None x e = absurd cc
+or_unfit_ok part ps o x e = or_fault_ok o _ x e
 
 -- ---- found
 
@@ -60,25 +63,42 @@ no_terms (p ∷ ps) e = absurd cc
 
 -- ---- taken
 
-pub number_takes : (ps rest : List Piece) (digits : List ℕ) → number_at ps ≡ Some (digits, rest) → terms ps ≡ number digits ∷ terms rest
+pub terms_append : (xs ys : List Piece) → terms (xs ++ ys) ≡ terms xs ++ terms ys
+terms_append [] ys = refl
+terms_append (x ∷ xs) ys = ap (λ (l : List Term). x.term ∷ l) (terms_append xs ys)
+
+-- this token stands at the front, and after it the rest
+abbrev pub Takes : Term → List Piece → List Piece → Type 0
+Takes t ps rest = (p : Piece) × (ps ≡ p ∷ rest) × (p.term ≡ t)
+
+pub takes : (t : Term) (ps rest : List Piece) → Takes t ps rest → terms ps ≡ t ∷ terms rest
+takes t ps rest found = rw (found.1, found.2) refl
+
+pub number_found : (ps rest : List Piece) (digits : List ℕ) → number_at ps ≡ Some (digits, rest) → Takes (number digits) ps rest
 unfolding number_at
-number_takes [] rest digits e = absurd cc
-number_takes (p ∷ ps) rest digits e = by_term p.term refl e
+number_found [] rest digits e = absurd cc
+number_found (p ∷ ps) rest digits e = by_term p.term refl e
   where
-    by_term : (t : Term) → p.term ≡ t → number_then t ps ≡ Some (digits, rest) → terms (p ∷ ps) ≡ number digits ∷ terms rest
-    by_term (number d) is h = let same = pair_is d digits ps rest h in rw (is, same.0, same.1) refl
+    by_term : (t : Term) → p.term ≡ t → number_then t ps ≡ Some (digits, rest) → Takes (number digits) (p ∷ ps) rest
+    by_term (number d) is h = let same = pair_is d digits ps rest h in (p, ap (λ l. p ∷ l) same.1, is ∙ ap (λ d. number d) same.0)
     by_term (name x) is h = absurd cc
     by_term (symbol s) is h = absurd cc
 
-pub name_takes : (ps rest : List Piece) (x : List ℕ) → name_at ps ≡ Some (x, rest) → terms ps ≡ name x ∷ terms rest
+pub name_found : (ps rest : List Piece) (x : List ℕ) → name_at ps ≡ Some (x, rest) → Takes (name x) ps rest
 unfolding name_at
-name_takes [] rest x e = absurd cc
-name_takes (p ∷ ps) rest x e = by_term p.term refl e
+name_found [] rest x e = absurd cc
+name_found (p ∷ ps) rest x e = by_term p.term refl e
   where
-    by_term : (t : Term) → p.term ≡ t → name_then t ps ≡ Some (x, rest) → terms (p ∷ ps) ≡ name x ∷ terms rest
+    by_term : (t : Term) → p.term ≡ t → name_then t ps ≡ Some (x, rest) → Takes (name x) (p ∷ ps) rest
     by_term (number d) is h = absurd cc
-    by_term (name y) is h = let same = pair_is y x ps rest h in rw (is, same.0, same.1) refl
+    by_term (name y) is h = let same = pair_is y x ps rest h in (p, ap (λ l. p ∷ l) same.1, is ∙ ap (λ y. name y) same.0)
     by_term (symbol s) is h = absurd cc
+
+pub number_takes : (ps rest : List Piece) (digits : List ℕ) → number_at ps ≡ Some (digits, rest) → terms ps ≡ number digits ∷ terms rest
+number_takes ps rest digits e = takes (number digits) ps rest (number_found ps rest digits e)
+
+pub name_takes : (ps rest : List Piece) (x : List ℕ) → name_at ps ≡ Some (x, rest) → terms ps ≡ name x ∷ terms rest
+name_takes ps rest x e = takes (name x) ps rest (name_found ps rest x e)
 
 -- a symbol is found by its spelling
 found_again : (s : Symbol) → symbol_of (spelling_of s) ≡ Some (s, [])
@@ -118,11 +138,27 @@ symbol_is s p e = by_term p.term refl e
     by_term (name x) is h = absurd cc
     by_term (symbol t) is h = is ∙ ap (λ (u : Symbol). symbol u) (sym (spelling_tells s t ((bytes_eq-Decides (spelling_of s) (spelling_of t)).0 h)))
 
-pub symbol_takes : (s : Symbol) (ps rest : List Piece) → symbol_at s ps ≡ Some rest → terms ps ≡ symbol s ∷ terms rest
+pub symbol_found : (s : Symbol) (ps rest : List Piece) → symbol_at s ps ≡ Some rest → Takes (symbol s) ps rest
 unfolding symbol_at
-symbol_takes s [] rest e = absurd cc
-symbol_takes s (p ∷ ps) rest e =
+symbol_found s [] rest e = absurd cc
+symbol_found s (p ∷ ps) rest e =
     elim (chosen (is_symbol s p) (Some ps) None (Some rest) e) [
-      | inl hit ↦ let same : ps ≡ rest = some_is ps rest hit.1 in rw (symbol_is s p hit.0, same) refl
+      | inl hit ↦ (p, ap (λ (l : List Piece). p ∷ l) (some_is ps rest hit.1), symbol_is s p hit.0)
       | inr miss ↦ absurd cc
     ]
+
+pub symbol_takes : (s : Symbol) (ps rest : List Piece) → symbol_at s ps ≡ Some rest → terms ps ≡ symbol s ∷ terms rest
+symbol_takes s ps rest e = takes (symbol s) ps rest (symbol_found s ps rest e)
+
+pub word_found : (word : List ℕ) (ps rest : List Piece) → word_after word ps ≡ Some rest → Takes (name word) ps rest
+unfolding word_after
+word_found word ps rest e =
+    let n = there_some (name_at ps) _ rest e in
+    let found = name_found ps n.0.1 n.0.0 n.1 in
+    elim (chosen (bytes_eq n.0.0 word) (Some n.0.1) None (Some rest) n.2) [
+      | inl hit ↦ (found.0, found.1 ∙ ap (λ l. found.0 ∷ l) (some_is n.0.1 rest hit.1), found.2 ∙ ap (λ x. name x) ((bytes_eq-Decides n.0.0 word).0 hit.0))
+      | inr miss ↦ absurd cc
+    ]
+
+pub word_taken : (word : List ℕ) (ps rest : List Piece) → word_after word ps ≡ Some rest → terms ps ≡ name word ∷ terms rest
+word_taken word ps rest e = takes (name word) ps rest (word_found word ps rest e)

@@ -1,5 +1,5 @@
 -- All items of the initial state, one after the other.
-use Rattle.litmus_reader.proofs.Vocabulary.{◌≡◌, ℕ, zero, suc, ◌≤◌, ◌<◌, List, [], ◌∷◌, length, Some, None, Result, Ok, Err, refl, sym, ap, ◌∙◌, arith, Stop, Symbol, CloseCurly, Piece, symbol_at, name_at, number_at, Fault, Part, ReadError, Fails, ◌>>=◌, location_at, plain_setting, setting_at, Initial, initial, item_in, step_in, items_within, items_at, opened_at, initial_at, unfit, remaining_of, in_initial}
+use Rattle.litmus_reader.proofs.Vocabulary.{◌≡◌, ℕ, zero, suc, ◌≤◌, ◌<◌, List, [], ◌∷◌, length, Some, None, Result, Ok, Err, refl, sym, ap, ◌∙◌, arith, Stop, Symbol, CloseCurly, Piece, symbol_at, name_at, number_at, Fault, Part, ReadError, Fails, ◌>>=◌, location_at, plain_setting, setting_at, Initial, initial, item_in, step_in, items_within, items_at, initial_at, unfit, remaining_of, in_initial, or_unfit, before_opening, Unclosed, OpenCurly}
 use Rattle.litmus_cells.specs.declared.fault.ReadError.TheVariants as errors
 
 abbrev pub ReadItems : Type 0
@@ -12,7 +12,6 @@ pub record ItemsAfter (part : Part) (i : Initial) (ps : List Piece) (total : Rea
   pub same : items_within count part i ps ≡ total
 
 pub items_start : (part : Part) (names : List (List ℕ)) (ps : List Piece) → ItemsAfter part (initial names [] []) ps (items_at part names ps)
-unfolding items_at
 items_start part names ps = record { count = length ps; enough = omega arith; same = refl }
 
 nothing_left : (symbol : Symbol) (ps : List Piece) → length ps ≤ 0 → symbol_at symbol ps ≡ None
@@ -62,16 +61,16 @@ item_fails (errors.Fault f) part i ps total at is b = by_count b.count b.enough 
     by_count (suc n) enough same = sym same ∙ step n part i ps at ∙ ap (λ (r : ReadItems). r >>= λ read. items_within n part read.0 read.1) is
 
 pub initial_done : (stop : Stop) (part : Part) (names : List (List ℕ)) (ps rest : List Piece) (x : Initial × List Piece)
-    → part ≡ in_initial (remaining_of ps) stop → Ok rest ≡ opened_at stop ps → items_at part names rest ≡ Ok x → initial_at stop names ps ≡ Ok x
+    → part ≡ in_initial (remaining_of ps) stop → Ok rest ≡ or_unfit (before_opening Unclosed stop) ps (symbol_at OpenCurly ps) → items_at part names rest ≡ Ok x → initial_at stop names ps ≡ Ok x
 unfolding initial_at
 initial_done stop part names ps rest x same at is = rw (← at, ← same, is) refl
 
 pub initial_fails : (e : ReadError) (stop : Stop) (part : Part) (names : List (List ℕ)) (ps rest : List Piece)
-    → part ≡ in_initial (remaining_of ps) stop → Ok rest ≡ opened_at stop ps → Fails e (items_at part names rest) → Fails e (initial_at stop names ps)
+    → part ≡ in_initial (remaining_of ps) stop → Ok rest ≡ or_unfit (before_opening Unclosed stop) ps (symbol_at OpenCurly ps) → Fails e (items_at part names rest) → Fails e (initial_at stop names ps)
 unfolding initial_at
 initial_fails errors.NoMemory stop part names ps rest same at is = tt
 initial_fails (errors.Fault f) stop part names ps rest same at is = rw (← at, ← same, is) refl
 
-pub never_opened : (f : Fault) (stop : Stop) (names : List (List ℕ)) (ps : List Piece) → Err f ≡ opened_at stop ps → initial_at stop names ps ≡ Err f
+pub never_opened : (f : Fault) (stop : Stop) (names : List (List ℕ)) (ps : List Piece) → Err f ≡ or_unfit (before_opening Unclosed stop) ps (symbol_at OpenCurly ps) → initial_at stop names ps ≡ Err f
 unfolding initial_at
 never_opened f stop names ps at = rw (← at) refl

@@ -1,5 +1,5 @@
 -- Searches and cuts of a list, seen through a map.
-use Rattle.litmus_reader.proofs.Vocabulary.{◌≡◌, ℕ, ◌+◌, Bool, true, false, cond, ltb, not, ◌||◌, List, [], ◌∷◌, length, map, Some, None, refl, sym, ap, ◌⊎◌, inl, inr, arith, position, position_or_len, prefix_len, list_any, slice_split, onto_first, ltb-false, prefix_len-le-length}
+use Rattle.litmus_reader.proofs.Vocabulary.{◌≡◌, ℕ, ◌+◌, Bool, true, false, cond, ltb, not, List, [], ◌∷◌, length, map, Some, None, refl, sym, ap, ◌⊎◌, inl, inr, arith, position, position_or_len, prefix_len, list_any, slice_split, onto_first, ltb-false, prefix_len-le-length, ◌||◌}
 
 -- which way a test went
 pub chosen : {A : Type 0} (b : Bool) (x y z : A) → cond b x y ≡ z → ((b ≡ true) × (x ≡ z)) ⊎ ((b ≡ false) × (y ≡ z))

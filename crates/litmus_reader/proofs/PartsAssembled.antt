@@ -1,17 +1,15 @@
 -- The lists of a test's parts, one item more at a time.
-use Rattle.litmus_reader.proofs.Vocabulary.{◌≡◌, ◌==◌, ℕ, zero, suc, ◌+◌, ◌<◌, ◌≤◌, Bool, true, false, cond, List, [], ◌∷◌, ◌++◌, length, take, drop, get_or, All, refl, sym, ap, subst, ◌∙◌, add-one, drop-cons, append_assoc, arith, get_or-map, map-append, append-nil, nil_from_length, length-drop, take-suc, Instr, CoreInstr, texts, program_of, programs_from}
+use Rattle.litmus_reader.proofs.Vocabulary.{◌≡◌, ◌==◌, ℕ, zero, suc, ◌+◌, ◌<◌, ◌≤◌, Bool, true, false, cond, List, [], ◌∷◌, ◌++◌, length, take, drop, get_or, All, refl, sym, ap, subst, ◌∙◌, add-one, drop-cons, append_assoc, arith, get_or-map, map-append, append-nil, nil_from_length, length-drop, take-suc, Instr, CoreInstr, texts, program_of, range_with_len, map}
 use denote.Ref.{Bor}
 
-programs_from-suc : (core n : ℕ) (instrs : List CoreInstr) → programs_from core (suc n) instrs ≡ programs_from core n instrs ++ program_of instrs (core + n) ∷ []
-programs_from-suc core zero instrs = let e : core + 0 ≡ core = omega arith in rw e refl
-programs_from-suc core (suc n) instrs =
-    let e : core + suc n ≡ core + 1 + n = omega arith in
-    rw e (ap (λ (l : List (List Instr)). program_of instrs core ∷ l) (programs_from-suc (core + 1) n instrs))
+range_next : (a n : ℕ) → range_with_len a (suc n) ≡ range_with_len a n ++ (a + n) ∷ []
+range_next a zero = let e : a + 0 ≡ a = omega arith in rw e refl
+range_next a (suc n) = let e : a + suc n ≡ a + 1 + n = omega arith in rw e (ap (λ (l : List ℕ). a ∷ l) (range_next (a + 1) n))
 
-pub programs_next : (core : ℕ) (instrs : List CoreInstr) → programs_from 0 (core + 1) instrs ≡ programs_from 0 core instrs ++ program_of instrs core ∷ []
+pub programs_next : (core : ℕ) (instrs : List CoreInstr) → map (program_of instrs) (range_with_len 0 (core + 1)) ≡ map (program_of instrs) (range_with_len 0 core) ++ program_of instrs core ∷ []
 programs_next core instrs =
     let e : 0 + core ≡ core = omega arith in
-    rw add-one (programs_from-suc 0 core instrs ∙ ap (λ (k : ℕ). programs_from 0 core instrs ++ program_of instrs k ∷ []) e)
+    rw add-one (ap (map (program_of instrs)) (range_next 0 core ∙ ap (λ (n : ℕ). range_with_len 0 core ++ n ∷ []) e) ∙ map-append (program_of instrs) (range_with_len 0 core) (core ∷ []))
 
 pub texts_next : (names : List (Bor (List ℕ))) (i : ℕ) (d : Bor (List ℕ)) → i < length names → texts (take (i + 1) names) ≡ texts (take i names) ++ (get_or names i d).now ∷ []
 texts_next names i d lt = rw add-one (ap texts (take-suc names i d lt) ∙ map-append (λ x. x.now) (take i names) (get_or names i d ∷ []))

@@ -1,6 +1,6 @@
 -- What readings give, as proofs speak of it.
 use Rattle.std.specs.Prelude.{◌≡◌, List, ◌++◌, Result, Ok, ℕ, true, [], ◌∷◌, length, IsTrue, Option, Some, None, ◌+◌, Bool, ◌||◌}
-use Rattle.litmus_reader.proofs.Vocabulary.{Term, Piece, Fault, Initial, words_of, registers_of, numbered, Stop, row_at, Rows, rows, terms, spelled_in, Claimed, claimed, Proposition, Conditioned, conditioned, with_claim, Quantifier, AreRows, ends_rows, ends_rows_term, IsCondition, IsWithin, locations_in, atoms_of, claim_by, has_cores, names_in, first_words, first_registers, Shape, Setting, Phrase, cells_of, is_symbol_term, Tilde}
+use Rattle.litmus_reader.proofs.Vocabulary.{Term, Piece, Passes, Fault, Initial, words_of, registers_of, numbered, Stop, row_at, Rows, rows, terms, spelled_in, Claimed, claimed, Proposition, Conditioned, conditioned, Quantifier, AreRows, ends_rows, ends_rows_term, IsCondition, IsWithin, locations_in, atoms_of, claim_by, has_cores, names_in, first_words, first_registers, Shape, Setting, Phrase, cells_of, is_symbol_term, Tilde}
 use Rattle.litmus_reader.proofs.Placed.{Placed, placed_in, instrs_with, locations_of, EntriesWithin}
 
 -- nothing stands there, or a token with which no row begins
@@ -19,11 +19,6 @@ pub record Begins (Is : List Term → Type 0) (ps rest : List Piece) : Type 0 wh
   pub ts : List Term
   pub is : Is ts
   pub parts : terms ps ≡ ts ++ terms rest
-
--- these are the last of the tokens, where they stood in the text
-pub record AreLast (ps rest : List Piece) : Type 0 where
-  pub taken : List Piece
-  pub parts : ps ≡ taken ++ rest
 
 -- What has been read is what the settings say: the names; the first words, whatever names come after these; and the first
 -- registers of a test that has all their cores, where no other test has any.
@@ -67,10 +62,8 @@ pub record ReadsPlaced (reading : Result Rows Fault) (names : List (List ℕ)) (
 
 -- what was read are rows within the limits that the tokens at the front spell, and no row stands after them
 pub record SpellsRows (cores : ℕ) (names : List (List ℕ)) (ps : List Piece) (r : Rows) : Type 0 where
-  pub ts : List Term
   pub table : List (List (Option Shape))
-  pub are : AreRows cores ts table
-  pub parts : terms ps ≡ ts ++ terms r.rest
+  pub spelled : Passes (λ ts. AreRows cores ts table) ps r.rest
   pub within : EntriesWithin names (placed_in table)
   pub given : r ≡ rows_by names (placed_in table) r.rest
   pub ended : ends_rows r.rest ≡ true
@@ -93,6 +86,9 @@ pub record SpellsPhrase (Is : List Term → Phrase → Type 0) (cores atoms : �
   pub parts : terms ps ≡ ts ++ terms c.rest
   pub within : IsWithin cores atoms names phrase
   pub given : c ≡ given_by atoms names phrase c.rest
+
+abbrev pub with_claim : Quantifier → Claimed → Conditioned
+with_claim quantifier c = conditioned (Some (record { quantifier = quantifier; claim = c.claim })) c.names c.rest
 
 -- what is read of a condition, where this stands after it
 abbrev pub condition_by : List (List ℕ) → Quantifier → Phrase → List Piece → Conditioned

@@ -1,5 +1,5 @@
 -- All rows, one after the other.
-use Rattle.litmus_reader.proofs.Vocabulary.{◌≡◌, ℕ, zero, suc, ◌≤◌, ◌<◌, true, false, List, [], ◌∷◌, length, Result, Ok, Err, refl, sym, ap, ◌∙◌, arith, Stop, Piece, Fault, ReadError, CoreInstr, Fails, ◌>>=◌, Given, registers_of, columns_at, Rows, rows, row_at, row_in, rows_within, rows_at, table, table_at, remaining_of, ends_rows}
+use Rattle.litmus_reader.proofs.Vocabulary.{◌≡◌, ℕ, zero, suc, ◌≤◌, ◌<◌, true, false, List, [], ◌∷◌, length, Result, Ok, Err, refl, sym, ap, ◌∙◌, arith, Stop, Piece, Fault, ReadError, CoreInstr, Fails, ◌>>=◌, Given, registers_of, Rows, rows, row_at, row_in, rows_within, rows_at, table, table_at, remaining_of, ends_rows, columns, most_cores}
 use Rattle.litmus_cells.specs.declared.fault.ReadError.TheVariants as errors
 
 -- the total is what the rest gives, in some number of rows that is enough
@@ -9,7 +9,6 @@ pub record RowsAfter (stop : Stop) (cores : ℕ) (instrs : List CoreInstr) (name
   pub same : rows_within count stop cores instrs names ps ≡ total
 
 pub rows_start : (stop : Stop) (cores : ℕ) (names : List (List ℕ)) (ps : List Piece) → RowsAfter stop cores [] names ps (rows_at stop cores names ps)
-unfolding rows_at
 rows_start stop cores names ps = record { count = length ps; enough = omega arith; same = refl }
 
 nothing_left : (ps : List Piece) → length ps ≤ 0 → ends_rows ps ≡ true
@@ -66,22 +65,22 @@ row_open f stop cores instrs names ps total more at b = by_count b.count b.enoug
     by_count (suc n) enough same = sym same ∙ rw (more, at) refl
 
 pub table_done : (stop : Stop) (cores : ℕ) (given : List Given) (registers : List (List ℕ)) (names : List (List ℕ)) (ps rest : List Piece) (r : Rows)
-    → Ok (cores, rest) ≡ columns_at stop ps → registers_of cores given ≡ Ok registers → rows_at stop cores names rest ≡ Ok r → table_at stop given names ps ≡ Ok (table cores registers r)
+    → Ok (cores, rest) ≡ columns stop most_cores 0 ps → registers_of cores given ≡ Ok registers → rows_at stop cores names rest ≡ Ok r → table_at stop given names ps ≡ Ok (table cores registers r)
 unfolding table_at
 table_done stop cores given registers names ps rest r at all is = rw (← at, all, is) refl
 
 pub table_fails : (e : ReadError) (stop : Stop) (cores : ℕ) (given : List Given) (registers : List (List ℕ)) (names : List (List ℕ)) (ps rest : List Piece)
-    → Ok (cores, rest) ≡ columns_at stop ps → registers_of cores given ≡ Ok registers → Fails e (rows_at stop cores names rest) → Fails e (table_at stop given names ps)
+    → Ok (cores, rest) ≡ columns stop most_cores 0 ps → registers_of cores given ≡ Ok registers → Fails e (rows_at stop cores names rest) → Fails e (table_at stop given names ps)
 unfolding table_at
 table_fails errors.NoMemory stop cores given registers names ps rest at all is = tt
 table_fails (errors.Fault f) stop cores given registers names ps rest at all is = rw (← at, all, is) refl
 
 pub registers_missing : (e : ReadError) (stop : Stop) (cores : ℕ) (given : List Given) (names : List (List ℕ)) (ps rest : List Piece)
-    → Ok (cores, rest) ≡ columns_at stop ps → Fails e (registers_of cores given) → Fails e (table_at stop given names ps)
+    → Ok (cores, rest) ≡ columns stop most_cores 0 ps → Fails e (registers_of cores given) → Fails e (table_at stop given names ps)
 unfolding table_at
 registers_missing errors.NoMemory stop cores given names ps rest at is = tt
 registers_missing (errors.Fault f) stop cores given names ps rest at is = rw (← at, is) refl
 
-pub columns_missing : (f : Fault) (stop : Stop) (given : List Given) (names : List (List ℕ)) (ps : List Piece) → Err f ≡ columns_at stop ps → table_at stop given names ps ≡ Err f
+pub columns_missing : (f : Fault) (stop : Stop) (given : List Given) (names : List (List ℕ)) (ps : List Piece) → Err f ≡ columns stop most_cores 0 ps → table_at stop given names ps ≡ Err f
 unfolding table_at
 columns_missing f stop given names ps at = rw (← at) refl

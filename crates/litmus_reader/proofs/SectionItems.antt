@@ -1,5 +1,5 @@
 -- The initial state, section by section.
-use Rattle.litmus_reader.proofs.Vocabulary.{◌≡◌, ◌<◌, Bool, true, false, ◌||◌, List, [], ◌∷◌, ◌++◌, length, Some, None, Result, Ok, Err, refl, sym, ap, ◌∙◌, inl, inr, arith, length-append, Equals, Semicolon, Colon, OpenSquare, CloseSquare, CloseCurly, Term, Piece, is_symbol, symbol_at, name_at, number_at, Fault, Part, ReadError, terms, unfit, remaining_of, Fails, ◌>>=◌, item_or_none, closes, section_in, Initial, judged, ends_item, item_in, step_in, is_one_of, item_ends, location_at, setting_at, plain_setting}
+use Rattle.litmus_reader.proofs.Vocabulary.{◌≡◌, ◌<◌, Bool, true, false, List, [], ◌∷◌, ◌++◌, length, Some, None, Result, Ok, Err, refl, sym, ap, ◌∙◌, inl, inr, arith, length-append, Equals, Semicolon, Colon, OpenSquare, CloseSquare, CloseCurly, Piece, is_symbol, symbol_at, name_at, number_at, Fault, Part, ReadError, terms, unfit, remaining_of, Fails, ◌>>=◌, item_or_none, closes, section_in, Initial, judged, ends_item, item_in, step_in, is_one_of, item_ends, location_at, setting_at, plain_setting, ◌||◌}
 use Rattle.litmus_cells.specs.declared.fault.ReadError.TheVariants as errors
 use Rattle.litmus_reader.proofs.Cuts.{Section, Cut, CutAfter, Alike}
 use Rattle.litmus_reader.proofs.GrammarInitialItems.{length-terms, setting_some}
@@ -51,13 +51,13 @@ unfolding item_in
 item_shorter part i j ps rest e =
     let found = bind_ok (setting_at part ps) _ (j, rest) e in
     let taken = setting_taken part ps found.0.1 found.0.0 found.1 in
-    let whole : length (terms ps) ≡ length (taken.ts ++ terms found.0.1) = ap (λ (l : List Term). length l) taken.parts in
+    let whole : length ps ≡ length (taken.front ++ found.0.1) = ap (λ (l : List Piece). length l) taken.parts in
     elim (chosen (ends_item found.0.1) (judged (remaining_of ps) i found.0.0 >>= λ after. Ok (after, found.0.1)) (Err (unfit part found.0.1)) (Ok (j, rest)) found.2) [
       | inl end ↦
           let noted = bind_ok (judged (remaining_of ps) i found.0.0) _ (j, rest) end.1 in
           let same = ok_pair noted.0 j found.0.1 rest noted.2 in
           let back : length found.0.1 ≡ length rest = ap (λ (l : List Piece). length l) same.1 in
-          omega (arith, back, whole, length-append taken.ts (terms found.0.1), setting_some taken.ts found.0.0 taken.is, length-terms ps, length-terms found.0.1)
+          omega (arith, back, whole, length-append taken.front found.0.1, setting_some (terms taken.front) found.0.0 taken.is, length-terms taken.front)
       | inr miss ↦ absurd cc
     ]
 

@@ -1,5 +1,5 @@
 -- The header row and the rows, section by section.
-use Rattle.litmus_reader.proofs.Vocabulary.{◌≡◌, ℕ, zero, suc, ◌+◌, ◌<◌, Bool, true, false, ltb, List, [], ◌∷◌, ◌++◌, ◌||◌, length, take, drop, Some, None, Result, Ok, Err, refl, sym, ap, ◌∙◌, arith, bytes_eq, position_or_len, nat_tests, append-nil, length-append, Stop, Symbol, Semicolon, Bar, Piece, is_symbol, symbol_at, name_at, most_cores, core_name, Fault, TooLarge, Unclosed, in_columns, if_core, core_at, separator_at, columns, columns_at, or_unfit, row_at, is_one_of, LastOr, Through, IsSection, tokens_in, stop_of, row_ends, item_ends, fault, at_stop, remaining_of, in_initial}
+use Rattle.litmus_reader.proofs.Vocabulary.{◌≡◌, ℕ, zero, suc, ◌+◌, ◌<◌, Bool, true, false, List, [], ◌∷◌, ◌++◌, length, take, drop, Some, None, Result, Ok, Err, refl, sym, ap, ◌∙◌, arith, bytes_eq, position_or_len, append-nil, length-append, Stop, Symbol, Semicolon, Bar, Piece, is_symbol, symbol_at, name_at, most_cores, core_name, Fault, TooLarge, Unclosed, separator_at, columns, or_unfit, row_at, is_one_of, LastOr, Through, IsSection, tokens_in, stop_of, row_ends, item_ends, fault, at_stop, remaining_of, in_initial, part_of, BadHeaderRow, word_after, lt-ltb, le-ltb, append_assoc, ◌||◌}
 use Rattle.litmus_reader.proofs.GrammarTokens.{symbol_is}
 use Rattle.litmus_reader.proofs.Cuts.{Section, Cut, CutAfter, AtEnd, AlikeOption, Alike, Apart, Ends, bind_alike, there_alike, cond_alike, or_unfit_alike, remaining_cut, symbol_cut, symbol_end, name_cut}
 
@@ -20,10 +20,10 @@ pub item_section_cut : (remaining : ℕ) (text rest : List ℕ) (ps : List Piece
 item_section_cut remaining text rest ps stop s = record { parts = s.tokens; through = through_map item_ends _ _ (λ h. (h.0, ap (in_initial remaining) h.1)) ps s.through }
 
 abbrev pub row_section : List ℕ → List ℕ → Stop → Section
-row_section text rest stop = record { ends = row_ends; more = tokens_in rest; part = in_columns stop; whole = in_columns (stop_of text); same_why = refl }
+row_section text rest stop = record { ends = row_ends; more = tokens_in rest; part = part_of BadHeaderRow stop; whole = part_of BadHeaderRow (stop_of text); same_why = refl }
 
 pub row_section_cut : (text rest : List ℕ) (ps : List Piece) (stop : Stop) → IsSection row_ends text ps rest stop → Cut (row_section text rest stop) ps (tokens_in text)
-row_section_cut text rest ps stop s = record { parts = s.tokens; through = through_map row_ends _ _ (λ h. (h.0, ap in_columns h.1)) ps s.through }
+row_section_cut text rest ps stop s = record { parts = s.tokens; through = through_map row_ends _ _ (λ h. (h.0, ap (part_of BadHeaderRow) h.1)) ps s.through }
 
 -- ---- the header row
 
@@ -34,10 +34,10 @@ bar_apart : Apart row_ends Bar
 unfolding is_symbol
 bar_apart p is = rw (symbol_is Bar p is) refl
 
-core_cut : (k : Section) (core : ℕ) (ps all : List Piece) → Cut k ps all → AlikeOption (Cut k) (core_at core ps) (core_at core all)
-unfolding core_at
+core_cut : (k : Section) (core : ℕ) (ps all : List Piece) → Cut k ps all → AlikeOption (Cut k) (word_after (core_name core) ps) (word_after (core_name core) all)
+unfolding word_after
 core_cut k core ps all c =
-    there_alike (CutAfter k) (AlikeOption (Cut k)) (name_at ps) (name_at all) (if_core core) (if_core core) None None (name_cut k ps all c)
+    there_alike (CutAfter k) (AlikeOption (Cut k)) (name_at ps) (name_at all) _ _ None None (name_cut k ps all c)
     (λ x y r. cond_alike (AlikeOption (Cut k)) (bytes_eq x.0 (core_name core)) (bytes_eq y.0 (core_name core)) (Some x.1) None (Some y.1) None (ap (λ (l : List ℕ). bytes_eq l (core_name core)) r.0) (λ _. (y.1, refl, r.1)) (λ _. refl))
     refl
 
@@ -62,27 +62,27 @@ columns_cut : (text rest : List ℕ) (stop : Stop) (n core : ℕ) (ps all : List
 unfolding columns
 columns_cut text rest stop zero core ps all c =
     let k = row_section text rest stop in
-    bind_alike (Cut k) (EndAfter k) (or_unfit (in_columns stop) ps (core_at core ps)) (or_unfit (in_columns (stop_of text)) all (core_at core all)) _ _ (or_unfit_alike k (Cut k) ps all _ _ c (core_cut k core ps all c))
+    bind_alike (Cut k) (EndAfter k) (or_unfit (part_of BadHeaderRow stop) ps (word_after (core_name core) ps)) (or_unfit (part_of BadHeaderRow (stop_of text)) all (word_after (core_name core) all)) _ _ (or_unfit_alike k (Cut k) ps all _ _ c (core_cut k core ps all c))
     (λ x y a. ap (λ (l : ℕ). Err (fault TooLarge l)) (remaining_cut k ps all c))
 columns_cut text rest stop (suc n) core ps all c =
     let k = row_section text rest stop in
-    bind_alike (Cut k) (EndAfter k) (or_unfit (in_columns stop) ps (core_at core ps)) (or_unfit (in_columns (stop_of text)) all (core_at core all)) _ _ (or_unfit_alike k (Cut k) ps all _ _ c (core_cut k core ps all c))
-    (λ x y a. bind_alike (AfterSeparator k) (EndAfter k) (or_unfit (in_columns stop) x (separator_at x)) (or_unfit (in_columns (stop_of text)) y (separator_at y)) _ _ (or_unfit_alike k (AfterSeparator k) x y _ _ a (separator_cut k refl x y a))
+    bind_alike (Cut k) (EndAfter k) (or_unfit (part_of BadHeaderRow stop) ps (word_after (core_name core) ps)) (or_unfit (part_of BadHeaderRow (stop_of text)) all (word_after (core_name core) all)) _ _ (or_unfit_alike k (Cut k) ps all _ _ c (core_cut k core ps all c))
+    (λ x y a. bind_alike (AfterSeparator k) (EndAfter k) (or_unfit (part_of BadHeaderRow stop) x (separator_at x)) (or_unfit (part_of BadHeaderRow (stop_of text)) y (separator_at y)) _ _ (or_unfit_alike k (AfterSeparator k) x y _ _ a (separator_cut k refl x y a))
     (λ u v b. cond_alike (Alike (EndAfter k)) u.0 v.0 _ _ _ _ b.0
     (λ is. columns_cut text rest stop n (core + 1) u.1 v.1 (rw is at b.1))
     (λ is. ((core + 1, v.1), refl, (refl, rw is at b.1)))))
 
-pub header_found : (text rest : List ℕ) (stop : Stop) (cores : ℕ) (ps after : List Piece) → IsSection row_ends text ps rest stop → Ok (cores, after) ≡ columns_at stop ps
-    → Ok (cores, tokens_in rest) ≡ columns_at (stop_of text) (tokens_in text)
+pub header_found : (text rest : List ℕ) (stop : Stop) (cores : ℕ) (ps after : List Piece) → IsSection row_ends text ps rest stop → Ok (cores, after) ≡ columns stop most_cores 0 ps
+    → Ok (cores, tokens_in rest) ≡ columns (stop_of text) most_cores 0 (tokens_in text)
 header_found text rest stop cores ps after s e =
     let k = row_section text rest stop in
-    let a : Alike (EndAfter k) (Ok (cores, after)) (columns_at (stop_of text) (tokens_in text)) = rw (sym e) at (columns_cut text rest stop most_cores 0 ps (tokens_in text) (row_section_cut text rest ps stop s)) in
+    let a : Alike (EndAfter k) (Ok (cores, after)) (columns (stop_of text) most_cores 0 (tokens_in text)) = rw (sym e) at (columns_cut text rest stop most_cores 0 ps (tokens_in text) (row_section_cut text rest ps stop s)) in
     sym (a.1 ∙ ap (λ (n : ℕ). Ok (n, a.0.1)) (sym a.2.0) ∙ ap (λ (l : List Piece). Ok (cores, l)) a.2.1.1)
 
-pub header_fails : (text rest : List ℕ) (stop : Stop) (f : Fault) (ps : List Piece) → IsSection row_ends text ps rest stop → Err f ≡ columns_at stop ps → Err f ≡ columns_at (stop_of text) (tokens_in text)
+pub header_fails : (text rest : List ℕ) (stop : Stop) (f : Fault) (ps : List Piece) → IsSection row_ends text ps rest stop → Err f ≡ columns stop most_cores 0 ps → Err f ≡ columns (stop_of text) most_cores 0 (tokens_in text)
 header_fails text rest stop f ps s e =
     let k = row_section text rest stop in
-    let a : Alike (EndAfter k) (Err f) (columns_at (stop_of text) (tokens_in text)) = rw (sym e) at (columns_cut text rest stop most_cores 0 ps (tokens_in text) (row_section_cut text rest ps stop s)) in
+    let a : Alike (EndAfter k) (Err f) (columns (stop_of text) most_cores 0 (tokens_in text)) = rw (sym e) at (columns_cut text rest stop most_cores 0 ps (tokens_in text) (row_section_cut text rest ps stop s)) in
     sym a
 
 -- ---- rows
@@ -123,22 +123,16 @@ drop_front : (front back : List Piece) (last : Piece) → drop (length front + 1
 drop_front [] back last = refl
 drop_front (p ∷ front) back last = let e : suc (length front) + 1 ≡ suc (length front + 1) = omega arith in rw e (drop_front front back last)
 
-lower : (n m : ℕ) → n < m → ltb n m ≡ true
-lower n m lt = grind (arith, nat_tests)
-
-not_lower : (n : ℕ) → ltb n n ≡ false
-not_lower n = grind (arith, nat_tests)
-
 row_here : (stop : Stop) (front back : List Piece) (last : Piece) → Within front → is_symbol Semicolon last ≡ true → row_at stop (front ++ last ∷ back) ≡ Ok (front, back)
 unfolding row_at
 row_here stop front back last within is =
     let place = place_of_end front back last within is in
     let long : length front < length (front ++ last ∷ back) = omega (arith, length-append front (last ∷ back)) in
-    rw (place, lower (length front) (length (front ++ last ∷ back)) long, take_front front (last ∷ back), drop_front front back last) refl
+    rw (place, lt-ltb (length front) (length (front ++ last ∷ back)) long, take_front front (last ∷ back), drop_front front back last) refl
 
 row_missing : (stop : Stop) (ps : List Piece) → Within ps → row_at stop ps ≡ Err (at_stop (fault Unclosed (remaining_of ps)) stop)
 unfolding row_at
-row_missing stop ps within = rw (no_place ps within, not_lower (length ps)) refl
+row_missing stop ps within = rw (no_place ps within, le-ltb (length ps) (length ps) (omega arith)) refl
 
 pub record RowFound (stop : Stop) (all row more : List Piece) : Type 0 where
   pub is : row_at stop all ≡ Ok (row, more)
@@ -148,15 +142,11 @@ row_found_by : (stop also : Stop) (ps more row after : List Piece) → Ending ((
 row_found_by stop also _ more row after (ended front last within is) e =
     let here : (let q : Result (List Piece × List Piece) Fault = Ok (front, []) in q) ≡ Ok (row, after) = sym (row_here stop front [] last within is) ∙ sym e in
     let same : front ≡ row = ap (λ (r : Result (List Piece × List Piece) Fault). elim r [ Ok x ↦ x.0 | Err f ↦ [] ]) here in
-    let whole : (front ++ last ∷ []) ++ more ≡ front ++ last ∷ more = append_one front more last in
+    let whole : (front ++ last ∷ []) ++ more ≡ front ++ last ∷ more = append_assoc front (last ∷ []) more in
     record {
       is = rw whole (row_here also front more last within is ∙ ap (λ (l : List Piece). Ok (l, more)) same);
       shorter = rw whole (omega (arith, length-append front (last ∷ more)));
     }
-  where
-    append_one : (front more : List Piece) (last : Piece) → (front ++ last ∷ []) ++ more ≡ front ++ last ∷ more
-    append_one [] more last = refl
-    append_one (p ∷ front) more last = ap (λ (l : List Piece). p ∷ l) (append_one front more last)
 row_found_by stop also ps more row after (endless _ within holds) e =
     let never : (let q : Result (List Piece × List Piece) Fault = Ok (row, after) in q) ≡ Err (at_stop (fault Unclosed (remaining_of ps)) stop) = e ∙ row_missing stop ps within in
     absurd cc

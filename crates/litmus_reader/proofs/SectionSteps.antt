@@ -1,5 +1,5 @@
 -- Sections of a text, one token after the other.
-use Rattle.litmus_reader.proofs.Vocabulary.{◌||◌, ◌≡◌, ℕ, ◌+◌, ◌≤◌, ◌<◌, true, false, cond, List, [], ◌∷◌, ◌++◌, length, Some, None, Ok, Err, refl, sym, ap, ◌∙◌, append_assoc, arith, length-append, Stop, End, Symbol, Tilde, Term, number, name, symbol, Piece, piece_at, is_symbol, symbol_at, name_then, name_at, there, if_word, word_after, is_word, Why, ends_rows_term, ends_rows, fault, at_stop, remaining_of, tokens_in, stop_of, is_one_of, Through, IsSection, opened}
+use Rattle.litmus_reader.proofs.Vocabulary.{◌≡◌, ℕ, ◌+◌, ◌≤◌, ◌<◌, true, false, cond, List, [], ◌∷◌, ◌++◌, length, Some, None, Ok, Err, refl, sym, ap, ◌∙◌, append_assoc, arith, length-append, Stop, End, Symbol, Tilde, Term, number, name, symbol, Piece, piece_at, is_symbol, symbol_at, name_then, name_at, there, word_after, is_word, Why, ends_rows_term, ends_rows, fault, at_stop, remaining_of, tokens_in, stop_of, is_one_of, Through, IsSection, opened, bytes_eq, ◌||◌}
 use Rattle.litmus_cells.specs.declared.fault.Why.TheVariants.{BadToken}
 use Rattle.litmus_reader.proofs.Lexed.{first_again, none_again}
 
@@ -111,7 +111,7 @@ pub word_there : (word text after : List ℕ) (p : Piece) → Ok (p, after) ≡ 
 unfolding word_after name_at
 word_there word text after p e = let t = token_there text after p e in rw t.tokens (by_term p.term)
   where
-    by_term : (t : Term) → there (name_then t (tokens_in after)) (if_word word) None ≡ cond (is_word word t) (Some (tokens_in after)) None
+    by_term : (t : Term) → there (name_then t (tokens_in after)) (λ x. cond (bytes_eq x.0 word) (Some x.1) None) None ≡ cond (is_word word t) (Some (tokens_in after)) None
     by_term (name x) = refl
     by_term (number d) = refl
     by_term (symbol s) = refl

@@ -1,5 +1,5 @@
 -- Settings that are read of a section's tokens are read of all tokens.
-use Rattle.litmus_reader.proofs.Vocabulary.{◌≡◌, ℕ, List, [], ◌∷◌, Option, Some, None, Result, Ok, Err, refl, sym, ap, ◌∙◌, is_location_name, register_named, Reg, decimal_value, Symbol, Equals, Colon, OpenSquare, CloseSquare, Piece, symbol_at, name_at, number_at, Fault, ◌>>=◌, or_unfit, Initial, judged, ends_item, item_in, if_location, location_at, if_register, register_at, value_at, register_setting, square_setting, plain_setting, setting_at, remaining_of, Setting, of_register, of_location}
+use Rattle.litmus_reader.proofs.Vocabulary.{◌≡◌, ℕ, List, [], ◌∷◌, Option, Some, None, Result, Ok, Err, refl, sym, ap, ◌∙◌, is_location_name, register_named, Reg, decimal_value, Symbol, Equals, Colon, OpenSquare, CloseSquare, Piece, symbol_at, name_at, number_at, Fault, ◌>>=◌, or_unfit, Initial, judged, ends_item, item_in, location_at, register_at, value_at, register_setting, square_setting, plain_setting, setting_at, remaining_of, Setting, of_register, of_location}
 use Rattle.litmus_reader.proofs.Cuts.{Section, Cut, CutAfter, AlikeOption, Alike, Apart, bind_alike, there_alike, cond_alike, or_unfit_alike, unfit_cut, remaining_cut, symbol_cut, name_cut, number_cut}
 
 -- the symbols of settings end no section
@@ -12,14 +12,14 @@ pub record OfSettings (ends : List Symbol) : Type 0 where
 location_cut : (k : Section) (ps all : List Piece) → Cut k ps all → AlikeOption (CutAfter k) (location_at ps) (location_at all)
 unfolding location_at
 location_cut k ps all c =
-    there_alike (CutAfter k) (AlikeOption (CutAfter k)) (name_at ps) (name_at all) if_location if_location None None (name_cut k ps all c)
+    there_alike (CutAfter k) (AlikeOption (CutAfter k)) (name_at ps) (name_at all) _ _ None None (name_cut k ps all c)
     (λ x y r. cond_alike (AlikeOption (CutAfter k)) (is_location_name x.0) (is_location_name y.0) (Some x) None (Some y) None (ap is_location_name r.0) (λ _. (y, refl, r)) (λ _. refl))
     refl
 
 register_cut : (k : Section) (ps all : List Piece) → Cut k ps all → AlikeOption (CutAfter k) (register_at ps) (register_at all)
 unfolding register_at
 register_cut k ps all c =
-    there_alike (CutAfter k) (AlikeOption (CutAfter k)) (name_at ps) (name_at all) if_register if_register None None (name_cut k ps all c)
+    there_alike (CutAfter k) (AlikeOption (CutAfter k)) (name_at ps) (name_at all) _ _ None None (name_cut k ps all c)
     (λ x y r. there_alike (λ (a b : Reg). a ≡ b) (AlikeOption (CutAfter k)) (register_named x.0) (register_named y.0) (λ reg. Some (reg, x.1)) (λ reg. Some (reg, y.1)) None None
     (same_register (register_named x.0) (register_named y.0) (ap register_named r.0)) (λ a b e. ((b, y.1), refl, (e, r.1))) refl)
     refl

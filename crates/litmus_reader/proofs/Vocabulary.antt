@@ -23,53 +23,54 @@ unfoldable pub use Rattle.litmus_tokens.specs.Front.{symbol_at, name_at, number_
 pub use Rattle.litmus_reader.specs.declared.fault.Part.{Part}
 pub use Rattle.litmus_cells.specs.declared.fault.ReadError.{ReadError}
 pub use Rattle.litmus_cells.specs.inner.Faults.{Fails, Gives}
-pub use Rattle.litmus_cells.specs.Faults.{◌>>=◌, there}
-pub use Rattle.litmus_cells.specs.Names.{if_location, if_register}
+pub use Rattle.litmus_cells.specs.Faults.{◌>>=◌, or_fault, there}
 unfoldable pub use Rattle.litmus_cells.specs.Names.{location_at, register_at}
 pub use Rattle.litmus_reader.specs.Settings.{core_of}
 unfoldable pub use Rattle.litmus_reader.specs.Settings.{plain_setting, setting_at, value_at, register_setting, square_setting}
-pub use Rattle.litmus_reader.specs.Initial.{Initial, initial, opened_at, Given, gives, with_register, registers_of, before_initial, given, no_registers, words_of}
-unfoldable pub use Rattle.litmus_reader.specs.Initial.{item_in, step_in, items_within, items_at, initial_at, judged, registers_with, ends_item}
-pub use Rattle.litmus_reader.specs.Places.{unfit, remaining_of, in_initial, at_stop, from_place}
+pub use Rattle.litmus_reader.specs.Initial.{Initial, Given, gives, registers_of, words_of}
+unfoldable pub use Rattle.litmus_reader.specs.Initial.{item_in, step_in, items_within, initial_at, judged, registers_with, ends_item}
+pub use Rattle.litmus_reader.specs.Places.{unfit, remaining_of, in_initial, at_stop, part_of, from_place}
 pub use Rattle.std.specs.Str.{bytes_eq, IsUtf8}
 pub use Rattle.tso_model.specs.Registers.{index_of, IsWord, same_letters, AreRegisters, register_named}
 pub use Rattle.tso_model.specs.declared.register.Reg.{Reg}
-pub use Rattle.litmus_cells.specs.declared.fault.Why.TheVariants.{TwiceInit, TooLarge, Unclosed, NoSuchCore, WrongCells, NoMemory}
-pub use Rattle.litmus_cells.specs.Numbers.{word_at, or_bad_number}
-pub use Rattle.litmus_reader.specs.inner.Initial.{given_of, named_by_key, named_by_word, KnowsGiven}
+pub use Rattle.litmus_cells.specs.declared.fault.Why.TheVariants.{TwiceInit, TooLarge, Unclosed, NoSuchCore, WrongCells, BadHeaderRow, BadCondition, BadInstruction, BadNumber, NoMemory}
+pub use Rattle.litmus_cells.specs.Numbers.{word_at}
+pub use Rattle.litmus_reader.specs.inner.Initial.{given, initial, given_of, named_by_key, named_by_word, KnowsGiven, with_register, items_at}
+pub use Rattle.litmus_reader.specs.inner.Sections.{before_opening}
 unfoldable pub use Rattle.litmus_reader.specs.inner.Initial.{item_or_none, closes, section_in}
 pub use Rattle.litmus_cells.specs.Places.{fault}
-pub use Rattle.litmus_reader.specs.Written.{of_register, Setting, of_location, Phrase, truth, atom, negation, WrittenCondition, Written}
+pub use Rattle.litmus_reader.specs.Written.{of_register, Setting, of_location, Phrase, truth, atom, negation, both, either, WrittenCondition, Written}
 pub use Rattle.tso_model.specs.Limits.{most_cores, most_instructions, most_locations, most_open, longest_name}
 pub use Rattle.litmus_reader.specs.Faults.{or_unfit}
-pub use Rattle.litmus_reader.specs.Columns.{in_columns, columns_at, if_core}
-unfoldable pub use Rattle.litmus_reader.specs.Columns.{columns, core_at, separator_at}
+unfoldable pub use Rattle.litmus_reader.specs.Columns.{columns, separator_at}
 pub use Rattle.std.proofs.lemmas.List.Splits.{slice_split_first, length-slice_split, slice_split-cons_yes, slice_split-cons_no}
 pub use Rattle.litmus_tokens.specs.declared.token.Token.{Token}
 pub use Rattle.litmus_tokens.specs.inner.Pieces.{piece_of, pieces}
 pub use Rattle.litmus_cells.specs.declared.cell.CoreInstr.{CoreInstr}
-pub use Rattle.litmus_cells.specs.Cells.{count_of, or_bad_instruction, of_core}
+pub use Rattle.litmus_cells.specs.Cells.{count_of, of_core, at_location}
 unfoldable pub use Rattle.litmus_cells.specs.Cells.{cell_in, instr_of}
 pub use Rattle.litmus_reader.specs.Cells.{cells_of}
 unfoldable pub use Rattle.litmus_reader.specs.Cells.{cells_in}
-pub use Rattle.litmus_reader.specs.Rows.{Rows, rows, table, counted, Table}
-unfoldable pub use Rattle.litmus_reader.specs.Rows.{row_at, row_in, rows_within, rows_at, table_at}
+pub use Rattle.litmus_reader.specs.Rows.{Rows, Table}
+pub use Rattle.litmus_reader.specs.inner.Rows.{rows, rows_at, table}
+unfoldable pub use Rattle.litmus_reader.specs.Rows.{row_at, row_in, rows_within, table_at}
 pub use Rattle.litmus_reader.specs.GrammarTable.{location_in, instr_with, ValueFits, in_rows, column, AreWithin, in_field, AreRows, ends_rows_term}
 unfoldable pub use Rattle.litmus_reader.specs.GrammarTable.{ends_rows}
-pub use Rattle.litmus_reader.specs.Observed.{square_by, brackets_tokens, in_observed}
+pub use Rattle.litmus_reader.specs.Observed.{square_by}
 unfoldable pub use Rattle.litmus_reader.specs.Observed.{square_within, square_end, ending_tokens, brackets_end}
 pub use Rattle.tso_model.specs.Condition.{Claim, TruthClaim, RegClaim, LocClaim, NotClaim, AndClaim, OrClaim, Condition, NamesExist, atoms_in, negations_in, claim_of}
-pub use Rattle.litmus_reader.specs.Conditions.{Claimed, claimed, Proposition, joined_to, one_more, truth_atom, both, either, conjunction, disjunction, negated, bracketed, proposition_at, Conditioned, with_claim, in_condition, conditioned}
-unfoldable pub use Rattle.litmus_reader.specs.Conditions.{chain, chain_of, opens_unit, atom_at, unit_by, unit_at, claim_in, truth_at, setting_atom, negation_at, quantified, not_exists, condition_at}
+pub use Rattle.litmus_reader.specs.Conditions.{Claimed, Proposition, one_more, disjunction, bracketed, proposition_at, Conditioned}
+pub use Rattle.litmus_reader.specs.inner.Conditions.{claimed, conditioned, conjunction}
+unfoldable pub use Rattle.litmus_reader.specs.Conditions.{chain, chain_of, opens_unit, atom_at, unit_by, unit_at, claim_in, truth_at, setting_atom, negation_at, quantified, condition_at}
 pub use Rattle.std.proofs.Math.Seq.{take-suc, drop-append_seam}
 pub use Rattle.tso_model.specs.declared.instruction.Instr.{Instr}
 pub use Rattle.litmus_cells.specs.Locations.{texts}
 unfoldable pub use Rattle.litmus_cells.specs.Locations.{located}
-pub use Rattle.litmus_reader.specs.Reading.{program_of, programs_from, test_of, refusal}
-unfoldable pub use Rattle.litmus_reader.specs.Reading.{end_at, ending_at, tail_at, body_of, reading_of}
+pub use Rattle.litmus_reader.specs.Reading.{program_of, test_of, refusal}
+unfoldable pub use Rattle.litmus_reader.specs.Reading.{end_at, tail_at, body_of, reading_of}
 pub use Rattle.decimals.specs.Decimals.{decimal_value}
 pub use Rattle.tso_model.specs.Names.{is_location_name, is_among, is_name, is_register_word, is_test_name, is_printable, begins_name, continues_name, last_byte, is_keyword}
-pub use Rattle.litmus_cells.specs.Arguments.{ArgumentTerm, in_memory, in_register, constant, as_constant, dollar_at, closed_memory, memory_at, as_register, if_last, second_of, after_operand}
+pub use Rattle.litmus_cells.specs.Arguments.{ArgumentTerm, in_memory, in_register, constant, as_constant, memory_at, if_last}
 unfoldable pub use Rattle.litmus_cells.specs.Arguments.{argument_at, two_arguments}
 pub use Rattle.litmus_cells.specs.Forms.{mov_of, xchg_of, xadd_of, no_more, locked_by, by_mnemonic}
 unfoldable pub use Rattle.litmus_cells.specs.Forms.{locked_at, spelled_in}
@@ -83,7 +84,7 @@ pub use Rattle.tso_model.specs.Thread.{with_value}
 pub use Rattle.tso_model.specs.declared.instruction.Instr.TheVariants.{StoreImm, StoreReg, Load, SetImm, SetReg, Fence, Xchg, Xadd}
 pub use Rattle.tso_model.specs.declared.condition.Quantifier.{Quantifier}
 pub use Rattle.tso_model.specs.declared.condition.Quantifier.TheVariants.{Exists, NotExists, Forall}
-pub use Rattle.litmus_reader.specs.Keywords.{if_word, is_word}
+pub use Rattle.litmus_reader.specs.Keywords.{is_word}
 unfoldable pub use Rattle.litmus_reader.specs.Keywords.{word_after}
 pub use Rattle.std.proofs.lemmas.Bool.Decides.{nat_tests}
 pub use Rattle.litmus_tokens.specs.Terms.{Term, number, name, symbol, spelling_of, symbol_among, run_of, symbol_or_bad}
@@ -93,7 +94,7 @@ pub use Rattle.litmus_reader.specs.GrammarConditions.{IsCondition, IsWithin, loc
 pub use Rattle.litmus_reader.specs.GrammarInitial.{has_cores, names_in, first_words, first_registers, is_allowed, given_value, same_place, each_once, Fits, IsInitialItem, AreInitialItems, last, more, IsInitialState, in_braces, has_core, value_in, names_register, first_registers_of}
 pub use Rattle.std.proofs.lemmas.Slice.Eq.{bytes_eq-Decides}
 pub use Rattle.std.specs.Char.{to_ascii_lowercase, is_ascii_alphabetic, is_ascii_digit}
-pub use Rattle.litmus_reader.specs.GrammarCells.{IsConstant, plain, with_dollar, IsMemory, in_squares, IsRegister, named, IsMnemonic, spelled, separated, IsExchange, memory_first, register_first, IsCell, stores_constant, stores_register, loads, sets_constant, fences, exchanges, locks_exchange, locks_add, moves}
+pub use Rattle.litmus_reader.specs.GrammarCells.{IsOperand, IsCall, IsMove, IsExchange, IsCell}
 pub use Rattle.litmus_reader.specs.GrammarItems.{IsSetting, sets_register, sets_location, sets_in_squares}
 pub use Rattle.litmus_reader.specs.GrammarColumns.{IsHeaderRow, core_name}
 pub use Rattle.std.proofs.lemmas.List.Folds.{list_all-append, list_any-append}

@@ -1,14 +1,24 @@
--- What a text spells is within the limits of a test.
-use Rattle.litmus_reader.proofs.Vocabulary.{◌≡◌, ℕ, ◌≤◌, ◌<◌, Bool, true, not, eqb, ltb, ◌&&◌, List, [], ◌∷◌, length, All, Option, Some, None, Result, Ok, IfOk, sym, arith, list_all, IsUtf8, and_parts, and_from, nat_tests, AllPass-from_list_all, list_all-from_AllPass, All-weaker, most_cores, Litmus, IsTest, KnownLocation, IsWord, AreRegisters, Condition, is_name, is_location_name, is_register_word, is_test_name, is_printable, begins_name, continues_name, last_byte, Stop, Piece, pieces_of, gap_end, Fault, CoreInstr, sized, from_gap, header_at, braces_at, Initial, Given, initial_at, Table, table_at, ending_tokens, conditioned, condition_at, end_at, ending_at, tail_at, test_of, body_of, reading_of, programs_from, first_line, name_in}
+-- What a text spells is within the limits of a test, for what is written keeps them.
+use Rattle.litmus_reader.proofs.Vocabulary.{◌≡◌, ℕ, zero, suc, ◌≤◌, ◌<◌, ◌^◌, Bool, true, false, cond, not, eqb, ltb, ◌&&◌, List, [], ◌∷◌, ◌++◌, length, map, All, Option, Some, None, Ok, refl, sym, ap, subst, ◌∙◌, arith, list_any, list_all, bytes_eq, IsUtf8, and_parts, and_from, or_parts, not-true, ltb-true, nat_tests, AllPass-from_list_all, list_all-append, All-weaker, All-nil, All-cons, All-head, All-tail, All-map, length-map, length-map-range_with_len, range_with_len, flat_map, Litmus, IsTest, KnownLocation, ConstantIsWord, IsProgram, IsWord, AreRegisters, NamesExist, atoms_in, negations_in, Condition, is_name, is_location_name, is_register_word, is_test_name, is_printable, begins_name, continues_name, last_byte, is_among, are_distinct, Term, And, Or, Symbol, Stop, Piece, header_at, Initial, initial_at, Table, table_at, tail_at, test_of, body_of, reading_of, numbered, with_name, IsSetting, sets_register, sets_location, sets_in_squares, IsInitialItem, AreInitialItems, IsInitialState, in_braces, Fits, first_registers, first_registers_of, value_in, given_value, names_in, IsOperand, IsCall, IsMove, IsExchange, IsCell, IsField, empty, full, AreFields, IsRow, row, AreRows, in_field, in_rows, column, location_in, instr_with, ValueFits, Shape, store_imm, store_reg, load, set_imm, set_reg, fence, xchg, xadd, ArgumentTerm, in_memory, in_register, constant, IsAtom, says_true, says_false, says_setting, AreJoined, IsConjunction, IsProposition, IsUnit, in_brackets, condition, MayAsk, nothing, a_condition, IsEnding, at_once, after_locations, names_asked, IsAskedWithin, settings_in, locations_in, atoms_of, PhraseFits, claim_by, Setting, of_register, of_location, Phrase, truth, atom, negation, both, either, WrittenCondition, Written, tokens_in, stop_of, condition_of, AreWithin, Instr}
 use Rattle.std.proofs.lemmas.Str.{IsUtf8-from_ascii}
 use Rattle.std.proofs.lemmas.Str.Ascii.{IsAscii-from_all}
-use Rattle.litmus_reader.specs.Header.{judged}
-use Rattle.litmus_reader.proofs.Keeps.{Any, ok_any, bind_keeps, cond_keeps, ok_is}
-use Rattle.litmus_reader.proofs.Named.{IsLocation}
-use Rattle.litmus_reader.proofs.Known.{AreNames}
-use Rattle.litmus_reader.proofs.InitialKept.{KeptInitial, initial_keeps, length-words, words-of, registers-words}
-use Rattle.litmus_reader.proofs.TableKept.{Kept, KeptTable, table_keeps, known_further, programs_fit, programs_constants, length-programs}
-use Rattle.litmus_reader.proofs.ClaimsKept.{KeptCondition, condition_keeps}
+use Rattle.std.specs.Option.{ForSome}
+use Rattle.std.specs.Prelude.{slice_index_or}
+use Rattle.tso_model.specs.Litmus.{IsCondition as IsConditionOf}
+use Rattle.tso_model.specs.declared.register.Reg.TheVariants.{Eax, Ebx, Ecx, Edx, Esi, Edi}
+use Rattle.litmus_reader.specs.GrammarInitial as initial
+use Rattle.litmus_reader.specs.GrammarCells.{IsAddition, IsLocked}
+use Rattle.litmus_reader.specs.GrammarCells as cells
+use Rattle.litmus_reader.specs.GrammarRows as rows
+use Rattle.litmus_reader.specs.GrammarTable as table
+use Rattle.litmus_reader.specs.GrammarConditions as conditions
+use Rattle.litmus_reader.specs.GrammarTest.{IsBody, IsText, KeepsLimits, first_names, located_in_rows, located, test_written}
+use Rattle.litmus_reader.proofs.GrammarNames.{AllKnown, all_known, all_known_more, known_parts, place_below, with_name_by}
+use Rattle.litmus_reader.proofs.GrammarPhrases.{known_both, each_fits, names_in-append}
+use Rattle.litmus_reader.proofs.GrammarAtoms.{fits_atom}
+use Rattle.litmus_reader.proofs.GrammarTest.{body_taken, text_takes}
+use Rattle.litmus_reader.proofs.GrammarColumns.{grow}
+use Rattle.litmus_reader.proofs.GrammarHeader.{header_takes}
 
 -- ---- names are text
 
@@ -24,7 +34,7 @@ printable_ascii c h = grind (arith, nat_tests)
 begins_in_name : (c : ℕ) → begins_name c ≡ true → continues_name c ≡ true
 begins_in_name c first = grind (arith, nat_tests)
 
-location_text : (x : List ℕ) → IsLocation x → IsUtf8 x
+location_text : (x : List ℕ) → is_location_name x ≡ true → IsUtf8 x
 location_text [] h = absurd cc
 location_text (c ∷ cs) h =
     let plain = and_parts (is_name (c ∷ cs) && not (is_register_word (c ∷ cs))) _ h in
@@ -40,85 +50,369 @@ test_text (c ∷ cs) h =
     let parts = and_parts (not (eqb c 32) && not (eqb (last_byte c cs) 32)) (list_all is_printable (c ∷ cs)) short.0 in
     each_ascii is_printable printable_ascii (c ∷ cs) parts.1
 
--- ---- the header
+-- ---- names of locations, each once
 
-abbrev IsNamed : List ℕ × List ℕ → Type 0
-IsNamed h = is_test_name h.0 ≡ true
+abbrev Spelled : List (List ℕ) → Type 0
+Spelled names = list_all is_location_name names ≡ true
 
-judged_named : (remaining : ℕ) (o : Option (List ℕ)) → IfOk (judged remaining o) (λ name. is_test_name name ≡ true)
-unfolding judged
-judged_named remaining None = tt
-judged_named remaining (Some name) =
-    let P : Result (List ℕ) Fault → Type 0 = λ r. IfOk r (λ name. is_test_name name ≡ true) in
-    cond_keeps P (is_test_name name) _ _ (λ e. e) (λ _. cond_keeps P (ltb 64 (length name) && list_all is_printable name) _ _ (λ _. tt) (λ _. tt))
+-- names that the locations of a test may have
+record AreNames (names : List (List ℕ)) : Type 0 where
+  pub spelled : Spelled names
+  pub differ : are_distinct names ≡ true
 
-header_named : (text : List ℕ) → IfOk (header_at text) IsNamed
-unfolding header_at
-header_named text =
-    bind_keeps (λ x. Any x) IsNamed (from_gap (gap_end None text)) _ (ok_any _)
-    (λ at _. bind_keeps (λ name. is_test_name name ≡ true) IsNamed (judged (length at) (name_in (first_line at).0)) _ (judged_named (length at) (name_in (first_line at).0)) (λ name is. is))
+spelled_both : (xs ys : List (List ℕ)) → Spelled xs → Spelled ys → Spelled (xs ++ ys)
+spelled_both xs ys h k = list_all-append is_location_name xs ys ∙ and_from _ _ h k
 
-pub name_is_text : (text name rest : List ℕ) → Ok (name, rest) ≡ header_at text → IsUtf8 name
-name_is_text text name rest at = test_text name (ok_is IsNamed (header_at text) (name, rest) (header_named text) (sym at))
+among-push : (y x : List ℕ) (names : List (List ℕ)) → is_among y names ≡ false → bytes_eq x y ≡ false → is_among y (names ++ x ∷ []) ≡ false
+among-push y x [] h e = rw e refl
+among-push y x (n ∷ ns) h e =
+    let both = or_parts (bytes_eq n y) (is_among y ns) h in
+    let first : bytes_eq n y ≡ false = both.0 in
+    rw first (among-push y x ns both.1 e)
 
--- ---- the whole text
+distinct-push : (x : List ℕ) (names : List (List ℕ)) → are_distinct names ≡ true → list_any (bytes_eq x) names ≡ false → are_distinct (names ++ x ∷ []) ≡ true
+distinct-push x [] h new = refl
+distinct-push x (n ∷ ns) h new =
+    let both = and_parts (not (is_among n ns)) (are_distinct ns) h in
+    let fresh = or_parts (bytes_eq x n) (list_any (bytes_eq x) ns) new in
+    let away : is_among n (ns ++ x ∷ []) ≡ false = among-push n x ns (not-true _ both.0) fresh.0 in
+    rw away (distinct-push x ns both.1 fresh.1)
 
--- the names that have been read are ones that locations may have
-abbrev EndingKept : ℕ → List (List ℕ) → Option Condition × List (List ℕ) → Type 0
-EndingKept cores old e = KeptCondition cores old (conditioned e.0 e.1 [])
+names_numbered : (xs names : List (List ℕ)) → AreNames names → Spelled xs → AreNames (numbered names xs)
+unfolding numbered
+names_numbered [] names h are = h
+names_numbered (x ∷ xs) names h are =
+    let both = and_parts (is_location_name x) (list_all is_location_name xs) are in
+    let one : Spelled (x ∷ []) = and_from (is_location_name x) true both.0 refl in
+    names_numbered xs (with_name names x) (with_name_by AreNames names x (λ _. h) (λ new. record { spelled = spelled_both names (x ∷ []) h.spelled one; differ = distinct-push x names h.differ new })) both.1
 
-ending_keeps : (stop : Stop) (cores : ℕ) (names : List (List ℕ)) (ps : List Piece) → AreNames names → IfOk (ending_at stop cores names ps) (EndingKept cores names)
-unfolding ending_at
-ending_keeps stop cores names ps h =
-    bind_keeps (KeptCondition cores names) (EndingKept cores names) (condition_at stop cores names ps) _ (condition_keeps stop cores names ps h)
-    (λ c k. bind_keeps (λ x. Any x) (EndingKept cores names) (end_at stop c.rest) _ (ok_any _) (λ end _. record { grown = k.grown; fits = k.fits }))
+-- ---- what the grammar has as a location's name is one that a location may have
 
-tail_keeps : (text : List ℕ) (stop : Stop) (cores : ℕ) (names : List (List ℕ)) (ps : List Piece) → AreNames names → IfOk (tail_at text stop cores names ps) (EndingKept cores names)
-unfolding tail_at
-tail_keeps text stop cores names ps h =
-    bind_keeps (λ x. Any x) (EndingKept cores names) (ending_tokens text stop ps) _ (ok_any _) (λ rest _. ending_keeps rest.1 cores names rest.0 h)
+setting_spelled : (ts : List Term) (s : Setting) → IsSetting ts s → Spelled (names_in (s ∷ []))
+setting_spelled _ _ (sets_register core word v reg good) = refl
+setting_spelled _ _ (sets_location x v good) = and_from (is_location_name x) true good refl
+setting_spelled _ _ (sets_in_squares x v good) = and_from (is_location_name x) true good refl
 
-pub names_are_text : (text : List ℕ) (stop : Stop) (start rest : List Piece) (i : Initial) (given : List Given) (t : Table) (condition : Option Condition) (names : List (List ℕ))
-    → initial_at stop [] start ≡ Ok (i, rest) → table_at stop given i.names rest ≡ Ok t → tail_at text stop t.cores t.rows.names t.rows.rest ≡ Ok (condition, names) → All (λ name. IsUtf8 name) names
-names_are_text text stop start rest i given t condition names initial table ending =
-    let first : KeptInitial i = ok_is (λ (x : Initial × List Piece). KeptInitial x.0) (initial_at stop [] start) (i, rest) (initial_keeps stop start) initial in
-    let kept : KeptTable (length i.names) given t = ok_is (KeptTable (length i.names) given) (table_at stop given i.names rest) t (table_keeps stop given i.names rest first.names) table in
-    let after : EndingKept t.cores t.rows.names (condition, names) = ok_is (EndingKept t.cores t.rows.names) (tail_at text stop t.cores t.rows.names t.rows.rest) (condition, names) (tail_keeps text stop t.cores t.rows.names t.rows.rest kept.kept.names) ending in
-    All-weaker (λ name. IsLocation name) (λ name. IsUtf8 name) location_text names after.grown.names.spelled
+item_spelled : (ts : List Term) (item : List Setting) → IsInitialItem ts item → Spelled (names_in item)
+item_spelled _ _ initial.empty = refl
+item_spelled _ _ (initial.given ts s is) = setting_spelled ts s is
 
-test_fits : (name : List ℕ) (cores least : ℕ) (old : List (List ℕ)) (words : List ℕ) (registers : List (List ℕ)) (instrs : List CoreInstr) (condition : Option Condition) (names : List (List ℕ))
-    → is_test_name name ≡ true → 0 < cores → cores ≤ most_cores → length registers ≡ cores → All AreRegisters registers → length words ≤ least → All IsWord words → Kept least instrs old → EndingKept cores old (condition, names)
-    → IsTest (test_of name names words registers instrs condition)
-test_fits name cores least old words registers instrs condition names is some few each registers_are given words_are kept after =
-    let n : length (programs_from 0 (length registers) instrs) ≡ length registers = length-programs 0 (length registers) instrs in
+items_spelled : (ts : List Term) (settings : List Setting) → AreInitialItems ts settings → Spelled (names_in settings)
+items_spelled _ _ (initial.last ts item is) = item_spelled ts item is
+items_spelled _ _ (initial.more ts others item settings is are) =
+    ap (list_all is_location_name) (names_in-append item settings) ∙ spelled_both (names_in item) (names_in settings) (item_spelled ts item is) (items_spelled others settings are)
+
+state_spelled : (ts : List Term) (settings : List Setting) → IsInitialState ts settings → Spelled (names_in settings)
+state_spelled _ _ (in_braces ts settings are) = items_spelled ts settings are
+
+memory_spelled : (ts : List Term) (x : List ℕ) → IsOperand ts (in_memory x) → Spelled (x ∷ [])
+memory_spelled _ _ (cells.in_squares x good) = and_from (is_location_name x) true good refl
+
+-- where an operand is a location
+abbrev OperandSpelled : ArgumentTerm → Type 0
+OperandSpelled (in_memory x) = Spelled (x ∷ [])
+OperandSpelled other = Unit {0}
+
+operand_spelled : (ts : List Term) (o : ArgumentTerm) → IsOperand ts o → OperandSpelled o
+operand_spelled ts (in_memory x) is = memory_spelled ts x is
+operand_spelled ts (in_register r) is = tt
+operand_spelled ts (constant v) is = tt
+
+call_spelled : (word : List ℕ) (ts : List Term) (a b : ArgumentTerm) → IsCall word ts a b → OperandSpelled a × OperandSpelled b
+call_spelled word _ _ _ (cells.call letters a b first second is f g) = (operand_spelled a first f, operand_spelled b second g)
+
+abbrev ShapeSpelled : Shape → Type 0
+ShapeSpelled shape = Spelled (location_in shape)
+
+move_spelled : (a b : ArgumentTerm) (shape : Shape) → IsMove a b shape → OperandSpelled a → OperandSpelled b → ShapeSpelled shape
+move_spelled _ _ _ (cells.stores_constant x v) h k = h
+move_spelled _ _ _ (cells.stores_register x r) h k = h
+move_spelled _ _ _ (cells.loads r x) h k = k
+move_spelled _ _ _ (cells.sets_constant r v) h k = refl
+move_spelled _ _ _ (cells.sets_register r s) h k = refl
+
+exchange_spelled : (a b : ArgumentTerm) (shape : Shape) → IsExchange a b shape → OperandSpelled a → OperandSpelled b → ShapeSpelled shape
+exchange_spelled _ _ _ (cells.memory_first x r) h k = h
+exchange_spelled _ _ _ (cells.register_first r x) h k = k
+
+addition_spelled : (a b : ArgumentTerm) (shape : Shape) → IsAddition a b shape → OperandSpelled a → ShapeSpelled shape
+addition_spelled _ _ _ (cells.adds x r) h = h
+
+locked_spelled : (ts : List Term) (shape : Shape) → IsLocked ts shape → ShapeSpelled shape
+locked_spelled _ _ (cells.locked_exchange ts a b shape is made) = let both = call_spelled _ ts a b is in exchange_spelled a b shape made both.0 both.1
+locked_spelled _ _ (cells.locked_addition ts a b shape is made) = addition_spelled a b shape made (call_spelled _ ts a b is).0
+
+cell_spelled : (ts : List Term) (shape : Shape) → IsCell ts shape → ShapeSpelled shape
+cell_spelled _ _ (cells.moves ts a b shape is made) = let both = call_spelled _ ts a b is in move_spelled a b shape made both.0 both.1
+cell_spelled _ _ (cells.fences letters is) = refl
+cell_spelled _ _ (cells.exchanges ts a b shape is made) = let both = call_spelled _ ts a b is in exchange_spelled a b shape made both.0 both.1
+cell_spelled _ _ (cells.locks letters ts shape is locked) = locked_spelled ts shape locked
+
+abbrev Named : List Shape → Type 0
+Named shapes = Spelled (flat_map location_in shapes)
+
+named_both : (xs ys : List Shape) → Named xs → Named ys → Named (xs ++ ys)
+named_both [] ys h k = k
+named_both (x ∷ xs) ys h k =
+    let parts = and_parts (list_all is_location_name (location_in x)) (list_all is_location_name (flat_map location_in xs)) (sym (list_all-append is_location_name (location_in x) (flat_map location_in xs)) ∙ h) in
+    spelled_both (location_in x) (flat_map location_in (xs ++ ys)) parts.0 (named_both xs ys parts.1 k)
+
+field_named : (ts : List Term) (c : Option Shape) → IsField ts c → Named (in_field c)
+field_named _ _ empty = refl
+field_named _ _ (full ts shape is) = spelled_both (location_in shape) [] (cell_spelled ts shape is) refl
+
+fields_named : (ts : List Term) (fields : List (Option Shape)) → AreFields ts fields → Named (flat_map in_field fields)
+fields_named _ _ (rows.last ts c is) = named_both (in_field c) [] (field_named ts c is) refl
+fields_named _ _ (rows.more ts us c cs is are) = named_both (in_field c) (flat_map in_field cs) (field_named ts c is) (fields_named us cs are)
+
+row_named : (cores : ℕ) (ts : List Term) (fields : List (Option Shape)) → IsRow cores ts fields → Named (flat_map in_field fields)
+row_named cores _ _ (row ts fields are count) = fields_named ts fields are
+
+rows_named : (cores : ℕ) (ts : List Term) (all : List (List (Option Shape))) → AreRows cores ts all → Named (in_rows all)
+rows_named cores _ _ table.none = refl
+rows_named cores _ _ (table.more ts us one others is are) = named_both (flat_map in_field one) (in_rows others) (row_named cores ts one is) (rows_named cores us others are)
+
+-- ---- phrases
+
+-- so many negations stand within one another at most, and each location's name is one
+record KeepsPhrase (d : ℕ) (p : Phrase) : Type 0 where
+  pub spelled : Spelled (locations_in p)
+  pub negations : (names : List (List ℕ)) → negations_in (claim_by names p) ≤ d
+
+atom_keeps : (d : ℕ) (ts : List Term) (p : Phrase) → IsAtom ts p → KeepsPhrase d p
+atom_keeps d _ _ says_true = record { spelled = refl; negations = λ names. omega arith }
+atom_keeps d _ _ says_false = record { spelled = refl; negations = λ names. omega arith }
+atom_keeps d _ _ (says_setting ts s is) = record { spelled = setting_spelled ts s is; negations = none s }
+  where
+    none : (s : Setting) (names : List (List ℕ)) → negations_in (claim_by names (atom s)) ≤ d
+    none (of_register core reg v) names = omega arith
+    none (of_location x v) names = omega arith
+
+both_keep : (d : ℕ) (p q : Phrase) → KeepsPhrase d p → KeepsPhrase d q → KeepsPhrase d (both p q)
+both_keep d p q h k = record {
+  spelled = ap (list_all is_location_name) (names_in-append (settings_in p) (settings_in q)) ∙ spelled_both (locations_in p) (locations_in q) h.spelled k.spelled;
+  negations = λ names. let m = h.negations names in let n = k.negations names in omega (arith, m, n);
+}
+
+either_keep : (d : ℕ) (p q : Phrase) → KeepsPhrase d p → KeepsPhrase d q → KeepsPhrase d (either p q)
+either_keep d p q h k = let b = both_keep d p q h k in record { spelled = b.spelled; negations = b.negations }
+
+abbrev Keeping : ℕ → (List Term → Phrase → Type 0) → Type 0
+Keeping d Is = (ts : List Term) (p : Phrase) → Is ts p → KeepsPhrase d p
+
+joined_keep : (s : Symbol) (join : Phrase → Phrase → Phrase) (Is : List Term → Phrase → Type 0) (d : ℕ) → ((p q : Phrase) → KeepsPhrase d p → KeepsPhrase d q → KeepsPhrase d (join p q)) → Keeping d Is
+    → Keeping d (AreJoined s join Is)
+joined_keep s join Is d two part _ _ (conditions.one ts p is) = part ts p is
+joined_keep s join Is d two part _ _ (conditions.more ts us p q are is) = two p q (joined_keep s join Is d two part ts p are) (part us q is)
+
+proposition_keeps : (Is : List Term → Phrase → Type 0) (d : ℕ) → Keeping d Is → Keeping d (IsProposition Is)
+proposition_keeps Is d part = joined_keep Or either (IsConjunction Is) d (either_keep d) (joined_keep And both Is d (both_keep d) part)
+
+next_keeps : (n : ℕ) → Keeping n (IsUnit n) → Keeping (suc n) (IsUnit (suc n))
+next_keeps n inner _ _ (conditions.plain ts p is) = atom_keeps (suc n) ts p is
+next_keeps n inner _ _ (conditions.negated t ts p is_not is) =
+    let k = inner ts p is in record { spelled = k.spelled; negations = λ names. let m = k.negations names in omega (arith, m) }
+next_keeps n inner _ _ (in_brackets ts p is) =
+    let k = proposition_keeps (IsUnit n) n inner ts p is in record { spelled = k.spelled; negations = λ names. let m = k.negations names in omega (arith, m) }
+
+unit_keeps : (n : ℕ) → Keeping n (IsUnit n)
+unit_keeps zero = atom_keeps zero
+unit_keeps (suc n) = next_keeps n (unit_keeps n)
+
+exist_by : (cores : ℕ) (names : List (List ℕ)) (p : Phrase) → AllKnown names (locations_in p) → PhraseFits cores p → NamesExist cores (length names) (claim_by names p)
+exist_by cores names (truth b) k f = tt
+exist_by cores names (atom (of_register core reg v)) k f = (fits_atom cores (of_register core reg v) f).0
+exist_by cores names (atom (of_location x v)) k f = place_below (bytes_eq x) names k.0
+exist_by cores names (negation p) k f = exist_by cores names p k f
+exist_by cores names (both p q) k f = let known = known_both p q names k in let fits = each_fits cores p q f in (exist_by cores names p known.0 fits.0, exist_by cores names q known.1 fits.1)
+exist_by cores names (either p q) k f = let known = known_both p q names k in let fits = each_fits cores p q f in (exist_by cores names p known.0 fits.0, exist_by cores names q known.1 fits.1)
+
+atoms_by : (names : List (List ℕ)) (p : Phrase) → atoms_in (claim_by names p) ≡ atoms_of p
+atoms_by names (truth b) = refl
+atoms_by names (atom (of_register core reg v)) = refl
+atoms_by names (atom (of_location x v)) = refl
+atoms_by names (negation p) = atoms_by names p
+atoms_by names (both p q) = omega (arith, atoms_by names p, atoms_by names q)
+atoms_by names (either p q) = omega (arith, atoms_by names p, atoms_by names q)
+
+-- what is asked, if it is
+abbrev AskedKeeps : Option WrittenCondition → Type 0
+AskedKeeps None = Unit {0}
+AskedKeeps (Some c) = KeepsPhrase 64 c.phrase
+
+may_keep : (ts : List Term) (c : Option WrittenCondition) → MayAsk ts c → AskedKeeps c
+may_keep _ _ nothing = tt
+may_keep _ _ (a_condition _ _ _ (condition ts us q p is_quantifier is)) = proposition_keeps (IsUnit 64) 64 (unit_keeps 64) us p is
+
+ending_keeps : (text : List ℕ) (stop : Stop) (ps : List Piece) (c : Option WrittenCondition) → IsEnding text stop ps c → AskedKeeps c
+ending_keeps text stop _ _ (at_once ps c ended is) = may_keep _ c is
+ending_keeps text stop _ _ (after_locations w o ps bytes c is_word is_open closes ended is) = may_keep _ c is
+
+asked_spelled : (c : Option WrittenCondition) → AskedKeeps c → Spelled (names_asked c)
+asked_spelled None k = refl
+asked_spelled (Some c) k = k.spelled
+
+body_names : (braces : List ℕ) (w : Written) → IsBody braces w → AreNames (located w)
+body_names braces w b =
+    let first = names_numbered (names_in w.settings) [] (record { spelled = refl; differ = refl }) (state_spelled _ w.settings b.head.initial.is) in
+    let further = names_numbered (flat_map location_in (in_rows w.table)) (first_names w) first (rows_named w.cores _ w.table b.are_rows.is) in
+    names_numbered (names_asked w.asked) (located_in_rows w) further (asked_spelled w.asked (ending_keeps braces _ _ w.asked b.is_ending))
+
+-- ---- words and registers
+
+value_word : (is : Setting → Bool) (otherwise : ℕ) (settings : List Setting) → IsWord otherwise → list_all (λ s. ltb (given_value s) (2 ^ 32)) settings ≡ true → IsWord (value_in is otherwise settings)
+value_word is otherwise [] w all = w
+value_word is otherwise (s ∷ rest) w all =
+    let both = and_parts (ltb (given_value s) (2 ^ 32)) (list_all (λ s. ltb (given_value s) (2 ^ 32)) rest) all in
+    value_word is (cond (is s) (given_value s) otherwise) rest (by_test (is s) (ltb-true _ _ both.0)) both.1
+  where
+    by_test : (b : Bool) → given_value s < 2 ^ 32 → IsWord (cond b (given_value s) otherwise)
+    by_test true given = given
+    by_test false given = w
+
+first_value : (is : Setting → Bool) (settings : List Setting) → Fits settings → IsWord (value_in is 0 settings)
+first_value is settings fits = value_word is 0 settings (omega arith) fits.values
+
+registers_are : (settings : List Setting) (cores : ℕ) → Fits settings → All AreRegisters (first_registers settings cores)
+registers_are settings cores fits = All-map AreRegisters (first_registers_of settings) (range_with_len 0 cores) (λ i d lt. record {
+  six = refl;
+  words = All-map IsWord (λ r. value_in (initial.names_register (slice_index_or (range_with_len 0 cores) i d) r) 0 settings) (Eax ∷ Ebx ∷ Ecx ∷ Edx ∷ Esi ∷ Edi ∷ []) (λ j e less. first_value _ settings fits);
+})
+
+-- ---- programs
+
+-- what holds of each, one by one
+abbrev Each : {X : Type 0} → (X → Type 0) → List X → Type 0
+Each P [] = Unit {0}
+Each P (x ∷ xs) = P x × Each P xs
+
+each_part : {X : Type 0} (P : X → Type 0) (xs ys : List X) → Each P (xs ++ ys) → Each P xs × Each P ys
+each_part P [] ys h = (tt, h)
+each_part P (x ∷ xs) ys h = let parts = each_part P xs ys h.1 in ((h.0, parts.0), parts.1)
+
+each_join : {X : Type 0} (P : X → Type 0) (xs ys : List X) → Each P xs → Each P ys → Each P (xs ++ ys)
+each_join P [] ys h k = k
+each_join P (x ∷ xs) ys h k = (h.0, each_join P xs ys h.1 k)
+
+each_all : {X Y : Type 0} (P : X → Type 0) (Q : Y → Type 0) (f : X → Y) → ((x : X) → P x → Q (f x)) → (xs : List X) → Each P xs → All Q (map f xs)
+each_all P Q f so [] h = All-nil Q
+each_all P Q f so (x ∷ xs) h = All-cons Q (f x) (map f xs) (so x h.0) (each_all P Q f so xs h.1)
+
+from_all : {X : Type 0} (P : X → Type 0) (xs : List X) → All P xs → Each P xs
+from_all P [] h = tt
+from_all P (x ∷ xs) h = (All-head P x xs h, from_all P xs (All-tail P x xs h))
+
+in_one_field : (P : Shape → Type 0) (core : ℕ) (fields : List (Option Shape)) → Each P (flat_map in_field fields) → Each P (in_field (slice_index_or fields core None))
+in_one_field P zero [] h = tt
+in_one_field P (suc core) [] h = tt
+in_one_field P zero (c ∷ cs) h = (each_part P (in_field c) (flat_map in_field cs) h).0
+in_one_field P (suc core) (c ∷ cs) h = in_one_field P core cs (each_part P (in_field c) (flat_map in_field cs) h).1
+
+in_one_column : (P : Shape → Type 0) (core : ℕ) (all : List (List (Option Shape))) → Each P (in_rows all) → Each P (column core all)
+in_one_column P core [] h = tt
+in_one_column P core (one ∷ others) h =
+    let parts = each_part P (flat_map in_field one) (in_rows others) h in
+    each_join P (in_field (slice_index_or one core None)) (column core others) (in_one_field P core one parts.0) (in_one_column P core others parts.1)
+
+shapes_known : (shapes : List Shape) (names : List (List ℕ)) → AllKnown names (flat_map location_in shapes) → Each (λ shape. AllKnown names (location_in shape)) shapes
+shapes_known [] names k = tt
+shapes_known (s ∷ shapes) names k = let parts = known_parts (location_in s) (flat_map location_in shapes) names k in (parts.0, shapes_known shapes names parts.1)
+
+location_known : (names : List (List ℕ)) (shape : Shape) → AllKnown names (location_in shape) → KnownLocation (length names) (instr_with names shape)
+location_known names (store_imm x v) k = place_below (bytes_eq x) names k.0
+location_known names (store_reg x reg) k = place_below (bytes_eq x) names k.0
+location_known names (load reg x) k = place_below (bytes_eq x) names k.0
+location_known names (set_imm reg v) k = tt
+location_known names (set_reg reg other) k = tt
+location_known names fence k = tt
+location_known names (xchg x reg) k = place_below (bytes_eq x) names k.0
+location_known names (xadd x reg) k = place_below (bytes_eq x) names k.0
+
+constant_word : (names : List (List ℕ)) (shape : Shape) → ValueFits shape → ConstantIsWord (instr_with names shape)
+constant_word names (store_imm x v) f = f
+constant_word names (store_reg x reg) f = tt
+constant_word names (load reg x) f = tt
+constant_word names (set_imm reg v) f = f
+constant_word names (set_reg reg other) f = tt
+constant_word names fence f = tt
+constant_word names (xchg x reg) f = tt
+constant_word names (xadd x reg) f = tt
+
+-- ---- the test
+
+some_is : (x y : Condition) → Some x ≡ Some y → x ≡ y
+some_is x y e = cc
+
+room_asked : (cores : ℕ) (names : List (List ℕ)) (c : Option WrittenCondition) → IsAskedWithin cores names c → length (numbered names (names_asked c)) ≤ 16
+unfolding numbered
+room_asked cores names None h = h
+room_asked cores names (Some c) h = h.room
+
+condition_fits : (cores : ℕ) (names : List (List ℕ)) (c : Option WrittenCondition) → AskedKeeps c → IsAskedWithin cores names c
+    → ForSome (condition_of (numbered names (names_asked c)) c) (IsConditionOf cores (length (numbered names (names_asked c))))
+condition_fits cores names None k h = λ x e. absurd cc
+condition_fits cores names (Some c) k h = λ x e.
+    let all = numbered names (locations_in c.phrase) in
+    subst (IsConditionOf cores (length all)) (some_is _ x e) (record {
+      names_known = exist_by cores all c.phrase (all_known (locations_in c.phrase) names) h.fits;
+      atoms = omega (arith, atoms_by all c.phrase, h.few);
+      negations = k.negations all;
+    })
+
+column_words : (w : Written) (core : ℕ) → AreWithin (first_names w) w.table → All ConstantIsWord (map (instr_with (located w)) (column core w.table))
+column_words w core h =
+    each_all ValueFits ConstantIsWord (instr_with (located w)) (constant_word (located w)) (column core w.table) (in_one_column ValueFits core w.table (from_all ValueFits (in_rows w.table) h.values))
+
+column_fits : (w : Written) (core : ℕ) → AreWithin (first_names w) w.table → IsProgram (length (located w)) (map (instr_with (located w)) (column core w.table))
+column_fits w core h =
+    let all = located w in
+    let Knows : Shape → Type 0 = λ shape. AllKnown all (location_in shape) in
+    let named = flat_map location_in (in_rows w.table) in
+    let known = shapes_known (in_rows w.table) all (all_known_more named (names_asked w.asked) (located_in_rows w) (all_known named (first_names w))) in
     record {
-      name_spelled = is;
-      some_core = omega (arith, n, some, each);
-      cores = omega (arith, n, few, each);
-      registers_given = sym n;
-      location_count = after.grown.names.count;
-      locations_spelled = list_all-from_AllPass is_location_name names after.grown.names.spelled;
-      locations_differ = after.grown.names.differ;
-      values = record { words = words-of (length names) words words_are; registers = registers_are; constants = programs_constants instrs kept.constants (length registers) 0 };
-      words_given = length-words (length names) words (omega (arith, given, kept.more, after.grown.grown));
-      programs_fit = programs_fit (length names) instrs
-          (All-weaker (λ i. KnownLocation (length old) i.instr) (λ i. KnownLocation (length names) i.instr) (λ i k. known_further _ _ i.instr after.grown.grown k) instrs kept.known)
-          kept.room (length registers) 0;
-      condition_fits = λ x e. rw (n, each) (after.fits x e);
+      size = omega (arith, length-map (column core w.table) (instr_with all), h.few core);
+      locations_known = each_all Knows (KnownLocation (length all)) (instr_with all) (location_known all) (column core w.table) (in_one_column Knows core w.table known);
     }
 
-body_keeps : (name text : List ℕ) (stop : Stop) (ps : List Piece) → is_test_name name ≡ true → IfOk (body_of name text stop ps) IsTest
-unfolding body_of
-body_keeps name text stop ps is =
-    bind_keeps (λ (x : Initial × List Piece). KeptInitial x.0) IsTest (initial_at stop [] ps) _ (initial_keeps stop ps)
-    (λ i first. bind_keeps (KeptTable (length i.0.names) i.0.registers) IsTest (table_at stop i.0.registers i.0.names i.1) _ (table_keeps stop i.0.registers i.0.names i.1 first.names)
-    (λ t kept. bind_keeps (EndingKept t.cores t.rows.names) IsTest (tail_at text stop t.cores t.rows.names t.rows.rest) _ (tail_keeps text stop t.cores t.rows.names t.rows.rest kept.kept.names)
-    (λ ending after. test_fits name t.cores (length i.0.names) t.rows.names i.0.words t.registers t.rows.instrs ending.0 ending.1 is kept.some kept.few kept.registers.each (registers-words t.cores i.0.registers t.registers kept.registers first.given) first.few first.words kept.kept after)))
+written_is_test : (text : List ℕ) (w : Written) → IsText text w → KeepsLimits w → IsTest (test_written w)
+written_is_test text w is limits =
+    let names = body_names is.braces w is.body in
+    let all = located w in
+    let asked = ending_keeps is.braces _ _ w.asked is.body.is_ending in
+    let some = grow 0 _ w.cores is.body.head.header_row.is.columns in
+    let few = is.body.head.header_row.is.few in
+    let many : length (test_written w).programs ≡ w.cores = length-map-range_with_len _ 0 w.cores in
+    let cores = range_with_len 0 w.cores in
+    let program : ℕ → List Instr = λ c. map (instr_with all) (column c w.table) in
+    record {
+      name_spelled = is.header.good;
+      some_core = omega (arith, many, some);
+      cores = omega (arith, many, few);
+      registers_given = length-map-range_with_len _ 0 w.cores ∙ sym many;
+      location_count = room_asked w.cores (located_in_rows w) w.asked limits.condition;
+      locations_spelled = names.spelled;
+      locations_differ = names.differ;
+      words_given = length-map all _;
+      values = record {
+        words = All-map IsWord (λ x. value_in (initial.same_place (of_location x 0)) 0 w.settings) all (λ i d lt. first_value _ w.settings limits.settings);
+        registers = registers_are w.settings w.cores limits.settings;
+        constants = All-map (λ program. All ConstantIsWord program) program cores (λ i d lt. column_words w (slice_index_or cores i d) limits.rows);
+      };
+      programs_fit = All-map (IsProgram (length all)) program cores (λ i d lt. column_fits w (slice_index_or cores i d) limits.rows);
+      condition_fits = rw many (condition_fits w.cores (located_in_rows w) w.asked asked limits.condition);
+    }
 
 pub spelled_is_test : (text : List ℕ) (t : Litmus) → reading_of text ≡ Ok t → IsTest t
-unfolding reading_of
-spelled_is_test text t is = ok_is IsTest _ t
-    (bind_keeps (λ x. Any x) IsTest (sized text) _ (ok_any _)
-    (λ bytes _. bind_keeps IsNamed IsTest (header_at bytes) _ (header_named bytes)
-    (λ header named. bind_keeps (λ x. Any x) IsTest (braces_at header.1) _ (ok_any _)
-    (λ braces _. body_keeps header.0 braces (pieces_of braces).1 (pieces_of braces).0 named)))) is
+spelled_is_test text t e = let f = text_takes text t e in subst IsTest (sym f.says) (written_is_test text f.written f.is f.limits)
+
+pub name_is_text : (text called rest : List ℕ) → Ok (called, rest) ≡ header_at text → IsUtf8 called
+name_is_text text called rest at = test_text called (header_takes text called rest (sym at)).good
+
+pub names_are_text : (text : List ℕ) (rest : List Piece) (i : Initial) (t : Table) (asked : Option Condition) (names : List (List ℕ)) → initial_at (stop_of text) [] (tokens_in text) ≡ Ok (i, rest)
+    → table_at (stop_of text) i.registers i.names rest ≡ Ok t → tail_at text (stop_of text) t.cores t.rows.names t.rows.rest ≡ Ok (asked, names) → All (λ x. IsUtf8 x) names
+unfolding body_of
+names_are_text text rest i t asked names first further ending =
+    let read : body_of [] text (stop_of text) (tokens_in text) ≡ Ok (test_of [] names i.words t.registers t.rows.instrs asked) = rw (first, further, ending) refl in
+    let k = body_taken [] text _ read in
+    let same : names ≡ located k.w = ap (λ (t : Litmus). t.locations) k.says in
+    All-weaker (λ x. is_location_name x ≡ true) (λ x. IsUtf8 x) location_text names (AllPass-from_list_all is_location_name names (rw same (body_names text k.w k.body).spelled))

@@ -22,11 +22,6 @@ use Rattle.litmus_reader.specs.Settings.{setting_at, core_of}
 use Rattle.litmus_cells.specs.Places.{fault}
 use Rattle.litmus_reader.specs.Places.{remaining_of, part_of}
 use Rattle.litmus_reader.specs.Written.{Setting, of_register, of_location}
-use Rattle.litmus_reader.specs.declared.fault.Part.{Part}
-
--- in the condition
-abbrev pub in_condition : Stop → Part
-in_condition stop = part_of BadCondition stop
 
 -- the claim of a setting, and the names with its location's
 unfoldable pub claim_in : ℕ → ℕ → List (List ℕ) → Setting → Result (Claim × List (List ℕ)) Fault
@@ -47,9 +42,6 @@ pub record Claimed : Type 0 where
   pub names : List (List ℕ)
   pub rest : List Piece
 
-abbrev pub claimed : Claim → ℕ → List (List ℕ) → List Piece → Claimed
-claimed claim atoms names rest = record { claim = claim; atoms = atoms; names = names; rest = rest }
-
 -- how many atoms there are with one more; one too many is refused at `remaining`
 abbrev pub one_more : ℕ → ℕ → Result ℕ Fault
 one_more remaining atoms = if nat_lt atoms most_atoms then Ok (atoms + 1) else Err (fault TooLarge remaining)
@@ -60,37 +52,31 @@ truth_at ps =
     there (word_after (codes "true") ps) (λ rest. Some (true, rest))
     (there (word_after (codes "false") ps) (λ rest. Some (false, rest)) None)
 
--- an atom that is true or false, after so many others
-abbrev pub truth_atom : ℕ → ℕ → List (List ℕ) → Bool × List Piece → Result Claimed Fault
-truth_atom remaining atoms names t = do
-  n ← one_more remaining atoms
-  Ok (claimed (TruthClaim t.0) n names t.1)
-
 -- an atom of a register or a location, after so many others
 unfoldable pub setting_atom : Stop → ℕ → ℕ → List (List ℕ) → List Piece → Result Claimed Fault
 setting_atom stop cores atoms names ps = do
-  setting ← setting_at (in_condition stop) ps
+  setting ← setting_at (part_of BadCondition stop) ps
   claim ← claim_in cores (remaining_of ps) names setting.0
   n ← one_more (remaining_of ps) atoms
-  Ok (claimed claim.0 n claim.1 setting.1)
+  Ok (record { claim = claim.0; atoms = n; names = claim.1; rest = setting.1 })
 
 -- an atom after so many others
 unfoldable pub atom_at : Stop → ℕ → ℕ → List (List ℕ) → List Piece → Result Claimed Fault
-atom_at stop cores atoms names ps = there (truth_at ps) (truth_atom (remaining_of ps) atoms names) (setting_atom stop cores atoms names ps)
+atom_at stop cores atoms names ps =
+    there (truth_at ps)
+    (λ t. one_more (remaining_of ps) atoms >>= λ n. Ok (record { claim = TruthClaim t.0; atoms = n; names = names; rest = t.1 }))
+    (setting_atom stop cores atoms names ps)
 
 -- a reading of a proposition, after so many atoms and with these names
 abbrev pub Proposition : Type 0
 Proposition = ℕ → List (List ℕ) → List Piece → Result Claimed Fault
-
-abbrev pub joined_to : (Claim → Claim → Claim) → Claim → Claimed → Claimed
-joined_to join left right = record right { claim = join left right.claim }
 
 -- what `unit` reads after each `symbol`, joined from the left to what has been read; at most n of them
 unfoldable pub chain : Symbol → (Claim → Claim → Claim) → Proposition → ℕ → Claimed → Result Claimed Fault
 chain symbol join unit zero c = Ok c
 chain symbol join unit (suc n) c =
     there (symbol_at symbol c.rest)
-    (λ rest. unit c.atoms c.names rest >>= λ right. chain symbol join unit n (joined_to join c.claim right))
+    (λ rest. unit c.atoms c.names rest >>= λ right. chain symbol join unit n (record right { claim = join c.claim right.claim }))
     (Ok c)
 
 -- units with `symbol` between them, joined from the left; each takes a token or more
@@ -99,19 +85,9 @@ chain_of symbol join unit atoms names ps = do
   first ← unit atoms names ps
   chain symbol join unit (length first.rest) first
 
-abbrev pub both : Claim → Claim → Claim
-both left right = AndClaim left right
-
-abbrev pub either : Claim → Claim → Claim
-either left right = OrClaim left right
-
--- units joined by `/\`
-abbrev pub conjunction : Proposition → Proposition
-conjunction unit = chain_of And both unit
-
--- conjunctions joined by `\/`
+-- units joined by `/\`, and these by `\/`
 abbrev pub disjunction : Proposition → Proposition
-disjunction unit = chain_of Or either (conjunction unit)
+disjunction unit = chain_of Or OrClaim (chain_of And AndClaim unit)
 
 -- what stands after a `~` or a `not`
 unfoldable pub negation_at : List Piece → Option (List Piece)
@@ -121,23 +97,17 @@ negation_at ps = there (symbol_at Tilde ps) (λ rest. Some rest) (word_after (co
 unfoldable pub opens_unit : List Piece → Bool
 opens_unit ps = is_some (negation_at ps) || is_some (symbol_at OpenRound ps)
 
--- the unit after a negation
-abbrev pub negated : Proposition → ℕ → List (List ℕ) → List Piece → Result Claimed Fault
-negated inner atoms names ps = do
-  c ← inner atoms names ps
-  Ok (claimed (NotClaim c.claim) c.atoms c.names c.rest)
-
 -- the proposition after a `(`, and its `)`
 abbrev pub bracketed : Stop → Proposition → ℕ → List (List ℕ) → List Piece → Result Claimed Fault
 bracketed stop inner atoms names ps = do
   c ← disjunction inner atoms names ps
-  rest ← or_unfit (in_condition stop) c.rest (symbol_at CloseRound c.rest)
-  Ok (claimed c.claim c.atoms c.names rest)
+  rest ← or_unfit (part_of BadCondition stop) c.rest (symbol_at CloseRound c.rest)
+  Ok (record c { rest = rest })
 
 -- a unit whose own units are read by `inner`
 unfoldable pub unit_by : Stop → ℕ → Proposition → Proposition
 unit_by stop cores inner atoms names ps =
-    there (negation_at ps) (negated inner atoms names)
+    there (negation_at ps) (λ rest. inner atoms names rest >>= λ c. Ok (record c { claim = NotClaim c.claim }))
     (there (symbol_at OpenRound ps) (bracketed stop inner atoms names)
     (atom_at stop cores atoms names ps))
 
@@ -156,28 +126,17 @@ pub record Conditioned : Type 0 where
   pub names : List (List ℕ)
   pub rest : List Piece
 
-abbrev pub conditioned : Option Condition → List (List ℕ) → List Piece → Conditioned
-conditioned condition names rest = record { condition = condition; names = names; rest = rest }
-
-abbrev pub with_claim : Quantifier → Claimed → Conditioned
-with_claim quantifier c = conditioned (Some (record { quantifier = quantifier; claim = c.claim })) c.names c.rest
-
 -- the proposition after this quantifier
 unfoldable pub quantified : Stop → ℕ → Quantifier → List (List ℕ) → List Piece → Result Conditioned Fault
 quantified stop cores quantifier names ps = do
   c ← proposition_at stop cores most_open 0 names ps
-  Ok (with_claim quantifier c)
-
--- `exists` after a `~`
-unfoldable pub not_exists : Stop → ℕ → List (List ℕ) → List Piece → Result Conditioned Fault
-not_exists stop cores names ps = do
-  rest ← or_unfit (in_condition stop) ps (word_after (codes "exists") ps)
-  quantified stop cores NotExists names rest
+  Ok (record { condition = Some (record { quantifier = quantifier; claim = c.claim }); names = c.names; rest = c.rest })
 
 -- the condition, if there is one: `exists`, `forall` or `~exists`, and a proposition
 unfoldable pub condition_at : Stop → ℕ → List (List ℕ) → List Piece → Result Conditioned Fault
 condition_at stop cores names ps =
     there (word_after (codes "exists") ps) (quantified stop cores Exists names)
     (there (word_after (codes "forall") ps) (quantified stop cores Forall names)
-    (there (symbol_at Tilde ps) (not_exists stop cores names)
-    (Ok (conditioned None names ps))))
+    (there (symbol_at Tilde ps)
+    (λ rest. or_unfit (part_of BadCondition stop) rest (word_after (codes "exists") rest) >>= λ ps. quantified stop cores NotExists names ps)
+    (Ok (record { condition = None; names = names; rest = ps }))))

@@ -7,66 +7,64 @@ use Rattle.tso_model.specs.declared.register.Reg.{Reg}
 use Rattle.litmus_tokens.specs.declared.token.Symbol.TheVariants.{OpenSquare, CloseSquare, Comma, Dollar}
 use Rattle.decimals.specs.Decimals.{decimal_value}
 use Rattle.litmus_tokens.specs.Terms.{Term, number, name, symbol}
+use Rattle.litmus_cells.specs.Arguments.{ArgumentTerm, in_memory, in_register, constant}
 use Rattle.litmus_cells.specs.Shapes.{Shape, store_imm, store_reg, load, set_imm, set_reg, fence, xchg, xadd}
 
--- `v` or `$v`
-pub data IsConstant : List Term → ℕ → Type 0 where
-  plain : (v : List ℕ) → IsConstant (number v ∷ []) (decimal_value v)
-  with_dollar : (v : List ℕ) → IsConstant (symbol Dollar ∷ number v ∷ []) (decimal_value v)
-
--- `[x]`
-pub data IsMemory : List Term → List ℕ → Type 0 where
+-- an operand
+pub data IsOperand : List Term → ArgumentTerm → Type 0 where
+  -- `v`
+  plain : (v : List ℕ) → IsOperand (number v ∷ []) (constant (decimal_value v))
+  -- `$v`
+  with_dollar : (v : List ℕ) → IsOperand (symbol Dollar ∷ number v ∷ []) (constant (decimal_value v))
+  -- `[x]`
   in_squares : (x : List ℕ) → IsTrue (is_location_name x)
-      → IsMemory (symbol OpenSquare ∷ name x ∷ symbol CloseSquare ∷ []) x
+      → IsOperand (symbol OpenSquare ∷ name x ∷ symbol CloseSquare ∷ []) (in_memory x)
+  -- `REG`
+  named : (x : List ℕ) (r : Reg) → register_named x ≡ Some r → IsOperand (name x ∷ []) (in_register r)
 
--- `REG`
-pub data IsRegister : List Term → Reg → Type 0 where
-  named : (x : List ℕ) (r : Reg) → register_named x ≡ Some r → IsRegister (name x ∷ []) r
+-- this word, in any case of letters, and two operands with a comma between them
+pub data IsCall (word : List ℕ) : List Term → ArgumentTerm → ArgumentTerm → Type 0 where
+  call : (letters : List ℕ) (a b : List Term) (first second : ArgumentTerm) → IsTrue (same_letters letters word)
+      → IsOperand a first → IsOperand b second → IsCall word (name letters ∷ a ++ symbol Comma ∷ b) first second
 
--- this word, in any case of letters
-pub data IsMnemonic (word : List ℕ) : Term → Type 0 where
-  spelled : (letters : List ℕ) → IsTrue (same_letters letters word) → IsMnemonic word (name letters)
-
--- two operands with a comma between them
-abbrev pub separated : List Term → List Term → List Term
-separated first second = first ++ symbol Comma ∷ second
-
--- `XCHG` with a location and a register, in either order
-pub data IsExchange : List Term → Shape → Type 0 where
-  -- `XCHG [x],REG`
-  memory_first : (m : Term) (a b : List Term) (x : List ℕ) (r : Reg) → IsMnemonic (codes "XCHG") m
-      → IsMemory a x → IsRegister b r → IsExchange (m ∷ separated a b) (xchg x r)
-  -- `XCHG REG,[x]`
-  register_first : (m : Term) (a b : List Term) (r : Reg) (x : List ℕ) → IsMnemonic (codes "XCHG") m
-      → IsRegister a r → IsMemory b x → IsExchange (m ∷ separated a b) (xchg x r)
-
--- the two operands of `MOV`, and the instruction that they spell
-pub data IsMove (a b : List Term) : Shape → Type 0 where
+-- the operands of `MOV`, and the instruction that they spell
+pub data IsMove : ArgumentTerm → ArgumentTerm → Shape → Type 0 where
   -- `[x],v` and `[x],$v`
-  stores_constant : (x : List ℕ) (v : ℕ) → IsMemory a x → IsConstant b v
-      → IsMove a b (store_imm x v)
+  stores_constant : (x : List ℕ) (v : ℕ) → IsMove (in_memory x) (constant v) (store_imm x v)
   -- `[x],REG`
-  stores_register : (x : List ℕ) (r : Reg) → IsMemory a x → IsRegister b r
-      → IsMove a b (store_reg x r)
+  stores_register : (x : List ℕ) (r : Reg) → IsMove (in_memory x) (in_register r) (store_reg x r)
   -- `REG,[x]`
-  loads : (r : Reg) (x : List ℕ) → IsRegister a r → IsMemory b x → IsMove a b (load r x)
+  loads : (r : Reg) (x : List ℕ) → IsMove (in_register r) (in_memory x) (load r x)
   -- `REG,v` and `REG,$v`
-  sets_constant : (r : Reg) (v : ℕ) → IsRegister a r → IsConstant b v → IsMove a b (set_imm r v)
+  sets_constant : (r : Reg) (v : ℕ) → IsMove (in_register r) (constant v) (set_imm r v)
   -- `REG,REG`: the first from the second
-  sets_register : (r s : Reg) → IsRegister a r → IsRegister b s → IsMove a b (set_reg r s)
+  sets_register : (r s : Reg) → IsMove (in_register r) (in_register s) (set_reg r s)
+
+-- the operands of `XCHG`: a location and a register, in either order
+pub data IsExchange : ArgumentTerm → ArgumentTerm → Shape → Type 0 where
+  -- `[x],REG`
+  memory_first : (x : List ℕ) (r : Reg) → IsExchange (in_memory x) (in_register r) (xchg x r)
+  -- `REG,[x]`
+  register_first : (r : Reg) (x : List ℕ) → IsExchange (in_register r) (in_memory x) (xchg x r)
+
+-- the operands of `XADD`: `[x],REG`
+pub data IsAddition : ArgumentTerm → ArgumentTerm → Shape → Type 0 where
+  adds : (x : List ℕ) (r : Reg) → IsAddition (in_memory x) (in_register r) (xadd x r)
+
+-- what may stand after `LOCK`
+pub data IsLocked : List Term → Shape → Type 0 where
+  locked_exchange : (ts : List Term) (a b : ArgumentTerm) (shape : Shape) → IsCall (codes "XCHG") ts a b
+      → IsExchange a b shape → IsLocked ts shape
+  locked_addition : (ts : List Term) (a b : ArgumentTerm) (shape : Shape) → IsCall (codes "XADD") ts a b
+      → IsAddition a b shape → IsLocked ts shape
 
 -- the tokens of a cell that isn't empty, and the instruction that they spell
 pub data IsCell : List Term → Shape → Type 0 where
-  -- `MOV`
-  moves : (m : Term) (a b : List Term) (shape : Shape) → IsMnemonic (codes "MOV") m
-      → IsMove a b shape → IsCell (m ∷ separated a b) shape
-  -- `MFENCE`
-  fences : (m : Term) → IsMnemonic (codes "MFENCE") m → IsCell (m ∷ []) fence
+  moves : (ts : List Term) (a b : ArgumentTerm) (shape : Shape) → IsCall (codes "MOV") ts a b
+      → IsMove a b shape → IsCell ts shape
+  fences : (letters : List ℕ) → IsTrue (same_letters letters (codes "MFENCE")) → IsCell (name letters ∷ []) fence
   -- `XCHG`, also without `LOCK` before it
-  exchanges : (ts : List Term) (shape : Shape) → IsExchange ts shape → IsCell ts shape
-  locks_exchange : (l : Term) (ts : List Term) (shape : Shape) → IsMnemonic (codes "LOCK") l
-      → IsExchange ts shape → IsCell (l ∷ ts) shape
-  -- `LOCK XADD [x],REG`
-  locks_add : (l m : Term) (a b : List Term) (x : List ℕ) (r : Reg) → IsMnemonic (codes "LOCK") l
-      → IsMnemonic (codes "XADD") m → IsMemory a x → IsRegister b r
-      → IsCell (l ∷ m ∷ separated a b) (xadd x r)
+  exchanges : (ts : List Term) (a b : ArgumentTerm) (shape : Shape) → IsCall (codes "XCHG") ts a b
+      → IsExchange a b shape → IsCell ts shape
+  locks : (letters : List ℕ) (ts : List Term) (shape : Shape) → IsTrue (same_letters letters (codes "LOCK"))
+      → IsLocked ts shape → IsCell (name letters ∷ ts) shape

@@ -7,7 +7,7 @@ use Rattle.std.specs.Char.{is_ascii_alphabetic}
 use Rattle.litmus_tokens.specs.Gap.{gap_end}
 use Rattle.litmus_cells.specs.declared.fault.Why.TheVariants.{Unclosed, BadToken}
 use Rattle.litmus_cells.specs.declared.fault.Fault.{Fault}
-use Rattle.litmus_cells.specs.Faults.{◌>>=◌}
+use Rattle.litmus_cells.specs.Faults.{◌>>=◌, or_fault}
 use Rattle.litmus_reader.specs.Header.{from_gap}
 use Rattle.litmus_cells.specs.Places.{fault}
 use Rattle.litmus_reader.specs.GrammarText.{first_line, continues_key}
@@ -16,11 +16,6 @@ use Rattle.litmus_reader.specs.GrammarText.{first_line, continues_key}
 unfoldable pub quotation_end : List ℕ → Option (List ℕ)
 quotation_end [] = None
 quotation_end (b ∷ bs) = if b == 34 then Some bs else quotation_end bs
-
--- a quotation without its end is unclosed at its opener
-abbrev pub closed_quotation : ℕ → Option (List ℕ) → Result (List ℕ) Fault
-closed_quotation remaining (Some rest) = Ok rest
-closed_quotation remaining None = Err (fault Unclosed remaining)
 
 -- what stands after a key's `=` and the rest of its line
 abbrev pub key_value : ℕ → List ℕ → Result (List ℕ) Fault
@@ -31,11 +26,12 @@ key_value remaining (b ∷ bs) = if b == 61 then Ok (first_line bs).1 else Err (
 abbrev pub key_line_end : List ℕ → Result (List ℕ) Fault
 key_line_end bytes = key_value (length bytes) (drop (prefix_len continues_key bytes) bytes)
 
--- what stands after the quotation or the key line at the front; the text must not end here
+-- What stands after the quotation or the key line at the front; the text must not end here. A quotation without its end is
+-- unclosed at its opener.
 unfoldable pub information_end : List ℕ → Result (List ℕ) Fault
 information_end [] = Err (fault Unclosed 0)
 information_end (b ∷ bs) =
-    if b == 34 then closed_quotation (length (b ∷ bs)) (quotation_end bs)
+    if b == 34 then or_fault (quotation_end bs) (fault Unclosed (length (b ∷ bs)))
     else if is_ascii_alphabetic b then key_line_end (b ∷ bs)
     else Err (fault BadToken (length (b ∷ bs)))
 

@@ -22,10 +22,6 @@ use Rattle.litmus_cells.specs.Places.{fault}
 use Rattle.litmus_reader.specs.Places.{at_stop, remaining_of, unfit, in_initial}
 use Rattle.litmus_reader.specs.Written.{Setting, of_register, of_location}
 
--- before its `{`
-abbrev pub before_initial : Stop → Part
-before_initial stop = record { why = BadToken; missing = at_stop (fault Unclosed 0) stop }
-
 -- a register's first word, and the place of the item that gives it; the core is its digits
 pub record Given : Type 0 where
   pub remaining : ℕ
@@ -33,17 +29,11 @@ pub record Given : Type 0 where
   pub reg : Reg
   pub value : ℕ
 
-abbrev pub given : ℕ → List ℕ → Reg → ℕ → Given
-given remaining core reg value = record { remaining = remaining; core = core; reg = reg; value = value }
-
 -- what has been read: the names of the locations, their first words, and the registers' first words
 pub record Initial : Type 0 where
   pub names : List (List ℕ)
   pub words : List ℕ
   pub registers : List Given
-
-abbrev pub initial : List (List ℕ) → List ℕ → List Given → Initial
-initial names words registers = record { names = names; words = words; registers = registers }
 
 -- whether this register of this core is given there
 abbrev pub gives : List ℕ → Reg → Given → Bool
@@ -55,12 +45,12 @@ unfoldable pub judged : ℕ → Initial → Setting → Result Initial Fault
 judged remaining i (of_register core reg v) =
     word_at remaining v >>= λ value.
     if list_any (gives core reg) i.registers then Err (fault TwiceInit remaining)
-    else Ok (initial i.names i.words (i.registers ++ given remaining core reg value ∷ []))
+    else Ok (record i { registers = i.registers ++ record { remaining = remaining; core = core; reg = reg; value = value } ∷ [] })
 judged remaining i (of_location x v) =
     word_at remaining v >>= λ value.
     located remaining i.names x >>= λ loc.
     if nat_lt loc.0.0 (length i.words) then Err (fault TwiceInit remaining)
-    else Ok (initial loc.1 (i.words ++ value ∷ []) i.registers)
+    else Ok (record i { names = loc.1; words = i.words ++ value ∷ [] })
 
 -- whether an item ends here, by `;` or `}`
 unfoldable pub ends_item : List Piece → Bool
@@ -78,45 +68,29 @@ item_in part i ps =
 unfoldable pub step_in : Part → Initial → List Piece → Result (Initial × List Piece) Fault
 step_in part i ps = there (symbol_at Semicolon ps) (λ rest. Ok (i, rest)) (item_in part i ps)
 
--- what stands before the `}`, in at most n steps, and what stands after it
+-- what stands before the `}`, in at most n steps, and what stands after it; each step takes a token or more
 unfoldable pub items_within : ℕ → Part → Initial → List Piece → Result (Initial × List Piece) Fault
 items_within zero part i ps = Err (unfit part ps)
 items_within (suc n) part i ps =
     there (symbol_at CloseCurly ps) (λ rest. Ok (i, rest))
     (step_in part i ps >>= λ read. items_within n part read.0 read.1)
 
--- all items, separated by `;`, and what stands after the `}`; each step takes a token or more
-unfoldable pub items_at : Part → List (List ℕ) → List Piece → Result (Initial × List Piece) Fault
-items_at part names ps = items_within (length ps) part (initial names [] []) ps
-
--- what stands after its `{`
-abbrev pub opened_at : Stop → List Piece → Result (List Piece) Fault
-opened_at stop ps = or_unfit (before_initial stop) ps (symbol_at OpenCurly ps)
-
 -- the initial state, and what stands after it; there are no names before it
 unfoldable pub initial_at : Stop → List (List ℕ) → List Piece → Result (Initial × List Piece) Fault
 initial_at stop names ps = do
-  rest ← opened_at stop ps
-  items_at (in_initial (remaining_of ps) stop) names rest
-
--- the six registers of a core begin as 0
-abbrev pub no_registers : List ℕ
-no_registers = 0 ∷ 0 ∷ 0 ∷ 0 ∷ 0 ∷ 0 ∷ []
-
--- all registers, with this one's first word
-abbrev pub with_register : List (List ℕ) → ℕ → Reg → ℕ → List (List ℕ)
-with_register registers core reg value = slice_set registers core (with_value (slice_index_or registers core []) reg value)
+  rest ← or_unfit (record { why = BadToken; missing = at_stop (fault Unclosed 0) stop }) ps (symbol_at OpenCurly ps)
+  items_within (length rest) (in_initial (remaining_of ps) stop) (record { names = names; words = []; registers = [] }) rest
 
 -- the registers with these first words; the first of a core that isn't there is refused
 unfoldable pub registers_with : ℕ → List (List ℕ) → List Given → Result (List (List ℕ)) Fault
 registers_with cores registers [] = Ok registers
 registers_with cores registers (g ∷ gs) = do
   core ← core_of cores g.remaining g.core
-  registers_with cores (with_register registers core g.reg g.value) gs
+  registers_with cores (slice_set registers core (with_value (slice_index_or registers core []) g.reg g.value)) gs
 
--- each core's first registers
+-- each core's first registers; the six of a core begin as 0
 abbrev pub registers_of : ℕ → List Given → Result (List (List ℕ)) Fault
-registers_of cores all = registers_with cores (replicate cores no_registers) all
+registers_of cores all = registers_with cores (replicate cores (replicate 6 0)) all
 
 -- each location's first word; one that the initial state doesn't name begins as 0
 abbrev pub words_of : ℕ → List ℕ → List ℕ

@@ -6,12 +6,9 @@ use Rattle.litmus_tokens.specs.Pieces.{Piece}
 use Rattle.litmus_tokens.specs.Front.{name_at}
 use Rattle.litmus_cells.specs.Faults.{there}
 
-abbrev pub if_word : List ℕ → List ℕ × List Piece → Option (List Piece)
-if_word word found = if bytes_eq found.0 word then Some found.1 else None
-
 -- what stands after this word, if it is at the front
 unfoldable pub word_after : List ℕ → List Piece → Option (List Piece)
-word_after word ps = there (name_at ps) (if_word word) None
+word_after word ps = there (name_at ps) (λ x. if bytes_eq x.0 word then Some x.1 else None) None
 
 -- whether a token is this word
 abbrev pub is_word : List ℕ → Term → Bool

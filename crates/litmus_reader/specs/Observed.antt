@@ -13,11 +13,6 @@ use Rattle.litmus_reader.specs.Header.{from_gap}
 use Rattle.litmus_reader.specs.Keywords.{word_after}
 use Rattle.litmus_cells.specs.Places.{fault}
 use Rattle.litmus_reader.specs.Places.{remaining_of, from_place, part_of}
-use Rattle.litmus_reader.specs.declared.fault.Part.{Part}
-
--- after the word, where a `[` has to be
-abbrev pub in_observed : Stop → Part
-in_observed stop = part_of BadToken stop
 
 -- the first byte: the `]`, or one that is passed over; where there is none, the `[` at `remaining` is unclosed
 abbrev pub square_by : (List ℕ → Result (List ℕ) Fault) → ℕ → List ℕ → Result (List ℕ) Fault
@@ -33,22 +28,13 @@ square_within (suc n) remaining bytes = from_gap (gap_end None bytes) >>= λ at.
 unfoldable pub square_end : ℕ → List ℕ → Result (List ℕ) Fault
 square_end remaining bytes = square_within (suc (length bytes)) remaining bytes
 
--- the tokens in the brackets that have to begin here
-abbrev pub opened_at : Stop → List Piece → Result (List Piece) Fault
-opened_at stop ps = or_unfit (in_observed stop) ps (symbol_at OpenSquare ps)
-
--- what stands after the brackets, any bytes being allowed in them
+-- what stands after the brackets that have to begin here, any bytes being allowed in them
 unfoldable pub brackets_end : List ℕ → Stop → List Piece → Result (List ℕ) Fault
 brackets_end text stop ps = do
-  inside ← opened_at stop ps
+  inside ← or_unfit (part_of BadToken stop) ps (symbol_at OpenSquare ps)
   square_end (remaining_of ps) (from_place text (remaining_of ps))
-
--- the tokens after the brackets, and why there are no more
-abbrev pub brackets_tokens : List ℕ → Stop → List Piece → Result (List Piece × Stop) Fault
-brackets_tokens text stop ps = do
-  bytes ← brackets_end text stop ps
-  Ok (pieces_of bytes)
 
 -- the tokens after `locations [..]`, if it stands here, and else those from here on
 unfoldable pub ending_tokens : List ℕ → Stop → List Piece → Result (List Piece × Stop) Fault
-ending_tokens text stop ps = there (word_after (codes "locations") ps) (brackets_tokens text stop) (Ok (ps, stop))
+ending_tokens text stop ps =
+    there (word_after (codes "locations") ps) (λ rest. brackets_end text stop rest >>= λ bytes. Ok (pieces_of bytes)) (Ok (ps, stop))

@@ -4,5 +4,6 @@ pub mod Conditions
 pub mod Initial
 pub mod Settings
 pub mod Reading
+pub mod Rows
 pub mod Returned
 pub mod Sections

@@ -2,6 +2,7 @@
 
 ghost use Rattle.std.specs.Prelude.{◌≡◌, IfOk, All, map, replicate, string_bytes};
 ghost use Rattle.std.specs.Str.{IsUtf8};
+ghost use Rattle.std.specs.List.{range_with_len};
 ghost use Rattle.tso_model.specs.Names as names;
 ghost use Rattle.litmus_cells.specs.Locations.{texts};
 ghost use Rattle.litmus_reader.specs.Initial as initial;
@@ -66,7 +67,7 @@ fn programs_of(
     instrs: &[CoreInstr],
     cores: usize,
 ) -> Result<Vec<Vec<Instr>>, NoMemory>
-    ensures { IfOk result (λ v. map (λ program. program.items) v.items ≡ spec.programs_from 0 cores instrs.now) }
+    ensures { IfOk result (λ v. map (λ program. program.items) v.items ≡ map (spec.program_of instrs.now) (range_with_len 0 cores)) }
 {
     let mut programs = Vec::new(alloc);
     for core in 0..cores {

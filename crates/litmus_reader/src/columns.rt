@@ -7,37 +7,21 @@ ghost use Rattle.tso_model.specs.Limits.{most_cores};
 ghost use Rattle.litmus_tokens.specs.inner.Pieces.{pieces};
 ghost use Rattle.litmus_tokens.specs.inner.Mapped.{mapped};
 ghost use Rattle.litmus_reader.specs.Columns as spec;
+ghost use Rattle.litmus_reader.specs.GrammarColumns.{core_name};
+ghost use Rattle.litmus_reader.specs.Keywords.{word_after};
 
-use crate::fault::{Part, at_stop, remaining_of};
+use crate::fault::{part_of, remaining_of};
+use crate::keyword::after_word;
 use litmus_cells::{Fault, Why};
-use litmus_tokens::{Stop, Symbol, Token, after_symbol, name_at};
+use litmus_tokens::{Stop, Symbol, Token, after_symbol};
 use tso_model::limits::MAX_CORES;
 
-fn in_columns(stop: Stop) -> Part
-    ensures { result ≡ spec.in_columns stop }
-{
-    let end = Fault {
-        why: Why::BadHeaderRow,
-        remaining: 0,
-    };
-    Part {
-        why: Why::BadHeaderRow,
-        missing: at_stop(end, stop),
-    }
-}
-
 /// What stands after the name of this core.
-#[tactic(auto, unfolding(crate::specs::Columns::core_at))]
 fn after_core<'a, 'b>(core: usize, tokens: &'b [Token<'a>]) -> Option<&'b [Token<'a>]>
     requires { core ≤ most_cores }
-    ensures { option_map (λ x. pieces x.now) result ≡ spec.core_at core (pieces tokens.now) }
+    ensures { option_map (λ x. pieces x.now) result ≡ word_after (core_name core) (pieces tokens.now) }
 {
-    let (name, rest) = name_at(tokens)?;
-    if name == [b'P', b'0' + core as u8].as_slice() {
-        Some(rest)
-    } else {
-        None
-    }
+    after_word(&[b'P', b'0' + core as u8], tokens)
 }
 
 /// Whether another core follows, and what stands after the vertical bar or the `;`.
@@ -65,7 +49,7 @@ fn columns_from<'a, 'b>(
     ensures value { mapped (λ x. (x.0, pieces x.1.now)) result ≡ spec.columns stop (most_cores - core) core (pieces tokens.now) }
     ensures cores { IfOk result (λ x. x.0 ≤ most_cores) }
 {
-    let part = in_columns(stop);
+    let part = part_of(Why::BadHeaderRow, stop);
     let rest = part.expect(tokens, after_core(core, tokens))?;
     if core >= MAX_CORES {
         return Err(Fault {
@@ -88,7 +72,7 @@ pub fn columns_at<'a, 'b>(
     stop: Stop,
     tokens: &'b [Token<'a>],
 ) -> Result<(usize, &'b [Token<'a>]), Fault>
-    ensures value { mapped (λ x. (x.0, pieces x.1.now)) result ≡ spec.columns_at stop (pieces tokens.now) }
+    ensures value { mapped (λ x. (x.0, pieces x.1.now)) result ≡ spec.columns stop most_cores 0 (pieces tokens.now) }
     ensures cores { IfOk result (λ x. x.0 ≤ most_cores) }
 {
     columns_from(stop, 0, tokens)

@@ -4,7 +4,7 @@
 ghost use Rattle.std.specs.Prelude.{◌≡◌, ◌≤◌, ◌<◌, ◌+◌, length, codes, Some, None, Ok, IfOk, IfSome};
 ghost use Rattle.std.specs.Option.{option_map};
 ghost use Rattle.tso_model.specs.Limits.{most_cores};
-ghost use Rattle.tso_model.specs.Condition.{NotClaim, claim_of, condition_of};
+ghost use Rattle.tso_model.specs.Condition.{NotClaim, AndClaim, OrClaim, claim_of, condition_of};
 ghost use Rattle.litmus_tokens.specs.inner.Pieces.{pieces};
 ghost use Rattle.litmus_cells.specs.inner.Faults.{Gives};
 ghost use Rattle.litmus_tokens.specs.inner.Mapped.{mapped};
@@ -15,7 +15,7 @@ ghost use Rattle.litmus_reader.specs.Conditions as inner;
 ghost use Rattle.litmus_cells.specs.inner.Returned.{GivesNamed};
 ghost use Rattle.litmus_reader.specs.inner.Returned.{GivesClaim, GivesCondition};
 
-use crate::fault::{Part, at_stop, remaining_of};
+use crate::fault::{part_of, remaining_of};
 use crate::keyword::after_word;
 use crate::limits::MAX_OPEN;
 use crate::setting::{SpelledSetting, core_of, setting_at};
@@ -25,19 +25,6 @@ use litmus_tokens::{Stop, Symbol, Token, after_symbol};
 use std::alloc::Global;
 use tso_model::limits::MAX_ATOMS;
 use tso_model::{Cond, Prop, Quantifier};
-
-fn in_condition(stop: Stop) -> Part
-    ensures { result ≡ inner.in_condition stop }
-{
-    let end = Fault {
-        why: Why::BadCondition,
-        remaining: 0,
-    };
-    Part {
-        why: Why::BadCondition,
-        missing: at_stop(end, stop),
-    }
-}
 
 /// The proposition of an atom.
 ///
@@ -107,7 +94,7 @@ fn setting_atom<'a, 'b>(
     ensures shorter { IfOk result (λ x. length x.1.now < length tokens.now) }
 {
     let remaining = remaining_of(tokens);
-    let (item, rest) = setting_at(in_condition(stop), tokens)?;
+    let (item, rest) = setting_at(part_of(Why::BadCondition, stop), tokens)?;
     let prop = prop_of(cores, remaining, names, item)?;
     count_atom(remaining, atoms)?;
     Ok((prop, rest))
@@ -145,14 +132,14 @@ fn not(alloc: Global, inner: Prop) -> Result<Prop, ReadError>
 
 /// Two propositions joined by `/\`.
 fn and(alloc: Global, left: Prop, right: Prop) -> Result<Prop, ReadError>
-    ensures { Gives (λ p. claim_of p) result (Ok (inner.both (claim_of left) (claim_of right))) }
+    ensures { Gives (λ p. claim_of p) result (Ok (AndClaim (claim_of left) (claim_of right))) }
 {
     Ok(Prop::And(Box::new(alloc, left)?, Box::new(alloc, right)?))
 }
 
 /// Two propositions joined by `\/`.
 fn or(alloc: Global, left: Prop, right: Prop) -> Result<Prop, ReadError>
-    ensures { Gives (λ p. claim_of p) result (Ok (inner.either (claim_of left) (claim_of right))) }
+    ensures { Gives (λ p. claim_of p) result (Ok (OrClaim (claim_of left) (claim_of right))) }
 {
     Ok(Prop::Or(Box::new(alloc, left)?, Box::new(alloc, right)?))
 }
@@ -217,7 +204,10 @@ fn unit_at<'a, 'b>(
     }
     if let Some(inside) = after_symbol(Symbol::OpenRound, tokens) {
         let (prop, rest) = proposition_at(alloc, around, opens - 1, atoms, names, inside)?;
-        let rest = in_condition(around.stop).expect(rest, after_symbol(Symbol::CloseRound, rest))?;
+        let rest = part_of(Why::BadCondition, around.stop).expect(
+            rest,
+            after_symbol(Symbol::CloseRound, rest),
+        )?;
         return Ok((prop, rest));
     }
     atom_at(around.stop, around.cores, atoms, names, tokens)
@@ -291,7 +281,7 @@ fn quantified<'a, 'b>(
 /// The condition, if there is one, and the tokens after it.
 ///
 /// What stands in a condition and doesn't fit is `BadCondition`.
-#[tactic(auto, unfolding(crate::specs::Conditions::condition_at, crate::specs::Conditions::not_exists))]
+#[tactic(auto, unfolding(crate::specs::Conditions::condition_at))]
 pub fn condition_at<'a, 'b>(
     alloc: Global,
     stop: Stop,
@@ -309,7 +299,7 @@ pub fn condition_at<'a, 'b>(
         return quantified(alloc, stop, cores, Quantifier::Forall, names, rest);
     }
     if let Some(rest) = after_symbol(Symbol::Tilde, tokens) {
-        let rest = in_condition(stop).expect(rest, after_word(b"exists", rest))?;
+        let rest = part_of(Why::BadCondition, stop).expect(rest, after_word(b"exists", rest))?;
         return quantified(alloc, stop, cores, Quantifier::NotExists, names, rest);
     }
     Ok((None, tokens))

@@ -79,6 +79,17 @@ pub fn at_stop(end: Fault, stop: Stop) -> Fault
     }
 }
 
+/// How a part of the text refuses for which the end of the text is at fault as a token is.
+pub fn part_of(why: Why, stop: Stop) -> Part
+    ensures { result ≡ places.part_of why stop }
+{
+    let end = Fault { why, remaining: 0 };
+    Part {
+        why,
+        missing: at_stop(end, stop),
+    }
+}
+
 /// The place of the first token, or of the end.
 pub fn remaining_of(tokens: &[Token<'_>]) -> usize
     ensures { result ≡ places.remaining_of (pieces tokens.now) }

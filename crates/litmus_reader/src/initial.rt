@@ -235,7 +235,7 @@ pub fn read_initial<'a>(
 }
 
 fn no_registers(alloc: Global, cores: usize) -> Result<Vec<[u32; 6]>, NoMemory>
-    ensures { IfOk result (λ v. v.items ≡ replicate cores inner.no_registers) }
+    ensures { IfOk result (λ v. v.items ≡ replicate cores (replicate 6 0)) }
 {
     Ok(vec![in alloc; [0; 6]; cores]?)
 }

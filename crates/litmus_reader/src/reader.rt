@@ -18,7 +18,7 @@ ghost use Rattle.litmus_reader.specs.inner.Reading as spec;
 ghost use Rattle.litmus_reader.specs.Reading as inner;
 ghost use Rattle.litmus_reader.specs.Reading.{refusal};
 ghost use Rattle.litmus_reader.specs.inner.Sections.{tokens_in, stop_of};
-ghost use Rattle.litmus_reader.specs.inner.Returned.{GivesEnding, IsUnlessMemory, so_far, table_read};
+ghost use Rattle.litmus_reader.specs.inner.Returned.{GivesEnding, IsUnlessMemory};
 ghost use Rattle.litmus_reader.specs.Spelling.{SpellsTest, IsFault, IsRefused};
 
 use crate::assembling::parts_of;
@@ -26,9 +26,9 @@ use crate::condition::condition_at;
 use crate::fault::TextFault;
 use crate::header::{header_at, sized};
 use crate::information::braces_at;
-use crate::initial::{Initial, read_initial};
+use crate::initial::read_initial;
 use crate::observed::after_observed;
-use crate::row::{Table, read_table};
+use crate::row::read_table;
 use indexmap::IndexSet;
 use litmus_cells::{Fault, ReadError, Why};
 use litmus_tokens::{Stop, Token, line_of, tokens_of};
@@ -59,23 +59,6 @@ fn end_at(stop: Stop, tokens: &[Token<'_>]) -> Result<(), Fault>
     }
 }
 
-/// The condition, if there is one; the end of the text has to follow.
-#[tactic(auto, unfolding(crate::specs::Reading::ending_at))]
-fn ending_at<'a>(
-    alloc: Global,
-    stop: Stop,
-    cores: usize,
-    names: &mut IndexSet<&'a [u8]>,
-    tokens: &[Token<'a>],
-) -> Result<Option<Cond>, ReadError>
-    requires { cores ≤ most_cores }
-    ensures { GivesEnding result names.new.keys (inner.ending_at stop cores (texts names.old.keys) (pieces tokens.now)) }
-{
-    let (cond, rest) = condition_at(alloc, stop, cores, names, tokens)?;
-    end_at(stop, rest)?;
-    Ok(cond)
-}
-
 /// What stands after the rows of a text: `locations [..]`, the condition and the end.
 #[tactic(auto, unfolding(crate::specs::Reading::tail_at))]
 fn tail_at<'a>(
@@ -90,47 +73,12 @@ fn tail_at<'a>(
 {
     let bytes = after_observed(text, rest)?;
     let tokens = tokens_of(alloc, bytes)?;
-    ending_at(alloc, tokens.stop, cores, names, &tokens.items)
+    let (cond, rest) = condition_at(alloc, tokens.stop, cores, names, &tokens.items)?;
+    end_at(tokens.stop, rest)?;
+    Ok(cond)
 }
 
-/// What stands after the table, and with it the parts of the test whose first words and table these are.
-fn parts_after<'a>(
-    alloc: Global,
-    name: &[u8],
-    text: &'a [u8],
-    names: &mut IndexSet<&'a [u8]>,
-    words: Vec<u32>,
-    table: Table,
-    rest: &'a [u8],
-) -> Result<TestParts, ReadError>
-    requires name { IsUtf8 name.now }
-    requires cores { table.cores ≤ most_cores }
-    requires names { spec.NamesAreText text.now (stop_of rest.now) (table_read table names.old.keys rest.now) }
-    ensures { Gives (λ parts. litmus_of parts) result (inner.with_ending name.now text.now (stop_of rest.now) words.items (table_read table names.old.keys rest.now)) }
-{
-    let cond = tail_at(alloc, text, table.cores, names, rest)?;
-    let parts = parts_of(alloc, name, names.as_slice(), words, table, cond)?;
-    Ok(parts)
-}
-
-/// The table, what stands after it, and with them the parts of the test that begins with this initial state.
-fn parts_with<'a>(
-    alloc: Global,
-    name: &[u8],
-    text: &'a [u8],
-    names: &mut IndexSet<&'a [u8]>,
-    initial: Initial<'a>,
-    rest: &'a [u8],
-) -> Result<TestParts, ReadError>
-    requires name { IsUtf8 name.now }
-    requires names { spec.NamesStayText text.now (stop_of rest.now) (so_far names.old.keys initial) (tokens_in rest.now) }
-    ensures { Gives (λ parts. litmus_of parts) result (inner.with_table name.now text.now (stop_of rest.now) (so_far names.old.keys initial.entry) (tokens_in rest.now)) }
-{
-    let (table, rest) = read_table(alloc, &initial.registers, names, rest)?;
-    parts_after(alloc, name, text, names, initial.words, table, rest)
-}
-
-/// The initial state, the table and what stands after it.
+/// The parts of the test: the initial state, the table and what stands after it.
 #[tactic(auto, unfolding(crate::specs::Reading::body_of))]
 fn body_with<'a>(
     alloc: Global,
@@ -143,7 +91,10 @@ fn body_with<'a>(
     ensures { Gives (λ parts. litmus_of parts) result (inner.body_of name.now text.now (stop_of text.now) (tokens_in text.now)) }
 {
     let (initial, rest) = read_initial(alloc, names, text)?;
-    parts_with(alloc, name, text, names, initial, rest)
+    let (table, rest) = read_table(alloc, &initial.registers, names, rest)?;
+    let cond = tail_at(alloc, text, table.cores, names, rest)?;
+    let parts = parts_of(alloc, name, names.as_slice(), initial.words, table, cond)?;
+    Ok(parts)
 }
 
 /// The test without its header and its information lines.

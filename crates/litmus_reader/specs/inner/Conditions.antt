@@ -1,8 +1,21 @@
 -- The condition, as it is read: by recursion on its units, of which only so many may be open at once; so the reading comes
 -- to an end.
-use Rattle.std.specs.Prelude.{ℕ}
+use Rattle.std.specs.Prelude.{ℕ, List, Option}
+use Rattle.tso_model.specs.Condition.{Claim, AndClaim, Condition}
 use Rattle.litmus_tokens.specs.declared.token.Stop.{Stop}
-use Rattle.litmus_reader.specs.Conditions.{Proposition, conjunction, unit_at}
+use Rattle.litmus_tokens.specs.declared.token.Symbol.TheVariants.{And}
+use Rattle.litmus_tokens.specs.Pieces.{Piece}
+use Rattle.litmus_reader.specs.Conditions.{Claimed, Conditioned, Proposition, chain_of, unit_at}
+
+abbrev pub claimed : Claim → ℕ → List (List ℕ) → List Piece → Claimed
+claimed claim atoms names rest = record { claim = claim; atoms = atoms; names = names; rest = rest }
+
+abbrev pub conditioned : Option Condition → List (List ℕ) → List Piece → Conditioned
+conditioned condition names rest = record { condition = condition; names = names; rest = rest }
+
+-- units joined by `/\`
+abbrev pub conjunction : Proposition → Proposition
+conjunction unit = chain_of And AndClaim unit
 
 -- units joined by `/\`, in which so many negations and brackets may be open at once
 abbrev pub conjunction_at : Stop → ℕ → ℕ → Proposition

@@ -1,7 +1,9 @@
 -- The initial state, as it is read: its items one after the other, each refused where it gives a second value.
-use Rattle.std.specs.Prelude.{ℕ, ◌≡◌, map, Bool, List, [], ◌∷◌, Result, Ok, if◌then◌else◌, false}
+use Rattle.std.specs.Prelude.{ℕ, ◌≡◌, map, Bool, List, [], ◌∷◌, length, slice_index_or, slice_set, Result, Ok, if◌then◌else◌, false}
+use Rattle.tso_model.specs.Thread.{with_value}
 use denote.Ref.{Bor}
 use Rattle.tso_model.specs.Registers.{index_of}
+use Rattle.tso_model.specs.declared.register.Reg.{Reg}
 use Rattle.litmus_tokens.specs.declared.token.Symbol.TheVariants.{CloseCurly}
 use Rattle.litmus_tokens.specs.Pieces.{Piece}
 use Rattle.litmus_tokens.specs.Front.{is_symbol}
@@ -9,8 +11,14 @@ use Rattle.litmus_cells.specs.declared.fault.Fault.{Fault}
 use Rattle.litmus_reader.specs.declared.fault.Part.{Part}
 use Rattle.litmus_reader.specs.declared.initial.RegisterWord.{RegisterWord}
 use Rattle.litmus_cells.specs.Faults.{◌>>=◌}
-use Rattle.litmus_reader.specs.Initial.{Given, Initial, ends_item, given, item_in}
+use Rattle.litmus_reader.specs.Initial.{Given, Initial, ends_item, item_in, items_within}
 use Rattle.litmus_reader.specs.declared.initial.Initial as code
+
+abbrev pub given : ℕ → List ℕ → Reg → ℕ → Given
+given remaining core reg value = record { remaining = remaining; core = core; reg = reg; value = value }
+
+abbrev pub initial : List (List ℕ) → List ℕ → List Given → Initial
+initial names words registers = record { names = names; words = words; registers = registers }
 
 abbrev pub given_of : RegisterWord → Given
 given_of r = given r.remaining r.core.now r.reg r.value
@@ -28,6 +36,14 @@ named_by_word r = (r.core.now, index_of r.reg)
 -- the set has the registers that were given a word
 abbrev pub KnowsGiven : code.Initial → Type 0
 KnowsGiven i = map named_by_key i.given.keys ≡ map named_by_word i.registers.items
+
+-- all registers, with this one's first word
+abbrev pub with_register : List (List ℕ) → ℕ → Reg → ℕ → List (List ℕ)
+with_register registers core reg value = slice_set registers core (with_value (slice_index_or registers core []) reg value)
+
+-- all items, separated by `;`, and what stands after the `}`
+abbrev pub items_at : Part → List (List ℕ) → List Piece → Result (Initial × List Piece) Fault
+items_at part names ps = items_within (length ps) part (initial names [] []) ps
 
 -- the item at the front, unless an item ends there, and what stands from that end on
 unfoldable pub item_or_none : Part → Initial → List Piece → Result (Initial × List Piece) Fault

@@ -10,13 +10,15 @@ use Rattle.litmus_tokens.specs.inner.Pieces.{pieces}
 use Rattle.litmus_cells.specs.declared.fault.Fault.{Fault}
 use Rattle.litmus_cells.specs.declared.fault.ReadError.{ReadError}
 use Rattle.litmus_reader.specs.declared.fault.TextFault.{TextFault}
-use Rattle.litmus_reader.specs.Conditions.{claimed, Proposition, Conditioned, conditioned}
+use Rattle.litmus_reader.specs.Conditions.{Proposition, Conditioned}
+use Rattle.litmus_reader.specs.inner.Conditions.{claimed, conditioned}
 use Rattle.litmus_cells.specs.inner.Faults.{Gives}
 use Rattle.litmus_cells.specs.inner.Returned.{GivesNamed}
-use Rattle.litmus_reader.specs.inner.Initial.{given_of}
-use Rattle.litmus_reader.specs.Initial.{Initial, initial, judged}
+use Rattle.litmus_reader.specs.inner.Initial.{given_of, initial}
+use Rattle.litmus_reader.specs.Initial.{Initial, judged}
 use Rattle.litmus_cells.specs.Locations.{texts}
-use Rattle.litmus_reader.specs.Rows.{Table, table, rows}
+use Rattle.litmus_reader.specs.Rows.{Table}
+use Rattle.litmus_reader.specs.inner.Rows.{table, rows}
 use Rattle.litmus_reader.specs.inner.Sections.{tokens_in}
 use Rattle.litmus_reader.specs.Written.{Setting}
 use Rattle.litmus_reader.specs.Returned.{asked_of}

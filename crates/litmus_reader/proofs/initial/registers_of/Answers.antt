@@ -1,5 +1,5 @@
-use Rattle.litmus_reader.proofs.Vocabulary.{◌≡◌, ◌<◌, [], sym, ◌∙◌, get_or, arith, err_from_is_err_and, length-set, get_or_read}
-use Rattle.litmus_reader.proofs.Keeps.{ok_is, core_keeps}
+use Rattle.litmus_reader.proofs.Vocabulary.{◌≡◌, ◌<◌, [], sym, ◌∙◌, get_or, arith, err_from_is_err_and, length-set, get_or_read, subst, ℕ}
+use Rattle.litmus_reader.proofs.GrammarAtoms.{core_ok}
 use Rattle.litmus_reader.proofs.Listed.{registers_go_on, registers_fail, registers_done}
 use Rattle.litmus_reader.proofs.initial.registers_of.Goals as goal
 
@@ -10,7 +10,8 @@ returns-in_err-core c =
 
 pub loop-word-preserved : goal.loop-word-preserved
 loop-word-preserved c =
-    let below : c.in_ok-core.core.0 < c.args.cores = ok_is (λ core. core < c.args.cores) _ c.in_ok-core.core.0 (core_keeps c.args.cores _ _) (sym c.in_ok-core.ensures) in
+    let found = core_ok c.args.cores _ _ c.in_ok-core.core.0 (sym c.in_ok-core.ensures) in
+    let below : c.in_ok-core.core.0 < c.args.cores = subst (λ (n : ℕ). n < c.args.cores) found.0 found.1 in
     let old : c.index_mut.result.now ≡ get_or c.loop-word.registers.items c.in_ok-core.core.0 [] = get_or_read c.loop-word.registers.items _ _ (omega (arith, below, c.loop-word.invariant.each)) c.index_mut.ensures.value [] in
     record {
       same = rw (old, c.index.ensures.place) (registers_go_on c.args.cores c.loop-word.word-index c.in_ok-core.core.0 c.loop-word.registers.items c.args.given.now _ _ c.loop-word-test.true (sym c.in_ok-core.ensures) c.loop-word.invariant.same);
