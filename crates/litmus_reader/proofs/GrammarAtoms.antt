@@ -2,9 +2,9 @@
 use Rattle.litmus_reader.proofs.Vocabulary.{◌≡◌, ℕ, ◌+◌, ◌≤◌, ◌<◌, ◌^◌, Bool, true, false, cond, ltb, not, ◌&&◌, List, [], ◌∷◌, ◌++◌, length, Some, None, Ok, Err, refl, sym, ap, subst, ◌∙◌, inl, inr, arith, codes, bytes_eq, ltb-true, lt-ltb, and_parts, not-true, length-append, bytes_eq-Decides, Claim, TruthClaim, RegClaim, LocClaim, is_name, is_register_word, is_keyword, is_location_name, Loc, Stop, Equals, Colon, OpenSquare, CloseSquare, OpenRound, decimal_value, Term, number, name, symbol, Piece, is_symbol, symbol_at, name_at, TooLarge, NoSuchCore, there, word_after, located, word_at, setting_at, core_of, claim_in, Claimed, claimed, one_more, truth_at, setting_atom, atom_at, negation_at, terms, IsSetting, sets_register, sets_location, sets_in_squares, names_in, is_allowed, numbered, number_of, with_name, location, IsAtom, says_true, says_false, says_setting, PhraseFits, claim_by, IsWithin, fault, remaining_of, Setting, of_register, of_location, truth, atom, or_fault, BadNumber, part_of, BadCondition, ◌>>=◌}
 use Rattle.litmus_reader.proofs.GrammarTokens.{chosen, there_is, there_some, some_is, ok_is, ok_pair, bind_ok, opened, terms_append, word_taken}
 use Rattle.litmus_reader.proofs.GrammarItems.{setting_found, setting_taken}
-use Rattle.litmus_reader.proofs.GrammarPhrases.{Finds, Taken, Takes, Anything}
+use Rattle.litmus_reader.proofs.GrammarPhrases.{Finds, Takes, Anything}
 use Rattle.litmus_reader.proofs.GrammarNames.{with_name_by, place_below, place_none, known_with, number_with}
-use Rattle.litmus_reader.proofs.Readings.{Begins, given_by, ReadsPhrase}
+use Rattle.litmus_reader.proofs.Readings.{Begins, given_by, ReadsPhrase, SpellsPhrase}
 
 -- ---- atoms
 
@@ -184,52 +184,46 @@ truth_taken ps t e =
           (record { ts = name (codes "false") ∷ []; is = says_false; parts = word_taken (codes "false") ps no_at.0 no_at.1 })
     ]
 
-setting_atom_taken : (stop : Stop) (cores atoms : ℕ) (names : List (List ℕ)) (ps : List Piece) (c : Claimed) → setting_atom stop cores atoms names ps ≡ Ok c → Taken cores IsAtom atoms names ps c
+setting_atom_taken : (stop : Stop) (cores atoms : ℕ) (names : List (List ℕ)) (ps : List Piece) (c : Claimed) → length names ≤ 16 → setting_atom stop cores atoms names ps ≡ Ok c → SpellsPhrase IsAtom cores atoms names ps c
 unfolding setting_atom
-setting_atom_taken stop cores atoms names ps c e =
+setting_atom_taken stop cores atoms names ps c le e =
     let a = bind_ok (setting_at (part_of BadCondition stop) ps) _ c e in
     let b = bind_ok (claim_in cores (remaining_of ps) names a.0.0) _ c a.2 in
     let n = bind_ok (one_more (remaining_of ps) atoms) _ c b.2 in
     let t = setting_taken (part_of BadCondition stop) ps a.0.1 a.0.0 a.1 in
     let claim = claim_taken cores (remaining_of ps) names a.0.0 b.0 b.1 in
     let count = one_more_ok (remaining_of ps) atoms n.0 n.1 in
-    subst (Taken cores IsAtom atoms names ps) (ok_is (claimed b.0.0 n.0 b.0.1 a.0.1) c n.2) (record {
+    let new = numbered names (names_in (a.0.0 ∷ [])) in
+    subst (SpellsPhrase IsAtom cores atoms names ps) (ok_is (claimed b.0.0 n.0 b.0.1 a.0.1) c n.2) (record {
       ts = terms t.front;
       phrase = atom a.0.0;
       is = says_setting (terms t.front) a.0.0 t.is;
       parts = ap terms t.parts ∙ terms_append t.front a.0.1;
-      fits = atom_fits cores a.0.0 claim.fits;
-      names_are = claim.names_are;
-      claim_is = claim.claim_is;
-      atoms_are = count.0;
-      few = omega (arith, count.0, count.1);
-      room = claim.room;
+      within = record { fits = atom_fits cores a.0.0 claim.fits; few = omega (arith, count.1); room = claim.room le };
+      given = ap (λ (x : Claim). claimed x n.0 b.0.1 a.0.1) claim.claim_is ∙ ap (λ (k : ℕ). claimed (claim_by new (atom a.0.0)) k b.0.1 a.0.1) count.0
+          ∙ ap (λ (l : List (List ℕ)). claimed (claim_by new (atom a.0.0)) (atoms + 1) l a.0.1) claim.names_are;
     })
 
-truth_atom_taken : (remaining cores atoms : ℕ) (names : List (List ℕ)) (ps : List Piece) (t : Bool × List Piece) (c : Claimed) → truth_at ps ≡ Some t
-    → (one_more remaining atoms >>= λ n. Ok (claimed (TruthClaim t.0) n names t.1)) ≡ Ok c → Taken cores IsAtom atoms names ps c
+truth_atom_taken : (remaining cores atoms : ℕ) (names : List (List ℕ)) (ps : List Piece) (t : Bool × List Piece) (c : Claimed) → length names ≤ 16 → truth_at ps ≡ Some t
+    → (one_more remaining atoms >>= λ n. Ok (claimed (TruthClaim t.0) n names t.1)) ≡ Ok c → SpellsPhrase IsAtom cores atoms names ps c
 unfolding numbered
-truth_atom_taken remaining cores atoms names ps t c at e =
+truth_atom_taken remaining cores atoms names ps t c le at e =
     let n = bind_ok (one_more remaining atoms) _ c e in
     let b = truth_taken ps t at in
     let count = one_more_ok remaining atoms n.0 n.1 in
-    subst (Taken cores IsAtom atoms names ps) (ok_is (claimed (TruthClaim t.0) n.0 names t.1) c n.2) (record {
+    subst (SpellsPhrase IsAtom cores atoms names ps) (ok_is (claimed (TruthClaim t.0) n.0 names t.1) c n.2) (record {
       ts = b.ts;
       phrase = truth t.0;
       is = b.is;
       parts = b.parts;
-      fits = refl;
-      names_are = refl;
-      claim_is = refl;
-      atoms_are = count.0;
-      few = omega (arith, count.0, count.1);
-      room = λ le. le;
+      within = record { fits = refl; few = omega (arith, count.1); room = le };
+      given = ap (λ (k : ℕ). claimed (TruthClaim t.0) k names t.1) count.0;
     })
 
 pub atom_taken : (stop : Stop) (cores : ℕ) → Takes cores (atom_at stop cores) IsAtom
 unfolding atom_at
-atom_taken stop cores atoms names ps c e =
+atom_taken stop cores atoms names ps c le e =
     elim (there_is (truth_at ps) _ (setting_atom stop cores atoms names ps) (Ok c) e) [
-      | inl t ↦ truth_atom_taken (remaining_of ps) cores atoms names ps t.0 c t.1 t.2
-      | inr none ↦ setting_atom_taken stop cores atoms names ps c none.1
+      | inl t ↦ truth_atom_taken (remaining_of ps) cores atoms names ps t.0 c le t.1 t.2
+      | inr none ↦ setting_atom_taken stop cores atoms names ps c le none.1
     ]

@@ -1,8 +1,8 @@
 -- Units and propositions are read as they are spelled.
-use Rattle.litmus_reader.proofs.Vocabulary.{◌≡◌, ℕ, zero, suc, ◌+◌, ◌≤◌, Bool, true, false, List, [], ◌∷◌, ◌++◌, length, Some, None, Ok, Err, refl, sym, ap, subst, ◌∙◌, ◌⊎◌, inl, inr, append_assoc, arith, codes, Claim, NotClaim, Stop, OpenRound, CloseRound, And, Or, Tilde, Term, name, symbol, number, Piece, is_symbol, is_symbol_term, symbol_at, name_at, TooLarge, there, or_unfit, word_after, Claimed, claimed, atom_at, Proposition, disjunction, negation_at, opens_unit, bracketed, unit_by, unit_at, proposition_at, terms, numbered, IsAtom, says_true, says_false, says_setting, IsProposition, in_brackets, is_negation, IsUnit, locations_in, atoms_of, claim_by, IsWithin, fault, remaining_of, Phrase, negation, Symbol, bytes_eq, part_of, BadCondition, ◌>>=◌, ◌||◌}
+use Rattle.litmus_reader.proofs.Vocabulary.{◌≡◌, ℕ, zero, suc, ◌≤◌, Bool, true, false, List, [], ◌∷◌, ◌++◌, length, Some, None, Ok, Err, refl, sym, ap, subst, ◌∙◌, inl, inr, append_assoc, codes, NotClaim, Stop, OpenRound, CloseRound, And, Or, Tilde, Term, name, symbol, number, Piece, is_symbol, is_symbol_term, symbol_at, name_at, TooLarge, there, or_unfit, word_after, Claimed, claimed, atom_at, Proposition, disjunction, negation_at, opens_unit, bracketed, unit_by, unit_at, proposition_at, terms, IsAtom, says_true, says_false, says_setting, IsProposition, in_brackets, is_negation, IsUnit, IsWithin, fault, remaining_of, Phrase, negation, Symbol, bytes_eq, part_of, BadCondition, ◌>>=◌, ◌||◌}
 use Rattle.litmus_reader.specs.GrammarConditions.{plain, negated as negated_by}
 use Rattle.litmus_reader.proofs.GrammarTokens.{chosen, there_is, some_is, ok_is, bind_ok, or_unfit_ok, front, opened, symbol_takes, word_taken}
-use Rattle.litmus_reader.proofs.GrammarPhrases.{Finds, Taken, Takes, Anything, proposition_takes, proposition_finds}
+use Rattle.litmus_reader.proofs.GrammarPhrases.{Finds, Takes, spelled_as, Anything, proposition_takes, proposition_finds}
 use Rattle.litmus_reader.proofs.GrammarAtoms.{setting_plain, atom_found, atom_taken}
 use Rattle.litmus_reader.proofs.Readings.{given_by, ReadsPhrase, SpellsPhrase}
 use Rattle.litmus_reader.proofs.GrammarPhrases.{begins_with}
@@ -82,100 +82,64 @@ unit_finds stop cores (suc n) = next_found stop cores n (unit_finds stop cores n
 
 -- ---- units taken
 
-negation_taken : (ps rest : List Piece) → negation_at ps ≡ Some rest → (terms ps ≡ symbol Tilde ∷ terms rest) ⊎ (terms ps ≡ name (codes "not") ∷ terms rest)
+negation_taken : (ps rest : List Piece) → negation_at ps ≡ Some rest → (t : Term) × (terms ps ≡ t ∷ terms rest) × (is_negation t ≡ true)
 unfolding negation_at
 negation_taken ps rest e =
     elim (there_is (symbol_at Tilde ps) (λ rest. Some rest) (word_after (codes "not") ps) (Some rest) e) [
-      | inl at ↦ inl (symbol_takes Tilde ps at.0 at.1 ∙ ap (λ (l : List Piece). symbol Tilde ∷ terms l) (some_is at.0 rest at.2))
-      | inr none ↦ inr (word_taken (codes "not") ps rest none.1)
+      | inl at ↦ (symbol Tilde, symbol_takes Tilde ps at.0 at.1 ∙ ap (λ (l : List Piece). symbol Tilde ∷ terms l) (some_is at.0 rest at.2), refl)
+      | inr none ↦ (name (codes "not"), word_taken (codes "not") ps rest none.1, refl)
     ]
 
-negated_taken : (cores n atoms : ℕ) (names : List (List ℕ)) (ps rest : List Piece) (c : Claimed) → negation_at ps ≡ Some rest → Taken cores (IsUnit n) atoms names rest c
-    → Taken cores (IsUnit (suc n)) atoms names ps (negated_claim c)
+negated_taken : (cores n atoms : ℕ) (names : List (List ℕ)) (ps rest : List Piece) (c : Claimed) → negation_at ps ≡ Some rest → SpellsPhrase (IsUnit n) cores atoms names rest c
+    → SpellsPhrase (IsUnit (suc n)) cores atoms names ps (negated_claim c)
 negated_taken cores n atoms names ps rest c at t =
-    let claim = ap (λ (x : Claim). NotClaim x) t.claim_is in
-    elim (negation_taken ps rest at) [
-      | inl is_tilde ↦ record {
-        ts = symbol Tilde ∷ t.ts;
-        phrase = negation t.phrase;
-        is = negated_by (symbol Tilde) t.ts t.phrase refl t.is;
-        parts = is_tilde ∙ ap (λ (l : List Term). symbol Tilde ∷ l) t.parts;
-        fits = t.fits;
-        names_are = t.names_are;
-        claim_is = claim;
-        atoms_are = t.atoms_are;
-        few = t.few;
-        room = t.room;
-      }
-      | inr is_not ↦ record {
-        ts = name (codes "not") ∷ t.ts;
-        phrase = negation t.phrase;
-        is = negated_by (name (codes "not")) t.ts t.phrase refl t.is;
-        parts = is_not ∙ ap (λ (l : List Term). name (codes "not") ∷ l) t.parts;
-        fits = t.fits;
-        names_are = t.names_are;
-        claim_is = claim;
-        atoms_are = t.atoms_are;
-        few = t.few;
-        room = t.room;
-      }
-    ]
+    let word = negation_taken ps rest at in
+    record {
+      ts = word.0 ∷ t.ts;
+      phrase = negation t.phrase;
+      is = negated_by word.0 t.ts t.phrase word.2 t.is;
+      parts = word.1 ∙ ap (λ (l : List Term). word.0 ∷ l) t.parts;
+      within = record { fits = t.within.fits; few = t.within.few; room = t.within.room };
+      given = ap negated_claim t.given;
+    }
 
-bracketed_taken : (cores n atoms : ℕ) (names : List (List ℕ)) (ps inside rest : List Piece) (c : Claimed) → symbol_at OpenRound ps ≡ Some inside → Taken cores (IsProposition (IsUnit n)) atoms names inside c
-    → symbol_at CloseRound c.rest ≡ Some rest → Taken cores (IsUnit (suc n)) atoms names ps (claimed c.claim c.atoms c.names rest)
+bracketed_taken : (cores n atoms : ℕ) (names : List (List ℕ)) (ps inside rest : List Piece) (c : Claimed) → symbol_at OpenRound ps ≡ Some inside → SpellsPhrase (IsProposition (IsUnit n)) cores atoms names inside c
+    → symbol_at CloseRound c.rest ≡ Some rest → SpellsPhrase (IsUnit (suc n)) cores atoms names ps (claimed c.claim c.atoms c.names rest)
 bracketed_taken cores n atoms names ps inside rest c at t close = record {
   ts = symbol OpenRound ∷ t.ts ++ symbol CloseRound ∷ [];
   phrase = t.phrase;
   is = in_brackets t.ts t.phrase t.is;
   parts = symbol_takes OpenRound ps inside at ∙ ap (λ (l : List Term). symbol OpenRound ∷ l)
       (t.parts ∙ ap (λ (l : List Term). t.ts ++ l) (symbol_takes CloseRound c.rest rest close) ∙ sym (append_assoc t.ts (symbol CloseRound ∷ []) (terms rest)));
-  fits = t.fits;
-  names_are = t.names_are;
-  claim_is = t.claim_is;
-  atoms_are = t.atoms_are;
-  few = t.few;
-  room = t.room;
+  within = t.within;
+  given = ap (λ (c : Claimed). claimed c.claim c.atoms c.names rest) t.given;
 }
 
 last_taken : (stop : Stop) (cores : ℕ) → Takes cores (unit_at stop cores zero) (IsUnit zero)
 unfolding unit_at
-last_taken stop cores atoms names ps c e =
+last_taken stop cores atoms names ps c le e =
     elim (chosen (opens_unit ps) (Err (fault TooLarge (remaining_of ps))) (atom_at stop cores atoms names ps) (Ok c) e) [
       | inl hit ↦ absurd cc
-      | inr miss ↦ atom_taken stop cores atoms names ps c miss.1
+      | inr miss ↦ atom_taken stop cores atoms names ps c le miss.1
     ]
-
-plain_taken : (cores n atoms : ℕ) (names : List (List ℕ)) (ps : List Piece) (c : Claimed) → Taken cores IsAtom atoms names ps c → Taken cores (IsUnit (suc n)) atoms names ps c
-plain_taken cores n atoms names ps c t = record {
-  ts = t.ts;
-  phrase = t.phrase;
-  is = plain t.ts t.phrase t.is;
-  parts = t.parts;
-  fits = t.fits;
-  names_are = t.names_are;
-  claim_is = t.claim_is;
-  atoms_are = t.atoms_are;
-  few = t.few;
-  room = t.room;
-}
 
 next_taken : (stop : Stop) (cores n : ℕ) → Takes cores (unit_at stop cores n) (IsUnit n) → Takes cores (unit_at stop cores (suc n)) (IsUnit (suc n))
 unfolding unit_at unit_by
-next_taken stop cores n takes atoms names ps c e =
+next_taken stop cores n takes atoms names ps c le e =
     elim (there_is (negation_at ps) _
     (there (symbol_at OpenRound ps) (bracketed stop (unit_at stop cores n) atoms names) (atom_at stop cores atoms names ps)) (Ok c) e) [
       | inl at ↦
           let b = bind_ok (unit_at stop cores n atoms names at.0) _ c at.2 in
-          subst (Taken cores (IsUnit (suc n)) atoms names ps) (ok_is (negated_claim b.0) c b.2)
-          (negated_taken cores n atoms names ps at.0 b.0 at.1 (takes atoms names at.0 b.0 b.1))
+          subst (SpellsPhrase (IsUnit (suc n)) cores atoms names ps) (ok_is (negated_claim b.0) c b.2)
+          (negated_taken cores n atoms names ps at.0 b.0 at.1 (takes atoms names at.0 b.0 le b.1))
       | inr no_negation ↦ elim (there_is (symbol_at OpenRound ps) (bracketed stop (unit_at stop cores n) atoms names) (atom_at stop cores atoms names ps) (Ok c) no_negation.1) [
         | inl at ↦
             let b = bind_ok (disjunction (unit_at stop cores n) atoms names at.0) _ c at.2 in
             let r = bind_ok (or_unfit (part_of BadCondition stop) b.0.rest (symbol_at CloseRound b.0.rest)) _ c b.2 in
             let close = or_unfit_ok (part_of BadCondition stop) b.0.rest (symbol_at CloseRound b.0.rest) r.0 r.1 in
-            subst (Taken cores (IsUnit (suc n)) atoms names ps) (ok_is (claimed b.0.claim b.0.atoms b.0.names r.0) c r.2)
-            (bracketed_taken cores n atoms names ps at.0 r.0 b.0 at.1 (proposition_takes (IsUnit n) cores (unit_at stop cores n) takes atoms names at.0 b.0 b.1) close)
-        | inr no_bracket ↦ plain_taken cores n atoms names ps c (atom_taken stop cores atoms names ps c no_bracket.1)
+            subst (SpellsPhrase (IsUnit (suc n)) cores atoms names ps) (ok_is (claimed b.0.claim b.0.atoms b.0.names r.0) c r.2)
+            (bracketed_taken cores n atoms names ps at.0 r.0 b.0 at.1 (proposition_takes (IsUnit n) cores (unit_at stop cores n) takes atoms names at.0 b.0 le b.1) close)
+        | inr no_bracket ↦ spelled_as IsAtom (IsUnit (suc n)) (λ ts p is. plain ts p is) cores atoms names ps c (atom_taken stop cores atoms names ps c le no_bracket.1)
       ]
     ]
 
@@ -185,19 +149,6 @@ unit_takes stop cores (suc n) = next_taken stop cores n (unit_takes stop cores n
 
 -- ---- both ways
 
-pub spelled_by : (cores : ℕ) (Is : List Term → Phrase → Type 0) (atoms : ℕ) (names : List (List ℕ)) (ps : List Piece) (c : Claimed) → length names ≤ 16 → Taken cores Is atoms names ps c → SpellsPhrase Is cores atoms names ps c
-spelled_by cores Is atoms names ps c le t =
-    let new = numbered names (locations_in t.phrase) in
-    record {
-      ts = t.ts;
-      phrase = t.phrase;
-      is = t.is;
-      parts = t.parts;
-      within = record { fits = t.fits; few = omega (arith, t.few, t.atoms_are); room = t.room le };
-      given = ap (λ (x : Claim). claimed x c.atoms c.names c.rest) t.claim_is ∙ ap (λ (n : ℕ). claimed (claim_by new t.phrase) n c.names c.rest) t.atoms_are
-          ∙ ap (λ (l : List (List ℕ)). claimed (claim_by new t.phrase) (atoms + atoms_of t.phrase) l c.rest) t.names_are;
-    }
-
 pub proposition_again : (stop : Stop) (cores opens atoms : ℕ) (names : List (List ℕ)) (ps : List Piece) (ts back : List Term) (p : Phrase)
     → IsProposition (IsUnit opens) ts p → IsWithin cores atoms names p → terms ps ≡ ts ++ back → begins_with (is_symbol_term And) back ≡ false → begins_with (is_symbol_term Or) back ≡ false
     → ReadsPhrase (proposition_at stop cores opens) atoms names p back ps
@@ -206,5 +157,4 @@ proposition_again stop cores opens atoms names ps ts back p is within e no_and n
 
 pub proposition_spelled : (stop : Stop) (cores opens atoms : ℕ) (names : List (List ℕ)) (ps : List Piece) (c : Claimed)
     → length names ≤ 16 → proposition_at stop cores opens atoms names ps ≡ Ok c → SpellsPhrase (IsProposition (IsUnit opens)) cores atoms names ps c
-proposition_spelled stop cores opens atoms names ps c le e =
-    spelled_by cores (IsProposition (IsUnit opens)) atoms names ps c le (proposition_takes (IsUnit opens) cores (unit_at stop cores opens) (unit_takes stop cores opens) atoms names ps c e)
+proposition_spelled stop cores opens atoms names ps c le e = proposition_takes (IsUnit opens) cores (unit_at stop cores opens) (unit_takes stop cores opens) atoms names ps c le e

@@ -4,7 +4,7 @@ use Rattle.litmus_reader.specs.GrammarConditions.{more}
 use Rattle.litmus_reader.proofs.Chains.{joined_to}
 use Rattle.litmus_reader.proofs.GrammarTokens.{there_is, ok_is, bind_ok, front, symbol_takes, spelled_so}
 use Rattle.litmus_reader.proofs.GrammarNames.{AllKnown, all_known, known_parts, number_more, numbered_append, grows}
-use Rattle.litmus_reader.proofs.Readings.{given_by, ReadsPhrase}
+use Rattle.litmus_reader.proofs.Readings.{given_by, ReadsPhrase, SpellsPhrase}
 use Rattle.litmus_reader.specs.Written.{both, either}
 
 -- ---- claims stay as more names appear
@@ -13,10 +13,6 @@ pub names_in-append : (before after : List Setting) → names_in (before ++ afte
 names_in-append [] after = refl
 names_in-append (of_register core reg v ∷ before) after = names_in-append before after
 names_in-append (of_location x v ∷ before) after = ap (λ (l : List (List ℕ)). x ∷ l) (names_in-append before after)
-
--- the names of two phrases are those of the first, and then those of the second
-pub numbered_both : (p q : Phrase) (names : List (List ℕ)) → numbered names (names_in (settings_in p ++ settings_in q)) ≡ numbered (numbered names (locations_in p)) (locations_in q)
-numbered_both p q names = ap (λ (l : List (List ℕ)). numbered names l) (names_in-append (settings_in p) (settings_in q)) ∙ numbered_append (locations_in p) (locations_in q) names
 
 -- the names of two phrases are known
 pub known_both : (p q : Phrase) (names : List (List ℕ)) → AllKnown names (names_in (settings_in p ++ settings_in q)) → AllKnown names (locations_in p) × AllKnown names (locations_in q)
@@ -40,20 +36,13 @@ abbrev pub Finds : ℕ → Proposition → (List Term → Phrase → Type 0) →
 Finds cores unit Is After = (ts : List Term) (p : Phrase) → Is ts p → (atoms : ℕ) (names : List (List ℕ)) → IsWithin cores atoms names p
     → (back : List Term) → After back → (ps : List Piece) → terms ps ≡ ts ++ back → ReadsPhrase unit atoms names p back ps
 
-pub record Taken (cores : ℕ) (Is : List Term → Phrase → Type 0) (atoms : ℕ) (names : List (List ℕ)) (ps : List Piece) (c : Claimed) : Type 0 where
-  pub ts : List Term
-  pub phrase : Phrase
-  pub is : Is ts phrase
-  pub parts : terms ps ≡ ts ++ terms c.rest
-  pub fits : PhraseFits cores phrase
-  pub names_are : c.names ≡ numbered names (locations_in phrase)
-  pub claim_is : c.claim ≡ claim_by (numbered names (locations_in phrase)) phrase
-  pub atoms_are : c.atoms ≡ atoms + atoms_of phrase
-  pub few : c.atoms ≤ 256
-  pub room : length names ≤ 16 → length (numbered names (locations_in phrase)) ≤ 16
-
 abbrev pub Takes : ℕ → Proposition → (List Term → Phrase → Type 0) → Type 0
-Takes cores unit Is = (atoms : ℕ) (names : List (List ℕ)) (ps : List Piece) (c : Claimed) → unit atoms names ps ≡ Ok c → Taken cores Is atoms names ps c
+Takes cores unit Is = (atoms : ℕ) (names : List (List ℕ)) (ps : List Piece) (c : Claimed) → length names ≤ 16 → unit atoms names ps ≡ Ok c → SpellsPhrase Is cores atoms names ps c
+
+-- what is spelled by one form is spelled by another
+pub spelled_as : (Is Also : List Term → Phrase → Type 0) → ((ts : List Term) (p : Phrase) → Is ts p → Also ts p) → (cores atoms : ℕ) (names : List (List ℕ)) (ps : List Piece) (c : Claimed)
+    → SpellsPhrase Is cores atoms names ps c → SpellsPhrase Also cores atoms names ps c
+spelled_as Is Also so cores atoms names ps c a = record { ts = a.ts; phrase = a.phrase; is = so a.ts a.phrase a.is; parts = a.parts; within = a.within; given = a.given }
 
 -- ---- parts with a symbol between them
 
@@ -102,65 +91,51 @@ given_joined join phrases j atoms names p q rest =
 
 -- ---- taken
 
+joined_within : (join : Claim → Claim → Claim) (phrases : Phrase → Phrase → Phrase) → Joining join phrases → (cores atoms : ℕ) (names : List (List ℕ)) (p q : Phrase) → IsWithin cores atoms names p
+    → IsWithin cores (atoms + atoms_of p) (numbered names (locations_in p)) q → IsWithin cores atoms names (phrases p q)
+joined_within join phrases j cores atoms names p q a b = record {
+  fits = j.fit cores p q a.fits b.fits;
+  few = omega (arith, b.few, j.counts p q);
+  room = subst (λ (l : List (List ℕ)). length l ≤ 16) (sym (names_joined join phrases j names p q)) b.room;
+}
+
 pub joined_taken : (s : Symbol) (join : Claim → Claim → Claim) (phrases : Phrase → Phrase → Phrase) (IsPart : List Term → Phrase → Type 0) → Joining join phrases
-    → (cores atoms : ℕ) (names : List (List ℕ)) (ps after : List Piece) (c right : Claimed) → Taken cores (AreJoined s phrases IsPart) atoms names ps c
-    → symbol_at s c.rest ≡ Some after → Taken cores IsPart c.atoms c.names after right → Taken cores (AreJoined s phrases IsPart) atoms names ps (joined_to join c.claim right)
+    → (cores atoms : ℕ) (names : List (List ℕ)) (ps after : List Piece) (c right : Claimed) → (a : SpellsPhrase (AreJoined s phrases IsPart) cores atoms names ps c) → symbol_at s c.rest ≡ Some after
+    → SpellsPhrase IsPart cores (atoms + atoms_of a.phrase) (numbered names (locations_in a.phrase)) after right → SpellsPhrase (AreJoined s phrases IsPart) cores atoms names ps (joined_to join c.claim right)
 joined_taken s join phrases IsPart j cores atoms names ps after c right a at r =
     let p = a.phrase in
     let q = r.phrase in
-    let first = numbered names (locations_in p) in
-    let grown : numbered c.names (locations_in q) ≡ numbered first (locations_in q) = ap (λ (l : List (List ℕ)). numbered l (locations_in q)) a.names_are in
     record {
       ts = a.ts ++ symbol s ∷ r.ts;
       phrase = phrases p q;
       is = more a.ts r.ts p q a.is r.is;
       parts = a.parts ∙ ap (λ (l : List Term). a.ts ++ l) (symbol_takes s c.rest after at ∙ ap (λ (l : List Term). symbol s ∷ l) r.parts) ∙ sym (append_assoc a.ts (symbol s ∷ r.ts) (terms right.rest));
-      fits = j.fit cores p q a.fits r.fits;
-      names_are = r.names_are ∙ grown ∙ sym (names_joined join phrases j names p q);
-      claim_is = ap (λ (x : Claim). join x right.claim) a.claim_is
-          ∙ ap (λ (x : Claim). join (claim_by first p) x) (r.claim_is ∙ ap (λ (l : List (List ℕ)). claim_by l q) grown) ∙ sym (claim_joined join phrases j names p q);
-      atoms_are = omega (arith, r.atoms_are, a.atoms_are, j.counts p q);
-      few = r.few;
-      room = λ le.
-          let before : length c.names ≤ 16 = subst (λ (l : List (List ℕ)). length l ≤ 16) (sym a.names_are) (a.room le) in
-          subst (λ (l : List (List ℕ)). length l ≤ 16) (grown ∙ sym (names_joined join phrases j names p q)) (r.room before);
+      within = joined_within join phrases j cores atoms names p q a.within r.within;
+      given = ap (λ (c : Claimed). joined_to join c.claim right) a.given ∙ ap (joined_to join (claim_by (numbered names (locations_in p)) p)) r.given
+          ∙ sym (given_joined join phrases j atoms names p q right.rest);
     }
 
 chain_taken : (s : Symbol) (join : Claim → Claim → Claim) (phrases : Phrase → Phrase → Phrase) (IsPart : List Term → Phrase → Type 0) → Joining join phrases
     → (cores : ℕ) (unit : Proposition) → Takes cores unit IsPart → (n atoms : ℕ) (names : List (List ℕ)) (ps : List Piece) (c d : Claimed)
-    → Taken cores (AreJoined s phrases IsPart) atoms names ps c → chain s join unit n c ≡ Ok d → Taken cores (AreJoined s phrases IsPart) atoms names ps d
+    → SpellsPhrase (AreJoined s phrases IsPart) cores atoms names ps c → chain s join unit n c ≡ Ok d → SpellsPhrase (AreJoined s phrases IsPart) cores atoms names ps d
 unfolding chain
-chain_taken s join phrases IsPart j cores unit takes zero atoms names ps c d a e = subst (Taken cores (AreJoined s phrases IsPart) atoms names ps) (ok_is c d e) a
+chain_taken s join phrases IsPart j cores unit takes zero atoms names ps c d a e = subst (SpellsPhrase (AreJoined s phrases IsPart) cores atoms names ps) (ok_is c d e) a
 chain_taken s join phrases IsPart j cores unit takes (suc n) atoms names ps c d a e =
     elim (there_is (symbol_at s c.rest) (λ rest. unit c.atoms c.names rest >>= λ right. chain s join unit n (joined_to join c.claim right)) (Ok c) (Ok d) e) [
       | inl at ↦
           let b = bind_ok (unit c.atoms c.names at.0) (λ right. chain s join unit n (joined_to join c.claim right)) d at.2 in
-          let r = takes c.atoms c.names at.0 b.0 b.1 in
+          let here = ap (λ (c : Claimed). unit c.atoms c.names at.0) (sym a.given) ∙ b.1 in
+          let r = takes (atoms + atoms_of a.phrase) (numbered names (locations_in a.phrase)) at.0 b.0 a.within.room here in
           chain_taken s join phrases IsPart j cores unit takes n atoms names ps (joined_to join c.claim b.0) d (joined_taken s join phrases IsPart j cores atoms names ps at.0 c b.0 a at.1 r) b.2
-      | inr none ↦ subst (Taken cores (AreJoined s phrases IsPart) atoms names ps) (ok_is c d none.1) a
+      | inr none ↦ subst (SpellsPhrase (AreJoined s phrases IsPart) cores atoms names ps) (ok_is c d none.1) a
     ]
-
-pub first_taken : (s : Symbol) (phrases : Phrase → Phrase → Phrase) (IsPart : List Term → Phrase → Type 0) (cores atoms : ℕ) (names : List (List ℕ)) (ps : List Piece) (c : Claimed)
-    → Taken cores IsPart atoms names ps c → Taken cores (AreJoined s phrases IsPart) atoms names ps c
-first_taken s phrases IsPart cores atoms names ps c a = record {
-  ts = a.ts;
-  phrase = a.phrase;
-  is = one a.ts a.phrase a.is;
-  parts = a.parts;
-  fits = a.fits;
-  names_are = a.names_are;
-  claim_is = a.claim_is;
-  atoms_are = a.atoms_are;
-  few = a.few;
-  room = a.room;
-}
 
 joined_takes : (s : Symbol) (join : Claim → Claim → Claim) (phrases : Phrase → Phrase → Phrase) (IsPart : List Term → Phrase → Type 0) → Joining join phrases
     → (cores : ℕ) (unit : Proposition) → Takes cores unit IsPart → Takes cores (chain_of s join unit) (AreJoined s phrases IsPart)
 unfolding chain_of
-joined_takes s join phrases IsPart j cores unit takes atoms names ps d e =
+joined_takes s join phrases IsPart j cores unit takes atoms names ps d le e =
     let first = bind_ok (unit atoms names ps) (λ first. chain s join unit (length first.rest) first) d e in
-    let a = first_taken s phrases IsPart cores atoms names ps first.0 (takes atoms names ps first.0 first.1) in
+    let a = spelled_as IsPart (AreJoined s phrases IsPart) (λ ts p is. one ts p is) cores atoms names ps first.0 (takes atoms names ps first.0 le first.1) in
     chain_taken s join phrases IsPart j cores unit takes (length first.0.rest) atoms names ps first.0 d a first.2
 
 pub conjunction_takes : (IsPart : List Term → Phrase → Type 0) (cores : ℕ) (unit : Proposition) → Takes cores unit IsPart → Takes cores (conjunction unit) (IsConjunction IsPart)

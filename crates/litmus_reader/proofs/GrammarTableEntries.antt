@@ -1,5 +1,5 @@
 -- Entries of rows: their instructions and locations, as cells are read one after the other.
-use Rattle.litmus_reader.proofs.Vocabulary.{◌≡◌, ℕ, ◌+◌, ◌≤◌, ◌<◌, Bool, true, false, cond, eqb, eqb-true, eq-eqb, ltb, List, [], ◌∷◌, ◌++◌, length, Option, Some, None, Result, Ok, Err, refl, sym, ap, subst, ◌∙◌, inl, inr, append_assoc, arith, count_by, bytes_eq, ltb-true, lt-ltb, append-nil, map-append, sum_by-append, Loc, Instr, StoreImm, StoreReg, Load, SetImm, SetReg, Fence, Xchg, Xadd, Piece, TooLarge, Fault, CoreInstr, ◌>>=◌, located, word_at, spelled_in, instr_of, count_of, cell_in, of_core, cells_in, numbered, number_of, with_name, location, location_in, instr_with, ValueFits, fault, Shape, store_imm, store_reg, load, set_imm, set_reg, fence, xchg, xadd, or_fault, BadInstruction}
+use Rattle.litmus_reader.proofs.Vocabulary.{◌≡◌, ℕ, ◌+◌, ◌≤◌, ◌<◌, Bool, true, false, cond, eqb, eqb-true, eq-eqb, ltb, List, [], ◌∷◌, ◌++◌, length, Option, Some, None, Result, Ok, Err, refl, sym, ap, subst, ◌∙◌, inl, inr, append_assoc, arith, count_by, bytes_eq, ltb-true, lt-ltb, append-nil, map-append, sum_by-append, Loc, Instr, StoreImm, StoreReg, Load, SetImm, SetReg, Fence, Xchg, Xadd, Piece, TooLarge, Fault, CoreInstr, ◌>>=◌, located, word_at, spelled_in, instr_of, count_of, cell_in, of_core, cells_in, numbered, number_of, with_name, location, location_in, instr_with, ValueFits, fault, Shape, store_imm, store_reg, load, set_imm, set_reg, fence, xchg, xadd, or_fault, BadInstruction, at_location}
 use Rattle.litmus_reader.proofs.Placed.{Placed, placed, placed_from, locations_of, instrs_with, ValuesFit, EntriesWithin}
 use Rattle.litmus_reader.proofs.GrammarTokens.{chosen, ok_is, ok_pair, bind_ok, or_fault_ok}
 use Rattle.litmus_reader.proofs.GrammarNames.{place_below, known_with, number_with, numbered_append, grows, all_known}
@@ -111,46 +111,50 @@ record InstrTaken (names : List (List ℕ)) (shape : Shape) (r : Instr × List (
   pub names_are : r.1 ≡ numbered names (location_in shape)
   pub room : length names ≤ 16 → length (numbered names (location_in shape)) ≤ 16
 
-record LocatedTaken (names : List (List ℕ)) (x : List ℕ) (make : Loc → Instr) (r : Instr × List (List ℕ)) : Type 0 where
-  pub instr_is : r.0 ≡ make (location (number_of (with_name names x) x))
-  pub names_are : r.1 ≡ with_name names x
-  pub room : length names ≤ 16 → length (with_name names x) ≤ 16
-
-located_taken : (remaining : ℕ) (names : List (List ℕ)) (x : List ℕ) (make : Loc → Instr) (r : Instr × List (List ℕ)) → (located remaining names x >>= λ loc. Ok (make loc.0, loc.1)) ≡ Ok r → LocatedTaken names x make r
-located_taken remaining names x make r e =
+located_taken : (remaining : ℕ) (names : List (List ℕ)) (x : List ℕ) (make : Loc → Instr) (shape : Shape) (r : Instr × List (List ℕ)) → location_in shape ≡ x ∷ []
+    → ((known : List (List ℕ)) → instr_with known shape ≡ make (location (number_of known x))) → ValueFits shape → at_location remaining names x make ≡ Ok r → InstrTaken names shape r
+unfolding numbered
+located_taken remaining names x make shape r named made fits e =
     let b = bind_ok (located remaining names x) (λ loc. Ok (make loc.0, loc.1)) r e in
     let loc = located_ok remaining names x b.0 b.1 in
     let same = ok_pair (make b.0.0) r.0 b.0.1 r.1 b.2 in
+    let all : numbered names (location_in shape) ≡ with_name names x = ap (numbered names) named in
     record {
-      instr_is = sym same.0 ∙ ap make (loc.0 ∙ ap location (sym (number_with names x)));
-      names_are = sym same.1 ∙ loc.1;
-      room = λ le. room_with names x loc.2 le;
+      fits = fits;
+      instr_is = sym same.0 ∙ ap make (loc.0 ∙ ap location (sym (number_with names x))) ∙ sym (made (with_name names x)) ∙ ap (λ (l : List (List ℕ)). instr_with l shape) (sym all);
+      names_are = sym same.1 ∙ loc.1 ∙ sym all;
+      room = λ le. subst (λ (l : List (List ℕ)). length l ≤ 16) (sym all) (room_with names x loc.2 le);
+    }
+
+kept_taken : (names : List (List ℕ)) (shape : Shape) (i : Instr) (r : Instr × List (List ℕ)) → location_in shape ≡ [] → instr_with names shape ≡ i → ValueFits shape → (let q : Result (Instr × List (List ℕ)) Fault = Ok (i, names) in q) ≡ Ok r
+    → InstrTaken names shape r
+unfolding numbered
+kept_taken names shape i r none made fits e =
+    let same = ok_pair i r.0 names r.1 e in
+    let all : numbered names (location_in shape) ≡ names = ap (numbered names) none in
+    record {
+      fits = fits;
+      instr_is = sym same.0 ∙ sym made ∙ ap (λ (l : List (List ℕ)). instr_with l shape) (sym all);
+      names_are = sym same.1 ∙ sym all;
+      room = λ le. subst (λ (l : List (List ℕ)). length l ≤ 16) (sym all) le;
     }
 
 instr_taken : (remaining : ℕ) (names : List (List ℕ)) (shape : Shape) (r : Instr × List (List ℕ)) → instr_of remaining names shape ≡ Ok r → InstrTaken names shape r
-unfolding instr_of numbered
+unfolding instr_of
 instr_taken remaining names (store_imm x v) r e =
     let a = bind_ok (word_at remaining v) _ r e in
     let word = word_ok remaining v a.0 a.1 in
-    let l = located_taken remaining names x (λ loc. StoreImm loc a.0) r a.2 in
-    record { fits = word.1; instr_is = l.instr_is ∙ ap (λ (n : ℕ). StoreImm (location (number_of (with_name names x) x)) n) (sym word.0); names_are = l.names_are; room = l.room }
-instr_taken remaining names (store_reg x reg) r e =
-    let l = located_taken remaining names x (λ loc. StoreReg loc reg) r e in record { fits = tt; instr_is = l.instr_is; names_are = l.names_are; room = l.room }
-instr_taken remaining names (load reg x) r e =
-    let l = located_taken remaining names x (λ loc. Load reg loc) r e in record { fits = tt; instr_is = l.instr_is; names_are = l.names_are; room = l.room }
+    located_taken remaining names x (λ loc. StoreImm loc a.0) (store_imm x v) r refl (λ known. ap (λ (n : ℕ). StoreImm (location (number_of known x)) n) word.0) word.1 a.2
+instr_taken remaining names (store_reg x reg) r e = located_taken remaining names x (λ loc. StoreReg loc reg) (store_reg x reg) r refl (λ known. refl) tt e
+instr_taken remaining names (load reg x) r e = located_taken remaining names x (λ loc. Load reg loc) (load reg x) r refl (λ known. refl) tt e
 instr_taken remaining names (set_imm reg v) r e =
     let a = bind_ok (word_at remaining v) _ r e in
     let word = word_ok remaining v a.0 a.1 in
-    let same = ok_pair (SetImm reg a.0) r.0 names r.1 a.2 in
-    record { fits = word.1; instr_is = sym same.0 ∙ ap (λ (n : ℕ). SetImm reg n) (sym word.0); names_are = sym same.1; room = λ le. le }
-instr_taken remaining names (set_reg reg other) r e =
-    let same = ok_pair (SetReg reg other) r.0 names r.1 e in record { fits = tt; instr_is = sym same.0; names_are = sym same.1; room = λ le. le }
-instr_taken remaining names fence r e =
-    let same = ok_pair Fence r.0 names r.1 e in record { fits = tt; instr_is = sym same.0; names_are = sym same.1; room = λ le. le }
-instr_taken remaining names (xchg x reg) r e =
-    let l = located_taken remaining names x (λ loc. Xchg loc reg) r e in record { fits = tt; instr_is = l.instr_is; names_are = l.names_are; room = l.room }
-instr_taken remaining names (xadd x reg) r e =
-    let l = located_taken remaining names x (λ loc. Xadd loc reg) r e in record { fits = tt; instr_is = l.instr_is; names_are = l.names_are; room = l.room }
+    kept_taken names (set_imm reg v) (SetImm reg a.0) r refl (ap (λ (n : ℕ). SetImm reg n) word.0) word.1 a.2
+instr_taken remaining names (set_reg reg other) r e = kept_taken names (set_reg reg other) (SetReg reg other) r refl refl tt e
+instr_taken remaining names fence r e = kept_taken names fence Fence r refl refl tt e
+instr_taken remaining names (xchg x reg) r e = located_taken remaining names x (λ loc. Xchg loc reg) (xchg x reg) r refl (λ known. refl) tt e
+instr_taken remaining names (xadd x reg) r e = located_taken remaining names x (λ loc. Xadd loc reg) (xadd x reg) r refl (λ known. refl) tt e
 
 -- ---- cells
 
