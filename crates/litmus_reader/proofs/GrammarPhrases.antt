@@ -2,7 +2,8 @@
 use Rattle.litmus_reader.proofs.Vocabulary.{◌≡◌, ℕ, zero, suc, ◌+◌, ◌≤◌, Bool, true, false, List, [], ◌∷◌, ◌++◌, length, Some, None, Ok, refl, sym, ap, subst, ◌∙◌, inl, inr, append_assoc, arith, list_all, and_from, and_parts, length-append, length-map, list_all-append, Claim, LocClaim, NotClaim, Symbol, And, Or, Term, symbol, Piece, is_symbol, is_symbol_term, symbol_at, ◌>>=◌, Claimed, claimed, Proposition, chain, chain_of, conjunction, disjunction, terms, numbered, names_in, is_allowed, AreJoined, one, IsConjunction, IsProposition, settings_in, locations_in, atoms_of, PhraseFits, claim_by, IsWithin, Setting, of_register, of_location, Phrase, truth, atom, negation, AndClaim, OrClaim}
 use Rattle.litmus_reader.specs.GrammarConditions.{more}
 use Rattle.litmus_reader.proofs.Chains.{joined_to}
-use Rattle.litmus_reader.proofs.GrammarTokens.{there_is, ok_is, bind_ok, front, symbol_takes, spelled_so}
+use Rattle.litmus_tokens.proofs.Symbols.{spelled_so}
+use Rattle.litmus_reader.proofs.GrammarTokens.{there_is, ok_is, bind_ok, front, symbol_takes}
 use Rattle.litmus_reader.proofs.GrammarNames.{AllKnown, all_known, known_parts, number_more, numbered_append, grows}
 use Rattle.litmus_reader.proofs.Readings.{given_by, ReadsPhrase, SpellsPhrase}
 use Rattle.litmus_reader.specs.Written.{both, either}

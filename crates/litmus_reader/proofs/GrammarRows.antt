@@ -3,7 +3,8 @@ use Rattle.litmus_reader.proofs.Vocabulary.{◌≡◌, ℕ, suc, ◌+◌, ◌<�
 use Rattle.litmus_reader.specs.GrammarCells.{IsLocked}
 use Rattle.litmus_reader.specs.GrammarCells as cells
 use Rattle.litmus_reader.specs.GrammarRows.{last, more}
-use Rattle.litmus_reader.proofs.GrammarTokens.{chosen, ok_pair, symbol_is, spelled_so, terms_append}
+use Rattle.litmus_tokens.proofs.Symbols.{spelled_so}
+use Rattle.litmus_reader.proofs.GrammarTokens.{chosen, ok_pair, symbol_is, terms_append}
 use Rattle.litmus_reader.proofs.GrammarCells.{cell_again, cell_takes}
 use Rattle.litmus_reader.proofs.Readings.{ReadsRow, IsReadAs, AreReadAs}
 

@@ -1,5 +1,6 @@
 -- Tokens at the front, found and taken.
-use Rattle.litmus_reader.proofs.Vocabulary.{◌≡◌, ℕ, Bool, true, false, cond, List, [], ◌∷◌, Option, Some, None, Result, Ok, Err, refl, sym, ap, ◌∙◌, ◌⊎◌, inl, inr, bytes_eq, bytes_eq-Decides, Symbol, Equals, Semicolon, Colon, OpenSquare, CloseSquare, OpenCurly, CloseCurly, Bar, Comma, Dollar, Tilde, OpenRound, CloseRound, And, Or, Term, number, name, symbol, spelling_of, symbols, symbol_of, Piece, is_symbol_term, is_symbol, symbol_at, name_then, name_at, number_then, number_at, Fault, Part, ◌>>=◌, there, or_unfit, terms, or_fault, word_after, ◌++◌}
+use Rattle.litmus_reader.proofs.Vocabulary.{◌≡◌, ℕ, Bool, true, false, cond, List, [], ◌∷◌, Option, Some, None, Result, Ok, Err, refl, sym, ap, ◌∙◌, ◌⊎◌, inl, inr, bytes_eq, bytes_eq-Decides, Symbol, Term, number, name, symbol, spelling_of, Piece, is_symbol_term, is_symbol, symbol_at, name_then, name_at, number_then, number_at, Fault, Part, ◌>>=◌, there, or_unfit, terms, or_fault, word_after, ◌++◌}
+use Rattle.litmus_tokens.proofs.Symbols.{spelling_tells}
 
 -- which way a test went
 pub chosen : {A : Type 0} (b : Bool) (x y z : A) → cond b x y ≡ z → ((b ≡ true) × (x ≡ z)) ⊎ ((b ≡ false) × (y ≡ z))
@@ -99,35 +100,6 @@ number_takes ps rest digits e = takes (number digits) ps rest (number_found ps r
 
 pub name_takes : (ps rest : List Piece) (x : List ℕ) → name_at ps ≡ Some (x, rest) → terms ps ≡ name x ∷ terms rest
 name_takes ps rest x e = takes (name x) ps rest (name_found ps rest x e)
-
--- a symbol is found by its spelling
-found_again : (s : Symbol) → symbol_of (spelling_of s) ≡ Some (s, [])
-unfolding symbol_of symbols
-found_again Equals = refl
-found_again Semicolon = refl
-found_again Colon = refl
-found_again OpenSquare = refl
-found_again CloseSquare = refl
-found_again OpenCurly = refl
-found_again CloseCurly = refl
-found_again Bar = refl
-found_again Comma = refl
-found_again Dollar = refl
-found_again Tilde = refl
-found_again OpenRound = refl
-found_again CloseRound = refl
-found_again And = refl
-found_again Or = refl
-
-abbrev first_or : Symbol → Option (Symbol × List ℕ) → Symbol
-first_or s (Some found) = found.0
-first_or s None = s
-
-spelling_tells : (s t : Symbol) → spelling_of s ≡ spelling_of t → s ≡ t
-spelling_tells s t e = ap (first_or s) (sym (found_again s) ∙ ap symbol_of e ∙ found_again t)
-
-pub spelled_so : (s : Symbol) → bytes_eq (spelling_of s) (spelling_of s) ≡ true
-spelled_so s = (bytes_eq-Decides (spelling_of s) (spelling_of s)).1 refl
 
 pub symbol_is : (s : Symbol) (p : Piece) → is_symbol s p ≡ true → p.term ≡ symbol s
 unfolding is_symbol

@@ -1,51 +1,72 @@
 -- All tokens of a text: those from a place on are those of the bytes that stand there.
-use Rattle.litmus_reader.proofs.Vocabulary.{◌≡◌, ℕ, zero, suc, ◌≤◌, ◌<◌, List, [], ◌∷◌, ◌++◌, length, None, Result, Ok, Err, refl, sym, ap, subst, ◌∙◌, arith, length-append, Stop, End, gap_end, Term, term_at, Piece, piece_at, onto, pieces_within, pieces_of}
-use Rattle.litmus_reader.proofs.TokensRead.{AreEnd, end_within, GapRead, gap_read, ok_both, TokenRead, closing, other, term_read}
+use Rattle.litmus_reader.proofs.Vocabulary.{◌≡◌, ℕ, zero, suc, ◌≤◌, ◌<◌, List, [], ◌∷◌, length, None, Result, Ok, Err, refl, sym, ap, ◌∙◌, arith, Stop, End, gap_end, Term, term_at, Piece, piece_at, onto, pieces_within, pieces_of, Bool, true, ltb, ltb-true, and_parts, list_all, inl, inr, drop, prefix_len, length-drop, Option, Some, Symbol, symbol, spelling_of, symbol_among, symbols, starts_with, nat_eq, is_ascii_digit, begins_name, continues_name, longest_name, run_of, symbol_or_bad, symbol_of, ◌+◌}
+use Rattle.litmus_tokens.proofs.Pieces.{begins_in_name}
+use Rattle.litmus_reader.proofs.GrammarTokens.{chosen, some_is}
+use Rattle.litmus_reader.proofs.GrammarGaps.{gap_within}
 
--- ---- one token
+-- ---- one token takes a byte or more
 
--- the next token, after white space and comments
-pub record PieceRead (bytes : List ℕ) (p : Piece) (after : List ℕ) : Type 0 where
-  pub at : List ℕ
-  pub gap : gap_end None bytes ≡ Ok at
-  pub end : AreEnd bytes at
-  pub token : TokenRead at p.term after
-  pub remaining : p.remaining ≡ length at
-  pub again : piece_at at ≡ Ok (p, after)
+ok_same : {A : Type 0} (x y : A) → (let a : Result A Stop = Ok x in a) ≡ Ok y → x ≡ y
+ok_same x y e = cc
 
-pub piece_read : (bytes : List ℕ) (p : Piece) (after : List ℕ) → piece_at bytes ≡ Ok (p, after) → PieceRead bytes p after
-unfolding piece_at
-piece_read bytes p after e = by_gap (gap_end None bytes) refl
+ok_both : {A B : Type 0} (a c : A) (b d : B) → (let p : Result (A × B) Stop = Ok (a, b) in p) ≡ Ok (c, d) → (a ≡ c) × (b ≡ d)
+ok_both {A} {B} a c b d e = let same = ok_same (a, b) (c, d) e in (ap (λ (q : A × B). q.0) same, ap (λ (q : A × B). q.1) same)
+
+run_shorter : (p : ℕ → Bool) (b : ℕ) (bs after : List ℕ) → p b ≡ true → drop (prefix_len p (b ∷ bs)) (b ∷ bs) ≡ after → length after < length (b ∷ bs)
+run_shorter p b bs after pass is =
+    let n : prefix_len p (b ∷ bs) ≡ 1 + prefix_len p bs = rw pass refl in
+    omega (arith, ap (λ (l : List ℕ). length l) is, length-drop (prefix_len p (b ∷ bs)) (b ∷ bs), n)
+
+symbol_shorter : (ss : List Symbol) (bytes : List ℕ) (found : Symbol × List ℕ) → list_all (λ s. ltb 0 (length (spelling_of s))) ss ≡ true → symbol_among ss bytes ≡ Some found → 0 < length bytes
+    → length found.1 < length bytes
+symbol_shorter [] bytes found all e some = absurd cc
+symbol_shorter (x ∷ others) bytes found all e some =
+    let long = and_parts (ltb 0 (length (spelling_of x))) (list_all (λ s. ltb 0 (length (spelling_of s))) others) all in
+    elim (chosen (starts_with nat_eq bytes (spelling_of x)) (Some (x, drop (length (spelling_of x)) bytes)) (symbol_among others bytes) (Some found) e) [
+      | inl hit ↦
+          let same = some_is (x, drop (length (spelling_of x)) bytes) found hit.1 in
+          omega (arith, ap (λ (f : Symbol × List ℕ). length f.1) same, length-drop (length (spelling_of x)) bytes, ltb-true _ _ long.0, some)
+      | inr miss ↦ symbol_shorter others bytes found long.1 miss.1 some
+    ]
+
+term_shorter : (bytes : List ℕ) (t : Term) (after : List ℕ) → term_at bytes ≡ Ok (t, after) → length after < length bytes
+unfolding term_at symbol_of symbols
+term_shorter [] t after e = absurd cc
+term_shorter (b ∷ bs) t after e =
+    elim (chosen (is_ascii_digit b) _ _ (Ok (t, after)) e) [
+      | inl digit ↦ run_shorter is_ascii_digit b bs after digit.0 (ok_both _ t _ after digit.1).1
+      | inr none ↦ elim (chosen (begins_name b) _ _ (Ok (t, after)) none.1) [
+        | inl begins ↦ elim (chosen (ltb longest_name (length (run_of continues_name (b ∷ bs)).0)) _ _ (Ok (t, after)) begins.1) [
+          | inl long ↦ absurd cc
+          | inr short ↦ run_shorter continues_name b bs after (begins_in_name b begins.0) (ok_both _ t _ after short.1).1
+        ]
+        | inr neither ↦ by_symbol (symbol_among symbols (b ∷ bs)) refl neither.1
+      ]
+    ]
   where
-    by_term : (at : List ℕ) → gap_end None bytes ≡ Ok at → (r : Result (Term × List ℕ) Stop) → term_at at ≡ r → PieceRead bytes p after
+    by_symbol : (o : Option (Symbol × List ℕ)) → symbol_among symbols (b ∷ bs) ≡ o → symbol_or_bad (length (b ∷ bs)) o ≡ Ok (t, after) → length after < length (b ∷ bs)
+    by_symbol None missing h = absurd cc
+    by_symbol (Some (s, rest)) found h =
+        let shorter = symbol_shorter symbols (b ∷ bs) (s, rest) refl found (omega arith) in
+        omega (arith, shorter, ap (λ (l : List ℕ). length l) (ok_both (symbol s) t rest after h).1)
+
+piece_shorter : (bytes : List ℕ) (p : Piece) (after : List ℕ) → piece_at bytes ≡ Ok (p, after) → length after < length bytes
+unfolding piece_at
+piece_shorter bytes p after e = by_gap (gap_end None bytes) refl
+  where
+    by_term : (at : List ℕ) → gap_end None bytes ≡ Ok at → (r : Result (Term × List ℕ) Stop) → term_at at ≡ r → length after < length bytes
     by_term at gap (Err stop) is = let h : (let q : Result (Piece × List ℕ) Stop = Err stop in q) ≡ Ok (p, after) = rw (gap, is) at e in absurd cc
     by_term at gap (Ok (t, rest)) is =
         let h : (let q : Result (Piece × List ℕ) Stop = Ok (record { remaining = length at; term = t }, rest) in q) ≡ Ok (p, after) = rw (gap, is) at e in
         let same = ok_both (record { remaining = length at; term = t }) p rest after h in
-        let g : GapRead bytes at = gap_read None bytes at gap in
-        record {
-          at = at;
-          gap = gap;
-          end = g.end;
-          token = subst (λ (u : Term). TokenRead at u after) (ap (λ (q : Piece). q.term) same.0) (term_read at t after (subst (λ (l : List ℕ). term_at at ≡ Ok (t, l)) same.1 is));
-          remaining = sym (ap (λ (q : Piece). q.remaining) same.0);
-          again = rw (g.again, is) h;
-        }
+        omega (arith, term_shorter at t rest is, gap_within None bytes at gap, ap (λ (l : List ℕ). length l) same.1)
 
-    by_gap : (r : Result (List ℕ) Stop) → gap_end None bytes ≡ r → PieceRead bytes p after
+    by_gap : (r : Result (List ℕ) Stop) → gap_end None bytes ≡ r → length after < length bytes
     by_gap (Ok at) is = by_term at is (term_at at) refl
     by_gap (Err stop) is = let h : (let q : Result (Piece × List ℕ) Stop = Err stop in q) ≡ Ok (p, after) = rw is at e in absurd cc
 
 piece_stop : (x y : Stop) → (let q : Result (Piece × List ℕ) Stop = Err x in q) ≡ Err y → x ≡ y
 piece_stop x y e = cc
-
-token_shorter : (at : List ℕ) (t : Term) (after : List ℕ) → TokenRead at t after → length after < length at
-token_shorter at t after (closing parts is) = let n : length at ≡ length (93 ∷ after) = ap (λ (l : List ℕ). length l) parts in omega (arith, n)
-token_shorter at t after (other b more parts differs plain none) =
-    let n : length at ≡ length (b ∷ more ++ after) = ap (λ (l : List ℕ). length l) parts in omega (arith, n, length-append more after)
-
-pub piece_shorter : (bytes : List ℕ) (p : Piece) (after : List ℕ) → piece_at bytes ≡ Ok (p, after) → length after < length bytes
-piece_shorter bytes p after e = let r = piece_read bytes p after e in omega (arith, end_within bytes r.at r.end, token_shorter r.at p.term after r.token)
 
 -- ---- all tokens
 

@@ -40,7 +40,6 @@ pub mod GrammarTableEntries
 pub mod GrammarTable
 pub mod GrammarTest
 pub mod Decided
-pub mod TokensRead
 pub mod Lexed
 pub mod SectionSteps
 pub mod Cuts
