@@ -1,5 +1,5 @@
 -- What this project's machine reaches with bounded buffers, and what the abstract machine does.
-use Rattle.abstract_machine.proofs.Vocabulary.{◌≤◌, ◌<◌, ◌↔◌, ℕ, suc, List, [], ◌∷◌, length, slice_index_or, arith, subst, Litmus, IsTest, action_of, IsTsoExecution, Instr, Action, Store, Load, Move, Fence, Lock, Entry, store_count, stores_in, most_stores, needed, choices_along, IsReached, max-within, Machine, EndsWith, IsReachedFreely}
+use Rattle.abstract_machine.proofs.Vocabulary.{◌≤◌, ◌<◌, ◌↔◌, ℕ, suc, List, [], ◌∷◌, length, slice_index_or, arith, subst, Litmus, IsTest, action_of, IsTsoExecution, Instr, Action, Entry, store_count, stores_in, most_stores, needed, choices_along, IsReached, max-within, Machine, EndsWith, IsReachedFreely}
 use Rattle.abstract_machine.proofs.Leading.{Reaches}
 use Rattle.abstract_machine.proofs.Returning.{Executions}
 
@@ -33,11 +33,7 @@ stores-length [] = omega arith
 stores-length (x ∷ p) = let h = stores-length p in let w = one (action_of x) in omega arith
   where
     one : (a : Action) → store_count a ≤ 1
-    one (Store loc operand) = omega arith
-    one (Load reg loc) = omega arith
-    one (Move reg operand) = omega arith
-    one Fence = omega arith
-    one (Lock loc reg update) = omega arith
+    one a = grind arith
 
 most-within : (ps : List (List Instr)) (n : ℕ) → ((k : ℕ) → k < length ps → length (slice_index_or ps k []) ≤ n) → most_stores ps ≤ n
 most-within [] n f = omega arith

@@ -1,8 +1,7 @@
 -- The states of the flat machine that runs of the abstract machine are held against: at a depth that no buffer fills, with
 -- plain stores alone pending.
-use Rattle.abstract_machine.proofs.Vocabulary.{◌≡◌, ◌<◌, ◌≤◌, ℕ, ◌+◌, suc, Bool, true, false, List, [], ◌∷◌, ◌++◌, length, Some, slice_get, slice_set, arith, ap, sym, ◌∙◌, refl, ◌⊎◌, inl, inr, subst, if◌then◌else◌, nat_lt, IfSome, nat_tests, get_or_past, Litmus, IsTest, KnownLocation, action_of, location_of, is_write, step, drain, CoreState, State, Effect, stored, effect_by, idle, program_of, effect_of, memory_after, applied, after_choice, started, start, Loc, Instr, Operand, Action, Store, Entry, W, Choice, Committed, Buffered, IsPossible, Each, each-at}
-use Rattle.abstract_machine.proofs.Lists.{each-set, length-set, within, get-or}
-use Rattle.abstract_machine.proofs.States.{first-size}
+use Rattle.abstract_machine.proofs.Vocabulary.{◌≡◌, ◌<◌, ◌≤◌, ℕ, ◌+◌, suc, Bool, true, false, List, [], ◌∷◌, ◌++◌, length, Some, slice_get, slice_set, arith, ap, sym, ◌∙◌, refl, inl, inr, subst, if◌then◌else◌, nat_lt, IfSome, nat_tests, get_or_past, Litmus, IsTest, KnownLocation, action_of, location_of, is_write, step, drain, CoreState, State, Effect, stored, effect_by, idle, program_of, effect_of, memory_after, applied, after_choice, started, start, Loc, Instr, Operand, Action, Store, Entry, W, Choice, Committed, Buffered, IsPossible, Each, each-at, length-set, lt-or, length-starts}
+use Rattle.abstract_machine.proofs.Lists.{each-set, within, get-or}
 
 -- each choice leads from one possible state to another one
 abbrev pub Nexts : Type 0
@@ -21,13 +20,6 @@ abbrev pub IsKnown : Litmus → Type 0
 IsKnown t =
     (p place : ℕ) (i : Instr) (loc : Loc) (operand : Operand) → slice_get (program_of t p) place ≡ Some i
     → action_of i ≡ Store loc operand → loc.0 < length t.words
-
-lt-or : (a b : ℕ) → (b < a) ⊎ (a ≤ b)
-lt-or a b = go (nat_lt b a) refl
-  where
-    go : (c : Bool) → nat_lt b a ≡ c → (b < a) ⊎ (a ≤ b)
-    go true q = inl (let z : b < a = grind (arith, nat_tests) in z)
-    go false q = inr (let z : a ≤ b = grind (arith, nat_tests) in z)
 
 -- what has an instruction is a program of the test
 program-there : (t : Litmus) (p place : ℕ) (i : Instr) → slice_get (program_of t p) place ≡ Some i → p < length t.programs
@@ -147,7 +139,7 @@ first-sound t p (program ∷ programs) registers = ((tt, omega arith), first-sou
 pub first-base : (t : Litmus) (n : ℕ) → Base t n (start t) []
 first-base t n = record {
   possible = record { choices = []; commits_are = refl; state_is = refl };
-  size = first-size 0 t.programs t.registers;
+  size = length-starts 0 t.programs t.registers;
   words = refl;
   sound = first-sound t 0 t.programs t.registers;
 }

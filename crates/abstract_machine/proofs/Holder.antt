@@ -1,6 +1,6 @@
 -- The steps of the thread that holds the lock, by how far it is with its locked instruction.
-use Rattle.abstract_machine.proofs.Vocabulary.{◌≡◌, ◌<◌, ℕ, ◌+◌, suc, List, [], ◌∷◌, ◌++◌, length, map, Some, None, slice_get, slice_set, slice_index, arith, ap, sym, ◌∙◌, refl, subst, Litmus, action_of, CoreState, State, Effect, advanced_with, effect_by, load_value, memory_after, applied, Lock, Entry, Committed, NotLocked, HasBegun, HasRead, HardwareThread, Machine, with_thread, with_write, with_buffer, with_progress, ThreadStep, read, write, flush, move, mfence, lock, locked_read, locked_write, unlock, each-at, append-nil}
-use Rattle.abstract_machine.proofs.Lists.{map-set, map-get, set-get, set-set, set-same, not-empty, within}
+use Rattle.abstract_machine.proofs.Vocabulary.{◌≡◌, ◌<◌, ℕ, ◌+◌, suc, List, [], ◌∷◌, ◌++◌, length, map, Some, None, slice_get, slice_set, slice_index, arith, ap, sym, ◌∙◌, refl, subst, Litmus, action_of, CoreState, State, Effect, advanced_with, effect_by, load_value, memory_after, applied, Lock, Entry, Committed, NotLocked, HasBegun, HasRead, HardwareThread, Machine, with_thread, with_write, with_buffer, with_progress, ThreadStep, read, write, flush, move, mfence, lock, locked_read, locked_write, unlock, each-at, append-nil, map-set, set-set}
+use Rattle.abstract_machine.proofs.Lists.{map-get, set-get, set-same, not-empty, within}
 use Rattle.abstract_machine.proofs.Reading.{was-read, flush-leaves}
 use Rattle.abstract_machine.proofs.States.{thread}
 use Rattle.abstract_machine.proofs.Joining.{Joins, store-plain, plain-joins, waits-joins, pair-joins}

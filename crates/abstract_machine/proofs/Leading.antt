@@ -1,8 +1,8 @@
 -- A run of the flat machine that ends the test is followed by one of the abstract machine that ends it too.
-use Rattle.abstract_machine.proofs.Vocabulary.{◌≡◌, ◌<◌, ◌≤◌, ◌==◌, ℕ, ◌+◌, zero, suc, Bool, true, false, List, [], ◌∷◌, ◌++◌, length, None, Some, slice_get, slice_index_or, arith, sym, ◌∙◌, refl, subst, if◌then◌else◌, append_assoc, nat_tests, Litmus, IsTest, IsAdjacent, IsTsoExecution, CoreState, State, is_none_pending, program_of, chosen, effect_of, after_choice, started, start, is_done, all_done, has_ended, Run, resting, then_run, run_from, run, CoresExist, Instr, Entry, Choice, needed, choices_along, LeadTo, Machine, Runs, rests, goes_on, IsFinished, AllAreFinished, IsReachedFreely, and-left, and-right, Each}
+use Rattle.abstract_machine.proofs.Vocabulary.{◌≡◌, ◌<◌, ◌≤◌, ◌==◌, ℕ, ◌+◌, zero, suc, Bool, true, false, List, [], ◌∷◌, ◌++◌, length, None, Some, slice_get, slice_index_or, arith, sym, ◌∙◌, refl, subst, if◌then◌else◌, append_assoc, nat_tests, Litmus, IsTest, IsAdjacent, IsTsoExecution, CoreState, State, is_none_pending, program_of, chosen, effect_of, after_choice, started, start, is_done, all_done, has_ended, Run, resting, then_run, run_from, run, CoresExist, Instr, Entry, Choice, needed, choices_along, LeadTo, Machine, Runs, rests, goes_on, IsFinished, AllAreFinished, IsReachedFreely, and-left, and-right, Each, length-set, length-starts, is_none-is}
 use Rattle.abstract_machine.proofs.Together.{already-together}
-use Rattle.abstract_machine.proofs.Lists.{get-map, length-set}
-use Rattle.abstract_machine.proofs.States.{thread, lifted, first-lifted, first-size}
+use Rattle.abstract_machine.proofs.Lists.{get-map}
+use Rattle.abstract_machine.proofs.States.{thread, lifted, first-lifted}
 use Rattle.abstract_machine.proofs.Following.{AreWrites, OnlyWrites, by-choice, writes-choice}
 
 runs-append : (t : Litmus) (a b c : Machine) (es fs : List Entry) → Runs t a es b → Runs t b fs c → Runs t a (es ++ fs) c
@@ -61,16 +61,12 @@ done-at (p ∷ ps) (x ∷ ss) zero s h g =
     let q : x ≡ s = cc in subst (λ z. is_done p z ≡ true) q (and-left (is_done p x) (all_done ps ss) h)
 done-at (p ∷ ps) (x ∷ ss) (suc k) s h g = done-at ps ss k s (and-right (is_done p x) (all_done ps ss) h) g
 
-none-is : (q : List Entry) → is_none_pending q ≡ true → q ≡ []
-none-is [] h = refl
-none-is (x ∷ q) h = absurd (let z : ⊥ = cc in z)
-
 done-finished : (t : Litmus) (p : ℕ) (s : CoreState) → is_done (program_of t p) s ≡ true → IsFinished t p (thread s)
 done-finished t p s h =
     let e : (length (program_of t p) == s.place) ≡ true = and-left (length (program_of t p) == s.place) (is_none_pending s.pending) h in
     record {
       place = let z : s.place ≡ length (program_of t p) = grind (arith, nat_tests) in z;
-      buffer = none-is s.pending (and-right (length (program_of t p) == s.place) (is_none_pending s.pending) h);
+      buffer = is_none-is s.pending (and-right (length (program_of t p) == s.place) (is_none_pending s.pending) h);
     }
 
 ended-has : (t : Litmus) (state : State) → has_ended t state ≡ true → AllAreFinished t (lifted state)
@@ -82,7 +78,7 @@ ended-has t state e p h g =
 run-leads : (t : Litmus) (n : ℕ) (order : List Entry) (choices : List Choice) → CoresExist (length t.programs) choices
     → (run t (suc n) choices).ended ≡ true → (run t (suc n) choices).commits ≡ order → IsAdjacent order → IsReachedFreely t order
 run-leads t n order choices exist ended commits pairs =
-    let r = leads t n (start t) choices (first-size 0 t.programs t.registers) (first-writes 0 t.programs t.registers) exist ended in
+    let r = leads t n (start t) choices (length-starts 0 t.programs t.registers) (first-writes 0 t.programs t.registers) exist ended in
     let m : Machine = lifted (run t (suc n) choices).state in (
       m,
       record {

@@ -1,11 +1,6 @@
 -- Small facts on lists that are written and mapped.
 use Rattle.abstract_machine.proofs.Vocabulary.{◌≡◌, ◌≢◌, ◌<◌, ℕ, zero, suc, List, [], ◌∷◌, ◌++◌, length, map, Some, slice_get, slice_set, slice_index_or, arith, ap, sym, refl, Each}
 
-pub map-set : {A B : Type 0} (f : A → B) (xs : List A) (k : ℕ) (v : A) → map f (slice_set xs k v) ≡ slice_set (map f xs) k (f v)
-map-set f [] k v = refl
-map-set f (x ∷ xs) zero v = refl
-map-set f (x ∷ xs) (suc k) v = ap (λ z. f x ∷ z) (map-set f xs k v)
-
 pub map-get : {A B : Type 0} (f : A → B) (xs : List A) (k : ℕ) (x : A) → slice_get xs k ≡ Some x → slice_get (map f xs) k ≡ Some (f x)
 map-get f [] k x e = absurd (let z : ⊥ = cc in z)
 map-get f (y ∷ ys) zero x e = let q : y ≡ x = cc in ap (λ z. Some (f z)) q
@@ -22,24 +17,10 @@ set-get [] k v l = absurd (omega arith)
 set-get (x ∷ xs) zero v l = refl
 set-get (x ∷ xs) (suc k) v l = set-get xs k v (omega arith)
 
-pub set-set : {A : Type 0} (xs : List A) (k : ℕ) (v w : A) → slice_set (slice_set xs k v) k w ≡ slice_set xs k w
-set-set [] k v w = refl
-set-set (x ∷ xs) zero v w = refl
-set-set (x ∷ xs) (suc k) v w = ap (λ z. x ∷ z) (set-set xs k v w)
-
 pub set-same : {A : Type 0} (xs : List A) (k : ℕ) (x : A) → slice_get xs k ≡ Some x → slice_set xs k x ≡ xs
 set-same [] k x e = refl
 set-same (y ∷ ys) zero x e = let q : y ≡ x = cc in ap (λ z. z ∷ ys) (sym q)
 set-same (y ∷ ys) (suc k) x e = ap (λ z. y ∷ z) (set-same ys k x e)
-
-pub length-set : {A : Type 0} (xs : List A) (k : ℕ) (v : A) → length (slice_set xs k v) ≡ length xs
-length-set [] k v = refl
-length-set (x ∷ xs) zero v = refl
-length-set (x ∷ xs) (suc k) v = ap suc (length-set xs k v)
-
-pub length-map : {A B : Type 0} (f : A → B) (xs : List A) → length (map f xs) ≡ length xs
-length-map f [] = refl
-length-map f (x ∷ xs) = ap suc (length-map f xs)
 
 -- what stands in the list at a place after a write there or elsewhere
 pub each-set : {A : Type 0} (P : A → Type 0) (xs : List A) (k : ℕ) (v : A) → Each P xs → P v → Each P (slice_set xs k v)
@@ -71,14 +52,6 @@ get-other (x ∷ xs) zero zero v n = absurd (n refl)
 get-other (x ∷ xs) zero (suc j) v n = refl
 get-other (x ∷ xs) (suc k) zero v n = refl
 get-other (x ∷ xs) (suc k) (suc j) v n = get-other xs k j v (λ q. n (ap suc q))
-
-pub set-apart : {A : Type 0} (xs : List A) (k j : ℕ) (v w : A) → k ≢ j
-    → slice_set (slice_set xs k v) j w ≡ slice_set (slice_set xs j w) k v
-set-apart [] k j v w n = refl
-set-apart (x ∷ xs) zero zero v w n = absurd (n refl)
-set-apart (x ∷ xs) zero (suc j) v w n = refl
-set-apart (x ∷ xs) (suc k) zero v w n = refl
-set-apart (x ∷ xs) (suc k) (suc j) v w n = ap (λ z. x ∷ z) (set-apart xs k j v w (λ q. n (ap suc q)))
 
 pub map-map : {A B C : Type 0} (g : B → C) (f : A → B) (xs : List A) → map g (map f xs) ≡ map (λ x. g (f x)) xs
 map-map g f [] = refl

@@ -1,5 +1,5 @@
 -- The states of the flat machine as states of the abstract machine.
-use Rattle.abstract_machine.proofs.Vocabulary.{◌≡◌, ℕ, ◌+◌, suc, List, [], ◌∷◌, length, map, None, slice_index_or, ap, refl, CoreState, State, started, Instr, NotLocked, HardwareThread, Machine, first_threads}
+use Rattle.abstract_machine.proofs.Vocabulary.{◌≡◌, ℕ, ◌+◌, List, [], ◌∷◌, map, None, slice_index_or, ap, refl, CoreState, State, started, Instr, NotLocked, HardwareThread, Machine, first_threads}
 
 -- a core of the flat machine, as a hardware thread that isn't in a locked instruction
 abbrev pub thread : CoreState → HardwareThread
@@ -15,8 +15,3 @@ first-lifted p [] registers = refl
 first-lifted p (program ∷ programs) registers =
     ap (λ z. record { place = 0; registers = slice_index_or registers p []; buffer = []; progress = NotLocked } ∷ z)
     (first-lifted (p + 1) programs registers)
-
-pub first-size : (p : ℕ) (programs : List (List Instr)) (registers : List (List ℕ))
-    → length (started p programs registers) ≡ length programs
-first-size p [] registers = refl
-first-size p (program ∷ programs) registers = ap suc (first-size (p + 1) programs registers)

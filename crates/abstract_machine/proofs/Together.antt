@@ -1,12 +1,8 @@
 -- An order in which each load part is followed by its store part is put together already.
-use Rattle.abstract_machine.proofs.Vocabulary.{◌≡◌, suc, Bool, true, false, List, [], ◌∷◌, Some, slice_get, ap, ◌∙◌, refl, if◌then◌else◌, same_kind, is_at, IsAdjacent, IsStorePart, put_before, put_together, Entry, Kind, R, W, F, LR, LW, test-true}
+use Rattle.abstract_machine.proofs.Vocabulary.{◌≡◌, suc, Bool, true, false, List, [], ◌∷◌, Some, slice_get, ap, ◌∙◌, refl, if◌then◌else◌, same_kind, is_at, IsAdjacent, IsStorePart, put_before, put_together, Entry, Kind, LR, LW, test-true, arith}
 
 load-kind : (k : Kind) → same_kind k LR ≡ true → k ≡ LR
-load-kind R h = absurd (let z : ⊥ = cc in z)
-load-kind W h = absurd (let z : ⊥ = cc in z)
-load-kind F h = absurd (let z : ⊥ = cc in z)
-load-kind LR h = refl
-load-kind LW h = absurd (let z : ⊥ = cc in z)
+load-kind k h = grind arith
 
 store-part-at : (x y : Entry) → IsStorePart x y → is_at x.core.0 x.place LW y ≡ true
 store-part-at x y s = rw (s.core, s.place, s.kind, test-true x.core.0 x.core.0 refl, test-true x.place x.place refl) refl

@@ -1,7 +1,7 @@
 -- How far a run of the flat machine has come where the abstract machine stands: a locked instruction is made when its write
 -- leaves the buffer.
-use Rattle.abstract_machine.proofs.Vocabulary.{◌≡◌, ◌≢◌, ℕ, ◌+◌, List, [], ◌∷◌, ◌++◌, map, Option, Some, None, slice_get, slice_set, ap, sym, ◌∙◌, refl, inl, inr, subst, Litmus, action_of, entry, value_in, with_value, updated, CoreState, State, load_value, program_of, memory_after, applied, Reg, Loc, Instr, Update, Lock, Entry, LR, LW, HasBegun, HasRead, HasWritten, HardwareThread, Machine, IsNotBlocked, with_progress, ThreadStep, read, write, flush, move, mfence, lock, locked_read, locked_write, unlock, append-nil}
-use Rattle.abstract_machine.proofs.Lists.{map-set, get-map, get-other, set-apart}
+use Rattle.abstract_machine.proofs.Vocabulary.{◌≡◌, ◌≢◌, ℕ, ◌+◌, List, [], ◌∷◌, ◌++◌, map, Option, Some, None, slice_get, slice_set, ap, sym, ◌∙◌, refl, inl, inr, subst, Litmus, action_of, entry, value_in, with_value, updated, CoreState, State, load_value, program_of, memory_after, applied, Reg, Loc, Instr, Update, Lock, Entry, LR, LW, HasBegun, HasRead, HasWritten, HardwareThread, Machine, IsNotBlocked, with_progress, ThreadStep, read, write, flush, move, mfence, lock, locked_read, locked_write, unlock, append-nil, map-set, set_comm}
+use Rattle.abstract_machine.proofs.Lists.{get-map, get-other}
 use Rattle.abstract_machine.proofs.States.{thread, lifted}
 use Rattle.abstract_machine.proofs.Joining.{Joins, plain-joins}
 use Rattle.abstract_machine.proofs.FlatStates.{Nexts, HasRoom, IsKnown, Base}
@@ -112,12 +112,8 @@ other-step next t n room known given state commits p s h waits q k es o apart b 
     go x.0 x.1 (thread-does next t n room known state commits q x.0 (locked_by state p h) es o b x.1 refl
     (subst (λ z. ThreadStep t (locked_by state p h) q z es o) (sym x.2) st))
   where
-    blocked : IsNotBlocked (locked_by state p h) q → ⊥
-    blocked (inl e) = let z : ⊥ = cc in z
-    blocked (inr e) = apart (let z : p ≡ q = cc in z)
-
     keeps : o.memory ≡ state.memory
-    keeps = blocked-keeps t (locked_by state p h) q k es o blocked st
+    keeps = blocked-keeps t (locked_by state p h) q k es o (λ b. elim b [ inl e ↦ let z : ⊥ = cc in z | inr e ↦ apart (let z : p ≡ q = cc in z) ]) st
 
     go : (r : CoreState) → slice_get state.cores q ≡ Some r → Does t n state commits q r (locked_by state p h) es o
         → Tracks t n (given ++ es) o
@@ -125,7 +121,7 @@ other-step next t n room known given state commits p s h waits q k es o apart b 
         subst (λ z. Tracks t n (given ++ es) z)
         (machine-is o (memory_after f.commits state.memory) (slice_set (map thread (slice_set state.cores q f.after)) p h) (Some p) mem
         (ap (λ z. slice_set z p h) (map-set thread state.cores q f.after)
-        ∙ sym (set-apart (map thread state.cores) p q h (thread f.after) apart) ∙ sym thr) (sym lck))
+        ∙ sym (set_comm (map thread state.cores) p q h (thread f.after) apart) ∙ sym thr) (sym lck))
         (held (applied state q f) (commits ++ es) p s h waits c (get-other state.cores q p f.after (λ e. apart (sym e)) ∙ at_p)
         (subst (λ z. Tied t z p s h waits) (sym keeps ∙ sym mem) tied) (plain-joins given commits waits es j plain))
     go r g (locks loc reg update stands free none is) = absurd (let z : ⊥ = cc in z)

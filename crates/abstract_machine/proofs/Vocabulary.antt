@@ -4,7 +4,7 @@ pub use Rattle.tso_model.specs.Litmus.{Litmus, IsTest, KnownLocation}
 pub use Rattle.tso_model.specs.Actions.{action_of, location_of}
 pub use Rattle.tso_model.specs.FlatMachine.{CoreState, State, Effect, advanced_with, effect_by, load_value, memory_after, applied, program_of, registers_in, start, step, drain, stored, idle, effect_of, after_choice, started, is_none_pending, stalled, step_of, drain_of, core_of, chosen, advanced}
 pub use Rattle.tso_model.specs.declared.action.Action.TheVariants.{Lock, Store, Load, Move, Fence}
-pub use Rattle.basic_laws.specs.Types.{Entry, Committed, Buffered, Moved, Instr, Choice, Loc, Operand, Action, W, LR, LW, R, F, Reg, Update, Stall, Kind}
+pub use Rattle.basic_laws.specs.Types.{Entry, Committed, Buffered, Moved, Instr, Choice, Loc, Operand, Action, W, LR, LW, R, Reg, Update, Stall, Kind}
 pub use Rattle.abstract_machine.specs.Machine.{NotLocked, HasBegun, HasRead, HardwareThread, Machine, with_thread, with_write, with_buffer, with_progress, first, first_threads, HasWritten, IsNotBlocked, with_lock}
 pub use Rattle.abstract_machine.specs.Steps.{ThreadStep, read, write, flush, move, mfence, lock, locked_read, locked_write, unlock, Runs, rests, goes_on, CanRead, from_memory, from_buffer, StandsAt}
 pub use Rattle.basic_laws.proofs.Lists.{each-at, append-nil, Each, each-append}
@@ -16,10 +16,10 @@ pub use Rattle.tso_laws.specs.Choices.{IsPossible}
 pub use Rattle.tso_laws.specs.EndedRuns.{End, IsExecution}
 pub use Rattle.tso_laws.specs.inner.Stopping.{StopsAtTheEnd}
 pub use Rattle.abstract_machine.specs.Ended.{IsFinished, AllAreFinished, registers_of_threads, EndsWith, IsReachedFreely}
-pub use Rattle.basic_laws.proofs.Basics.{decide, test-true, test-false, max-within, and-left, and-right}
+pub use Rattle.basic_laws.proofs.Basics.{decide, test-true, test-false, max-within, and-left, and-right, lt-or}
 pub use Rattle.std.specs.Prelude.{IfSome}
 pub use Rattle.std.proofs.lemmas.Bool.Decides.{nat_tests}
-pub use Rattle.std.proofs.lemmas.List.{get_or_past}
+pub use Rattle.std.proofs.lemmas.List.{get_or_past, map-set, set-set, set_comm, length-set, length-map}
 pub use Rattle.tso_model.specs.ProgramOrder.{is_write, writes_to, same_kind, IsStorePart}
 pub use Rattle.tso_laws.specs.Counting.{store_count, stores_in, most_stores}
 pub use Rattle.tso_laws.specs.Depth.{needed}
@@ -31,3 +31,4 @@ pub use Rattle.abstract_machine.specs.OneStep.{IsBlocked, KeepsBuffer, ReadsAndF
 pub use Rattle.tso_model.specs.ProgramEntries.{is_at}
 pub use Rattle.tso_model.specs.Examples.{sb, sb_order, n6, n6_order, added, separated_order}
 pub use Rattle.tso_laws.specs.WorkedRuns.{short_order, turned_order, wrong_order}
+pub use Rattle.tso_laws.proofs.Work.{length-starts, is_none-is}

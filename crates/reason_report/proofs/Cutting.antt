@@ -1,18 +1,14 @@
 -- The parts of a refutation's nodes, one by one.
-use Rattle.reason_report.proofs.Vocabulary.{filter, Bool, true, false, cond, ℕ, suc, zero, ◌+◌, ◌≡◌, ◌≤◌, ◌<◌, List, [], ◌∷◌, ◌++◌, length, drop, map, get_or, slice_index, refl, sym, ap, ◌∙◌, arith, subst, ◌⊎◌, inl, inr, ◌≢◌, set, length-set, get_or-set_same, get_or-set_other, append_assoc, drop_all, at_drop_more, Litmus, Known, asked_claim, Model, node_of, Part, grown, replies, branches_with, Reply, Refutation, parts_of_nodes_from, first_part, parts_of_refutation, branch_in, AreNext, IsNextPart, AreBelow, IsLayoutReady}
+use Rattle.reason_report.proofs.Vocabulary.{filter, Bool, true, false, cond, ℕ, suc, zero, ◌+◌, ◌≡◌, ◌≤◌, ◌<◌, List, [], ◌∷◌, ◌++◌, length, drop, map, get_or, slice_index, refl, sym, ap, ◌∙◌, arith, subst, ◌⊎◌, inl, inr, ◌≢◌, set, length-set, get_or-set_same, get_or-set_other, append_assoc, drop_all, at_drop_more, Litmus, Known, asked_claim, Model, node_of, Part, grown, replies, branches_with, Reply, Refutation, parts_of_nodes_from, first_part, parts_of_refutation, branch_in, AreNext, IsNextPart, AreBelow, IsLayoutReady, drop-cons}
 use Rattle.refutations.specs.declared.tree.Node.{Node}
 use Rattle.reason_report.specs.Steps as spec
 use Rattle.reason_report.specs.declared.replies.Branch.{Branch}
+use Rattle.reason_report.proofs.Lists.{map-push}
 
 pub cut : {X : Type 0} (xs : List X) (i : ℕ) → i < length xs → (x : X) × (drop i xs ≡ x ∷ drop (suc i) xs)
 cut [] i h = absurd (omega (arith, h))
 cut (x ∷ xs) zero h = (x, refl)
 cut (x ∷ xs) (suc i) h = let r : (y : _) × (drop i xs ≡ y ∷ drop (suc i) xs) = cut xs i (omega (arith, h)) in (r.0, r.1)
-
-cut-at : {X : Type 0} (xs : List X) (i : ℕ) (d : X) → i < length xs → drop i xs ≡ get_or xs i d ∷ drop (suc i) xs
-cut-at [] i d w = absurd (omega (arith, w))
-cut-at (x ∷ xs) zero d w = refl
-cut-at (x ∷ xs) (suc i) d w = cut-at xs i d (omega (arith, w))
 
 module _ (model : Model) (t : Litmus) (nodes : List Node) where
   -- a node has its part before those that come after it
@@ -76,13 +72,9 @@ module _ (model : Model) (t : Litmus) (nodes : List Node) where
 
 -- ---- branches
 
-shape : (whole : List Part) (p : Part) (ps : List Part) → whole ≡ p ∷ ps → whole ≡ first_part whole ∷ drop 1 whole
+pub shape : (whole : List Part) (p : Part) (ps : List Part) → whole ≡ p ∷ ps → whole ≡ first_part whole ∷ drop 1 whole
 shape [] p ps e = cc
 shape (q ∷ qs) p ps e = refl
-
-map-push : {X Y : Type 0} (f : X → Y) (xs : List X) (x : X) → map f (xs ++ (x ∷ [])) ≡ map f xs ++ (f x ∷ [])
-map-push f [] x = refl
-map-push f (y ∷ xs) x = ap (λ zs. f y ∷ zs) (map-push f xs x)
 
 pub below-push : (n : ℕ) (bs : List Branch) (b : Branch) → AreBelow n bs → b.at < n → AreBelow n (bs ++ (b ∷ []))
 below-push n [] b h k = (k, tt)
@@ -92,9 +84,6 @@ pub below-get : (n : ℕ) (bs : List Branch) (i : ℕ) (d : Branch) → i < leng
 below-get n [] i d w h = absurd (omega (arith, w))
 below-get n (b ∷ bs) zero d w h = h.0
 below-get n (b ∷ bs) (suc i) d w h = below-get n bs i d (omega (arith, w)) h.1
-
-pub below-at : (n : ℕ) (bs : List Branch) (i : ℕ) (d b : Branch) → i < length bs → b ≡ get_or bs i d → AreBelow n bs → b.at < n
-below-at n bs i d b w is h = subst (λ (c : Branch). c.at < n) (sym is) (below-get n bs i d w h)
 
 abbrev added : ℕ → Reply → Branch
 added from r = record { reply = r; at = from }
@@ -124,7 +113,7 @@ module _ (tree : Refutation) (ready : IsLayoutReady tree) where
       one-on = omega (arith, more)
 
       here : drop i answers ≡ get_or answers i d ∷ drop j answers
-      here = cut-at answers i d inside ∙ ap (λ m. get_or answers i d ∷ drop m answers) one-on
+      here = drop-cons answers i d inside ∙ ap (λ m. get_or answers i d ∷ drop m answers) one-on
 
   pub no-more : (from : ℕ) → length tree.nodes.now ≤ from → (answers : List Reply) (k : Known) → branches_with k answers (parts_of_refutation tree from) ≡ []
   no-more from all answers k = ap (branches_with k answers) (none-left tree.model tree.test.now tree.nodes.now from all) ∙ none answers
@@ -141,7 +130,7 @@ module _ (f : Branch → spec.Branch) (bs : List Branch) (i j : ℕ) (d : Branch
   here : filter spec.is_closed (map f (drop i bs)) ≡ cond x (f (get_or bs i d) ∷ filter spec.is_closed (map f (drop j bs))) (filter spec.is_closed (map f (drop j bs)))
   here =
       let next : suc i ≡ j = omega (arith, more) in
-      ap (λ cs. filter spec.is_closed (map f cs)) (cut-at bs i d within ∙ ap (λ n. get_or bs i d ∷ drop n bs) next)
+      ap (λ cs. filter spec.is_closed (map f cs)) (drop-cons bs i d within ∙ ap (λ n. get_or bs i d ∷ drop n bs) next)
       ∙ ap (λ (y : Bool). cond y (f (get_or bs i d) ∷ filter spec.is_closed (map f (drop j bs))) (filter spec.is_closed (map f (drop j bs)))) (sym closed)
 
   pub closed-more : x ≡ true → new ≡ old ++ (f (get_or bs i d) ∷ []) → new ++ filter spec.is_closed (map f (drop j bs)) ≡ whole

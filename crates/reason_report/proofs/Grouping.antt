@@ -1,7 +1,8 @@
 -- Cases that a leaf closes at once: those that one line closes together, and the groups that they make.
-use Rattle.reason_report.proofs.Vocabulary.{ℕ, suc, zero, ◌+◌, ◌-◌, ◌&&◌, ◌≡◌, ◌≤◌, ◌<◌, Bool, true, false, not, cond, List, [], ◌∷◌, ◌++◌, length, take, drop, get_or, map, refl, sym, ap, ◌∙◌, arith, subst, append_assoc, take_all, drop_all, length-drop, filter, flat_map, list_any, list_all, Litmus, Claim, Known, asked_claim, known_of, Named, looked_at, suffices, name_the_same, Branch, are_alike, groups, is_false_source, known_of_case, closed_case, reason_step_of, Reply, Refutation, Closed, IsClosed, BranchesAreClosed, closed_branch, same_truths, alike, known_alike, rest_of}
+use Rattle.reason_report.proofs.Vocabulary.{ℕ, suc, zero, ◌+◌, ◌-◌, ◌&&◌, ◌≡◌, ◌≤◌, ◌<◌, Bool, true, false, not, cond, List, [], ◌∷◌, ◌++◌, length, take, drop, get_or, map, refl, sym, ap, ◌∙◌, arith, subst, append_assoc, take_all, drop_all, length-drop, filter, flat_map, list_any, list_all, Litmus, Claim, Known, asked_claim, known_of, Named, looked_at, suffices, name_the_same, Branch, are_alike, groups, is_false_source, known_of_case, reason_step_of, Reply, Refutation, Closed, IsClosed, BranchesAreClosed, closed_branch, same_truths, alike, known_alike, rest_of, drop-cons}
 use Rattle.reason_report.specs.Steps as spec
 use Rattle.reason_report.specs.declared.steps.Step as declared
+use Rattle.reason_report.proofs.Lists.{map-push, map-twice}
 
 -- ---- lists
 
@@ -27,23 +28,10 @@ pub closed-push : (tree : Refutation) (cs : List Closed) (c : Closed) → Branch
 closed-push tree [] c h k = (k, tt)
 closed-push tree (d ∷ cs) c h k = (h.0, closed-push tree cs c h.1 k)
 
-cut-at : {X : Type 0} (xs : List X) (i : ℕ) (d : X) → i < length xs → drop i xs ≡ get_or xs i d ∷ drop (suc i) xs
-cut-at [] i d w = absurd (omega (arith, w))
-cut-at (x ∷ xs) zero d w = refl
-cut-at (x ∷ xs) (suc i) d w = cut-at xs i d (omega (arith, w))
-
 take-at : {X : Type 0} (xs : List X) (i : ℕ) (d : X) → i < length xs → take (suc i) xs ≡ take i xs ++ (get_or xs i d ∷ [])
 take-at [] i d w = absurd (omega (arith, w))
 take-at (x ∷ xs) zero d w = refl
 take-at (x ∷ xs) (suc i) d w = ap (λ ys. x ∷ ys) (take-at xs i d (omega (arith, w)))
-
-pub map-push : {X Y : Type 0} (f : X → Y) (xs : List X) (x : X) → map f (xs ++ (x ∷ [])) ≡ map f xs ++ (f x ∷ [])
-map-push f [] x = refl
-map-push f (y ∷ xs) x = ap (λ zs. f y ∷ zs) (map-push f xs x)
-
-pub map-twice : {X Y Z : Type 0} (f : X → Y) (g : Y → Z) (xs : List X) → map g (map f xs) ≡ map (λ x. g (f x)) xs
-map-twice f g [] = refl
-map-twice f g (x ∷ xs) = ap (λ zs. g (f x) ∷ zs) (map-twice f g xs)
 
 -- ---- those that are alike
 
@@ -59,7 +47,7 @@ same-map f g (p ∷ ps) = ap (λ b. cond (f p) (g p) (not (g p)) && b) (same-map
 
 pub shorter : (ps qs : List Bool) (i : ℕ) → i < length ps → length qs ≤ i → same_truths (drop i ps) (drop i qs) ≡ false
 shorter ps qs i w v =
-    ap (same_truths (drop i ps)) (drop_all i qs v) ∙ ap (λ xs. same_truths xs []) (cut-at ps i false w)
+    ap (same_truths (drop i ps)) (drop_all i qs v) ∙ ap (λ xs. same_truths xs []) (drop-cons ps i false w)
 
 module _ (tree : Refutation) (looked : tree.places.now ≡ looked_at tree.test.now) where
   abbrev t : Litmus
@@ -129,7 +117,7 @@ module _ (tree : Refutation) (looked : tree.places.now ≡ looked_at tree.test.n
     one-on = omega (arith, next)
 
     here : drop i cs ≡ a ∷ drop j cs
-    here = cut-at cs i a w ∙ (ap (λ x. x ∷ drop (suc i) cs) (sym is) ∙ ap (λ n. a ∷ drop n cs) one-on)
+    here = drop-cons cs i a w ∙ (ap (λ x. x ∷ drop (suc i) cs) (sym is) ∙ ap (λ n. a ∷ drop n cs) one-on)
 
     more : map (closed_branch tree) (take i cs) ++ (closed_branch tree a ∷ []) ≡ map (closed_branch tree) (take j cs)
     more =

@@ -1,6 +1,6 @@
 -- Lists that a loop makes of another one, item by item.
 use Rattle.reason_report.proofs.Vocabulary.{ℕ, ◌+◌, ◌≡◌, ◌<◌, List, [], ◌∷◌, ◌++◌, length, drop, get_or, map, sym, ap, ◌∙◌, append_assoc, drop_more}
-use Rattle.reason_report.proofs.Grouping.{map-push, map-twice}
+use Rattle.reason_report.proofs.Lists.{map-push, map-twice}
 
 -- what is made of the next item stands behind what is made
 pub one-more : {X Y : Type 0} (f : X → Y) (xs : List X) (i : ℕ) (d : X) (made new : List Y) (y : Y) (whole : List Y)

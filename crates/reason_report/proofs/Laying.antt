@@ -1,5 +1,5 @@
 -- Tasks and the parts that they are for.
-use Rattle.reason_report.proofs.Vocabulary.{ℕ, suc, zero, ◌+◌, ◌-◌, ◌<◌, ◌==◌, get_or, Option, Some, None, ◌≡◌, ◌≤◌, Bool, true, false, not, cond, List, [], ◌∷◌, ◌++◌, length, drop, map, refl, sym, ap, ◌∙◌, arith, subst, append_assoc, append-nil, drop_all, filter, replicate, flat_map, Litmus, Claim, Known, Model, Part, Branch, ReasonStep, is_leaf, is_closed, branches_with, with_reply, so_steps, case_steps, rest_steps, closed_case, groups, leaf_steps, grown, Reply, reason_step_of, first_part, Task, Passed, Case, So, Endcases, task_of, tasks_of, branch_task, branch_tasks, end_of, as_branch, emit, task_depth, TasksAreWithin, spec_wanted, with_wanted, ended_by}
+use Rattle.reason_report.proofs.Vocabulary.{ℕ, suc, zero, ◌+◌, ◌-◌, ◌<◌, ◌==◌, get_or, Option, Some, None, ◌≡◌, ◌≤◌, Bool, true, false, not, cond, List, [], ◌∷◌, ◌++◌, length, drop, map, refl, sym, ap, ◌∙◌, arith, subst, append_assoc, append-nil, drop_all, filter, replicate, flat_map, Litmus, Claim, Known, Model, Part, Branch, ReasonStep, is_leaf, is_closed, branches_with, with_reply, so_steps, case_steps, rest_steps, closed_case, groups, leaf_steps, grown, Reply, reason_step_of, first_part, Task, Passed, Case, So, Endcases, task_of, tasks_of, branch_task, branch_tasks, end_of, as_branch, emit, task_depth, TasksAreWithin, spec_wanted, with_wanted, ended_by, drop-cons}
 use Rattle.std.proofs.lemmas.Bool.Decides.{nat_tests}
 use Rattle.refutation_laws.specs.Refutations as refutations
 use Rattle.reason_report.specs.Steps as spec
@@ -10,11 +10,8 @@ use Rattle.reason_report.specs.declared.layout.Wanted.{Wanted}
 use Rattle.reason_report.specs.declared.layout.Wanted.TheVariants as wanted
 use Rattle.reason_report.specs.declared.layout.Task as declared
 use Rattle.reason_report.specs.declared.layout.Task.TheVariants as code
-
-cut-at : {X : Type 0} (xs : List X) (i : ℕ) (d : X) → i < length xs → drop i xs ≡ get_or xs i d ∷ drop (suc i) xs
-cut-at [] i d w = absurd (omega (arith, w))
-cut-at (x ∷ xs) zero d w = refl
-cut-at (x ∷ xs) (suc i) d w = cut-at xs i d (omega (arith, w))
+use Rattle.reason_report.proofs.Lists.{map-push}
+use Rattle.reason_report.proofs.Cutting.{shape}
 
 -- ---- the stack
 
@@ -173,10 +170,6 @@ module _ (model : Model) (t : Litmus) (claim : Claim) (whole ps : List Part) (n 
 
 -- ---- the lines of tasks
 
-map-push : {X Y : Type 0} (f : X → Y) (xs : List X) (x : X) → map f (xs ++ (x ∷ [])) ≡ map f xs ++ (f x ∷ [])
-map-push f [] x = refl
-map-push f (y ∷ xs) x = ap (λ zs. f y ∷ zs) (map-push f xs x)
-
 -- a line that is added stands before what comes
 pushed : (before after : List steps.Step) (s : steps.Step) (rest : List ReasonStep) → after ≡ before ++ (s ∷ [])
     → map reason_step_of after ++ rest ≡ map reason_step_of before ++ (reason_step_of s ∷ rest)
@@ -221,10 +214,6 @@ all-ended t whole before after old new a left more so =
 pub wanted-within : (most : ℕ) (w : Option Wanted) (ts : List Task) → TasksAreWithin most (with_wanted w ts) → TasksAreWithin most ts
 wanted-within most None ts h = h
 wanted-within most (Some w) ts h = h.1
-
-shape : (whole : List Part) (p : Part) (ps : List Part) → whole ≡ p ∷ ps → whole ≡ first_part whole ∷ drop 1 whole
-shape [] p ps e = cc
-shape (q ∷ qs) p ps e = refl
 
 module _ (t : Litmus) (whole : List Part) (p : Part) (ps : List Part) (is : whole ≡ p ∷ ps) (d : ℕ) (reply : Reply) (k : Known) (ts : List Task)
     (before after : List steps.Step) (s : steps.Step) (more : after ≡ before ++ (s ∷ [])) where
@@ -271,7 +260,7 @@ module _ (f : replies.Branch → Branch) (bs : List replies.Branch) (d : ℕ) wh
       popped new old (code.Part w) more
       ∙ (ap (λ ts. spec_wanted w ∷ ts) so
       ∙ (ap (λ (x : Task). x ∷ (branch_tasks single d (map f (drop i bs)) ++ base)) is
-      ∙ ap (λ cs. branch_tasks single d (map f cs) ++ base) (sym (cut-at bs j b (omega (arith, some, within, less)) ∙ ap (λ n. get_or bs j b ∷ drop n bs) next))))
+      ∙ ap (λ cs. branch_tasks single d (map f cs) ++ base) (sym (drop-cons bs j b (omega (arith, some, within, less)) ∙ ap (λ n. get_or bs j b ∷ drop n bs) next))))
     where
       next : suc j ≡ i
       next = omega (arith, some, less)

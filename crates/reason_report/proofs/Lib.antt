@@ -1,4 +1,5 @@
 pub mod Vocabulary
+pub mod Lists
 pub mod Cutting
 pub mod Grouping
 pub mod Growing

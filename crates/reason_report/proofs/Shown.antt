@@ -1,5 +1,5 @@
 -- What is shown of an execution is its candidate.
-use Rattle.reason_report.proofs.Vocabulary.{ℕ, suc, zero, ◌+◌, ◌||◌, ◌≡◌, ◌≤◌, ◌<◌, Bool, true, false, cond, List, [], ◌∷◌, ◌++◌, length, drop, get_or, map, Option, Some, None, refl, sym, ap, ◌∙◌, arith, subst, append_assoc, All, filter, slice_get, codes, flat_map, list_any, at_drop_more, append-nil, drop_all, Data, Members, no_members, member, put, object, array, string, items_of, Litmus, is_read, writes_to, is_before, made, final_words, final_registers, words_from, registers_from, Instr, Choice, Entry, IsIn, IsCandidateOf, LeaveTheSame, last_in, IsExecutionOf, Model, value_members, printed_entry, line, test_line, looked_at, verdict_line, outcomes_verdict_value, model_name, asked_line, from_line, reads_of, coherence_lines, coherence_line, allowed_text, asked_value, from_value, coherence_members, with_coherence, allowed_value, Reading, Named, NameExists, allowed_in, ShowsExecution, last_or, ReadsIt, AreIn, AreReadings, IsShown, read_with_source, reading_line, reading_value, coherence_by, coherence_members_by, values_in, shown_value}
+use Rattle.reason_report.proofs.Vocabulary.{ℕ, suc, zero, ◌+◌, ◌||◌, ◌≡◌, ◌≤◌, ◌<◌, Bool, true, false, cond, List, [], ◌∷◌, ◌++◌, length, drop, get_or, map, Option, Some, None, refl, sym, ap, ◌∙◌, arith, subst, append_assoc, All, filter, slice_get, codes, flat_map, list_any, at_drop_more, append-nil, drop_all, Data, Members, no_members, member, put, object, array, string, items_of, Litmus, is_read, writes_to, is_before, made, final_words, final_registers, words_from, registers_from, Instr, Choice, Entry, IsIn, IsCandidateOf, LeaveTheSame, last_in, IsExecutionOf, Model, value_members, printed_entry, line, test_line, looked_at, verdict_line, outcomes_verdict_value, model_name, asked_line, from_line, reads_of, coherence_lines, coherence_line, allowed_text, asked_value, from_value, coherence_members, with_coherence, allowed_value, Reading, Named, NameExists, allowed_in, ShowsExecution, last_or, ReadsIt, AreIn, AreReadings, IsShown, read_with_source, reading_line, reading_value, coherence_by, coherence_members_by, drop-cons, values_in, shown_value}
 use Rattle.tso_model.specs.Axioms.{counting, IsTsoExecution}
 use Rattle.relational_model.specs.Candidates.{Candidate, words_left}
 use Rattle.refutation_laws.specs.declared.model.Model.TheVariants.{Tso, Sequential}
@@ -69,9 +69,6 @@ in-get : (order es : List Entry) (i : ℕ) (d : Entry) → i < length es → Are
 in-get order [] i d w h = absurd (omega (arith, w))
 in-get order (e ∷ es) zero d w h = h.0
 in-get order (e ∷ es) (suc i) d w h = in-get order es i d (omega (arith, w)) h.1
-
-pub in-at : (order es : List Entry) (i : ℕ) (e : Entry) → i < length es → e ≡ get_or es i e → AreIn order es → IsIn order e
-in-at order es i e w is h = subst (IsIn order) (sym is) (in-get order es i e w h)
 
 module _ (t : Litmus) (order : List Entry) (c : Candidate) (of : IsCandidateOf t order c) where
   readings-are : (es : List Entry) (xs : List Reading) → AreReadings order (filter is_read es) xs → xs ≡ map (read_with_source c) (filter is_read es)
@@ -199,11 +196,6 @@ member-is t name p xs ms h =
 
 -- ---- the readings, one by one
 
-cut-at : {X : Type 0} (xs : List X) (i : ℕ) (d : X) → i < length xs → drop i xs ≡ get_or xs i d ∷ drop (suc i) xs
-cut-at [] i d w = absurd (omega (arith, w))
-cut-at (x ∷ xs) zero d w = refl
-cut-at (x ∷ xs) (suc i) d w = cut-at xs i d (omega (arith, w))
-
 pub in-one : (order es : List Entry) (i : ℕ) (d : Entry) → i < length es → AreIn order es → IsIn order (get_or es i d)
 in-one order es i d w h = in-get order es i d w h
 
@@ -215,7 +207,7 @@ module _ (order es : List Entry) (i j : ℕ) (d : Entry) (within : i < length es
   here : filter is_read (drop i es) ≡ cond b (get_or es i d ∷ filter is_read (drop j es)) (filter is_read (drop j es))
   here =
       let one-on : suc i ≡ j = omega (arith, next) in
-      ap (filter is_read) (cut-at es i d within ∙ ap (λ n. get_or es i d ∷ drop n es) one-on)
+      ap (filter is_read) (drop-cons es i d within ∙ ap (λ n. get_or es i d ∷ drop n es) one-on)
       ∙ ap (λ (x : Bool). cond x (get_or es i d ∷ filter is_read (drop j es)) (filter is_read (drop j es))) (sym is)
 
   pub reading-more : b ≡ true → (x : Reading) → x.read ≡ get_or es i d → ReadsIt order (get_or es i d) x.write → news ≡ all ++ (x ∷ [])

@@ -1,5 +1,5 @@
 -- What an order makes of the programs, core by core, place by place and location by location.
-use Rattle.reason_report.proofs.Vocabulary.{ℕ, suc, ◌+◌, ◌≡◌, ◌<◌, cond, List, [], ◌∷◌, ◌++◌, length, drop, get_or, refl, sym, ap, ◌∙◌, append_assoc, slice_index_or, at_drop_more, values_by, read_values, made_by, made_from, word_after, words_from, registers_of, registers_from, Instr, Entry}
+use Rattle.reason_report.proofs.Vocabulary.{ℕ, suc, ◌+◌, ◌≡◌, ◌<◌, cond, List, [], ◌∷◌, ◌++◌, length, drop, get_or, refl, sym, ap, ◌∙◌, append_assoc, at_drop_more, values_by, read_values, word_after, words_from, Instr, Entry}
 use Rattle.tso_model.specs.Actions.{action_of}
 use Rattle.tso_model.specs.Thread.{is_reading, reads_in}
 use Rattle.tso_model.specs.declared.action.Action.{Action}
@@ -26,27 +26,6 @@ more xs i d within F G one done after whole step is so =
     ap (λ ys. ys ++ G (drop (i + 1) xs)) is
     ∙ (append_assoc done one (G (drop (i + 1) xs))
     ∙ (ap (λ ys. done ++ ys) (sym (at_drop_more F xs i d within ∙ step (drop (i + 1) xs))) ∙ so))
-
-pub core-entries : (n : ℕ) (ps : List (List Instr)) (registers : List (List ℕ)) (order done after whole : List Entry) → n < length ps
-    → after ≡ done ++ made_by n (slice_index_or ps n []) (slice_index_or registers n []) order
-    → done ++ made_from n (drop n ps) registers order ≡ whole → after ++ made_from (n + 1) (drop (n + 1) ps) registers order ≡ whole
-core-entries n ps registers order done after whole within =
-    more ps n [] within (λ qs. made_from n qs registers order) (λ qs. made_from (n + 1) qs registers order)
-    (made_by n (slice_index_or ps n []) (slice_index_or registers n []) order) done after whole (λ rest. refl)
-
-pub core-registers : (n : ℕ) (ps : List (List Instr)) (registers : List (List ℕ)) (order : List Entry) (done after whole : List (List ℕ)) → n < length ps
-    → after ≡ done ++ (registers_of n (slice_index_or ps n []) (slice_index_or registers n []) order ∷ [])
-    → done ++ registers_from n (drop n ps) registers order ≡ whole → after ++ registers_from (n + 1) (drop (n + 1) ps) registers order ≡ whole
-core-registers n ps registers order done after whole within =
-    more ps n [] within (λ qs. registers_from n qs registers order) (λ qs. registers_from (n + 1) qs registers order)
-    (registers_of n (slice_index_or ps n []) (slice_index_or registers n []) order ∷ []) done after whole (λ rest. refl)
-
-pub value-more : (core place : ℕ) (order : List Entry) (is : List Instr) (i : ℕ) (d : Instr) → i < length is → (done after whole : List ℕ)
-    → after ≡ done ++ values_by core place (action_of (get_or is i d)) order
-    → done ++ read_values core place (drop i is) order ≡ whole → after ++ read_values core (place + 1) (drop (i + 1) is) order ≡ whole
-value-more core place order is i d within done after whole =
-    more is i d within (λ ps. read_values core place ps order) (λ ps. read_values core (place + 1) ps order)
-    (values_by core place (action_of (get_or is i d)) order) done after whole (λ rest. refl)
 
 pub word-more : (loc : ℕ) (order : List Entry) (words : List ℕ) (i : ℕ) → i < length words → (done after whole : List ℕ)
     → after ≡ done ++ (word_after loc order (get_or words i 0) ∷ [])

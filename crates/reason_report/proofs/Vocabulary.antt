@@ -1,6 +1,6 @@
 -- The names that the proofs of this crate bring in from definitions and from crates below; each file takes its own from here.
 pub use Rattle.std.specs.Prelude.{filter, replicate, All, slice_get, codes, slice_index_or}
-pub use Rattle.std.proofs.Common.{Bool, true, false, cond, ℕ, suc, zero, ◌+◌, ◌≡◌, ◌≤◌, ◌<◌, List, [], ◌∷◌, ◌++◌, length, drop, map, get_or, slice_index, refl, sym, ap, ◌∙◌, arith, subst, ◌⊎◌, inl, inr, ◌≢◌, set, length-set, get_or-set_same, get_or-set_other, append_assoc, ◌-◌, ◌&&◌, not, take, ◌==◌, Option, Some, None, ◌||◌, string_bytes, vec_len}
+pub use Rattle.std.proofs.Common.{Bool, true, false, cond, ℕ, suc, zero, ◌+◌, ◌≡◌, ◌≤◌, ◌<◌, List, [], ◌∷◌, ◌++◌, length, drop, map, get_or, slice_index, refl, sym, ap, ◌∙◌, arith, subst, ◌⊎◌, inl, inr, ◌≢◌, set, length-set, get_or-set_same, get_or-set_other, append_assoc, ◌-◌, ◌&&◌, not, take, ◌==◌, Option, Some, None, ◌||◌, string_bytes, vec_len, drop-cons}
 pub use Rattle.std.proofs.lemmas.List.{drop_all, at_drop_more, take_all, length-drop, drop_more, append-nil}
 pub use Rattle.tso_model.specs.Litmus.{Litmus}
 pub use Rattle.refutation_laws.specs.Known.{Known, nothing}
@@ -36,8 +36,8 @@ pub use Rattle.serde_json.specs.View.{items_of, view, members_view}
 pub use Rattle.serde_json.specs.Written.{has_float, items_have_float, members_have_float, compact_text}
 pub use Rattle.tso_report.specs.Json.{count}
 pub use Rattle.reason_report.specs.ReasonText.{source_text, model_name, asked_line, from_line, reads_of, coherence_lines, coherence_line, allowed_text}
-pub use Rattle.tso_model.specs.ProgramEntries.{made, values_by, read_values, made_by, made_from}
-pub use Rattle.tso_model.specs.FinalState.{final_words, final_registers, words_from, registers_from, word_after, registers_of}
+pub use Rattle.tso_model.specs.ProgramEntries.{made, values_by, read_values}
+pub use Rattle.tso_model.specs.FinalState.{final_words, final_registers, words_from, registers_from, word_after}
 pub use Rattle.tso_model.specs.declared.instruction.Instr.{Instr}
 pub use Rattle.relational_model.specs.Events.{IsIn}
 pub use Rattle.relational_model.specs.CandidatesOfOrders.{IsCandidateOf, LeaveTheSame, last_in}

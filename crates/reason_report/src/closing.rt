@@ -3,7 +3,7 @@
 ghost use Rattle.std.specs.Prelude.{ℕ, ◌≡◌, IfOk, map, length};
 ghost use Rattle.std.specs.List.{flat_map};
 ghost use Rattle.refutation_laws.specs.Refutations.{asked_claim};
-ghost use Rattle.refutations.specs.inner.Trees.{known_of, relations_of};
+ghost use Rattle.refutations.specs.inner.Trees.{known_of};
 ghost use Rattle.tso_report.specs.inner.Tally.{NameExists};
 ghost use Rattle.reason_report.specs.Places as places;
 ghost use Rattle.reason_report.specs.Steps as spec;
@@ -17,7 +17,7 @@ use crate::leaves::{edges_of, event_at};
 use crate::parts::{Refutation, node_at};
 use crate::places::{distinct_words, suffices, words_at};
 use crate::replies::Reply;
-use crate::steps::{Answer, Closing, Edge, Event, Place};
+use crate::steps::{Answer, Closing, Event, Place};
 use refutations::{Acyclic, Node};
 use std::alloc::Global;
 use tso_model::{Entry, NoMemory};
@@ -197,29 +197,6 @@ fn places_in(
     Ok(all)
 }
 
-fn edges(
-    alloc: Global,
-    tree: Refutation<'_>,
-    given: &Given,
-    acyclic: Acyclic,
-    cycle: &[Entry],
-) -> Result<Vec<Edge>, NoMemory>
-    requires tree { IsLayoutReady tree }
-    requires given { IsGiven tree.test.now given.now }
-    ensures { IfOk result (λ edges. edges.items
-        ≡ spec.edges_of tree.entry.test.now (known_of given.now.answers) (relations_of acyclic) cycle.now) }
-{
-    edges_of(
-        alloc,
-        tree.test,
-        tree.events,
-        &given.answers,
-        &given.facts,
-        acyclic,
-        cycle,
-    )
-}
-
 /// Why a leaf closes its case, and others that are alike; none of a question.
 ///
 /// Errors: out of memory only.
@@ -239,10 +216,10 @@ pub fn why_closed(
     let given = &leaf.given;
     Ok(Some(match node_at(tree.nodes, leaf.at) {
         Node::OnLocation(cycle) => {
-            Closing::Uniproc(edges(alloc, tree, given, Acyclic::OnLocation, cycle)?)
+            Closing::Uniproc(edges_of(alloc, tree, given, Acyclic::OnLocation, cycle)?)
         }
         Node::Globally(cycle) => {
-            Closing::Cycle(edges(alloc, tree, given, Acyclic::Globally(tree.model), cycle)?)
+            Closing::Cycle(edges_of(alloc, tree, given, Acyclic::Globally(tree.model), cycle)?)
         }
         Node::Between(read, between, write) => {
             Closing::Between(

@@ -6,6 +6,8 @@ ghost use Rattle.refutations.specs.inner.Trees.{known_of, relations_of};
 ghost use Rattle.refutations.specs.inner.Facts.{AreFacts};
 ghost use Rattle.reason_report.specs.Steps as spec;
 
+use crate::closed::Given;
+use crate::parts::Refutation;
 use crate::steps::{Edge, Event};
 use refutations::{Acyclic, Answers, Facts, first_relation, value_known};
 use std::alloc::Global;
@@ -23,23 +25,16 @@ pub fn event_at(test: &Test, events: &[Entry], answers: &Answers, facts: &Facts,
     }
 }
 
-fn edge_at(
-    test: &Test,
-    events: &[Entry],
-    answers: &Answers,
-    facts: &Facts,
-    acyclic: Acyclic,
-    x: &Entry,
-    y: &Entry,
-) -> Edge
-    requires events { events.now ≡ events_of test.now }
-    requires facts { AreFacts test.now (known_of answers.now) facts.now }
-    ensures { result ≡ spec.edge_at test.now (known_of answers.now) (relations_of acyclic) x.now y.now }
+fn edge_at(tree: Refutation<'_>, given: &Given, acyclic: Acyclic, x: &Entry, y: &Entry) -> Edge
+    requires events { tree.events.now ≡ events_of tree.test.now }
+    requires facts { AreFacts tree.test.now (known_of given.now.answers) given.now.facts }
+    ensures { result ≡ spec.edge_at tree.entry.test.now (known_of given.now.answers) (relations_of acyclic) x.now y.now }
 {
+    let answers = &given.answers;
     Edge {
-        source: event_at(test, events, answers, facts, x),
-        relation: first_relation(test, events, answers, acyclic, x, y),
-        target: event_at(test, events, answers, facts, y),
+        source: event_at(tree.test, tree.events, answers, &given.facts, x),
+        relation: first_relation(tree.test, tree.events, answers, acyclic, x, y),
+        target: event_at(tree.test, tree.events, answers, &given.facts, y),
     }
 }
 
@@ -48,16 +43,15 @@ fn edge_at(
 /// Errors: out of memory only.
 pub fn edges_of(
     alloc: Global,
-    test: &Test,
-    events: &[Entry],
-    answers: &Answers,
-    facts: &Facts,
+    tree: Refutation<'_>,
+    given: &Given,
     acyclic: Acyclic,
     cycle: &[Entry],
 ) -> Result<Vec<Edge>, NoMemory>
-    requires events { events.now ≡ events_of test.now }
-    requires facts { AreFacts test.now (known_of answers.now) facts.now }
-    ensures { IfOk result (λ edges. edges.items ≡ spec.edges_of test.now (known_of answers.now) (relations_of acyclic) cycle.now) }
+    requires events { tree.events.now ≡ events_of tree.test.now }
+    requires facts { AreFacts tree.test.now (known_of given.now.answers) given.now.facts }
+    ensures { IfOk result (λ edges. edges.items
+        ≡ spec.edges_of tree.entry.test.now (known_of given.now.answers) (relations_of acyclic) cycle.now) }
 {
     let mut edges = Vec::new(alloc);
     let Some((first, rest)) = cycle.split_first() else {
@@ -65,9 +59,9 @@ pub fn edges_of(
     };
     let mut last = first;
     for next in rest {
-        edges.push(edge_at(test, events, answers, facts, acyclic, last, next))?;
+        edges.push(edge_at(tree, given, acyclic, last, next))?;
         last = next;
     }
-    edges.push(edge_at(test, events, answers, facts, acyclic, last, first))?;
+    edges.push(edge_at(tree, given, acyclic, last, first))?;
     Ok(edges)
 }

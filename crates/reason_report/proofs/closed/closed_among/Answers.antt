@@ -1,7 +1,8 @@
 use Rattle.reason_report.proofs.Vocabulary.{◌∙◌, ◌+◌, ◌∷◌, ◌++◌, [], ap, sym, subst, refl, map, known_of, branch_in, BranchesAreClosed, closed_branch}
 use Rattle.reason_report.specs.Steps as spec
 use Rattle.reason_report.proofs.Cutting.{below-get, closed-more, closed-less}
-use Rattle.reason_report.proofs.Grouping.{closed-push, map-push}
+use Rattle.reason_report.proofs.Grouping.{closed-push}
+use Rattle.reason_report.proofs.Lists.{map-push}
 use Rattle.reason_report.proofs.closed.closed_among.Goals as goal
 use Rattle.reason_report.proofs.closed.closed_among.Goals.{then-is_leaf+in_ok-close+in_ok-push, else-is_leaf}
 

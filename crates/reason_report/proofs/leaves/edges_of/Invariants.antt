@@ -4,5 +4,5 @@ use Rattle.reason_report.proofs.leaves.edges_of.Given as goal
 
 abbrev pub invariant-loop-next : goal.invariant-loop-next
 invariant-loop-next l =
-    l.edges.items ++ spec.edges_back l.test (known_of l.answers) (relations_of l.acyclic) l.first l.last (drop l.next-index l.rest)
-    ≡ spec.edges_of l.test (known_of l.answers) (relations_of l.acyclic) l.cycle
+    l.edges.items ++ spec.edges_back l.tree.test.now (known_of l.given.answers) (relations_of l.acyclic) l.first l.last (drop l.next-index l.rest)
+    ≡ spec.edges_of l.tree.test.now (known_of l.given.answers) (relations_of l.acyclic) l.cycle
