@@ -1,6 +1,6 @@
 -- What holds of each use of the caches: of none, of a load that a core's own stores answer, and of an access, whole or in its two
 -- halves.
-use Rattle.machine_core.proofs.Vocabulary.{ℕ, List, ◌∷◌, Bool, if◌then◌else◌, list_any, writes_to, Entry, Unused, Forwarded, Caches, not_through, use_of, Used, ask_by, used_between, completion_by, use_by_kind, whole_by, MemoryAccess, Writes, Reads, Locks, Kind, [], true, false, NoAccess, R, F, LW, ◌≡◌, refl, asking_by}
+use Rattle.machine_core.proofs.Vocabulary.{ℕ, List, ◌∷◌, Bool, if◌then◌else◌, list_any, writes_to, Entry, Unused, Forwarded, Caches, not_through, use_of, Used, ask_by, used_between, completion_by, use_by_kind, whole_by, MemoryAccess, Kind, [], true, false, NoAccess, R, F, LW, ◌≡◌, refl, asking_by, at_access}
 
 module _ (P : Used → Type 0) (c : Caches) (unused : P (not_through Unused c)) (forwarded : P (not_through Forwarded c)) (whole : (core loc : ℕ) (write : Bool) → P (whole_by c core loc write)) where
   pub each-whole : (pending commits : List Entry) → P (use_of c pending commits)
@@ -16,13 +16,9 @@ module _ (P : Used → Type 0) (c : Caches) (unused : P (not_through Unused c)) 
   pub each-use : (core : ℕ) → ((loc : ℕ) (write : Bool) → P (ask_by c core loc write)) → ((loc : ℕ) → P (completion_by c core loc)) → (before after : Bool) (what : MemoryAccess) (pending commits : List Entry)
       → P (used_between before after c core what pending commits)
   each-use core asks completes false true NoAccess pending commits = unused
-  each-use core asks completes false true (Reads loc) pending commits = asks loc.0 false
-  each-use core asks completes false true (Writes loc) pending commits = asks loc.0 true
-  each-use core asks completes false true (Locks loc) pending commits = asks loc.0 true
+  each-use core asks completes false true what pending commits = asks _ (at_access false (λ loc write. write) what)
   each-use core asks completes true false NoAccess pending commits = unused
-  each-use core asks completes true false (Reads loc) pending commits = completes loc.0
-  each-use core asks completes true false (Writes loc) pending commits = completes loc.0
-  each-use core asks completes true false (Locks loc) pending commits = completes loc.0
+  each-use core asks completes true false _ pending commits = completes _
   each-use core asks completes false false what pending commits = each-whole pending commits
   each-use core asks completes true true what pending commits = each-whole pending commits
 

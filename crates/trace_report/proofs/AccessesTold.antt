@@ -1,5 +1,5 @@
 -- The accesses that a trace tells, and those that are counted.
-use Rattle.trace_report.proofs.Vocabulary.{◌≡◌, ◌∙◌, ℕ, zero, suc, ◌+◌, ◌<◌, ◌==◌, ◌&&◌, Bool, true, false, List, [], ◌∷◌, length, replicate, slice_index_or, Option, Some, None, refl, sym, ap, subst, arith, get_or_past, test-true, test-false, chosen, has_ended, CoresExist, Core, Choice, AccessKind, Hit, Upgrade, Miss, Running, machine_use, machine_after, Statistics, no_counts, with_access, with_forward, with_write_back, with_flush, counts_at_core, flush_counted, with_use_counted, statistics_from, Counts, CacheUse, Unused, Forwarded, Through, length-counted, ShownStep, is_forwarded, access_kind_in, trace_step_of, steps_from, count_of_accesses, is_kind, is_access_of_kind, tells_access, tells_forward, one_if, steps_that, if◌then◌else◌}
+use Rattle.trace_report.proofs.Vocabulary.{◌≡◌, ◌∙◌, ℕ, zero, suc, ◌+◌, ◌<◌, ◌==◌, ◌&&◌, Bool, true, false, List, [], ◌∷◌, length, replicate, slice_index_or, Option, Some, None, refl, sym, ap, subst, arith, get_or_past, test-true, test-false, chosen, has_ended, CoresExist, Core, Choice, AccessKind, Hit, Upgrade, Miss, Running, machine_use, machine_after, Statistics, no_counts, with_access, with_forward, with_write_back, with_flush, counts_at_core, flush_counted, with_use_counted, statistics_from, Counts, CacheUse, Unused, Forwarded, Through, length-counted, ShownStep, is_forwarded, access_kind_in, trace_step_of, steps_from, count_of_accesses, is_kind, is_access_of_kind, tells_access, tells_forward, one_if, steps_that, if◌then◌else◌, cases_Bool, inl, inr}
 use Rattle.bus_laws.proofs.Changed.{slot}
 
 -- the counts of one core among those of all
@@ -114,24 +114,20 @@ pub summed : (P : Running → Type 0) (what : Counts → ℕ) (waits : Running �
     → what (of (counts_after m choices) k) + waits (end_of m choices) ≡ what (of m.statistics.counts k) + waits m + steps_that test (steps_from m choices)
 summed P what waits test k keeps adds m [] p cores = omega arith
 summed P what waits test k keeps adds m (c ∷ cs) p cores =
-    go (has_ended m.test m.state.flat) refl
-    (summed P what waits test k keeps adds (machine_after m c) cs (keeps m c p) (subst (λ n. CoresExist n cs) (sym (length-counted (chosen c) (machine_use m c).how m.statistics.counts)) cores.1))
-  where
-    go : (b : Bool) → has_ended m.test m.state.flat ≡ b
-        → what (of (counts_after (machine_after m c) cs) k) + waits (end_of (machine_after m c) cs)
-        ≡ what (of (machine_after m c).statistics.counts k) + waits (machine_after m c) + steps_that test (steps_from (machine_after m c) cs)
-        → what (of (counts_after m (c ∷ cs)) k) + waits (end_of m (c ∷ cs)) ≡ what (of m.statistics.counts k) + waits m + steps_that test (steps_from m (c ∷ cs))
-    go true over rest =
-        let steps : steps_that test (steps_from m (c ∷ cs)) ≡ 0 = rw over refl in
-        let counts : what (of (counts_after m (c ∷ cs)) k) ≡ what (of m.statistics.counts k) = ap (λ (x : Statistics). what (of x.counts k)) (stopped m c cs over) in
-        let last : waits (end_of m (c ∷ cs)) ≡ waits m = rw over refl in
-        omega arith
-    go false live rest =
-        let steps : steps_that test (steps_from m (c ∷ cs)) ≡ one_if (test (trace_step_of m c)) + steps_that test (steps_from (machine_after m c) cs) = rw live refl in
-        let counts : what (of (counts_after m (c ∷ cs)) k) ≡ what (of (counts_after (machine_after m c) cs) k) = ap (λ (x : Statistics). what (of x.counts k)) (counting m c cs live) in
-        let last : waits (end_of m (c ∷ cs)) ≡ waits (end_of (machine_after m c) cs) = rw live refl in
-        let one = adds m c p cores.0 in
-        omega arith
+    let rest = summed P what waits test k keeps adds (machine_after m c) cs (keeps m c p) (subst (λ n. CoresExist n cs) (sym (length-counted (chosen c) (machine_use m c).how m.statistics.counts)) cores.1) in
+    elim (cases_Bool (has_ended m.test m.state.flat)) [
+      | inl over ↦
+          let steps : steps_that test (steps_from m (c ∷ cs)) ≡ 0 = rw over refl in
+          let counts : what (of (counts_after m (c ∷ cs)) k) ≡ what (of m.statistics.counts k) = ap (λ (x : Statistics). what (of x.counts k)) (stopped m c cs over) in
+          let last : waits (end_of m (c ∷ cs)) ≡ waits m = rw over refl in
+          omega arith
+      | inr live ↦
+          let steps : steps_that test (steps_from m (c ∷ cs)) ≡ one_if (test (trace_step_of m c)) + steps_that test (steps_from (machine_after m c) cs) = rw live refl in
+          let counts : what (of (counts_after m (c ∷ cs)) k) ≡ what (of (counts_after (machine_after m c) cs) k) = ap (λ (x : Statistics). what (of x.counts k)) (counting m c cs live) in
+          let last : waits (end_of m (c ∷ cs)) ≡ waits (end_of (machine_after m c) cs) = rw live refl in
+          let one = adds m c p cores.0 in
+          omega arith
+    ]
 
 pub no-counts : (n k : ℕ) → of (replicate n no_counts) k ≡ no_counts
 no-counts zero k = refl

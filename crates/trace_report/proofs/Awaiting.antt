@@ -1,6 +1,6 @@
 -- A line that its core awaits isn't in the core's cache, but for an upgrade: so another line may give way to it. What a use of
 -- the caches on either bus makes of them.
-use Rattle.trace_report.proofs.Vocabulary.{◌≡◌, ◌≢◌, ◌∙◌, ◌<◌, ◌/◌, ℕ, Bool, true, false, List, Option, Some, None, inl, inr, refl, sym, ap, subst, MemoryAccess, NoAccess, Reads, Writes, Locks, Holder, HeldBy, chosen, Choice, Table, transient_of, I, E, M, Request, GetS, GetM, Transient, Geometry, table_of_rows, TagSets, tag_in, sets_of, snoop_column, Awaited, tag_at, or_invalid, awaiting, asking, asked_caches_in, Caches, Used, is_awaited, asking_by, completing_by, Unused, IsUseFor, KeepsNoCopyInI, AllNeat, found-valid, all-requested, own-kept, Loc, at_access, whole_by, Bus, Outcome, request_for}
+use Rattle.trace_report.proofs.Vocabulary.{◌≡◌, ◌≢◌, ◌∙◌, ◌<◌, ◌/◌, ℕ, Bool, true, false, List, Option, Some, None, inl, inr, refl, sym, ap, subst, MemoryAccess, NoAccess, Reads, Writes, Locks, Holder, HeldBy, chosen, Choice, Table, transient_of, I, E, M, Request, GetS, GetM, Transient, Geometry, table_of_rows, TagSets, tag_in, sets_of, snoop_column, Awaited, tag_at, or_invalid, awaiting, asking, asked_caches_in, Caches, Used, is_awaited, asking_by, completing_by, Unused, IsUseFor, KeepsNoCopyInI, AllNeat, found-valid, all-requested, own-kept, at_access, whole_by, Bus, Outcome, request_for}
 use Rattle.std.specs.Option.{option_map}
 use Rattle.protocol_tables.specs.declared.state.State.{State}
 use Rattle.machine_core.proofs.EachUse.{asks-nothing}
@@ -88,16 +88,14 @@ use-neat lines c core NoAccess u (inl is) within keeps h = subst (NeatAfter line
 use-neat lines c core NoAccess u (inr is) within keeps h = subst (NeatAfter lines) (sym is) h
 use-neat lines c core what u is within keeps h = subst (NeatAfter lines) (sym is) (whole-neat (table_of_rows c.rows) (is_write_access what) core _ c.contents keeps lines within h)
 
-whole-fills-by : (c : Caches) (core : ℕ) (loc : Loc) (write : Bool) (what : MemoryAccess) → KeepsNoCopyInI (table_of_rows c.rows) → at_access None (λ at write. Some (at.0 / c.shape.words)) what ≡ Some (loc.0 / c.shape.words)
-    → FillsIf c core what (whole_by c core loc.0 write)
-whole-fills-by c core loc write what keeps at dirty = record { came = loc.0 / c.shape.words; accessed = at; line = whole-fills (table_of_rows c.rows) write core (loc.0 / c.shape.words) c.contents keeps dirty }
+whole-fills-by : (c : Caches) (core loc : ℕ) (write : Bool) (what : MemoryAccess) → KeepsNoCopyInI (table_of_rows c.rows) → at_access None (λ at write. Some (at.0 / c.shape.words)) what ≡ Some (loc / c.shape.words)
+    → FillsIf c core what (whole_by c core loc write)
+whole-fills-by c core loc write what keeps at dirty = record { came = loc / c.shape.words; accessed = at; line = whole-fills (table_of_rows c.rows) write core (loc / c.shape.words) c.contents keeps dirty }
 
 use-fills : (c : Caches) (core : ℕ) (what : MemoryAccess) (u : Used) → IsUseFor c core what u → KeepsNoCopyInI (table_of_rows c.rows) → FillsIf c core what u
 use-fills c core NoAccess u (inl is) keeps = subst (FillsIf c core NoAccess) (sym is) (λ dirty. absurd (let z : ⊥ = cc in z))
 use-fills c core NoAccess u (inr is) keeps = subst (FillsIf c core NoAccess) (sym is) (λ dirty. absurd (let z : ⊥ = cc in z))
-use-fills c core (Reads loc) u is keeps = subst (FillsIf c core (Reads loc)) (sym is) (whole-fills-by c core loc false (Reads loc) keeps refl)
-use-fills c core (Writes loc) u is keeps = subst (FillsIf c core (Writes loc)) (sym is) (whole-fills-by c core loc true (Writes loc) keeps refl)
-use-fills c core (Locks loc) u is keeps = subst (FillsIf c core (Locks loc)) (sym is) (whole-fills-by c core loc true (Locks loc) keeps refl)
+use-fills c core what u is keeps = subst (FillsIf c core what) (sym is) (whole-fills-by c core _ (is_write_access what) what keeps refl)
 
 -- ---- meanwhile others hit
 

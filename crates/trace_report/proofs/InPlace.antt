@@ -1,5 +1,5 @@
 -- An access that needs no bus: no other cache sees it, nothing is sent to memory, and no line leaves.
-use Rattle.trace_report.proofs.Vocabulary.{◌≡◌, ◌≢◌, ◌∙◌, ◌/◌, ℕ, Bool, false, not, List, slice_index_or, Option, Some, None, is_some, inl, inr, refl, sym, subst, eqb_tells, MemoryAccess, NoAccess, Reads, Locks, needs_bus, Table, table_of_rows, TagSet, tag_of, used, TagSets, tags_at, tag_in, at_line, sets_of, used_by, tag_at, Caches, Used, not_through, hits_by, Unused, IsUseFor, no_set, absent-remove, would_hit, through, whole_by, Forwarded, Through, next_in_place, whole_in, CacheUse, Core, at_access}
+use Rattle.trace_report.proofs.Vocabulary.{◌≡◌, ◌≢◌, ◌∙◌, ◌/◌, ℕ, Bool, false, not, List, slice_index_or, Option, Some, None, is_some, inl, inr, refl, sym, subst, eqb_tells, MemoryAccess, NoAccess, Locks, needs_bus, Table, table_of_rows, TagSet, tag_of, used, TagSets, tags_at, tag_in, at_line, sets_of, used_by, tag_at, Caches, Used, not_through, hits_by, Unused, IsUseFor, no_set, absent-remove, would_hit, through, whole_by, Forwarded, Through, next_in_place, whole_in, CacheUse, Core, at_access}
 use Rattle.protocol_tables.specs.declared.state.State.{State}
 use Rattle.bus_laws.proofs.Changed.{set-at, core-at}
 use Rattle.bus_laws.proofs.Snooped.{own-alone}
@@ -83,5 +83,4 @@ use-still c core what u is free = subst (IsStill c core) (sym is) (hit-still c c
 pub use-keeps : (c : Caches) (core : ℕ) (what : MemoryAccess) (u : Used) → IsUseFor c core what u → (u.caches.rows ≡ c.rows) × (u.caches.awaited ≡ c.awaited)
 use-keeps c core NoAccess u (inl is) = rw is (refl, refl)
 use-keeps c core NoAccess u (inr is) = rw is (refl, refl)
-use-keeps c core (Reads loc) u is = rw is (refl, refl)
 use-keeps c core _ u is = rw is (refl, refl)

@@ -1,5 +1,5 @@
 -- Along the whole order, and the moves at the end.
-use Rattle.tso_laws.proofs.Vocabulary.{max, ◌≡◌, ◌≢◌, ◌<◌, ◌≤◌, ℕ, ◌+◌, ◌-◌, zero, suc, List, [], ◌∷◌, ◌++◌, Bool, true, false, length, slice_index, slice_index_or, drop, arith, ap, sym, ◌∙◌, append_assoc, refl, ◌⊎◌, inl, inr, add-one, subst, get_or-set_same, get_or-set_other, length-set, Litmus, is_store, is_load, rank, is_store_kind, made_by, read_values, Entry, Instr, Choice, decide, lt-or, max-first, max-second, state_after, commits_of, core_of, CoreState, State, program_of, effect_of, chosen, after_choice, start, step, CoresExist, is_done, has_ended, run_from, stall_count, steps, drained, choices_for, places_after, last_steps, choices_from, beginnings, choices_along, LeadTo, Member, drop-end, done-at, all-done, starts-idle, length-starts}
+use Rattle.tso_laws.proofs.Vocabulary.{max, ◌≡◌, ◌≢◌, ◌<◌, ◌≤◌, ℕ, ◌+◌, ◌-◌, zero, suc, List, [], ◌∷◌, ◌++◌, true, false, length, slice_index, slice_index_or, drop, arith, ap, sym, ◌∙◌, append_assoc, refl, ◌⊎◌, inl, inr, add-one, subst, get_or-set_same, get_or-set_other, length-set, Litmus, is_store, is_load, rank, is_store_kind, made_by, read_values, Entry, Instr, Choice, decide, lt-or, max-first, max-second, state_after, commits_of, core_of, CoreState, State, program_of, effect_of, chosen, after_choice, start, step, CoresExist, has_ended, run_from, stall_count, steps, drained, choices_for, places_after, last_steps, choices_from, beginnings, choices_along, LeadTo, Member, drop-end, done-at, all-done, starts-idle, length-starts, false_from_ne_true}
 use Rattle.tso_laws.proofs.OneList.{Queued}
 use Rattle.tso_laws.proofs.CoreInvariant.{left, trace}
 use Rattle.tso_laws.proofs.MachineInvariant.{world-start}
@@ -194,12 +194,9 @@ leads d t order (suc fuel) front (x ∷ back) state places b g st h =
 
 -- where each choice takes effect, the run uses them all
 not-ended : (t : Litmus) (d : ℕ) (state : State) (a : Choice) → chosen a < length state.cores → stall_count (effect_of t d state a).outcome ≡ 0 → has_ended t state ≡ false
-not-ended t d state a l o = go (has_ended t state) (λ h. done-at t.programs state.cores (chosen a) h l)
-  where
-    go : (b : Bool) → (b ≡ true → is_done (program_of t (chosen a)) (core_of state (chosen a)) ≡ true) → b ≡ false
-    go false f = refl
-    go true f = absurd (let u = done-undone d (program_of t (chosen a)) (core_of state (chosen a)) (f refl) in
-        elim (choice-changes t d state a) [ inl w ↦ (let m = w.less in let z : ⊥ = omega arith in z) | inr w ↦ (let s = w.stalled in let z : ⊥ = cc in z) ])
+not-ended t d state a l o = false_from_ne_true (has_ended t state) (λ h.
+    let u = done-undone d (program_of t (chosen a)) (core_of state (chosen a)) (done-at t.programs state.cores (chosen a) h l) in
+    elim (choice-changes t d state a) [ inl w ↦ (let m = w.less in let z : ⊥ = omega arith in z) | inr w ↦ (let s = w.stalled in let z : ⊥ = cc in z) ])
 
 pub record Whole (t : Litmus) (d : ℕ) (state : State) (cs : List Choice) : Type 0 where
   pub ended : (run_from t d state cs).ended ≡ true

@@ -1,5 +1,5 @@
 -- Orders of entries with one more in the middle, as one core sees them.
-use Rattle.tso_laws.proofs.Vocabulary.{◌≡◌, ◌<◌, ◌≤◌, ℕ, suc, List, [], ◌∷◌, ◌++◌, Bool, true, false, length, slice_index, arith, sym, ◌∙◌, append_assoc, refl, subst, ◌==◌, ◌&&◌, if◌then◌else◌, nat_tests, same_kind, is_write, is_read, is_before, may_be_passed, writes_to, is_store, is_load, is_write_kind, is_read_kind, read_value, is_at, and-true, Entry, Kind, R, LR, Each, each-insert, each-left, append-nil}
+use Rattle.tso_laws.proofs.Vocabulary.{◌≡◌, ◌<◌, ◌≤◌, ℕ, suc, List, [], ◌∷◌, ◌++◌, Bool, true, false, length, slice_index, arith, sym, ◌∙◌, append_assoc, refl, subst, ◌==◌, ◌&&◌, if◌then◌else◌, nat_tests, same_kind, is_write, is_read, is_before, may_be_passed, writes_to, is_store, is_load, is_write_kind, is_read_kind, read_value, is_at, and-true, Entry, Kind, R, LR, Each, each-insert, each-left, append-nil, cases_Bool, inl, inr}
 use Rattle.tso_laws.proofs.Folds.{last_word, last_own, passed}
 
 -- where y stands after x in the order, and before it in the program of core c, y is a store and x a load
@@ -112,11 +112,7 @@ ordered-left d c (x ∷ xs) ys h = (each-left (λ y. Fine d c x y) xs ys h.0, or
 
 passed-left : (x : Entry) (xs ys : List Entry) → passed x xs ≤ passed x (xs ++ ys)
 passed-left x [] ys = omega arith
-passed-left x (y ∷ xs) ys = let h = passed-left x xs ys in both (is_store y && is_before y x) h
-  where
-    both : (b : Bool) → passed x xs ≤ passed x (xs ++ ys) → (if b then suc (passed x xs) else passed x xs) ≤ (if b then suc (passed x (xs ++ ys)) else passed x (xs ++ ys))
-    both true h = omega arith
-    both false h = h
+passed-left x (y ∷ xs) ys = let h = passed-left x xs ys in elim (cases_Bool (is_store y && is_before y x)) [ inl q ↦ rw q (omega arith) | inr q ↦ rw q h ]
 
 pub few-left : (d c : ℕ) (xs ys : List Entry) → Few d c (xs ++ ys) → Few d c xs
 few-left d c [] ys h = tt

@@ -1,6 +1,6 @@
 -- A state that has ended, and what its commits are.
-use Rattle.tso_laws.proofs.Vocabulary.{◌≡◌, ◌≢◌, ◌<◌, ◌≤◌, ℕ, ◌+◌, zero, suc, List, [], ◌∷◌, ◌++◌, Some, Bool, true, false, length, slice_get, slice_index, slice_index_or, take, map, arith, ap, sym, ◌∙◌, append_assoc, refl, inl, inr, add-one, subst, ◌==◌, if◌then◌else◌, length-append, slice_get-get_or, nat_tests, Litmus, is_read, is_before, may_be_passed, is_load, is_store, made_by, made_from, made, IsTsoExecution, IsAdjacent, KeepsProgramOrder, IsStorePart, KeepsAllOrder, test-false, le-cases, lt-by, max-within, not-itself, registers_of, registers_from, final_registers, words_from, word_after, Entry, Instr, core_of, CoreState, State, idle, program_of, LR, Each, each-append, each-at, each-right, Member, member-at, drop-end, append-nil, cases_Bool}
-use Rattle.tso_laws.proofs.Folds.{last_word, last_own, passed, asks, needs, HasEnded, word-is, due-is}
+use Rattle.tso_laws.proofs.Vocabulary.{◌≡◌, ◌≢◌, ◌<◌, ◌≤◌, ℕ, ◌+◌, zero, suc, List, [], ◌∷◌, ◌++◌, Some, true, false, length, slice_get, slice_index, slice_index_or, take, map, arith, ap, sym, ◌∙◌, append_assoc, refl, inl, inr, add-one, subst, ◌==◌, if◌then◌else◌, length-append, slice_get-get_or, nat_tests, Litmus, is_read, is_before, may_be_passed, is_load, is_store, made_by, made_from, made, IsTsoExecution, IsAdjacent, KeepsProgramOrder, IsStorePart, KeepsAllOrder, test-false, le-cases, lt-by, max-within, not-itself, registers_of, registers_from, final_registers, words_from, word_after, Entry, Instr, core_of, CoreState, State, idle, program_of, LR, Each, each-append, each-at, each-right, Member, member-at, drop-end, append-nil, cases_Bool}
+use Rattle.tso_laws.proofs.Folds.{last_word, last_own, asks, needs, HasEnded, word-is, due-is}
 use Rattle.tso_laws.proofs.Entries.{ordered-left, few-left, Fine, Ordered, Few, DueIn, count}
 use Rattle.tso_laws.proofs.OneList.{OneList}
 use Rattle.tso_laws.proofs.CoreInvariant.{CoreInvariant, left, trace, IsMemory, Paired}
@@ -196,11 +196,11 @@ ended_has_registers d t order state w h = registers-list 0 t.programs state.core
 pub needed_within : (n d : ℕ) (xs : List Entry) → 0 < d → Each (λ e. e.core.0 < n) xs → ((c : ℕ) → c < n → Few d c xs) → needs xs ≤ d
 needed_within n d [] p k f = omega arith
 needed_within n d (x ∷ xs) p k f =
-    max-within (asks x xs) (needs xs) d (here (is_load x) refl ((f x.core.0 k.0).0 refl)) (needed_within n d xs p k.1 (λ c l. (f c l).1))
-  where
-    here : (b : Bool) → is_load x ≡ b → (is_load x ≡ true → passed x xs ≤ d) → (if b then passed x xs else (if is_store x then 1 else 0)) ≤ d
-    here true q g = g q
-    here false q g = elim (is_store x) as (λ b. (if b then 1 else 0) ≤ d) [ true ↦ omega arith | false ↦ omega arith ]
+    let here : asks x xs ≤ d = elim (cases_Bool (is_load x)) [
+      | inl q ↦ rw q ((f x.core.0 k.0).0 refl q)
+      | inr q ↦ rw q (elim (is_store x) as (λ b. (if b then 1 else 0) ≤ d) [ true ↦ omega arith | false ↦ omega arith ])
+    ] in
+    max-within (asks x xs) (needs xs) d here (needed_within n d xs p k.1 (λ c l. (f c l).1))
 
 pub world-needs : (d : ℕ) (t : Litmus) (order : List Entry) (state : State) → 0 < d → MachineInvariant d t order state → needs order ≤ d
 world-needs d t order state p w =

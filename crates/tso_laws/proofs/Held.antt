@@ -1,5 +1,5 @@
 -- The stores of a core that stand before a place in its program, in the order of a list.
-use Rattle.tso_laws.proofs.Vocabulary.{◌≡◌, ◌≢◌, ◌<◌, ◌≤◌, ℕ, ◌+◌, suc, List, [], ◌∷◌, ◌++◌, Bool, true, false, length, arith, ap, sym, ◌∙◌, refl, ◌⊎◌, inl, inr, subst, ◌==◌, ◌&&◌, nat_lt, if◌then◌else◌, ◌||◌, nat_tests, is_before, writes_to, is_store, rank, part_of, is_store_kind, by-rank, and-true, and-false, Entry, Kind, R, W, Each, Member, cases_Bool}
+use Rattle.tso_laws.proofs.Vocabulary.{◌≡◌, ◌≢◌, ◌<◌, ◌≤◌, ℕ, ◌+◌, List, [], ◌∷◌, ◌++◌, Bool, true, false, length, arith, ap, sym, ◌∙◌, refl, ◌⊎◌, inl, inr, subst, ◌==◌, ◌&&◌, nat_lt, if◌then◌else◌, ◌||◌, nat_tests, is_before, writes_to, is_store, rank, part_of, is_store_kind, by-rank, and-true, and-false, Entry, Kind, R, W, Each, Member, cases_Bool, decide, test-true, test-false}
 use Rattle.tso_laws.proofs.Folds.{passes, last_word, last_own, passed}
 use Rattle.tso_laws.proofs.Entries.{Fine, Ordered}
 
@@ -44,12 +44,9 @@ store-rank e h = go e.kind refl h
     go W q h = rw q (omega arith)
     go _ q h = absurd (let z : ⊥ = cc in z)
 
-same-lt : (p n : ℕ) → p ≢ n → nat_lt p (n + 1) ≡ nat_lt p n
-same-lt p n h = grind (arith, nat_tests)
-
 same-test : (b : Bool) (c k p n : ℕ) → (c ≡ k → b ≡ true → p ≢ n) → (b && ((c == k) && nat_lt p (n + 1))) ≡ (b && ((c == k) && nat_lt p n))
 same-test false c k p n f = refl
-same-test true c k p n f = elim (cases_Bool (c == k)) [ inl q ↦ rw q (let e : c ≡ k = grind (arith, nat_tests) in same-lt p n (f e refl)) | inr q ↦ rw q refl ]
+same-test true c k p n f = elim (decide c k) [ inl e ↦ rw (test-true c k e) (let other = f e refl in grind (arith, nat_tests)) | inr e ↦ rw (test-false c k e) refl ]
 
 pub held-same : (k n : ℕ) (ys : List Entry) → ((e : Entry) → Member e ys → e.core.0 ≡ k → is_store e ≡ true → e.place ≢ n) → held k (n + 1) ys ≡ held k n ys
 held-same k n [] f = refl
@@ -57,14 +54,7 @@ held-same k n (y ∷ ys) f = rw (same-test (is_store y) y.core.0 k y.place n (f 
 
 none-test : (b : Bool) (c k p n : ℕ) → (c ≡ k → b ≡ true → n ≤ p) → (b && ((c == k) && nat_lt p n)) ≡ false
 none-test false c k p n f = refl
-none-test true c k p n f = go (c == k) refl
-  where
-    past : (p n : ℕ) → n ≤ p → nat_lt p n ≡ false
-    past p n h = grind (arith, nat_tests)
-
-    go : (t : Bool) → (c == k) ≡ t → (true && (t && nat_lt p n)) ≡ false
-    go true q = let e : c ≡ k = grind (arith, nat_tests) in past p n (f e refl)
-    go false q = refl
+none-test true c k p n f = elim (decide c k) [ inl e ↦ rw (test-true c k e) (let l = f e refl in grind (arith, nat_tests)) | inr e ↦ rw (test-false c k e) refl ]
 
 pub held-none : (k n : ℕ) (ys : List Entry) → ((e : Entry) → Member e ys → e.core.0 ≡ k → is_store e ≡ true → n ≤ e.place) → held k n ys ≡ []
 held-none k n [] f = refl
@@ -108,11 +98,7 @@ held-more d k n (y ∷ ys) e o u (inl q) c p w =
 held-more d k n (y ∷ ys) e o u (inr m) c p w =
     let s = same-test (is_store y) y.core.0 k y.place n (λ f g h. each-of (Apart y) e ys u.0 m (f ∙ sym c) (let a = store-rank y g in let b = store-rank e w in omega arith)) in
     let h = held-more d k n ys e o.1 u.1 m c p w in
-    rw (s, h) (both (is_held k n y))
-  where
-    both : (b : Bool) → (if b then y ∷ (held k n ys ++ (e ∷ [])) else held k n ys ++ (e ∷ [])) ≡ (if b then y ∷ held k n ys else held k n ys) ++ (e ∷ [])
-    both true = refl
-    both false = refl
+    rw (s, h) (elim (cases_Bool (is_held k n y)) [ inl q ↦ rw q refl | inr q ↦ rw q refl ])
 
 pub held-length : (k m n : ℕ) (ys : List Entry) → m ≤ n → length (held k m ys) ≤ length (held k n ys)
 held-length k m n [] l = omega arith
@@ -142,26 +128,15 @@ same-before x y r = rw r (go y.kind)
 
 pub held-passed : (x : Entry) (ys : List Entry) → x.kind ≡ R → length (held x.core.0 x.place ys) ≡ passed x ys
 held-passed x [] r = refl
-held-passed x (y ∷ ys) r = rw (same-before x y r, ← held-passed x ys r) (both (is_held x.core.0 x.place y))
-  where
-    both : (b : Bool) → length (if b then y ∷ held x.core.0 x.place ys else held x.core.0 x.place ys) ≡ (if b then suc (length (held x.core.0 x.place ys)) else length (held x.core.0 x.place ys))
-    both true = refl
-    both false = refl
+held-passed x (y ∷ ys) r = rw (same-before x y r, ← held-passed x ys r) (elim (cases_Bool (is_held x.core.0 x.place y)) [ inl q ↦ rw q refl | inr q ↦ rw q refl ])
 
 pub own-held : (x : Entry) (ys : List Entry) (v : ℕ) → x.kind ≡ R → ((e : Entry) → Member e ys → is_before e x ≡ true → is_store e ≡ true)
     → last_own x ys v ≡ last_word x.loc.0 (held x.core.0 x.place ys) v
 own-held x [] v r f = refl
-own-held x (y ∷ ys) v r f = rw (← same-before x y r) (go (is_before y x) refl (own-held x ys _ r (λ e m. f e (inr m))) (own-held x ys _ r (λ e m. f e (inr m))))
-  where
-    stays : (b : Bool) → b ≡ true
-        → last_own x ys (if writes_to x.loc.0 y then y.value else v) ≡ last_word x.loc.0 (held x.core.0 x.place ys) (if writes_to x.loc.0 y then y.value else v)
-        → last_own x ys (if writes_to x.loc.0 y then y.value else v) ≡ last_word x.loc.0 (if b && true then y ∷ held x.core.0 x.place ys else held x.core.0 x.place ys) v
-    stays true e a = a
-    stays false e a = absurd (let z : ⊥ = cc in z)
-
-    go : (t : Bool) → is_before y x ≡ t
-        → last_own x ys (if writes_to x.loc.0 y then y.value else v) ≡ last_word x.loc.0 (held x.core.0 x.place ys) (if writes_to x.loc.0 y then y.value else v)
-        → last_own x ys v ≡ last_word x.loc.0 (held x.core.0 x.place ys) v
-        → last_own x ys (if writes_to x.loc.0 y && t then y.value else v) ≡ last_word x.loc.0 (if is_store y && t then y ∷ held x.core.0 x.place ys else held x.core.0 x.place ys) v
-    go true q a b = rw (and-true (writes_to x.loc.0 y)) (stays (is_store y) (f y (inl refl) q) a)
-    go false q a b = rw (and-false (writes_to x.loc.0 y), and-false (is_store y)) b
+own-held x (y ∷ ys) v r f = rw (← same-before x y r) (elim (cases_Bool (is_before y x)) [
+  | inl q ↦
+      rw (q, and-true (writes_to x.loc.0 y))
+      (subst (λ b. last_own x ys (if writes_to x.loc.0 y then y.value else v) ≡ last_word x.loc.0 (if b && true then y ∷ held x.core.0 x.place ys else held x.core.0 x.place ys) v) (sym (f y (inl refl) q))
+      (own-held x ys _ r (λ e m. f e (inr m))))
+  | inr q ↦ rw (q, and-false (writes_to x.loc.0 y), and-false (is_store y)) (own-held x ys _ r (λ e m. f e (inr m)))
+])

@@ -1,5 +1,5 @@
 -- The whole machine: every choice keeps what its first state has, and at the end that is a TSO execution.
-use Rattle.tso_laws.proofs.Vocabulary.{◌≡◌, ◌≢◌, ◌<◌, ℕ, ◌+◌, zero, suc, List, [], ◌∷◌, ◌++◌, Option, Some, None, Bool, true, false, length, slice_get, slice_set, slice_index, slice_index_or, arith, ap, sym, ◌∙◌, append_assoc, refl, inl, inr, subst, ◌==◌, ◌&&◌, if◌then◌else◌, get_or-set_same, get_or-set_other, length-set, slice_get-get_or, nat_tests, Litmus, is_write, lt-or, memory_after, CoreState, State, Effect, idle, program_of, effect_of, chosen, after_choice, applied, started, start, Entry, Instr, Choice, Step, Drain, state_after, commits_of, Each, each-append, each-map, set-cases, append-nil, length-starts}
+use Rattle.tso_laws.proofs.Vocabulary.{◌≡◌, ◌≢◌, ◌<◌, ℕ, ◌+◌, zero, suc, List, [], ◌∷◌, ◌++◌, Option, Some, None, Bool, true, false, length, slice_get, slice_set, slice_index, slice_index_or, arith, ap, sym, ◌∙◌, append_assoc, refl, inl, inr, subst, ◌==◌, ◌&&◌, if◌then◌else◌, get_or-set_same, get_or-set_other, length-set, slice_get-get_or, Litmus, is_write, lt-or, memory_after, CoreState, State, Effect, idle, program_of, effect_of, chosen, after_choice, applied, started, start, Entry, Instr, Choice, Step, Drain, state_after, commits_of, Each, each-append, each-map, set-cases, append-nil, length-starts, decide, test-true, test-false}
 use Rattle.tso_laws.proofs.Folds.{last_word-append, last_word, HasLocations}
 use Rattle.tso_laws.proofs.Work.{absent-stays, stays-same}
 use Rattle.tso_laws.proofs.CoreInvariant.{CoreInvariant, IsMemory, Commits, holds-step, holds-drained, holds-others, step-commits, drain-commits, KnownAt, Paired, paired-append, step-paired, drain-paired}
@@ -8,15 +8,10 @@ use Rattle.tso_laws.proofs.CoreInvariant.{CoreInvariant, IsMemory, Commits, hold
 one-word : (b : Bool) (memory : List ℕ) (l loc v w : ℕ) → (b ≡ true → l < length memory) → slice_index memory loc ≡ w
     → slice_index (if b then slice_set memory l v else memory) loc ≡ (if (b && (l == loc)) then v else w)
 one-word false memory l loc v w h e = e
-one-word true memory l loc v w h e = same-or-other (l == loc) refl
-  where
-    same-or-other : (t : Bool) → (l == loc) ≡ t → slice_index (slice_set memory l v) loc ≡ (if (l == loc) then v else w)
-    same-or-other true q =
-        let s : l ≡ loc = grind (arith, nat_tests) in
-        rw (q, ← s) (get_or-set_same memory l v 0 (h refl))
-    same-or-other false q =
-        let s : loc ≢ l = grind (arith, nat_tests) in
-        rw q (get_or-set_other memory l loc v 0 s ∙ e)
+one-word true memory l loc v w h e = elim (decide l loc) [
+  | inl s ↦ rw (test-true l loc s, ← s) (get_or-set_same memory l v 0 (h refl))
+  | inr n ↦ rw (test-false l loc n) (get_or-set_other memory l loc v 0 (λ s. n (sym s)) ∙ e)
+]
 
 memory-after : (c : ℕ) (words : List ℕ) (commits d : List Entry) (memory : List ℕ) → length memory ≡ length words → IsMemory words commits memory → Each (Commits c (length words)) d
     → IsMemory words (commits ++ d) (memory_after d memory)

@@ -1,5 +1,5 @@
 -- What the entry at the head of the back needs, and that it is then committed.
-use Rattle.tso_laws.proofs.Vocabulary.{◌≡◌, ◌≢◌, ◌<◌, ◌≤◌, ℕ, ◌+◌, suc, List, [], ◌∷◌, ◌++◌, Some, Bool, true, false, length, slice_get, slice_index, slice_index_or, drop, arith, ap, sym, ◌∙◌, refl, ◌⊎◌, inl, inr, subst, ◌==◌, ◌&&◌, slice_get-get_or, action_of, entry, value_in, with_value, value_of, updated, entries_by, entries_of, Litmus, le-by, max-left, max-right, and-false, part-small, load-kind, before, core-before, is_write, is_before, may_be_passed, is_store, is_load, is_read_kind, is_store_kind, is_load_kind, rank, read_value, read_values, Entry, Loc, Reg, Kind, R, W, F, LR, LW, Instr, Action, Store, Load, Move, Fence, Lock, core_of, CoreState, State, program_of, advanced, advanced_with, loaded, load_value, fenced, locked, effect_of, after_choice, step, drain, drained, Each, each-map, each-append, Member, drop-at, Committed}
+use Rattle.tso_laws.proofs.Vocabulary.{◌≡◌, ◌≢◌, ◌<◌, ◌≤◌, ℕ, ◌+◌, suc, List, [], ◌∷◌, ◌++◌, Some, Bool, true, false, length, slice_get, slice_index, slice_index_or, drop, arith, ap, sym, ◌∙◌, refl, ◌⊎◌, inl, inr, subst, ◌==◌, ◌&&◌, slice_get-get_or, action_of, entry, value_in, with_value, value_of, updated, entries_by, entries_of, Litmus, le-by, max-left, max-right, and-false, part-small, load-kind, before, core-before, is_write, is_before, may_be_passed, is_store, is_load, is_read_kind, is_store_kind, is_load_kind, rank, read_value, read_values, Entry, Loc, Reg, Kind, R, W, F, LR, LW, Instr, Action, Store, Load, Move, Fence, Lock, core_of, CoreState, State, program_of, advanced, advanced_with, loaded, load_value, fenced, locked, effect_of, after_choice, step, drain, drained, Each, each-map, each-append, Member, drop-at, Committed, false_from_ne_true}
 use Rattle.tso_laws.proofs.Folds.{needs, asks, passed, passes, last_word, last_own, word-is}
 use Rattle.tso_model.specs.declared.instruction.Instr.TheVariants as instr
 use Rattle.tso_laws.proofs.Entries.{Fine}
@@ -209,11 +209,7 @@ fence-onward d t order front back state x g st l p u q registers reads eq effect
 
 own-none : (x : Entry) (ys : List Entry) (v : ℕ) → ((e : Entry) → Member e ys → is_before e x ≡ true → ⊥) → last_own x ys v ≡ v
 own-none x [] v f = refl
-own-none x (y ∷ ys) v f = rw (no (is_before y x) (f y (inl refl))) (rw (and-false (is_write y && (y.loc.0 == x.loc.0))) (own-none x ys v (λ e m. f e (inr m))))
-  where
-    no : (b : Bool) → (b ≡ true → ⊥) → b ≡ false
-    no true h = absurd (h refl)
-    no false h = refl
+own-none x (y ∷ ys) v f = rw (false_from_ne_true (is_before y x) (f y (inl refl)), and-false (is_write y && (y.loc.0 == x.loc.0))) (own-none x ys v (λ e m. f e (inr m)))
 
 store-in : (x : Entry) (xs : List Entry) (n : Next x xs) → Member n.store xs
 store-in x xs n = subst (λ z. Member n.store z) (sym n.is) (inl refl)

@@ -1,6 +1,6 @@
 -- The names that the proofs of this crate bring in from definitions and from crates below; each file takes its own from here.
 pub use Rattle.std.proofs.Common.{◌≡◌, ℕ, ◌+◌, zero, suc, List, [], ◌∷◌, ◌++◌, Some, take, drop, slice_get, slice_index, arith, ap, sym, ◌∙◌, append_assoc, refl, add-one, subst, ◌≢◌, ◌<◌, ◌≤◌, Bool, true, false, length, slice_index_or, map, inl, inr, ◌==◌, if◌then◌else◌, length-append, IfSome, ◌⊎◌, ◌&&◌, nat_lt, ◌||◌, not, All, Option, None, ◌↔◌, ◌*◌, get_or-set_same, get_or-set_other, cond, ltb, slice_set, max, ◌-◌, rules}
-pub use Rattle.std.proofs.lemmas.Bool.{cases_Bool}
+pub use Rattle.std.proofs.lemmas.Bool.{cases_Bool, false_from_ne_true}
 pub use Rattle.std.proofs.lemmas.List.{set-get_or}
 pub use Rattle.basic_laws.proofs.Cores.{starts-idle, length-starts, all-done, done-at, no-program, no-core, done-anywhere}
 pub use Rattle.tso_model.specs.Actions.{action_of, location_of}

@@ -1,5 +1,5 @@
 -- Whatever a run commits and leaves are words: the constants of the programs and the first values are, and each choice keeps it.
-use Rattle.tso_laws.proofs.Vocabulary.{◌≡◌, ℕ, ◌+◌, ◌<◌, ◌≤◌, zero, suc, Bool, true, false, cond, ltb, List, [], ◌∷◌, ◌++◌, length, All, Option, Some, None, IfSome, slice_get, slice_index, slice_index_or, slice_set, refl, ◌∙◌, arith, subst, All-nil, All-cons, All-head, All-tail, All-append, All-push, All-set, All-filter, Litmus, IsTest, HasWords, ConstantIsWord, IsWord, AreRegisters, index_of, action_of, entry, fence, value_in, value_of, sum_of, updated, is_write, writes_to, last_value, CoreState, State, Effect, stalled, advanced_with, stored, load_value, loaded, moved, fenced, locked, effect_by, step_of, drain_of, idle, program_of, core_of, chosen, effect_of, memory_after, after_choice, started, start, Run, has_ended, resting, then_run, run_from, run, Reg, Loc, Instr, StoreImm, SetImm, Operand, Number, Held, Update, Exchange, Add, Action, Store, Load, Move, Fence, Lock, Entry, R, W, LR, LW, Choice, Step, Drain, Stall, Buffered, HasWord, HoldsWords}
+use Rattle.tso_laws.proofs.Vocabulary.{◌≡◌, ℕ, ◌+◌, ◌<◌, ◌≤◌, zero, suc, Bool, true, false, cond, ltb, List, [], ◌∷◌, ◌++◌, length, All, Option, Some, None, IfSome, slice_get, slice_index, slice_index_or, slice_set, refl, ◌∙◌, arith, subst, All-nil, All-cons, All-head, All-tail, All-append, All-push, All-set, All-filter, Litmus, IsTest, HasWords, ConstantIsWord, IsWord, AreRegisters, index_of, action_of, entry, fence, value_in, value_of, sum_of, updated, is_write, writes_to, last_value, CoreState, State, Effect, stalled, advanced_with, stored, load_value, loaded, moved, fenced, locked, effect_by, step_of, drain_of, idle, program_of, core_of, chosen, effect_of, memory_after, after_choice, started, start, Run, has_ended, run_from, run, Reg, Loc, Instr, StoreImm, SetImm, Operand, Number, Held, Update, Exchange, Add, Action, Store, Load, Move, Fence, Lock, Entry, R, W, LR, LW, Choice, Step, Drain, Stall, Buffered, HasWord, HoldsWords, cases_Bool, inl, inr}
 use Rattle.std.proofs.Common.{filter}
 use Rattle.std.proofs.lemmas.List.{length-set}
 use Rattle.tso_model.specs.declared.choice.Stall.TheVariants as stall
@@ -178,15 +178,13 @@ record GoodRun (r : Run) : Type 0 where
 
 run-good : (t : Litmus) (depth : ℕ) (state : State) (cs : List Choice) → HasWords t → Good state → GoodRun (run_from t depth state cs)
 run-good t depth state [] words h = record { commits = All-nil _; state = h }
-run-good t depth state (c ∷ cs) words h = by_end (has_ended t state) (run-good t depth (after_choice t depth state c) cs words (choice-good t depth state c words h))
-  where
-    by_end : (b : Bool) → GoodRun (run_from t depth (after_choice t depth state c) cs)
-        → GoodRun (cond b (resting true state (length (c ∷ cs))) (then_run (effect_of t depth state c) (run_from t depth (after_choice t depth state c) cs)))
-    by_end true further = record { commits = All-nil _; state = h }
-    by_end false further = record {
-      commits = All-append HasWord (effect_of t depth state c).commits _ (effect-good t depth state c words h).commits further.commits;
-      state = further.state;
-    }
+run-good t depth state (c ∷ cs) words h =
+    let further = run-good t depth (after_choice t depth state c) cs words (choice-good t depth state c words h) in
+    let first = effect-good t depth state c words h in
+    elim (cases_Bool (has_ended t state)) [
+      | inl q ↦ rw q (record { commits = All-nil _; state = h })
+      | inr q ↦ rw q (record { commits = All-append HasWord (effect_of t depth state c).commits _ first.commits further.commits; state = further.state })
+    ]
 
 registers-at : (registers : List (List ℕ)) (core : ℕ) → core < length registers → All AreRegisters registers → AreRegisters (slice_index_or registers core [])
 registers-at registers core l h = h core [] l

@@ -1,5 +1,5 @@
 -- What is left to do, and that each choice that takes effect does one part of it.
-use Rattle.tso_laws.proofs.Vocabulary.{◌≡◌, ◌<◌, ◌≤◌, ℕ, ◌+◌, zero, suc, List, [], ◌∷◌, Option, Some, None, Bool, true, false, length, slice_get, slice_set, slice_index_or, drop, arith, ap, sym, ◌∙◌, refl, ◌⊎◌, inl, inr, ◌==◌, nat_lt, if◌then◌else◌, length-append, length-set, slice_get_within, nat_tests, Litmus, Entry, Instr, Action, Store, Fence, Lock, Choice, Step, Drain, Stall, Committed, action_of, is_none_pending, core_of, stalled, advanced, CoreState, State, Effect, idle, program_of, stored, when_drained, effect_by, step_of, drain_of, effect_of, chosen, after_choice, started, start, lt-or, and-left, and-right, is_done, all_done, has_ended, stall_count, then_run, resting, run, run_from, store_count, stores_in, instructions, stores_of_all, drop-at, drop-end, cases_Bool, length-starts, set-get_or, no-program, no-core}
+use Rattle.tso_laws.proofs.Vocabulary.{◌≡◌, ◌<◌, ◌≤◌, ℕ, ◌+◌, zero, suc, List, [], ◌∷◌, Option, Some, None, true, false, length, slice_get, slice_set, slice_index_or, drop, arith, ap, sym, ◌∙◌, refl, ◌⊎◌, inl, inr, ◌==◌, nat_lt, if◌then◌else◌, length-append, length-set, slice_get_within, nat_tests, Litmus, Entry, Instr, Action, Store, Fence, Lock, Choice, Step, Drain, Stall, Committed, action_of, is_none_pending, core_of, stalled, advanced, CoreState, State, Effect, idle, program_of, stored, when_drained, effect_by, step_of, drain_of, effect_of, chosen, after_choice, started, start, lt-or, and-left, and-right, is_done, all_done, has_ended, stall_count, run, run_from, store_count, stores_in, instructions, stores_of_all, drop-at, drop-end, cases_Bool, length-starts, set-get_or, no-program, no-core}
 use Rattle.tso_model.specs.declared.choice.Stall.TheVariants as stall
 use Rattle.tso_laws.proofs.Draining.{waits-or-acts, drains}
 use Rattle.tso_laws.proofs.Folds.{put}
@@ -118,16 +118,10 @@ choice-remaining t d state a n = elim (lt-or (length t.programs) (chosen a)) [
 pub run-counts : (t : Litmus) (d : ℕ) (state : State) (cs : List Choice) → length state.cores ≡ length t.programs
     → (run_from t d state cs).used + remaining d t.programs (run_from t d state cs).state.cores ≡ (run_from t d state cs).stalled + remaining d t.programs state.cores
 run-counts t d state [] n = refl
-run-counts t d state (c ∷ cs) n = go (has_ended t state)
-    (run-counts t d (after_choice t d state c) cs (length-set state.cores (chosen c) (effect_of t d state c).after ∙ n))
-  where
-    go : (b : Bool) → (run_from t d (after_choice t d state c) cs).used + remaining d t.programs (run_from t d (after_choice t d state c) cs).state.cores ≡ (run_from t d (after_choice t d state c) cs).stalled + remaining d t.programs (after_choice t d state c).cores
-        → (if b then resting true state (suc (length cs)) else then_run (effect_of t d state c) (run_from t d (after_choice t d state c) cs)).used
-        + remaining d t.programs (if b then resting true state (suc (length cs)) else then_run (effect_of t d state c) (run_from t d (after_choice t d state c) cs)).state.cores
-        ≡ (if b then resting true state (suc (length cs)) else then_run (effect_of t d state c) (run_from t d (after_choice t d state c) cs)).stalled + remaining d t.programs state.cores
-    go true h = refl
-    go false h =
-        let m = choice-remaining t d state c n in omega arith
+run-counts t d state (c ∷ cs) n =
+    let h = run-counts t d (after_choice t d state c) cs (length-set state.cores (chosen c) (effect_of t d state c).after ∙ n) in
+    let m = choice-remaining t d state c n in
+    elim (cases_Bool (has_ended t state)) [ inl q ↦ rw q refl | inr q ↦ rw q (omega arith) ]
 
 -- the run's end is a moment at which it has ended
 pub run-ended : (t : Litmus) (d : ℕ) (state : State) (cs : List Choice) → (run_from t d state cs).ended ≡ has_ended t (run_from t d state cs).state
