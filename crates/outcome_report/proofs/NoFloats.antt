@@ -1,27 +1,11 @@
 -- The values that are printed have no float, so that their text is known.
-use Rattle.outcome_report.proofs.Vocabulary.{◌≡◌, ℕ, Bool, true, false, ◌||◌, List, [], ◌∷◌, Option, Some, None, codes, refl, nat_cmp, match_ordering, slice_cmp, Ordering, Greater, Members, no_members, member, put, object, has_float, members_have_float, Litmus, Condition, Named, Outcome, shown_values, is_met_in, outcomes_verdict_value, key_of, value_members, with_holds, holds_in, state_value, states_value, observation_value, outcomes_value}
-use Rattle.std.specs.declared.cmp.Ordering.TheVariants.{Less, Equal}
-use Rattle.std.proofs.lemmas.Bool.{or_parts}
+use Rattle.outcome_report.proofs.Vocabulary.{◌≡◌, ℕ, Bool, false, List, [], ◌∷◌, Option, Some, None, codes, refl, Members, no_members, member, object, has_float, members_have_float, Litmus, Condition, Named, Outcome, shown_values, is_met_in, outcomes_verdict_value, key_of, value_members, with_holds, holds_in, state_value, states_value, observation_value, outcomes_value}
 use Rattle.tso_report.specs.Json.{count}
-
-neither : (p q : Bool) → p ≡ false → q ≡ false → p || q ≡ false
-neither true q h k = h
-neither false q h k = k
-
-one_more : (k : List ℕ) (n : ℕ) (ms : Members) → members_have_float ms ≡ false → members_have_float (put k (count n) ms) ≡ false
-one_more k n no_members h = refl
-one_more k n (member l d ms) h = by_order (slice_cmp nat_cmp k l) (or_parts (has_float d) (members_have_float ms) h) (one_more k n ms (or_parts (has_float d) (members_have_float ms) h).1)
-  where
-    by_order : (o : Ordering) → (has_float d ≡ false) × (members_have_float ms ≡ false) → members_have_float (put k (count n) ms) ≡ false
-        → members_have_float (match_ordering o (member k (count n) (member l d ms)) (member l (count n) ms) (member l d (put k (count n) ms))) ≡ false
-    by_order Less parts further = neither (has_float d) (members_have_float ms) parts.0 parts.1
-    by_order Equal parts further = parts.1
-    by_order Greater parts further = neither (has_float d) (members_have_float (put k (count n) ms)) parts.0 further
+use Rattle.tso_report.proofs.NoFloats.{neither, one_more}
 
 values : (t : Litmus) (names : List Named) (list : List ℕ) → members_have_float (value_members t names list) ≡ false
-values t [] list = refl
-values t (named ∷ names) [] = refl
-values t (named ∷ names) (value ∷ list) = one_more (key_of t named) value (value_members t names list) (values t names list)
+values t (named ∷ names) (value ∷ list) = one_more (key_of t named) (count value) (value_members t names list) refl (values t names list)
+values t names list = refl
 
 holds : (h : Option Bool) (members : Members) → members_have_float members ≡ false → members_have_float (with_holds h members) ≡ false
 holds None ms none = none

@@ -1,33 +1,8 @@
 -- The values that are printed have no float, so that their text is known.
-use Rattle.reason_report.proofs.Vocabulary.{filter, writes_to, Choice, Entry, printed_entry, Named, looked_at, value_members, outcomes_verdict_value, Reading, reading_value, coherence_members_by, shown_allowed_value, with_coherence, ◌≡◌, ◌+◌, ℕ, Bool, true, false, ◌||◌, List, [], ◌∷◌, map, Option, Some, None, refl, Data, string, array, Members, no_members, member, put, items_of, has_float, items_have_float, members_have_float, Litmus, Condition, Model, count, key_of, Place, Answer, From, Before, Closing, Uniproc, Cycle, Amid, False, ReasonStep, Leaf, source_text, edge_value, edges_value, answer_value, place_members, closing_value, step_value, asked_value, never_value_of}
-use Rattle.std.specs.Ordering.{nat_cmp, match_ordering}
-use Rattle.std.specs.Cmp.Lexicographic.{slice_cmp}
-use Rattle.std.specs.declared.cmp.Ordering.{Ordering}
-use Rattle.std.specs.declared.cmp.Ordering.TheVariants.{Less, Equal, Greater}
-use Rattle.std.proofs.lemmas.Bool.{or_parts}
+use Rattle.reason_report.proofs.Vocabulary.{filter, writes_to, Choice, Entry, printed_entry, Named, looked_at, value_members, outcomes_verdict_value, Reading, reading_value, coherence_members_by, shown_allowed_value, with_coherence, ◌≡◌, ◌+◌, ℕ, Bool, true, false, List, [], ◌∷◌, map, Option, Some, None, refl, string, array, Members, items_of, has_float, items_have_float, members_have_float, Litmus, Condition, Model, count, key_of, Place, Answer, From, Before, Closing, Uniproc, Cycle, Amid, False, ReasonStep, Leaf, source_text, edge_value, edges_value, answer_value, place_members, closing_value, step_value, asked_value, never_value_of}
 use Rattle.reason_report.specs.declared.steps.Edge.{Edge}
 use Rattle.reason_report.specs.Steps.{Case, So, Endcases}
-
-neither : (p q : Bool) → p ≡ false → q ≡ false → p || q ≡ false
-neither true q h k = h
-neither false q h k = k
-
-one_more : (k : List ℕ) (x : Data) (ms : Members) → has_float x ≡ false → members_have_float ms ≡ false → members_have_float (put k x ms) ≡ false
-one_more k x no_members f h = neither (has_float x) false f refl
-one_more k x (member l d ms) f h =
-    by_order (slice_cmp nat_cmp k l) (or_parts (has_float d) (members_have_float ms) h)
-    (one_more k x ms f (or_parts (has_float d) (members_have_float ms) h).1)
-  where
-    by_order : (o : Ordering) → (has_float d ≡ false) × (members_have_float ms ≡ false) → members_have_float (put k x ms) ≡ false
-        → members_have_float (match_ordering o (member k x (member l d ms)) (member l x ms) (member l d (put k x ms))) ≡ false
-    by_order Less parts further =
-        neither (has_float x) (has_float d || members_have_float ms) f (neither (has_float d) (members_have_float ms) parts.0 parts.1)
-    by_order Equal parts further = neither (has_float x) (members_have_float ms) f parts.1
-    by_order Greater parts further = neither (has_float d) (members_have_float (put k x ms)) parts.0 further
-
-each : {X : Type 0} (f : X → Data) → ((x : X) → has_float (f x) ≡ false) → (xs : List X) → items_have_float (items_of (map f xs)) ≡ false
-each f none [] = refl
-each f none (x ∷ xs) = neither (has_float (f x)) (items_have_float (items_of (map f xs))) (none x) (each f none xs)
+use Rattle.tso_report.proofs.NoFloats.{neither, one_more, each}
 
 places : (t : Litmus) (ps : List Place) → members_have_float (place_members t ps) ≡ false
 places t [] = refl

@@ -1,60 +1,26 @@
 -- The values of a trace have no float, so that their text is known.
-use Rattle.trace_json.proofs.Vocabulary.{◌≡◌, ℕ, zero, suc, ◌+◌, Bool, true, false, ◌||◌, if◌then◌else◌, List, [], ◌∷◌, map, take, length, ◌/◌, Option, Some, None, refl, nat_cmp, match_ordering, slice_cmp, Ordering, Less, Equal, Greater, or_parts, Data, string, Members, no_members, member, put, items_of, has_float, items_have_float, members_have_float, Litmus, core_of, has_ended, Entry, Choice, printed_entry, table_of, ProtocolKind, CachedLine, Configuration, Running, new_machine, machine_after, bus_holder_of, count, memory_members, memory_value, order_value, ShownStep, array_of_numbers, text_or_null, array_of_texts, own_words, access_name, stall_name, line_name, names_in_line, store_text, printed_core, printed_move, printed_change, printed_request, transient_name, words_per_line, words_in_line, words_on_bus, copy_json, cached_lines_in, set_json, sets_json, core_json, cores_json, holder_json, bus_json, machine_json, stall_in, step_json, supplier_text, Sourced, sourced_by, last_or, last_step_json, step_to, steps_json, start_json, trace_json, Source}
+use Rattle.trace_json.proofs.Vocabulary.{◌≡◌, ℕ, zero, suc, ◌+◌, Bool, true, false, if◌then◌else◌, List, [], ◌∷◌, map, take, length, ◌/◌, Option, Some, None, refl, or_parts, Data, string, items_of, has_float, items_have_float, Litmus, core_of, has_ended, Choice, printed_entry, table_of, ProtocolKind, CachedLine, Configuration, Running, new_machine, machine_after, bus_holder_of, count, memory_value, order_value, ShownStep, array_of_numbers, text_or_null, array_of_texts, own_words, access_name, stall_name, line_name, names_in_line, store_text, printed_core, printed_move, printed_change, printed_request, transient_name, words_per_line, words_in_line, words_on_bus, copy_json, cached_lines_in, set_json, sets_json, core_json, cores_json, holder_json, bus_json, machine_json, stall_in, step_json, supplier_text, Sourced, sourced_by, last_or, last_step_json, step_to, steps_json, start_json, trace_json, Source}
 use Rattle.std.specs.Option.{option_map}
 use Rattle.machine_core.specs.declared.looking.BusHolder.{BusHolder}
-
-neither : (p q : Bool) → p ≡ false → q ≡ false → p || q ≡ false
-neither true q h k = h
-neither false q h k = k
+use Rattle.tso_report.proofs.NoFloats.{neither, each, memory}
 
 optional : (text : Option (List ℕ)) → has_float (text_or_null text) ≡ false
 optional None = refl
 optional (Some text) = refl
 
-numbers : (list : List ℕ) → items_have_float (items_of (map count list)) ≡ false
-numbers [] = refl
-numbers (n ∷ ns) = numbers ns
-
-strings : (list : List (List ℕ)) → items_have_float (items_of (map string list)) ≡ false
-strings [] = refl
-strings (s ∷ ss) = strings ss
-
-entries : (t : Litmus) (order : List Entry) → items_have_float (items_of (map (λ e. string (printed_entry t e)) order)) ≡ false
-entries t [] = refl
-entries t (e ∷ es) = entries t es
-
-one_more : (k : List ℕ) (n : ℕ) (ms : Members) → members_have_float ms ≡ false → members_have_float (put k (count n) ms) ≡ false
-one_more k n no_members h = refl
-one_more k n (member l d ms) h = by_order (slice_cmp nat_cmp k l) (or_parts (has_float d) (members_have_float ms) h) (one_more k n ms (or_parts (has_float d) (members_have_float ms) h).1)
-  where
-    by_order : (o : Ordering) → (has_float d ≡ false) × (members_have_float ms ≡ false) → members_have_float (put k (count n) ms) ≡ false
-        → members_have_float (match_ordering o (member k (count n) (member l d ms)) (member l (count n) ms) (member l d (put k (count n) ms))) ≡ false
-    by_order Less parts further = neither (has_float d) (members_have_float ms) parts.0 parts.1
-    by_order Equal parts further = parts.1
-    by_order Greater parts further = neither (has_float d) (members_have_float (put k (count n) ms)) parts.0 further
-
-memory : (names : List (List ℕ)) (words : List ℕ) → members_have_float (memory_members names words) ≡ false
-memory [] words = refl
-memory (name ∷ names) [] = refl
-memory (name ∷ names) (word ∷ words) = one_more name word (memory_members names words) (memory names words)
-
 copy : (m : Running) (core : ℕ) (c : CachedLine) → has_float (copy_json m core c) ≡ false
 copy m core c =
     let words : List ℕ = take (length (names_in_line m.test.locations (words_per_line m) c.line)) c.words in
-    neither (has_float (array_of_numbers words)) false (numbers words) refl
-
-copies : (m : Running) (core : ℕ) (cs : List CachedLine) → items_have_float (items_of (map (copy_json m core) cs)) ≡ false
-copies m core [] = refl
-copies m core (c ∷ cs) = neither (has_float (copy_json m core c)) _ (copy m core c) (copies m core cs)
+    neither (has_float (array_of_numbers words)) false (each count (λ n. refl) words) refl
 
 sets : (m : Running) (core set rest : ℕ) → items_have_float (items_of (sets_json m core set rest)) ≡ false
 sets m core set zero = refl
-sets m core set (suc rest) = neither (has_float (set_json m core set)) _ (copies m core (cached_lines_in m core set)) (sets m core (set + 1) rest)
+sets m core set (suc rest) = neither (has_float (set_json m core set)) _ (each (copy_json m core) (copy m core) (cached_lines_in m core set)) (sets m core (set + 1) rest)
 
 one_core : (m : Running) (core : ℕ) → has_float (core_json m core) ≡ false
 one_core m core =
     let stores : List (List ℕ) = map (store_text m.test) (core_of m.state.flat core).pending in
-    neither (has_float (array_of_texts stores)) _ (strings stores)
+    neither (has_float (array_of_texts stores)) _ (each string (λ s. refl) stores)
     (neither (items_have_float (items_of (sets_json m core 0 m.statistics.caches.shape.sets))) false (sets m core 0 m.statistics.caches.shape.sets) refl)
 
 cores : (m : Running) (core rest : ℕ) → items_have_float (items_of (cores_json m core rest)) ≡ false
@@ -65,7 +31,7 @@ holder : (t : Litmus) (words : ℕ) (seen : List ℕ) (h : BusHolder) → has_fl
 holder t words seen h =
     let state : Option (List ℕ) = option_map transient_name h.transient in
     let kept : List ℕ = words_on_bus h.transient (words_in_line words seen (h.loc.0 / words)) in
-    neither (has_float (text_or_null state)) _ (optional state) (neither (has_float (array_of_numbers kept)) false (numbers kept) refl)
+    neither (has_float (text_or_null state)) _ (optional state) (neither (has_float (array_of_numbers kept)) false (each count (λ n. refl) kept) refl)
 
 bus : (m : Running) (h : Option BusHolder) → has_float (bus_json m h) ≡ false
 bus m None = refl
@@ -90,11 +56,11 @@ one_step t words s supplied after h =
     let write_back : Option (List ℕ) = option_map (line_name t words) s.wrote_back in
     neither (has_float (text_or_null access)) _ (optional access)
     (neither (has_float after) _ h
-    (neither (has_float (order_value t s.entries)) _ (entries t s.entries)
+    (neither (has_float (order_value t s.entries)) _ (each (λ e. string (printed_entry t e)) (λ e. refl) s.entries)
     (neither (has_float (text_or_null flush)) _ (optional flush)
     (neither (has_float (text_or_null moved)) _ (optional moved)
     (neither (has_float (text_or_null stall)) _ (optional stall)
-    (neither (has_float (array_of_texts states)) _ (strings states)
+    (neither (has_float (array_of_texts states)) _ (each string (λ s. refl) states)
     (neither (has_float (text_or_null source)) _ (optional source)
     (neither (has_float (text_or_null transaction)) _ (optional transaction)
     (neither (has_float (text_or_null write_back)) false (optional write_back) refl)))))))))

@@ -1,5 +1,5 @@
 -- The lines of a report before its order are none that an order could begin with.
-use Rattle.tso_report.proofs.Vocabulary.{◌≡◌, ℕ, ◌<◌, ◌^◌, Bool, true, not, eqb, List, [], ◌∷◌, ◌++◌, get_or, All, inl, inr, refl, ap, ◌∙◌, arith, rules, decimal, list_all, and_parts, and_from, nat_tests, digits_decimal, All-cons, All-nil, Litmus, IsTest, Bus, Atomic, Split, Entry, is_printable, is_test_name, printed_lines, printed_order, IsLineBeforeOrder, IsOrderFor, SpellsOrder, ShownRun, protocol_name, ProtocolKind, Msi, Mesi, Moesi, Mosi, Geometry, IsLineSize, IsShapeWithinLimits, Configuration, report, line, test_line, shape_text, bus_text, register_lines, memory_line, condition_line, choices_line, cache_lines}
+use Rattle.tso_report.proofs.Vocabulary.{◌≡◌, ℕ, ◌<◌, ◌^◌, Bool, true, not, eqb, List, [], ◌∷◌, ◌++◌, get_or, All, inl, inr, refl, ap, ◌∙◌, arith, rules, decimal, list_all, and_parts, and_from, nat_tests, digits_decimal, All-cons, All-nil, Litmus, IsTest, Bus, Atomic, Split, Entry, is_printable, is_test_name, printed_lines, printed_order, IsLineBeforeOrder, IsOrderFor, SpellsOrder, ShownRun, protocol_name, ProtocolKind, Msi, Geometry, IsLineSize, IsShapeWithinLimits, Configuration, report, line, test_line, shape_text, bus_text, register_lines, memory_line, condition_line, choices_line, cache_lines}
 use Rattle.std.specs.Prelude.{codes}
 use Rattle.std.specs.Char.{is_ascii_digit}
 use Rattle.std.proofs.lemmas.Str.Parse.{IsNumeralModel, numerals_by_fold}
@@ -78,9 +78,7 @@ line_of_depth c small fits =
 line_of_machine : (kind : ProtocolKind) (c : Configuration) → c.depth < 2 ^ 64 → IsShapeWithinLimits c.shape → is_line (machine_text kind c) ≡ true
 unfolding machine_text
 line_of_machine Msi c small fits = line_of_depth c small fits
-line_of_machine Mesi c small fits = line_of_depth c small fits
-line_of_machine Moesi c small fits = line_of_depth c small fits
-line_of_machine Mosi c small fits = line_of_depth c small fits
+line_of_machine kind c small fits = line_of_depth c small fits
 
 -- ---- no line `Order`
 

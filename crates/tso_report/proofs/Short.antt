@@ -1,13 +1,13 @@
 -- The maximum length of each line of a report.
-use Rattle.tso_report.proofs.Vocabulary.{inl, inr, ◌≡◌, ℕ, ◌+◌, ◌-◌, ◌*◌, ◌≤◌, ◌<◌, ◌^◌, zero, suc, Bool, true, false, not, nat_le, ◌&&◌, List, [], ◌∷◌, ◌++◌, length, map, slice_index, slice_index_or, All, Option, Some, None, length-append, refl, arith, decimal, list_all, length-decimal-le, and_parts, nat_tests, All-head, All-tail, Litmus, IsTest, Condition, begins_name, continues_name, is_name, is_register_word, is_location_name, is_test_name, Bus, Atomic, Split, Reg, Entry, letters_of, printed_access, printed_entry, printed_end, printed_lines, printed_order, HasAccess, IsEntryFor, IsOrderFor, protocol_name, ProtocolKind, Msi, Mesi, Moesi, Mosi, Geometry, IsLineSize, Configuration, IsConfigurationWithinLimits, Counts, ShownRun, report, line, test_line, machine_line, shape_text, bus_text, printed_register, printed_registers, all_registers, register_line, register_lines, printed_words, memory_line, printed_quantifier, printed_truth, printed_verdict, condition_line, choices_line, traffic_text, cache_line, cache_lines}
+use Rattle.tso_report.proofs.Vocabulary.{inl, inr, ◌≡◌, ℕ, ◌+◌, ◌-◌, ◌*◌, ◌≤◌, ◌<◌, ◌^◌, zero, suc, Bool, true, false, not, nat_le, ◌&&◌, List, [], ◌∷◌, ◌++◌, length, map, slice_index, slice_index_or, All, Option, Some, None, length-append, refl, arith, decimal, list_all, length-decimal-le, and_parts, nat_tests, All-head, All-tail, Litmus, IsTest, Condition, begins_name, continues_name, is_name, is_register_word, is_location_name, is_test_name, Bus, Atomic, Split, Reg, Entry, letters_of, printed_access, printed_entry, printed_end, printed_lines, printed_order, HasAccess, IsEntryFor, IsOrderFor, protocol_name, ProtocolKind, Msi, Geometry, IsLineSize, Configuration, IsConfigurationWithinLimits, Counts, ShownRun, report, line, test_line, machine_line, shape_text, bus_text, printed_register, printed_registers, all_registers, register_line, register_lines, printed_words, memory_line, printed_quantifier, printed_truth, printed_verdict, condition_line, choices_line, traffic_text, cache_line, cache_lines}
 use Rattle.std.specs.Prelude.{codes}
 use Rattle.tso_model.specs.Registers.{IsWord, AreRegisters, index_of, name_of}
 use Rattle.tso_model.specs.Thread.{value_in}
-use Rattle.tso_model.specs.declared.register.Reg.TheVariants.{Eax, Ebx, Ecx, Edx, Esi, Edi}
+use Rattle.tso_model.specs.declared.register.Reg.TheVariants.{Eax}
 use Rattle.tso_model.specs.declared.condition.Quantifier.{Quantifier}
-use Rattle.tso_model.specs.declared.condition.Quantifier.TheVariants.{Exists, NotExists, Forall}
+use Rattle.tso_model.specs.declared.condition.Quantifier.TheVariants.{Exists}
 use Rattle.tso_model.specs.declared.execution.Kind.{Kind}
-use Rattle.tso_model.specs.declared.execution.Kind.TheVariants.{R, W, F, LR, LW}
+use Rattle.tso_model.specs.declared.execution.Kind.TheVariants.{R, F}
 use Rattle.snoop_bus.specs.Geometry.{IsShapeWithinLimits as IsShape}
 use Rattle.machine_core.specs.Keeping.{IsAtMost}
 use Rattle.tso_report.specs.Limits.{longest_report, IsSmall}
@@ -60,20 +60,14 @@ test_name_short (c ∷ cs) h = le-true (length (c ∷ cs)) 64 (and_parts _ (nat_
 
 letters_short : (kind : Kind) → length (letters_of kind) ≤ 2
 letters_short R = omega arith
-letters_short W = omega arith
-letters_short F = omega arith
-letters_short LR = omega arith
-letters_short LW = omega arith
+letters_short kind = omega arith
 
 valued : (name : List ℕ) (value : ℕ) → length name ≤ 32 → IsWord value → length (codes " " ++ (name ++ (codes "=" ++ decimal value))) ≤ 44
 valued name value h w = joined (codes " ") _ 1 43 (omega arith) (joined name _ 32 11 h (joined (codes "=") (decimal value) 1 10 (omega arith) (word_digits value w)))
 
 access_short : (t : Litmus) (kind : Kind) (loc value : ℕ) → IsTest t → HasAccess t kind loc value → length (printed_access t kind loc value) ≤ 44
-access_short t R loc value test h = valued _ value (names_short t.locations loc test.locations_spelled) h.1
-access_short t W loc value test h = valued _ value (names_short t.locations loc test.locations_spelled) h.1
 access_short t F loc value test h = omega arith
-access_short t LR loc value test h = valued _ value (names_short t.locations loc test.locations_spelled) h.1
-access_short t LW loc value test h = valued _ value (names_short t.locations loc test.locations_spelled) h.1
+access_short t kind loc value test h = valued _ value (names_short t.locations loc test.locations_spelled) h.1
 
 entry_short : (t : Litmus) (e : Entry) → IsTest t → IsEntryFor t e → length (printed_entry t e) ≤ 55
 entry_short t e test h =
@@ -115,11 +109,7 @@ word_at (w ∷ ws) (suc i) h = word_at ws i (All-tail IsWord w ws h)
 
 register_name_short : (reg : Reg) → length (name_of reg) ≤ 3
 register_name_short Eax = omega arith
-register_name_short Ebx = omega arith
-register_name_short Ecx = omega arith
-register_name_short Edx = omega arith
-register_name_short Esi = omega arith
-register_name_short Edi = omega arith
+register_name_short reg = omega arith
 
 register_short : (registers : List ℕ) (reg : Reg) → All IsWord registers → length (printed_register registers reg) ≤ 15
 register_short registers reg h =
@@ -153,8 +143,6 @@ register_lines_short core (r ∷ rs) few h =
     omega arith
 
 words_short : (names : List (List ℕ)) (words : List ℕ) → list_all is_location_name names ≡ true → All IsWord words → length (printed_words names words) ≤ 44 * length names
-words_short [] words h w = omega arith
-words_short (x ∷ xs) [] h w = omega arith
 words_short (x ∷ xs) (v ∷ vs) h w =
     let parts = and_parts (is_location_name x) (list_all is_location_name xs) h in
     let further = words_short xs vs parts.1 (All-tail IsWord v vs w) in
@@ -168,14 +156,13 @@ words_short (x ∷ xs) (v ∷ vs) h w =
     let q = joined x (codes "=" ++ (decimal v ++ rest)) 32 (11 + 44 * length xs) name e in omega arith in
     let all = joined (codes " ") (x ++ (codes "=" ++ (decimal v ++ rest))) 1 (43 + 44 * length xs) (omega arith) f in
     omega arith
+words_short names words h w = omega arith
 
 -- ---- the other lines
 
 protocol_short : (kind : ProtocolKind) → length (protocol_name kind) ≤ 5
 protocol_short Msi = omega arith
-protocol_short Mesi = omega arith
-protocol_short Moesi = omega arith
-protocol_short Mosi = omega arith
+protocol_short kind = omega arith
 
 few_words : (words : ℕ) → IsLineSize words → words ≤ 4
 few_words words (inl e) = omega arith
@@ -204,8 +191,7 @@ machine_short kind c h =
 
 quantifier_short : (q : Quantifier) → length (printed_quantifier q) ≤ 7
 quantifier_short Exists = omega arith
-quantifier_short NotExists = omega arith
-quantifier_short Forall = omega arith
+quantifier_short q = omega arith
 
 truth_short : (b : Bool) → length (printed_truth b) ≤ 5
 truth_short true = omega arith
