@@ -10,11 +10,6 @@ use Rattle.litmus_reader.proofs.GrammarBrackets.{brackets_again, brackets_take}
 abbrev pub asked : Quantifier → Phrase → Option WrittenCondition
 asked quantifier phrase = Some (record { quantifier = quantifier; phrase = phrase })
 
--- the tokens up to the end of the text are nothing, or a condition
-pub record EndsText (stop : Stop) (ps : List Piece) (c : Option WrittenCondition) : Type 0 where
-  pub ended : stop ≡ End
-  pub is : MayAsk (terms ps) c
-
 -- what an ending gives after these names
 abbrev pub Given : Type 0
 Given = Option Condition × List (List ℕ)
@@ -75,7 +70,8 @@ end_taken (Unclosed remaining) [] u e = absurd cc
 -- what was read after these names is what the tokens up to the end spell
 pub record Ends (stop : Stop) (cores : ℕ) (names : List (List ℕ)) (ps : List Piece) (g : Given) : Type 0 where
   pub c : Option WrittenCondition
-  pub ends : EndsText stop ps c
+  pub ended : stop ≡ End
+  pub is : MayAsk (terms ps) c
   pub within : IsAskedWithin cores names c
   pub gives : g ≡ given names c
 
@@ -89,19 +85,15 @@ ending_taken stop cores names ps g le e =
     elim (condition_takes stop cores names ps a.0 le a.1) [
       | inl s ↦ record {
         c = asked s.quantifier s.phrase;
-        ends = record {
-          ended = ended.0;
-          is = subst (λ ts. MayAsk ts (asked s.quantifier s.phrase)) (sym (s.parts ∙ rw ended.1 (append-nil s.ts))) (a_condition s.ts s.quantifier s.phrase s.is);
-        };
+        ended = ended.0;
+        is = subst (λ ts. MayAsk ts (asked s.quantifier s.phrase)) (sym (s.parts ∙ rw ended.1 (append-nil s.ts))) (a_condition s.ts s.quantifier s.phrase s.is);
         within = s.within;
         gives = sym gives ∙ ap (λ (c : Conditioned). (c.condition, c.names)) s.given;
       }
       | inr none ↦ record {
         c = None;
-        ends = record {
-          ended = ended.0;
-          is = let empty : ps ≡ [] = sym (ap (λ (c : Conditioned). c.rest) none) ∙ ended.1 in rw empty nothing;
-        };
+        ended = ended.0;
+        is = let empty : ps ≡ [] = sym (ap (λ (c : Conditioned). c.rest) none) ∙ ended.1 in rw empty nothing;
         within = le;
         gives = sym gives ∙ ap (λ (c : Conditioned). (c.condition, c.names)) none;
       }
@@ -130,12 +122,12 @@ tail_takes text stop cores names ps g le e =
           let place : ClosesBrackets (from_place text o.0.remaining) b.0 = brackets_take o.0.remaining (from_place text o.0.remaining) b.0 (subst (λ (l : List Piece). square_end (remaining_of l) (from_place text (remaining_of l)) ≡ Ok b.0) o.1 d.2) in
           record {
             c = ends.c;
-            ending = subst (λ l. IsEnding text stop l ends.c) (sym (w.1 ∙ ap (λ (l : List Piece). w.0 ∷ l) o.1)) (after_locations w.0 o.0 d.0 b.0 ends.c w.2 o.2 place ends.ends.ended ends.ends.is);
+            ending = subst (λ l. IsEnding text stop l ends.c) (sym (w.1 ∙ ap (λ (l : List Piece). w.0 ∷ l) o.1)) (after_locations w.0 o.0 d.0 b.0 ends.c w.2 o.2 place ends.ended ends.is);
             within = ends.within;
             gives = ends.gives;
           }
       | inr none ↦
           let all : (ps, stop) ≡ a.0 = ok_is (ps, stop) a.0 none.1 in
           let ends = ending_taken stop cores names ps g le (subst (λ (rest : List Piece × Stop). ending_at rest.1 cores names rest.0 ≡ Ok g) (sym all) a.2) in
-          record { c = ends.c; ending = at_once ps ends.c ends.ends.ended ends.ends.is; within = ends.within; gives = ends.gives }
+          record { c = ends.c; ending = at_once ps ends.c ends.ended ends.is; within = ends.within; gives = ends.gives }
     ]

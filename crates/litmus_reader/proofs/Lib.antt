@@ -14,6 +14,7 @@ pub mod Units
 pub mod PartsAssembled
 pub mod Placed
 pub mod Columnwise
+pub mod NamesSpelled
 pub mod Within
 pub mod Readings
 pub mod GrammarTokens

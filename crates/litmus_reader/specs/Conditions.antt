@@ -138,5 +138,5 @@ condition_at stop cores names ps =
     there (word_after (codes "exists") ps) (quantified stop cores Exists names)
     (there (word_after (codes "forall") ps) (quantified stop cores Forall names)
     (there (symbol_at Tilde ps)
-    (λ rest. or_unfit (part_of BadCondition stop) rest (word_after (codes "exists") rest) >>= λ ps. quantified stop cores NotExists names ps)
+    (λ rest. or_unfit (part_of BadCondition stop) rest (word_after (codes "exists") rest) >>= λ after. quantified stop cores NotExists names after)
     (Ok (record { condition = None; names = names; rest = ps }))))

@@ -75,7 +75,8 @@ items_within (suc n) part i ps =
     there (symbol_at CloseCurly ps) (λ rest. Ok (i, rest))
     (step_in part i ps >>= λ read. items_within n part read.0 read.1)
 
--- the initial state, and what stands after it; there are no names before it
+-- The initial state, and what stands after it; there are no names before it. Another token than its `{` is a bad one, and a
+-- text that ends before it is unclosed.
 unfoldable pub initial_at : Stop → List (List ℕ) → List Piece → Result (Initial × List Piece) Fault
 initial_at stop names ps = do
   rest ← or_unfit (record { why = BadToken; missing = at_stop (fault Unclosed 0) stop }) ps (symbol_at OpenCurly ps)

@@ -28,7 +28,7 @@ square_within (suc n) remaining bytes = from_gap (gap_end None bytes) >>= λ at.
 unfoldable pub square_end : ℕ → List ℕ → Result (List ℕ) Fault
 square_end remaining bytes = square_within (suc (length bytes)) remaining bytes
 
--- what stands after the brackets that have to begin here, any bytes being allowed in them
+-- what stands after the brackets that have to begin after the word, any bytes being allowed in them
 unfoldable pub brackets_end : List ℕ → Stop → List Piece → Result (List ℕ) Fault
 brackets_end text stop ps = do
   inside ← or_unfit (part_of BadToken stop) ps (symbol_at OpenSquare ps)

@@ -1,0 +1,131 @@
+-- What the grammar has as a location's name is one that a location may have.
+use Rattle.litmus_reader.proofs.Vocabulary.{◌≡◌, ℕ, true, false, not, List, [], ◌∷◌, ◌++◌, Option, refl, sym, ap, ◌∙◌, list_any, list_all, bytes_eq, and_parts, and_from, or_parts, not-true, list_all-append, flat_map, is_location_name, is_among, are_distinct, Term, numbered, with_name, IsSetting, sets_register, sets_location, sets_in_squares, IsInitialItem, AreInitialItems, IsInitialState, in_braces, names_in, IsOperand, IsCall, IsMove, IsExchange, IsCell, IsField, empty, full, AreFields, IsRow, row, AreRows, in_field, in_rows, location_in, Shape, ArgumentTerm, in_memory, in_register, constant, Setting}
+use Rattle.litmus_reader.specs.GrammarInitial as initial
+use Rattle.litmus_reader.specs.GrammarCells.{IsAddition, IsLocked}
+use Rattle.litmus_reader.specs.GrammarCells as cells
+use Rattle.litmus_reader.specs.GrammarRows as rows
+use Rattle.litmus_reader.specs.GrammarTable as table
+use Rattle.litmus_reader.proofs.GrammarNames.{with_name_by}
+use Rattle.litmus_reader.proofs.GrammarPhrases.{names_in-append}
+
+-- ---- names, each once
+
+abbrev pub Spelled : List (List ℕ) → Type 0
+Spelled names = list_all is_location_name names ≡ true
+
+-- names that the locations of a test may have
+pub record AreNames (names : List (List ℕ)) : Type 0 where
+  pub spelled : Spelled names
+  pub differ : are_distinct names ≡ true
+
+pub spelled_both : (xs ys : List (List ℕ)) → Spelled xs → Spelled ys → Spelled (xs ++ ys)
+spelled_both xs ys h k = list_all-append is_location_name xs ys ∙ and_from _ _ h k
+
+among-push : (y x : List ℕ) (names : List (List ℕ)) → is_among y names ≡ false → bytes_eq x y ≡ false → is_among y (names ++ x ∷ []) ≡ false
+among-push y x [] h e = rw e refl
+among-push y x (n ∷ ns) h e =
+    let both = or_parts (bytes_eq n y) (is_among y ns) h in
+    let first : bytes_eq n y ≡ false = both.0 in
+    rw first (among-push y x ns both.1 e)
+
+distinct-push : (x : List ℕ) (names : List (List ℕ)) → are_distinct names ≡ true → list_any (bytes_eq x) names ≡ false → are_distinct (names ++ x ∷ []) ≡ true
+distinct-push x [] h new = refl
+distinct-push x (n ∷ ns) h new =
+    let both = and_parts (not (is_among n ns)) (are_distinct ns) h in
+    let fresh = or_parts (bytes_eq x n) (list_any (bytes_eq x) ns) new in
+    let away : is_among n (ns ++ x ∷ []) ≡ false = among-push n x ns (not-true _ both.0) fresh.0 in
+    rw away (distinct-push x ns both.1 fresh.1)
+
+pub names_numbered : (xs names : List (List ℕ)) → AreNames names → Spelled xs → AreNames (numbered names xs)
+unfolding numbered
+names_numbered [] names h are = h
+names_numbered (x ∷ xs) names h are =
+    let both = and_parts (is_location_name x) (list_all is_location_name xs) are in
+    let one : Spelled (x ∷ []) = and_from (is_location_name x) true both.0 refl in
+    names_numbered xs (with_name names x) (with_name_by AreNames names x (λ _. h) (λ new. record { spelled = spelled_both names (x ∷ []) h.spelled one; differ = distinct-push x names h.differ new })) both.1
+
+-- ---- those of the grammar
+
+pub setting_spelled : (ts : List Term) (s : Setting) → IsSetting ts s → Spelled (names_in (s ∷ []))
+setting_spelled _ _ (sets_register core word v reg good) = refl
+setting_spelled _ _ (sets_location x v good) = and_from (is_location_name x) true good refl
+setting_spelled _ _ (sets_in_squares x v good) = and_from (is_location_name x) true good refl
+
+item_spelled : (ts : List Term) (item : List Setting) → IsInitialItem ts item → Spelled (names_in item)
+item_spelled _ _ initial.empty = refl
+item_spelled _ _ (initial.given ts s is) = setting_spelled ts s is
+
+items_spelled : (ts : List Term) (settings : List Setting) → AreInitialItems ts settings → Spelled (names_in settings)
+items_spelled _ _ (initial.last ts item is) = item_spelled ts item is
+items_spelled _ _ (initial.more ts others item settings is are) =
+    ap (list_all is_location_name) (names_in-append item settings) ∙ spelled_both (names_in item) (names_in settings) (item_spelled ts item is) (items_spelled others settings are)
+
+pub state_spelled : (ts : List Term) (settings : List Setting) → IsInitialState ts settings → Spelled (names_in settings)
+state_spelled _ _ (in_braces ts settings are) = items_spelled ts settings are
+
+memory_spelled : (ts : List Term) (x : List ℕ) → IsOperand ts (in_memory x) → Spelled (x ∷ [])
+memory_spelled _ _ (cells.in_squares x good) = and_from (is_location_name x) true good refl
+
+-- where an operand is a location
+abbrev OperandSpelled : ArgumentTerm → Type 0
+OperandSpelled (in_memory x) = Spelled (x ∷ [])
+OperandSpelled other = Unit {0}
+
+operand_spelled : (ts : List Term) (o : ArgumentTerm) → IsOperand ts o → OperandSpelled o
+operand_spelled ts (in_memory x) is = memory_spelled ts x is
+operand_spelled ts (in_register r) is = tt
+operand_spelled ts (constant v) is = tt
+
+call_spelled : (word : List ℕ) (ts : List Term) (a b : ArgumentTerm) → IsCall word ts a b → OperandSpelled a × OperandSpelled b
+call_spelled word _ _ _ (cells.call letters a b first second is f g) = (operand_spelled a first f, operand_spelled b second g)
+
+abbrev ShapeSpelled : Shape → Type 0
+ShapeSpelled shape = Spelled (location_in shape)
+
+move_spelled : (a b : ArgumentTerm) (shape : Shape) → IsMove a b shape → OperandSpelled a → OperandSpelled b → ShapeSpelled shape
+move_spelled _ _ _ (cells.stores_constant x v) h k = h
+move_spelled _ _ _ (cells.stores_register x r) h k = h
+move_spelled _ _ _ (cells.loads r x) h k = k
+move_spelled _ _ _ (cells.sets_constant r v) h k = refl
+move_spelled _ _ _ (cells.sets_register r s) h k = refl
+
+exchange_spelled : (a b : ArgumentTerm) (shape : Shape) → IsExchange a b shape → OperandSpelled a → OperandSpelled b → ShapeSpelled shape
+exchange_spelled _ _ _ (cells.memory_first x r) h k = h
+exchange_spelled _ _ _ (cells.register_first r x) h k = k
+
+addition_spelled : (a b : ArgumentTerm) (shape : Shape) → IsAddition a b shape → OperandSpelled a → ShapeSpelled shape
+addition_spelled _ _ _ (cells.adds x r) h = h
+
+locked_spelled : (ts : List Term) (shape : Shape) → IsLocked ts shape → ShapeSpelled shape
+locked_spelled _ _ (cells.locked_exchange ts a b shape is made) = let both = call_spelled _ ts a b is in exchange_spelled a b shape made both.0 both.1
+locked_spelled _ _ (cells.locked_addition ts a b shape is made) = addition_spelled a b shape made (call_spelled _ ts a b is).0
+
+cell_spelled : (ts : List Term) (shape : Shape) → IsCell ts shape → ShapeSpelled shape
+cell_spelled _ _ (cells.moves ts a b shape is made) = let both = call_spelled _ ts a b is in move_spelled a b shape made both.0 both.1
+cell_spelled _ _ (cells.fences letters is) = refl
+cell_spelled _ _ (cells.exchanges ts a b shape is made) = let both = call_spelled _ ts a b is in exchange_spelled a b shape made both.0 both.1
+cell_spelled _ _ (cells.locks letters ts shape is locked) = locked_spelled ts shape locked
+
+abbrev Named : List Shape → Type 0
+Named shapes = Spelled (flat_map location_in shapes)
+
+named_both : (xs ys : List Shape) → Named xs → Named ys → Named (xs ++ ys)
+named_both [] ys h k = k
+named_both (x ∷ xs) ys h k =
+    let parts = and_parts (list_all is_location_name (location_in x)) (list_all is_location_name (flat_map location_in xs)) (sym (list_all-append is_location_name (location_in x) (flat_map location_in xs)) ∙ h) in
+    spelled_both (location_in x) (flat_map location_in (xs ++ ys)) parts.0 (named_both xs ys parts.1 k)
+
+field_named : (ts : List Term) (c : Option Shape) → IsField ts c → Named (in_field c)
+field_named _ _ empty = refl
+field_named _ _ (full ts shape is) = spelled_both (location_in shape) [] (cell_spelled ts shape is) refl
+
+fields_named : (ts : List Term) (fields : List (Option Shape)) → AreFields ts fields → Named (flat_map in_field fields)
+fields_named _ _ (rows.last ts c is) = named_both (in_field c) [] (field_named ts c is) refl
+fields_named _ _ (rows.more ts us c cs is are) = named_both (in_field c) (flat_map in_field cs) (field_named ts c is) (fields_named us cs are)
+
+row_named : (cores : ℕ) (ts : List Term) (fields : List (Option Shape)) → IsRow cores ts fields → Named (flat_map in_field fields)
+row_named cores _ _ (row ts fields are count) = fields_named ts fields are
+
+pub rows_named : (cores : ℕ) (ts : List Term) (all : List (List (Option Shape))) → AreRows cores ts all → Named (in_rows all)
+rows_named cores _ _ table.none = refl
+rows_named cores _ _ (table.more ts us one others is are) = named_both (flat_map in_field one) (in_rows others) (row_named cores ts one is) (rows_named cores us others are)
