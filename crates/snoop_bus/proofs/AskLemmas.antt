@@ -1,5 +1,5 @@
 -- What an ask answers and leaves.
-use Rattle.snoop_bus.proofs.Vocabulary.{get_or-set_same, get_or-set_other, length-set, list_any, ◌≡◌, ◌≢◌, ◌⊎◌, inl, inr, ℕ, ◌<◌, Bool, true, false, Option, Some, None, is_some, List, [], length, refl, sym, ap, subst, ◌∙◌, slice_set, if◌then◌else◌, is_dirty, GivesUp, Shares, CleansByMemory, Supplies, FillsExclusiveOnlyAlone, Table, State, I, M, Snoop, GetS, GetM, IsD, ImD, Core, Line, copy_with, Words, line_in, Coherent, state_of_copy, is_held, flusher_from, Sets, copy_in, copy_at, cache_of, tags_of, ways_of, current_words, AllCoherent, flushed, sent_words, copy_left_by, LeftByOthers, Supplied, KeepsWords, with_counted_copy, asked_memory, transacting, cases_Bool}
+use Rattle.snoop_bus.proofs.Vocabulary.{get_or-set_same, get_or-set_other, length-set, list_any, ◌≡◌, ◌⊎◌, inl, inr, ℕ, ◌<◌, true, false, Option, Some, None, is_some, List, [], length, refl, sym, ap, subst, ◌∙◌, slice_set, if◌then◌else◌, is_dirty, GivesUp, Shares, CleansByMemory, Supplies, FillsExclusiveOnlyAlone, Table, State, I, M, Snoop, GetS, GetM, IsD, ImD, Core, Line, copy_with, Words, line_in, Coherent, state_of_copy, is_held, flusher_from, Sets, copy_in, copy_at, cache_of, tags_of, ways_of, current_words, AllCoherent, flushed, sent_words, copy_left_by, LeftByOthers, Supplied, KeepsWords, with_counted_copy, asked_memory, transacting, cases_Bool}
 use Rattle.snoop_bus.proofs.CacheTags.{is_held-copies}
 use Rattle.snoop_bus.proofs.Coherence.{shared-coherent, fill-coherent, write-coherent}
 use Rattle.snoop_bus.proofs.Asked.{Asked, own_line, others_line, asked-keeps}
@@ -42,17 +42,9 @@ module _ (t : Table) (fills : FillsExclusiveOnlyAlone t.filled) (shares : Shares
       within = h.within;
       left = h.left;
       ways = h.ways;
-      size = ap length h.memory ∙ size (is_some f);
-      elsewhere = λ k d. ap (λ (m : List Words). line_in m k) h.memory ∙ elsewhere k d (is_some f);
+      size = ap length h.memory ∙ elim (cases_Bool (is_some f)) [ inl e ↦ rw e (length-set m0 line w) | inr e ↦ rw e refl ];
+      elsewhere = λ k d. ap (λ (m : List Words). line_in m k) h.memory ∙ elim (cases_Bool (is_some f)) [ inl e ↦ rw e (get_or-set_other m0 line k w [] d) | inr e ↦ rw e refl ];
     }
-      where
-        size : (b : Bool) → length (if b then slice_set m0 line w else m0) ≡ length m0
-        size true = length-set m0 line w
-        size false = refl
-
-        elsewhere : (k : ℕ) → k ≢ line → (b : Bool) → line_in (if b then slice_set m0 line w else m0) k ≡ line_in m0 k
-        elsewhere k d true = get_or-set_other m0 line k w [] d
-        elsewhere k d false = refl
 
     was : Coherent w (line_in m0 line) (λ i. copy_at c0 i line)
     was = subst (λ (u : Words). Coherent u (line_in m0 line) (λ i. copy_at c0 i line)) (sym words_are) (h.coherent.each line h.within)

@@ -1,6 +1,6 @@
 -- An ask keeps every line coherent, if it keeps its own: the others have seen the request, and the copy that the bus keeps
 -- counts as its core's.
-use Rattle.snoop_bus.proofs.Vocabulary.{cases_eq, arith, ◌≡◌, ◌≢◌, ℕ, ◌<◌, ◌≤◌, ◌&&◌, not, Bool, true, false, nat_eq, if◌then◌else◌, Option, Some, None, List, length, refl, sym, ap, subst, ◌∙◌, inl, inr, State, Snoop, Line, Words, line_in, Coherent, Sets, copy_at, cache_of, ways_of, current_words, AllCoherent, with_counted_copy, copy_left_by, copy_left_if, LeftByOthers, KeepsWords}
+use Rattle.snoop_bus.proofs.Vocabulary.{cases_eq, arith, ◌≡◌, ◌≢◌, ℕ, ◌<◌, ◌≤◌, ◌&&◌, not, nat_eq, if◌then◌else◌, Option, Some, None, List, length, refl, sym, ap, subst, ◌∙◌, inl, inr, State, Snoop, Line, Words, line_in, Coherent, Sets, copy_at, cache_of, ways_of, current_words, AllCoherent, with_counted_copy, copy_left_by, copy_left_if, LeftByOthers, KeepsWords, cases_Bool}
 use Rattle.snoop_bus.proofs.Numbers.{differ, itself}
 use Rattle.snoop_bus.proofs.CurrentWords.{seen_is, coherent_along, all_coherent}
 use Rattle.snoop_bus.proofs.NewLemmas.{same_cores}
@@ -35,11 +35,7 @@ module _ (on : State → Snoop) (c0 c1 : List Sets) (m0 m1 : List Words) (core l
     others_line i d = rw (differ i core d, itself line) at (copies i line)
 
     unchanged : (i k : ℕ) → k ≢ line → copy_at asked i k ≡ copy_at c0 i k
-    unchanged i k d = rw (differ k line d) at (copies i k) ∙ by_core (nat_eq i core)
-      where
-        by_core : (b : Bool) → (if b && false then Some copy else copy_left_if (not b && false) on (copy_at c0 i k)) ≡ copy_at c0 i k
-        by_core true = refl
-        by_core false = refl
+    unchanged i k d = rw (differ k line d) at (copies i k) ∙ elim (cases_Bool (nat_eq i core)) [ inl e ↦ rw e refl | inr e ↦ rw e refl ]
 
     module _ (at_line : Coherent (current_words c0 m0 line) (line_in m1 line) (λ i. copy_at asked i line)) where
       each_line : (k : ℕ) → k < length m0 → Coherent (current_words c0 m0 k) (line_in m1 k) (λ i. copy_at asked i k)

@@ -1,5 +1,5 @@
 -- A write access, from what each of its steps gives.
-use Rattle.snoop_bus.proofs.Vocabulary.{◌≡◌, ◌≢◌, ℕ, ◌<◌, ◌&&◌, Bool, true, false, nat_eq, Option, Some, None, option_map, List, length, slice_set, refl, ap, ◌∙◌, if◌then◌else◌, in_place, GivesUp, State, I, M, Snoop, Line, copy_with, with_state, with_word, Words, line_in, Coherent, Sets, copy_at, current_words, AllCoherent, copy_if, copy_left_by, ChangesCopy}
+use Rattle.snoop_bus.proofs.Vocabulary.{◌≡◌, ◌≢◌, ℕ, ◌<◌, false, nat_eq, Option, Some, None, option_map, List, length, slice_set, refl, ap, ◌∙◌, in_place, GivesUp, State, I, M, Snoop, Line, copy_with, with_state, with_word, Words, line_in, Coherent, Sets, copy_at, current_words, AllCoherent, copy_if, copy_left_by, ChangesCopy, cases_Bool, inl, inr}
 use Rattle.snoop_bus.proofs.Numbers.{differ, itself}
 use Rattle.snoop_bus.proofs.Coherence.{alone}
 use Rattle.snoop_bus.proofs.OwnLemmas.{Owned}
@@ -21,11 +21,8 @@ other_core : (core line : ℕ) (o : Option Line) (c0 c2 : List Sets) → Changes
 other_core core line o c0 c2 h i k d = let e : nat_eq i core ≡ false = differ i core d in rw e at (h i k)
 
 other_line : (core line : ℕ) (o : Option Line) (c0 c2 : List Sets) → ChangesCopy core line o c0 c2 → (i k : ℕ) → k ≢ line → copy_at c2 i k ≡ copy_at c0 i k
-other_line core line o c0 c2 h i k d = let e : nat_eq k line ≡ false = differ k line d in by_core (nat_eq i core) (rw e at (h i k))
-  where
-    by_core : (b : Bool) → copy_at c2 i k ≡ (if b && false then o else copy_at c0 i k) → copy_at c2 i k ≡ copy_at c0 i k
-    by_core true p = p
-    by_core false p = p
+other_line core line o c0 c2 h i k d =
+    let e : nat_eq k line ≡ false = differ k line d in elim (cases_Bool (nat_eq i core)) [ inl c ↦ rw (c, e) at (h i k) | inr c ↦ rw c at (h i k) ]
 
 -- a write hit: the copy was in M or E, so no other core has one
 pub hit_owned : (c0 c2 : List Sets) (m : List Words) (core line : ℕ) (copy : Line) (next : State) → AllCoherent c0 m → line < length m →
