@@ -1,5 +1,5 @@
 -- The next question may be asked and isn't answered; where there is none, the case is full.
-use Rattle.reasons.proofs.Vocabulary.{◌≡◌, ◌&&◌, Bool, true, false, not, if◌then◌else◌, List, [], ◌∷◌, Option, Some, None, refl, sym, ◌⊎◌, inl, inr, subst, Litmus, is_read, is_write, writes_to, Entry, IsIn, in-case, in-none, in-first, in-later, and-both, Known, events_of, same_event, is_event, has_source, are_ordered, may_ask, is_answered, IsFull, IsSound, and-of, is-event, node_of, Node, is_unread, is_unordered, first_where, first_beside, pair_or, first_pair, question_of, read_or, first_unread, next_question}
+use Rattle.reasons.proofs.Vocabulary.{◌≡◌, ◌&&◌, Bool, true, false, not, if◌then◌else◌, List, [], ◌∷◌, Option, Some, None, refl, sym, ◌⊎◌, inl, inr, subst, Litmus, is_read, is_write, writes_to, Entry, IsIn, in-case, in-none, in-first, in-later, and-both, Known, events_of, same_event, is_event, has_source, are_ordered, may_ask, is_answered, IsFull, IsSound, and-of, is-event, node_of, Node, is_unread, is_unordered, first_where, first_beside, pair_or, first_pair, question_of, read_or, first_unread, next_question, from-not}
 use Rattle.refutation_laws.specs.declared.known.Pair.{Pair}
 use Rattle.refutations.specs.declared.tree.Node.TheVariants.{ReadsFrom, ComesFirst}
 
@@ -50,10 +50,6 @@ no-pair k (x ∷ xs) vs e w v i j = go (first_beside k x vs) refl e (in-case x x
     go None q f (inr l) later = later f l
 
 -- ---- the next question
-
-from-not : (b : Bool) → not b ≡ true → b ≡ false
-from-not true h = let z : ⊥ = cc in absurd z
-from-not false h = refl
 
 pub open-question : (t : Litmus) (k : Known) (q : Node) → next_question k (events_of t) ≡ Some q
     → (may_ask t (node_of q) ≡ true) × (is_answered k (node_of q) ≡ false)

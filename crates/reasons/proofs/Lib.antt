@@ -6,4 +6,6 @@ pub mod Branching
 pub mod Answered
 pub mod Searching
 pub mod Rowing
+pub mod StepsAlong
+pub mod UsingAll
 pub mod Unstored

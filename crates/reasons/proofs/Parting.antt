@@ -1,5 +1,5 @@
 -- Events that are put in a row step by step: those of the rest that none of the rest must precede come next.
-use Rattle.reasons.proofs.Vocabulary.{◌≡◌, ◌<◌, ◌+◌, ◌==◌, ℕ, suc, Bool, true, false, not, if◌then◌else◌, List, [], ◌∷◌, ◌++◌, length, arith, refl, sym, ap, ◌∙◌, ◌⊎◌, inl, inr, subst, filter, list_any, Entry, IsIn, in-none, in-first, in-later, in-append, in-left, in-right, in-filter, filter-in, same-number, number-same, once-filter, once-append, GoesForward, Once, any-in, is_first, IsParted, IsSorted}
+use Rattle.reasons.proofs.Vocabulary.{◌≡◌, ◌<◌, ◌==◌, ℕ, Bool, true, false, not, List, [], ◌∷◌, ◌++◌, length, arith, refl, sym, ap, ◌∙◌, ◌⊎◌, inl, inr, subst, filter, list_any, Entry, IsIn, in-none, in-append, in-left, in-right, in-filter, filter-in, same-number, number-same, once-filter, once-append, Once, any-in, is_first, IsParted, IsSorted, picked-and-left, forward-append, forward-if, clash, from-not, length-append}
 
 -- ---- what a test picks, and what it leaves
 
@@ -10,53 +10,15 @@ picked-or-left p xs x i = go (p x) refl
     go true q = inl (filter-in p xs x i q)
     go false q = inr (filter-in (λ e. not (p e)) xs x i (ap not q))
 
-as-many : (p : Entry → Bool) (xs : List Entry) → length (filter p xs) + length (filter (λ e. not (p e)) xs) ≡ length xs
-as-many p [] = refl
-as-many p (x ∷ xs) = go (p x) (as-many p xs)
-  where
-    go : (b : Bool) → length (filter p xs) + length (filter (λ e. not (p e)) xs) ≡ length xs
-        → length (if b then x ∷ filter p xs else filter p xs) + length
-        (if not b then x ∷ filter (λ e. not (p e)) xs else filter (λ e. not (p e)) xs) ≡ suc (length xs)
-    go true h = omega (arith, h)
-    go false h = omega (arith, h)
-
-size : (xs ys : List Entry) → length (xs ++ ys) ≡ length xs + length ys
-size [] ys = omega arith
-size (x ∷ xs) ys = let h = size xs ys in omega (arith, h)
-
 -- ---- rows
 
 module _ (edge : Entry → Entry → Bool) where
   abbrev pub Before : Entry → Entry → Type 0
   Before x y = edge x y ≡ true
 
-  forward-append : (xs ys : List Entry) → GoesForward Before xs → GoesForward Before ys
-      → ((x y : Entry) → IsIn xs x → IsIn ys y → Before y x → ⊥) → GoesForward Before (xs ++ ys)
-  forward-append [] ys f g h = g
-  forward-append (x ∷ xs) ys f g h = (
-    (λ y i b. go y (in-append xs ys y i) b),
-    forward-append xs ys f.1 g (λ a y i j b. h a y (in-later x xs a i) j b),
-  )
-    where
-      go : (y : Entry) → IsIn xs y ⊎ IsIn ys y → Before y x → ⊥
-      go y (inl i) b = f.0 y i b
-      go y (inr j) b = h x y (in-first x xs x refl) j b
-
-  forward-if : (xs : List Entry) → ((x y : Entry) → IsIn xs x → IsIn xs y → Before y x → ⊥) → GoesForward Before xs
-  forward-if [] h = tt
-  forward-if (x ∷ xs) h = (
-    (λ y i b. h x y (in-first x xs x refl) (in-later x xs y i) b),
-    forward-if xs (λ a y i j b. h a y (in-later x xs a i) (in-later x xs y j) b),
-  )
-
   first-has-none : (xs : List Entry) (x y : Entry) → is_first edge xs x ≡ true → IsIn xs y → Before y x → ⊥
   first-has-none xs x y h i b =
-      let a : list_any (λ z. edge z x) xs ≡ true = any-in (λ z. edge z x) xs y i b in
-      clash (list_any (λ z. edge z x) xs) a h
-    where
-      clash : (q : Bool) → q ≡ true → not q ≡ true → ⊥
-      clash true e f = let z : ⊥ = cc in z
-      clash false e f = let z : ⊥ = cc in z
+      clash (list_any (λ z. edge z x) xs) (any-in (λ z. edge z x) xs y i b) (from-not (list_any (λ z. edge z x) xs) h)
 
   pub nothing-parted : (some : List Entry) → IsParted edge some [] some
   nothing-parted some = record {
@@ -78,9 +40,9 @@ module _ (edge : Entry → Entry → Bool) where
     in_row = λ x i. into x (in-append row first x i);
     in_rest = λ x i. p.in_rest x (in-left-over x i);
     whole = λ x i. on x (p.whole x i);
-    count = let a = size row first in let b = as-many (is_first edge rest) rest in let d = p.count in omega (arith, a, b, d);
+    count = let a = length-append row first in let b = picked-and-left (is_first edge rest) rest in let d = p.count in omega (arith, a, b, d);
     forward =
-        forward-append row first p.forward (forward-if first (λ x y i j b. first-has-none rest x y (chosen x i).1 (chosen y j).0 b))
+        forward-append Before row first p.forward (forward-if Before first (λ x y i j b. first-has-none rest x y (chosen x i).1 (chosen y j).0 b))
         (λ x y i j b. p.before x y i (chosen y j).0 b);
     never_itself = λ x i b. itself x (in-append row first x i) b;
     before = λ x y i j b. earlier x y (in-append row first x i) (in-left-over y j) b;
@@ -105,13 +67,9 @@ module _ (edge : Entry → Entry → Bool) where
       into x (inl i) = p.in_row x i
       into x (inr i) = p.in_rest x (chosen x i).0
 
-      further : (x : Entry) → IsIn first x ⊎ IsIn left x → IsIn (row ++ first) x ⊎ IsIn left x
-      further x (inl i) = inl (in-right row first x i)
-      further x (inr i) = inr i
-
       on : (x : Entry) → IsIn row x ⊎ IsIn rest x → IsIn (row ++ first) x ⊎ IsIn left x
       on x (inl i) = inl (in-left row first x i)
-      on x (inr i) = further x (picked-or-left (is_first edge rest) rest x i)
+      on x (inr i) = elim (picked-or-left (is_first edge rest) rest x i) [ inl i ↦ inl (in-right row first x i) | inr i ↦ inr i ]
 
       itself : (x : Entry) → IsIn row x ⊎ IsIn first x → Before x x → ⊥
       itself x (inl i) b = p.never_itself x i b
@@ -121,13 +79,10 @@ module _ (edge : Entry → Entry → Bool) where
       earlier x y (inl i) j b = p.before x y i j b
       earlier x y (inr i) j b = first-has-none rest x y (chosen x i).1 j b
 
-      clash : (q : Bool) → q ≡ true → not q ≡ true → ⊥
-      clash true e f = let z : ⊥ = cc in z
-      clash false e f = let z : ⊥ = cc in z
-
       asunder : Once some → (x : Entry) → IsIn row x ⊎ IsIn first x → IsIn left x → ⊥
       asunder o x (inl i) j = p.apart o x i (in-left-over x j)
-      asunder o x (inr i) j = clash (is_first edge rest x) (chosen x i).1 (in-filter (λ x. not (is_first edge rest x)) rest x j).1
+      asunder o x (inr i) j =
+          clash (is_first edge rest x) (chosen x i).1 (from-not (is_first edge rest x) (in-filter (λ x. not (is_first edge rest x)) rest x j).1)
 
   pub parted-more : (some row rest : List Entry) → IsParted edge some row rest → (first left : List Entry) → first ≡ filter (is_first edge rest) rest
       → left ≡ filter (λ x. not (is_first edge rest x)) rest → IsParted edge some (row ++ first) left
@@ -152,7 +107,7 @@ module _ (edge : Entry → Entry → Bool) where
   pub fewer-left : (rest first left : List Entry) → first ≡ filter (is_first edge rest) rest → left ≡ filter (λ x. not (is_first edge rest x)) rest
       → (length first ≡ 0 → ⊥) → length left < length rest
   fewer-left rest first left p q some =
-      let a = ap length p in let d = ap length q in let b = as-many (is_first edge rest) rest in omega (arith, a, b, d, some)
+      let a = ap length p in let d = ap length q in let b = picked-and-left (is_first edge rest) rest in omega (arith, a, b, d, some)
 
 -- ---- what a test for an empty list tells
 
@@ -161,7 +116,3 @@ no-items xs n b size is h = sym size ∙ same-number n 0 (sym is ∙ h)
 
 pub some-items : (xs : List Entry) (n : ℕ) (b : Bool) → n ≡ length xs → b ≡ (n == 0) → b ≡ false → length xs ≡ 0 → ⊥
 some-items xs n b size is h none = clash (n == 0) (number-same n 0 (size ∙ none)) (sym is ∙ h)
-  where
-    clash : (q : Bool) → q ≡ true → q ≡ false → ⊥
-    clash true e f = let z : ⊥ = cc in z
-    clash false e f = let z : ⊥ = cc in z

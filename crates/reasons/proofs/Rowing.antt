@@ -1,5 +1,5 @@
 -- A full case that no leaf closes: all of its events can be put in a row; and a write between two parts is found where there is one.
-use Rattle.reasons.proofs.Vocabulary.{◌≡◌, ℕ, Bool, true, false, not, if◌then◌else◌, List, [], ◌∷◌, length, Option, Some, None, map, refl, sym, ap, ◌∙◌, ◌⊎◌, inl, inr, subst, Litmus, IsTest, IsCondition, Claim, Condition, NamesExist, Entry, IsIn, in-case, in-none, in-first, in-later, in-filter, filter-in, and-both, once-filter, once-events, Ordered, Once, Known, bare, events_of, on_location, global_in, is_edge, are_parts, is_between, is_node, asked_claim, asked_by, IsFull, IsSound, NoneBetween, Model, IsOpen, node_of, Node, is_leaf, IsSorted, IsLeafless, LeafOrNone, first_of_two, between_these, between_from, first_between, Quantifier, Exists, NotExists, Forall}
+use Rattle.reasons.proofs.Vocabulary.{◌≡◌, ℕ, Bool, true, false, not, if◌then◌else◌, List, [], ◌∷◌, length, Option, Some, None, map, refl, sym, ap, ◌∙◌, ◌⊎◌, inl, inr, subst, Litmus, IsTest, IsCondition, Claim, Condition, NamesExist, Entry, IsIn, in-case, in-none, in-first, in-later, in-filter, filter-in, and-both, once-filter, once-events, Ordered, Once, Known, bare, events_of, on_location, global_in, is_edge, are_parts, is_between, is_node, asked_claim, asked_by, IsFull, IsSound, NoneBetween, Model, IsOpen, node_of, Node, is_leaf, IsSorted, IsLeafless, LeafOrNone, first_of_two, between_these, between_from, first_between, from-not, Quantifier, Exists, NotExists, Forall}
 use Rattle.std.proofs.Common.{filter}
 use Rattle.relational_model.specs.Candidates.{events_from}
 use Rattle.refutation_laws.specs.Values.{allows}
@@ -15,12 +15,10 @@ use Rattle.refutations.specs.declared.tree.Node.TheVariants.{Between}
 
 in-bare : (xs : List Entry) (y : Entry) → IsIn (map bare xs) y → (x : Entry) × (IsIn xs x × (y ≡ bare x))
 in-bare [] y i = absurd (in-none y i)
-in-bare (x ∷ xs) y i = go (in-case (bare x) (map bare xs) y i) (λ j. in-bare xs y j)
-  where
-    go : (y ≡ bare x) ⊎ IsIn (map bare xs) y → (IsIn (map bare xs) y → (z : Entry) × (IsIn xs z × (y ≡ bare z)))
-        → (z : Entry) × (IsIn (x ∷ xs) z × (y ≡ bare z))
-    go (inl e) later = (x, (in-first x xs x refl, e))
-    go (inr j) later = let m = later j in (m.0, (in-later x xs m.0 m.1.0, m.1.1))
+in-bare (x ∷ xs) y i = elim (in-case (bare x) (map bare xs) y i) [
+  | inl e ↦ (x, (in-first x xs x refl, e))
+  | inr j ↦ let m = in-bare xs y j in (m.0, (in-later x xs m.0 m.1.0, m.1.1))
+]
 
 once-bare : (xs : List Entry) → Once xs → ((x y : Entry) → IsIn xs x → IsIn xs y → bare x ≡ bare y → x ≡ y) → Once (map bare xs)
 once-bare [] o one = tt
@@ -37,10 +35,6 @@ each-once t =
 
 -- ---- the row
 
-is-not : (b : Bool) → not b ≡ true → b ≡ false
-is-not true h = let z : ⊥ = cc in absurd z
-is-not false h = refl
-
 abbrev pub open-case : (model : Model) (t : Litmus) (k : Known) → IsTest t → IsFull t k → IsLeafless model t k → IsOpen model t k
 open-case model t k test f u = record { full = f; six = six-of t test; within_locations = u.on_location; globally = u.globally }
 
@@ -56,7 +50,7 @@ whole-row model t k test f d u others row rest is s = record {
     other : (x : Entry) → IsIn others x → IsIn (events_of t) x × (is_load_part x ≡ false)
     other x i =
         let m = in-filter (λ e. not (is_load_part e)) (events_of t) x (subst (λ es. IsIn es x) is i) in
-        (m.0, is-not (is_load_part x) m.1)
+        (m.0, from-not (is_load_part x) m.1)
 
     on : (x : Entry) → IsIn row x ⊎ IsIn rest x → IsIn row x
     on x (inl i) = i
@@ -173,14 +167,13 @@ first-found t k (r ∷ rs) es n e =
 none-first : (t : Litmus) (k : Known) (rs es : List Entry) → first_between t k rs es ≡ None → (r v w : Entry) → IsIn rs r → IsIn es v → IsIn es w
     → is_between t k r v w ≡ true → ⊥
 none-first t k [] es e r v w i j l h = in-none r i
-none-first t k (x ∷ rs) es e r v w i j l h = go (in-case x rs r i) (λ f m. none-first t k rs es f r v w m j l h)
+none-first t k (x ∷ rs) es e r v w i j l h = elim (in-case x rs r i) [
+  | inl s ↦ none-from t k x es es two.0 w v l j (subst (λ z. is_between t k z v w ≡ true) s h)
+  | inr m ↦ none-first t k rs es two.1 r v w m j l h
+]
   where
     two : (between_from t k x es es ≡ None) × (first_between t k rs es ≡ None)
     two = none-of-two (between_from t k x es es) (first_between t k rs es) e
-
-    go : (r ≡ x) ⊎ IsIn rs r → (first_between t k rs es ≡ None → IsIn rs r → ⊥) → ⊥
-    go (inl s) later = none-from t k x es es two.0 w v l j (subst (λ z. is_between t k z v w ≡ true) s h)
-    go (inr m) later = later two.1 m
 
 pub found-between : (model : Model) (t : Litmus) (claim : Claim) (k : Known) (n : Node) → first_between t k (events_of t) (events_of t) ≡ Some n
     → (is_node model t claim k (node_of n) ≡ true) × (is_leaf (node_of n) ≡ true)

@@ -1,5 +1,5 @@
 -- The search's state: its nodes are part of a tree, whose open cases are these; they and the leaves weigh no more than all cases.
-use Rattle.reasons.proofs.Vocabulary.{◌≡◌, ◌<◌, ◌≤◌, ◌+◌, ℕ, ◌&&◌, Bool, true, false, not, if◌then◌else◌, List, [], ◌∷◌, ◌++◌, length, map, Some, None, arith, refl, sym, ap, ◌∙◌, subst, Litmus, Claim, is_read, is_write, writes_to, Entry, IsIn, in-first, in-later, in-filter, and-both, Known, events_of, same_event, is_event, nothing, with_source, ReadsFrom, ComesFirst, OnLocation, Globally, Between, FalseClaim, asked_claim, is_node, branches, close, refutes, Model, IsPossibleSource, has_source, may_ask, is_answered, IsSound, same-bare, bare-same, node_of, known_of, cases_of, Answers, open_after, is_leaf, leaves_of, HasMoreCases, most_cases}
+use Rattle.reasons.proofs.Vocabulary.{◌≡◌, ◌<◌, ◌≤◌, ◌+◌, ℕ, ◌&&◌, Bool, true, false, not, if◌then◌else◌, List, [], ◌∷◌, ◌++◌, length, map, Some, None, arith, refl, sym, ap, ◌∙◌, subst, Litmus, Claim, is_read, is_write, writes_to, Entry, IsIn, in-first, in-later, in-filter, and-both, Known, events_of, same_event, is_event, nothing, with_source, ReadsFrom, ComesFirst, OnLocation, Globally, Between, FalseClaim, asked_claim, is_node, branches, close, refutes, Model, IsPossibleSource, has_source, may_ask, is_answered, IsSound, same-bare, bare-same, node_of, known_of, cases_of, Answers, open_after, is_leaf, leaves_of, HasMoreCases, most_cases, from-not}
 use Rattle.std.proofs.Common.{filter}
 use Rattle.refutation_laws.specs.Refutations.{Node}
 use Rattle.refutations.specs.declared.tree.Node as code
@@ -95,10 +95,6 @@ each-source t k r s read fresh (w ∷ ws) p = (
   each-source t k r s read fresh ws (λ v i. p v (in-later w ws v i)),
 )
 
-not-same : (b : Bool) → not b ≡ true → b ≡ false
-not-same true h = let z : ⊥ = cc in absurd z
-not-same false h = refl
-
 other-way : (w v : Entry) → same_event w v ≡ false → same_event v w ≡ false
 other-way w v h = go (same_event v w) refl
   where
@@ -116,7 +112,7 @@ branches-sound t k (ComesFirst w v) s ask fresh =
     let d = and-both (is_event t w && is_event t v && is_write w && writes_to w.loc.0 v) (not (same_event w v)) ask in
     let b = and-both (is_event t w && is_event t v && is_write w) (writes_to w.loc.0 v) d.0 in
     let a = and-both (is_event t w && is_event t v) (is_write w) b.0 in
-    let apart = not-same (same_event w v) d.1 in
+    let apart = from-not (same_event w v) d.1 in
     let back = and-both (is_write v) (writes_to v.loc.0 w) (turned w v a.1 b.1) in (
       record { possible = s.possible; single = s.single; reads = s.reads; pairs = ((a.1, (b.1, apart)), s.pairs) },
       (

@@ -1,65 +1,26 @@
 -- The steps among the choices along a sequentially consistent order lead to it on a machine without store buffers: it follows any other
 -- run of that machine with that order, and makes a core's register moves where its next entry is committed.
-use Rattle.reasons.proofs.Vocabulary.{◌≡◌, ◌<◌, ◌≤◌, ℕ, ◌+◌, ◌-◌, suc, Bool, true, false, if◌then◌else◌, List, [], ◌∷◌, ◌++◌, Option, Some, None, slice_index_or, length, inl, inr, arith, ap, sym, ◌∙◌, subst, refl, set-get_or, length-set, Litmus, is_store, Entry, steps, drained, choices_for, places_after, last_steps, choices_from, beginnings, choices_along, LeadTo, is_step, Instr, Loc, Reg, Action, LR, LW, Choice, Step, Drain, Stall, Committed, Stalled}
-use Rattle.std.proofs.Common.{◌≢◌, max, zero, filter, slice_get, slice_set, slice_index, append_assoc, get_or-set_same, get_or-set_other}
-use Rattle.basic_laws.proofs.Basics.{decide}
+use Rattle.reasons.proofs.Vocabulary.{◌≡◌, ◌<◌, ◌≤◌, ℕ, ◌+◌, ◌-◌, suc, true, List, [], ◌∷◌, ◌++◌, Option, Some, None, slice_index_or, length, inl, inr, arith, ap, sym, ◌∙◌, subst, refl, set-get_or, length-set, Litmus, Entry, steps, places_after, last_steps, beginnings, choices_along, LeadTo, is_step}
+use Rattle.std.proofs.Common.{◌≢◌, max, zero, filter, slice_get, slice_set, slice_index, append_assoc, get_or-set_same, get_or-set_other, set-set}
+use Rattle.basic_laws.proofs.Basics.{decide, max-second}
 use Rattle.basic_laws.proofs.Lists.{append-nil}
 use Rattle.tso_model.specs.Actions.{action_of}
 use Rattle.tso_model.specs.Thread.{entry, fence, value_in, value_of, updated}
-use Rattle.tso_model.specs.FlatMachine.{CoreState, State, Effect, idle, advanced, advanced_with, moved, when_drained, effect_by, step_of, drain_of, core_of, program_of, effect_of, chosen, memory_after, after_choice, applied, start, started, step, drain}
-use Rattle.tso_model.specs.Runs.{CoresExist, stall_count, is_done, all_done, has_ended, run_from}
+use Rattle.tso_model.specs.FlatMachine.{CoreState, State, Effect, idle, advanced, advanced_with, moved, effect_by, step_of, drain_of, core_of, program_of, effect_of, chosen, memory_after, after_choice, applied, start, started, step, drain}
+use Rattle.tso_model.specs.Runs.{CoresExist, stall_count, all_done, has_ended}
+use Rattle.basic_laws.specs.Types.{Instr, Loc, Reg, Action, LR, LW, Choice, Step, Drain, Stall, Committed, Stalled}
 use Rattle.tso_model.specs.declared.action.Action.TheVariants.{Store, Load, Move, Fence, Lock}
 use Rattle.tso_model.specs.declared.choice.Stall.TheVariants as stall
 use Rattle.tso_laws.specs.Choices.{state_after, commits_of}
 use Rattle.tso_laws.specs.Reached.{IsReached}
 use Rattle.tso_laws.specs.inner.Laws.{StallsChangeNothing, RunsStopWhereTheyEnd}
 use Rattle.tso_laws.proofs.OrderSteps.{AllTake, takes-append, commits-append}
-use Rattle.basic_laws.proofs.Cores.{done-at}
-use Rattle.tso_laws.proofs.Work.{choice-changes, done-undone, done-length}
-use Rattle.outcome_laws.proofs.Behind.{Moves, moves-more, moves-place, moves-made, set-same, set-set, with_core}
-
--- ---- the steps among the choices along an order
-
-abbrev pub steps_from : Litmus → List ℕ → List Entry → List Choice
-steps_from t places [] = last_steps 0 t.programs places
-steps_from t places (x ∷ xs) = steps x.core.0 ((x.place + 1) - slice_index places x.core.0) ++ steps_from t (places_after places x) xs
-
-filter-append : (f : Choice → Bool) (xs ys : List Choice) → filter f (xs ++ ys) ≡ filter f xs ++ filter f ys
-filter-append f [] ys = refl
-filter-append f (x ∷ xs) ys = go (f x) (filter-append f xs ys)
-  where
-    go : (b : Bool) → filter f (xs ++ ys) ≡ filter f xs ++ filter f ys
-        → (if b then x ∷ filter f (xs ++ ys) else filter f (xs ++ ys)) ≡ (if b then x ∷ filter f xs else filter f xs) ++ filter f ys
-    go true e = ap (λ z. x ∷ z) e
-    go false e = e
-
-filter-steps : (k n : ℕ) → filter is_step (steps k n) ≡ steps k n
-filter-steps k zero = refl
-filter-steps k (suc n) = ap (λ z. step k ∷ z) (filter-steps k n)
-
-filter-drained : (x : Entry) → filter is_step (drained x) ≡ []
-filter-drained x = go (is_store x)
-  where
-    go : (b : Bool) → filter is_step (if b then Drain (record { 0 = x.core.0 }) ∷ [] else []) ≡ []
-    go true = refl
-    go false = refl
-
-filter-last : (k : ℕ) (ps : List (List Instr)) (places : List ℕ) → filter is_step (last_steps k ps places) ≡ last_steps k ps places
-filter-last k [] places = refl
-filter-last k (p ∷ ps) places =
-    let n = length p - slice_index places k in
-    filter-append is_step (steps k n) (last_steps (k + 1) ps places)
-    ∙ ap (λ z. z ++ filter is_step (last_steps (k + 1) ps places)) (filter-steps k n)
-    ∙ ap (λ z. steps k n ++ z) (filter-last (k + 1) ps places)
-
-filter-from : (t : Litmus) (places : List ℕ) (order : List Entry) → filter is_step (choices_from t places order) ≡ steps_from t places order
-filter-from t places [] = filter-last 0 t.programs places
-filter-from t places (x ∷ xs) =
-    let n = (x.place + 1) - slice_index places x.core.0 in
-    let rest = choices_from t (places_after places x) xs in
-    filter-append is_step (choices_for places x) rest
-    ∙ ap (λ z. z ++ filter is_step rest) (filter-append is_step (steps x.core.0 n) (drained x) ∙ ap (λ z. z ++ filter is_step (drained x)) (filter-steps x.core.0 n) ∙ ap (λ z. steps x.core.0 n ++ z) (filter-drained x) ∙ append-nil (steps x.core.0 n))
-    ∙ ap (λ z. steps x.core.0 n ++ z) (filter-from t (places_after places x) xs)
+use Rattle.basic_laws.proofs.Cores.{done-at, length-starts}
+use Rattle.tso_laws.proofs.Draining.{acts-when}
+use Rattle.tso_laws.proofs.Work.{done-length}
+use Rattle.outcome_laws.proofs.Behind.{Moves, moves-more, moves-place, moves-made, set-same, with_core}
+use Rattle.reasons.proofs.StepsAlong.{steps_from, filter-from, steps-last}
+use Rattle.reasons.proofs.UsingAll.{uses-all, cores-exist}
 
 -- ---- cores that are some register moves behind
 
@@ -122,21 +83,6 @@ moves-take t k (suc n) s a b l ls e m =
           (moves-take t k n (with_core s k next) next b l (let w = length-set s.cores k next in omega (arith, w, ls)) (get_or-set_same s.cores k next idle ls) m.5),
     )
 
-steps-last : (k n : ℕ) → steps k n ++ (step k ∷ []) ≡ steps k (suc n)
-steps-last k zero = refl
-steps-last k (suc n) = ap (λ z. step k ∷ z) (steps-last k n)
-
-max-right : (m n : ℕ) → m ≤ n → max m n ≡ n
-max-right m n l = omega (arith, l)
-
-twice : (xs : List ℕ) (k a b : ℕ) → slice_set (slice_set xs k a) k b ≡ slice_set xs k b
-twice [] k a b = refl
-twice (x ∷ xs) zero a b = refl
-twice (x ∷ xs) (suc k) a b = ap (λ z. x ∷ z) (twice xs k a b)
-
-is-drained : (why : Stall) (s : CoreState) (f : Effect) → s.pending ≡ [] → when_drained why s f ≡ f
-is-drained why s f q = rw q refl
-
 -- one entry, or two of one place
 data Shape (k place : ℕ) : List Entry → Type 0 where
   one : (e : Entry) → e.core.0 ≡ k → e.place ≡ place → Shape k place (e ∷ [])
@@ -147,7 +93,7 @@ module _ (t : Litmus) (places : List ℕ) (k place n : ℕ) (l : k < length plac
   number e p q = rw (p, q) (ap (λ z. steps k z) (let z : (place + 1) - slice_index places k ≡ suc n = omega (arith, stands) in z))
 
   moved-on : (e : Entry) → e.core.0 ≡ k → e.place ≡ place → places_after places e ≡ slice_set places k (place + 1)
-  moved-on e p q = rw (p, q) (ap (λ z. slice_set places k z) (max-right (slice_index places k) (place + 1) (omega (arith, stands))))
+  moved-on e p q = rw (p, q) (ap (λ z. slice_set places k z) (max-second (slice_index places k) (place + 1) (omega (arith, stands))))
 
   none-more : (d : Entry) → d.core.0 ≡ k → d.place ≡ place
       → steps d.core.0 ((d.place + 1) - slice_index (slice_set places k (place + 1)) d.core.0) ≡ []
@@ -158,8 +104,8 @@ module _ (t : Litmus) (places : List ℕ) (k place n : ℕ) (l : k < length plac
   there-already : (d : Entry) → d.core.0 ≡ k → d.place ≡ place → places_after (slice_set places k (place + 1)) d ≡ slice_set places k (place + 1)
   there-already d p q =
       rw (p, q) (ap (λ z. slice_set (slice_set places k (place + 1)) k (max z (place + 1))) (get_or-set_same places k (place + 1) 0 l)
-      ∙ ap (λ z. slice_set (slice_set places k (place + 1)) k z) (max-right (place + 1) (place + 1) (omega arith))
-      ∙ twice places k (place + 1) (place + 1))
+      ∙ ap (λ z. slice_set (slice_set places k (place + 1)) k z) (max-second (place + 1) (place + 1) (omega arith))
+      ∙ set-set places k (place + 1) (place + 1))
 
   goes-along : (es : List Entry) → Shape k place es → (rest : List Entry) → steps_from t places (es ++ rest) ≡ steps k (suc n) ++ steps_from t (slice_set places k (place + 1)) rest
   goes-along _ (one e p q) rest =
@@ -269,10 +215,10 @@ module _ (law : StallsChangeNothing) (t : Litmus) (places : List ℕ) (a b : Sta
           stands = w.stands;
         })
     by-action i Fence at is =
-        acts (fence_effect (core_of b k)) (effect-is i Fence at is ∙ is-drained stall.Fence (core_of b k) (fence_effect (core_of b k)) w.empty) refl w.empty refl (one _ refl refl)
+        acts (fence_effect (core_of b k)) (effect-is i Fence at is ∙ acts-when stall.Fence (core_of b k) (fence_effect (core_of b k)) w.empty) refl w.empty refl (one _ refl refl)
     by-action i (Lock loc reg update) at is =
         let f : Effect = lock_effect (core_of b k) loc reg (slice_index b.memory loc.0) (updated update (slice_index b.memory loc.0) (value_in (core_of b k).registers reg)) in
-        acts f (effect-is i (Lock loc reg update) at is ∙ is-drained stall.Lock (core_of b k) f w.empty) refl w.empty refl (two _ _ refl refl refl refl)
+        acts f (effect-is i (Lock loc reg update) at is ∙ acts-when stall.Lock (core_of b k) f w.empty) refl w.empty refl (two _ _ refl refl refl refl)
 
     steps-on : Goes t places a b (step k)
     steps-on = go (slice_get (program_of t k) (core_of b k).place) refl
@@ -328,9 +274,6 @@ record Ends (t : Litmus) (a b : State) (cs : List Choice) : Type 0 where
   size : length (state_after t 0 a cs).cores ≡ length t.programs
   cores : (k : ℕ) → k < length t.programs → core_of (state_after t 0 a cs) k ≡ core_of b k
 
-program-next : (ps : List (List Instr)) (p : List Instr) (qs : List (List Instr)) → ps ≡ p ∷ qs → slice_index_or ps 0 [] ≡ p
-program-next ps p qs e = ap (λ z. slice_index_or z 0 []) e
-
 ends : (t : Litmus) (places : List ℕ) (b : State) → ((k : ℕ) → k < length t.programs → (core_of b k).place ≡ length (program_of t k))
     → (ps : List (List Instr)) (core : ℕ) (a : State) → core + length ps ≡ length t.programs → ((j : ℕ) → slice_index_or ps j [] ≡ program_of t (core + j))
     → a.memory ≡ b.memory → length a.cores ≡ length t.programs
@@ -376,45 +319,7 @@ ends t places b done (p ∷ ps) core a n same m size below above =
     last : (s : State) (cs : List Choice) → state_after t 0 a cs ≡ s → state_after t 0 a (cs ++ last_steps (core + 1) ps places) ≡ state_after t 0 s (last_steps (core + 1) ps places)
     last s cs e = after-append t a cs (last_steps (core + 1) ps places) ∙ ap (λ z. state_after t 0 z (last_steps (core + 1) ps places)) e
 
--- ---- where each choice takes effect, the run uses them all
-
-not-ended : (t : Litmus) (s : State) (c : Choice) → chosen c < length s.cores → stall_count (effect_of t 0 s c).outcome ≡ 0 → has_ended t s ≡ false
-not-ended t s c l o = go (has_ended t s) (λ h. done-at t.programs s.cores (chosen c) h l)
-  where
-    go : (b : Bool) → (b ≡ true → is_done (program_of t (chosen c)) (core_of s (chosen c)) ≡ true) → b ≡ false
-    go false f = refl
-    go true f = absurd (let u = done-undone 0 (program_of t (chosen c)) (core_of s (chosen c)) (f refl) in
-        elim (choice-changes t 0 s c) [ inl w ↦ (let m = w.less in let z : ⊥ = omega (arith, m, u) in z) | inr w ↦ (let q = w.stalled in let z : ⊥ = omega (arith, q, o) in z) ])
-
-record Uses (t : Litmus) (s : State) (cs : List Choice) : Type 0 where
-  ended : (run_from t 0 s cs).ended ≡ true
-  commits : (run_from t 0 s cs).commits ≡ commits_of t 0 s cs
-  used : (run_from t 0 s cs).used ≡ length cs
-  stalled : (run_from t 0 s cs).stalled ≡ 0
-  unused : (run_from t 0 s cs).unused ≡ 0
-
-uses-all : (t : Litmus) (s : State) (cs : List Choice) → length s.cores ≡ length t.programs → AllTake t 0 s cs → has_ended t (state_after t 0 s cs) ≡ true → Uses t s cs
-uses-all t s [] n a e = record { ended = e; commits = refl; used = refl; stalled = refl; unused = refl }
-uses-all t s (c ∷ cs) n a e =
-    let h = uses-all t (after_choice t 0 s c) cs (length-set s.cores (chosen c) (effect_of t 0 s c).after ∙ n) a.2 e in
-    let f = not-ended t s c (let z = a.0 in omega (arith, n, z)) a.1 in
-    record {
-      ended = rw f h.ended;
-      commits = rw f (ap (λ z. (effect_of t 0 s c).commits ++ z) h.commits);
-      used = rw f (ap suc h.used);
-      stalled = rw (f, a.1) (let z = h.stalled in omega (arith, z));
-      unused = rw f h.unused;
-    }
-
-cores-exist : (t : Litmus) (s : State) (cs : List Choice) → AllTake t 0 s cs → CoresExist (length t.programs) cs
-cores-exist t s [] a = tt
-cores-exist t s (c ∷ cs) a = (a.0, cores-exist t (after_choice t 0 s c) cs a.2)
-
 -- ---- the beginning
-
-start-cores : (c : ℕ) (ps : List (List Instr)) (rs : List (List ℕ)) → length (started c ps rs) ≡ length ps
-start-cores c [] rs = refl
-start-cores c (p ∷ ps) rs = ap suc (start-cores (c + 1) ps rs)
 
 start-empty : (c : ℕ) (ps : List (List Instr)) (rs : List (List ℕ)) (k : ℕ) → (slice_index_or (started c ps rs) k idle).pending ≡ []
 start-empty c [] rs k = refl
@@ -433,8 +338,8 @@ beginnings-size (p ∷ ps) = ap suc (beginnings-size ps)
 start-trails : (t : Litmus) → Trails t (beginnings t.programs) (start t) (start t)
 start-trails t = record {
   memory = refl;
-  first = start-cores 0 t.programs t.registers;
-  second = start-cores 0 t.programs t.registers;
+  first = length-starts 0 t.programs t.registers;
+  second = length-starts 0 t.programs t.registers;
   sized = beginnings-size t.programs;
   cores = λ k l. record { count = 0; moves = refl; empty = start-empty 0 t.programs t.registers k; stands = start-place 0 t.programs t.registers k };
 }
@@ -467,7 +372,7 @@ steps-lead law stop t order h =
     let takes : AllTake t 0 (start t) made = takes-append t 0 (start t) f.made last f.takes e.takes in
     let there : (state_after t 0 (start t) made).cores ≡ b.cores =
     ap (λ z. z.cores) (after-append t (start t) f.made last) ∙ same-cores (state_after t 0 a last).cores b.cores (e.size ∙ sym size) (λ k l. e.cores k (let z = e.size in omega (arith, z, l))) in
-    let u = uses-all t (start t) made (start-cores 0 t.programs t.registers) takes (ap (all_done t.programs) there ∙ done) in
+    let u = uses-all t (start t) made (length-starts 0 t.programs t.registers) takes (ap (all_done t.programs) there ∙ done) in
     let commits : commits_of t 0 (start t) made ≡ order =
     commits-append t 0 (start t) f.made last ∙ ap (λ z. z ++ commits_of t 0 a last) (f.commits ∙ order_is) ∙ ap (λ z. order ++ z) e.commits ∙ append-nil order in
     subst (λ z. LeadTo t 0 z order) (sym is) (record {

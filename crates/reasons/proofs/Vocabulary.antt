@@ -1,15 +1,15 @@
 -- The names that the proofs of this crate bring in from definitions and from crates below; each file takes its own from here.
-pub use Rattle.std.proofs.Common.{◌≡◌, ◌<◌, ◌+◌, ◌==◌, ℕ, suc, Bool, true, false, not, if◌then◌else◌, List, [], ◌∷◌, ◌++◌, length, arith, refl, sym, ap, ◌∙◌, ◌⊎◌, inl, inr, subst, ◌-◌, Option, Some, None, option_map, slice_index_or, map, ◌≤◌, ◌*◌, ◌&&◌, ◌||◌, drop}
+pub use Rattle.std.proofs.Common.{◌≡◌, ◌<◌, ◌+◌, ◌==◌, ℕ, suc, Bool, true, false, not, if◌then◌else◌, List, [], ◌∷◌, ◌++◌, length, arith, refl, sym, ap, ◌∙◌, ◌⊎◌, inl, inr, subst, ◌-◌, Option, Some, None, option_map, slice_index_or, map, ◌≤◌, ◌*◌, ◌&&◌, ◌||◌, drop, length-append}
 pub use Rattle.std.specs.Prelude.{filter}
 pub use Rattle.std.specs.List.{list_any, list_all}
-pub use Rattle.basic_laws.specs.Types.{Entry, Quantifier, Exists, NotExists, Forall, Instr, Loc, Reg, Action, LR, LW, Choice, Step, Drain, Stall, Committed, Stalled}
+pub use Rattle.basic_laws.specs.Types.{Entry, Quantifier, Exists, NotExists, Forall}
 pub use Rattle.relational_model.specs.Events.{IsIn}
 pub use Rattle.relational_model.proofs.Lists.{in-none, in-first, in-later, in-append, in-left, in-right, in-filter, filter-in, in-case, Precedes}
 pub use Rattle.relational_model.proofs.KindFacts.{same-number, number-same, and-both}
-pub use Rattle.relational_model.proofs.Sizes.{once-filter, no-more}
+pub use Rattle.relational_model.proofs.Sizes.{once-filter, no-more, picked-and-left}
 pub use Rattle.relational_model.proofs.Events.{once-append, once-events}
-pub use Rattle.relational_model.specs.inner.Rows.{GoesForward, Once, Ordered}
-pub use Rattle.refutation_laws.proofs.Tests.{any-in, and-of, or-first, Holds, any-holds, or-second}
+pub use Rattle.relational_model.specs.inner.Rows.{Once, Ordered}
+pub use Rattle.refutation_laws.proofs.Tests.{any-in, and-of, or-first, Holds, any-holds, or-second, from-not, clash, pick, pass}
 pub use Rattle.reasons.specs.inner.Precedence.{is_first, IsParted, IsSorted, edge_in}
 pub use Rattle.std.specs.Global.{Vec}
 pub use Rattle.tso_model.specs.Litmus.{Litmus, IsTest, IsCondition}
@@ -36,3 +36,4 @@ pub use Rattle.reasons.specs.inner.Cases.{IsLeafless, LeafOrNone, first_of_two, 
 pub use Rattle.std.proofs.lemmas.List.{set-get_or, length-set, nil_from_length}
 pub use Rattle.tso_laws.specs.Along.{steps, drained, choices_for, places_after, last_steps, choices_from, beginnings, choices_along, LeadTo}
 pub use Rattle.reasons.specs.inner.Steps.{is_step}
+pub use Rattle.relational_model.proofs.Converse.{forward-append, forward-if}

@@ -5,11 +5,7 @@ use Rattle.reasons.proofs.Vocabulary.{◌≡◌, ◌<◌, ◌-◌, ℕ, suc, Boo
 
 map-bare : (xs : List Entry) (x : Entry) → IsIn (map bare xs) x → bare x ≡ x
 map-bare [] x i = absurd (in-none x i)
-map-bare (y ∷ ys) x i = go (in-case (bare y) (map bare ys) x i) (λ j. map-bare ys x j)
-  where
-    go : (x ≡ bare y) ⊎ IsIn (map bare ys) x → (IsIn (map bare ys) x → bare x ≡ x) → bare x ≡ x
-    go (inl e) later = ap bare e ∙ sym e
-    go (inr j) later = later j
+map-bare (y ∷ ys) x i = elim (in-case (bare y) (map bare ys) x i) [ inl e ↦ ap bare e ∙ sym e | inr j ↦ map-bare ys x j ]
 
 pub same-is : (t : Litmus) (x y : Entry) → IsIn (events_of t) x → IsIn (events_of t) y → same_event x y ≡ true → x ≡ y
 same-is t x y i j h = sym (map-bare _ x i) ∙ (same-bare x y h ∙ map-bare _ y j)
@@ -113,12 +109,8 @@ module _ (edge : Entry → Entry → Bool) where
             rest = y ∷ b.rest;
             is = sym same ∙ ap (λ zs. x ∷ zs) b.is;
             back = and-of (edge x y) _ p.0 b.back;
-            inside = λ z i. on z (in-case y b.rest z i) b.inside;
+            inside = λ z i. elim (in-case y b.rest z i) [ inl s ↦ in-first y ys z s | inr j ↦ in-later y ys z (b.inside z j) ];
           }
-        where
-          on : (z : Entry) → (z ≡ y) ⊎ IsIn (later tail r).rest z → ((w : Entry) → IsIn (later tail r).rest w → IsIn ys w) → IsIn (y ∷ ys) z
-          on z (inl s) f = in-first y ys z s
-          on z (inr j) f = in-later y ys z (f z j)
 
 all-events : (t : Litmus) (xs : List Entry) → ((x : Entry) → IsIn xs x → IsIn (events_of t) x) → list_all (is_event t) xs ≡ true
 all-events t [] f = refl

@@ -1,5 +1,5 @@
 -- How many cases a case can come to: over its open questions the product of their answers. What is added to each factor has the search end.
-use Rattle.reasons.proofs.Vocabulary.{◌≡◌, ◌≤◌, ◌+◌, ◌*◌, ◌&&◌, ◌||◌, ℕ, Bool, true, false, if◌then◌else◌, List, [], ◌∷◌, length, Option, arith, refl, sym, ap, ◌∙◌, ◌⊎◌, inl, inr, subst, mul-le, Litmus, is_read, is_write, writes_to, Entry, IsIn, in-case, in-none, Precedes, Known, bare, events_of, same_event, is_event, nothing, with_source, sources_of, has_source, are_ordered, or-first, Holds, any-holds, same-bare, product, sources_in, orders_in, all_orders, most_cases}
+use Rattle.reasons.proofs.Vocabulary.{◌≡◌, ◌≤◌, ◌+◌, ◌*◌, ◌&&◌, ◌||◌, ℕ, Bool, true, false, if◌then◌else◌, List, [], ◌∷◌, length, Option, arith, refl, sym, ap, ◌∙◌, ◌⊎◌, inl, inr, subst, mul-le, Litmus, is_read, is_write, writes_to, Entry, IsIn, in-case, in-none, Precedes, Known, bare, events_of, same_event, is_event, nothing, with_source, sources_of, has_source, are_ordered, or-first, Holds, any-holds, same-bare, product, sources_in, orders_in, all_orders, most_cases, pick, pass}
 
 -- ---- products
 
@@ -17,15 +17,14 @@ swap a b c = grind arith
 one-more : (c : ℕ) (f g : Entry → ℕ) → ((x : Entry) → f x ≤ g x) → (xs : List Entry) (y : Entry) → IsIn xs y → c * f y ≤ g y
     → c * product f xs ≤ product g xs
 one-more c f g h [] y i l = absurd (in-none y i)
-one-more c f g h (x ∷ xs) y i l = go (in-case x xs y i) (λ j. one-more c f g h xs y j l)
-  where
-    go : (y ≡ x) ⊎ IsIn xs y → (IsIn xs y → c * product f xs ≤ product g xs) → c * (f x * product f xs) ≤ g x * product g xs
-    go (inl e) later =
-        subst (λ n. n ≤ g x * product g xs) (sym (times (f x) (product f xs) c))
-        (mul-le (c * f x) (product f xs) (g x) (product g xs) (subst (λ z. c * f z ≤ g z) e l) (most-product f g h xs))
-    go (inr j) later =
-        subst (λ n. n ≤ g x * product g xs) (sym (swap (f x) (product f xs) c))
-        (mul-le (f x) (c * product f xs) (g x) (product g xs) (h x) (later j))
+one-more c f g h (x ∷ xs) y i l = elim (in-case x xs y i) [
+  | inl e ↦
+      subst (λ n. n ≤ g x * product g xs) (sym (times (f x) (product f xs) c))
+      (mul-le (c * f x) (product f xs) (g x) (product g xs) (subst (λ z. c * f z ≤ g z) e l) (most-product f g h xs))
+  | inr j ↦
+      subst (λ n. n ≤ g x * product g xs) (sym (swap (f x) (product f xs) c))
+      (mul-le (f x) (c * product f xs) (g x) (product g xs) (h x) (one-more c f g h xs y j l))
+]
 
 abbrev pub pairs : (Entry → Entry → ℕ) → List Entry → ℕ
 pairs f [] = 1
@@ -53,16 +52,12 @@ pub either-first : (xs : List Entry) (a b : Entry) → IsIn xs a → IsIn xs b �
 either-first [] a b i j n = absurd (in-none a i)
 either-first (x ∷ xs) a b i j n = go (in-case x xs a i) (in-case x xs b j) (λ k l. either-first xs a b k l n)
   where
-    later : Precedes a b xs ⊎ Precedes b a xs → Precedes a b (x ∷ xs) ⊎ Precedes b a (x ∷ xs)
-    later (inl p) = inl (inr p)
-    later (inr p) = inr (inr p)
-
     go : (a ≡ x) ⊎ IsIn xs a → (b ≡ x) ⊎ IsIn xs b → (IsIn xs a → IsIn xs b → Precedes a b xs ⊎ Precedes b a xs)
         → Precedes a b (x ∷ xs) ⊎ Precedes b a (x ∷ xs)
     go (inl e) (inl f) rest = absurd (n (e ∙ sym f))
     go (inl e) (inr l) rest = inl (inl (e, l))
     go (inr k) (inl f) rest = inr (inl (f, k))
-    go (inr k) (inr l) rest = later (rest k l)
+    go (inr k) (inr l) rest = elim (rest k l) [ inl p ↦ inl (inr p) | inr p ↦ inr (inr p) ]
 
 one-product : (f : Entry → ℕ) → ((x : Entry) → 1 ≤ f x) → (xs : List Entry) → 1 ≤ product f xs
 one-product f h [] = omega arith
@@ -88,20 +83,10 @@ total e t [] = 0
 total e t (k ∷ ks) = weight e t k + total e t ks
 
 one-read : (e : ℕ) (t : Litmus) (k : Known) (x : Entry) → 1 ≤ weigh_read e t k x
-one-read e t k x = go (has_source k x) (is_read x)
-  where
-    go : (b d : Bool) → 1 ≤ (if b then 1 else (if d then e + length (sources_of t x) else 1))
-    go true d = omega arith
-    go false true = omega arith
-    go false false = omega arith
+one-read e t k x = grind arith
 
 one-pair : (e : ℕ) (k : Known) (w v : Entry) → 1 ≤ weigh_pair e k w v
-one-pair e k w v = go (are_ordered k w v) (is_write w && writes_to w.loc.0 v)
-  where
-    go : (b d : Bool) → 1 ≤ (if b then 1 else (if d then e + 2 else 1))
-    go true d = omega arith
-    go false true = omega arith
-    go false false = omega arith
+one-pair e k w v = grind arith
 
 pub some-weight : (e : ℕ) (t : Litmus) (k : Known) → 1 ≤ weight e t k
 some-weight e t k =
@@ -130,34 +115,15 @@ weight-at-first t =
 
 -- ---- branches
 
-pub pick : {A : Type 0} (b : Bool) (u v : A) → b ≡ true → (if b then u else v) ≡ u
-pick true u v h = refl
-pick false u v h = let z : ⊥ = cc in absurd z
-
-pub pass : {A : Type 0} (b : Bool) (u v : A) → b ≡ false → (if b then u else v) ≡ v
-pass true u v h = let z : ⊥ = cc in absurd z
-pass false u v h = refl
-
 -- more that is known weighs no more
 pub less-if : (a b : Bool) (n : ℕ) → 1 ≤ n → (if a || b then 1 else n) ≤ (if b then 1 else n)
-less-if true true n l = omega arith
-less-if true false n l = l
-less-if false true n l = omega arith
-less-if false false n l = omega arith
+less-if a b n l = grind arith
 
 open-read : (e : ℕ) (t : Litmus) (x : Entry) → 1 ≤ (if is_read x then e + length (sources_of t x) else 1)
-open-read e t x = go (is_read x)
-  where
-    go : (d : Bool) → 1 ≤ (if d then e + length (sources_of t x) else 1)
-    go true = omega arith
-    go false = omega arith
+open-read e t x = grind arith
 
 pub open-pair : (e : ℕ) (w v : Entry) → 1 ≤ (if is_write w && writes_to w.loc.0 v then e + 2 else 1)
-open-pair e w v = go (is_write w && writes_to w.loc.0 v)
-  where
-    go : (d : Bool) → 1 ≤ (if d then e + 2 else 1)
-    go true = omega arith
-    go false = omega arith
+open-pair e w v = grind arith
 
 -- a read that is asked for
 pub source-weight : (e : ℕ) (t : Litmus) (k : Known) (r : Entry) (o : Option Entry) → is_event t r ≡ true → is_read r ≡ true → has_source k r ≡ false
