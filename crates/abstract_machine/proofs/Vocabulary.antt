@@ -31,4 +31,5 @@ pub use Rattle.abstract_machine.specs.OneStep.{IsBlocked, KeepsBuffer, ReadsAndF
 pub use Rattle.tso_model.specs.ProgramEntries.{is_at}
 pub use Rattle.tso_model.specs.Examples.{sb, sb_order, n6, n6_order, added, separated_order}
 pub use Rattle.tso_laws.specs.WorkedRuns.{short_order, turned_order, wrong_order}
-pub use Rattle.tso_laws.proofs.Work.{length-starts, is_none-is}
+pub use Rattle.tso_laws.proofs.Work.{is_none-is}
+pub use Rattle.basic_laws.proofs.Cores.{length-starts}

@@ -1,6 +1,7 @@
 -- The names that the proofs of this crate bring in from definitions and from crates below; each file takes its own from here.
 pub use Rattle.std.proofs.Common.{◌≡◌, ℕ, ◌^◌, ◌<◌, Bool, true, false, List, [], ◌∷◌, ◌++◌, get_or, drop, refl, sym, ap, subst, ◌∙◌, zero, suc, ◌≤◌, Option, unwrap_or, arith, inl, inr, ◌+◌, length, slice_index, All, Some, None, is_some, ◌-◌, ◌==◌, cond, map, ◌≢◌, not, ◌||◌, ◌/◌, ◌%◌, lt-ltb, le-leb, ◌&&◌, slice_index_or, eq-eqb, Contains, eqb-true, ◌⊎◌, if◌then◌else◌, ◌*◌, take, IfSome, nat_lt, slice_get, slice_set, append-nil}
-pub use Rattle.std.specs.Fmt.{decimal, digits, digits_onto, digit_glyph}
+pub use Rattle.std.specs.Fmt.{decimal, digits_onto, digit_glyph}
+unfoldable pub use Rattle.std.specs.Fmt.{digits}
 pub use Rattle.std.specs.List.{list_all, AllByRecursion, flat_map, range_with_len, list_any}
 pub use Rattle.std.specs.Char.{is_ascii_digit}
 pub use Rattle.std.proofs.lemmas.Bool.{and_parts, and_from, or_cases, or_right}

@@ -42,7 +42,8 @@ pub use Rattle.tso_model.specs.declared.instruction.Instr.{Instr}
 pub use Rattle.relational_model.specs.Events.{IsIn}
 pub use Rattle.relational_model.specs.CandidatesOfOrders.{IsCandidateOf, LeaveTheSame, last_in}
 pub use Rattle.refutation_laws.specs.Models.{IsExecutionOf}
-pub use Rattle.tso_report.specs.Report.{line, test_line, all_registers}
+pub use Rattle.tso_report.specs.Report.{line, test_line}
+unfoldable pub use Rattle.tso_report.specs.Report.{all_registers}
 pub use Rattle.tso_report.specs.inner.Tally.{NameExists}
 pub use Rattle.reason_report.specs.Printed.{allowed_in, ShowsExecution}
 pub use Rattle.std.proofs.lemmas.Result.{IfOk-weaker, on_ok_weaker}
