@@ -1,10 +1,10 @@
 -- Atoms are read as they are spelled.
-use Rattle.litmus_reader.proofs.Vocabulary.{◌≡◌, ℕ, ◌+◌, ◌≤◌, ◌<◌, ◌^◌, Bool, true, false, cond, ltb, not, ◌&&◌, List, [], ◌∷◌, ◌++◌, length, Some, None, Ok, Err, refl, sym, ap, subst, ◌∙◌, inl, inr, arith, codes, bytes_eq, ltb-true, lt-ltb, and_parts, not-true, length-append, bytes_eq-Decides, Claim, TruthClaim, RegClaim, LocClaim, is_name, is_register_word, is_keyword, is_location_name, Loc, Stop, Equals, Colon, OpenSquare, CloseSquare, OpenRound, decimal_value, Term, number, name, symbol, Piece, is_symbol, symbol_at, name_at, TooLarge, NoSuchCore, there, word_after, located, word_at, setting_at, core_of, claim_in, Claimed, claimed, one_more, truth_at, setting_atom, atom_at, negation_at, terms, IsSetting, sets_register, sets_location, sets_in_squares, names_in, is_allowed, numbered, number_of, with_name, location, IsAtom, says_true, says_false, says_setting, PhraseFits, claim_by, IsWithin, fault, remaining_of, Setting, of_register, of_location, truth, atom, or_fault, BadNumber, part_of, BadCondition, ◌>>=◌}
-use Rattle.litmus_reader.proofs.GrammarTokens.{chosen, there_is, there_some, some_is, ok_is, ok_pair, bind_ok, opened, terms_append, word_taken}
+use Rattle.litmus_reader.proofs.Vocabulary.{◌≡◌, ℕ, ◌+◌, ◌≤◌, ◌<◌, ◌^◌, Bool, true, false, cond, ltb, not, ◌&&◌, List, [], ◌∷◌, ◌++◌, length, Some, None, Ok, Err, refl, sym, ap, subst, ◌∙◌, inl, inr, arith, codes, bytes_eq, ltb-true, lt-ltb, and_parts, not-true, length-append, bytes_eq-Decides, Claim, TruthClaim, RegClaim, LocClaim, is_name, is_register_word, is_keyword, is_location_name, Loc, Stop, Equals, Colon, OpenSquare, CloseSquare, OpenRound, decimal_value, Term, number, name, symbol, Piece, is_symbol, symbol_at, name_at, TooLarge, NoSuchCore, there, word_after, located, word_at, setting_at, core_of, claim_in, Claimed, claimed, one_more, truth_at, setting_atom, atom_at, negation_at, terms, IsSetting, sets_register, sets_location, sets_in_squares, names_in, is_allowed, numbered, number_of, with_name, location, IsAtom, says_true, says_false, says_setting, PhraseFits, claim_by, IsWithin, fault, remaining_of, Setting, of_register, of_location, truth, atom, or_fault, BadNumber, part_of, BadCondition, ◌>>=◌, Passes}
+use Rattle.litmus_reader.proofs.GrammarTokens.{chosen, there_is, there_some, some_is, ok_is, ok_pair, bind_ok, opened, terms_append, word_found}
 use Rattle.litmus_reader.proofs.GrammarItems.{setting_found, setting_taken}
 use Rattle.litmus_reader.proofs.GrammarPhrases.{Finds, Takes, Anything}
 use Rattle.litmus_reader.proofs.GrammarNames.{with_name_by, place_below, place_none, known_with, number_with}
-use Rattle.litmus_reader.proofs.Readings.{Begins, given_by, ReadsPhrase, SpellsPhrase}
+use Rattle.litmus_reader.proofs.Readings.{given_by, ReadsPhrase, SpellsPhrase}
 
 -- ---- atoms
 
@@ -172,16 +172,18 @@ atom_found stop cores _ _ (says_setting ts s is) atoms names allowed back ok ps 
 
 -- ---- atoms taken
 
-pub truth_taken : (ps : List Piece) (t : Bool × List Piece) → truth_at ps ≡ Some t → Begins (λ ts. IsAtom ts (truth t.0)) ps t.1
+pub truth_taken : (ps : List Piece) (t : Bool × List Piece) → truth_at ps ≡ Some t → Passes (λ ts. IsAtom ts (truth t.0)) ps t.1
 unfolding truth_at
 truth_taken ps t e =
     elim (there_is (word_after (codes "true") ps) (λ rest. Some (true, rest)) (there (word_after (codes "false") ps) (λ rest. Some (false, rest)) None) (Some t) e) [
-      | inl yes_at ↦ subst (λ (t : Bool × List Piece). Begins (λ ts. IsAtom ts (truth t.0)) ps t.1) (some_is (true, yes_at.0) t yes_at.2)
-          (record { ts = name (codes "true") ∷ []; is = says_true; parts = word_taken (codes "true") ps yes_at.0 yes_at.1 })
+      | inl yes_at ↦ let word = word_found (codes "true") ps yes_at.0 yes_at.1 in
+          subst (λ (t : Bool × List Piece). Passes (λ ts. IsAtom ts (truth t.0)) ps t.1) (some_is (true, yes_at.0) t yes_at.2)
+          (record { front = word.0 ∷ []; parts = word.1; is = rw word.2 says_true })
       | inr no_true ↦
           let no_at = there_some (word_after (codes "false") ps) (λ rest. Some (false, rest)) t no_true.1 in
-          subst (λ (t : Bool × List Piece). Begins (λ ts. IsAtom ts (truth t.0)) ps t.1) (some_is (false, no_at.0) t no_at.2)
-          (record { ts = name (codes "false") ∷ []; is = says_false; parts = word_taken (codes "false") ps no_at.0 no_at.1 })
+          let word = word_found (codes "false") ps no_at.0 no_at.1 in
+          subst (λ (t : Bool × List Piece). Passes (λ ts. IsAtom ts (truth t.0)) ps t.1) (some_is (false, no_at.0) t no_at.2)
+          (record { front = word.0 ∷ []; parts = word.1; is = rw word.2 says_false })
     ]
 
 setting_atom_taken : (stop : Stop) (cores atoms : ℕ) (names : List (List ℕ)) (ps : List Piece) (c : Claimed) → length names ≤ 16 → setting_atom stop cores atoms names ps ≡ Ok c → SpellsPhrase IsAtom cores atoms names ps c
@@ -212,10 +214,10 @@ truth_atom_taken remaining cores atoms names ps t c le at e =
     let b = truth_taken ps t at in
     let count = one_more_ok remaining atoms n.0 n.1 in
     subst (SpellsPhrase IsAtom cores atoms names ps) (ok_is (claimed (TruthClaim t.0) n.0 names t.1) c n.2) (record {
-      ts = b.ts;
+      ts = terms b.front;
       phrase = truth t.0;
       is = b.is;
-      parts = b.parts;
+      parts = ap terms b.parts ∙ terms_append b.front t.1;
       within = record { fits = refl; few = omega (arith, count.1); room = le };
       given = ap (λ (k : ℕ). claimed (TruthClaim t.0) k names t.1) count.0;
     })

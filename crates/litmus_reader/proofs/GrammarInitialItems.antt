@@ -162,50 +162,58 @@ not_ended (p ∷ ps) curly semicolon e = by_tests (is_symbol Semicolon p) (is_sy
     by_tests false true s c h = cc
     by_tests false false s c h = cc
 
--- an item that was taken in
-pub record ItemTaken (ps rest : List Piece) (done : List Setting) (after : Initial) : Type 0 where
+-- an item that was read: its setting, and what ends it
+pub record ItemRead (i j : Initial) (ps rest : List Piece) : Type 0 where
   pub s : Setting
   pub spelled : Passes (λ ts. IsSetting ts s) ps rest
   pub ends : ends_item rest ≡ true
-  pub holds : Holds (done ++ s ∷ []) after
-  pub fits : Fits (done ++ s ∷ [])
+  pub judges : judged (remaining_of ps) i s ≡ Ok j
 
-pub item_taken : (part : Part) (i : Initial) (ps : List Piece) (done : List Setting) (after : Initial × List Piece) → item_in part i ps ≡ Ok after → Holds done i → Fits done → ItemTaken ps after.1 done after.0
+pub item_read : (part : Part) (i j : Initial) (ps rest : List Piece) → item_in part i ps ≡ Ok (j, rest) → ItemRead i j ps rest
 unfolding item_in
-item_taken part i ps done after e h fits =
-    let found = bind_ok (setting_at part ps) _ after e in
+item_read part i j ps rest e =
+    let found = bind_ok (setting_at part ps) _ (j, rest) e in
     let s = found.0.0 in
-    let taken = setting_taken part ps found.0.1 s found.1 in
-    elim (chosen (ends_item found.0.1) (judged (remaining_of ps) i s >>= λ after. Ok (after, found.0.1)) (Err (unfit part found.0.1)) (Ok after) found.2) [
+    elim (chosen (ends_item found.0.1) (judged (remaining_of ps) i s >>= λ after. Ok (after, found.0.1)) (Err (unfit part found.0.1)) (Ok (j, rest)) found.2) [
       | inl end ↦
-          let noted = bind_ok (judged (remaining_of ps) i s) _ after end.1 in
-          let same = ok_pair noted.0 after.0 found.0.1 after.1 noted.2 in
-          let both = judged_taken (remaining_of ps) i noted.0 done s noted.1 h fits in
+          let noted = bind_ok (judged (remaining_of ps) i s) _ (j, rest) end.1 in
+          let same = ok_pair noted.0 j found.0.1 rest noted.2 in
           record {
             s = s;
-            spelled = record { front = taken.front; parts = taken.parts ∙ ap (λ (l : List Piece). taken.front ++ l) same.1; is = taken.is };
+            spelled = setting_taken part ps rest s (found.1 ∙ ap (λ (l : List Piece). Ok (s, l)) same.1);
             ends = ap ends_item (sym same.1) ∙ end.0;
-            holds = subst (Holds (done ++ s ∷ [])) same.0 both.0;
-            fits = both.1;
+            judges = noted.1 ∙ ap (λ (k : Initial). Ok k) same.0;
           }
       | inr miss ↦ absurd cc
     ]
 
-onto : (ts : List Term) (item done : List Setting) (ps after_it rest : List Piece) (i j : Initial) → AtHand ps ts item → symbol_at CloseCurly ps ≡ None → symbol_at Semicolon ps ≡ None
-    → (one : ItemTaken ps after_it done i) → ItemsTaken (terms one.spelled.front) (one.s ∷ []) (done ++ one.s ∷ []) after_it rest j → ItemsTaken ts item done ps rest j
-onto _ _ done ps after_it rest i j before_any curly semicolon one others =
-    let all : (done ++ one.s ∷ []) ++ others.settings ≡ done ++ one.s ∷ others.settings = append_assoc done (one.s ∷ []) others.settings in
+-- and was taken in
+record ItemTaken (ps rest : List Piece) (done : List Setting) (i after : Initial) : Type 0 where
+  pub read : ItemRead i after ps rest
+  pub holds : Holds (done ++ read.s ∷ []) after
+  pub fits : Fits (done ++ read.s ∷ [])
+
+item_taken : (part : Part) (i : Initial) (ps : List Piece) (done : List Setting) (after : Initial × List Piece) → item_in part i ps ≡ Ok after → Holds done i → Fits done → ItemTaken ps after.1 done i after.0
+item_taken part i ps done after e h fits =
+    let read = item_read part i after.0 ps after.1 e in
+    let both = judged_taken (remaining_of ps) i after.0 done read.s read.judges h fits in
+    record { read = read; holds = both.0; fits = both.1 }
+
+onto : (ts : List Term) (item done : List Setting) (ps after_it rest : List Piece) (h i j : Initial) → AtHand ps ts item → symbol_at CloseCurly ps ≡ None → symbol_at Semicolon ps ≡ None
+    → (one : ItemTaken ps after_it done h i) → ItemsTaken (terms one.read.spelled.front) (one.read.s ∷ []) (done ++ one.read.s ∷ []) after_it rest j → ItemsTaken ts item done ps rest j
+onto _ _ done ps after_it rest h i j before_any curly semicolon one others =
+    let all : (done ++ one.read.s ∷ []) ++ others.settings ≡ done ++ one.read.s ∷ others.settings = append_assoc done (one.read.s ∷ []) others.settings in
     record {
-      further = one.spelled.front ++ others.further;
+      further = one.read.spelled.front ++ others.further;
       last = others.last;
-      settings = one.s ∷ others.settings;
-      are = subst (λ ts. AreInitialItems ts (one.s ∷ others.settings)) (sym (terms_append one.spelled.front others.further)) others.are;
-      parts = one.spelled.parts ∙ ap (λ (l : List Piece). one.spelled.front ++ l) others.parts ∙ sym (append_assoc one.spelled.front others.further (others.last ∷ rest));
+      settings = one.read.s ∷ others.settings;
+      are = subst (λ ts. AreInitialItems ts (one.read.s ∷ others.settings)) (sym (terms_append one.read.spelled.front others.further)) others.are;
+      parts = one.read.spelled.parts ∙ ap (λ (l : List Piece). one.read.spelled.front ++ l) others.parts ∙ sym (append_assoc one.read.spelled.front others.further (others.last ∷ rest));
       closes = others.closes;
       holds = subst (λ (l : List Setting). Holds l j) all others.holds;
       fits = subst Fits all others.fits;
     }
-onto _ _ done ps after_it rest i j (after_one ts s is end) curly semicolon one others = absurd (not_ended ps curly semicolon end)
+onto _ _ done ps after_it rest h i j (after_one ts s is end) curly semicolon one others = absurd (not_ended ps curly semicolon end)
 
 items_taken : (n : ℕ) (part : Part) (i j : Initial) (ps rest : List Piece) (ts : List Term) (item done : List Setting) → AtHand ps ts item → Holds done i → Fits done
     → items_within n part i ps ≡ Ok (j, rest) → ItemsTaken ts item done ps rest j
@@ -247,8 +255,8 @@ items_taken (suc n) part i j ps rest ts item done hand h fits e =
                 }
             | inr no_end ↦
                 let one = item_taken part i ps done stepped.0 no_end.1 h fits in
-                let others = items_taken n part stepped.0.0 j stepped.0.1 rest (terms one.spelled.front) (one.s ∷ []) (done ++ one.s ∷ []) (after_one (terms one.spelled.front) one.s one.spelled.is one.ends) one.holds one.fits stepped.2 in
-                onto ts item done ps stepped.0.1 rest stepped.0.0 j hand open_still.0 no_end.0 one others
+                let others = items_taken n part stepped.0.0 j stepped.0.1 rest (terms one.read.spelled.front) (one.read.s ∷ []) (done ++ one.read.s ∷ []) (after_one (terms one.read.spelled.front) one.read.s one.read.spelled.is one.read.ends) one.holds one.fits stepped.2 in
+                onto ts item done ps stepped.0.1 rest i stepped.0.0 j hand open_still.0 no_end.0 one others
           ]
     ]
 

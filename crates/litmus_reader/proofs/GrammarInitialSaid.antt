@@ -1,5 +1,6 @@
 -- What has been read of the initial state is what its settings say.
-use Rattle.litmus_reader.proofs.Vocabulary.{◌≡◌, ℕ, zero, suc, ◌+◌, ◌-◌, ◌<◌, Bool, true, false, cond, eqb, eqb-true, ltb, not, ◌&&◌, List, [], ◌∷◌, ◌++◌, length, map, get_or, replicate, Result, Ok, refl, sym, ap, subst, ◌∙◌, append_assoc, arith, list_any, list_all, range_with_len, bytes_eq, ltb-true, and_parts, or_parts, not-true, bytes_eq-Decides, length-append, append-nil, map-append, length-set, ext_get_or, get_or-set_same, get_or-set_other, length-map-range_with_len, get_or-map-range_with_len, list_any-append, list_all-append, index_of, with_value, Reg, Eax, Ebx, Ecx, Edx, Esi, Edi, decimal_value, Fault, ◌>>=◌, core_of, Given, Initial, with_register, registers_with, words_of, same_place, each_once, names_in, Fits, has_core, value_in, names_register, first_words, first_registers_of, first_registers, numbered, with_name, Setting, of_register, of_location, eq-eqb, lt-ltb, ◌||◌}
+use Rattle.litmus_reader.proofs.Vocabulary.{◌≡◌, ℕ, zero, suc, ◌+◌, ◌-◌, ◌<◌, Bool, true, false, cond, eqb, eqb-true, ltb, not, ◌&&◌, List, [], ◌∷◌, ◌++◌, length, map, get_or, replicate, Result, Ok, refl, sym, ap, subst, ◌∙◌, append_assoc, arith, list_any, list_all, range_with_len, bytes_eq, ltb-true, and_parts, or_parts, not-true, length-append, append-nil, map-append, length-set, ext_get_or, get_or-set_same, get_or-set_other, length-map-range_with_len, get_or-map-range_with_len, list_any-append, list_all-append, index_of, with_value, Reg, Eax, Ebx, Ecx, Edx, Esi, Edi, decimal_value, Fault, ◌>>=◌, core_of, Given, Initial, with_register, registers_with, words_of, same_place, each_once, names_in, Fits, has_core, value_in, names_register, first_words, first_registers_of, first_registers, numbered, with_name, Setting, of_register, of_location, eq-eqb, lt-ltb, ◌||◌}
+use Rattle.std.specs.Cmp.Lexicographic.{nat_list_eq_equiv}
 use Rattle.litmus_reader.proofs.GrammarTokens.{bind_ok}
 use Rattle.litmus_reader.proofs.GrammarPhrases.{names_in-append}
 use Rattle.litmus_reader.proofs.GrammarAtoms.{core_ok}
@@ -59,18 +60,9 @@ extended_by names (x ∷ xs) extra new = with_one names extra xs x new (λ e n. 
 extended : (names others : List (List ℕ)) → Extended names (numbered names others)
 extended names others = subst (λ (l : List (List ℕ)). Extended names (numbered l others)) (append-nil names) (extended_by names others [] refl)
 
-turned : (x y : List ℕ) → bytes_eq y x ≡ bytes_eq x y
-turned x y = by_tests (bytes_eq y x) (bytes_eq x y) refl refl
-  where
-    by_tests : (a b : Bool) → bytes_eq y x ≡ a → bytes_eq x y ≡ b → a ≡ b
-    by_tests true true e f = refl
-    by_tests false false e f = refl
-    by_tests true false e f = sym ((bytes_eq-Decides x y).1 (sym ((bytes_eq-Decides y x).0 e))) ∙ f
-    by_tests false true e f = sym e ∙ (bytes_eq-Decides y x).1 (sym ((bytes_eq-Decides x y).0 f))
-
 any_turned : (x : List ℕ) (names : List (List ℕ)) → list_any (λ y. bytes_eq y x) names ≡ list_any (bytes_eq x) names
 any_turned x [] = refl
-any_turned x (y ∷ ys) = ap (λ (b : Bool). b || list_any (λ y. bytes_eq y x) ys) (turned x y) ∙ ap (λ (b : Bool). bytes_eq x y || b) (any_turned x ys)
+any_turned x (y ∷ ys) = ap (λ (b : Bool). b || list_any (λ y. bytes_eq y x) ys) (nat_list_eq_equiv.symm y x) ∙ ap (λ (b : Bool). bytes_eq x y || b) (any_turned x ys)
 
 later_names : (x : List ℕ) (v : ℕ) (rest : List Setting) → list_any (λ later. same_place later (of_location x v)) rest ≡ list_any (λ y. bytes_eq y x) (names_in rest)
 later_names x v [] = refl

@@ -61,9 +61,6 @@ fields_lack _ _ (more ts us c cs is are) = lacks-append Semicolon ts (symbol Bar
 
 -- ---- tokens cut at a symbol
 
-own : (s : Symbol) → is_symbol_term s (symbol s) ≡ true
-own s = spelled_so s
-
 -- what stands before a symbol, and what stands after it
 record Cut (s : Symbol) (us back : List Term) (ps : List Piece) : Type 0 where
   pub front : List Piece
@@ -77,7 +74,7 @@ record Cut (s : Symbol) (us back : List Term) (ps : List Piece) : Type 0 where
 
 hits : (s : Symbol) (p : Piece) → p.term ≡ symbol s → is_symbol s p ≡ true
 unfolding is_symbol
-hits s p is = rw is (own s)
+hits s p is = rw is (spelled_so s)
 
 misses : (s : Symbol) (p : Piece) (t : Term) → p.term ≡ t → is_symbol_term s t ≡ false → is_symbol s p ≡ false
 unfolding is_symbol

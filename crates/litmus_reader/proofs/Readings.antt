@@ -14,12 +14,6 @@ pub record Reads {X : Type 0} (reading : Result (X × List Piece) Fault) (x : X)
   pub is : reading ≡ Ok (x, rest)
   pub after_it : terms rest ≡ back
 
--- tokens of a form stand at the front, and after them the rest
-pub record Begins (Is : List Term → Type 0) (ps rest : List Piece) : Type 0 where
-  pub ts : List Term
-  pub is : Is ts
-  pub parts : terms ps ≡ ts ++ terms rest
-
 -- What has been read is what the settings say: the names; the first words, whatever names come after these; and the first
 -- registers of a test that has all their cores, where no other test has any.
 pub record Says (settings : List Setting) (i : Initial) : Type 0 where

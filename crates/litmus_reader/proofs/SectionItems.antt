@@ -1,9 +1,8 @@
 -- The initial state, section by section.
-use Rattle.litmus_reader.proofs.Vocabulary.{◌≡◌, ◌<◌, Bool, true, false, List, [], ◌∷◌, ◌++◌, length, Some, None, Result, Ok, Err, refl, sym, ap, ◌∙◌, inl, inr, arith, length-append, Equals, Semicolon, Colon, OpenSquare, CloseSquare, CloseCurly, Piece, is_symbol, symbol_at, name_at, number_at, Fault, Part, ReadError, terms, unfit, remaining_of, Fails, ◌>>=◌, item_or_none, closes, section_in, Initial, judged, ends_item, item_in, step_in, is_one_of, item_ends, location_at, setting_at, plain_setting, ◌||◌}
+use Rattle.litmus_reader.proofs.Vocabulary.{◌≡◌, ◌<◌, Bool, true, false, List, [], ◌∷◌, ◌++◌, length, Some, None, Result, Ok, Err, refl, sym, ap, ◌∙◌, inl, inr, arith, length-append, Equals, Semicolon, Colon, OpenSquare, CloseSquare, CloseCurly, Piece, is_symbol, symbol_at, name_at, number_at, Fault, Part, ReadError, terms, unfit, Fails, ◌>>=◌, item_or_none, closes, section_in, Initial, ends_item, item_in, step_in, is_one_of, item_ends, location_at, setting_at, plain_setting, ◌||◌}
 use Rattle.litmus_cells.specs.declared.fault.ReadError.TheVariants as errors
 use Rattle.litmus_reader.proofs.Cuts.{Section, Cut, CutAfter, Alike}
-use Rattle.litmus_reader.proofs.GrammarInitialItems.{length-terms, setting_some}
-use Rattle.litmus_reader.proofs.GrammarItems.{setting_taken}
+use Rattle.litmus_reader.proofs.GrammarInitialItems.{length-terms, setting_some, item_read}
 use Rattle.litmus_reader.proofs.GrammarTokens.{chosen, bind_ok, ok_pair, symbol_is}
 use Rattle.litmus_reader.proofs.ItemSteps.{ReadItems, ItemsAfter, items_end, items_go_on, item_fails}
 use Rattle.litmus_reader.proofs.SettingCuts.{OfSettings, ends_cut, item_cut}
@@ -32,34 +31,13 @@ not_ended (p ∷ ps) e = by_tests (is_symbol Semicolon p) (is_symbol CloseCurly 
     by_tests false true s c h = absurd cc
     by_tests false false s c h = record { curly = rw c refl; semicolon = rw s refl }
 
--- an item that was read ends
-item_ended : (part : Part) (i j : Initial) (ps rest : List Piece) → item_in part i ps ≡ Ok (j, rest) → ends_item rest ≡ true
-unfolding item_in
-item_ended part i j ps rest e =
-    let found = bind_ok (setting_at part ps) _ (j, rest) e in
-    elim (chosen (ends_item found.0.1) (judged (remaining_of ps) i found.0.0 >>= λ after. Ok (after, found.0.1)) (Err (unfit part found.0.1)) (Ok (j, rest)) found.2) [
-      | inl end ↦
-          let noted = bind_ok (judged (remaining_of ps) i found.0.0) _ (j, rest) end.1 in
-          let same = ok_pair noted.0 j found.0.1 rest noted.2 in
-          ap ends_item (sym same.1) ∙ end.0
-      | inr miss ↦ absurd cc
-    ]
-
--- and takes a token or more
+-- an item that was read takes a token or more
 item_shorter : (part : Part) (i j : Initial) (ps rest : List Piece) → item_in part i ps ≡ Ok (j, rest) → length rest < length ps
-unfolding item_in
 item_shorter part i j ps rest e =
-    let found = bind_ok (setting_at part ps) _ (j, rest) e in
-    let taken = setting_taken part ps found.0.1 found.0.0 found.1 in
-    let whole : length ps ≡ length (taken.front ++ found.0.1) = ap (λ (l : List Piece). length l) taken.parts in
-    elim (chosen (ends_item found.0.1) (judged (remaining_of ps) i found.0.0 >>= λ after. Ok (after, found.0.1)) (Err (unfit part found.0.1)) (Ok (j, rest)) found.2) [
-      | inl end ↦
-          let noted = bind_ok (judged (remaining_of ps) i found.0.0) _ (j, rest) end.1 in
-          let same = ok_pair noted.0 j found.0.1 rest noted.2 in
-          let back : length found.0.1 ≡ length rest = ap (λ (l : List Piece). length l) same.1 in
-          omega (arith, back, whole, length-append taken.front found.0.1, setting_some (terms taken.front) found.0.0 taken.is, length-terms taken.front)
-      | inr miss ↦ absurd cc
-    ]
+    let read = item_read part i j ps rest e in
+    let front = read.spelled.front in
+    let whole : length ps ≡ length (front ++ rest) = ap (λ (l : List Piece). length l) read.spelled.parts in
+    omega (arith, whole, length-append front rest, setting_some (terms front) read.s read.spelled.is, length-terms front)
 
 -- the end of a section, and of an item with it
 record LastToken (k : Section) (rest all : List Piece) : Type 0 where
@@ -104,7 +82,7 @@ reached k of i j ps all rest total c e before =
           let further = items_go_on k.whole i a.0.0 all a.0.1 total (sym none.curly) also shorter before in
           record {
             all = a.0.1;
-            last = last_token k of rest a.0.1 a.2.1 (item_ended k.part i j ps rest more.1);
+            last = last_token k of rest a.0.1 a.2.1 (item_read k.part i j ps rest more.1).ends;
             after = rw (sym a.2.0) at further;
           }
     ]

@@ -1,10 +1,10 @@
 -- The names that the proofs of this crate bring in from definitions and from crates below; each file takes its own from here.
-pub use Rattle.std.proofs.Common.{◌≡◌, ℕ, ◌+◌, Bool, true, false, cond, ltb, not, ◌||◌, List, [], ◌∷◌, length, map, Some, None, refl, sym, ap, ◌⊎◌, inl, inr, arith, ◌-◌, ◌≤◌, eqb, take, drop, ◌∙◌, zero, suc, ◌<◌, Result, Ok, Err, ◌==◌, ◌&&◌, Bor, ◌++◌, get_or, add-one, drop-cons, Option, IfSome, subst, All, append_assoc, ◌^◌, IfOk, IsTrue, replicate, filter, eqb-true, eq-eqb, true≢false, nat_lt, ◌≢◌, IfErr, MatchResult, nat_eq, string_bytes, ◌*◌}
+pub use Rattle.std.proofs.Common.{◌≡◌, ℕ, ◌+◌, Bool, true, false, cond, ltb, not, ◌||◌, List, [], ◌∷◌, length, map, Some, None, refl, sym, ap, ◌⊎◌, inl, inr, arith, ◌-◌, ◌≤◌, eqb, take, drop, ◌∙◌, zero, suc, ◌<◌, Result, Ok, Err, ◌==◌, ◌&&◌, Bor, ◌++◌, get_or, add-one, drop-cons, Option, IfSome, subst, All, append_assoc, ◌^◌, IsTrue, replicate, filter, eqb-true, eq-eqb, true≢false, nat_lt, ◌≢◌, IfErr, MatchResult, nat_eq, string_bytes, ◌*◌}
 pub use Rattle.std.specs.Prelude.{position, codes, count_by, slice_index_or}
 pub use Rattle.std.specs.List.{position_or_len, prefix_len, list_any, slice_split, onto_first, before_first, after_first, range_with_len, flat_map, list_all, starts_with}
-pub use Rattle.std.proofs.lemmas.Bool.{ltb-false, ltb-true, and_parts, or_parts, not-true, and_from, lt-ltb, eqb-false, le-ltb, ne_eqb}
-pub use Rattle.std.proofs.lemmas.List.Sums.{prefix_len-le-length, length-filter, sum_by-append, AllPass-from_list_all, list_all-from_AllPass}
-pub use Rattle.std.proofs.lemmas.List.{take_all, length-drop, nil_from_length, map_push, length-map, take-map, drop-map, get_or-map, map-append, append-nil, length-append, length-replicate, length-set, ext_get_or, get_or-set_same, get_or-set_other, take-append-drop, get_or_read}
+pub use Rattle.std.proofs.lemmas.Bool.{ltb-false, ltb-true, and_parts, or_parts, not-true, and_from, lt-ltb, le-ltb, ne_eqb}
+pub use Rattle.std.proofs.lemmas.List.Sums.{prefix_len-le-length, sum_by-append, AllPass-from_list_all}
+pub use Rattle.std.proofs.lemmas.List.{take_all, length-drop, nil_from_length, map_push, length-map, take-map, drop-map, get_or-map, map-append, append-nil, length-append, length-set, ext_get_or, get_or-set_same, get_or-set_other, get_or_read}
 pub use Rattle.litmus_reader.specs.GrammarText.{name_in, ClosesBrackets, here, further, is_quoted, IsInformation, quotation, key_line, AreInformationLines, none, IsHeaderLine}
 unfoldable pub use Rattle.litmus_reader.specs.GrammarText.{first_line, continues_key}
 pub use Rattle.litmus_tokens.specs.Gap.{opens_comment, closes_comment}
@@ -75,7 +75,7 @@ unfoldable pub use Rattle.litmus_cells.specs.Arguments.{argument_at, two_argumen
 pub use Rattle.litmus_cells.specs.Forms.{mov_of, xchg_of, xadd_of, no_more, locked_by, by_mnemonic}
 unfoldable pub use Rattle.litmus_cells.specs.Forms.{locked_at, spelled_in}
 pub use Rattle.litmus_cells.specs.Shapes.{Shape, store_imm, store_reg, load, set_imm, set_reg, fence, xchg, xadd}
-pub use Rattle.std.proofs.lemmas.List.Elements.{All-append, All-nil, All-set, All-replicate, All-head, All-tail, All-weaker, All-filter, All-map, All-cons}
+pub use Rattle.std.proofs.lemmas.List.Elements.{All-nil, All-head, All-tail, All-weaker, All-map, All-cons}
 pub use Rattle.tso_model.specs.Litmus.{are_distinct, KnownLocation, ConstantIsWord, IsProgram, Litmus, IsTest}
 pub use Rattle.tso_model.specs.declared.instruction.Loc.{Loc}
 pub use Rattle.litmus_cells.specs.GrammarNames.{number_of, location, with_name}
