@@ -6,8 +6,8 @@
 
 The inputs are those of the gallery and the examples. tests/data/older_answers.list has a line for each: its path, the digest of its text, and
 a digest of the status and the standard output of each command line below, in this order. Lines and members that came after 1.0.0 (LATER)
-are left out before an answer is digested. An input whose text has changed since is left out, and counted. The last line is 'N passed, M
-failed'.
+are left out before an answer is digested. So are the choices that lead `outcomes` to a state, which docs/VERSIONS.md leaves open (OPEN). An
+input whose text has changed since is left out, and counted. The last line is 'N passed, M failed'.
 """
 import hashlib
 import json
@@ -27,6 +27,10 @@ COMMANDS = ("run", "run --json", "run --bus split --protocol moesi", "trace", "s
 LATER_LINES = {"outcomes": re.compile(rb"^True(?: \d+)*\nVerdict (?:Ok|No)\n\Z", re.MULTILINE)}
 LATER_MEMBERS = {"outcomes": {"holds", "verdict"}}
 
+# What docs/VERSIONS.md leaves open of an answer: which choices lead to a state.
+OPEN_LINES = {"outcomes": re.compile(rb"^By.*\n", re.MULTILINE)}
+OPEN_MEMBERS = {"outcomes": {"choices"}}
+
 # So many bytes of a digest are kept, in hexadecimal digits.
 DIGITS = 16
 
@@ -43,12 +47,14 @@ def without_members(value, names):
 
 
 def as_it_was(words, output):
-    """An answer without what came later."""
+    """An answer without what came later and what is left open."""
+    command = words[0]
     if output.startswith(b"{"):
-        kept = without_members(json.loads(output), LATER_MEMBERS.get(words[0], set()))
+        kept = without_members(json.loads(output), LATER_MEMBERS.get(command, set()) | OPEN_MEMBERS.get(command, set()))
         return (json.dumps(kept, separators=(",", ":")) + "\n").encode()
-    later = LATER_LINES.get(words[0])
-    return later.sub(b"", output) if later else output
+    for lines in (LATER_LINES, OPEN_LINES):
+        output = lines[command].sub(b"", output) if command in lines else output
+    return output
 
 
 def digest_of_answer(program, line, given):

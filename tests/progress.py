@@ -3,7 +3,7 @@
 
     tests/progress.py PROGRAM [--also PROGRAM]
 
-`outcomes` searches a test of which it keeps more than a million states, once to its end and once to the limit of --states. Standard
+`outcomes` searches a test of which it keeps more than 750,000 states, once to its end and once to the limit of --states. Standard
 output and the status are the same where standard error is a terminal and where it is a pipe. At the terminal a line says how many
 states are kept, at each 250,000 once, and how many final states were met. Each is written over the one before, and at the end what
 stands there is what stands on the pipe. A further program, which may be built without much care for speed, is asked for fewer states.
@@ -29,7 +29,7 @@ LINE = re.compile(rb"\rsearching: (\d+) states kept, (\d+) final states met")
 
 # Which runs are looked at: the words, their status, and at least how often a line comes.
 RUNS = [
-    (["outcomes", "--states", "10000000"], judging.ENDED, 4),
+    (["outcomes", "--states", "10000000"], judging.ENDED, 3),
     (["outcomes", "--states", "600000"], judging.UNFINISHED, 2),
 ]
 SHORT_RUNS = [(["outcomes", "--states", "260000"], judging.UNFINISHED, 1)]

@@ -1,5 +1,5 @@
 -- An eager choice beside any other choice.
-use Rattle.eager_laws.proofs.Vocabulary.{◌≡◌, ◌<◌, ◌≤◌, ℕ, ◌+◌, zero, suc, List, [], ◌∷◌, Bool, true, false, Option, Some, None, length, slice_get, slice_index_or, arith, ap, sym, ◌∙◌, refl, subst, inl, inr, nat_lt, if◌then◌else◌, get_or-set_same, length-set, nat_tests, action_of, location_of, Litmus, IsTest, KnownLocation, CoreState, State, Effect, idle, program_of, core_of, effect_by, step_of, drain_of, effect_of, chosen, applied, after_choice, started, start, stored, stalled, when_drained, is_none_pending, step, drain, IfSome, Reg, Loc, Instr, Action, Store, Load, Move, Fence, Lock, Entry, Choice, Step, Drain, Stall, decide, lt-or, Avoids, OthersAvoid, IsEagerBy, IsEagerStep, IsEagerDrain, IsEager, IsDead, IsSized, cases_Bool, set-get_or, no-program, no-core}
+use Rattle.eager_laws.proofs.Vocabulary.{◌≡◌, ◌<◌, ◌≤◌, ℕ, ◌+◌, zero, suc, List, [], ◌∷◌, Bool, true, false, Option, Some, None, length, slice_get, slice_index_or, arith, ap, sym, ◌∙◌, refl, subst, inl, inr, nat_lt, if◌then◌else◌, get_or-set_same, length-set, nat_tests, action_of, location_of, Litmus, IsTest, KnownLocation, CoreState, State, Effect, idle, program_of, core_of, effect_by, step_of, drain_of, effect_of, chosen, applied, after_choice, started, start, stored, stalled, when_drained, is_none_pending, step, drain, IfSome, Reg, Loc, Instr, Action, Store, Load, Move, Fence, Lock, Entry, Choice, Step, Drain, Stall, decide, lt-or, Avoids, OthersAvoid, IsEagerBy, IsEagerStep, IsEagerDrain, IsEager, IsDead, IsSized, cases_Bool, set-get_or, no-program, no-core, ◌⊎◌}
 use Rattle.tso_model.specs.declared.choice.Stall.TheVariants as stall
 use Rattle.eager_laws.proofs.Places.{length-memory}
 use Rattle.eager_laws.proofs.Avoiding.{holding, buffered}
@@ -12,21 +12,21 @@ use Rattle.eager_laws.proofs.Own.{Goes, drain-is, store-room, either-way, core-d
 pub acts-when : (why : Stall) (s : CoreState) (f : Effect) → s.pending ≡ [] → when_drained why s f ≡ f
 acts-when why s f e = rw e refl
 
-waits-when : (why : Stall) (s : CoreState) (f : Effect) (p : Entry) (ps : List Entry) → s.pending ≡ p ∷ ps → when_drained why s f ≡ stalled why s
+pub waits-when : (why : Stall) (s : CoreState) (f : Effect) (p : Entry) (ps : List Entry) → s.pending ≡ p ∷ ps → when_drained why s f ≡ stalled why s
 waits-when why s f p ps e = ap (λ xs. if is_none_pending xs then f else stalled why s) e
 
-drain-empty : (s : CoreState) → s.pending ≡ [] → drain_of s ≡ stalled stall.Empty s
+pub drain-empty : (s : CoreState) → s.pending ≡ [] → drain_of s ≡ stalled stall.Empty s
 drain-empty s q = ap (λ xs. drain_of (holding s xs)) q ∙ sym (ap (λ xs. stalled stall.Empty (holding s xs)) q)
 
-store-full : (n : ℕ) (s : CoreState) (e : Entry) → 0 < n → n ≤ length s.pending → stored n s e ≡ stalled stall.Full s
+pub store-full : (n : ℕ) (s : CoreState) (e : Entry) → 0 < n → n ≤ length s.pending → stored n s e ≡ stalled stall.Full s
 store-full zero s e p l = absurd (let z : ⊥ = omega (arith, p) in z)
 store-full (suc n) s e p l = elim (cases_Bool (nat_lt (length s.pending) (suc n))) [ inl q ↦ absurd (let z : ⊥ = grind (arith, nat_tests, l, q) in z) | inr q ↦ rw q refl ]
 
-stall-same : (s : State) (k : ℕ) (f : Effect) (why : Stall) → f ≡ stalled why (core_of s k) → applied s k f ≡ s
+pub stall-same : (s : State) (k : ℕ) (f : Effect) (why : Stall) → f ≡ stalled why (core_of s k) → applied s k f ≡ s
 stall-same s k f why q = ap (λ g. applied s k g) q ∙ ap (λ cs. record { memory = s.memory; cores = cs }) (set-get_or s.cores k idle)
 
 -- no core, no program
-no-instr : (p : List Instr) (i : ℕ) → p ≡ [] → slice_get p i ≡ None
+pub no-instr : (p : List Instr) (i : ℕ) → p ≡ [] → slice_get p i ≡ None
 no-instr p i q = ap (λ z. slice_get z i) q
 
 pub absent-same : (d : ℕ) (t : Litmus) (s : State) (c : Choice) → length s.cores ≡ length t.programs → length t.programs ≤ chosen c → after_choice t d s c ≡ s
@@ -105,7 +105,7 @@ module _ (d : ℕ) (t : Litmus) (test : IsTest t) (s : State) (sized : IsSized t
   within = let n = sized.cores in omega (arith, n, present)
 
   -- a load's location has a word
-  loads : (x : Instr) (reg : Reg) (loc : Loc) → slice_get (program_of t k) (core_of s k).place ≡ Some x → action_of x ≡ Load reg loc → loc.0 < length s.memory
+  pub loads : (x : Instr) (reg : Reg) (loc : Loc) → slice_get (program_of t k) (core_of s k).place ≡ Some x → action_of x ≡ Load reg loc → loc.0 < length s.memory
   loads x reg loc at e = subst (λ a. IfSome (location_of a) (λ l. l.0 < length s.memory)) e (location-known t s k (core_of s k).place x test sized within at)
 
   -- an eager step, and the core's drain
@@ -145,35 +145,45 @@ module _ (d : ℕ) (t : Litmus) (test : IsTest t) (s : State) (sized : IsSized t
             same = either-way d t s k h.next p ps present h.stands q g;
           })
 
+  -- with something pending the core's step stalls, or doesn't wait
+  pub stalls-or-goes : (p : Entry) (ps : List Entry) → 0 < d → (core_of s k).pending ≡ p ∷ ps
+      → (after_choice t d s (step k) ≡ s) ⊎ ((x : Instr) × (slice_get (program_of t k) (core_of s k).place ≡ Some x) × Goes d s.memory (core_of s k) (action_of x))
+  stalls-or-goes p ps buffers q = go (slice_get (program_of t k) (core_of s k).place) refl
+    where
+      Either : Type 0
+      Either = (after_choice t d s (step k) ≡ s) ⊎ ((x : Instr) × (slice_get (program_of t k) (core_of s k).place ≡ Some x) × Goes d s.memory (core_of s k) (action_of x))
+
+      stops : (why : Stall) (x : Instr) → slice_get (program_of t k) (core_of s k).place ≡ Some x → effect_by d s.memory k (action_of x) (core_of s k) ≡ stalled why (core_of s k) → Either
+      stops why x at e = inl (stall-same s k (effect_of t d s (step k)) why (ap (λ i. step_of d s.memory k i (core_of s k)) at ∙ e))
+
+      passes : (x : Instr) (a : Action) → slice_get (program_of t k) (core_of s k).place ≡ Some x → action_of x ≡ a → Goes d s.memory (core_of s k) a → Either
+      passes x a at e g = inr (x, at, subst (λ a. Goes d s.memory (core_of s k) a) (sym e) g)
+
+      by-action : (x : Instr) (a : Action) → slice_get (program_of t k) (core_of s k).place ≡ Some x → action_of x ≡ a → Either
+      by-action x (Store loc operand) at e = elim (lt-or d (length (core_of s k).pending)) [
+        | inl l ↦ passes x (Store loc operand) at e l
+        | inr l ↦ stops stall.Full x at (ap (λ a. effect_by d s.memory k a (core_of s k)) e ∙ store-full d (core_of s k) _ buffers l)
+      ]
+      by-action x (Load reg loc) at e = passes x (Load reg loc) at e (loads x reg loc at e)
+      by-action x (Move reg operand) at e = passes x (Move reg operand) at e tt
+      by-action x Fence at e = stops stall.Fence x at (ap (λ a. effect_by d s.memory k a (core_of s k)) e ∙ waits-when stall.Fence (core_of s k) _ p ps q)
+      by-action x (Lock loc reg update) at e = stops stall.Lock x at (ap (λ a. effect_by d s.memory k a (core_of s k)) e ∙ waits-when stall.Lock (core_of s k) _ p ps q)
+
+      go : (i : Option Instr) → slice_get (program_of t k) (core_of s k).place ≡ i → Either
+      go None at = inl (stall-same s k (effect_of t d s (step k)) stall.Done (ap (λ i. step_of d s.memory k i (core_of s k)) at))
+      go (Some x) at = by-action x (action_of x) at refl
+
   -- an eager drain, and the core's step
   pub drain-step : IsEagerDrain d t s k → Beside d t s (drain k) (step k)
-  drain-step h = go (slice_get (program_of t k) (core_of s k).place) refl
-    where
-      stops : (why : Stall) (x : Instr) → slice_get (program_of t k) (core_of s k).place ≡ Some x → effect_by d s.memory k (action_of x) (core_of s k) ≡ stalled why (core_of s k)
-          → Beside d t s (drain k) (step k)
-      stops why x at q = stalls (stall-same s k (effect_of t d s (step k)) why (ap (λ i. step_of d s.memory k i (core_of s k)) at ∙ q))
-
-      passes : (x : Instr) → slice_get (program_of t k) (core_of s k).place ≡ Some x → Goes d s.memory (core_of s k) (action_of x) → Beside d t s (drain k) (step k)
-      passes x at g =
-          let r = front-stepped d t s k x h.oldest h.later present at h.pending g in
-          commutes (record {
-            eager = record { oldest = h.oldest; later = r.0; pending = r.1; others = others-kept true h.oldest.loc.0 d t s k (step k) refl h.others; buffered = h.buffered };
-            same = sym (either-way d t s k x h.oldest h.later present at h.pending g);
-          })
-
-      by-action : (x : Instr) (a : Action) → slice_get (program_of t k) (core_of s k).place ≡ Some x → action_of x ≡ a → Beside d t s (drain k) (step k)
-      by-action x (Store loc operand) at e = elim (lt-or d (length (core_of s k).pending)) [
-        | inl l ↦ passes x at (subst (λ a. Goes d s.memory (core_of s k) a) (sym e) l)
-        | inr l ↦ stops stall.Full x at (ap (λ a. effect_by d s.memory k a (core_of s k)) e ∙ store-full d (core_of s k) _ h.buffered l)
-      ]
-      by-action x (Load reg loc) at e = passes x at (subst (λ a. Goes d s.memory (core_of s k) a) (sym e) (loads x reg loc at e))
-      by-action x (Move reg operand) at e = passes x at (subst (λ a. Goes d s.memory (core_of s k) a) (sym e) tt)
-      by-action x Fence at e = stops stall.Fence x at (ap (λ a. effect_by d s.memory k a (core_of s k)) e ∙ waits-when stall.Fence (core_of s k) _ h.oldest h.later h.pending)
-      by-action x (Lock loc reg update) at e = stops stall.Lock x at (ap (λ a. effect_by d s.memory k a (core_of s k)) e ∙ waits-when stall.Lock (core_of s k) _ h.oldest h.later h.pending)
-
-      go : (i : Option Instr) → slice_get (program_of t k) (core_of s k).place ≡ i → Beside d t s (drain k) (step k)
-      go None at = stalls (stall-same s k (effect_of t d s (step k)) stall.Done (ap (λ i. step_of d s.memory k i (core_of s k)) at))
-      go (Some x) at = by-action x (action_of x) at refl
+  drain-step h = elim (stalls-or-goes h.oldest h.later h.buffered h.pending) [
+    | inl q ↦ stalls q
+    | inr (x, at, g) ↦
+        let r = front-stepped d t s k x h.oldest h.later present at h.pending g in
+        commutes (record {
+          eager = record { oldest = h.oldest; later = r.0; pending = r.1; others = others-kept true h.oldest.loc.0 d t s k (step k) refl h.others; buffered = h.buffered };
+          same = sym (either-way d t s k x h.oldest h.later present at h.pending g);
+        })
+  ]
 
 -- an eager choice beside any other
 pub beside : (d : ℕ) (t : Litmus) → IsTest t → (s : State) (e c : Choice) → IsSized t s → IsEager d t s e → Beside d t s e c

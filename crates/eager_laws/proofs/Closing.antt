@@ -1,8 +1,9 @@
 -- Closed states miss none of the ended ones, but for dead registers and exchanges of cores that are alike.
-use Rattle.eager_laws.proofs.Vocabulary.{◌≡◌, ℕ, zero, suc, List, [], ◌∷◌, ◌++◌, Bool, true, length, inl, inr, refl, ap, sym, ◌∙◌, subst, Litmus, IsTest, State, start, chosen, after_choice, run, Choice, state_after, RunsStopWhereTheyEnd, lt-or, IsEager, IsDead, Reaches, IsSized, forgotten, AreAlike, exchanged_choice, exchanged, exchanged_by, IsOneOf, AreOf, AreAllAlike, IsExchangeable, LeadsEagerly, IsAmongStates, AreClosed, IsAlikeOneOf}
+use Rattle.eager_laws.proofs.Vocabulary.{◌≡◌, ◌<◌, ◌⊎◌, ℕ, zero, suc, List, [], ◌∷◌, ◌++◌, Bool, true, length, inl, inr, refl, ap, sym, ◌∙◌, subst, Litmus, IsTest, State, start, chosen, after_choice, run, Choice, state_after, RunsStopWhereTheyEnd, lt-or, IsEager, IsDead, Reaches, IsSized, forgotten, AreAlike, exchanged_choice, exchanged, exchanged_by, IsOneOf, AreOf, AreAllAlike, IsExchangeable, LeadsEagerly, IsAmongStates, IsCovered, AreClosed, IsPartlyExpanded, ArePartlyClosed, IsAlikeOneOf}
 use Rattle.eager_laws.proofs.Waits.{eager-first}
 use Rattle.eager_laws.proofs.Alike.{alike-after}
-use Rattle.eager_laws.proofs.EagerAlike.{eager-alike}
+use Rattle.eager_laws.proofs.EagerAlike.{eager-alike, stubborn-alike}
+use Rattle.eager_laws.proofs.First.{one-first}
 use Rattle.eager_laws.proofs.Seeing.{forgotten-twice}
 use Rattle.eager_laws.proofs.Names.{choice-twice, cores-exchanged}
 use Rattle.eager_laws.proofs.Exchanging.{exchangeable, length-forgotten}
@@ -99,7 +100,7 @@ module _ (d : ℕ) (t : Litmus) (test : IsTest t) where
           reaches = eager-one last dead n h.real e h.sized eager h.reaches;
         })
 
-    module _ (pairs : List (ℕ × ℕ)) (all : AreAllAlike t hidden pairs) (states : List State) (closed : AreClosed d t hidden pairs states) where
+    module _ (pairs : List (ℕ × ℕ)) (all : AreAllAlike t hidden pairs) (states : List State) (closed : ArePartlyClosed d t hidden pairs states) where
       -- what exchanges make of the state is alike one of the list, so the state is too
       unexchanged : (es : List (ℕ × ℕ)) → AreOf pairs es → (last : State) → IsAlikeOneOf t hidden pairs states (exchanged_by es last) → IsAlikeOneOf t hidden pairs states last
       unexchanged es h last w = record {
@@ -126,21 +127,36 @@ module _ (d : ℕ) (t : Litmus) (test : IsTest t) where
           (alike-by d t hidden pairs all es h (forgotten t hidden s) f.real n2 f.sized.cores (forgotten-twice t hidden s ∙ f.alike))
           (reaches-by d t hidden pairs all es h n f.real last f.sized f.reaches))
 
-      within : (n : ℕ) → StandsFor n
-      within zero last dead s u m z a q = record { exchanges = []; of_pairs = tt; kept = s; among = m; alike = subst (λ y. AreAlike t hidden s y) q a }
-      within (suc n) last dead s u m z a (inl h) = within n last dead s u m z a h
-      within (suc n) last dead s u m z a (inr (c, h)) =
+      -- one choice, and then what is left of the way
+      taken : (n : ℕ) → StandsFor n → (last : State) → IsDead d t last → (s u : State) → IsAmongStates states s → IsSized t u → AreAlike t hidden s u → (c : Choice) → Reaches d t n (after_choice t d u c) last
+          → (chosen c < length t.programs → (after_choice t d s c ≡ s) ⊎ IsCovered d t hidden pairs states (after_choice t d s c)) → IsAlikeOneOf t hidden pairs states last
+      taken n later last dead s u m z a c h each =
           let after = alike-after t hidden s u a d c in
           let sized = sized-after d t u c z in
           elim (lt-or (length t.programs) (chosen c)) [
-            | inr l ↦ within n last dead s u m z a (subst (λ y. Reaches d t n y last) (absent-same d t u c z.cores l) h)
-            | inl l ↦ elim (closed.each s m c l) [
-              | inl q ↦ within n last dead s (after_choice t d u c) m sized (subst (λ y. AreAlike t hidden y (after_choice t d u c)) q after) h
+            | inr l ↦ later last dead s u m z a (subst (λ y. Reaches d t n y last) (absent-same d t u c z.cores l) h)
+            | inl l ↦ elim (each l) [
+              | inl q ↦ later last dead s (after_choice t d u c) m sized (subst (λ y. AreAlike t hidden y (after_choice t d u c)) q after) h
               | inr v ↦
-                  turned n (within n) last dead v.last v.exchanges v.of_pairs v.among
+                  turned n later last dead v.last v.exchanges v.of_pairs v.among
                   (along last dead n (after_choice t d s c) v.last v.eager v.leads (record { real = after_choice t d u c; sized = sized; alike = after; reaches = h }))
             ]
           ]
+
+      -- one of a stubborn set, made first
+      partly-taken : (n : ℕ) → StandsFor n → (last : State) → IsDead d t last → (s u : State) → IsAmongStates states s → IsSized t u → AreAlike t hidden s u
+          → IsPartlyExpanded d t hidden pairs states s → Reaches d t (suc n) u last → IsAlikeOneOf t hidden pairs states last
+      partly-taken n later last dead s u m z a part way =
+          let f = one-first d t test part.set last dead n u z (stubborn-alike t hidden s u a d part.set part.stubborn) way in
+          taken n later last dead s u m z a f.0 f.2 (part.each f.0 f.1)
+
+      within : (n : ℕ) → StandsFor n
+      within zero last dead s u m z a q = record { exchanges = []; of_pairs = tt; kept = s; among = m; alike = subst (λ y. AreAlike t hidden s y) q a }
+      within (suc n) last dead s u m z a (inl h) = within n last dead s u m z a h
+      within (suc n) last dead s u m z a (inr (c, h)) = elim (closed.each s m) [
+        | inl all ↦ taken n (within n) last dead s u m z a c h (all c)
+        | inr part ↦ partly-taken n (within n) last dead s u m z a part (inr (c, h))
+      ]
 
       pub from-start : (last : State) → IsDead d t last → (n : ℕ) → Reaches d t n (start t) last → IsAlikeOneOf t hidden pairs states last
       from-start last dead n h =
@@ -148,9 +164,14 @@ module _ (d : ℕ) (t : Litmus) (test : IsTest t) where
           turned n (within n) last dead f.last f.exchanges f.of_pairs f.among
           (along last dead n (start t) f.last f.eager f.leads (record { real = start t; sized = sized-start t test; alike = refl; reaches = h }))
 
-pub miss-none : RunsStopWhereTheyEnd → (d : ℕ) (t : Litmus) (hidden : List (List Bool)) (pairs : List (ℕ × ℕ)) (states : List State) (choices : List Choice) → IsTest t
-    → AreAllAlike t hidden pairs → AreClosed d t hidden pairs states → (run t d choices).ended ≡ true → IsAlikeOneOf t hidden pairs states (run t d choices).state
-miss-none law d t hidden pairs states choices test all closed e =
+pub partly-miss-none : RunsStopWhereTheyEnd → (d : ℕ) (t : Litmus) (hidden : List (List Bool)) (pairs : List (ℕ × ℕ)) (states : List State) (choices : List Choice) → IsTest t
+    → AreAllAlike t hidden pairs → ArePartlyClosed d t hidden pairs states → (run t d choices).ended ≡ true → IsAlikeOneOf t hidden pairs states (run t d choices).state
+partly-miss-none law d t hidden pairs states choices test all closed e =
     let r : State = (run t d choices).state in
     from-start d t test hidden pairs all states closed r (λ c. (law.nothing_more t d choices c e).same) (length choices)
     (subst (λ y. Reaches d t (length choices) (start t) y) (sym (law.stops t d choices).all_state) (reaches-after d t (start t) choices))
+
+pub miss-none : RunsStopWhereTheyEnd → (d : ℕ) (t : Litmus) (hidden : List (List Bool)) (pairs : List (ℕ × ℕ)) (states : List State) (choices : List Choice) → IsTest t
+    → AreAllAlike t hidden pairs → AreClosed d t hidden pairs states → (run t d choices).ended ≡ true → IsAlikeOneOf t hidden pairs states (run t d choices).state
+miss-none law d t hidden pairs states choices test all closed e =
+    partly-miss-none law d t hidden pairs states choices test all (record { first = closed.first; each = λ s m. inl (closed.each s m) }) e

@@ -5,6 +5,9 @@ pub mod Avoiding
 pub mod Others
 pub mod Own
 pub mod Beside
+pub mod Held
+pub mod Apart
+pub mod First
 pub mod Clearing
 pub mod Alike
 pub mod Seeing

@@ -11,13 +11,13 @@ SameFor memory other (Load reg loc) = slice_index memory loc.0 ≡ slice_index o
 SameFor memory other (Lock loc reg update) = slice_index memory loc.0 ≡ slice_index other loc.0
 SameFor memory other _ = Unit {0}
 
-action-same : (d core : ℕ) (memory other : List ℕ) (a : Action) (s : CoreState) → SameFor memory other a → effect_by d memory core a s ≡ effect_by d other core a s
+pub action-same : (d core : ℕ) (memory other : List ℕ) (a : Action) (s : CoreState) → SameFor memory other a → effect_by d memory core a s ≡ effect_by d other core a s
 action-same d core memory other (Load reg loc) s h =
     ap (λ w. loaded s reg (entry core s.place R loc (last_value (filter (writes_to loc.0) s.pending) w))) h
 action-same d core memory other (Lock loc reg update) s h = ap (λ w. locked core s loc reg w (updated update w (value_in s.registers reg))) h
 action-same d core memory other _ s h = refl
 
-step-same : (d core : ℕ) (memory other : List ℕ) (p : List Instr) (s r : CoreState) → r ≡ s
+pub step-same : (d core : ℕ) (memory other : List ℕ) (p : List Instr) (s r : CoreState) → r ≡ s
     → ((x : Instr) → slice_get p s.place ≡ Some x → SameFor memory other (action_of x))
     → step_of d memory core (slice_get p r.place) r ≡ step_of d other core (slice_get p s.place) s
 step-same d core memory other p s r q h = ap (λ z. step_of d memory core (slice_get p z.place) z) q ∙ go (slice_get p s.place) h
@@ -27,11 +27,11 @@ step-same d core memory other p s r q h = ap (λ z. step_of d memory core (slice
     go (Some x) h = action-same d core memory other (action_of x) s (h x refl)
 
 -- what a choice of core j writes is elsewhere
-choice-avoids : (loads : Bool) (l d : ℕ) (t : Litmus) (s : State) (c : Choice) → Avoids loads l (program_of t (chosen c)) (core_of s (chosen c)) → NotAt l (effect_of t d s c).commits
+pub choice-avoids : (loads : Bool) (l d : ℕ) (t : Litmus) (s : State) (c : Choice) → Avoids loads l (program_of t (chosen c)) (core_of s (chosen c)) → NotAt l (effect_of t d s c).commits
 choice-avoids loads l d t s (Step j) v = step-avoids loads l d j.0 s.memory (program_of t j.0) (core_of s j.0) v
 choice-avoids loads l d t s (Drain j) v = drain-avoids loads l (program_of t j.0) (core_of s j.0) v
 
-choice-after : (loads : Bool) (l d : ℕ) (t : Litmus) (s : State) (c : Choice) → Avoids loads l (program_of t (chosen c)) (core_of s (chosen c))
+pub choice-after : (loads : Bool) (l d : ℕ) (t : Litmus) (s : State) (c : Choice) → Avoids loads l (program_of t (chosen c)) (core_of s (chosen c))
     → Avoids loads l (program_of t (chosen c)) (effect_of t d s c).after
 choice-after loads l d t s (Step j) v = step-after loads l d j.0 s.memory (program_of t j.0) (core_of s j.0) v
 choice-after loads l d t s (Drain j) v = drain-after loads l (program_of t j.0) (core_of s j.0) v
@@ -76,12 +76,12 @@ zone d t s (Drain k) h =
 
 -- ---- the other core's choice does the same after the eager one
 
-met : (a : Action) (l : ℕ) (memory other : List ℕ) → meets true l a ≡ false → ((m : ℕ) → m ≢ l → slice_index memory m ≡ slice_index other m) → SameFor memory other a
+pub met : (a : Action) (l : ℕ) (memory other : List ℕ) → meets true l a ≡ false → ((m : ℕ) → m ≢ l → slice_index memory m ≡ slice_index other m) → SameFor memory other a
 met (Load reg loc) l memory other h f = f loc.0 (differ loc.0 l h)
 met (Lock loc reg update) l memory other h f = f loc.0 (differ loc.0 l h)
 met _ l memory other h f = tt
 
-same-all : (a : Action) (memory other : List ℕ) → memory ≡ other → SameFor memory other a
+pub same-all : (a : Action) (memory other : List ℕ) → memory ≡ other → SameFor memory other a
 same-all (Load reg loc) memory other q = ap (λ z. slice_index z loc.0) q
 same-all (Lock loc reg update) memory other q = ap (λ z. slice_index z loc.0) q
 same-all _ memory other q = tt

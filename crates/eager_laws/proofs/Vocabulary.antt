@@ -9,7 +9,7 @@ pub use Rattle.tso_model.specs.declared.action.Action.TheVariants.{Store, Load, 
 pub use Rattle.eager_laws.specs.Eager.{Avoids, OthersAvoid, IsEagerBy, IsEager, IsEagerStep, IsEagerDrain, meets}
 pub use Rattle.eager_laws.specs.Dead.{hidden_of, AreAlike, dead_before, dead_at, cleared, forgotten_core, forgotten_cores, forgotten, unless_read, none_hidden, seen_from, seen}
 pub use Rattle.std.proofs.lemmas.Bool.Decides.{nat_tests}
-pub use Rattle.std.specs.Prelude.{filter, IfSome}
+pub use Rattle.std.specs.Prelude.{filter, IfSome, ◌⊎◌}
 pub use Rattle.tso_model.specs.Axioms.{last_value}
 pub use Rattle.tso_model.specs.ProgramOrder.{is_write, writes_to}
 pub use Rattle.tso_model.specs.Thread.{entry, value_of, with_value, updated, value_in}
@@ -25,4 +25,6 @@ pub use Rattle.tso_model.specs.Runs.{run, stall_count, is_done, all_done, has_en
 pub use Rattle.tso_laws.specs.Choices.{state_after}
 pub use Rattle.tso_laws.specs.inner.Laws.{RunsStopWhereTheyEnd}
 pub use Rattle.eager_laws.specs.inner.Ending.{IsDead, Reaches, IsSized}
-pub use Rattle.eager_laws.specs.Closed.{LeadsEagerly, IsAmongStates, AreClosed, IsAlikeOneOf}
+pub use Rattle.eager_laws.specs.Closed.{LeadsEagerly, IsAmongStates, IsCovered, AreClosed, IsPartlyExpanded, ArePartlyClosed, IsAlikeOneOf}
+pub use Rattle.eager_laws.specs.Stubborn.{ChoiceSet, has_step, has_drain, has_choice, HasPending, HasNonePending, IsHeldBack, OthersAreHeldBack, IsApartBy, IsApartStep, IsApartDrain, IsStubborn}
+pub use Rattle.eager_laws.specs.Stubborn.IsHeldBack.{away, by_drain, by_step}

@@ -6,6 +6,7 @@ use Rattle.tso_model.specs.FlatMachine.{State, start, chosen, after_choice}
 use Rattle.tso_model.specs.Runs.{run}
 use Rattle.tso_model.specs.declared.choice.Choice.{Choice}
 use Rattle.eager_laws.specs.Eager.{IsEager}
+use Rattle.eager_laws.specs.Stubborn.{ChoiceSet, has_choice, IsStubborn}
 use Rattle.eager_laws.specs.Dead.{forgotten, AreAlike}
 use Rattle.eager_laws.specs.Exchanged.{exchanged_by, AreOf, AreAllAlike}
 
@@ -38,6 +39,22 @@ pub record AreClosed (depth : ℕ) (t : Litmus) (hidden : List (List Bool)) (pai
   pub first : IsCovered depth t hidden pairs states (start t)
   pub each : (state : State) → IsAmongStates states state → IsExpanded depth t hidden pairs states state
 
+-- each choice of a stubborn set leads from the state to one that is covered, or stalls
+pub record IsPartlyExpanded (depth : ℕ) (t : Litmus) (hidden : List (List Bool)) (pairs : List (ℕ × ℕ)) (states : List State) (state : State) : Type 0 where
+  pub set : ChoiceSet
+  pub stubborn : IsStubborn depth t set state
+  pub each : (c : Choice) → has_choice set c ≡ true → chosen c < length t.programs
+      → (after_choice t depth state c ≡ state) ⊎ IsCovered depth t hidden pairs states (after_choice t depth state c)
+
+-- every choice does so, or each of a stubborn set
+abbrev pub IsExpandedEnough : ℕ → Litmus → List (List Bool) → List (ℕ × ℕ) → List State → State → Type 0
+IsExpandedEnough depth t hidden pairs states state = IsExpanded depth t hidden pairs states state ⊎ IsPartlyExpanded depth t hidden pairs states state
+
+-- the first state is covered, and each of the states is expanded, or a stubborn set of it
+pub record ArePartlyClosed (depth : ℕ) (t : Litmus) (hidden : List (List Bool)) (pairs : List (ℕ × ℕ)) (states : List State) : Type 0 where
+  pub first : IsCovered depth t hidden pairs states (start t)
+  pub each : (state : State) → IsAmongStates states state → IsExpandedEnough depth t hidden pairs states state
+
 -- one of these differs in dead registers alone from what exchanges make of the state
 pub record IsAlikeOneOf (t : Litmus) (hidden : List (List Bool)) (pairs : List (ℕ × ℕ)) (states : List State) (state : State) : Type 0 where
   pub exchanges : List (ℕ × ℕ)
@@ -52,4 +69,11 @@ abbrev pub ClosedStatesMissNone : Type 0
 ClosedStatesMissNone =
     (depth : ℕ) (t : Litmus) (hidden : List (List Bool)) (pairs : List (ℕ × ℕ)) (states : List State) (choices : List Choice)
     → IsTest t → AreAllAlike t hidden pairs → AreClosed depth t hidden pairs states → (run t depth choices).ended ≡ true
+    → IsAlikeOneOf t hidden pairs states (run t depth choices).state
+
+-- so it is where of some of the states only a stubborn set is expanded
+abbrev pub PartlyClosedStatesMissNone : Type 0
+PartlyClosedStatesMissNone =
+    (depth : ℕ) (t : Litmus) (hidden : List (List Bool)) (pairs : List (ℕ × ℕ)) (states : List State) (choices : List Choice)
+    → IsTest t → AreAllAlike t hidden pairs → ArePartlyClosed depth t hidden pairs states → (run t depth choices).ended ≡ true
     → IsAlikeOneOf t hidden pairs states (run t depth choices).state

@@ -2,7 +2,7 @@
 //! do dead registers, or one of two states that differ by which of two alike cores is which. A choice that is called eager
 //! and isn't, a register called dead that is read, or cores called alike that differ, would make a search miss final states.
 
-ghost use Rattle.eager_laws.specs.Closed.{ClosedStatesMissNone};
+ghost use Rattle.eager_laws.specs.Closed.{ClosedStatesMissNone, PartlyClosedStatesMissNone};
 ghost use Rattle.eager_laws.specs.Dead.{DeadRegistersChangeNothing};
 ghost use Rattle.eager_laws.specs.Eager.{EagerChoicesTakeEffect};
 ghost use Rattle.eager_laws.specs.Exchanged.{AlikeCoresAreExchangeable};
@@ -14,6 +14,13 @@ use tso_laws::runs_stop_where_they_end;
 /// cores that are alike may be exchanged.
 pub fn closed_states_miss_none()
     ensures { ClosedStatesMissNone }
+{
+    runs_stop_where_they_end();
+}
+
+/// So has a list that has, of some of its states, only what the choices of a stubborn set make of them.
+pub fn partly_closed_states_miss_none()
+    ensures { PartlyClosedStatesMissNone }
 {
     runs_stop_where_they_end();
 }

@@ -1,5 +1,5 @@
 -- The final states among the snapshots, one more at a time.
-use Rattle.explorer.proofs.Vocabulary.{◌≡◌, ◌<◌, ℕ, ◌+◌, Bool, true, false, List, [], ◌∷◌, ◌++◌, length, map, Some, slice_get, inl, inr, arith, ap, sym, ◌∙◌, subst, refl, IsDistinct, lt-or, Litmus, IsTest, State, registers_in, run, has_ended, RunsStopWhereTheyEnd, ClosedStatesMissNone, forgotten, AreAlike, seen, DeadRegistersChangeNothing, AreAllAlike, AlikeCoresAreExchangeable, state_of_snapshot, HaveCores, AreReached, Have, HaveEveryEnd, AreDistinct, IsFinalOf, IsMadeOf, AreFinalsOf, MissesNoEnd, Snapshot, FinalState}
+use Rattle.explorer.proofs.Vocabulary.{◌≡◌, ◌<◌, ℕ, ◌+◌, Bool, true, false, List, [], ◌∷◌, ◌++◌, length, map, Some, slice_get, inl, inr, arith, ap, sym, ◌∙◌, subst, refl, IsDistinct, lt-or, Litmus, IsTest, State, registers_in, run, has_ended, RunsStopWhereTheyEnd, PartlyClosedStatesMissNone, forgotten, AreAlike, seen, DeadRegistersChangeNothing, AreAllAlike, AlikeCoresAreExchangeable, state_of_snapshot, HaveCores, AreReached, Have, HaveEveryEnd, AreDistinct, IsFinalOf, IsMadeOf, AreFinalsOf, MissesNoEnd, Snapshot, FinalState}
 use Rattle.flat_machine.specs.contracts.snapshot.SnapshotPartialEq.TheImpl as snapshot_eq
 use Rattle.explorer.proofs.Counting.{apart}
 use Rattle.explorer.proofs.Ending.{ended-same, leads-to-end}
@@ -136,7 +136,7 @@ pub record AreAll (d : ℕ) (t : Litmus) (hidden : List (List Bool)) (pairs : Li
   pub cores : HaveCores t xs
   pub whole : MissesNoEnd d t hidden pairs xs
 
-finals-complete : DeadRegistersChangeNothing → AlikeCoresAreExchangeable → ClosedStatesMissNone → RunsStopWhereTheyEnd → (d : ℕ) (t : Litmus) (hidden : List (List Bool)) (pairs : List (ℕ × ℕ))
+finals-complete : DeadRegistersChangeNothing → AlikeCoresAreExchangeable → PartlyClosedStatesMissNone → RunsStopWhereTheyEnd → (d : ℕ) (t : Litmus) (hidden : List (List Bool)) (pairs : List (ℕ × ℕ))
     (xs : List Snapshot) (fs : List FinalState) → IsTest t → AreAll d t hidden pairs xs → AreFinalsOf d t hidden xs (length xs) fs → HaveEveryEnd t d hidden fs
 finals-complete law all closed stop d t hidden pairs xs fs test w h registers memory e =
     let m = closed d t hidden pairs (map state_of_snapshot w.whole.earlier) e.choices test w.alike w.whole.closed e.ended in
@@ -170,7 +170,7 @@ met law d e t u hidden other xs fs p q r h =
     record { reached = finals-reached law e u other xs (length xs) fs same; once = same.once }
 
 -- that is every end, where the search came to its own
-pub all-met : DeadRegistersChangeNothing → AlikeCoresAreExchangeable → ClosedStatesMissNone → RunsStopWhereTheyEnd → (d e : ℕ) (t u : Litmus) (hidden other : List (List Bool)) (pairs : List (ℕ × ℕ))
+pub all-met : DeadRegistersChangeNothing → AlikeCoresAreExchangeable → PartlyClosedStatesMissNone → RunsStopWhereTheyEnd → (d e : ℕ) (t u : Litmus) (hidden other : List (List Bool)) (pairs : List (ℕ × ℕ))
     (xs : List Snapshot) (fs : List FinalState) → d ≡ e → t ≡ u → hidden ≡ other → IsTest u → AreAll d t hidden pairs xs → AreFinalsOf d t hidden xs (length xs) fs → HaveEveryEnd u e other fs
 all-met law all closed stop d e t u hidden other pairs xs fs p q r test w h =
     finals-complete law all closed stop e u other pairs xs fs test (went-by (λ a b c. AreAll a b c pairs xs) d e t u hidden other p q r w)

@@ -1,6 +1,7 @@
 pub mod Vocabulary
 pub mod Same
 pub mod Absent
+pub mod Marks
 pub mod Exchanging
 pub mod Linking
 pub mod Mapping

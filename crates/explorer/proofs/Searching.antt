@@ -1,5 +1,5 @@
 -- What the search keeps, step by step.
-use Rattle.explorer.proofs.Vocabulary.{◌≡◌, ◌<◌, ◌≤◌, ℕ, ◌+◌, zero, suc, Bool, true, false, List, [], ◌∷◌, ◌++◌, length, map, Some, slice_get, slice_index_or, if◌then◌else◌, inl, inr, arith, ap, sym, ◌∙◌, subst, refl, append_assoc, length-append, drop, ◌==◌, ◌||◌, list_any, insert_key, lt-or, append-nil, Litmus, State, after_choice, effect_of, start, chosen, step, drain, Entry, Choice, Step, Drain, stall_count, IsEager, LeadsEagerly, IsAmongStates, IsCovered, IsExpanded, AreClosed, forgotten, exchanged_by, state_of_snapshot, LeadsBy, IsSettled, Grows, HaveCores, IsFirstKept, IsReachedByChoice, IsVisited, AreVisited, AreLinked, Snapshot, Link, Made, Exchanged}
+use Rattle.explorer.proofs.Vocabulary.{◌≡◌, ◌<◌, ◌≤◌, ℕ, ◌+◌, zero, suc, Bool, true, false, List, [], ◌∷◌, ◌++◌, length, map, Some, slice_get, slice_index_or, if◌then◌else◌, inl, inr, arith, ap, sym, ◌∙◌, subst, refl, append_assoc, length-append, drop, ◌==◌, ◌||◌, list_any, insert_key, lt-or, append-nil, Litmus, State, after_choice, effect_of, start, chosen, step, drain, Entry, Choice, Step, Drain, stall_count, IsEager, LeadsEagerly, IsAmongStates, IsCovered, IsExpanded, IsExpandedEnough, ArePartlyClosed, ChoiceSet, has_choice, IsStubborn, ArePicksVisited, forgotten, exchanged_by, state_of_snapshot, LeadsBy, IsSettled, Grows, HaveCores, IsFirstKept, IsReachedByChoice, IsVisited, AreVisited, AreLinked, Snapshot, Link, Made, Exchanged}
 use Rattle.explorer.proofs.Exchanging.{none-alike}
 use Rattle.explorer.proofs.Linking.{get-left, get-back, leads-append, linked-first}
 
@@ -60,8 +60,10 @@ pub visited-grown : (d : ℕ) (t : Litmus) (hidden : List (List Bool)) (pairs : 
 visited-grown d t hidden pairs xs ys s c g (inl q) = inl q
 visited-grown d t hidden pairs xs ys s c g (inr h) = inr (covered-grown d t hidden pairs xs ys (after_choice t d s c) g h)
 
-pub expanded-grown : (d : ℕ) (t : Litmus) (hidden : List (List Bool)) (pairs : List (ℕ × ℕ)) (xs ys : List Snapshot) (s : State) → Grows xs ys → IsExpanded d t hidden pairs (map state_of_snapshot xs) s → IsExpanded d t hidden pairs (map state_of_snapshot ys) s
-expanded-grown d t hidden pairs xs ys s g h c l = visited-grown d t hidden pairs xs ys s c g (h c l)
+pub expanded-grown : (d : ℕ) (t : Litmus) (hidden : List (List Bool)) (pairs : List (ℕ × ℕ)) (xs ys : List Snapshot) (s : State) → Grows xs ys → IsExpandedEnough d t hidden pairs (map state_of_snapshot xs) s → IsExpandedEnough d t hidden pairs (map state_of_snapshot ys) s
+expanded-grown d t hidden pairs xs ys s g (inl h) = inl (λ c l. visited-grown d t hidden pairs xs ys s c g (h c l))
+expanded-grown d t hidden pairs xs ys s g (inr h) =
+    inr (record { set = h.set; stubborn = h.stubborn; each = λ c q l. visited-grown d t hidden pairs xs ys s c g (h.each c q l) })
 
 -- ---- the place of a snapshot
 
@@ -100,14 +102,35 @@ pub expands : (d : ℕ) (t : Litmus) (hidden : List (List Bool)) (pairs : List (
 expands d t hidden pairs xs s h (Step k) l = (h k.0 l).0
 expands d t hidden pairs xs s h (Drain k) l = (h k.0 l).1
 
+-- and those of a stubborn set
+pub expands-partly : (d : ℕ) (t : Litmus) (hidden : List (List Bool)) (pairs : List (ℕ × ℕ)) (xs : List Snapshot) (s : State) (set : ChoiceSet) → IsStubborn d t set s
+    → ((k : ℕ) → k < length t.programs → ArePicksVisited d t hidden pairs xs s set k) → IsExpandedEnough d t hidden pairs (map state_of_snapshot xs) s
+expands-partly d t hidden pairs xs s set st h = inr (record { set = set; stubborn = st; each = each })
+  where
+    each : (c : Choice) → has_choice set c ≡ true → chosen c < length t.programs → IsVisited d t hidden pairs xs s c
+    each (Step k) q l = (h k.0 l).0 q
+    each (Drain k) q l = (h k.0 l).1 q
+
+pub picks-grown : (d : ℕ) (t : Litmus) (hidden : List (List Bool)) (pairs : List (ℕ × ℕ)) (xs ys : List Snapshot) (s : State) (set : ChoiceSet) (k : ℕ) → Grows xs ys
+    → ArePicksVisited d t hidden pairs xs s set k → ArePicksVisited d t hidden pairs ys s set k
+picks-grown d t hidden pairs xs ys s set k g h =
+    (λ q. visited-grown d t hidden pairs xs ys s (step k) g (h.0 q), λ q. visited-grown d t hidden pairs xs ys s (drain k) g (h.1 q))
+
+pub picks-more : (d : ℕ) (t : Litmus) (hidden : List (List Bool)) (pairs : List (ℕ × ℕ)) (xs ys : List Snapshot) (s : State) (set : ChoiceSet) (n : ℕ) → Grows xs ys
+    → ((k : ℕ) → k < n → ArePicksVisited d t hidden pairs xs s set k) → ArePicksVisited d t hidden pairs ys s set n → (k : ℕ) → k < n + 1 → ArePicksVisited d t hidden pairs ys s set k
+picks-more d t hidden pairs xs ys s set n g before now k l = elim (lt-or n k) [
+  | inl m ↦ picks-grown d t hidden pairs xs ys s set k g (before k m)
+  | inr m ↦ let q : n ≡ k = omega (arith, l, m) in subst (λ z. ArePicksVisited d t hidden pairs ys s set z) q now
+]
+
 pub closes : (d : ℕ) (t : Litmus) (hidden : List (List Bool)) (pairs : List (ℕ × ℕ)) (xs : List Snapshot) (n : ℕ) → length xs ≤ n → IsCovered d t hidden pairs (map state_of_snapshot xs) (start t)
-    → ((i : ℕ) (x : Snapshot) → i < n → slice_get xs i ≡ Some x → IsExpanded d t hidden pairs (map state_of_snapshot xs) (state_of_snapshot x)) → AreClosed d t hidden pairs (map state_of_snapshot xs)
+    → ((i : ℕ) (x : Snapshot) → i < n → slice_get xs i ≡ Some x → IsExpandedEnough d t hidden pairs (map state_of_snapshot xs) (state_of_snapshot x)) → ArePartlyClosed d t hidden pairs (map state_of_snapshot xs)
 closes d t hidden pairs xs n l first each = record {
   first = first;
   each = λ s m.
       let r = from-list xs m.0 s m.1 in
       let k = r.3 in
-      subst (λ z. IsExpanded d t hidden pairs (map state_of_snapshot xs) z) r.2 (each m.0 r.0 (omega (arith, l, k)) r.1);
+      subst (λ z. IsExpandedEnough d t hidden pairs (map state_of_snapshot xs) z) r.2 (each m.0 r.0 (omega (arith, l, k)) r.1);
 }
 
 pub grown-within : (xs ys : List Snapshot) (i : ℕ) → Grows xs ys → i < length xs → i < length ys
@@ -123,9 +146,9 @@ visited-more d t hidden pairs xs ys s n g before now k l = elim (lt-or n k) [
 
 -- one snapshot more is expanded
 pub expanded-more : (d : ℕ) (t : Litmus) (hidden : List (List Bool)) (pairs : List (ℕ × ℕ)) (xs ys : List Snapshot) (n : ℕ) → n < length xs → Grows xs ys
-    → ((i : ℕ) (x : Snapshot) → i < n → slice_get xs i ≡ Some x → IsExpanded d t hidden pairs (map state_of_snapshot xs) (state_of_snapshot x))
-    → ((x : Snapshot) → slice_get xs n ≡ Some x → IsExpanded d t hidden pairs (map state_of_snapshot ys) (state_of_snapshot x))
-    → (i : ℕ) (x : Snapshot) → i < n + 1 → slice_get ys i ≡ Some x → IsExpanded d t hidden pairs (map state_of_snapshot ys) (state_of_snapshot x)
+    → ((i : ℕ) (x : Snapshot) → i < n → slice_get xs i ≡ Some x → IsExpandedEnough d t hidden pairs (map state_of_snapshot xs) (state_of_snapshot x))
+    → ((x : Snapshot) → slice_get xs n ≡ Some x → IsExpandedEnough d t hidden pairs (map state_of_snapshot ys) (state_of_snapshot x))
+    → (i : ℕ) (x : Snapshot) → i < n + 1 → slice_get ys i ≡ Some x → IsExpandedEnough d t hidden pairs (map state_of_snapshot ys) (state_of_snapshot x)
 expanded-more d t hidden pairs xs ys n within g before now i x l q =
     let m : i < length xs = omega (arith, l, within) in
     let old : slice_get xs i ≡ Some x = get-back xs g.0 i x m (subst (λ z. slice_get z i ≡ Some x) g.1 q) in

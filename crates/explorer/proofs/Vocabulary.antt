@@ -23,9 +23,9 @@ unfoldable pub use Rattle.std.specs.List.{IsDistinct}
 pub use Rattle.indexmap.specs.IndexSet.{insert_key}
 pub use Rattle.tso_model.specs.Runs.{stall_count, CoresExist, is_done, all_done, has_ended, resting, then_run, run_from, run}
 pub use Rattle.eager_laws.specs.Eager.{IsEager, Avoids, meets}
-pub use Rattle.eager_laws.specs.Closed.{LeadsEagerly, IsAmongStates, IsCovered, IsExpanded, AreClosed, ClosedStatesMissNone}
+pub use Rattle.eager_laws.specs.Closed.{LeadsEagerly, IsAmongStates, IsCovered, IsExpanded, IsExpandedEnough, ArePartlyClosed, PartlyClosedStatesMissNone}
 pub use Rattle.explorer.specs.Settled.{LeadsBy, IsSettled, LeadsToForgotten}
-pub use Rattle.explorer.specs.inner.Settled.{Grows, HaveCores, IsFirstKept, IsReachedByChoice, IsVisited, AreVisited, AreLinked, LeadByTurns, IsLinked, IsPath, GoBack, LeadToExchanged}
+pub use Rattle.explorer.specs.inner.Settled.{Grows, HaveCores, IsFirstKept, IsReachedByChoice, IsVisited, AreVisited, ArePicksVisited, AreLinked, LeadByTurns, IsLinked, IsPath, GoBack, LeadToExchanged}
 pub use Rattle.flat_machine.specs.declared.snapshot.Snapshot.{Snapshot}
 pub use Rattle.explorer.specs.declared.link.Link.{Link}
 pub use Rattle.explorer.specs.declared.link.Turn.TheVariants.{Made, Exchanged}
@@ -43,3 +43,6 @@ pub use Rattle.tso_laws.specs.inner.Laws.{RunsStopWhereTheyEnd}
 pub use Rattle.explorer.specs.inner.Collected.{IsFinalOf, IsMadeOf, AreFinalsOf, MissesNoEnd}
 pub use Rattle.std.specs.declared.vec.Vec.{Vec}
 pub use Rattle.std.specs.declared.alloc.Global.{Global}
+pub use Rattle.eager_laws.specs.Stubborn.{ChoiceSet, has_step, has_drain, has_choice, HasPending, HasNonePending, IsHeldBack, OthersAreHeldBack, IsApartBy, IsApartStep, IsApartDrain, IsStubborn, away, by_drain, by_step}
+pub use Rattle.explorer.specs.inner.Picked.{set_of, ArePicksApart}
+pub use Rattle.explorer.specs.declared.stubborn.Picked.{Picked}

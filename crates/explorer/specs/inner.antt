@@ -3,3 +3,4 @@ pub mod Arranged
 pub mod Collected
 pub mod Settled
 pub mod Planned
+pub mod Picked

@@ -15,7 +15,7 @@ use tso_model::{Action, Choice, Core, Entry, Instr, Loc, NoMemory, Test};
 const MOST_CHOICES: usize = 512;
 
 /// Whether an action writes this location or, where loads count, loads it.
-fn meets(action: Action, loads: bool, loc: Loc) -> bool
+pub fn meets(action: Action, loads: bool, loc: Loc) -> bool
     ensures { result ≡ Rattle.eager_laws.specs.Eager.meets loads loc.0 action }
 {
     match action {
@@ -26,7 +26,7 @@ fn meets(action: Action, loads: bool, loc: Loc) -> bool
 }
 
 /// Whether what the core has still to do keeps away from the location.
-fn avoids(program: &[Instr], processor: &Processor, loads: bool, loc: Loc) -> bool
+pub fn avoids(program: &[Instr], processor: &Processor, loads: bool, loc: Loc) -> bool
     ensures { result ≡ true → Avoids loads loc.0 program.now (core_of_processor processor.now) }
 {
     for place in usize::from(processor.place)..program.len() {

@@ -23,7 +23,7 @@ use crate::plan::{Plan, plan_of};
 use crate::search::{Extent, Found, beginning, expand_all};
 use crate::watching::{Unwatched, Watcher};
 use eager_laws::{
-    alike_cores_are_exchangeable, closed_states_miss_none, dead_registers_change_nothing,
+    alike_cores_are_exchangeable, dead_registers_change_nothing, partly_closed_states_miss_none,
 };
 use flat_machine::{Snapshot, act, has_ended, registers_of, start};
 use outcome_laws::ends_are_what_tso_allows;
@@ -176,7 +176,7 @@ pub fn explore_watched<W: Watcher>(
     ensures kept { IfOk result (λ m. (fewer : ℕ) → fewer < m.kept → HasMoreStates test.now depth fewer) }
 {
     alike_cores_are_exchangeable();
-    closed_states_miss_none();
+    partly_closed_states_miss_none();
     dead_registers_change_nothing();
     runs_stop_where_they_end();
     test.know_limits();

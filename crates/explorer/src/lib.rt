@@ -1,8 +1,8 @@
 //! All final states of a test that the flat machine can reach at a depth of its store buffers, each
 //! with choices that lead there.
 //!
-//! A search keeps the machine's states in one set, in the order in which they were found, and makes
-//! every choice in each of them in turn. Choices that need not wait are made at once, as
+//! A search keeps the machine's states in one set, in the order in which they were found, and in each
+//! of them in turn makes the choices of a stubborn set, or every choice. Choices that need not wait are made at once, as
 //! `eager_laws` allows, so the states on their way aren't kept. States that differ in dead registers
 //! alone are kept as one: those that nothing reads any more, and that nobody looks at in the end. So
 //! are states that differ by which of some cores that are alike is which; at the end all of those in
@@ -19,9 +19,11 @@ pub mod fault;
 pub mod final_states;
 mod forgetting;
 pub mod link;
+mod picking;
 pub mod plan;
 pub mod reached;
 pub mod search;
+pub mod stubborn;
 pub mod watching;
 
 pub use fault::ExploreFault;

@@ -1,20 +1,23 @@
 //! The search for all states that choices lead to. One list is queue and visited set at once; each of its states is gone
 //! through, and where there are more than may be kept the search says so and ends there.
-ghost use Rattle.std.specs.Prelude.{◌≡◌, ℕ, ◌<◌, ◌≤◌, Bool, List, [], ◌∷◌, IfOk, OnOk, map, length, slice_get, Some};
+ghost use Rattle.std.specs.Prelude.{◌≡◌, ℕ, ◌<◌, ◌≤◌, Bool, true, List, [], ◌∷◌, IfOk, OnOk, map, length, slice_get, Some};
 ghost use Rattle.tso_model.specs.FlatMachine.{chosen, start};
-ghost use Rattle.eager_laws.specs.Closed.{IsAmongStates, IsCovered, IsExpanded, AreClosed};
+ghost use Rattle.eager_laws.specs.Closed.{IsAmongStates, IsCovered, IsExpanded, IsExpandedEnough, ArePartlyClosed};
 ghost use Rattle.tso_model.specs.Litmus.{Litmus};
 ghost use Rattle.flat_machine.specs.State.{state_of_snapshot};
-ghost use Rattle.explorer.specs.inner.Settled.{Grows, HaveCores, IsFirstKept, LeadToExchanged, IsVisited, AreVisited, AreLinked};
+ghost use Rattle.explorer.specs.inner.Settled.{Grows, HaveCores, IsFirstKept, LeadToExchanged, IsVisited, AreVisited, ArePicksVisited, AreLinked};
 ghost use Rattle.explorer.specs.inner.Planned.{IsPlan};
+ghost use Rattle.explorer.specs.inner.Picked.{set_of};
 ghost use Rattle.flat_machine.specs.declared.snapshot.Snapshot.{Snapshot};
 ghost use Rattle.explorer.specs.declared.search.Extent.{Extent};
 
 use crate::eager::settle;
 use crate::forgetting::forget;
 use crate::link::{Link, turns_of};
+use crate::picking::pick;
 use crate::plan::Plan;
 use crate::reached::{Reached, nowhere, reach};
+use crate::stubborn::{Picked, is_marked};
 use crate::watching::{ToldSoFar, Watcher, tell};
 use flat_machine::{Snapshot, copy};
 use indexmap::IndexSet;
@@ -123,7 +126,7 @@ fn visit_core(
 /// Makes every choice in one of the snapshots.
 ///
 /// Errors: out of memory only.
-pub fn expand(
+fn expand_whole(
     alloc: Global,
     found: &mut Found,
     reached: &mut Reached,
@@ -146,6 +149,135 @@ pub fn expand(
         visit_core(alloc, found, reached, plan, from, core)?;
     }
     Ok(())
+}
+
+/// Makes a choice in one of the snapshots, if it is picked.
+///
+/// Errors: out of memory only.
+fn visit_if(
+    alloc: Global,
+    found: &mut Found,
+    reached: &mut Reached,
+    plan: &Plan,
+    from: usize,
+    choice: Choice,
+    is_picked: bool,
+) -> Result<(), NoMemory>
+    requires plan { IsPlan plan.now }
+    requires from { from < length found.old.snapshots.keys }
+    requires cores { HaveCores plan.now.test.now found.old.snapshots.keys }
+    requires linked { AreLinked plan.now.depth plan.now.test.now plan.now.hidden.now found.old.snapshots.keys found.old.links.items }
+    requires room { length reached.old.state.cores.items ≡ length plan.now.test.now.programs }
+    requires chosen { chosen choice < length plan.now.test.now.programs }
+    ensures grows { OnOk result (Grows found.old.snapshots.keys found.new.snapshots.keys) }
+    ensures cores { OnOk result (HaveCores plan.now.test.now found.new.snapshots.keys) }
+    ensures linked { OnOk result (AreLinked plan.now.depth plan.now.test.now plan.now.hidden.now found.new.snapshots.keys found.new.links.items) }
+    ensures room { OnOk result (length reached.new.state.cores.items ≡ length plan.now.test.now.programs) }
+    ensures visited { OnOk result (is_picked ≡ true → (s : Snapshot) → slice_get found.old.snapshots.keys from ≡ Some s
+        → IsVisited plan.now.depth plan.now.test.now plan.now.hidden.now plan.now.alike.items found.new.snapshots.keys (state_of_snapshot s) choice) }
+{
+    if !is_picked {
+        return Ok(());
+    }
+    visit(alloc, found, reached, plan, from, choice)
+}
+
+/// Makes the picked choices of a core in one of the snapshots.
+///
+/// Errors: out of memory only.
+fn visit_picked(
+    alloc: Global,
+    found: &mut Found,
+    reached: &mut Reached,
+    plan: &Plan,
+    from: usize,
+    picked: &Picked,
+    core: u8,
+) -> Result<(), NoMemory>
+    requires plan { IsPlan plan.now }
+    requires from { from < length found.old.snapshots.keys }
+    requires cores { HaveCores plan.now.test.now found.old.snapshots.keys }
+    requires linked { AreLinked plan.now.depth plan.now.test.now plan.now.hidden.now found.old.snapshots.keys found.old.links.items }
+    requires room { length reached.old.state.cores.items ≡ length plan.now.test.now.programs }
+    requires core { core < length plan.now.test.now.programs }
+    ensures grows { OnOk result (Grows found.old.snapshots.keys found.new.snapshots.keys) }
+    ensures cores { OnOk result (HaveCores plan.now.test.now found.new.snapshots.keys) }
+    ensures linked { OnOk result (AreLinked plan.now.depth plan.now.test.now plan.now.hidden.now found.new.snapshots.keys found.new.links.items) }
+    ensures room { OnOk result (length reached.new.state.cores.items ≡ length plan.now.test.now.programs) }
+    ensures visited { OnOk result ((s : Snapshot) → slice_get found.old.snapshots.keys from ≡ Some s
+        → ArePicksVisited plan.now.depth plan.now.test.now plan.now.hidden.now plan.now.alike.items found.new.snapshots.keys (state_of_snapshot s) (set_of picked.now) core) }
+{
+    let is_step_picked = is_marked(&picked.steps, core);
+    let its_step = Choice::Step(Core(core));
+    visit_if(alloc, found, reached, plan, from, its_step, is_step_picked)?;
+    let is_drain_picked = is_marked(&picked.drains, core);
+    let its_drain = Choice::Drain(Core(core));
+    visit_if(
+        alloc,
+        found,
+        reached,
+        plan,
+        from,
+        its_drain,
+        is_drain_picked,
+    )
+}
+
+/// Makes the picked choices in one of the snapshots.
+///
+/// Errors: out of memory only.
+fn expand_picked(
+    alloc: Global,
+    found: &mut Found,
+    reached: &mut Reached,
+    plan: &Plan,
+    from: usize,
+    picked: &Picked,
+) -> Result<(), NoMemory>
+    requires plan { IsPlan plan.now }
+    requires from { from < length found.old.snapshots.keys }
+    requires cores { HaveCores plan.now.test.now found.old.snapshots.keys }
+    requires linked { AreLinked plan.now.depth plan.now.test.now plan.now.hidden.now found.old.snapshots.keys found.old.links.items }
+    requires room { length reached.old.state.cores.items ≡ length plan.now.test.now.programs }
+    ensures grows { OnOk result (Grows found.old.snapshots.keys found.new.snapshots.keys) }
+    ensures cores { OnOk result (HaveCores plan.now.test.now found.new.snapshots.keys) }
+    ensures linked { OnOk result (AreLinked plan.now.depth plan.now.test.now plan.now.hidden.now found.new.snapshots.keys found.new.links.items) }
+    ensures room { OnOk result (length reached.new.state.cores.items ≡ length plan.now.test.now.programs) }
+    ensures visited { OnOk result ((s : Snapshot) → slice_get found.old.snapshots.keys from ≡ Some s → (core : ℕ) → core < length plan.now.test.now.programs
+        → ArePicksVisited plan.now.depth plan.now.test.now plan.now.hidden.now plan.now.alike.items found.new.snapshots.keys (state_of_snapshot s) (set_of picked.now) core) }
+{
+    for core in 0..plan.test.cores() {
+        visit_picked(alloc, found, reached, plan, from, picked, core)?;
+    }
+    Ok(())
+}
+
+/// Makes the choices of a stubborn set in one of the snapshots, or every choice where no such set is found.
+///
+/// Errors: out of memory only.
+pub fn expand(
+    alloc: Global,
+    found: &mut Found,
+    reached: &mut Reached,
+    plan: &Plan,
+    from: usize,
+) -> Result<(), NoMemory>
+    requires plan { IsPlan plan.now }
+    requires from { from < length found.old.snapshots.keys }
+    requires cores { HaveCores plan.now.test.now found.old.snapshots.keys }
+    requires linked { AreLinked plan.now.depth plan.now.test.now plan.now.hidden.now found.old.snapshots.keys found.old.links.items }
+    requires room { length reached.old.state.cores.items ≡ length plan.now.test.now.programs }
+    ensures grows { OnOk result (Grows found.old.snapshots.keys found.new.snapshots.keys) }
+    ensures cores { OnOk result (HaveCores plan.now.test.now found.new.snapshots.keys) }
+    ensures linked { OnOk result (AreLinked plan.now.depth plan.now.test.now plan.now.hidden.now found.new.snapshots.keys found.new.links.items) }
+    ensures room { OnOk result (length reached.new.state.cores.items ≡ length plan.now.test.now.programs) }
+    ensures expanded { OnOk result ((s : Snapshot) → slice_get found.old.snapshots.keys from ≡ Some s
+        → IsExpandedEnough plan.now.depth plan.now.test.now plan.now.hidden.now plan.now.alike.items (map state_of_snapshot found.new.snapshots.keys) (state_of_snapshot s)) }
+{
+    match pick(&found.snapshots[from], plan.test, plan.depth) {
+        Some(picked) => expand_picked(alloc, found, reached, plan, from, &picked),
+        None => expand_whole(alloc, found, reached, plan, from),
+    }
 }
 
 /// Where the choices that need not wait lead from the first state of a test, without what is dead there.
@@ -232,7 +364,7 @@ pub fn expand_all<W: Watcher>(
     ensures cores { OnOk result (HaveCores plan.now.test.now found.new.snapshots.keys) }
     ensures linked { OnOk result (AreLinked plan.now.depth plan.now.test.now plan.now.hidden.now found.new.snapshots.keys found.new.links.items) }
     ensures closed { IfOk result (λ extent. extent ≡ Extent.Whole
-        → AreClosed plan.now.depth plan.now.test.now plan.now.hidden.now plan.now.alike.items (map state_of_snapshot found.new.snapshots.keys)) }
+        → ArePartlyClosed plan.now.depth plan.now.test.now plan.now.hidden.now plan.now.alike.items (map state_of_snapshot found.new.snapshots.keys)) }
     ensures within { IfOk result (λ extent. extent ≡ Extent.Whole → length found.new.snapshots.keys ≤ limit) }
     ensures more { IfOk result (λ extent. extent ≡ Extent.Cut → limit < length found.new.snapshots.keys) }
 {

@@ -4,7 +4,7 @@ use Rattle.std.specs.Prelude.{ℕ, ◌≡◌, ◌<◌, true, Bool, List, Some, l
 use Rattle.tso_model.specs.Litmus.{Litmus}
 use Rattle.tso_model.specs.FlatMachine.{State, start, registers_in}
 use Rattle.tso_model.specs.Runs.{has_ended}
-use Rattle.eager_laws.specs.Closed.{AreClosed}
+use Rattle.eager_laws.specs.Closed.{ArePartlyClosed}
 use Rattle.eager_laws.specs.Dead.{forgotten}
 use Rattle.flat_machine.specs.State.{state_of_snapshot}
 use Rattle.explorer.specs.Settled.{LeadsBy}
@@ -41,6 +41,6 @@ pub record AreFinalsOf (depth : ℕ) (t : Litmus) (hidden : List (List Bool)) (s
 -- the snapshots miss no end of a run: they grew from closed ones, and have what exchanges make of those that have ended
 pub record MissesNoEnd (depth : ℕ) (t : Litmus) (hidden : List (List Bool)) (pairs : List (ℕ × ℕ)) (snapshots : List Snapshot) : Type 0 where
   pub earlier : List Snapshot
-  pub closed : AreClosed depth t hidden pairs (map state_of_snapshot earlier)
+  pub closed : ArePartlyClosed depth t hidden pairs (map state_of_snapshot earlier)
   pub grows : Grows earlier snapshots
   pub exchanged : AreExchanged t pairs snapshots (length snapshots)

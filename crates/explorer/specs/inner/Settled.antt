@@ -1,10 +1,11 @@
 -- What the search keeps from step to step: whatever a choice leads to from a state that was gone through is covered by a
 -- state that is kept. Nothing else shows that no end is missed.
-use Rattle.std.specs.Prelude.{ℕ, ◌≡◌, ◌≤◌, ◌++◌, Bool, List, [], length, map, Some, slice_get, ◌⊎◌, All, zero, suc}
+use Rattle.std.specs.Prelude.{ℕ, ◌≡◌, ◌≤◌, ◌++◌, Bool, true, List, [], length, map, Some, slice_get, ◌⊎◌, All, zero, suc}
 use Rattle.tso_model.specs.Litmus.{Litmus}
 use Rattle.tso_model.specs.FlatMachine.{State, start, after_choice, step, drain}
 use Rattle.tso_model.specs.declared.choice.Choice.{Choice}
 use Rattle.eager_laws.specs.Closed.{IsCovered, LeadsEagerly}
+use Rattle.eager_laws.specs.Stubborn.{ChoiceSet, has_step, has_drain}
 use Rattle.eager_laws.specs.Dead.{forgotten}
 use Rattle.eager_laws.specs.Exchanged.{exchanged_by, AreOf, AreAllAlike}
 use Rattle.flat_machine.specs.State.{state_of_snapshot}
@@ -62,6 +63,12 @@ IsVisited depth t hidden pairs snapshots state c =
 abbrev pub AreVisited : ℕ → Litmus → List (List Bool) → List (ℕ × ℕ) → List Snapshot → State → ℕ → Type 0
 AreVisited depth t hidden pairs snapshots state core =
     IsVisited depth t hidden pairs snapshots state (step core) × IsVisited depth t hidden pairs snapshots state (drain core)
+
+-- those of a core's choices that are in the set
+abbrev pub ArePicksVisited : ℕ → Litmus → List (List Bool) → List (ℕ × ℕ) → List Snapshot → State → ChoiceSet → ℕ → Type 0
+ArePicksVisited depth t hidden pairs snapshots state set core =
+    (has_step set core ≡ true → IsVisited depth t hidden pairs snapshots state (step core))
+    × (has_drain set core ≡ true → IsVisited depth t hidden pairs snapshots state (drain core))
 
 -- a link's turns lead to its snapshot: those of the first from the beginning of the test, those of each other from the
 -- snapshot that the link names, which stands before it

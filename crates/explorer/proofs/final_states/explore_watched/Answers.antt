@@ -15,7 +15,7 @@ returns-clause-once g c =
 
 pub returns-clause-complete : goal.returns-clause-complete
 returns-clause-complete g c = λ whole.
-    all-met c.dead_registers_change_nothing.ensures c.alike_cores_are_exchangeable.ensures c.closed_states_miss_none.ensures c.runs_stop_where_they_end.ensures _ c.args.depth _ c.args.test.now _ c.args.hidden.now
+    all-met c.dead_registers_change_nothing.ensures c.alike_cores_are_exchangeable.ensures c.partly_closed_states_miss_none.ensures c.runs_stop_where_they_end.ensures _ c.args.depth _ c.args.test.now _ c.args.hidden.now
     c.in_ok-plan.plan.alike.items c.search_all-searched.new.found.snapshots.keys c.in_ok-final_states.final_states.items
     c.in_ok-plan.ensures.depth c.in_ok-plan.ensures.test c.in_ok-plan.ensures.hidden c.know_limits.ensures (record {
       alike = c.in_ok-plan.ensures.plan.alike;

@@ -1,15 +1,14 @@
-use Rattle.explorer.proofs.Searching.{grows-on, grown-within, get-grown, visited-more}
+use Rattle.explorer.proofs.Vocabulary.{◌≡◌, subst, inl, on-ok, state_of_snapshot, IsStubborn, set_of}
+use Rattle.explorer.proofs.Searching.{expands-partly}
 use Rattle.explorer.proofs.search.expand.Goals as goal
 
-pub visit_core-requires-clause-from : goal.visit_core-requires-clause-from
-visit_core-requires-clause-from c = grown-within _ _ _ c.loop-core.invariant.grows c.requires.from
+pub returns-in-Some-clause-expanded : goal.returns-in-Some-clause-expanded
+returns-in-Some-clause-expanded c =
+    on-ok c.expand_picked.result (λ v s at.
+    let same : c.index.result.now ≡ s = (let r = c.index.ensures in cc) in
+    expands-partly c.args.plan.now.depth c.args.plan.now.test.now c.args.plan.now.hidden.now c.args.plan.now.alike.items _ (state_of_snapshot s) (set_of c.in-Some.picked)
+    (subst (λ z. IsStubborn c.args.plan.now.depth c.args.plan.now.test.now (set_of c.in-Some.picked) (state_of_snapshot z)) same c.in-Some.ensures) (v s at))
+    c.expand_picked.ensures.visited
 
-pub loop-core-preserved : goal.loop-core-preserved
-loop-core-preserved c = record {
-  grows = grows-on _ _ _ c.loop-core.invariant.grows c.in_ok-visit_core.ensures.grows;
-  cores = c.in_ok-visit_core.ensures.cores;
-  linked = c.in_ok-visit_core.ensures.linked;
-  room = c.in_ok-visit_core.ensures.room;
-  visited = λ s at. visited-more _ _ _ _ _ _ _ _ c.in_ok-visit_core.ensures.grows (c.loop-core.invariant.visited s at)
-      (c.in_ok-visit_core.ensures.visited s (get-grown _ _ _ s c.loop-core.invariant.grows at));
-}
+pub returns-in-None-clause-expanded : goal.returns-in-None-clause-expanded
+returns-in-None-clause-expanded c = on-ok c.expand_whole.result (λ v s at. inl (v s at)) c.expand_whole.ensures.expanded

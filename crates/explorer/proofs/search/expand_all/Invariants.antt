@@ -1,4 +1,4 @@
-use Rattle.explorer.proofs.Vocabulary.{◌≡◌, ◌<◌, ◌≤◌, ℕ, Some, slice_get, map, length, start, IsCovered, IsExpanded, state_of_snapshot, HaveCores, AreLinked, Snapshot}
+use Rattle.explorer.proofs.Vocabulary.{◌≡◌, ◌<◌, ◌≤◌, ℕ, Some, slice_get, map, length, start, IsCovered, IsExpandedEnough, state_of_snapshot, HaveCores, AreLinked, Snapshot}
 use Rattle.explorer.proofs.search.expand_all.Given as goal
 
 abbrev pub invariant-loop-at : goal.invariant-loop-at
@@ -7,7 +7,7 @@ invariant-loop-at g l = record {
   linked : AreLinked l.plan.depth l.plan.test.now l.plan.hidden.now l.found.snapshots.keys l.found.links.items;
   first : IsCovered l.plan.depth l.plan.test.now l.plan.hidden.now l.plan.alike.items (map state_of_snapshot l.found.snapshots.keys) (start l.plan.test.now);
   each : (i : ℕ) (x : Snapshot) → i < l.at → slice_get l.found.snapshots.keys i ≡ Some x
-      → IsExpanded l.plan.depth l.plan.test.now l.plan.hidden.now l.plan.alike.items (map state_of_snapshot l.found.snapshots.keys) (state_of_snapshot x);
+      → IsExpandedEnough l.plan.depth l.plan.test.now l.plan.hidden.now l.plan.alike.items (map state_of_snapshot l.found.snapshots.keys) (state_of_snapshot x);
   room : length l.reached.state.cores.items ≡ length l.plan.test.now.programs;
   within : length l.found.snapshots.keys ≤ l.limit;
 }
