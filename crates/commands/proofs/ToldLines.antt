@@ -1,87 +1,60 @@
 -- A trace, written line by line as the choices are made.
-use Rattle.commands.proofs.Vocabulary.{◌≡◌, ◌∙◌, ℕ, ◌+◌, ◌<◌, ◌≤◌, true, false, List, [], ◌∷◌, ◌++◌, length, drop, refl, sym, ap, subst, arith, append_assoc, append-nil, codes, Litmus, chosen, has_ended, CoresExist, Choice, Table, Configuration, Running, new_machine, machine_after, ShownStep, shown_step, trace_step_of, steps_from, trace_of, told_step, trace_step_line, step_lines, end_line, trace_text}
-use Rattle.std.proofs.Math.ListN.{drop_of_length-le}
-use Rattle.tso_model.specs.declared.choice.Stall.{Stall}
+use Rattle.commands.proofs.Vocabulary.{◌≡◌, ◌∙◌, ℕ, ◌+◌, List, [], ◌∷◌, ◌++◌, length, refl, sym, ap, arith, append_assoc, append-nil, codes, string_bytes, Litmus, Choice, Table, Configuration, Running, new_machine, machine_after, ShownStep, trace_step_of, steps_from, trace_of, trace_step_line, step_lines, end_line, trace_text, told_step}
 use Rattle.protocol_tables.specs.PrintedTable.{line}
-use Rattle.trace_report.specs.Stalls.{stall_line}
-use Rattle.trace_report.specs.declared.step.Step.{Step}
+use Rattle.simulator.specs.inner.Observed.{Watched, none_left, over, next, IsWatched}
 use Rattle.trace_report.specs.declared.telling.Told.{Told}
-use Rattle.trace_report.specs.declared.telling.Told.TheVariants.{Stalled, Made}
+use Rattle.commands.specs.declared.told_run.Teller.{Teller}
+use Rattle.commands.specs.inner.Telling.{Opens, Tells, Closes}
 
--- what is still to come, after so many choices, and the text of the whole
-pub record SoFar (t : Litmus) (words : ℕ) (old m : Running) (choices : List Choice) (i : ℕ) (begun text : List ℕ) : Type 0 where
-  pub cores : CoresExist (length t.programs) (drop i choices)
-  pub steps : i + length (steps_from m (drop i choices)) ≡ length (steps_from old choices)
-  pub lines : text ++ step_lines t words (i + 1) (steps_from m (drop i choices)) ≡ begun ++ step_lines t words 1 (steps_from old choices)
+-- what is told of a choice, once it is known to be this
+pub told-is : (m : Running) (c : Choice) (told other : Told) → told_step c told ≡ trace_step_of m c → told ≡ other → told_step c other ≡ trace_step_of m c
+told-is m c told other step is = ap (told_step c) (sym is) ∙ step
 
-pub core-there : (t : Litmus) (choices : List Choice) (i : ℕ) (c : Choice) → drop i choices ≡ c ∷ drop (i + 1) choices → CoresExist (length t.programs) (drop i choices) → chosen c < length t.programs
-core-there t choices i c list cores = (subst (CoresExist (length t.programs)) list cores).0
+-- what was written along choices, the first of which has this number
+record AllTold (o last : Teller) (m : Running) (number : ℕ) (choices : List Choice) : Type 0 where
+  made : last.made + 1 ≡ number + length (steps_from m choices)
+  text : string_bytes last.text ≡ string_bytes o.text ++ step_lines o.test.now o.config.shape.words number (steps_from m choices)
 
-pub one-more : (t : Litmus) (words : ℕ) (old m next : Running) (choices : List Choice) (i : ℕ) (c : Choice) (step : ShownStep) (begun text after : List ℕ)
-    → drop i choices ≡ c ∷ drop (i + 1) choices → has_ended m.test m.state.flat ≡ false → next ≡ machine_after m c → step ≡ trace_step_of m c → after ≡ text ++ trace_step_line t words (i + 1) step
-    → SoFar t words old m choices i begun text → SoFar t words old next choices (i + 1) begun after
-one-more t words old m next choices i c step begun text after list going next_is step_is written s =
-    let rest = drop (i + 1) choices in
-    let more : steps_from m (drop i choices) ≡ step ∷ steps_from next rest =
-    ap (steps_from m) list ∙ (rw going refl ∙ (ap (λ x. x ∷ steps_from (machine_after m c) rest) (sym step_is) ∙ ap (λ n. step ∷ steps_from n rest) (sym next_is))) in
-    record {
-      cores = (subst (CoresExist (length t.programs)) list s.cores).1;
-      steps = let old_count = s.steps in let size : length (steps_from m (drop i choices)) ≡ length (steps_from next rest) + 1 = ap length more ∙ (omega arith) in omega arith;
-      lines = ap (λ x. x ++ step_lines t words (i + 1 + 1) (steps_from next rest)) written
-          ∙ (append_assoc text (trace_step_line t words (i + 1) step) (step_lines t words (i + 1 + 1) (steps_from next rest))
-          ∙ (sym (ap (λ ss. text ++ step_lines t words (i + 1) ss) more) ∙ s.lines));
-    }
-
--- the line of a choice that stalled
-pub stall-written : (t : Litmus) (words used i : ℕ) (choice : Choice) (told : Told) (why : Stall) (text after joined : List ℕ) → joined ≡ after → after ≡ text ++ stall_line (used + 1) choice why
-    → used ≡ i → told ≡ Stalled why → joined ≡ text ++ trace_step_line t words (i + 1) (told_step choice told)
-stall-written t words used i choice told why text after joined is writes same stalls =
-    is ∙ (writes ∙ (ap (λ n. text ++ stall_line (n + 1) choice why) same ∙ sym (ap (λ x. text ++ trace_step_line t words (i + 1) (told_step choice x)) stalls)))
-
--- and of one that has a step
-pub step-written : (t : Litmus) (words lines used i : ℕ) (choice : Choice) (told : Told) (step : Step) (text after joined : List ℕ) → joined ≡ after → after ≡ text ++ trace_step_line t lines (used + 1) (shown_step step)
-    → lines ≡ words → used ≡ i → told ≡ Made step → joined ≡ text ++ trace_step_line t words (i + 1) (told_step choice told)
-step-written t words lines used i choice told step text after joined is writes alike same made =
-    is ∙ (writes ∙ (ap (λ n. text ++ trace_step_line t n (used + 1) (shown_step step)) alike ∙ (ap (λ n. text ++ trace_step_line t words (n + 1) (shown_step step)) same
-    ∙ sym (ap (λ x. text ++ trace_step_line t words (i + 1) (told_step choice x)) made))))
-
--- ---- where the writing stops
-
-pub record Written (t : Litmus) (words : ℕ) (old : Running) (choices : List Choice) (i : ℕ) (begun text : List ℕ) : Type 0 where
-  pub count : i ≡ length (steps_from old choices)
-  pub lines : text ≡ begun ++ step_lines t words 1 (steps_from old choices)
-
-written : (t : Litmus) (words : ℕ) (old m : Running) (choices : List Choice) (i : ℕ) (begun text : List ℕ) → steps_from m (drop i choices) ≡ []
-    → SoFar t words old m choices i begun text → Written t words old choices i begun text
-written t words old m choices i begun text none s = record {
-  count = let size : length (steps_from m (drop i choices)) ≡ 0 = ap length none in let all = s.steps in omega arith;
-  lines = sym (append-nil text) ∙ (sym (ap (λ ss. text ++ step_lines t words (i + 1) ss) none) ∙ s.lines);
+none-told : (o : Teller) (m : Running) (number : ℕ) (choices : List Choice) → o.made + 1 ≡ number → steps_from m choices ≡ [] → AllTold o o m number choices
+none-told o m number choices first none = record {
+  made = let size : length (steps_from m choices) ≡ 0 = ap length none in omega (arith, first, size);
+  text = sym (append-nil (string_bytes o.text)) ∙ sym (ap (λ ss. string_bytes o.text ++ step_lines o.test.now o.config.shape.words number ss) none);
 }
 
-pub at-end : (t : Litmus) (words : ℕ) (old m : Running) (choices : List Choice) (i : ℕ) (begun text : List ℕ) → has_ended m.test m.state.flat ≡ true
-    → SoFar t words old m choices i begun text → Written t words old choices i begun text
-at-end t words old m choices i begun text ended s = written t words old m choices i begun text (nothing (drop i choices)) s
-  where
-    nothing : (list : List Choice) → steps_from m list ≡ []
-    nothing [] = refl
-    nothing (c ∷ cs) = rw ended refl
-
-pub all-made : (t : Litmus) (words : ℕ) (old m : Running) (choices : List Choice) (i : ℕ) (begun text : List ℕ) → length choices ≤ i
-    → SoFar t words old m choices i begun text → Written t words old choices i begun text
-all-made t words old m choices i begun text past s = written t words old m choices i begun text (ap (steps_from m) (drop_of_length-le choices past)) s
-
-pub at-first : (t : Litmus) (words : ℕ) (m : Running) (choices : List Choice) (text : List ℕ) → CoresExist (length t.programs) choices → SoFar t words m m choices 0 text text
-at-first t words m choices text cores = record { cores = cores; steps = omega arith; lines = refl }
+all-told : (o last : Teller) (m left : Running) (number : ℕ) (choices : List Choice) → o.made + 1 ≡ number → Watched Tells o m number choices last left → AllTold o last m number choices
+all-told o _ m _ number _ first (none_left _ _ _) = none-told o m number [] first refl
+all-told o _ m _ number [] first (over _ _ _ _ ended) = none-told o m number [] first refl
+all-told o _ m _ number (c ∷ cs) first (over _ _ _ _ ended) = none-told o m number (c ∷ cs) first (rw ended refl)
+all-told o last m left number _ first (next _ mid _ _ _ _ c rest live one w) =
+    let step = trace_step_of m c in
+    let steps = steps_from (machine_after m c) rest in
+    let words = o.config.shape.words in
+    let told = all-told mid last (machine_after m c) left (number + 1) rest (ap (λ n. n + 1) one.number) w in
+    let more : steps_from m (c ∷ rest) ≡ step ∷ steps = rw live refl in
+    record {
+      made = let size : length (steps_from m (c ∷ rest)) ≡ length steps + 1 = ap length more ∙ (omega arith) in let so_far = told.made in omega (arith, size, so_far);
+      text = told.text
+          ∙ (ap (λ (u : Litmus). string_bytes mid.text ++ step_lines u mid.config.shape.words (number + 1) steps) one.test
+          ∙ (ap (λ (g : Configuration). string_bytes mid.text ++ step_lines o.test.now g.shape.words (number + 1) steps) one.config
+          ∙ (ap (λ x. x ++ step_lines o.test.now words (number + 1) steps) one.text
+          ∙ (append_assoc (string_bytes o.text) (trace_step_line o.test.now words number step) (step_lines o.test.now words (number + 1) steps)
+          ∙ sym (ap (λ ss. string_bytes o.text ++ step_lines o.test.now words number ss) more)))));
+    }
 
 -- `Trace`, the lines, `Endtrace` and their number
-pub trace-whole : (table : Table) (config : Configuration) (t : Litmus) (m : Running) (choices : List Choice) (count : ℕ) (old begun written text : List ℕ)
-    → m ≡ new_machine table config t → begun ≡ old ++ line (codes "Trace") → written ≡ begun ++ step_lines t config.shape.words 1 (steps_from m choices)
-    → count ≡ length (steps_from m choices) → text ≡ written ++ end_line count → text ≡ old ++ trace_text t config.shape.words (trace_of table config t choices)
-trace-whole table config t m choices count old begun written text m_is begins writes counts ends =
+pub trace-told : (table : Table) (config : Configuration) (t : Litmus) (old new : Teller) (choices : List Choice) → old.made ≡ 0 → old.test.now ≡ t → old.config ≡ config
+    → IsWatched Opens Tells Closes old (new_machine table config t) choices new
+    → string_bytes new.text ≡ string_bytes old.text ++ trace_text t config.shape.words (trace_of table config t choices)
+trace-told table config t old new choices none test same w =
+    let m = new_machine table config t in
+    let steps = steps_from m choices in
     let first = line (codes "Trace") in
-    let words = config.shape.words in
-    let lines = step_lines t words 1 (steps_from m choices) in
-    let last = end_line (length (steps_from m choices)) in
-    ends ∙ (ap (λ n. written ++ end_line n) counts ∙ (ap (λ w. w ++ last) writes ∙ (ap (λ b. (b ++ lines) ++ last) begins
-    ∙ (append_assoc (old ++ first) lines last ∙ (append_assoc old first (lines ++ last)
-    ∙ ap (λ (n : Running). old ++ trace_text t words (steps_from n choices)) m_is)))))
+    let lines = step_lines t config.shape.words 1 steps in
+    let last = end_line (length steps) in
+    let told = all-told w.begun w.driven m w.left 1 choices (ap (λ n. n + 1) (w.opens.number ∙ none)) w.watched in
+    let count : w.driven.made ≡ length steps = let all = told.made in omega (arith, all) in
+    w.ends.text ∙ (ap (λ n. string_bytes w.driven.text ++ end_line n) count ∙ (ap (λ x. x ++ last) (told.text
+    ∙ (ap (λ (u : Litmus). string_bytes w.begun.text ++ step_lines u w.begun.config.shape.words 1 steps) (w.opens.test ∙ test)
+    ∙ (ap (λ (g : Configuration). string_bytes w.begun.text ++ step_lines t g.shape.words 1 steps) (w.opens.config ∙ same)
+    ∙ ap (λ x. x ++ lines) w.opens.text)))
+    ∙ (append_assoc (string_bytes old.text ++ first) lines last ∙ append_assoc (string_bytes old.text) first (lines ++ last))))

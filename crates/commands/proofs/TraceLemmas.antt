@@ -8,11 +8,6 @@ pub three-pieces : (head trace ending first second all : List ℕ) → first ≡
 three-pieces head trace ending first second all is_first is_second is =
     is ∙ ap (λ (x : List ℕ). x ++ ending) (is_second ∙ ap (λ (x : List ℕ). x ++ trace) is_first) ∙ append_assoc head trace ending
 
--- what is after the trace of a run that ended, and of one that didn't
+-- what is after the trace of a run that ended
 pub ended-text : (t : Litmus) (counts : List Counts) (r : Run) (s : ShownRun) → r.ended ≡ true → s ≡ shown_of t counts r → body t s ≡ ending_text t counts r
 ended-text t counts r s ended is = ap (λ (x : ShownRun). body t x) is ∙ sym (rw ended refl)
-
-pub unended-text : (t : Litmus) (counts : List Counts) (r : Run) (used stalled : ℕ) → r.ended ≡ false → used ≡ r.used → stalled ≡ r.stalled
-    → unfinished_run_line used stalled ≡ ending_text t counts r
-unended-text t counts r used stalled unended is also =
-    ap (λ (n : ℕ). unfinished_run_line n stalled) is ∙ ap (λ (n : ℕ). unfinished_run_line r.used n) also ∙ sym (rw unended refl)

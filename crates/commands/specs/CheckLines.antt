@@ -8,8 +8,7 @@ use Rattle.tso_model.specs.declared.execution.Kind.TheVariants.{F}
 use Rattle.order_builder.specs.PrintedOrder.{letters_of, printed_entry}
 use Rattle.order_builder.specs.declared.fault.OrderFault.{OrderFault}
 use Rattle.axiom_checker.specs.declared.breach.Breach.{Breach}
-use Rattle.axiom_checker.specs.declared.breach.Breach.TheVariants.{Extra, Twice, Missing, WrongValue, ProgramOrder}
-use Rattle.axiom_checker.specs.declared.breach.Breach.TheVariants.{NotAdjacent, ReadValue, NoMemory}
+use Rattle.axiom_checker.specs.declared.breach.Breach.TheVariants.{Extra, Twice, Missing, WrongValue, ProgramOrder, NotAdjacent, ReadValue, NoMemory}
 use Rattle.tso_report.specs.Report.{line}
 use Rattle.order_builder.specs.declared.fault.OrderFault.TheVariants as orders
 

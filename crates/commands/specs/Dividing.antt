@@ -1,7 +1,6 @@
 -- The two parts of an input: before and after the first line that is `====`. It is the first such line, so an input is
 -- separated in one way.
-use Rattle.std.specs.Prelude.{ℕ, ◌≡◌, ◌==◌, Bool, true, if◌then◌else◌, List, [], ◌∷◌, ◌++◌, drop, Option, Some, None}
-use Rattle.std.specs.Prelude.{nat_eq, codes}
+use Rattle.std.specs.Prelude.{ℕ, ◌≡◌, ◌==◌, Bool, true, if◌then◌else◌, List, [], ◌∷◌, ◌++◌, drop, Option, Some, None, nat_eq, codes}
 use Rattle.std.specs.List.{starts_with}
 
 -- what is after a line feed

@@ -3,4 +3,5 @@ pub mod Answers
 pub mod CheckLines
 pub mod Dividing
 pub mod Searched
+pub mod Telling
 pub mod Trace

@@ -10,13 +10,12 @@ ghost use Rattle.commands.specs.inner.Trace.{used_in, IsMeasured};
 
 use crate::answer::{Answer, Status};
 use hints::Cause;
-use machine_core::{Choice, Config};
-use protocol_tables::ProtocolKind;
+use machine_core::Choice;
 use scheduler::{ChoiceFault, Stalls};
-use simulator::{Ending, SimFault, simulate_noting};
+use simulator::{Ending, Setup, simulate_observed};
 use std::alloc::Global;
 use trace_json::{MAX_STEPS, word_beyond};
-use tso_model::{NoMemory, Test};
+use tso_model::NoMemory;
 
 /// A run whose trace is to be JSON.
 #[derive(Drop)]
@@ -41,23 +40,19 @@ pub struct Driven {
 /// Errors: out of memory only.
 pub fn measure(
     alloc: Global,
-    test: &Test,
-    protocol: ProtocolKind,
-    config: Config,
+    setup: &Setup<'_>,
     text: &[u8],
     choices: &[Choice],
 ) -> Result<Measured, NoMemory>
-    requires cores { CoresExist (length test.now.programs) choices.now }
-    requires spelled { SpellsChoices (length test.now.programs) text.now choices.now }
-    ensures { IfOk result (IsMeasured test.now protocol config text.now choices.now) }
+    requires cores { CoresExist (length setup.now.test.now.programs) choices.now }
+    requires spelled { SpellsChoices (length setup.now.test.now.programs) text.now choices.now }
+    ensures { IfOk result (IsMeasured setup.now.test.now setup.now.protocol setup.now.config text.now choices.now) }
 {
     let mut stalls = Stalls::none();
-    match simulate_noting(alloc, test, protocol, config, choices, &mut stalls) {
-        Ok(ending) => match word_beyond(test.cores(), used_in(&ending), text) {
-            Some(word) => Ok(Measured::TooLong(word)),
-            None => Ok(Measured::Fits(Driven { ending, stalls })),
-        },
-        Err(SimFault::NoMemory) => Err(NoMemory),
+    let ending = simulate_observed(alloc, setup, choices, &mut stalls)?;
+    match word_beyond(setup.test.cores(), used_in(&ending), text) {
+        Some(word) => Ok(Measured::TooLong(word)),
+        None => Ok(Measured::Fits(Driven { ending, stalls })),
     }
 }
 

@@ -15,7 +15,7 @@ use hints::Cause;
 use machine_core::{Choice, Config};
 use protocol_tables::ProtocolKind;
 use scheduler::{ChoiceFault, Stalls, read_choices, spelled_cores_exist};
-use simulator::{Ending, SimFault, simulate_noting};
+use simulator::{Ending, Setup, simulate_observed};
 use std::alloc::Global;
 use tso_model::{NoMemory, Test};
 use tso_report::{Run, report_json, report_text, unfinished_json};
@@ -34,14 +34,19 @@ pub fn run_answer(
     ensures { IfOk result (λ a. IsRunAnswer test.now protocol config json text.now (string_bytes a.text) a.status) }
 {
     spelled_cores_exist();
+    let setup = Setup {
+        test,
+        protocol,
+        config,
+    };
     match read_choices(alloc, test.cores(), text) {
         Ok(choices) => {
             let mut stalls = Stalls::none();
-            let answer = run_under(alloc, test, protocol, config, json, &choices, &mut stalls)?;
+            let answer = run_under(alloc, &setup, json, &choices, &mut stalls)?;
             Ok(Answer {
                 text: answer.text,
                 status: answer.status,
-                cause: cause_of(answer.status, test, text, config, stalls),
+                cause: cause_of(answer.status, &setup, text, stalls),
             })
         }
         Err(fault) => refused_choices(alloc, test, text, fault),
@@ -49,9 +54,11 @@ pub fn run_answer(
 }
 
 /// Why the run didn't end, if it didn't.
-pub fn cause_of(status: Status, test: &Test, text: &[u8], config: Config, stalls: Stalls) -> Cause {
+pub fn cause_of(status: Status, setup: &Setup<'_>, text: &[u8], stalls: Stalls) -> Cause {
     match status {
-        Status::Unended => Cause::of_unended_run(test, text, config.depth() > 0, stalls),
+        Status::Unended => {
+            Cause::of_unended_run(setup.test, text, setup.config.depth() > 0, stalls)
+        }
         Status::Good | Status::Refused | Status::Invalid | Status::NotAsClaimed => Cause::Nothing,
     }
 }
@@ -90,46 +97,37 @@ pub fn refused_choices(
 
 fn run_under(
     alloc: Global,
-    test: &Test,
-    protocol: ProtocolKind,
-    config: Config,
+    setup: &Setup<'_>,
     json: bool,
     choices: &[Choice],
     stalls: &mut Stalls,
 ) -> Result<Answer, NoMemory>
-    requires { CoresExist (length test.now.programs) choices.now }
-    ensures says { IfOk result (SaysRun test.now protocol config json choices.now) }
-    ensures answers { OnOk result (AnswersFit test.now protocol config choices.now) }
+    requires { CoresExist (length setup.now.test.now.programs) choices.now }
+    ensures says { IfOk result (SaysRun setup.now.test.now setup.now.protocol setup.now.config json choices.now) }
+    ensures answers { OnOk result (AnswersFit setup.now.test.now setup.now.protocol setup.now.config choices.now) }
 {
-    match simulate_noting(alloc, test, protocol, config, choices, stalls) {
-        Ok(Ending::Ended(run)) => {
-            let text = report_in(alloc, test, protocol, config, json, &run)?;
+    let ending = simulate_observed(alloc, setup, choices, stalls)?;
+    match ending {
+        Ending::Ended(run) => {
+            let text = report_in(alloc, setup, json, &run)?;
             Ok(Answer {
                 text,
                 status: Status::Good,
                 cause: Cause::Nothing,
             })
         }
-        Ok(Ending::Unfinished { used, stalled }) => unfinished(alloc, json, used, stalled),
-        Err(SimFault::NoMemory) => Err(NoMemory),
+        Ending::Unfinished { used, stalled } => unfinished(alloc, json, used, stalled),
     }
 }
 
-fn report_in(
-    alloc: Global,
-    test: &Test,
-    protocol: ProtocolKind,
-    config: Config,
-    json: bool,
-    run: &Run,
-) -> Result<String, NoMemory>
-    requires { IsRunOf test.now (shown_run run.now) }
-    ensures { IfOk result (λ text. string_bytes text ≡ report_in json test.now protocol config (shown_run run.now)) }
+fn report_in(alloc: Global, setup: &Setup<'_>, json: bool, run: &Run) -> Result<String, NoMemory>
+    requires { IsRunOf setup.now.test.now (shown_run run.now) }
+    ensures { IfOk result (λ text. string_bytes text ≡ report_in json setup.now.test.now setup.now.protocol setup.now.config (shown_run run.now)) }
 {
     if json {
-        report_json(alloc, test, protocol, config, run)
+        report_json(alloc, setup.test, setup.protocol, setup.config, run)
     } else {
-        report_text(alloc, test, protocol, config, run)
+        report_text(alloc, setup.test, setup.protocol, setup.config, run)
     }
 }
 

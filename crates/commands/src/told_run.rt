@@ -1,139 +1,122 @@
-//! A run whose choices are told as they are made: before and after each, the machine is looked at. It has a loop of its
-//! own, so that a run without a trace pays nothing for this.
+//! A run whose choices are told as they are made: a line is written for each, by an observer that sees the machine before it and
+//! after it.
 
-ghost use Rattle.std.specs.Prelude.{◌≡◌, ◌≤◌, ◌++◌, IfOk, OnOk, length, string_bytes};
-ghost use Rattle.tso_model.specs.Runs.{CoresExist, stall_count};
-ghost use Rattle.split_laws.specs.BusChoices.{IsPossibleOn};
-ghost use Rattle.trace_report.specs.Known.{StepNamesExist};
-ghost use Rattle.trace_report.specs.Lines.{trace_text, trace_step_line, step_lines};
-ghost use Rattle.trace_report.specs.Shown.{shown_step};
-ghost use Rattle.trace_report.specs.Stalls.{stalled_step};
-ghost use Rattle.trace_report.specs.Steps.{trace_of, trace_under, steps_from};
-ghost use Rattle.trace_report.specs.Told.{IsTraced};
-ghost use Rattle.simulator.specs.Runs.{run_by, run_under, counts_by, counts_under, AnswersFit, AnswersFitBy};
+ghost use Rattle.std.specs.Prelude.{◌≡◌, ◌++◌, IfOk, OnOk, length, string_bytes};
+ghost use Rattle.tso_model.specs.Runs.{CoresExist};
+ghost use Rattle.trace_report.specs.Lines.{trace_text};
+ghost use Rattle.trace_report.specs.Steps.{trace_under};
+ghost use Rattle.trace_report.specs.Told.{IsTraced, IsTracedInStates};
+ghost use Rattle.simulator.specs.Runs.{run_under, counts_under, AnswersFit};
 ghost use Rattle.simulator.specs.Simulation.{IsEndingOf, FitsEnding, HasCounts};
-ghost use Rattle.simulator.specs.inner.Simulation.{Drives};
+ghost use Rattle.commands.specs.inner.Telling.{Opens, Tells, Closes};
 
-use machine_core::{Choice, Config, Machine};
-use protocol_tables::{Mesi, Moesi, Mosi, Msi, Protocol, ProtocolKind};
+use machine_core::{Choice, Config, Machine, Outcome};
+use protocol_tables::Protocol;
 use scheduler::Stalls;
-use simulator::{Ending, Progress, ended_runs_of_machines_are_executions, ending_of};
-use split_laws::{
-    atomic_runs_are_flat_runs, attempts_lead_from_state_to_state,
-    runs_on_either_bus_stop_where_they_end, what_holds_so_far_on_either_bus,
-};
+use simulator::{Ending, Observer, Setup, simulate_observed};
 use std::alloc::Global;
+use trace_report::states::PlacedState;
 use trace_report::{
     Told, states_of, tell_or_stall, write_end, write_stall, write_start, write_step,
 };
-use tso_laws::whole_orders_have_each_entry_once;
 use tso_model::{NoMemory, Test};
 
-/// What `simulate` answers, with the run's trace written: on one machine, which makes each choice once. Which choices
-/// stalled is noted for a hint.
+/// How a run left its test, a text to which its trace was added, and which choices stalled.
+#[derive(Drop)]
+pub(crate) struct ToldRun {
+    pub(crate) ending: Ending,
+    pub(crate) text: String,
+    pub(crate) stalls: Stalls,
+}
+
+/// Runs a test under a list of choices, and adds the run's trace to a text. Each choice is made once.
 ///
-/// Errors: out of memory only; the text may have grown then.
+/// Errors: out of memory only.
 pub(crate) fn simulate_telling(
-    text: &mut String,
+    text: String,
     alloc: Global,
-    test: &Test,
-    protocol: ProtocolKind,
-    config: Config,
+    setup: &Setup<'_>,
     choices: &[Choice],
-    stalls: &mut Stalls,
-) -> Result<Ending, NoMemory>
-    requires { CoresExist (length test.now.programs) choices.now }
-    ensures trace { OnOk result (string_bytes text.new ≡ string_bytes text.old ++ trace_text test.now config.shape.words (trace_under test.now protocol config choices.now)) }
-    ensures ending { IfOk result (IsEndingOf test.now (run_under test.now protocol config choices.now)) }
-    ensures fits { IfOk result (FitsEnding test.now) }
-    ensures answers { OnOk result (AnswersFit test.now protocol config choices.now) }
-    ensures counts { IfOk result (HasCounts (counts_under test.now protocol config choices.now)) }
+) -> Result<ToldRun, NoMemory>
+    requires { CoresExist (length setup.now.test.now.programs) choices.now }
+    ensures trace { IfOk result (λ r. string_bytes r.text ≡ string_bytes text ++ trace_text setup.now.test.now setup.now.config.shape.words (trace_under setup.now.test.now setup.now.protocol setup.now.config choices.now)) }
+    ensures ending { IfOk result (λ r. IsEndingOf setup.now.test.now (run_under setup.now.test.now setup.now.protocol setup.now.config choices.now) r.ending) }
+    ensures fits { IfOk result (λ r. FitsEnding setup.now.test.now r.ending) }
+    ensures answers { OnOk result (AnswersFit setup.now.test.now setup.now.protocol setup.now.config choices.now) }
+    ensures counts { IfOk result (λ r. HasCounts (counts_under setup.now.test.now setup.now.protocol setup.now.config choices.now) r.ending) }
 {
-    match protocol {
-        ProtocolKind::Msi => tell_run(text, alloc, test, Msi, config, choices, stalls),
-        ProtocolKind::Mesi => tell_run(text, alloc, test, Mesi, config, choices, stalls),
-        ProtocolKind::Moesi => tell_run(text, alloc, test, Moesi, config, choices, stalls),
-        ProtocolKind::Mosi => tell_run(text, alloc, test, Mosi, config, choices, stalls),
+    let mut teller = Teller {
+        alloc,
+        test: setup.test,
+        config: setup.config,
+        states: Vec::new(alloc),
+        made: 0,
+        text,
+        stalls: Stalls::none(),
+    };
+    let ending = simulate_observed(alloc, setup, choices, &mut teller)?;
+    Ok(ToldRun {
+        ending,
+        text: teller.text,
+        stalls: teller.stalls,
+    })
+}
+
+/// Writes a line for each choice, and notes which choices stalled.
+#[derive(Drop)]
+pub(crate) struct Teller<'t> {
+    alloc: Global,
+    test: &'t Test,
+    config: Config,
+    /// What the machine's lines are in.
+    states: Vec<PlacedState>,
+    /// How many choices were made.
+    made: usize,
+    text: String,
+    stalls: Stalls,
+}
+
+impl<'t> Observer for Teller<'t> {
+    ghost begins = { λ o m. IsTraced o.test.now o.config m };
+
+    ghost opens = { Opens };
+
+    ghost watches = { λ o m. IsTracedInStates o.test.now o.config m o.states.items };
+
+    ghost makes = { Tells };
+
+    ghost ends = { Closes };
+
+    fn begin<P: Protocol>(&mut self, machine: &Machine<'_, P>) -> Result<(), NoMemory> {
+        self.states = states_of(self.alloc, machine, self.test, self.config.words())?;
+        write_start(&mut self.text)
     }
-}
 
-/// The run on a machine of this protocol.
-fn tell_run<P: Protocol>(
-    text: &mut String,
-    alloc: Global,
-    test: &Test,
-    protocol: P,
-    config: Config,
-    choices: &[Choice],
-    stalls: &mut Stalls,
-) -> Result<Ending, NoMemory>
-    requires { CoresExist (length test.now.programs) choices.now }
-    ensures trace { OnOk result (string_bytes text.new ≡ string_bytes text.old ++ trace_text test.now config.shape.words (trace_of (P.table protocol) config test.now choices.now)) }
-    ensures ending { IfOk result (IsEndingOf test.now (run_by config.bus (P.table protocol) config test.now choices.now)) }
-    ensures fits { IfOk result (FitsEnding test.now) }
-    ensures answers { OnOk result (AnswersFitBy (P.table protocol) config test.now choices.now) }
-    ensures counts { IfOk result (HasCounts (counts_by (P.table protocol) config test.now choices.now)) }
-{
-    attempts_lead_from_state_to_state();
-    atomic_runs_are_flat_runs();
-    runs_on_either_bus_stop_where_they_end();
-    ended_runs_of_machines_are_executions();
-    whole_orders_have_each_entry_once();
-    test.know_limits();
-    let mut machine = Machine::new(alloc, protocol, test, config)?;
-    write_start(text)?;
-    let progress = drive_telling(text, alloc, &mut machine, test, config, choices, stalls)?;
-    write_end(text, progress.used)?;
-    let unused = choices.len() - progress.used;
-    let ending = ending_of(alloc, machine, test, progress, unused)?;
-    Ok(ending)
-}
-
-/// Makes the choices one after the other, until the test has ended, and writes a line for each. Those that stall are
-/// noted.
-fn drive_telling<P: Protocol>(
-    text: &mut String,
-    alloc: Global,
-    machine: &mut Machine<'_, P>,
-    test: &Test,
-    config: Config,
-    choices: &[Choice],
-    stalls: &mut Stalls,
-) -> Result<Progress, NoMemory>
-    requires traced { IsTraced test.now config machine.old }
-    requires cores { CoresExist (length test.now.programs) choices.now }
-    requires possible { IsPossibleOn machine.old.bus machine.old.test machine.old.depth machine.old.commits machine.old.state }
-    ensures drives { IfOk result (λ p. Drives machine.old machine.new choices.now p.used p.stalled) }
-    ensures few { IfOk result (λ p. p.used ≤ length choices.now) }
-    ensures count { IfOk result (λ p. p.used ≡ length (steps_from machine.old choices.now)) }
-    ensures lines { OnOk result (string_bytes text.new ≡ string_bytes text.old ++ step_lines test.now config.shape.words 1 (steps_from machine.old choices.now)) }
-{
-    attempts_lead_from_state_to_state();
-    what_holds_so_far_on_either_bus();
-    runs_on_either_bus_stop_where_they_end();
-    let words = config.words();
-    let mut states = states_of(alloc, machine, test, words)?;
-    let mut used = 0;
-    let mut stalled = 0;
-    let mut ended = machine.is_ended();
-    for choice in choices {
-        if ended {
-            return Ok(Progress { used, stalled });
-        }
-        let told = tell_or_stall(alloc, machine, &mut states, test, config, *choice)?;
-        used += 1;
+    fn choose<P: Protocol>(
+        &mut self,
+        machine: &mut Machine<'_, P>,
+        number: usize,
+        choice: Choice,
+    ) -> Result<Outcome, NoMemory> {
+        let alloc = self.alloc;
+        let test = self.test;
+        let told = tell_or_stall(alloc, machine, &mut self.states, test, self.config, choice)?;
+        self.made = number;
         match told {
-            // A stall changes nothing, so no test ends by one.
             Told::Stalled(reason) => {
-                write_stall(text, used, *choice, reason)?;
-                stalled += 1;
-                stalls.note(*choice, reason);
+                write_stall(&mut self.text, number, choice, reason)?;
+                self.stalls.note(choice, reason);
+                Ok(Outcome::Stalled(reason))
             }
             Told::Made(step) => {
-                write_step(text, alloc, test, words, used, &step)?;
-                ended = machine.is_ended();
+                let words = self.config.words();
+                write_step(&mut self.text, alloc, test, words, number, &step)?;
+                Ok(step.outcome)
             }
         }
     }
-    Ok(Progress { used, stalled })
+
+    fn end<P: Protocol>(&mut self, _machine: &Machine<'_, P>) -> Result<(), NoMemory> {
+        write_end(&mut self.text, self.made)
+    }
 }

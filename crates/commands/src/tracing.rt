@@ -17,8 +17,8 @@ use crate::told_run::simulate_telling;
 use hints::Cause;
 use machine_core::{Choice, Config};
 use protocol_tables::ProtocolKind;
-use scheduler::{Stalls, read_choices, spelled_cores_exist};
-use simulator::{Ending, SimFault, simulate_noting};
+use scheduler::{read_choices, spelled_cores_exist};
+use simulator::{Ending, Setup};
 use std::alloc::Global;
 use trace_json::{ended_json, unended_json};
 use tso_model::{NoMemory, Test};
@@ -39,8 +39,13 @@ pub fn trace_answer(
     ensures { IfOk result (λ a. IsTraceAnswer test.now protocol config json text.now (string_bytes a.text) a.status) }
 {
     spelled_cores_exist();
+    let setup = Setup {
+        test,
+        protocol,
+        config,
+    };
     match read_choices(alloc, test.cores(), text) {
-        Ok(choices) => answer_under(alloc, test, protocol, config, json, text, &choices),
+        Ok(choices) => answer_under(alloc, &setup, json, text, &choices),
         Err(fault) => refused_choices(alloc, test, text, fault),
     }
 }
@@ -48,77 +53,53 @@ pub fn trace_answer(
 /// The answer to the choices that the text spells, plain or as JSON.
 fn answer_under(
     alloc: Global,
-    test: &Test,
-    protocol: ProtocolKind,
-    config: Config,
+    setup: &Setup<'_>,
     json: bool,
     text: &[u8],
     choices: &[Choice],
 ) -> Result<Answer, NoMemory>
-    requires cores { CoresExist (length test.now.programs) choices.now }
-    requires spelled { SpellsChoices (length test.now.programs) text.now choices.now }
-    ensures { IfOk result (λ a. IsTraceAnswer test.now protocol config json text.now (string_bytes a.text) a.status) }
+    requires cores { CoresExist (length setup.now.test.now.programs) choices.now }
+    requires spelled { SpellsChoices (length setup.now.test.now.programs) text.now choices.now }
+    ensures { IfOk result (λ a. IsTraceAnswer setup.now.test.now setup.now.protocol setup.now.config json text.now (string_bytes a.text) a.status) }
 {
     if json {
-        object_answer(alloc, test, protocol, config, text, choices)
+        object_answer(alloc, setup, text, choices)
     } else {
-        lines_answer(alloc, test, protocol, config, text, choices)
+        let answer = lines_answer(alloc, setup, text, choices)?;
+        Ok(answer)
     }
 }
 
-/// The answer as lines.
+/// The answer as lines. The run is made once: its trace is written as its choices are made, and what stands after it is what
+/// the machine is left with.
 fn lines_answer(
     alloc: Global,
-    test: &Test,
-    protocol: ProtocolKind,
-    config: Config,
+    setup: &Setup<'_>,
     text: &[u8],
     choices: &[Choice],
 ) -> Result<Answer, NoMemory>
-    requires cores { CoresExist (length test.now.programs) choices.now }
-    requires spelled { SpellsChoices (length test.now.programs) text.now choices.now }
-    ensures { IfOk result (λ a. IsTraceAnswer test.now protocol config false text.now (string_bytes a.text) a.status) }
+    requires { CoresExist (length setup.now.test.now.programs) choices.now }
+    ensures says { IfOk result (λ a. Says a (traced_in false setup.now.test.now setup.now.protocol setup.now.config choices.now) (status_under setup.now.test.now setup.now.protocol setup.now.config choices.now)) }
+    ensures answers { OnOk result (AnswersFit setup.now.test.now setup.now.protocol setup.now.config choices.now) }
 {
-    let mut stalls = Stalls::none();
-    let answer = traced_under(alloc, test, protocol, config, choices, &mut stalls)?;
-    Ok(Answer {
-        text: answer.text,
-        status: answer.status,
-        cause: cause_of(answer.status, test, text, config, stalls),
-    })
-}
-
-/// The run is made once: its trace is written as its choices are made, and what stands after it is what the machine is
-/// left with.
-fn traced_under(
-    alloc: Global,
-    test: &Test,
-    protocol: ProtocolKind,
-    config: Config,
-    choices: &[Choice],
-    stalls: &mut Stalls,
-) -> Result<Answer, NoMemory>
-    requires { CoresExist (length test.now.programs) choices.now }
-    ensures says { IfOk result (λ a. Says a (traced_in false test.now protocol config choices.now) (status_under test.now protocol config choices.now)) }
-    ensures answers { OnOk result (AnswersFit test.now protocol config choices.now) }
-{
-    let mut text = head_text(alloc, test, protocol, config)?;
-    let ending = simulate_telling(&mut text, alloc, test, protocol, config, choices, stalls)?;
-    match ending {
+    let head = head_text(alloc, setup.test, setup.protocol, setup.config)?;
+    let told = simulate_telling(head, alloc, setup, choices)?;
+    let mut lines = told.text;
+    match told.ending {
         Ending::Ended(run) => {
-            write_body(&mut text, test, &run)?;
+            write_body(&mut lines, setup.test, &run)?;
             Ok(Answer {
-                text,
+                text: lines,
                 status: Status::Good,
                 cause: Cause::Nothing,
             })
         }
         Ending::Unfinished { used, stalled } => {
-            write!(text, "Unfinished used={used} stalled={stalled}\n")?;
+            write!(lines, "Unfinished used={used} stalled={stalled}\n")?;
             Ok(Answer {
-                text,
+                text: lines,
                 status: Status::Unended,
-                cause: Cause::Nothing,
+                cause: cause_of(Status::Unended, setup, text, told.stalls),
             })
         }
     }
@@ -127,24 +108,22 @@ fn traced_under(
 /// The answer as JSON.
 fn object_answer(
     alloc: Global,
-    test: &Test,
-    protocol: ProtocolKind,
-    config: Config,
+    setup: &Setup<'_>,
     text: &[u8],
     choices: &[Choice],
 ) -> Result<Answer, NoMemory>
-    requires cores { CoresExist (length test.now.programs) choices.now }
-    requires spelled { SpellsChoices (length test.now.programs) text.now choices.now }
-    ensures { IfOk result (λ a. IsTraceAnswer test.now protocol config true text.now (string_bytes a.text) a.status) }
+    requires cores { CoresExist (length setup.now.test.now.programs) choices.now }
+    requires spelled { SpellsChoices (length setup.now.test.now.programs) text.now choices.now }
+    ensures { IfOk result (λ a. IsTraceAnswer setup.now.test.now setup.now.protocol setup.now.config true text.now (string_bytes a.text) a.status) }
 {
-    match measure(alloc, test, protocol, config, text, choices)? {
+    match measure(alloc, setup, text, choices)? {
         Measured::TooLong(word) => refused_trace(alloc, text, word),
         Measured::Fits(driven) => {
-            let answer = object_of(alloc, test, protocol, config, choices, &driven.ending)?;
+            let answer = object_of(alloc, setup, choices, &driven.ending)?;
             Ok(Answer {
                 text: answer.text,
                 status: answer.status,
-                cause: cause_of(answer.status, test, text, config, driven.stalls),
+                cause: cause_of(answer.status, setup, text, driven.stalls),
             })
         }
     }
@@ -153,21 +132,19 @@ fn object_answer(
 /// The object of a run of these choices that left the test so.
 fn object_of(
     alloc: Global,
-    test: &Test,
-    protocol: ProtocolKind,
-    config: Config,
+    setup: &Setup<'_>,
     choices: &[Choice],
     ending: &Ending,
 ) -> Result<Answer, NoMemory>
-    requires cores { CoresExist (length test.now.programs) choices.now }
-    requires ending { IsEndingOf test.now (run_under test.now protocol config choices.now) ending.now }
-    requires fits { FitsEnding test.now ending.now }
-    requires counts { HasCounts (counts_under test.now protocol config choices.now) ending.now }
-    ensures { IfOk result (λ a. Says a (traced_in true test.now protocol config choices.now) (status_under test.now protocol config choices.now)) }
+    requires cores { CoresExist (length setup.now.test.now.programs) choices.now }
+    requires ending { IsEndingOf setup.now.test.now (run_under setup.now.test.now setup.now.protocol setup.now.config choices.now) ending.now }
+    requires fits { FitsEnding setup.now.test.now ending.now }
+    requires counts { HasCounts (counts_under setup.now.test.now setup.now.protocol setup.now.config choices.now) ending.now }
+    ensures { IfOk result (λ a. Says a (traced_in true setup.now.test.now setup.now.protocol setup.now.config choices.now) (status_under setup.now.test.now setup.now.protocol setup.now.config choices.now)) }
 {
     match ending {
         Ending::Ended(run) => {
-            let text = ended_json(alloc, test, protocol, config, choices, run)?;
+            let text = ended_json(alloc, setup, choices, run)?;
             Ok(Answer {
                 text,
                 status: Status::Good,
@@ -175,7 +152,7 @@ fn object_of(
             })
         }
         Ending::Unfinished { used, stalled } => {
-            let text = unended_json(alloc, test, protocol, config, choices, *used, *stalled)?;
+            let text = unended_json(alloc, setup, choices, *used, *stalled)?;
             Ok(Answer {
                 text,
                 status: Status::Unended,

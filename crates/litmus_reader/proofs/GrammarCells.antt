@@ -1,6 +1,5 @@
 -- Cells are read as they are spelled.
-use Rattle.litmus_reader.proofs.Vocabulary.{◌≡◌, ℕ, true, false, cond, List, [], ◌∷◌, ◌++◌, map, Some, None, refl, sym, ap, subst, ◌∙◌, inl, inr, codes, to_ascii_lowercase, append-nil, bytes_eq-Decides, is_location_name, register_named, same_letters, Reg, OpenSquare, CloseSquare, Comma, Dollar, decimal_value, Term, number, name, symbol, Piece, is_symbol, symbol_at, name_at, number_at, there, location_at, register_at, ArgumentTerm, in_memory, in_register, constant, as_constant, memory_at, if_last, argument_at, two_arguments, mov_of, xchg_of, xadd_of, no_more, locked_by, by_mnemonic, locked_at, spelled_in, terms, IsOperand, IsCall, IsMove, IsExchange, IsCell, Shape, store_imm, store_reg, load, set_imm, set_reg, fence, xchg, xadd, name_then}
-use Rattle.litmus_reader.specs.GrammarCells.{IsAddition, IsLocked}
+use Rattle.litmus_reader.proofs.Vocabulary.{◌≡◌, ℕ, true, false, cond, List, [], ◌∷◌, ◌++◌, map, Some, None, refl, sym, ap, subst, ◌∙◌, inl, inr, codes, to_ascii_lowercase, append-nil, bytes_eq-Decides, is_location_name, register_named, same_letters, Reg, OpenSquare, CloseSquare, Comma, Dollar, decimal_value, Term, number, name, symbol, Piece, is_symbol, symbol_at, name_at, number_at, there, location_at, register_at, ArgumentTerm, in_memory, in_register, constant, as_constant, memory_at, if_last, argument_at, two_arguments, mov_of, xchg_of, xadd_of, no_more, locked_by, by_mnemonic, locked_at, spelled_in, terms, IsOperand, IsCall, IsMove, IsExchange, IsCell, Shape, store_imm, store_reg, load, set_imm, set_reg, fence, xchg, xadd, name_then, IsAddition, IsLocked}
 use Rattle.litmus_reader.specs.GrammarCells as cells
 use Rattle.litmus_reader.proofs.GrammarTokens.{chosen, there_is, there_some, some_is, pair_is, front, opened, no_terms, number_takes, name_takes, symbol_takes, Takes, takes, name_found}
 

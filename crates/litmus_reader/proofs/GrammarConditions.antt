@@ -2,10 +2,9 @@
 use Rattle.litmus_reader.proofs.Vocabulary.{◌≡◌, ℕ, zero, suc, ◌≤◌, Bool, true, false, List, [], ◌∷◌, ◌++◌, length, Some, None, Ok, Err, refl, sym, ap, subst, ◌∙◌, inl, inr, append_assoc, codes, NotClaim, Stop, OpenRound, CloseRound, And, Or, Tilde, Term, name, symbol, number, Piece, is_symbol, is_symbol_term, symbol_at, name_at, TooLarge, there, or_unfit, word_after, Claimed, claimed, atom_at, Proposition, disjunction, negation_at, opens_unit, bracketed, unit_by, unit_at, proposition_at, terms, IsAtom, says_true, says_false, says_setting, IsProposition, in_brackets, is_negation, IsUnit, IsWithin, fault, remaining_of, Phrase, negation, Symbol, bytes_eq, part_of, BadCondition, ◌>>=◌, ◌||◌}
 use Rattle.litmus_reader.specs.GrammarConditions.{plain, negated as negated_by}
 use Rattle.litmus_reader.proofs.GrammarTokens.{chosen, there_is, some_is, ok_is, bind_ok, or_unfit_ok, front, opened, symbol_takes, word_taken}
-use Rattle.litmus_reader.proofs.GrammarPhrases.{Finds, Takes, spelled_as, Anything, proposition_takes, proposition_finds}
+use Rattle.litmus_reader.proofs.GrammarPhrases.{Finds, Takes, spelled_as, Anything, proposition_takes, proposition_finds, begins_with}
 use Rattle.litmus_reader.proofs.GrammarAtoms.{setting_plain, atom_found, atom_taken}
 use Rattle.litmus_reader.proofs.Readings.{given_by, ReadsPhrase, SpellsPhrase}
-use Rattle.litmus_reader.proofs.GrammarPhrases.{begins_with}
 
 -- ---- units found
 

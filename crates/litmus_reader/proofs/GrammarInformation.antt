@@ -1,7 +1,6 @@
 -- Information lines are read where they are spelled.
-use Rattle.litmus_reader.proofs.Vocabulary.{◌≡◌, ℕ, zero, suc, ◌<◌, Bool, true, false, cond, eqb, eqb-true, List, [], ◌∷◌, ◌++◌, length, drop, Some, None, Ok, refl, sym, ap, subst, ◌∙◌, inl, inr, arith, is_ascii_alphabetic, list_all, prefix_len, not-true, length-append, gap_end, from_gap, ◌>>=◌, quotation_end, information_end, begins_initial, braces_within, braces_at, first_line, is_quoted, IsInformation, quotation, key_line, AreInformationLines, none, continues_key, ◌||◌}
+use Rattle.litmus_reader.proofs.Vocabulary.{◌≡◌, ℕ, zero, suc, ◌<◌, Bool, true, false, cond, eqb, eqb-true, List, [], ◌∷◌, ◌++◌, length, drop, Some, None, Ok, refl, sym, ap, subst, ◌∙◌, inl, inr, arith, is_ascii_alphabetic, list_all, prefix_len, not-true, length-append, gap_end, from_gap, ◌>>=◌, quotation_end, information_end, begins_initial, braces_within, braces_at, first_line, is_quoted, IsInformation, quotation, key_line, AreInformationLines, none, continues_key, ◌||◌, key_value, key_line_end}
 use Rattle.std.specs.Int.{is_in_range}
-use Rattle.litmus_reader.specs.Information.{key_value, key_line_end}
 use Rattle.litmus_reader.specs.GrammarText.{more}
 use Rattle.litmus_reader.proofs.GrammarTokens.{chosen, some_is, ok_is, bind_ok, or_fault_ok}
 use Rattle.litmus_reader.proofs.GrammarGaps.{gap_within, from_gap_ok}

@@ -1,6 +1,5 @@
 -- Rows are separated into cells as they are spelled.
-use Rattle.litmus_reader.proofs.Vocabulary.{◌≡◌, ℕ, suc, ◌+◌, ◌<◌, Bool, true, false, ltb, List, [], ◌∷◌, ◌++◌, length, Option, Some, None, Ok, Err, refl, sym, ap, subst, ◌∙◌, inl, inr, append_assoc, arith, slice_split, onto_first, position_or_len, before_first, after_first, ltb-true, lt-ltb, append-nil, slice_split-cons_yes, slice_split-cons_no, Stop, Symbol, OpenSquare, CloseSquare, Comma, Dollar, Semicolon, Bar, Term, symbol, Piece, is_symbol_term, is_symbol, name_at, Unclosed, spelled_in, row_at, terms, IsCell, IsField, empty, full, AreFields, IsRow, row, fault, at_stop, remaining_of, Shape, cells_of, ArgumentTerm, codes, IsOperand, IsCall, Passes}
-use Rattle.litmus_reader.specs.GrammarCells.{IsLocked}
+use Rattle.litmus_reader.proofs.Vocabulary.{◌≡◌, ℕ, suc, ◌+◌, ◌<◌, Bool, true, false, ltb, List, [], ◌∷◌, ◌++◌, length, Option, Some, None, Ok, Err, refl, sym, ap, subst, ◌∙◌, inl, inr, append_assoc, arith, slice_split, onto_first, position_or_len, before_first, after_first, ltb-true, lt-ltb, append-nil, slice_split-cons_yes, slice_split-cons_no, Stop, Symbol, OpenSquare, CloseSquare, Comma, Dollar, Semicolon, Bar, Term, symbol, Piece, is_symbol_term, is_symbol, name_at, Unclosed, spelled_in, row_at, terms, IsCell, IsField, empty, full, AreFields, IsRow, row, fault, at_stop, remaining_of, Shape, cells_of, ArgumentTerm, codes, IsOperand, IsCall, Passes, IsLocked}
 use Rattle.litmus_reader.specs.GrammarCells as cells
 use Rattle.litmus_reader.specs.GrammarRows.{last, more}
 use Rattle.litmus_tokens.proofs.Symbols.{spelled_so}

@@ -1,7 +1,6 @@
 -- What the grammar has as a location's name is one that a location may have.
-use Rattle.litmus_reader.proofs.Vocabulary.{◌≡◌, ℕ, true, false, not, List, [], ◌∷◌, ◌++◌, Option, refl, sym, ap, ◌∙◌, list_any, list_all, bytes_eq, and_parts, and_from, or_parts, not-true, list_all-append, flat_map, is_location_name, is_among, are_distinct, Term, numbered, with_name, IsSetting, sets_register, sets_location, sets_in_squares, IsInitialItem, AreInitialItems, IsInitialState, in_braces, names_in, IsOperand, IsCall, IsMove, IsExchange, IsCell, IsField, empty, full, AreFields, IsRow, row, AreRows, in_field, in_rows, location_in, Shape, ArgumentTerm, in_memory, in_register, constant, Setting}
+use Rattle.litmus_reader.proofs.Vocabulary.{◌≡◌, ℕ, true, false, not, List, [], ◌∷◌, ◌++◌, Option, refl, sym, ap, ◌∙◌, list_any, list_all, bytes_eq, and_parts, and_from, or_parts, not-true, list_all-append, flat_map, is_location_name, is_among, are_distinct, Term, numbered, with_name, IsSetting, sets_register, sets_location, sets_in_squares, IsInitialItem, AreInitialItems, IsInitialState, in_braces, names_in, IsOperand, IsCall, IsMove, IsExchange, IsCell, IsField, empty, full, AreFields, IsRow, row, AreRows, in_field, in_rows, location_in, Shape, ArgumentTerm, in_memory, in_register, constant, Setting, IsAddition, IsLocked}
 use Rattle.litmus_reader.specs.GrammarInitial as initial
-use Rattle.litmus_reader.specs.GrammarCells.{IsAddition, IsLocked}
 use Rattle.litmus_reader.specs.GrammarCells as cells
 use Rattle.litmus_reader.specs.GrammarRows as rows
 use Rattle.litmus_reader.specs.GrammarTable as table

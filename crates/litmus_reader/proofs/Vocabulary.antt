@@ -12,7 +12,7 @@ unfoldable pub use Rattle.litmus_tokens.specs.Gap.{gap_end, is_space}
 pub use Rattle.litmus_cells.specs.declared.fault.Fault.{Fault}
 pub use Rattle.litmus_reader.specs.Header.{from_gap, sized}
 unfoldable pub use Rattle.litmus_reader.specs.Header.{header_at}
-unfoldable pub use Rattle.litmus_reader.specs.Information.{information_end, begins_initial, braces_within, braces_at, quotation_end}
+unfoldable pub use Rattle.litmus_reader.specs.Information.{information_end, begins_initial, braces_within, braces_at, quotation_end, key_value, key_line_end}
 pub use Rattle.litmus_tokens.specs.declared.token.Stop.{Stop}
 pub use Rattle.litmus_tokens.specs.declared.token.Symbol.{Symbol}
 pub use Rattle.litmus_tokens.specs.declared.token.Symbol.TheVariants.{CloseCurly, Bar, Semicolon, Colon, OpenSquare, CloseSquare, Comma, Dollar, OpenCurly, OpenRound, CloseRound, And, Or, Tilde, Equals}
@@ -36,7 +36,7 @@ pub use Rattle.tso_model.specs.declared.register.Reg.{Reg}
 pub use Rattle.litmus_cells.specs.declared.fault.Why.TheVariants.{TwiceInit, TooLarge, Unclosed, NoSuchCore, WrongCells, BadHeaderRow, BadCondition, BadInstruction, BadNumber, NoMemory}
 pub use Rattle.litmus_cells.specs.Numbers.{word_at}
 pub use Rattle.litmus_reader.specs.inner.Initial.{given, initial, given_of, named_by_key, named_by_word, KnowsGiven, with_register, items_at}
-pub use Rattle.litmus_reader.specs.inner.Sections.{before_opening}
+pub use Rattle.litmus_reader.specs.inner.Sections.{before_opening, tokens_in, stop_of, is_one_of, Through, IsSection, opened, LastOr, item_ends, row_ends}
 unfoldable pub use Rattle.litmus_reader.specs.inner.Initial.{item_or_none, closes, section_in}
 pub use Rattle.litmus_cells.specs.Places.{fault}
 pub use Rattle.litmus_reader.specs.Written.{of_register, Setting, of_location, Phrase, truth, atom, negation, both, either, WrittenCondition, Written}
@@ -94,7 +94,7 @@ pub use Rattle.litmus_reader.specs.GrammarConditions.{IsCondition, IsWithin, loc
 pub use Rattle.litmus_reader.specs.GrammarInitial.{has_cores, names_in, first_words, first_registers, is_allowed, given_value, same_place, each_once, Fits, IsInitialItem, AreInitialItems, last, more, IsInitialState, in_braces, has_core, value_in, names_register, first_registers_of}
 pub use Rattle.std.proofs.lemmas.Slice.Eq.{bytes_eq-Decides}
 pub use Rattle.std.specs.Char.{to_ascii_lowercase, is_ascii_alphabetic, is_ascii_digit}
-pub use Rattle.litmus_reader.specs.GrammarCells.{IsOperand, IsCall, IsMove, IsExchange, IsCell}
+pub use Rattle.litmus_reader.specs.GrammarCells.{IsOperand, IsCall, IsMove, IsExchange, IsCell, IsAddition, IsLocked}
 pub use Rattle.litmus_reader.specs.GrammarItems.{IsSetting, sets_register, sets_location, sets_in_squares}
 pub use Rattle.litmus_reader.specs.GrammarColumns.{IsHeaderRow, core_name}
 pub use Rattle.std.proofs.lemmas.List.Folds.{list_all-append, list_any-append}
@@ -104,6 +104,5 @@ pub use Rattle.tso_model.specs.declared.register.Reg.TheVariants.{Eax, Ebx, Ecx,
 pub use Rattle.litmus_tokens.specs.declared.token.Stop.TheVariants.{End}
 pub use Rattle.litmus_reader.specs.GrammarEnding.{MayAsk, nothing, a_condition, IsEnding, at_once, after_locations, names_asked, condition_of, IsAskedWithin}
 pub use Rattle.litmus_cells.specs.declared.fault.Why.{Why}
-pub use Rattle.litmus_reader.specs.inner.Sections.{tokens_in, stop_of, is_one_of, Through, IsSection, opened, LastOr, item_ends, row_ends}
 pub use Rattle.std.proofs.lemmas.Result.{err_from_is_err_and}
 pub use Rattle.litmus_reader.specs.inner.Cells.{cells_after}

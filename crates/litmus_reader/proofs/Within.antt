@@ -1,11 +1,9 @@
 -- What a text spells is within the limits of a test, for what is written keeps them.
-use Rattle.litmus_reader.proofs.Vocabulary.{◌≡◌, ℕ, zero, suc, ◌≤◌, ◌<◌, ◌^◌, Bool, true, false, cond, not, eqb, ltb, ◌&&◌, List, [], ◌∷◌, ◌++◌, length, map, All, Option, Some, None, Ok, refl, sym, ap, subst, ◌∙◌, arith, list_all, bytes_eq, IsUtf8, and_parts, and_from, ltb-true, nat_tests, AllPass-from_list_all, All-weaker, All-nil, All-cons, All-head, All-tail, All-map, length-map, length-map-range_with_len, range_with_len, flat_map, Litmus, IsTest, KnownLocation, ConstantIsWord, IsProgram, IsWord, AreRegisters, NamesExist, atoms_in, negations_in, Condition, is_name, is_location_name, is_register_word, is_test_name, is_printable, begins_name, continues_name, last_byte, Term, And, Or, Symbol, Stop, Piece, header_at, Initial, initial_at, Table, table_at, tail_at, test_of, body_of, reading_of, numbered, Fits, first_registers, first_registers_of, value_in, given_value, names_in, in_field, in_rows, column, location_in, instr_with, ValueFits, Shape, store_imm, store_reg, load, set_imm, set_reg, fence, xchg, xadd, IsAtom, says_true, says_false, says_setting, AreJoined, IsConjunction, IsProposition, IsUnit, in_brackets, condition, MayAsk, nothing, a_condition, IsEnding, at_once, after_locations, names_asked, IsAskedWithin, settings_in, locations_in, atoms_of, PhraseFits, claim_by, Setting, of_register, of_location, Phrase, truth, atom, negation, both, either, WrittenCondition, Written, tokens_in, stop_of, condition_of, AreWithin, Instr}
+use Rattle.litmus_reader.proofs.Vocabulary.{◌≡◌, ℕ, zero, suc, ◌≤◌, ◌<◌, ◌^◌, Bool, true, false, cond, not, eqb, ltb, ◌&&◌, List, [], ◌∷◌, ◌++◌, length, map, All, Option, Some, None, Ok, refl, sym, ap, subst, ◌∙◌, arith, list_all, bytes_eq, IsUtf8, and_parts, and_from, ltb-true, nat_tests, AllPass-from_list_all, All-weaker, All-nil, All-cons, All-head, All-tail, All-map, length-map, length-map-range_with_len, range_with_len, flat_map, Litmus, IsTest, KnownLocation, ConstantIsWord, IsProgram, IsWord, AreRegisters, NamesExist, atoms_in, negations_in, Condition, is_name, is_location_name, is_register_word, is_test_name, is_printable, begins_name, continues_name, last_byte, Term, And, Or, Symbol, Stop, Piece, header_at, Initial, initial_at, Table, table_at, tail_at, test_of, body_of, reading_of, numbered, Fits, first_registers, first_registers_of, value_in, given_value, names_in, in_field, in_rows, column, location_in, instr_with, ValueFits, Shape, store_imm, store_reg, load, set_imm, set_reg, fence, xchg, xadd, IsAtom, says_true, says_false, says_setting, AreJoined, IsConjunction, IsProposition, IsUnit, in_brackets, condition, MayAsk, nothing, a_condition, IsEnding, at_once, after_locations, names_asked, IsAskedWithin, settings_in, locations_in, atoms_of, PhraseFits, claim_by, Setting, of_register, of_location, Phrase, truth, atom, negation, both, either, WrittenCondition, Written, tokens_in, stop_of, condition_of, AreWithin, Instr, slice_index_or, Eax, Ebx, Ecx, Edx, Esi, Edi}
 use Rattle.std.proofs.lemmas.Str.{IsUtf8-from_ascii}
 use Rattle.std.proofs.lemmas.Str.Ascii.{IsAscii-from_all}
 use Rattle.std.specs.Option.{ForSome}
-use Rattle.std.specs.Prelude.{slice_index_or}
 use Rattle.tso_model.specs.Litmus.{IsCondition as IsConditionOf}
-use Rattle.tso_model.specs.declared.register.Reg.TheVariants.{Eax, Ebx, Ecx, Edx, Esi, Edi}
 use Rattle.litmus_tokens.proofs.Pieces.{begins_in_name}
 use Rattle.litmus_reader.specs.GrammarInitial as initial
 use Rattle.litmus_reader.specs.GrammarConditions as conditions

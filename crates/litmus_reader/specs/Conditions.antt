@@ -1,7 +1,6 @@
 -- The condition, as it is read: by recursion on its units, of which only so many may be open at once; so the reading comes
 -- to an end.
-use Rattle.std.specs.Prelude.{ℕ, zero, suc, ◌+◌, Bool, true, false, List, length, codes, Option, Some, None, Result, Ok}
-use Rattle.std.specs.Prelude.{Err, nat_lt, is_some, ◌||◌, if◌then◌else◌}
+use Rattle.std.specs.Prelude.{ℕ, zero, suc, ◌+◌, Bool, true, false, List, length, codes, Option, Some, None, Result, Ok, Err, nat_lt, is_some, ◌||◌, if◌then◌else◌}
 use Rattle.tso_model.specs.Condition.{Claim, TruthClaim, RegClaim, LocClaim, NotClaim, AndClaim, OrClaim, Condition}
 use Rattle.tso_model.specs.declared.condition.Quantifier.{Quantifier}
 use Rattle.tso_model.specs.declared.condition.Quantifier.TheVariants.{Exists, NotExists, Forall}

@@ -1,8 +1,6 @@
 -- Which bytes spell a header line, information lines, and the brackets of `locations [..]`. White space and comments,
 -- and that they end, are the lexical layer's.
-use Rattle.std.specs.Prelude.{◌≡◌, ℕ, Bool, List, [], ◌∷◌, ◌++◌, codes, None, Ok, IsTrue, IsFalse}
-use Rattle.std.specs.Prelude.{◌==◌, not, ◌-◌, false, length, take, drop, nat_eq, Option, Some, ◌&&◌}
-use Rattle.std.specs.Prelude.{◌||◌, if◌then◌else◌}
+use Rattle.std.specs.Prelude.{◌≡◌, ℕ, Bool, List, [], ◌∷◌, ◌++◌, codes, None, Ok, IsTrue, IsFalse, ◌==◌, not, ◌-◌, false, length, take, drop, nat_eq, Option, Some, ◌&&◌, ◌||◌, if◌then◌else◌}
 use Rattle.std.specs.List.{list_all, prefix_len, suffix_len, starts_with, before_first, after_first}
 use Rattle.std.specs.Char.{is_ascii_alphabetic, is_ascii_alphanumeric}
 use Rattle.tso_model.specs.Names.{is_test_name}

@@ -1,7 +1,6 @@
 -- Information lines, between the header line and the initial state. They are read as bytes, for anything may stand in
 -- quotation marks.
-use Rattle.std.specs.Prelude.{ℕ, zero, suc, Bool, false, List, [], ◌∷◌, length, drop, Option, Some, None, Result, Ok}
-use Rattle.std.specs.Prelude.{Err, ◌==◌, if◌then◌else◌}
+use Rattle.std.specs.Prelude.{ℕ, zero, suc, Bool, false, List, [], ◌∷◌, length, drop, Option, Some, None, Result, Ok, Err, ◌==◌, if◌then◌else◌}
 use Rattle.std.specs.List.{prefix_len}
 use Rattle.std.specs.Char.{is_ascii_alphabetic}
 use Rattle.litmus_tokens.specs.Gap.{gap_end}

@@ -3,7 +3,6 @@ use Rattle.machine_core.proofs.Vocabulary.{◌≡◌, ℕ, zero, suc, List, [], 
 use Rattle.snoop_bus.specs.declared.access.Access as bus_access
 use Rattle.snoop_bus.specs.declared.holding.HeldBus.{HeldBus}
 use Rattle.snoop_bus.specs.Held as bus
-use Rattle.snoop_bus.specs.declared.holding.Stage.TheVariants.{Write}
 
 pub All-got : {X : Type 0} (P : X → Type 0) (xs : List X) (i : ℕ) (x : X) → All P xs → slice_get xs i ≡ Some x → P x
 All-got P [] i x all h = absurd (let z : ⊥ = cc in z)

@@ -7,10 +7,6 @@ abbrev pub with_front : List Entry → Result (List Entry) OrderFault → Result
 with_front front (Ok es) = Ok (front ++ es)
 with_front front (Err fault) = Err fault
 
-pub with_front-nil : (read : Result (List Entry) OrderFault) → with_front [] read ≡ read
-with_front-nil (Ok es) = refl
-with_front-nil (Err fault) = refl
-
 regroup : (front : List Entry) (e : Entry) (read : Result (List Entry) OrderFault) → with_front front (onto e read) ≡ with_front (front ++ e ∷ []) read
 regroup front e (Ok es) = ap (λ (l : List Entry). Ok l) (sym (append_assoc front (e ∷ []) es))
 regroup front e (Err fault) = refl

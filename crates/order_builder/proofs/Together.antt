@@ -167,26 +167,11 @@ none-wait (x ∷ xs) w = absurd (let z : false ≡ true = w.1 in let c : ⊥ = c
 pub drop-got : (xs : List Entry) (i : ℕ) (x : Entry) → i < length xs → x ≡ slice_index_or xs i x → drop i xs ≡ x ∷ drop (i + 1) xs
 drop-got xs i x h q = rw add-one (drop-cons xs i x h ∙ ap (λ y. y ∷ drop (suc i) xs) (sym q))
 
-take-got : (xs : List Entry) (i : ℕ) (x : Entry) → i < length xs → x ≡ slice_index_or xs i x → take (i + 1) xs ≡ take i xs ++ x ∷ []
-take-got [] i x h q = absurd (omega arith)
-take-got (y ∷ ys) zero x h q = ap (λ z. z ∷ []) (sym q)
-take-got (y ∷ ys) (suc i) x h q = rw add-one (ap (λ zs. y ∷ zs) (rw add-one at (take-got ys i x (omega arith) q)))
-
 pub first-found : (core : ℕ) (xs : List Entry) (i : ℕ) (x : Entry) → i < length xs → x ≡ slice_index_or xs i x → (x.core.0 == core) ≡ true → first_of_core core (drop i xs) ≡ Some x
 first-found core xs i x h q e = ap (first_of_core core) (drop-got xs i x h q) ∙ rw e refl
 
 pub others-found : (core : ℕ) (xs : List Entry) (i : ℕ) (x : Entry) → i < length xs → x ≡ slice_index_or xs i x → (x.core.0 == core) ≡ true → others_of core (drop i xs) ≡ drop (i + 1) xs
 others-found core xs i x h q e = ap (others_of core) (drop-got xs i x h q) ∙ rw e refl
-
-pub first-passed : (core : ℕ) (xs : List Entry) (i : ℕ) (x : Entry) → i < length xs → x ≡ slice_index_or xs i x → (x.core.0 == core) ≡ false → first_of_core core (drop i xs) ≡ first_of_core core (drop (i + 1) xs)
-first-passed core xs i x h q e = ap (first_of_core core) (drop-got xs i x h q) ∙ rw e refl
-
-pub others-passed : (core : ℕ) (xs : List Entry) (i : ℕ) (x : Entry) → i < length xs → x ≡ slice_index_or xs i x → (x.core.0 == core) ≡ false
-    → take i xs ++ others_of core (drop i xs) ≡ take (i + 1) xs ++ others_of core (drop (i + 1) xs)
-others-passed core xs i x h q e =
-    ap (λ ys. take i xs ++ ys) (ap (others_of core) (drop-got xs i x h q) ∙ (let z : others_of core (x ∷ drop (i + 1) xs) ≡ x ∷ others_of core (drop (i + 1) xs) = rw e refl in z))
-    ∙ sym (append_assoc (take i xs) (x ∷ []) (others_of core (drop (i + 1) xs)))
-    ∙ ap (λ ys. ys ++ others_of core (drop (i + 1) xs)) (sym (take-got xs i x h q))
 
 drop-all : (xs : List Entry) → drop (length xs) xs ≡ []
 drop-all [] = refl

@@ -22,16 +22,16 @@ pub all-digits : (n : ℕ) → list_all is_ascii_digit (decimal n) ≡ true
 unfolding digits
 all-digits n = onto-digits 64 n [] refl
 
+pub digits-are : (p : ℕ → Bool) (bs : List ℕ) → ((b : ℕ) → is_ascii_digit b ≡ true → p b ≡ true) → list_all is_ascii_digit bs ≡ true → list_all p bs ≡ true
+digits-are p [] each all = refl
+digits-are p (b ∷ bs) each all =
+    let parts = and_parts (is_ascii_digit b) (list_all is_ascii_digit bs) all in
+    and_from _ _ (each b parts.0) (digits-are p bs each parts.1)
+
 -- ---- texts without a byte
 
 abbrev pub is_other : ℕ → ℕ → Bool
 is_other byte b = not (b == byte)
-
-pub digits-other : (byte : ℕ) (bs : List ℕ) → ((b : ℕ) → is_ascii_digit b ≡ true → is_other byte b ≡ true) → list_all is_ascii_digit bs ≡ true → list_all (is_other byte) bs ≡ true
-digits-other byte [] other all = refl
-digits-other byte (b ∷ bs) other all =
-    let parts = and_parts (is_ascii_digit b) (list_all is_ascii_digit bs) all in
-    and_from _ _ (other b parts.0) (digits-other byte bs other parts.1)
 
 pub both-other : (byte : ℕ) (xs ys : List ℕ) → list_all (is_other byte) xs ≡ true → list_all (is_other byte) ys ≡ true → list_all (is_other byte) (xs ++ ys) ≡ true
 both-other byte xs ys p q = list_all-append (is_other byte) xs ys ∙ and_from _ _ p q
@@ -56,13 +56,13 @@ last-cut byte (x ∷ xs) (y ∷ ys) a b p q e =
 -- ---- numbers in a word, and in a line
 
 pub number-no-space : (n : ℕ) → list_all (is_other 32) (decimal n) ≡ true
-number-no-space n = digits-other 32 (decimal n) no-space (all-digits n)
+number-no-space n = digits-are (is_other 32) (decimal n) no-space (all-digits n)
   where
     no-space : (b : ℕ) → is_ascii_digit b ≡ true → is_other 32 b ≡ true
     no-space b is = grind (arith, nat_tests)
 
 pub number-in-line : (n : ℕ) → list_all (is_other 10) (decimal n) ≡ true
-number-in-line n = digits-other 10 (decimal n) no-feed (all-digits n)
+number-in-line n = digits-are (is_other 10) (decimal n) no-feed (all-digits n)
   where
     no-feed : (b : ℕ) → is_ascii_digit b ≡ true → is_other 10 b ≡ true
     no-feed b is = grind (arith, nat_tests)

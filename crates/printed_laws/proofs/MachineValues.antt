@@ -1,6 +1,5 @@
 -- The JSON value of a machine tells its cores and its memory.
-use Rattle.printed_laws.proofs.Vocabulary.{◌≡◌, ℕ, ◌<◌, Bool, true, false, List, [], ◌∷◌, ◌++◌, get_or, drop, refl, sym, ap, subst, ◌∙◌, zero, suc, Option, arith, ◌+◌, length, All, Some, None, ◌==◌, map, ◌/◌, if◌then◌else◌, take, IfSome, decimal, decimal_injective, max_depth, Data, array, outline, items_outline, codes, count, registers_value, memory_value, Litmus, IsTest, Configuration, All-head, All-tail, value_in, Reg, Entry, items_of, CoresExist, Choice, chosen, CoreState, core_of, IsD, ImD, SmD, line_name, store_text, names_in_line, transient_name, LineState, option_map, bare_store, array_of_texts, table_of, Running, new_machine, machine_after, line_state, IsTraced, traced-first, traced-next, Transient, bus_holder_of, BusHolder, words_per_line, copy_json, sets_json, core_json, cores_json, words_in_line, words_on_bus, bus_json, machine_json, cached_lines_in, core_with}
-use Rattle.std.proofs.lemmas.List.{append-nil}
+use Rattle.printed_laws.proofs.Vocabulary.{◌≡◌, ℕ, ◌<◌, Bool, true, false, List, [], ◌∷◌, ◌++◌, get_or, refl, sym, ap, subst, ◌∙◌, zero, suc, Option, arith, ◌+◌, length, All, Some, None, ◌==◌, map, ◌/◌, if◌then◌else◌, take, IfSome, decimal, decimal_injective, max_depth, Data, array, outline, items_outline, codes, count, registers_value, memory_value, Litmus, IsTest, Configuration, All-weaker, value_in, Reg, Entry, items_of, CoresExist, Choice, chosen, CoreState, core_of, IsD, ImD, SmD, line_name, store_text, later_stores, names_in_line, transient_name, LineState, option_map, bare_store, array_of_texts, table_of, Running, new_machine, machine_after, line_state, IsTraced, traced-first, traced-next, Transient, bus_holder_of, BusHolder, words_per_line, copy_json, sets_json, core_json, cores_json, words_in_line, words_on_bus, bus_json, machine_json, cached_lines_in, core_with}
 use Rattle.json.specs.Json as json
 use Rattle.snoop_bus.specs.declared.looking.CachedLine.{CachedLine}
 use Rattle.trace_report.specs.StepLaws.{after_choices}
@@ -12,28 +11,24 @@ use Rattle.printed_laws.proofs.JsonReports.{registers-told}
 use Rattle.printed_laws.proofs.JsonTexts.{members_in, items_in, value_at, text_at, first_item, more_items, uneven, texts_of, words-there}
 use Rattle.printed_laws.proofs.MachinesFit.{PendingFits, CoreFits}
 use Rattle.printed_laws.proofs.StepsFit.{MachineFits, fits-first, fits-next}
-use Rattle.printed_laws.proofs.TraceLines.{core-small, same-store}
+use Rattle.printed_laws.proofs.TraceLines.{core-small, StoreFits, later-cut}
 use Rattle.printed_laws.proofs.TraceNumbers.{holder-small, machine-back}
-use Rattle.printed_laws.proofs.TraceObjects.{option-told}
+use Rattle.printed_laws.proofs.TraceObjects.{each_spaced, option-told}
 use Rattle.printed_laws.proofs.TraceParts.{read_state, state-again}
-use Rattle.printed_laws.proofs.TraceWords.{value-cut, choice-cut}
+use Rattle.printed_laws.proofs.TraceWords.{choice-cut}
 
 -- ---- a core
 
+later-part : (t : Litmus) (es : List Entry) → later_stores t es ≡ each_spaced (map (store_text t) es)
+later-part t [] = refl
+later-part t (e ∷ es) = ap (λ (l : List ℕ). codes " " ++ (store_text t e ++ l)) (later-part t es)
+
 stores-told : (t : Litmus) (xs ys : List Entry) → IsTest t → All (PendingFits t) xs → All (PendingFits t) ys → map (store_text t) xs ≡ map (store_text t) ys → map bare_store xs ≡ map bare_store ys
-stores-told t [] [] test p q same = refl
-stores-told t [] (y ∷ ys) test p q same = let sizes = ap (λ (l : List (List ℕ)). length l) same in absurd (omega (arith, sizes))
-stores-told t (x ∷ xs) [] test p q same = let sizes = ap (λ (l : List (List ℕ)). length l) same in absurd (omega (arith, sizes))
-stores-told t (x ∷ xs) (y ∷ ys) test p q same =
-    let a = All-head (PendingFits t) x xs p in
-    let b = All-head (PendingFits t) y ys q in
-    let first : store_text t x ≡ store_text t y = ap (λ (l : List (List ℕ)). get_or l 0 []) same in
-    let name = λ (e : Entry). get_or t.locations e.loc.0 [] in
-    let flat = λ (e : Entry). ap (λ (l : List ℕ). name e ++ (codes "=" ++ l)) (append-nil (decimal e.value)) in
-    let cut = value-cut t x.loc.0 y.loc.0 x.value y.value [] [] test a.known b.known a.word b.word tt tt (flat x ∙ (first ∙ sym (flat y))) in
-    let this = same-store x y cut.0 cut.1 in
-    let further = stores-told t xs ys test (All-tail (PendingFits t) x xs p) (All-tail (PendingFits t) y ys q) (ap (λ (l : List (List ℕ)). drop 1 l) same) in
-    λ i. this i ∷ further i
+stores-told t xs ys test p q same =
+    let spaced = later-part t xs ∙ (ap each_spaced same ∙ sym (later-part t ys)) in
+    let fit = All-weaker (PendingFits t) (StoreFits t) (λ e f. (f.known, f.word)) xs p in
+    let fit' = All-weaker (PendingFits t) (StoreFits t) (λ e f. (f.known, f.word)) ys q in
+    (later-cut t xs ys [] [] test fit fit' (ap (λ (l : List ℕ). l ++ 93 ∷ []) spaced)).0
 
 -- a core's value, with the lines of its cache
 abbrev core-value : Litmus → Data → CoreState → Data

@@ -1,6 +1,7 @@
 -- The lines of a reason tell its steps.
-use Rattle.printed_laws.proofs.Vocabulary.{◌≡◌, ℕ, Bool, true, false, List, [], ◌∷◌, ◌++◌, get_or, refl, sym, ap, ◌∙◌, zero, suc, Option, length, All, Some, None, ◌==◌, map, if◌then◌else◌, decimal, list_all, flat_map, is_ascii_digit, append_cancel_left, append_assoc, length-replicate, codes, line, test_line, Litmus, IsTest, is_printable, All-head, All-tail, Condition, verdict_line, Model, ReasonStep, Case, So, Leaf, Endcases, leaves_in, Closing, Uniproc, Cycle, Amid, False, model_name, asked_line, never_line, reason_step_line, blanks, answer_text, closing_text, event_text, cycle_text, place_text, Tso, Sequential, on_location, global_in, Event, told_closing, told_reason_step, ClosingFits, ReasonsTellTheirTests, ReasonsTellTheirSteps, ReasonStepFits}
+use Rattle.printed_laws.proofs.Vocabulary.{◌≡◌, ℕ, Bool, true, false, List, [], ◌∷◌, ◌++◌, get_or, refl, sym, ap, ◌∙◌, zero, suc, Option, length, All, Some, None, ◌==◌, map, if◌then◌else◌, decimal, list_all, flat_map, is_ascii_digit, append_cancel_left, append_assoc, length-replicate, codes, line, test_line, Litmus, IsTest, is_printable, Condition, verdict_line, Model, ReasonStep, Case, So, Leaf, Endcases, leaves_in, Closing, Uniproc, Cycle, Amid, False, model_name, asked_line, never_line, reason_step_line, blanks, answer_text, closing_text, event_text, cycle_text, place_text, Tso, Sequential, on_location, global_in, Event, told_closing, told_reason_step, ClosingFits, ReasonsTellTheirTests, ReasonsTellTheirSteps, ReasonStepFits}
 use Rattle.printed_laws.proofs.Cutting.{unlike, run-cut}
+use Rattle.printed_laws.proofs.Lists.{list-cut}
 use Rattle.printed_laws.proofs.Digits.{all-digits}
 use Rattle.printed_laws.proofs.TraceWords.{read-cut}
 use Rattle.printed_laws.proofs.Heads.{printable-name}
@@ -129,12 +130,10 @@ step-cut model t a b rest other test p q e =
 abbrev NoStep : List ℕ → Type 0
 NoStep text = get_or text 0 86 ≡ 86
 
-no-step : {A : Type 0} (t : Litmus) (s : ReasonStep) (ss : List ReasonStep) (end other : List ℕ) → NoStep other → flat_map (reason_step_line t) (s ∷ ss) ++ end ≡ other → A
-no-step {A} t s ss end other ends e =
-    let after = flat_map (reason_step_line t) ss ++ end in
-    let x = body-begins t s after in
-    by_depth (depth_of s) (first_byte s) x.0 (no-verdict s)
-    (ap (λ (l : List ℕ). blanks (depth_of s) ++ l) (sym x.1) ∙ (sym (step-split t s after) ∙ (sym (append_assoc (reason_step_line t s) (flat_map (reason_step_line t) ss) end) ∙ e)))
+no-step : {A : Type 0} (t : Litmus) (s : ReasonStep) (more other : List ℕ) → NoStep other → reason_step_line t s ++ more ≡ other → A
+no-step {A} t s more other ends e =
+    let x = body-begins t s more in
+    by_depth (depth_of s) (first_byte s) x.0 (no-verdict s) (ap (λ (l : List ℕ). blanks (depth_of s) ++ l) (sym x.1) ∙ (sym (step-split t s more) ∙ e))
   where
     by_depth : (n b : ℕ) (more : List ℕ) → (b == 86) ≡ false → blanks n ++ b ∷ more ≡ other → A
     by_depth zero b more differ same = unlike 0 (b ∷ []) (86 ∷ []) differ (ap (λ (l : List ℕ). get_or l 0 86 ∷ []) same ∙ ap (λ (n : ℕ). n ∷ []) ends)
@@ -142,16 +141,9 @@ no-step {A} t s ss end other ends e =
 
 lines-cut : (model : Model) (t : Litmus) (xs ys : List ReasonStep) (end other : List ℕ) → IsTest t → All (ReasonStepFits model t) xs → All (ReasonStepFits model t) ys → NoStep end → NoStep other
     → flat_map (reason_step_line t) xs ++ end ≡ flat_map (reason_step_line t) ys ++ other → map told_reason_step xs ≡ map told_reason_step ys
-lines-cut model t [] [] end other test p q ends ends' e = refl
-lines-cut model t [] (y ∷ ys) end other test p q ends ends' e = no-step t y ys other end ends (sym e)
-lines-cut model t (x ∷ xs) [] end other test p q ends ends' e = no-step t x xs end other ends' e
-lines-cut model t (x ∷ xs) (y ∷ ys) end other test p q ends ends' e =
-    let more = flat_map (reason_step_line t) xs ++ end in
-    let more' = flat_map (reason_step_line t) ys ++ other in
-    let flat = sym (append_assoc (reason_step_line t x) (flat_map (reason_step_line t) xs) end) ∙ (e ∙ append_assoc (reason_step_line t y) (flat_map (reason_step_line t) ys) other) in
-    let first = step-cut model t x y more more' test (All-head (ReasonStepFits model t) x xs p) (All-head (ReasonStepFits model t) y ys q) flat in
-    let further = lines-cut model t xs ys end other test (All-tail (ReasonStepFits model t) x xs p) (All-tail (ReasonStepFits model t) y ys q) ends ends' first.1 in
-    λ i. first.0 i ∷ further i
+lines-cut model t xs ys end other test p q ends ends' e =
+    (list-cut (ReasonStepFits model t) (λ rest. Unit) NoStep (λ n. reason_step_line t) (λ n. flat_map (reason_step_line t)) told_reason_step (λ n. refl) (λ n s ss. refl)
+    (λ n a b rest other p q f f' e. step-cut model t a b rest other test p q e) (λ n ss rest all ends. tt) (λ n s more rest fits ends same. no-step t s more rest ends same) 0 xs ys end other p q ends ends' e).0
 
 verdict-no-step : (c : Option Condition) → NoStep (verdict_line c false)
 verdict-no-step None = refl

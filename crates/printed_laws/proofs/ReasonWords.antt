@@ -1,7 +1,7 @@
 -- The words of a reason: events, relations and places. What each begins a text with is told by the text.
 use Rattle.printed_laws.proofs.Vocabulary.{◌≡◌, ℕ, ◌^◌, ◌<◌, Bool, true, false, List, [], ◌∷◌, ◌++◌, get_or, refl, sym, ap, subst, ◌∙◌, Option, arith, inl, inr, length, Some, None, ◌==◌, not, ◌&&◌, if◌then◌else◌, IfSome, decimal, list_all, AllByRecursion, append_cancel_left, append_assoc, codes, Litmus, IsTest, continues_name, IsWord, Entry, letters_of, printed_access, HasAccess, nat_tests, Model, location_text, entry_text, event_text, relation_text, Tso, Sequential, Kind, F, on_location, global_in, Relation, Po, PoLoc, PoGhb, Mfence, Implied, Rf, Rfe, Co, Fr, Event, told_event, IsValueFor, EventFits, IsRelationAmong}
-use Rattle.printed_laws.proofs.Cutting.{BeginsWithout, run-cut, next-cut}
-use Rattle.printed_laws.proofs.TraceWords.{Ends, read_kind, kind-plain, kind-again, word-cut, same-core, same-loc, apart, location-cut, value-cut}
+use Rattle.printed_laws.proofs.Cutting.{BeginsWithout, unlike, run-cut, next-cut}
+use Rattle.printed_laws.proofs.TraceWords.{Ends, read_kind, kind-plain, kind-again, word-cut, same-core, same-loc, location-cut, value-cut}
 
 -- ---- blanks
 
@@ -43,7 +43,7 @@ named t loc (Some value) = codes " " ++ (get_or t.locations loc [] ++ (codes "="
 
 no-value : {A : Type 0} (rest other : List ℕ) → Gap rest → rest ≡ 61 ∷ other → A
 no-value [] other gap e = absurd (let no : ⊥ = cc in no)
-no-value (b ∷ bs) other gap e = apart b 61 bs other (gap-equals b gap) e
+no-value (b ∷ bs) other gap e = unlike 0 (b ∷ bs) (61 ∷ other) (gap-equals b gap) e
 
 named-flat : (name value rest : List ℕ) → (codes " " ++ (name ++ (codes "=" ++ value))) ++ rest ≡ codes " " ++ (name ++ (codes "=" ++ (value ++ rest)))
 named-flat name value rest = simp append_assoc

@@ -1,13 +1,13 @@
 -- The lines of a trace tell its steps.
-use Rattle.printed_laws.proofs.Vocabulary.{◌≡◌, ℕ, ◌^◌, ◌<◌, List, [], ◌∷◌, ◌++◌, get_or, refl, sym, ap, ◌∙◌, Option, arith, ◌+◌, length, All, Some, None, ◌==◌, map, if◌then◌else◌, IfSome, decimal, is_ascii_digit, append_cancel_left, append_assoc, length-map, codes, Litmus, IsTest, continues_name, All-head, All-tail, Entry, HasWord, Choice, Drain, printed_choice, chosen, all_of_location, IsLine, IsAt, entries_text, moved_text, forwarded_text, access_text, request_text, flush_text, write_back_text, changes_text, outcome_name, store_text, later_stores, stores_text, buffer_text, step_lines, StateChange, option_map, Stall, Done, Full, Empty, Committed, Buffered, Moved, Asked, Stalled, bare_store, told_by_line, TraceStepFits, TracesTellTheirSteps, trace_step_line}
+use Rattle.printed_laws.proofs.Vocabulary.{◌≡◌, ℕ, ◌^◌, ◌<◌, false, List, [], ◌∷◌, ◌++◌, get_or, refl, sym, ap, subst, ◌∙◌, Option, arith, length, All, Some, None, ◌==◌, map, if◌then◌else◌, IfSome, decimal, is_ascii_digit, append_cancel_left, append_assoc, length-map, codes, Litmus, IsTest, continues_name, All-head, Entry, HasWord, Choice, Drain, printed_choice, chosen, all_of_location, IsLine, IsAt, entries_text, moved_text, forwarded_text, access_text, request_text, flush_text, write_back_text, changes_text, outcome_name, store_text, later_stores, stores_text, buffer_text, step_lines, StateChange, option_map, Stall, Done, Full, Empty, Committed, Buffered, Moved, Asked, Stalled, bare_store, told_by_line, TraceStepFits, TracesTellTheirSteps, trace_step_line}
 use Rattle.basic_laws.specs.Types.{Step, Outcome}
 use Rattle.tso_model.specs.declared.choice.Stall.TheVariants.{Fence, Lock, Bus}
 use Rattle.protocol_tables.specs.PrintedTable.{line}
 use Rattle.trace_report.specs.Shown.{ShownStep}
-use Rattle.printed_laws.proofs.Cutting.{run-cut}
-use Rattle.printed_laws.proofs.Lists.{both-fit}
+use Rattle.printed_laws.proofs.Cutting.{Stops, unlike, run-cut}
+use Rattle.printed_laws.proofs.Lists.{Tells, list-cut, both-fit}
 use Rattle.printed_laws.proofs.Digits.{all-digits}
-use Rattle.printed_laws.proofs.TraceWords.{Ends, read-cut, core_in, choice-cut, apart, same-loc, value-cut}
+use Rattle.printed_laws.proofs.TraceWords.{Ends, read-cut, core_in, choice-cut, same-loc, value-cut}
 use Rattle.printed_laws.proofs.TraceParts.{Follows, rank, missing, core-rank, is-part, earlier, ending-follows, ChangeFits, moved-follows, forwarded-follows, access-follows, request-follows, flush-follows, write-back-follows, changes-follow, entries-cut, moved-cut, forwarded-cut, access-cut, request-cut, flush-cut, write-back-cut, changes-cut}
 
 -- ---- the outcome
@@ -29,58 +29,57 @@ outcome-again o rest = refl
 -- ---- the buffer
 
 -- a store of this test that may be pending
-abbrev StoreFits : Litmus → Entry → Type 0
+abbrev pub StoreFits : Litmus → Entry → Type 0
 StoreFits t e = (e.loc.0 < length t.locations) × (e.value < 2 ^ 32)
 
-store-flat : (name value more rest : List ℕ) → ((name ++ (codes "=" ++ value)) ++ more) ++ rest ≡ name ++ (codes "=" ++ (value ++ (more ++ rest)))
-store-flat name value more rest = simp append_assoc
+store-flat : (name value more : List ℕ) → (codes " " ++ (name ++ (codes "=" ++ value))) ++ more ≡ codes " " ++ (name ++ (codes "=" ++ (value ++ more)))
+store-flat name value more = simp append_assoc
 
-later-end : (t : Litmus) (es : List Entry) (rest : List ℕ) → Ends (later_stores t es ++ 93 ∷ rest)
-later-end t [] rest = refl
-later-end t (e ∷ es) rest = refl
+-- the text begins as what stands behind a list of stores does
+abbrev EndsStores : List ℕ → Type 0
+EndsStores rest = Ends rest × ((32 == get_or rest 0 0) ≡ false)
 
-pub same-store : (x y : Entry) → x.loc.0 ≡ y.loc.0 → x.value ≡ y.value → bare_store x ≡ bare_store y
+later-end : (t : Litmus) (es : List Entry) (rest : List ℕ) → EndsStores rest → Ends (later_stores t es ++ rest)
+later-end t [] rest ends = ends.0
+later-end t (e ∷ es) rest ends = refl
+
+same-store : (x y : Entry) → x.loc.0 ≡ y.loc.0 → x.value ≡ y.value → bare_store x ≡ bare_store y
 same-store x y loc value =
     let locs = same-loc x.loc y.loc loc in
     λ i. bare_store (record { core = x.core; place = x.place; kind = x.kind; loc = locs i; value = value i })
 
--- a store, and those after it
-store-cut : (t : Litmus) (x y : Entry) (xs ys : List Entry) (rest other : List ℕ) → IsTest t → StoreFits t x → StoreFits t y
-    → (store_text t x ++ later_stores t xs) ++ 93 ∷ rest ≡ (store_text t y ++ later_stores t ys) ++ 93 ∷ other
-    → (bare_store x ≡ bare_store y) × (later_stores t xs ++ 93 ∷ rest ≡ later_stores t ys ++ 93 ∷ other)
-store-cut t x y xs ys rest other test p q e =
+store-cut : (t : Litmus) → IsTest t → Tells (StoreFits t) Ends (λ e. codes " " ++ store_text t e) bare_store
+store-cut t test x y rest other p q ends ends' e =
     let name = λ (s : Entry). get_or t.locations s.loc.0 [] in
-    let flat = sym (store-flat (name x) (decimal x.value) (later_stores t xs) (93 ∷ rest)) ∙ (e ∙ store-flat (name y) (decimal y.value) (later_stores t ys) (93 ∷ other)) in
-    let cut = value-cut t x.loc.0 y.loc.0 x.value y.value (later_stores t xs ++ 93 ∷ rest) (later_stores t ys ++ 93 ∷ other) test p.0 q.0 p.1 q.1 (later-end t xs rest) (later-end t ys other) flat in
+    let flat = sym (store-flat (name x) (decimal x.value) rest) ∙ (e ∙ store-flat (name y) (decimal y.value) other) in
+    let cut = value-cut t x.loc.0 y.loc.0 x.value y.value rest other test p.0 q.0 p.1 q.1 ends ends' (append_cancel_left (codes " ") _ _ flat) in
     (same-store x y cut.0 cut.1, cut.2)
 
-later-cut : (t : Litmus) (xs ys : List Entry) (rest other : List ℕ) → IsTest t → All (StoreFits t) xs → All (StoreFits t) ys
+pub later-cut : (t : Litmus) (xs ys : List Entry) (rest other : List ℕ) → IsTest t → All (StoreFits t) xs → All (StoreFits t) ys
     → later_stores t xs ++ 93 ∷ rest ≡ later_stores t ys ++ 93 ∷ other → (map bare_store xs ≡ map bare_store ys) × (rest ≡ other)
-later-cut t [] [] rest other test p q e = (refl, append_cancel_left (93 ∷ []) rest other e)
-later-cut t [] (y ∷ ys) rest other test p q e = apart 93 32 rest _ refl e
-later-cut t (x ∷ xs) [] rest other test p q e = apart 32 93 _ other refl e
-later-cut t (x ∷ xs) (y ∷ ys) rest other test p q e =
-    let first = store-cut t x y xs ys rest other test (All-head (StoreFits t) x xs p) (All-head (StoreFits t) y ys q) (append_cancel_left (codes " ") _ _ e) in
-    let further = later-cut t xs ys rest other test (All-tail (StoreFits t) x xs p) (All-tail (StoreFits t) y ys q) first.1 in
-    ((λ i. first.0 i ∷ further.0 i), further.1)
+later-cut t xs ys rest other test p q e =
+    let cut = list-cut (StoreFits t) Ends EndsStores (λ n e. codes " " ++ store_text t e) (λ n. later_stores t) bare_store (λ n. refl) (λ n e es. refl) (λ n. store-cut t test)
+    (λ n es rest all ends. later-end t es rest ends) (λ n e more rest fits ends same. unlike 0 _ rest ends.1 same) 0 xs ys (93 ∷ rest) (93 ∷ other) p q (refl, refl) (refl, refl) e in
+    (cut.0, append_cancel_left (93 ∷ []) rest other cut.1)
+
+first-flat : (name value more rest : List ℕ) → ((name ++ (codes "=" ++ value)) ++ more) ++ rest ≡ name ++ 61 ∷ (value ++ (more ++ rest))
+first-flat name value more rest = simp append_assoc
 
 -- a text of stores doesn't begin with the bracket behind it
 some-store : {A : Type 0} (t : Litmus) (x : Entry) (xs : List Entry) (rest other : List ℕ) → IsTest t → StoreFits t x → (store_text t x ++ later_stores t xs) ++ 93 ∷ rest ≡ 93 ∷ other → A
 some-store t x xs rest other test p e =
-    let flat = sym (store-flat (get_or t.locations x.loc.0 []) (decimal x.value) (later_stores t xs) (93 ∷ rest)) ∙ e in
-    let cut = run-cut continues_name (get_or t.locations x.loc.0 []) [] (codes "=" ++ (decimal x.value ++ (later_stores t xs ++ 93 ∷ rest))) (93 ∷ other)
-    (all_of_location t x.loc.0 test p.0) refl refl refl flat in
-    apart 61 93 (decimal x.value ++ (later_stores t xs ++ 93 ∷ rest)) other refl cut.1
+    let name = get_or t.locations x.loc.0 [] in
+    let behind = decimal x.value ++ (later_stores t xs ++ 93 ∷ rest) in
+    let flat = sym (first-flat name (decimal x.value) (later_stores t xs) (93 ∷ rest)) ∙ e in
+    unlike 0 (61 ∷ behind) (93 ∷ other) refl (run-cut continues_name name [] (61 ∷ behind) (93 ∷ other) (all_of_location t x.loc.0 test p.0) refl refl refl flat).1
 
+-- with a space before the first, stores are as those after others
 stores-cut : (t : Litmus) (xs ys : List Entry) (rest other : List ℕ) → IsTest t → All (StoreFits t) xs → All (StoreFits t) ys
     → stores_text t xs ++ 93 ∷ rest ≡ stores_text t ys ++ 93 ∷ other → (map bare_store xs ≡ map bare_store ys) × (rest ≡ other)
 stores-cut t [] [] rest other test p q e = (refl, append_cancel_left (93 ∷ []) rest other e)
 stores-cut t [] (y ∷ ys) rest other test p q e = some-store t y ys other rest test (All-head (StoreFits t) y ys q) (sym e)
 stores-cut t (x ∷ xs) [] rest other test p q e = some-store t x xs rest other test (All-head (StoreFits t) x xs p) e
-stores-cut t (x ∷ xs) (y ∷ ys) rest other test p q e =
-    let first = store-cut t x y xs ys rest other test (All-head (StoreFits t) x xs p) (All-head (StoreFits t) y ys q) e in
-    let further = later-cut t xs ys rest other test (All-tail (StoreFits t) x xs p) (All-tail (StoreFits t) y ys q) first.1 in
-    ((λ i. first.0 i ∷ further.0 i), further.1)
+stores-cut t (x ∷ xs) (y ∷ ys) rest other test p q e = later-cut t (x ∷ xs) (y ∷ ys) rest other test p q (ap (λ (l : List ℕ). codes " " ++ l) e)
 
 buffer-flat : (core stores rest : List ℕ) → (codes " P" ++ (core ++ (codes "[" ++ (stores ++ codes "]")))) ++ rest ≡ codes " P" ++ (core ++ 91 ∷ (stores ++ 93 ∷ rest))
 buffer-flat core stores rest = simp append_assoc
@@ -230,27 +229,19 @@ module _ (t : Litmus) (words : ℕ) where
   -- ---- the lines
 
   -- a line begins with a number, and the last line with a letter
-  no-line : {A : Type 0} (number : ℕ) (s : ShownStep) (rest other : List ℕ) → trace_step_line t words number s ++ rest ≡ 69 ∷ other → A
-  no-line number s rest other e =
-      let flat = sym (line-split number s rest) ∙ e in
-      let cut = run-cut is_ascii_digit (decimal number) [] (codes " " ++ from_choice s rest) (69 ∷ other) (all-digits number) refl refl refl flat in
-      apart 32 69 (from_choice s rest) other refl cut.1
+  no-line : {A : Type 0} (number : ℕ) (s : ShownStep) (more rest : List ℕ) → get_or rest 0 0 ≡ 69 → trace_step_line t words number s ++ more ≡ rest → A
+  no-line number s more [] last e = absurd (omega (arith, last))
+  no-line number s more (b ∷ bs) last e =
+      let stops : Stops (b ∷ bs) = subst (λ c. is_ascii_digit c ≡ false) (sym last) refl in
+      let cut = run-cut is_ascii_digit (decimal number) [] (codes " " ++ from_choice s more) (b ∷ bs) (all-digits number) refl refl stops (sym (line-split number s more) ∙ e) in
+      unlike 0 (codes " " ++ from_choice s more) (b ∷ bs) (ap (λ (c : ℕ). 32 == c) last) cut.1
 
-  lines-split : (number : ℕ) (s : ShownStep) (ss : List ShownStep) (rest : List ℕ)
-      → step_lines t words number (s ∷ ss) ++ rest ≡ trace_step_line t words number s ++ (step_lines t words (number + 1) ss ++ rest)
-  lines-split number s ss rest = append_assoc (trace_step_line t words number s) (step_lines t words (number + 1) ss) rest
-
-  lines-cut : (number : ℕ) (xs ys : List ShownStep) (rest other : List ℕ) → IsTest t → All (TraceStepFits t words) xs → All (TraceStepFits t words) ys
-      → step_lines t words number xs ++ 69 ∷ rest ≡ step_lines t words number ys ++ 69 ∷ other
-      → (map told_by_line xs ≡ map told_by_line ys) × (rest ≡ other)
-  lines-cut number [] [] rest other test p q e = (refl, append_cancel_left (69 ∷ []) rest other e)
-  lines-cut number [] (y ∷ ys) rest other test p q e = no-line number y (step_lines t words (number + 1) ys ++ 69 ∷ other) rest (sym (lines-split number y ys (69 ∷ other)) ∙ sym e)
-  lines-cut number (x ∷ xs) [] rest other test p q e = no-line number x (step_lines t words (number + 1) xs ++ 69 ∷ rest) other (sym (lines-split number x xs (69 ∷ rest)) ∙ e)
-  lines-cut number (x ∷ xs) (y ∷ ys) rest other test p q e =
-      let first = step-cut number x y (step_lines t words (number + 1) xs ++ 69 ∷ rest) (step_lines t words (number + 1) ys ++ 69 ∷ other) test
-      (All-head (TraceStepFits t words) x xs p) (All-head (TraceStepFits t words) y ys q) (sym (lines-split number x xs (69 ∷ rest)) ∙ (e ∙ lines-split number y ys (69 ∷ other))) in
-      let further = lines-cut (number + 1) xs ys rest other test (All-tail (TraceStepFits t words) x xs p) (All-tail (TraceStepFits t words) y ys q) first.1 in
-      ((λ i. first.0 i ∷ further.0 i), further.1)
+  lines-cut : (xs ys : List ShownStep) (rest other : List ℕ) → IsTest t → All (TraceStepFits t words) xs → All (TraceStepFits t words) ys
+      → step_lines t words 1 xs ++ 69 ∷ rest ≡ step_lines t words 1 ys ++ 69 ∷ other → (map told_by_line xs ≡ map told_by_line ys) × (rest ≡ other)
+  lines-cut xs ys rest other test p q e =
+      let cut = list-cut (TraceStepFits t words) (λ rest. Unit) (λ rest. get_or rest 0 0 ≡ 69) (trace_step_line t words) (step_lines t words) told_by_line (λ n. refl) (λ n s ss. refl) (λ n a b rest other p q f f' e. step-cut n a b rest other test p q e)
+      (λ n ss rest all last. tt) (λ n s more rest fits last same. no-line n s more rest last same) 1 xs ys (69 ∷ rest) (69 ∷ other) p q refl refl e in
+      (cut.0, append_cancel_left (69 ∷ []) rest other cut.1)
 
 trace-flat : (lines count rest : List ℕ) → (line (codes "Trace") ++ (lines ++ (codes "Endtrace " ++ line count))) ++ rest
     ≡ codes "Trace\n" ++ (lines ++ 69 ∷ (codes "ndtrace " ++ (count ++ 10 ∷ rest)))
@@ -261,7 +252,7 @@ lines-tell t words xs ys rest other test p q e =
     let lines = step_lines t words 1 in
     let ending = λ (count : ℕ) (after : List ℕ). codes "ndtrace " ++ (decimal count ++ 10 ∷ after) in
     let flat = sym (trace-flat (lines xs) (decimal (length xs)) rest) ∙ (e ∙ trace-flat (lines ys) (decimal (length ys)) other) in
-    let cut = lines-cut t words 1 xs ys (ending (length xs) rest) (ending (length ys) other) test p q
+    let cut = lines-cut t words xs ys (ending (length xs) rest) (ending (length ys) other) test p q
     (append_cancel_left (codes "Trace\n") (lines xs ++ 69 ∷ ending (length xs) rest) (lines ys ++ 69 ∷ ending (length ys) other) flat) in
     let count : length xs ≡ length ys = sym (length-map xs told_by_line) ∙ (ap (λ (l : List ShownStep). length l) cut.0 ∙ length-map ys told_by_line) in
     let same = cut.1 ∙ ap (λ (n : ℕ). ending n other) (sym count) in

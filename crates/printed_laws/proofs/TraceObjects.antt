@@ -36,7 +36,7 @@ spaced None = []
 spaced (Some text) = codes " " ++ text
 
 -- parts, each after a space
-abbrev each_spaced : List (List ℕ) → List ℕ
+abbrev pub each_spaced : List (List ℕ) → List ℕ
 each_spaced [] = []
 each_spaced (x ∷ xs) = codes " " ++ (x ++ each_spaced xs)
 

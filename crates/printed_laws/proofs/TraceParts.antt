@@ -1,6 +1,6 @@
 -- The parts of a step's line, each after a space: what each begins a text with is told by the text. A part may be missing; which one
 -- stands there is told by its first letters, or behind a core's number by the byte after it.
-use Rattle.printed_laws.proofs.Vocabulary.{◌≡◌, ℕ, ◌<◌, Bool, true, false, List, [], ◌∷◌, ◌++◌, get_or, drop, refl, sym, ap, ◌∙◌, ◌≤◌, Option, arith, ◌+◌, length, All, Some, None, ◌==◌, ◌||◌, ◌/◌, if◌then◌else◌, ◌*◌, take, IfSome, decimal, list_all, is_ascii_digit, and_parts, append_cancel_left, append_assoc, drop_more, get_or-take, length-take, codes, Litmus, IsTest, continues_name, All-head, All-tail, IsWord, name_of, Reg, Entry, printed_entry, letters_of, printed_access, IsOrderFor, IsEntryFor, Eax, Core, IsD, ImD, SmD, AccessKind, IsLine, access_name, request_name, state_name, after_plus, joined_by_plus, line_name, entries_text, moved_text, forwarded_text, access_text, request_text, flush_text, write_back_text, changes_text, LineRequest, LineState, StateChange}
+use Rattle.printed_laws.proofs.Vocabulary.{◌≡◌, ℕ, ◌<◌, Bool, true, false, List, [], ◌∷◌, ◌++◌, get_or, drop, refl, sym, ap, ◌∙◌, ◌≤◌, Option, arith, ◌+◌, length, All, Some, None, ◌==◌, ◌||◌, ◌/◌, if◌then◌else◌, ◌*◌, take, IfSome, decimal, list_all, is_ascii_digit, and_parts, append_cancel_left, append_assoc, drop_more, get_or-take, length-take, codes, Litmus, IsTest, continues_name, IsWord, name_of, Reg, Entry, printed_entry, letters_of, printed_access, IsOrderFor, IsEntryFor, Eax, Core, IsD, ImD, SmD, AccessKind, IsLine, access_name, request_name, state_name, after_plus, joined_by_plus, line_name, entries_text, moved_text, forwarded_text, access_text, request_text, flush_text, write_back_text, changes_text, printed_change, LineRequest, LineState, StateChange}
 use Rattle.std.proofs.Math.Nat.{mul-div_cancel}
 use Rattle.protocol_tables.specs.declared.requests.Request.{Request}
 use Rattle.protocol_tables.specs.declared.requests.Request.TheVariants.{GetS, GetM}
@@ -10,6 +10,7 @@ use Rattle.trace_report.specs.declared.step.Moved.{Moved}
 use Rattle.trace_report.specs.declared.step.LineState.TheVariants as state
 use Rattle.printed_laws.proofs.Cutting.{next-cut, same-cut}
 use Rattle.printed_laws.proofs.Digits.{all-digits}
+use Rattle.printed_laws.proofs.Lists.{Tells, list-cut, all-told}
 use Rattle.printed_laws.proofs.TraceWords.{Ends, ends-stop, word-cut, read-cut, register-cut, same-core, location-cut, entry-cut}
 
 -- ---- which part stands there
@@ -71,36 +72,27 @@ core-rank n rest b stop = ap rank_behind (behind-number n rest b stop)
 
 -- ---- entries
 
-entries-flat : (core place kind access more rest : List ℕ)
-    → (codes " " ++ ((codes "P" ++ (core ++ (codes ":" ++ (place ++ (codes " " ++ (kind ++ access)))))) ++ more)) ++ rest
-    ≡ codes " P" ++ (core ++ 58 ∷ (place ++ (codes " " ++ (kind ++ (access ++ (more ++ rest))))))
-entries-flat core place kind access more rest = simp append_assoc
+entry-flat : (core place kind access more : List ℕ) → codes " " ++ ((codes "P" ++ (core ++ (codes ":" ++ (place ++ (codes " " ++ (kind ++ access)))))) ++ more)
+    ≡ codes " P" ++ (core ++ 58 ∷ (place ++ (codes " " ++ (kind ++ (access ++ more)))))
+entry-flat core place kind access more = simp append_assoc
 
-entries-split : (t : Litmus) (e : Entry) (es : List Entry) (rest : List ℕ) → entries_text t (e ∷ es) ++ rest ≡ codes " " ++ (printed_entry t e ++ (entries_text t es ++ rest))
-entries-split t e es rest = ap (λ (l : List ℕ). codes " " ++ l) (append_assoc (printed_entry t e) (entries_text t es) rest)
-
-entry-rank : (t : Litmus) (e : Entry) (es : List Entry) (rest : List ℕ) → rank (entries_text t (e ∷ es) ++ rest) ≡ 1
-entry-rank t e es rest =
-    ap rank (entries-flat (decimal e.core.0) (decimal e.place) (letters_of e.kind) (printed_access t e.kind e.loc.0 e.value) (entries_text t es) rest)
-    ∙ core-rank e.core.0 (decimal e.place ++ (codes " " ++ (letters_of e.kind ++ (printed_access t e.kind e.loc.0 e.value ++ (entries_text t es ++ rest))))) 58 refl
+entry-rank : (t : Litmus) (e : Entry) (more : List ℕ) → rank ((codes " " ++ printed_entry t e) ++ more) ≡ 1
+entry-rank t e more =
+    ap rank (entry-flat (decimal e.core.0) (decimal e.place) (letters_of e.kind) (printed_access t e.kind e.loc.0 e.value) more)
+    ∙ core-rank e.core.0 (decimal e.place ++ (codes " " ++ (letters_of e.kind ++ (printed_access t e.kind e.loc.0 e.value ++ more)))) 58 refl
 
 pub entries-follow : (t : Litmus) (es : List Entry) (rest : List ℕ) → Follows 2 rest → Follows 1 (entries_text t es ++ rest)
 entries-follow t [] rest f = earlier 1 rest f
-entries-follow t (e ∷ es) rest f = is-part 1 (entries_text t (e ∷ es) ++ rest) refl (entry-rank t e es rest)
+entries-follow t (e ∷ es) rest f =
+    is-part 1 (entries_text t (e ∷ es) ++ rest) refl (ap rank (append_assoc (codes " " ++ printed_entry t e) (entries_text t es) rest) ∙ entry-rank t e (entries_text t es ++ rest))
 
 pub entries-cut : (t : Litmus) (xs ys : List Entry) (rest other : List ℕ) → IsTest t → IsOrderFor t xs → IsOrderFor t ys → Follows 2 rest → Follows 2 other
     → entries_text t xs ++ rest ≡ entries_text t ys ++ other → (xs ≡ ys) × (rest ≡ other)
-entries-cut t [] [] rest other test p q f f' e = (refl, e)
-entries-cut t [] (y ∷ ys) rest other test p q f f' e = missing 1 (entries_text t (y ∷ ys) ++ other) rest (entry-rank t y ys other) f (sym e)
-entries-cut t (x ∷ xs) [] rest other test p q f f' e = missing 1 (entries_text t (x ∷ xs) ++ rest) other (entry-rank t x xs rest) f' e
-entries-cut t (x ∷ xs) (y ∷ ys) rest other test p q f f' e =
-    let more = entries_text t xs ++ rest in
-    let more' = entries_text t ys ++ other in
-    let flat = sym (entries-split t x xs rest) ∙ (e ∙ entries-split t y ys other) in
-    let first = entry-cut t x y more more' test (All-head (IsEntryFor t) x xs p) (All-head (IsEntryFor t) y ys q) (entries-follow t xs rest f).ends (entries-follow t ys other f').ends
-    (append_cancel_left (codes " ") (printed_entry t x ++ more) (printed_entry t y ++ more') flat) in
-    let further = entries-cut t xs ys rest other test (All-tail (IsEntryFor t) x xs p) (All-tail (IsEntryFor t) y ys q) f f' first.1 in
-    ((λ i. first.0 i ∷ further.0 i), further.1)
+entries-cut t xs ys rest other test p q f f' same =
+    let cut = list-cut (IsEntryFor t) Ends (Follows 2) (λ n e. codes " " ++ printed_entry t e) (λ n. entries_text t) (λ e. e) (λ n. refl) (λ n e es. refl)
+    (λ n a b rest other p q ends ends' e. entry-cut t a b rest other test p q ends ends' (append_cancel_left (codes " ") (printed_entry t a ++ rest) (printed_entry t b ++ other) e))
+    (λ n es rest all f. (entries-follow t es rest f).ends) (λ n e more rest fits f same. missing 1 ((codes " " ++ printed_entry t e) ++ more) rest (entry-rank t e more) f same) 0 xs ys rest other p q f f' same in
+    (all-told xs ys cut.0, cut.1)
 
 -- ---- the register
 
@@ -273,39 +265,37 @@ state-again (state.Stable tag.I) = refl
 state-again (state.Transient IsD) = refl
 state-again s = refl
 
-change-flat : (core line before after more rest : List ℕ)
-    → ((codes " " ++ (codes "P" ++ (core ++ (codes "." ++ (line ++ (codes " " ++ (before ++ (codes ">" ++ after)))))))) ++ more) ++ rest
-    ≡ codes " P" ++ (core ++ 46 ∷ (line ++ (codes " " ++ (before ++ (codes ">" ++ (after ++ (more ++ rest)))))))
-change-flat core line before after more rest = simp append_assoc
+change-flat : (core line before after more : List ℕ) → (codes " " ++ (codes "P" ++ (core ++ (codes "." ++ (line ++ (codes " " ++ (before ++ (codes ">" ++ after)))))))) ++ more
+    ≡ codes " P" ++ (core ++ 46 ∷ (line ++ (codes " " ++ (before ++ (codes ">" ++ (after ++ more))))))
+change-flat core line before after more = simp append_assoc
 
 -- what a change's text is behind the core's number
 abbrev behind-core : Litmus → ℕ → StateChange → List ℕ → List ℕ
 behind-core t words c after = line_name t words c.line ++ (codes " " ++ (state_name c.before ++ (codes ">" ++ (state_name c.after ++ after))))
 
-change-split : (t : Litmus) (words : ℕ) (c : StateChange) (cs : List StateChange) (rest : List ℕ)
-    → changes_text t words (c ∷ cs) ++ rest ≡ codes " P" ++ (decimal c.core.0 ++ 46 ∷ behind-core t words c (changes_text t words cs ++ rest))
-change-split t words c cs rest = change-flat (decimal c.core.0) (line_name t words c.line) (state_name c.before) (state_name c.after) (changes_text t words cs) rest
+change-split : (t : Litmus) (words : ℕ) (c : StateChange) (more : List ℕ) → (codes " " ++ printed_change t words c) ++ more ≡ codes " P" ++ (decimal c.core.0 ++ 46 ∷ behind-core t words c more)
+change-split t words c more = change-flat (decimal c.core.0) (line_name t words c.line) (state_name c.before) (state_name c.after) more
 
-change-rank : (t : Litmus) (words : ℕ) (c : StateChange) (cs : List StateChange) (rest : List ℕ) → rank (changes_text t words (c ∷ cs) ++ rest) ≡ 8
-change-rank t words c cs rest =
-    ap rank (change-split t words c cs rest) ∙ core-rank c.core.0 (behind-core t words c (changes_text t words cs ++ rest)) 46 refl
+change-rank : (t : Litmus) (words : ℕ) (c : StateChange) (more : List ℕ) → rank ((codes " " ++ printed_change t words c) ++ more) ≡ 8
+change-rank t words c more = ap rank (change-split t words c more) ∙ core-rank c.core.0 (behind-core t words c more) 46 refl
 
 pub changes-follow : (t : Litmus) (words : ℕ) (cs : List StateChange) (rest : List ℕ) → Follows 9 rest → Follows 8 (changes_text t words cs ++ rest)
 changes-follow t words [] rest f = earlier 8 rest f
-changes-follow t words (c ∷ cs) rest f = is-part 8 (changes_text t words (c ∷ cs) ++ rest) refl (change-rank t words c cs rest)
+changes-follow t words (c ∷ cs) rest f =
+    is-part 8 (changes_text t words (c ∷ cs) ++ rest) refl (ap rank (append_assoc (codes " " ++ printed_change t words c) (changes_text t words cs) rest) ∙ change-rank t words c (changes_text t words cs ++ rest))
 
 -- a change of one of the test's lines, by a core's number
 abbrev pub ChangeFits : Litmus → ℕ → StateChange → Type 0
 ChangeFits t words c = (c.core.0 < 256) × IsLine t words c.line
 
-change-cut : (t : Litmus) (words : ℕ) (a b : StateChange) (rest other : List ℕ) → IsTest t → ChangeFits t words a → ChangeFits t words b → Ends rest → Ends other
-    → codes " P" ++ (decimal a.core.0 ++ 46 ∷ behind-core t words a rest) ≡ codes " P" ++ (decimal b.core.0 ++ 46 ∷ behind-core t words b other) → (a ≡ b) × (rest ≡ other)
-change-cut t words a b rest other test p q ends ends' e =
+change-cut : (t : Litmus) (words : ℕ) → IsTest t → Tells (ChangeFits t words) Ends (λ c. codes " " ++ printed_change t words c) (λ c. c)
+change-cut t words test a b rest other p q ends ends' e =
     let small = p.0 in
     let small' = q.0 in
     let from_after = λ (c : StateChange) (after : List ℕ). state_name c.after ++ after in
     let from_before = λ (c : StateChange) (after : List ℕ). state_name c.before ++ (codes ">" ++ from_after c after) in
-    let core = next-cut (codes " P") a.core.0 b.core.0 (46 ∷ behind-core t words a rest) (46 ∷ behind-core t words b other) (omega (arith, small)) (omega (arith, small')) refl refl e in
+    let core = next-cut (codes " P") a.core.0 b.core.0 (46 ∷ behind-core t words a rest) (46 ∷ behind-core t words b other) (omega (arith, small)) (omega (arith, small')) refl refl
+    (sym (change-split t words a rest) ∙ (e ∙ change-split t words b other)) in
     let line = line-cut t words a.line b.line (codes " " ++ from_before a rest) (codes " " ++ from_before b other) test p.1 q.1 refl refl
     (append_cancel_left (codes ".") (behind-core t words a rest) (behind-core t words b other) core.1) in
     let before = word-cut state_name read_state a.before b.before (codes ">" ++ from_after a rest) (codes ">" ++ from_after b other) state-plain state-again refl refl
@@ -316,11 +306,7 @@ change-cut t words a b rest other test p q ends ends' e =
 
 pub changes-cut : (t : Litmus) (words : ℕ) (xs ys : List StateChange) (rest other : List ℕ) → IsTest t → All (ChangeFits t words) xs → All (ChangeFits t words) ys
     → Follows 9 rest → Follows 9 other → changes_text t words xs ++ rest ≡ changes_text t words ys ++ other → (xs ≡ ys) × (rest ≡ other)
-changes-cut t words [] [] rest other test p q f f' e = (refl, e)
-changes-cut t words [] (y ∷ ys) rest other test p q f f' e = missing 8 (changes_text t words (y ∷ ys) ++ other) rest (change-rank t words y ys other) f (sym e)
-changes-cut t words (x ∷ xs) [] rest other test p q f f' e = missing 8 (changes_text t words (x ∷ xs) ++ rest) other (change-rank t words x xs rest) f' e
-changes-cut t words (x ∷ xs) (y ∷ ys) rest other test p q f f' e =
-    let first = change-cut t words x y (changes_text t words xs ++ rest) (changes_text t words ys ++ other) test (All-head (ChangeFits t words) x xs p) (All-head (ChangeFits t words) y ys q)
-    (changes-follow t words xs rest f).ends (changes-follow t words ys other f').ends (sym (change-split t words x xs rest) ∙ (e ∙ change-split t words y ys other)) in
-    let further = changes-cut t words xs ys rest other test (All-tail (ChangeFits t words) x xs p) (All-tail (ChangeFits t words) y ys q) f f' first.1 in
-    ((λ i. first.0 i ∷ further.0 i), further.1)
+changes-cut t words xs ys rest other test p q f f' e =
+    let cut = list-cut (ChangeFits t words) Ends (Follows 9) (λ n c. codes " " ++ printed_change t words c) (λ n. changes_text t words) (λ c. c) (λ n. refl) (λ n c cs. refl) (λ n. change-cut t words test)
+    (λ n cs rest all f. (changes-follow t words cs rest f).ends) (λ n c more rest fits f same. missing 8 ((codes " " ++ printed_change t words c) ++ more) rest (change-rank t words c more) f same) 0 xs ys rest other p q f f' e in
+    (all-told xs ys cut.0, cut.1)

@@ -2,7 +2,7 @@
 use Rattle.printed_laws.proofs.Vocabulary.{◌≡◌, ℕ, ◌^◌, ◌<◌, true, false, List, [], ◌∷◌, ◌++◌, get_or, refl, sym, ap, subst, ◌∙◌, Option, unwrap_or, arith, length, ◌==◌, if◌then◌else◌, decimal, list_all, is_ascii_digit, append_cancel_left, append_assoc, codes, Litmus, IsTest, continues_name, name_of, Reg, Entry, printed_entry, letters_of, printed_access, HasAccess, IsEntryFor, Eax, Ebx, Ecx, Edx, Esi, Edi, nat_tests, Choice, Drain, printed_choice, Core, Loc, Kind, R, W, F, LR, LW, all_of_location, location_again}
 use Rattle.tso_model.specs.declared.choice.Choice.TheVariants.{Step}
 use Rattle.order_builder.specs.inner.Reading.{location_named}
-use Rattle.printed_laws.proofs.Cutting.{BeginsWithout, Stops, run-cut, number-cut, next-cut, same-cut}
+use Rattle.printed_laws.proofs.Cutting.{BeginsWithout, Stops, unlike, run-cut, number-cut, next-cut, same-cut}
 
 -- ---- words
 
@@ -60,12 +60,6 @@ abbrev pub core_in : Choice → ℕ
 core_in (Step core) = core.0
 core_in (Drain core) = core.0
 
-pub apart : {A : Type 0} (x y : ℕ) (xs ys : List ℕ) → (x == y) ≡ false → x ∷ xs ≡ y ∷ ys → A
-apart x y xs ys differ same = let first : x ≡ y = ap (λ (l : List ℕ). get_or l 0 0) same in absurd (clash x y differ first)
-  where
-    clash : (x y : ℕ) → (x == y) ≡ false → x ≡ y → ⊥
-    clash x y differ first = grind (arith, nat_tests)
-
 step-flat : (core letter rest : List ℕ) → (core ++ letter) ++ rest ≡ core ++ (letter ++ rest)
 step-flat core letter rest = append_assoc core letter rest
 
@@ -81,10 +75,10 @@ choice-cut (Drain a) (Drain b) rest other p q e =
     (ap Drain (same-core a b cut.0), append_cancel_left (100 ∷ []) rest other cut.1)
 choice-cut (Step a) (Drain b) rest other p q e =
     let flat = sym (step-flat (decimal a.0) (codes "s") rest) ∙ (e ∙ step-flat (decimal b.0) (codes "d") other) in
-    apart 115 100 rest other refl (number-cut a.0 b.0 (115 ∷ rest) (100 ∷ other) p q refl refl flat).1
+    unlike 0 (115 ∷ rest) (100 ∷ other) refl (number-cut a.0 b.0 (115 ∷ rest) (100 ∷ other) p q refl refl flat).1
 choice-cut (Drain a) (Step b) rest other p q e =
     let flat = sym (step-flat (decimal a.0) (codes "d") rest) ∙ (e ∙ step-flat (decimal b.0) (codes "s") other) in
-    apart 100 115 rest other refl (number-cut a.0 b.0 (100 ∷ rest) (115 ∷ other) p q refl refl flat).1
+    unlike 0 (100 ∷ rest) (115 ∷ other) refl (number-cut a.0 b.0 (100 ∷ rest) (115 ∷ other) p q refl refl flat).1
 
 -- ---- locations
 

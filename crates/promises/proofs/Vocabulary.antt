@@ -2,8 +2,7 @@
 pub use Rattle.std.proofs.Common.{◌≡◌, ◌≤◌, ◌<◌, ℕ, Bool, true, false, refl, List, length, Result, Ok, Err, IfOk, Some, string_bytes, ◌∙◌, [], ap, sym, subst, ◌∷◌, ◌++◌, ◌||◌, None, Vec, arith, ◌≢◌, ◌==◌, not, if◌then◌else◌, OnOk, ◌⊎◌, inl, inr, All}
 pub use Rattle.tso_model.specs.Litmus.{Litmus, IsTest}
 pub use Rattle.tso_model.specs.Runs.{Run, run, CoresExist}
-pub use Rattle.tso_model.specs.declared.choice.Bus.TheVariants.{Atomic, Split}
-pub use Rattle.tso_model.specs.declared.choice.Choice.{Choice}
+pub use Rattle.basic_laws.specs.Types.{Atomic, Split, Choice, Step, Drain, Entry, Bus, Stalled}
 pub use Rattle.protocol_tables.specs.declared.kind.ProtocolKind.{ProtocolKind}
 pub use Rattle.machine_core.specs.Configuration.{Configuration}
 pub use Rattle.commands.specs.Dividing.{parts_of}
@@ -11,9 +10,7 @@ pub use Rattle.std.specs.Prelude.{◌↔◌, codes}
 pub use Rattle.eager_laws.specs.Dead.{seen, AreAlike}
 pub use Rattle.explorer.specs.FinalStates.{AreWhat, AreAmong, AreReached, HaveEveryEnd}
 pub use Rattle.std.proofs.lemmas.List.{append_assoc, length-append}
-pub use Rattle.tso_model.specs.declared.choice.Choice.TheVariants.{Step, Drain}
 pub use Rattle.outcome_laws.specs.Outcomes.{EndsAreWhatTsoAllows, IsAllowedAtDepth, IsAllowedByTso, IsAllowedSequentially}
 pub use Rattle.tso_model.specs.Condition.{Claim, truth_of}
-pub use Rattle.tso_model.specs.declared.execution.Entry.{Entry}
 pub use Rattle.tso_model.specs.FlatMachine.{chosen, core_of, effect_of, registers_in}
 pub use Rattle.trace_report.specs.Shown.{ShownStep}

@@ -12,11 +12,7 @@ ghost use Rattle.tso_model.specs.FinalState.{final_registers, final_words};
 ghost use Rattle.tso_model.specs.Litmus.{IsTest, Litmus};
 ghost use Rattle.tso_model.specs.Thread.{fence};
 ghost use Rattle.tso_model.specs.declared.action.Action.TheVariants.{Lock, Move, Store};
-ghost use Rattle.tso_model.specs.declared.action.Operand.{Operand};
-ghost use Rattle.tso_model.specs.declared.action.Update.{Update};
-ghost use Rattle.tso_model.specs.declared.execution.Entry.{Entry};
-ghost use Rattle.tso_model.specs.declared.instruction.Loc.{Loc};
-ghost use Rattle.tso_model.specs.declared.register.Reg.{Reg};
+ghost use Rattle.basic_laws.specs.Types.{Operand, Update, Entry, Loc, Reg};
 
 use abstract_machine::{
     blocked_threads_read_and_flush_nothing, bounded_buffers_lose_nothing,

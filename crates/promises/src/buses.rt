@@ -29,14 +29,8 @@ ghost use Rattle.tso_model.specs.MemoryAccess.{access_of};
 ghost use Rattle.tso_model.specs.Runs.{CoresExist, has_ended, run};
 ghost use Rattle.tso_model.specs.SplitMachine.{Attempt, Free};
 ghost use Rattle.tso_model.specs.Together.{put_together};
-ghost use Rattle.tso_model.specs.declared.choice.Bus.{Bus};
+ghost use Rattle.basic_laws.specs.Types.{Bus, Atomic, Choice, Entry, LR, LW, Core, Loc};
 ghost use Rattle.tso_model.specs.declared.choice.Bus as kind;
-ghost use Rattle.tso_model.specs.declared.choice.Bus.TheVariants.{Atomic};
-ghost use Rattle.tso_model.specs.declared.choice.Choice.{Choice};
-ghost use Rattle.tso_model.specs.declared.execution.Entry.{Entry};
-ghost use Rattle.tso_model.specs.declared.execution.Kind.TheVariants.{LR, LW};
-ghost use Rattle.tso_model.specs.declared.instruction.Core.{Core};
-ghost use Rattle.tso_model.specs.declared.instruction.Loc.{Loc};
 
 use bus_laws::{accesses_are_what_is_counted, hits_are_told_beforehand};
 use snoop_bus::whole_accesses::halves_leave_what_whole_accesses_do;

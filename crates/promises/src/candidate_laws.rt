@@ -12,8 +12,7 @@ ghost use Rattle.tso_model.specs.FinalState.{final_registers, final_words};
 ghost use Rattle.tso_model.specs.Limits.{most_depth};
 ghost use Rattle.tso_model.specs.Litmus.{IsTest, Litmus};
 ghost use Rattle.tso_model.specs.Runs.{CoresExist, run};
-ghost use Rattle.tso_model.specs.declared.choice.Choice.{Choice};
-ghost use Rattle.tso_model.specs.declared.execution.Entry.{Entry};
+ghost use Rattle.basic_laws.specs.Types.{Choice, Entry};
 
 use relational_model::{
     candidates_of_executions_are_allowed, runs_have_exactly_the_allowed_candidates,

@@ -2,8 +2,7 @@
 
 ghost use Rattle.std.specs.Prelude.{◌≡◌, ℕ, Bool, List};
 ghost use Rattle.tso_model.specs.Litmus.{Litmus};
-ghost use Rattle.tso_model.specs.declared.choice.Choice.{Choice};
-ghost use Rattle.tso_model.specs.declared.execution.Entry.{Entry};
+ghost use Rattle.basic_laws.specs.Types.{Choice, Entry};
 ghost use Rattle.relational_model.specs.Candidates.{Candidate};
 ghost use Rattle.relational_model.specs.CandidatesOfOrders.{IsCandidateOf};
 ghost use Rattle.refutation_laws.specs.declared.model.Model.{Model};

@@ -25,10 +25,7 @@ ghost use Rattle.tso_model.specs.FlatMachine.{registers_in};
 ghost use Rattle.tso_model.specs.Litmus.{IsTest, Litmus};
 ghost use Rattle.tso_model.specs.Runs.{CoresExist, run};
 ghost use Rattle.tso_model.specs.Thread.{value_in};
-ghost use Rattle.tso_model.specs.declared.choice.Choice.{Choice};
-ghost use Rattle.tso_model.specs.declared.condition.Quantifier.TheVariants.{Exists, Forall, NotExists};
-ghost use Rattle.tso_model.specs.declared.execution.Entry.{Entry};
-ghost use Rattle.tso_model.specs.declared.register.Reg.{Reg};
+ghost use Rattle.basic_laws.specs.Types.{Choice, Exists, Forall, NotExists, Entry, Reg};
 
 use refutation_laws::{
     claims_are_refuted_or_met, edges_have_relations, known_values_are_right,

@@ -15,9 +15,7 @@ ghost use Rattle.tso_model.specs.Litmus.{IsCondition, IsTest, Litmus};
 ghost use Rattle.tso_model.specs.Registers.{AreRegisters, IsWord};
 ghost use Rattle.tso_model.specs.Runs.{run};
 ghost use Rattle.tso_model.specs.Standing.{StandsIn};
-ghost use Rattle.tso_model.specs.declared.choice.Choice.{Choice};
-ghost use Rattle.tso_model.specs.declared.execution.Entry.{Entry};
-ghost use Rattle.tso_model.specs.declared.execution.Kind.TheVariants.{F};
+ghost use Rattle.basic_laws.specs.Types.{Choice, Entry, F};
 
 use tso_laws::{smaller_depths_never_reach, values_are_words, what_holds_so_far};
 

@@ -3,8 +3,7 @@
 
 ghost use Rattle.std.specs.Prelude.{◌≡◌, ◌<◌, ◌≤◌, ℕ, All, Bool, true, false, IfOk, List, length, Some, None};
 ghost use Rattle.tso_model.specs.Condition.{Condition};
-ghost use Rattle.tso_model.specs.declared.choice.Bus.TheVariants.{Atomic};
-ghost use Rattle.tso_model.specs.declared.register.Reg.{Reg};
+ghost use Rattle.basic_laws.specs.Types.{Atomic, Reg};
 ghost use Rattle.outcome_laws.specs.Outcomes.{IsAllowedAtDepth};
 ghost use Rattle.explorer.specs.FinalStates.{AreDistinct, AreReached, AreWhat, HaveEveryEnd, HasMoreStates};
 ghost use Rattle.explorer.specs.declared.search.Extent.{Extent};

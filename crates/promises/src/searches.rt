@@ -4,10 +4,9 @@
 ghost use Rattle.std.specs.Prelude.{◌≡◌, ◌↔◌, ℕ, Bool, IfOk, List, [], Some, slice_get};
 ghost use Rattle.tso_model.specs.Condition.{Condition, truth_of};
 ghost use Rattle.tso_model.specs.Litmus.{Litmus, IsTest};
-ghost use Rattle.tso_model.specs.declared.choice.Bus.TheVariants.{Atomic};
+ghost use Rattle.basic_laws.specs.Types.{Atomic, Choice};
 ghost use Rattle.outcome_laws.specs.Outcomes.{IsAllowedByTso, IsAllowedSequentially};
 ghost use Rattle.tso_model.specs.FlatMachine.{State};
-ghost use Rattle.tso_model.specs.declared.choice.Choice.{Choice};
 ghost use Rattle.eager_laws.specs.Dead as dead;
 ghost use Rattle.explorer.specs.Settled.{LeadsToForgotten, LeadsBy};
 ghost use Rattle.explorer.specs.FinalStates.{AreDistinct, AreWhatTsoAllows, AreWhatSequentialConsistencyAllows, AreAmong, Have};

@@ -13,8 +13,7 @@ ghost use Rattle.trace_report.specs.Steps.{states_of, trace_step_of, trace_of};
 ghost use Rattle.trace_report.specs.TraceLaws.{ChangesOne, KeepsNoCopyInI, TellsRun, count_of_accesses, run_traced, steps_that, tells_access, tells_flush, tells_forward, tells_write_back, with_changes};
 ghost use Rattle.tso_model.specs.Litmus.{IsTest, Litmus};
 ghost use Rattle.tso_model.specs.Runs.{CoresExist, run};
-ghost use Rattle.tso_model.specs.declared.choice.Bus.TheVariants.{Atomic};
-ghost use Rattle.tso_model.specs.declared.choice.Choice.{Choice};
+ghost use Rattle.basic_laws.specs.Types.{Atomic, Choice};
 
 use trace_report::told_runs::{
     accesses_are_told, changes_lead_from_states_to_states, traces_tell_their_runs,

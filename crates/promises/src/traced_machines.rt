@@ -14,8 +14,7 @@ ghost use Rattle.tso_model.specs.FlatMachine.{core_of};
 ghost use Rattle.tso_model.specs.Litmus.{IsTest, Litmus};
 ghost use Rattle.tso_model.specs.Runs.{CoresExist};
 ghost use Rattle.tso_model.specs.Thread.{value_in};
-ghost use Rattle.tso_model.specs.declared.choice.Choice.{Choice};
-ghost use Rattle.tso_model.specs.declared.register.Reg.{Reg};
+ghost use Rattle.basic_laws.specs.Types.{Choice, Reg};
 
 use printed_laws::values_of_machines_tell_them;
 

@@ -19,8 +19,7 @@ ghost use Rattle.trace_report.specs.Shown.{ShownStep};
 ghost use Rattle.trace_report.specs.Steps.{trace_under};
 ghost use Rattle.tso_model.specs.Litmus.{IsTest, Litmus};
 ghost use Rattle.tso_model.specs.Runs.{CoresExist};
-ghost use Rattle.tso_model.specs.declared.choice.Choice.{Choice};
-ghost use Rattle.tso_model.specs.declared.execution.Entry.{Entry};
+ghost use Rattle.basic_laws.specs.Types.{Choice, Entry};
 
 use printed_laws::{
     printed_traces_are_told, printed_traces_tell_their_machines, traced_steps_fit_their_test,

@@ -21,8 +21,7 @@ ghost use Rattle.tso_cli.specs.OutcomesHeadline.{PrintsAllOutcomes};
 ghost use Rattle.tso_model.specs.Axioms.{IsTsoExecution};
 ghost use Rattle.tso_model.specs.Condition.{Claim, Condition, truth_of};
 ghost use Rattle.tso_model.specs.Litmus.{IsTest, Litmus};
-ghost use Rattle.tso_model.specs.declared.condition.Quantifier.TheVariants.{Exists, Forall, NotExists};
-ghost use Rattle.tso_model.specs.declared.execution.Entry.{Entry};
+ghost use Rattle.basic_laws.specs.Types.{Exists, Forall, NotExists, Entry};
 ghost use Rattle.tso_report.specs.Report.{line};
 ghost use Rattle.tso_report.specs.declared.named.Named.{Named};
 

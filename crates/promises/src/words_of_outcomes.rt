@@ -19,8 +19,7 @@ ghost use Rattle.tso_model.specs.Axioms.{IsTsoExecution};
 ghost use Rattle.tso_model.specs.Condition.{Claim};
 ghost use Rattle.tso_model.specs.Litmus.{IsTest, Litmus};
 ghost use Rattle.tso_model.specs.Runs.{CoresExist, run};
-ghost use Rattle.tso_model.specs.declared.choice.Choice.{Choice};
-ghost use Rattle.tso_model.specs.declared.execution.Entry.{Entry};
+ghost use Rattle.basic_laws.specs.Types.{Choice, Entry};
 ghost use Rattle.tso_report.specs.declared.named.Named.{Named};
 
 use outcome_report::hidden_registers;

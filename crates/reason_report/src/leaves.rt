@@ -9,7 +9,7 @@ ghost use Rattle.reason_report.specs.Steps as spec;
 use crate::closed::Given;
 use crate::parts::Refutation;
 use crate::steps::{Edge, Event};
-use refutations::{Acyclic, Answers, Facts, first_relation, value_known};
+use refutations::{Acyclic, Answers, Branch, Facts, first_relation, value_known};
 use std::alloc::Global;
 use tso_model::{Entry, NoMemory, Test};
 
@@ -31,9 +31,14 @@ fn edge_at(tree: Refutation<'_>, given: &Given, acyclic: Acyclic, x: &Entry, y: 
     ensures { result ≡ spec.edge_at tree.entry.test.now (known_of given.now.answers) (relations_of acyclic) x.now y.now }
 {
     let answers = &given.answers;
+    let branch = Branch {
+        test: tree.test,
+        events: tree.events,
+        answers,
+    };
     Edge {
         source: event_at(tree.test, tree.events, answers, &given.facts, x),
-        relation: first_relation(tree.test, tree.events, answers, acyclic, x, y),
+        relation: first_relation(branch, acyclic, x, y),
         target: event_at(tree.test, tree.events, answers, &given.facts, y),
     }
 }

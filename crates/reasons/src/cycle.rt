@@ -10,26 +10,19 @@ ghost use Rattle.reasons.specs.inner.Cycles.{up_to, CycleOrRow};
 
 use crate::sorting::{Precedence, sort};
 use refutations::events::same_event;
-use refutations::{Acyclic, Answers, leads_to};
+use refutations::{Acyclic, Branch, leads_to};
 use std::alloc::Global;
-use tso_model::{Entry, NoMemory, Test};
+use tso_model::{Entry, NoMemory};
 
 /// One of these events that leads to x.
-fn predecessor(
-    test: &Test,
-    events: &[Entry],
-    answers: &Answers,
-    acyclic: Acyclic,
-    some: &[Entry],
-    x: &Entry,
-) -> Entry
-    requires events { events.now ≡ events_of test.now }
-    requires some { list_any (λ y. edges.is_edge test.now (known_of answers.now) (relations_of acyclic) y x.now) some.now ≡ true }
+fn predecessor(branch: Branch<'_>, acyclic: Acyclic, some: &[Entry], x: &Entry) -> Entry
+    requires events { branch.events.now ≡ events_of branch.test.now }
+    requires some { list_any (λ y. edges.is_edge branch.test.now (known_of branch.answers.now) (relations_of acyclic) y x.now) some.now ≡ true }
     ensures inside { IsIn some.now result }
-    ensures edge { edges.is_edge test.now (known_of answers.now) (relations_of acyclic) result x.now ≡ true }
+    ensures edge { edges.is_edge branch.entry.test.now (known_of branch.entry.answers.now) (relations_of acyclic) result x.now ≡ true }
 {
     for y in some {
-        if leads_to(test, events, answers, acyclic, y, x) {
+        if leads_to(branch, acyclic, y, x) {
             return *y;
         }
     }
@@ -53,18 +46,16 @@ fn front_to(alloc: Global, path: &[Entry], x: &Entry) -> Result<Option<Vec<Entry
 /// Goes back from event to event until one comes again: a cycle.
 fn walk_back(
     alloc: Global,
-    test: &Test,
-    events: &[Entry],
-    answers: &Answers,
+    branch: Branch<'_>,
     acyclic: Acyclic,
     some: &[Entry],
 ) -> Result<Vec<Entry>, NoMemory>
-    requires events { events.now ≡ events_of test.now }
-    requires inside { (x : declared.Entry) → IsIn some.now x → IsIn (events_of test.now) x }
+    requires events { branch.events.now ≡ events_of branch.test.now }
+    requires inside { (x : declared.Entry) → IsIn some.now x → IsIn (events_of branch.test.now) x }
     requires stuck { (x : declared.Entry) → IsIn some.now x
-        → list_any (λ y. edges.is_edge test.now (known_of answers.now) (relations_of acyclic) y x) some.now ≡ true }
+        → list_any (λ y. edges.is_edge branch.test.now (known_of branch.answers.now) (relations_of acyclic) y x) some.now ≡ true }
     requires some { 0 < length some.now }
-    ensures { IfOk result (λ c. edges.is_cycle test.now (edges.is_edge test.now (known_of answers.now) (relations_of acyclic)) c.items ≡ true) }
+    ensures { IfOk result (λ c. edges.is_cycle branch.entry.test.now (edges.is_edge branch.entry.test.now (known_of branch.entry.answers.now) (relations_of acyclic)) c.items ≡ true) }
 {
     let mut path = Vec::new(alloc);
     let mut at = some[0];
@@ -73,7 +64,7 @@ fn walk_back(
             return Ok(cycle);
         }
         path.insert(0, at)?;
-        at = predecessor(test, events, answers, acyclic, some, &at);
+        at = predecessor(branch, acyclic, some, &at);
     }
 }
 
@@ -83,25 +74,16 @@ fn walk_back(
 /// Errors: out of memory only.
 pub fn find_cycle(
     alloc: Global,
-    test: &Test,
-    events: &[Entry],
-    answers: &Answers,
+    branch: Branch<'_>,
     acyclic: Acyclic,
 ) -> Result<Option<Vec<Entry>>, NoMemory>
-    requires { events.now ≡ events_of test.now }
-    ensures { IfOk result (CycleOrRow test.now (known_of answers.now) acyclic) }
+    requires { branch.events.now ≡ events_of branch.test.now }
+    ensures { IfOk result (CycleOrRow branch.entry.test.now (known_of branch.entry.answers.now) acyclic) }
 {
-    let sorted = sort(
-        alloc,
-        test,
-        events,
-        answers,
-        Precedence::Edges(acyclic),
-        events,
-    )?;
+    let sorted = sort(alloc, branch, Precedence::Edges(acyclic), branch.events)?;
     if sorted.rest.is_empty() {
         return Ok(None);
     }
-    let cycle = walk_back(alloc, test, events, answers, acyclic, &sorted.rest)?;
+    let cycle = walk_back(alloc, branch, acyclic, &sorted.rest)?;
     Ok(Some(cycle))
 }

@@ -10,7 +10,7 @@ use crate::cycle::find_cycle;
 use refutation_laws::Model;
 use refutations::edges::is_between;
 use refutations::events::are_parts;
-use refutations::{Acyclic, Answers, Node, can_be_met, known_facts};
+use refutations::{Acyclic, Answers, Branch, Node, can_be_met, known_facts};
 use std::alloc::Global;
 use tso_model::{Entry, NoMemory, Test};
 
@@ -25,8 +25,13 @@ fn between_these(
     requires { events.now ≡ events_of test.now }
     ensures { result ≡ spec.between_these test.now (known_of answers.now) r.now w.now events.now }
 {
+    let branch = Branch {
+        test,
+        events,
+        answers,
+    };
     for v in events {
-        if is_between(test, events, answers, r, v, w) {
+        if is_between(branch, r, v, w) {
             return Some(Node::Between(*r, *v, *w));
         }
     }
@@ -77,10 +82,15 @@ pub fn find_leaf(
     if !can_be_met(test, events, answers, &facts) {
         return Ok(Some(Node::FalseClaim));
     }
-    if let Some(cycle) = find_cycle(alloc, test, events, answers, Acyclic::OnLocation)? {
+    let branch = Branch {
+        test,
+        events,
+        answers,
+    };
+    if let Some(cycle) = find_cycle(alloc, branch, Acyclic::OnLocation)? {
         return Ok(Some(Node::OnLocation(cycle)));
     }
-    if let Some(cycle) = find_cycle(alloc, test, events, answers, Acyclic::Globally(model))? {
+    if let Some(cycle) = find_cycle(alloc, branch, Acyclic::Globally(model))? {
         return Ok(Some(Node::Globally(cycle)));
     }
     Ok(find_between(test, events, answers))

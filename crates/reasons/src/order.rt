@@ -13,7 +13,7 @@ ghost use Rattle.reasons.specs.inner.Cases.{IsLeafless};
 use crate::sorting::{Precedence, sort};
 use refutation_laws::Model;
 use refutations::events::{are_parts, is_access};
-use refutations::{Answers, Facts, known_facts, value_known};
+use refutations::{Answers, Branch, Facts, known_facts, value_known};
 use std::alloc::Global;
 use tso_model::{Entry, Kind, NoMemory, Test};
 
@@ -105,14 +105,12 @@ pub fn make_order(
     test.know_limits();
     let facts = known_facts(alloc, test, events, answers)?;
     let others = without_loads(alloc, events)?;
-    let sorted = sort(
-        alloc,
+    let branch = Branch {
         test,
         events,
         answers,
-        Precedence::Order(model),
-        &others,
-    )?;
+    };
+    let sorted = sort(alloc, branch, Precedence::Order(model), &others)?;
     let order = with_loads(alloc, events, &sorted.row)?;
     let valued = with_values(alloc, test, events, answers, &facts, &order)?;
     Ok(valued)

@@ -12,9 +12,9 @@ ghost use Rattle.reasons.specs.inner.Precedence.{edge_in, is_first, IsSorted};
 use refutation_laws::Model;
 use refutations::answers::{comes_before, from_reads, reads_from};
 use refutations::events::{are_parts, is_before};
-use refutations::{Acyclic, Answers, leads_to};
+use refutations::{Acyclic, Answers, Branch, leads_to};
 use std::alloc::Global;
-use tso_model::{Entry, Kind, NoMemory, Test};
+use tso_model::{Entry, Kind, NoMemory};
 
 /// What must precede what.
 #[derive(Clone, Copy)]
@@ -69,65 +69,37 @@ fn precedes_load(events: &[Entry], model: Model, answers: &Answers, x: &Entry, y
         .any(|r| precedes_part(model, answers, x, r, y))
 }
 
-fn comes_toward(
-    test: &Test,
-    events: &[Entry],
-    model: Model,
-    answers: &Answers,
-    x: &Entry,
-    y: &Entry,
-) -> bool
-    requires { events.now ≡ events_of test.now }
-    ensures { result ≡ orders.comes_toward model test.now (known_of answers.now) x.now y.now }
+fn comes_toward(branch: Branch<'_>, model: Model, x: &Entry, y: &Entry) -> bool
+    requires { branch.events.now ≡ events_of branch.test.now }
+    ensures { result ≡ orders.comes_toward model branch.entry.test.now (known_of branch.entry.answers.now) x.now y.now }
 {
-    must_precede(model, answers, x, y) || precedes_load(events, model, answers, x, y)
+    must_precede(model, branch.answers, x, y)
+        || precedes_load(branch.events, model, branch.answers, x, y)
 }
 
 /// Whether x must precede y.
-pub fn precedes(
-    test: &Test,
-    events: &[Entry],
-    answers: &Answers,
-    precedence: Precedence,
-    x: &Entry,
-    y: &Entry,
-) -> bool
-    requires { events.now ≡ events_of test.now }
-    ensures { result ≡ edge_in test.now (known_of answers.now) precedence x.now y.now }
+pub fn precedes(branch: Branch<'_>, precedence: Precedence, x: &Entry, y: &Entry) -> bool
+    requires { branch.events.now ≡ events_of branch.test.now }
+    ensures { result ≡ edge_in branch.entry.test.now (known_of branch.entry.answers.now) precedence x.now y.now }
 {
     match precedence {
-        Precedence::Edges(acyclic) => leads_to(test, events, answers, acyclic, x, y),
-        Precedence::Order(model) => comes_toward(test, events, model, answers, x, y),
+        Precedence::Edges(acyclic) => leads_to(branch, acyclic, x, y),
+        Precedence::Order(model) => comes_toward(branch, model, x, y),
     }
 }
 
-fn is_preceded(
-    test: &Test,
-    events: &[Entry],
-    answers: &Answers,
-    precedence: Precedence,
-    some: &[Entry],
-    x: &Entry,
-) -> bool
-    requires { events.now ≡ events_of test.now }
-    ensures { result ≡ list_any (λ y. edge_in test.now (known_of answers.now) precedence y x.now) some.now }
+fn is_preceded(branch: Branch<'_>, precedence: Precedence, some: &[Entry], x: &Entry) -> bool
+    requires { branch.events.now ≡ events_of branch.test.now }
+    ensures { result ≡ list_any (λ y. edge_in branch.entry.test.now (known_of branch.entry.answers.now) precedence y x.now) some.now }
 {
-    some.iter()
-        .any(|y| precedes(test, events, answers, precedence, y, x))
+    some.iter().any(|y| precedes(branch, precedence, y, x))
 }
 
-fn can_be_first(
-    test: &Test,
-    events: &[Entry],
-    answers: &Answers,
-    precedence: Precedence,
-    some: &[Entry],
-    x: &Entry,
-) -> bool
-    requires { events.now ≡ events_of test.now }
-    ensures { result ≡ is_first (edge_in test.now (known_of answers.now) precedence) some.now x.now }
+fn can_be_first(branch: Branch<'_>, precedence: Precedence, some: &[Entry], x: &Entry) -> bool
+    requires { branch.events.now ≡ events_of branch.test.now }
+    ensures { result ≡ is_first (edge_in branch.entry.test.now (known_of branch.entry.answers.now) precedence) some.now x.now }
 {
-    !is_preceded(test, events, answers, precedence, some, x)
+    !is_preceded(branch, precedence, some, x)
 }
 
 /// Events in a row, and those that are left, each of which is preceded by one of them.
@@ -140,21 +112,19 @@ pub struct Sorted {
 /// Those of some events that none of them must precede, and the others.
 fn split(
     alloc: Global,
-    test: &Test,
-    events: &[Entry],
-    answers: &Answers,
+    branch: Branch<'_>,
     precedence: Precedence,
     some: &[Entry],
 ) -> Result<Sorted, NoMemory>
-    requires { events.now ≡ events_of test.now }
-    ensures row { IfOk result (λ s. s.row.items ≡ filter (is_first (edge_in test.now (known_of answers.now) precedence) some.now) some.now) }
+    requires { branch.events.now ≡ events_of branch.test.now }
+    ensures row { IfOk result (λ s. s.row.items ≡ filter (is_first (edge_in branch.entry.test.now (known_of branch.entry.answers.now) precedence) some.now) some.now) }
     ensures rest { IfOk result (λ s. s.rest.items
-        ≡ filter (λ x. not (is_first (edge_in test.now (known_of answers.now) precedence) some.now x)) some.now) }
+        ≡ filter (λ x. not (is_first (edge_in branch.entry.test.now (known_of branch.entry.answers.now) precedence) some.now x)) some.now) }
 {
     let mut row = Vec::new(alloc);
     let mut rest = Vec::new(alloc);
     for x in some {
-        if can_be_first(test, events, answers, precedence, some, x) {
+        if can_be_first(branch, precedence, some, x) {
             row.push(*x)?;
         } else {
             rest.push(*x)?;
@@ -169,20 +139,18 @@ fn split(
 /// Errors: out of memory only.
 pub fn sort(
     alloc: Global,
-    test: &Test,
-    events: &[Entry],
-    answers: &Answers,
+    branch: Branch<'_>,
     precedence: Precedence,
     some: &[Entry],
 ) -> Result<Sorted, NoMemory>
-    requires { events.now ≡ events_of test.now }
-    ensures { IfOk result (λ s. IsSorted (edge_in test.now (known_of answers.now) precedence) some.now s.row.items s.rest.items) }
+    requires { branch.events.now ≡ events_of branch.test.now }
+    ensures { IfOk result (λ s. IsSorted (edge_in branch.entry.test.now (known_of branch.entry.answers.now) precedence) some.now s.row.items s.rest.items) }
 {
     let mut row = Vec::new(alloc);
     let mut rest = Vec::new(alloc);
     rest.extend_from_slice(some)?;
     loop {
-        let next = split(alloc, test, events, answers, precedence, &rest)?;
+        let next = split(alloc, branch, precedence, &rest)?;
         if next.row.is_empty() {
             return Ok(Sorted { row, rest });
         }

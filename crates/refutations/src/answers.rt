@@ -7,7 +7,7 @@ ghost use Rattle.refutations.specs.inner.Trees.{known_of};
 use crate::events::{same_event, writes_to};
 use refutation_laws::{Pair, Source};
 use std::alloc::Global;
-use tso_model::{Entry, NoMemory};
+use tso_model::{Entry, NoMemory, Test};
 
 /// The answers of a branch, the last one first.
 #[derive(Drop)]
@@ -16,6 +16,14 @@ pub struct Answers {
     pub sources: Vec<Source>,
     /// Writes to a location, two by two in their coherence order.
     pub order: Vec<Pair>,
+}
+
+/// A branch of a refutation: a test with its events, and the answers on the way to the branch.
+#[derive(Clone, Copy)]
+pub struct Branch<'t> {
+    pub test: &'t Test,
+    pub events: &'t [Entry],
+    pub answers: &'t Answers,
 }
 
 /// No answer.

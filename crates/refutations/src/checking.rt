@@ -7,7 +7,7 @@ ghost use Rattle.refutations.specs.Trees.{node_of};
 ghost use Rattle.refutations.specs.inner.Trees.{known_of};
 ghost use Rattle.refutations.specs.inner.Stack.{cases_of};
 
-use crate::answers::{Answers, no_answers, with_pair, with_source};
+use crate::answers::{Answers, Branch, no_answers, with_pair, with_source};
 use crate::edges::{Acyclic, is_between, is_cycle};
 use crate::events::{is_event, is_read, is_write, make_events, same_event, writes_to};
 use crate::facts::known_facts;
@@ -31,16 +31,17 @@ pub fn is_node(
     requires { events.now ≡ known.events_of test.now }
     ensures { IfOk result (λ b. b ≡ spec.is_node model test.now (spec.asked_claim test.now.condition) (known_of answers.now) (node_of node.now)) }
 {
+    let branch = Branch {
+        test,
+        events,
+        answers,
+    };
     match node {
         Node::ReadsFrom(r) => Ok(is_event(test, events, r) && is_read(r)),
         Node::ComesFirst(w, v) => Ok(may_come_first(test, events, w, v)),
-        Node::OnLocation(cycle) => {
-            Ok(is_cycle(test, events, answers, Acyclic::OnLocation, cycle))
-        }
-        Node::Globally(cycle) => {
-            Ok(is_cycle(test, events, answers, Acyclic::Globally(model), cycle))
-        }
-        Node::Between(r, v, w) => Ok(is_between(test, events, answers, r, v, w)),
+        Node::OnLocation(cycle) => { Ok(is_cycle(branch, Acyclic::OnLocation, cycle)) }
+        Node::Globally(cycle) => { Ok(is_cycle(branch, Acyclic::Globally(model), cycle)) }
+        Node::Between(r, v, w) => Ok(is_between(branch, r, v, w)),
         Node::FalseClaim => {
             let facts = known_facts(alloc, test, events, answers)?;
             Ok(!can_be_met(test, events, answers, &facts))

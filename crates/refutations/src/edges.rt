@@ -10,7 +10,7 @@ ghost use Rattle.refutation_laws.specs.Edges as spec;
 ghost use Rattle.refutation_laws.specs.Shown as shown;
 ghost use Rattle.refutations.specs.inner.Trees.{known_of, relations_of};
 
-use crate::answers::{Answers, comes_before, from_reads, reads_from};
+use crate::answers::{Branch, comes_before, from_reads, reads_from};
 use crate::events::{
     are_events, are_parts, is_access, is_before, is_event, is_locked, is_read, is_write,
     share_location,
@@ -43,45 +43,36 @@ fn is_kept(x: &Entry, y: &Entry) -> bool
 }
 
 /// Whether the answers tell that the relation leads from x to y.
-pub fn relates(
-    test: &Test,
-    events: &[Entry],
-    answers: &Answers,
-    relation: Relation,
-    x: &Entry,
-    y: &Entry,
-) -> bool
-    requires { events.now ≡ events_of test.now }
-    ensures { result ≡ spec.relates test.now (known_of answers.now) relation x.now y.now }
+pub fn relates(branch: Branch<'_>, relation: Relation, x: &Entry, y: &Entry) -> bool
+    requires { branch.events.now ≡ events_of branch.test.now }
+    ensures { result ≡ spec.relates branch.entry.test.now (known_of branch.entry.answers.now) relation x.now y.now }
 {
     match relation {
         Relation::Po => is_before(x, y),
         Relation::PoLoc => is_before(x, y) && share_location(x, y),
         Relation::PoGhb => is_before(x, y) && is_kept(x, y),
-        Relation::Mfence => is_fenced(test, events, x, y),
+        Relation::Mfence => is_fenced(branch.test, branch.events, x, y),
         Relation::Implied => {
             is_before(x, y) && is_write(x) && is_read(y) && (is_locked(x) || is_locked(y))
         }
-        Relation::Rf => reads_from(answers, x, y),
-        Relation::Rfe => reads_from(answers, x, y) && x.core.0 != y.core.0,
-        Relation::Co => comes_before(answers, x, y),
-        Relation::Fr => from_reads(answers, x, y),
+        Relation::Rf => reads_from(branch.answers, x, y),
+        Relation::Rfe => reads_from(branch.answers, x, y) && x.core.0 != y.core.0,
+        Relation::Co => comes_before(branch.answers, x, y),
+        Relation::Fr => from_reads(branch.answers, x, y),
     }
 }
 
 fn first_that_relates(
-    test: &Test,
-    events: &[Entry],
-    answers: &Answers,
+    branch: Branch<'_>,
     relations: &[Relation],
     x: &Entry,
     y: &Entry,
 ) -> Option<Relation>
-    requires { events.now ≡ events_of test.now }
-    ensures { result ≡ shown.first_that_relates test.now (known_of answers.now) relations.now x.now y.now }
+    requires { branch.events.now ≡ events_of branch.test.now }
+    ensures { result ≡ shown.first_that_relates branch.entry.test.now (known_of branch.entry.answers.now) relations.now x.now y.now }
 {
     for relation in relations {
-        if relates(test, events, answers, *relation, x, y) {
+        if relates(branch, *relation, x, y) {
             return Some(*relation);
         }
     }
@@ -90,20 +81,18 @@ fn first_that_relates(
 
 /// The relation of an edge: of those that are acyclic together the first that leads from x to y.
 pub fn first_relation(
-    test: &Test,
-    events: &[Entry],
-    answers: &Answers,
+    branch: Branch<'_>,
     acyclic: Acyclic,
     x: &Entry,
     y: &Entry,
 ) -> Option<Relation>
-    requires { events.now ≡ events_of test.now }
-    ensures { result ≡ shown.first_that_relates test.now (known_of answers.now) (relations_of acyclic) x.now y.now }
+    requires { branch.events.now ≡ events_of branch.test.now }
+    ensures { result ≡ shown.first_that_relates branch.entry.test.now (known_of branch.entry.answers.now) (relations_of acyclic) x.now y.now }
 {
     match acyclic {
         Acyclic::OnLocation => {
             let relations = [Relation::PoLoc, Relation::Rf, Relation::Co, Relation::Fr];
-            first_that_relates(test, events, answers, &relations, x, y)
+            first_that_relates(branch, &relations, x, y)
         }
         Acyclic::Globally(Model::Tso) => {
             let relations = [
@@ -114,75 +103,55 @@ pub fn first_relation(
                 Relation::Co,
                 Relation::Fr,
             ];
-            first_that_relates(test, events, answers, &relations, x, y)
+            first_that_relates(branch, &relations, x, y)
         }
         Acyclic::Globally(Model::Sequential) => {
             let relations = [Relation::Po, Relation::Rf, Relation::Co, Relation::Fr];
-            first_that_relates(test, events, answers, &relations, x, y)
+            first_that_relates(branch, &relations, x, y)
         }
     }
 }
 
 /// Whether one of the relations that are acyclic together leads from x to y.
 #[tactic(auto, using(crate::proofs::Relating::found))]
-pub fn leads_to(
-    test: &Test,
-    events: &[Entry],
-    answers: &Answers,
-    acyclic: Acyclic,
-    x: &Entry,
-    y: &Entry,
-) -> bool
-    requires { events.now ≡ events_of test.now }
-    ensures { result ≡ spec.is_edge test.now (known_of answers.now) (relations_of acyclic) x.now y.now }
+pub fn leads_to(branch: Branch<'_>, acyclic: Acyclic, x: &Entry, y: &Entry) -> bool
+    requires { branch.events.now ≡ events_of branch.test.now }
+    ensures { result ≡ spec.is_edge branch.entry.test.now (known_of branch.entry.answers.now) (relations_of acyclic) x.now y.now }
 {
-    first_relation(test, events, answers, acyclic, x, y).is_some()
+    first_relation(branch, acyclic, x, y).is_some()
 }
 
 /// Whether each of these events leads to the next one, and the last one to the first.
-pub fn is_cycle(
-    test: &Test,
-    events: &[Entry],
-    answers: &Answers,
-    acyclic: Acyclic,
-    cycle: &[Entry],
-) -> bool
-    requires { events.now ≡ events_of test.now }
-    ensures { result ≡ spec.is_cycle test.now (spec.is_edge test.now (known_of answers.now) (relations_of acyclic)) cycle.now }
+pub fn is_cycle(branch: Branch<'_>, acyclic: Acyclic, cycle: &[Entry]) -> bool
+    requires { branch.events.now ≡ events_of branch.test.now }
+    ensures { result ≡ spec.is_cycle branch.entry.test.now (spec.is_edge branch.entry.test.now (known_of branch.entry.answers.now) (relations_of acyclic)) cycle.now }
 {
     let Some((first, rest)) = cycle.split_first() else {
         return false;
     };
-    if !are_events(test, events, cycle) {
+    if !are_events(branch.test, branch.events, cycle) {
         return false;
     }
     let mut last = first;
     for next in rest {
-        if !leads_to(test, events, answers, acyclic, last, next) {
+        if !leads_to(branch, acyclic, last, next) {
             return false;
         }
         last = next;
     }
-    leads_to(test, events, answers, acyclic, last, first)
+    leads_to(branch, acyclic, last, first)
 }
 
 /// Whether v comes after what the load part r reads from, and before the store part w.
-pub fn is_between(
-    test: &Test,
-    events: &[Entry],
-    answers: &Answers,
-    r: &Entry,
-    v: &Entry,
-    w: &Entry,
-) -> bool
-    requires { events.now ≡ events_of test.now }
-    ensures { result ≡ spec.is_between test.now (known_of answers.now) r.now v.now w.now }
+pub fn is_between(branch: Branch<'_>, r: &Entry, v: &Entry, w: &Entry) -> bool
+    requires { branch.events.now ≡ events_of branch.test.now }
+    ensures { result ≡ spec.is_between branch.entry.test.now (known_of branch.entry.answers.now) r.now v.now w.now }
 {
-    is_event(test, events, r)
-        && is_event(test, events, v)
-        && is_event(test, events, w)
+    is_event(branch.test, branch.events, r)
+        && is_event(branch.test, branch.events, v)
+        && is_event(branch.test, branch.events, w)
         && are_parts(r, w)
         && r.core.0 != v.core.0
-        && from_reads(answers, r, v)
-        && comes_before(answers, v, w)
+        && from_reads(branch.answers, r, v)
+        && comes_before(branch.answers, v, w)
 }

@@ -14,7 +14,7 @@ pub mod propositions;
 pub mod tree;
 pub mod values;
 
-pub use answers::{Answers, no_answers, with_pair, with_source};
+pub use answers::{Answers, Branch, no_answers, with_pair, with_source};
 pub use checking::{add_branches, is_node, refutes};
 pub use edges::{Acyclic, first_relation, leads_to};
 pub use events::make_events;

@@ -3,6 +3,7 @@ use Rattle.simulator.proofs.Vocabulary.{◌≡◌, ℕ, zero, suc, arith, true, 
 use Rattle.tso_model.specs.FinalState.{final_words, final_registers}
 use Rattle.tso_laws.specs.EndedRuns.{registers_in}
 use Rattle.tso_laws.specs.Words.{HoldsWords}
+use Rattle.split_laws.specs.BusLaws.{AtomicRunsAreFlatRuns}
 use Rattle.machine_core.specs.Answered.{answered, answered_from}
 
 -- ---- the answers leave the choices as they are
@@ -34,26 +35,20 @@ length-in table c t choices = length-answered c.bus t c.depth _ _ choices
 
 -- ---- the run on either bus, with the parts of locked instructions put together
 
--- what the laws of either bus say of the atomic one
-pub record AtomicRuns : Type 0 where
-  pub atomic : (t : Litmus) (depth : ℕ) (attempts : List Attempt) → (run_on Atomic t depth attempts).run ≡ run t depth (choices_in attempts)
-  pub side_by_side : (t : Litmus) (depth : ℕ) (choices : List Choice) → put_together (run t depth choices).commits ≡ (run t depth choices).commits
-
 together-same : (r : Run) → put_together r.commits ≡ r.commits → together r ≡ r
 together-same r same =
-    let with_commits : List Entry → Run = λ cs. record { ended = r.ended; state = r.state; commits = cs; used = r.used; stalled = r.stalled; unused = r.unused } in
-    ap with_commits same
+    (λ i. record { ended = r.ended; state = r.state; commits = same i; used = r.used; stalled = r.stalled; unused = r.unused })
 
-run-by : (bus : Bus) (table : Table) (c : Configuration) (t : Litmus) (choices : List Choice) → AtomicRuns
+run-by : (bus : Bus) (table : Table) (c : Configuration) (t : Litmus) (choices : List Choice) → AtomicRunsAreFlatRuns
     → run_by bus table c t choices ≡ together (run_on bus t c.depth (answered bus table c.shape t c.depth choices)).run
 run-by Atomic table c t choices laws =
     let attempts = answered Atomic table c.shape t c.depth choices in
     let same : (run_on Atomic t c.depth attempts).run ≡ run t c.depth choices =
     laws.atomic t c.depth attempts ∙ ap (λ (cs : List Choice). run t c.depth cs) (choices-answered Atomic t c.depth _ _ choices) in
-    sym (ap together same ∙ together-same (run t c.depth choices) (laws.side_by_side t c.depth choices))
+    sym (ap together same ∙ together-same (run t c.depth choices) (laws.together t c.depth choices))
 run-by Split table c t choices laws = refl
 
-pub run-is : (table : Table) (c : Configuration) (t : Litmus) (choices : List Choice) → AtomicRuns
+pub run-is : (table : Table) (c : Configuration) (t : Litmus) (choices : List Choice) → AtomicRunsAreFlatRuns
     → run_by c.bus table c t choices ≡ together (bus_run table c t choices).run
 run-is table c t choices laws = run-by c.bus table c t choices laws
 
@@ -65,7 +60,7 @@ atomic-run table c t choices is = ap (λ (b : Bus). run_by b table c t choices) 
 
 -- what the laws of either bus, and those of the flat machine, say of ended runs
 pub record EndedRuns : Type 0 where
-  pub atomic : AtomicRuns
+  pub atomic : AtomicRunsAreFlatRuns
   pub flat : (bus : Bus) (t : Litmus) (depth : ℕ) (attempts : List Attempt) → HitsFit bus t depth (unheld (start t)) attempts → IsFlatRun bus t depth attempts (run_on bus t depth attempts)
   pub free : (bus : Bus) (t : Litmus) (depth : ℕ) (attempts : List Attempt) → EndOn bus t depth attempts → (run_on bus t depth attempts).holder ≡ Free
   pub executions : (t : Litmus) (depth : ℕ) (choices : List Choice) → IsTest t → (run t depth choices).ended ≡ true → IsExecution t (run t depth choices)
@@ -125,7 +120,7 @@ at-depth : (bus : Bus) (t : Litmus) (depth : ℕ) (attempts : List Attempt) → 
 at-depth bus t zero attempts law none test fit over = law bus t attempts test fit over
 at-depth bus t (suc n) attempts law none test fit over = absurd (omega arith)
 
-pub ended-all-order : (table : Table) (c : Configuration) (t : Litmus) (choices : List Choice) → AtomicRuns → UnbufferedRuns → c.depth ≡ 0 → IsTest t → AnswersFitBy table c t choices
+pub ended-all-order : (table : Table) (c : Configuration) (t : Litmus) (choices : List Choice) → AtomicRunsAreFlatRuns → UnbufferedRuns → c.depth ≡ 0 → IsTest t → AnswersFitBy table c t choices
     → (run_by c.bus table c t choices).ended ≡ true → KeepsAllOrder (run_by c.bus table c t choices).commits
 ended-all-order table c t choices atomic law none test fit ended =
     let is = run-is table c t choices atomic in

@@ -1,5 +1,5 @@
 -- From a machine that was driven to the answer of a simulation.
-use Rattle.simulator.proofs.Vocabulary.{◌≡◌, ◌<◌, ◌-◌, ◌+◌, ◌*◌, ℕ, zero, suc, Bool, true, false, List, [], ◌∷◌, length, All, slice_get, slice_index_or, Option, Some, None, is_some, Result, Ok, Err, IfOk, OnOk, arith, ap, sym, ◌∙◌, refl, subst, Litmus, KeepsAllOrder, Condition, truth_of, State, registers_in, Run, has_ended, Attempt, BusState, run_on, choices_in, put_together, together, Bus, Atomic, Choice, Entry, End, EndOn, StopsAtTheEndOn, Table, Counts, Configuration, Statistics, counts_of, Running, new_machine, ShownRun, run_by, AnswersFitBy, Ending, Ended, Unfinished, shown_of, verdict, IsEndingOf, IsCounted, HasAllOrder, HasEnded, drains, Drives}
+use Rattle.simulator.proofs.Vocabulary.{◌≡◌, ◌<◌, ◌-◌, ◌+◌, ◌*◌, ℕ, zero, suc, Bool, true, false, List, [], ◌∷◌, length, All, slice_get, slice_index_or, Option, Some, None, is_some, arith, ap, sym, ◌∙◌, refl, subst, Litmus, KeepsAllOrder, Condition, truth_of, State, registers_in, Run, has_ended, Attempt, BusState, run_on, choices_in, put_together, together, Bus, Atomic, Choice, Entry, End, EndOn, StopsAtTheEndOn, Table, Counts, Configuration, Statistics, counts_of, Running, new_machine, ShownRun, run_by, AnswersFitBy, Ending, Ended, Unfinished, shown_of, verdict, IsEndingOf, IsCounted, HasAllOrder, HasEnded, drains, Drives}
 use Rattle.std.specs.Option.{option_map}
 use Rattle.tso_model.specs.Standing.{StandsIn}
 use Rattle.tso_model.specs.Runs as flat
@@ -8,14 +8,16 @@ use Rattle.tso_model.specs.declared.execution.Kind.TheVariants.{R, W, F, LR, LW}
 use Rattle.tso_laws.specs.Counting.{instructions, stores_of_all}
 use Rattle.tso_laws.specs.Entries.{FitsTest}
 use Rattle.tso_laws.specs.Rounds.{CanBeCutIntoRounds}
+use Rattle.split_laws.specs.BusLaws.{AtomicRunsAreFlatRuns}
+use Rattle.split_laws.specs.inner.BusLaws.{RunsOnEitherBusStopWhereTheyEnd}
 use Rattle.order_builder.specs.PrintedOrder.{HasLocation, IsLocationFor}
 use Rattle.machine_core.specs.inner.Running.{is_ended}
-use Rattle.simulator.proofs.BusLemmas.{AtomicRuns, attempts_in, bus_run, choices-in, length-in, run-is, atomic-run}
+use Rattle.simulator.proofs.BusLemmas.{attempts_in, bus_run, choices-in, length-in, run-is, atomic-run}
 
 -- what the laws of either bus say of runs
 pub record RunLaws : Type 0 where
-  pub atomic : AtomicRuns
-  pub stops : (bus : Bus) (t : Litmus) (depth : ℕ) (attempts : List Attempt) → StopsAtTheEndOn bus t depth attempts (run_on bus t depth attempts)
+  pub atomic : AtomicRunsAreFlatRuns
+  pub stops : RunsOnEitherBusStopWhereTheyEnd
 
 -- a new machine that was driven through choices
 abbrev pub IsDriven : Table → Configuration → Litmus → Running → Running → List Choice → ℕ → ℕ → Type 0
@@ -32,7 +34,7 @@ ended-as-driven table config t old m choices used stalled b laws driven e =
     let d = from-new table config t old m choices used stalled driven in
     let over : has_ended m.test m.state.flat ≡ b = (rw d.failed at e) in
     let left : (bus_run table config t choices).run.state ≡ m.state.flat = ap (λ (s : BusState). s.flat) (sym d.state) in
-    (laws.stops config.bus t config.depth (attempts_in table config t choices)).ended
+    (laws.stops.stops config.bus t config.depth (attempts_in table config t choices)).ended
     ∙ ap (λ (s : State). has_ended t s) left ∙ subst (λ (u : Litmus). has_ended u m.state.flat ≡ b) d.test over
 
 -- the run that is answered
@@ -52,15 +54,7 @@ unfinished-is table config t old m choices used stalled laws driven e =
 
 same-shown : (s u : ShownRun) → s.order ≡ u.order → s.registers ≡ u.registers → s.memory ≡ u.memory → s.counts ≡ u.counts → s.holds ≡ u.holds → s.used ≡ u.used → s.stalled ≡ u.stalled → s.unused ≡ u.unused → s ≡ u
 same-shown s u a b c d e f g h =
-    let order_with : List Entry → ShownRun = λ x. record { order = x; registers = s.registers; memory = s.memory; counts = s.counts; holds = s.holds; used = s.used; stalled = s.stalled; unused = s.unused } in
-    let registers_with : List (List ℕ) → ShownRun = λ x. record { order = u.order; registers = x; memory = s.memory; counts = s.counts; holds = s.holds; used = s.used; stalled = s.stalled; unused = s.unused } in
-    let memory_with : List ℕ → ShownRun = λ x. record { order = u.order; registers = u.registers; memory = x; counts = s.counts; holds = s.holds; used = s.used; stalled = s.stalled; unused = s.unused } in
-    let counts_with : List Counts → ShownRun = λ x. record { order = u.order; registers = u.registers; memory = u.memory; counts = x; holds = s.holds; used = s.used; stalled = s.stalled; unused = s.unused } in
-    let holds_with : Option Bool → ShownRun = λ x. record { order = u.order; registers = u.registers; memory = u.memory; counts = u.counts; holds = x; used = s.used; stalled = s.stalled; unused = s.unused } in
-    let used_with : ℕ → ShownRun = λ x. record { order = u.order; registers = u.registers; memory = u.memory; counts = u.counts; holds = u.holds; used = x; stalled = s.stalled; unused = s.unused } in
-    let stalled_with : ℕ → ShownRun = λ x. record { order = u.order; registers = u.registers; memory = u.memory; counts = u.counts; holds = u.holds; used = u.used; stalled = x; unused = s.unused } in
-    let unused_with : ℕ → ShownRun = λ x. record { order = u.order; registers = u.registers; memory = u.memory; counts = u.counts; holds = u.holds; used = u.used; stalled = u.stalled; unused = x } in
-    ap order_with a ∙ ap registers_with b ∙ ap memory_with c ∙ ap counts_with d ∙ ap holds_with e ∙ ap used_with f ∙ ap stalled_with g ∙ ap unused_with h
+    (λ i. record { order = a i; registers = b i; memory = c i; counts = d i; holds = e i; used = f i; stalled = g i; unused = h i })
 
 -- what the machine leaves is what the run shows
 pub ended-is : (table : Table) (config : Configuration) (t : Litmus) (old m : Running) (choices : List Choice) (used stalled : ℕ) (s : ShownRun) → RunLaws
@@ -76,7 +70,7 @@ ended-is table config t old m choices used stalled s laws driven e order registe
     let registers_are : s.registers ≡ registers_in r.state = registers ∙ ap registers_in state in
     let memory_is : s.memory ≡ r.state.memory = memory ∙ ap (λ (x : State). x.memory) state in
     let holds_is : s.holds ≡ verdict t (registers_in r.state) r.state.memory = holds ∙ ap (λ x. verdict t x s.memory) registers_are ∙ ap (λ x. verdict t (registers_in r.state) x) memory_is in
-    let count : r.used + r.unused ≡ length choices = (laws.stops config.bus t config.depth (attempts_in table config t choices)).count ∙ length-in table config t choices in
+    let count : r.used + r.unused ≡ length choices = (laws.stops.stops config.bus t config.depth (attempts_in table config t choices)).count ∙ length-in table config t choices in
     let used_is : s.used ≡ r.used = u ∙ d.used in
     let stalled_is : s.stalled ≡ r.stalled = st ∙ d.stalled in
     let unused_is : s.unused ≡ r.unused = (let a = d.used in omega arith) in
@@ -135,42 +129,35 @@ pub choices-counted : (t : Litmus) (depth : ℕ) (choices : List Choice)
 choices-counted t zero choices buffered unbuffered over = let count = unbuffered t choices over in omega arith
 choices-counted t (suc n) choices buffered unbuffered over = buffered t (suc n) choices (omega arith) over
 
-pub counted : {E : Type 0} (table : Table) (c : Configuration) (t : Litmus) (choices : List Choice) (r : Result Ending E) → c.bus ≡ Atomic
+pub counted : (table : Table) (c : Configuration) (t : Litmus) (choices : List Choice) (e : Ending) → c.bus ≡ Atomic
     → ((flat.run t c.depth choices).ended ≡ true → (flat.run t c.depth choices).used ≡ (flat.run t c.depth choices).stalled + (instructions t.programs + drains t c.depth))
-    → IfOk r (IsEndingOf t (run_by c.bus table c t choices)) → IfOk r (IsCounted t c.depth)
-counted table c t choices r atomic law is = by_result r (subst (λ (x : Run). IfOk r (IsEndingOf t x)) (atomic-run table c t choices atomic) is)
+    → IsEndingOf t (run_by c.bus table c t choices) e → IsCounted t c.depth e
+counted table c t choices e atomic law is = by_ending e (subst (λ (x : Run). IsEndingOf t x e) (atomic-run table c t choices atomic) is)
   where
-    by_result : {E : Type 0} (r : Result Ending E) → IfOk r (IsEndingOf t (flat.run t c.depth choices)) → IfOk r (IsCounted t c.depth)
-    by_result (Ok (Ended run)) is =
+    by_ending : (e : Ending) → IsEndingOf t (flat.run t c.depth choices) e → IsCounted t c.depth e
+    by_ending (Ended run) is =
         let used = ap (λ s. s.used) is.1 in let stalled = ap (λ s. s.stalled) is.1 in let count = law is.0 in omega arith
-    by_result (Ok (Unfinished used stalled)) is = tt
-    by_result (Err e) is = tt
-
-pub on-ok : {E : Type 0} {A B : Type 0} (r : Result Ending E) → (A → B) → OnOk r A → OnOk r B
-on-ok (Ok ending) f a = f a
-on-ok (Err e) f a = tt
+    by_ending (Unfinished used stalled) is = tt
 
 -- without buffers the order of an ended run keeps program order without exception
-pub all-order : {E : Type 0} (t : Litmus) (x : Run) (r : Result Ending E) → (OnOk r (x.ended ≡ true → KeepsAllOrder x.commits)) → IfOk r (IsEndingOf t x) → IfOk r HasAllOrder
-all-order t x (Ok (Ended run)) law is = subst KeepsAllOrder (ap (λ (s : ShownRun). s.order) (sym is.1)) (law is.0)
-all-order t x (Ok (Unfinished used stalled)) law is = tt
-all-order t x (Err e) law is = tt
+pub all-order : (t : Litmus) (x : Run) (e : Ending) → (x.ended ≡ true → KeepsAllOrder x.commits) → IsEndingOf t x e → HasAllOrder e
+all-order t x (Ended run) law is = subst KeepsAllOrder (ap (λ (s : ShownRun). s.order) (sym is.1)) (law is.0)
+all-order t x (Unfinished used stalled) law is = tt
 
-ended-by : {E : Type 0} (t : Litmus) (x : Run) (r : Result Ending E) → x.ended ≡ true → IfOk r (IsEndingOf t x) → IfOk r HasEnded
-ended-by t x (Ok (Ended run)) over is = tt
-ended-by t x (Ok (Unfinished used stalled)) over is =
+ended-by : (t : Litmus) (x : Run) (e : Ending) → x.ended ≡ true → IsEndingOf t x e → HasEnded e
+ended-by t x (Ended run) over is = tt
+ended-by t x (Unfinished used stalled) over is =
     let bad : true ≡ false = sym over ∙ is.0 in cc
-ended-by t x (Err e) over is = tt
 
-pub ended-on-atomic : {E : Type 0} (table : Table) (c : Configuration) (t : Litmus) (choices : List Choice) (r : Result Ending E) → c.bus ≡ Atomic
-    → (flat.run t c.depth choices).ended ≡ true → IfOk r (IsEndingOf t (run_by c.bus table c t choices)) → IfOk r HasEnded
-ended-on-atomic table c t choices r atomic over is =
-    ended-by t (run_by c.bus table c t choices) r (ap (λ (x : Run). x.ended) (atomic-run table c t choices atomic) ∙ over) is
+pub ended-on-atomic : (table : Table) (c : Configuration) (t : Litmus) (choices : List Choice) (e : Ending) → c.bus ≡ Atomic
+    → (flat.run t c.depth choices).ended ≡ true → IsEndingOf t (run_by c.bus table c t choices) e → HasEnded e
+ended-on-atomic table c t choices e atomic over is =
+    ended-by t (run_by c.bus table c t choices) e (ap (λ (x : Run). x.ended) (atomic-run table c t choices atomic) ∙ over) is
 
-pub ended-on-either : {E : Type 0} (table : Table) (c : Configuration) (t : Litmus) (choices : List Choice) (r : Result Ending E) → AtomicRuns
+pub ended-on-either : (table : Table) (c : Configuration) (t : Litmus) (choices : List Choice) (e : Ending) → AtomicRunsAreFlatRuns
     → ((attempts : List Attempt) → CanBeCutIntoRounds (length t.programs) (3 * instructions t.programs) (choices_in attempts) → EndOn c.bus t c.depth attempts)
-    → CanBeCutIntoRounds (length t.programs) (3 * instructions t.programs) choices → IfOk r (IsEndingOf t (run_by c.bus table c t choices)) → IfOk r HasEnded
-ended-on-either table c t choices r laws law cut is =
+    → CanBeCutIntoRounds (length t.programs) (3 * instructions t.programs) choices → IsEndingOf t (run_by c.bus table c t choices) e → HasEnded e
+ended-on-either table c t choices e laws law cut is =
     let over : EndOn c.bus t c.depth (attempts_in table c t choices) =
     law (attempts_in table c t choices) (subst (CanBeCutIntoRounds (length t.programs) (3 * instructions t.programs)) (sym (choices-in table c t choices)) cut) in
-    ended-by t (run_by c.bus table c t choices) r (ap (λ (x : Run). x.ended) (run-is table c t choices laws) ∙ over) is
+    ended-by t (run_by c.bus table c t choices) e (ap (λ (x : Run). x.ended) (run-is table c t choices laws) ∙ over) is

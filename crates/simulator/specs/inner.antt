@@ -1,3 +1,4 @@
 -- Words of contracts inside the project.
+pub mod Observed
 pub mod Runs
 pub mod Simulation

@@ -3,9 +3,12 @@
 #![tactic(auto)]
 
 pub mod ended_runs;
+pub mod observing;
 pub mod simulation;
 
 pub use ended_runs::ended_runs_of_machines_are_executions;
+pub use observing::Observer;
 pub use simulation::{
-    Ending, Progress, SimFault, drive_machine, ending_of, simulate, simulate_noting, verdict_of,
+    Ending, Progress, Setup, SimFault, drive_machine, ending_of, simulate, simulate_noting,
+    simulate_observed, verdict_of,
 };

@@ -3,25 +3,41 @@
 
 ghost use Rattle.std.specs.Prelude.{◌≡◌, ◌+◌, ◌*◌, ◌^◌, ◌<◌, false, IfOk, OnOk, length};
 ghost use Rattle.tso_model.specs.Runs.{CoresExist};
+ghost use Rattle.protocol_tables.specs.Tables.{Table, table_of};
+ghost use Rattle.machine_core.specs.Running.{new_machine};
 ghost use Rattle.simulator.specs.Runs.{run_by, run_under, counts_by, counts_under, AnswersFit, AnswersFitBy};
 ghost use Rattle.simulator.specs.Simulation.{IsEndingOf, FitsEnding, HasCounts, IsCounted, HasAllOrder, HasRounds, HasEnded, verdict};
+ghost use Rattle.simulator.specs.inner.Observed.{Watched, IsWatched};
 ghost use Rattle.simulator.specs.inner.Simulation.{Drives, IsEndingLeftBy};
 ghost use Rattle.split_laws.specs.BusChoices.{IsPossibleOn};
 ghost use Rattle.tso_laws.specs.Counting.{instructions, longest};
 
 use crate::ended_runs::ended_runs_of_machines_are_executions;
+use crate::observing::Observer;
 use machine_core::{Bus, Choice, Config, Machine, Outcome};
 use protocol_tables::{Mesi, Moesi, Mosi, Msi, Protocol, ProtocolKind};
 use scheduler::{Choices, Listed, Stalls};
 use split_laws::{
     atomic_runs_are_flat_runs, attempts_lead_from_state_to_state, fair_rounds_end_on_either_bus,
-    runs_on_either_bus_stop_where_they_end, what_holds_so_far_on_either_bus,
+    runs_on_either_bus_stop_where_they_end, stalls_on_either_bus_change_nothing,
+    what_holds_so_far_on_either_bus,
 };
 use std::alloc::Global;
 use thiserror::Error;
 use tso_laws::{fair_rounds_end, runs_are_counted, whole_orders_have_each_entry_once};
 use tso_model::{NoMemory, Test, cond_holds};
 use tso_report::Run;
+
+/// What a run is asked for: a test, on a machine of this protocol and configuration.
+#[derive(Clone, Copy)]
+pub struct Setup<'t> {
+    /// The test.
+    pub test: &'t Test,
+    /// By which the machine's caches are kept coherent.
+    pub protocol: ProtocolKind,
+    /// How the machine is built.
+    pub config: Config,
+}
 
 /// How a list of choices left a test.
 #[derive(Drop)]
@@ -113,56 +129,69 @@ pub fn simulate_noting(
     atomic_runs_are_flat_runs();
     ended_runs_of_machines_are_executions();
     test.know_limits();
-    run_with(alloc, test, protocol, config, Listed::new(choices), stalls)
+    let setup = Setup {
+        test,
+        protocol,
+        config,
+    };
+    let ending = simulate_observed(alloc, &setup, choices, stalls)?;
+    Ok(ending)
 }
 
-fn run_with<C: Choices>(
+/// What [`simulate_noting`] answers, of a run at which an observer looks.
+///
+/// Errors: those of the observer, and out of memory.
+pub fn simulate_observed<O: Observer>(
     alloc: Global,
-    test: &Test,
-    protocol: ProtocolKind,
-    config: Config,
-    choices: C,
-    stalls: &mut Stalls,
-) -> Result<Ending, SimFault>
-    requires { CoresExist (length test.now.programs) (C.coming choices) }
-    ensures ending { IfOk result (IsEndingOf test.now (run_under test.now protocol config (C.coming choices))) }
-    ensures fits { IfOk result (FitsEnding test.now) }
-    ensures answers { OnOk result (AnswersFit test.now protocol config (C.coming choices)) }
-    ensures counts { IfOk result (HasCounts (counts_under test.now protocol config (C.coming choices))) }
+    setup: &Setup<'_>,
+    choices: &[Choice],
+    observer: &mut O,
+) -> Result<Ending, NoMemory>
+    requires cores { CoresExist (length setup.now.test.now.programs) choices.now }
+    requires begins { (table : Table) → O.begins observer.old (new_machine table setup.now.config setup.now.test.now) }
+    ensures watched { OnOk result (IsWatched O.opens O.makes O.ends observer.old (new_machine (table_of setup.now.protocol) setup.now.config setup.now.test.now) choices.now observer.new) }
+    ensures ending { IfOk result (IsEndingOf setup.now.test.now (run_under setup.now.test.now setup.now.protocol setup.now.config choices.now)) }
+    ensures fits { IfOk result (FitsEnding setup.now.test.now) }
+    ensures answers { OnOk result (AnswersFit setup.now.test.now setup.now.protocol setup.now.config choices.now) }
+    ensures counts { IfOk result (HasCounts (counts_under setup.now.test.now setup.now.protocol setup.now.config choices.now)) }
 {
-    match protocol {
-        ProtocolKind::Msi => run_to_the_end(alloc, test, Msi, config, choices, stalls),
-        ProtocolKind::Mesi => run_to_the_end(alloc, test, Mesi, config, choices, stalls),
-        ProtocolKind::Moesi => run_to_the_end(alloc, test, Moesi, config, choices, stalls),
-        ProtocolKind::Mosi => run_to_the_end(alloc, test, Mosi, config, choices, stalls),
+    match setup.protocol {
+        ProtocolKind::Msi => run_to_the_end(alloc, setup, Msi, choices, observer),
+        ProtocolKind::Mesi => run_to_the_end(alloc, setup, Mesi, choices, observer),
+        ProtocolKind::Moesi => run_to_the_end(alloc, setup, Moesi, choices, observer),
+        ProtocolKind::Mosi => run_to_the_end(alloc, setup, Mosi, choices, observer),
     }
 }
 
-fn run_to_the_end<P: Protocol, C: Choices>(
+/// The run on a machine of this protocol.
+fn run_to_the_end<P: Protocol, O: Observer>(
     alloc: Global,
-    test: &Test,
+    setup: &Setup<'_>,
     protocol: P,
-    config: Config,
-    choices: C,
-    stalls: &mut Stalls,
-) -> Result<Ending, SimFault>
-    requires { CoresExist (length test.now.programs) (C.coming choices) }
-    ensures ending { IfOk result (IsEndingOf test.now (run_by config.bus (P.table protocol) config test.now (C.coming choices))) }
-    ensures fits { IfOk result (FitsEnding test.now) }
-    ensures answers { OnOk result (AnswersFitBy (P.table protocol) config test.now (C.coming choices)) }
-    ensures counts { IfOk result (HasCounts (counts_by (P.table protocol) config test.now (C.coming choices))) }
+    choices: &[Choice],
+    observer: &mut O,
+) -> Result<Ending, NoMemory>
+    requires cores { CoresExist (length setup.now.test.now.programs) choices.now }
+    requires begins { (table : Table) → O.begins observer.old (new_machine table setup.now.config setup.now.test.now) }
+    ensures watched { OnOk result (IsWatched O.opens O.makes O.ends observer.old (new_machine (P.table protocol) setup.now.config setup.now.test.now) choices.now observer.new) }
+    ensures ending { IfOk result (IsEndingOf setup.now.test.now (run_by setup.now.config.bus (P.table protocol) setup.now.config setup.now.test.now choices.now)) }
+    ensures fits { IfOk result (FitsEnding setup.now.test.now) }
+    ensures answers { OnOk result (AnswersFitBy (P.table protocol) setup.now.config setup.now.test.now choices.now) }
+    ensures counts { IfOk result (HasCounts (counts_by (P.table protocol) setup.now.config setup.now.test.now choices.now)) }
 {
     attempts_lead_from_state_to_state();
     atomic_runs_are_flat_runs();
     runs_on_either_bus_stop_where_they_end();
     ended_runs_of_machines_are_executions();
     whole_orders_have_each_entry_once();
-    test.know_limits();
-    let mut machine = Machine::new(alloc, protocol, test, config)?;
-    let mut choices = choices;
-    let progress = drive_machine(&mut machine, &mut choices, stalls)?;
+    setup.test.know_limits();
+    let mut machine = Machine::new(alloc, protocol, setup.test, setup.config)?;
+    observer.begin(&machine)?;
+    let mut choices = Listed::new(choices);
+    let progress = drive_machine(&mut machine, observer, &mut choices)?;
+    observer.end(&machine)?;
     let unused = choices.left();
-    let ending = ending_of(alloc, machine, test, progress, unused)?;
+    let ending = ending_of(alloc, machine, setup.test, progress, unused)?;
     Ok(ending)
 }
 
@@ -205,22 +234,28 @@ pub struct Progress {
     pub stalled: usize,
 }
 
-/// Makes the choices one after the other, until the test has ended, and notes those that stall. The caches'
+/// Makes the choices one after the other, until the test has ended, and counts those that stall. The caches'
 /// answers along all of them fit, those after the end too: there nobody holds the bus.
-pub fn drive_machine<P: Protocol, C: Choices>(
+///
+/// Errors: those of the observer, and out of memory.
+pub fn drive_machine<P: Protocol, C: Choices, O: Observer>(
     machine: &mut Machine<'_, P>,
+    observer: &mut O,
     choices: &mut C,
-    stalls: &mut Stalls,
 ) -> Result<Progress, NoMemory>
     requires fresh { machine.old.failed ≡ false }
     requires cores { CoresExist (length machine.old.test.programs) (C.coming choices.old) }
     requires possible { IsPossibleOn machine.old.bus machine.old.test machine.old.depth machine.old.commits machine.old.state }
+    requires watches { O.watches observer.old machine.old }
     ensures drives { IfOk result (λ p. Drives machine.old machine.new (C.coming choices.old) p.used p.stalled) }
     ensures left { IfOk result (λ p. p.used + length (C.coming choices.new) ≡ length (C.coming choices.old)) }
+    ensures watches { OnOk result (O.watches observer.new machine.new) }
+    ensures watched { OnOk result (Watched O.makes observer.old machine.old 1 (C.coming choices.old) observer.new machine.new) }
 {
     attempts_lead_from_state_to_state();
     what_holds_so_far_on_either_bus();
     runs_on_either_bus_stop_where_they_end();
+    stalls_on_either_bus_change_nothing();
     know_choices(choices);
     let mut used = 0;
     let mut stalled = 0;
@@ -229,14 +264,11 @@ pub fn drive_machine<P: Protocol, C: Choices>(
         let Some(choice) = choices.next() else {
             return Ok(Progress { used, stalled });
         };
-        let outcome = machine.choose(choice)?;
         used += 1;
+        let outcome = observer.choose(machine, used, choice)?;
         match outcome {
             // A stall changes nothing, so no test ends by one.
-            Outcome::Stalled(reason) => {
-                stalled += 1;
-                stalls.note(choice, reason);
-            }
+            Outcome::Stalled(_) => stalled += 1,
             Outcome::Committed | Outcome::Buffered | Outcome::Moved | Outcome::Asked => {
                 ended = machine.is_ended();
             }

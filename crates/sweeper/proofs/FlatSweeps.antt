@@ -15,10 +15,6 @@ registers-there (c ∷ cs) = ap (λ (rs : List (List ℕ)). c.registers ∷ rs) 
 pub registers-left : (s : Snapshot) (registers : List (List ℕ)) → registers ≡ map (λ c. c.registers) s.cores.items → registers ≡ registers_in (state_of_snapshot s)
 registers-left s registers r = r ∙ registers-there s.cores.items
 
-pub as-many-registers : (cores : List Processor) → length (map (λ c. c.registers) cores) ≡ length cores
-as-many-registers [] = refl
-as-many-registers (c ∷ cs) = ap suc (as-many-registers cs)
-
 pub counted : (t : Litmus) (r : Run) (s : State) (registers : List (List ℕ)) (memory : List ℕ) (holds : Option Bool) (c : RunCounts)
     → true ≡ r.ended → s ≡ r.state → registers ≡ registers_in s → memory ≡ s.memory → holds ≡ verdict t registers memory
     → with_verdict holds (with_state_counted (values_in t registers memory) c) ≡ with_one_run t r c

@@ -52,6 +52,15 @@ goes-back old m choices used stalled d =
         ∙ ap (λ x. at old.statistics.caches.rows old.statistics.caches.shape old.test x m.depth) b
         ∙ ap (λ k. at old.statistics.caches.rows old.statistics.caches.shape old.test old.bus k) n
 
+-- so the next runs on it are those that they would have been before
+pub as-before : (old new : Running) (t : Litmus) → new ≡ old → (old ≡ restarted old) × (old.test ≡ t)
+    → ((new ≡ restarted new) × (new.test ≡ t)) × ((choices : List Choice) → machine_run new choices ≡ machine_run old choices) × ((choices : List Choice) → AnswersFitOn new choices → AnswersFitOn old choices)
+as-before old new t same ready = (
+  subst (λ (m : Running). (m ≡ restarted m) × (m.test ≡ t)) (sym same) ready,
+  λ choices. ap (λ (m : Running). machine_run m choices) same,
+  λ choices fit. subst (λ (m : Running). AnswersFitOn m choices) same fit,
+)
+
 -- ---- the run that was made is counted
 
 pub counted-unfinished : (t : Litmus) (r : Run) (c : RunCounts) → r.ended ≡ false → with_unfinished c ≡ with_one_run t r c

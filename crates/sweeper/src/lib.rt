@@ -4,5 +4,6 @@
 
 pub mod counting;
 mod flat_sweep;
+mod runner;
 
 pub use counting::{Swept, sweep};

@@ -6,7 +6,7 @@ use Rattle.serde_json.specs.declared.value.Value.TheVariants.{String as Text, Ar
 pub view-text : (t : String Global) → view (Text t) ≡ string (string_bytes t)
 view-text t = search (rules, the_lemmas)
 
-view-list : (values : Vec Value Global) → view (Array values) ≡ array (items_of (map view values.items))
+pub view-list : (values : Vec Value Global) → view (Array values) ≡ array (items_of (map view values.items))
 view-list values = search (rules, the_lemmas)
 
 pub listed : (values after : List Value) (v : Value) (first : Data) (rest all whole : List Data) → after ≡ values ++ v ∷ [] → view v ≡ first → all ≡ first ∷ rest

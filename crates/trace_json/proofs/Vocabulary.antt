@@ -27,7 +27,7 @@ pub use Rattle.trace_report.specs.Lines.{access_name, stall_name, line_name, nam
 pub use Rattle.trace_json.specs.MachineJson.{words_per_line, words_in_line, words_on_bus, copy_json, cached_lines_in, set_json, sets_json, core_json, cores_json, holder_json, bus_json, machine_json, core_with}
 pub use Rattle.trace_json.specs.StepJson.{stall_in, step_json}
 pub use Rattle.trace_json.specs.Supplied.{supplier_text, found_by, supplied_to, supplies, supplier_from, supplier_or_memory}
-pub use Rattle.trace_json.specs.TraceJson.{Sourced, sourced_by, last_or, last_step_json, step_to, steps_json, start_json, trace_json, alone}
+pub use Rattle.trace_json.specs.TraceJson.{Sourced, sourced_by, last_or, last_step_json, step_to, steps_json, start_json, trace_json, alone, trace_from, last_from}
 pub use Rattle.trace_json.specs.declared.supplied.Source.{Source}
 pub use Rattle.tso_model.specs.Condition.{Condition, condition_of}
 pub use Rattle.trace_json.specs.Programs.{instruction_text, program_value, programs_value}
@@ -39,7 +39,7 @@ pub use Rattle.std.proofs.lemmas.Option.{unwrap_or-slice_get}
 pub use Rattle.machine_core.specs.Caches.{Caches, at_access}
 pub use Rattle.trace_report.specs.Steps.{line_state, number_of_lines, trace_step_of, awaited_at, state_with}
 pub use Rattle.serde_json.specs.declared.value.Value.{Value, the_lemmas}
-pub use Rattle.trace_json.specs.inner.Looked.{IsMachineOfTest, told_last, sourced, HasMemory}
+pub use Rattle.trace_json.specs.inner.Looked.{IsMachineOfTest, told_last, sourced, HasMemory, trace_with}
 pub use Rattle.snoop_bus.specs.Geometry.{IsLineSize}
 pub use Rattle.trace_report.specs.Told.{IsTraced, IsTracedInStates}
 pub use Rattle.trace_report.specs.inner.Told.{IsLookedAt}

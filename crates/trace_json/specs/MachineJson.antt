@@ -1,7 +1,6 @@
 -- A machine between two choices as a JSON value. Its objects have their keys in the order of their bytes. (This project's
 -- profile.)
-use Rattle.std.specs.Prelude.{ℕ, zero, suc, ◌+◌, ◌*◌, ◌/◌, List, [], ◌∷◌, map, length, take, drop, Option, Some, None}
-use Rattle.std.specs.Prelude.{option_map, slice_index_or, codes}
+use Rattle.std.specs.Prelude.{ℕ, zero, suc, ◌+◌, ◌*◌, ◌/◌, List, [], ◌∷◌, map, length, take, drop, Option, Some, None, option_map, slice_index_or, codes}
 use Rattle.serde_json.specs.Data.{Data, null, string, array, object, no_members, member}
 use Rattle.serde_json.specs.View.{items_of}
 use Rattle.tso_model.specs.Litmus.{Litmus}

@@ -7,8 +7,7 @@ use Rattle.basic_laws.specs.Types.{Stall, Outcome, Committed, Buffered, Moved, A
 use Rattle.scheduler.specs.Printed.{printed_choice}
 use Rattle.tso_report.specs.Json.{order_value}
 use Rattle.trace_report.specs.Shown.{ShownStep}
-use Rattle.trace_report.specs.Lines.{access_name, stall_name, outcome_name, line_name, printed_core, printed_move}
-use Rattle.trace_report.specs.Lines.{printed_change, printed_request}
+use Rattle.trace_report.specs.Lines.{access_name, stall_name, outcome_name, line_name, printed_core, printed_move, printed_change, printed_request}
 use Rattle.trace_json.specs.Values.{text_or_null, array_of_texts}
 use Rattle.trace_json.specs.Supplied.{supplier_text}
 use Rattle.trace_json.specs.declared.supplied.Source.{Source}

@@ -1,8 +1,7 @@
 -- Where the word that a choice reads is found: among the core's own pending stores, in its own cache, on the bus that keeps it for
 -- the core, in another core's cache, or in memory. (x86-TSO, section 3, for the own stores; Primer, chapters 6 and 7, for the
 -- others; which copies supply their line is this project's profile.)
-use Rattle.std.specs.Prelude.{ℕ, zero, suc, ◌+◌, ◌/◌, ◌||◌, Bool, true, false, if◌then◌else◌, List, length, Option, Some, None}
-use Rattle.std.specs.Prelude.{is_some, option_map, codes}
+use Rattle.std.specs.Prelude.{ℕ, zero, suc, ◌+◌, ◌/◌, ◌||◌, Bool, true, false, if◌then◌else◌, List, length, Option, Some, None, is_some, option_map, codes}
 use Rattle.tso_model.specs.FlatMachine.{chosen}
 use Rattle.tso_model.specs.MemoryAccess.{MemoryAccess, NoAccess, Reads, Writes, Locks, access_of}
 use Rattle.basic_laws.specs.Types.{Core, Choice, Outcome, Committed, Buffered, Moved, Asked, Stalled}

@@ -1,5 +1,7 @@
 -- Words of contracts inside the project.
 pub mod Looked
+pub mod Following
+pub mod Observing
 pub mod Brackets
 pub mod Stepped
 pub mod BusMemory

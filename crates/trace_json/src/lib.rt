@@ -4,6 +4,7 @@
 
 mod copies;
 mod cores;
+mod following;
 mod machine;
 pub mod memory_words;
 mod own_words;

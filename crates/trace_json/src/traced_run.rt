@@ -13,12 +13,11 @@ ghost use Rattle.trace_json.specs.TracedRun.{most_steps, with_trace, json_ended,
 use crate::programs::programs_value;
 use crate::proposition::proposition_value;
 use crate::trace::{last_step, traced};
-use machine_core::Config;
-use protocol_tables::ProtocolKind;
 use scheduler::word_of_choice;
 use serde_json::{Map, Value, put};
+use simulator::Setup;
 use std::alloc::Global;
-use tso_model::{Choice, NoMemory, Test};
+use tso_model::{Choice, NoMemory};
 use tso_report::Run;
 use tso_report::json::{line_of, run_members, unfinished_members};
 
@@ -53,18 +52,16 @@ pub fn word_beyond(cores: u8, used: usize, text: &[u8]) -> Option<usize>
 /// Errors: out of memory only.
 pub fn ended_json(
     alloc: Global,
-    test: &Test,
-    protocol: ProtocolKind,
-    config: Config,
+    setup: &Setup<'_>,
     choices: &[Choice],
     run: &Run,
 ) -> Result<String, NoMemory>
-    requires cores { CoresExist (length test.now.programs) choices.now }
-    requires run { IsRunOf test.now (shown_run run.now) }
-    ensures { IfOk result (λ text. string_bytes text ≡ json_ended test.now protocol config choices.now (shown_run run.now)) }
+    requires cores { CoresExist (length setup.now.test.now.programs) choices.now }
+    requires run { IsRunOf setup.now.test.now (shown_run run.now) }
+    ensures { IfOk result (λ text. string_bytes text ≡ json_ended setup.now.test.now setup.now.protocol setup.now.config choices.now (shown_run run.now)) }
 {
-    let members = run_members(alloc, test, protocol, config, run)?;
-    let members = with_trace(alloc, test, protocol, config, choices, members)?;
+    let members = run_members(alloc, setup.test, setup.protocol, setup.config, run)?;
+    let members = with_trace(alloc, setup, choices, members)?;
     line_of(alloc, &Value::Object(members))
 }
 
@@ -74,18 +71,16 @@ pub fn ended_json(
 /// Errors: out of memory only.
 pub fn unended_json(
     alloc: Global,
-    test: &Test,
-    protocol: ProtocolKind,
-    config: Config,
+    setup: &Setup<'_>,
     choices: &[Choice],
     used: usize,
     stalled: usize,
 ) -> Result<String, NoMemory>
-    requires { CoresExist (length test.now.programs) choices.now }
-    ensures { IfOk result (λ text. string_bytes text ≡ json_unended test.now protocol config choices.now used stalled) }
+    requires { CoresExist (length setup.now.test.now.programs) choices.now }
+    ensures { IfOk result (λ text. string_bytes text ≡ json_unended setup.now.test.now setup.now.protocol setup.now.config choices.now used stalled) }
 {
     let members = unfinished_members(alloc, used, stalled)?;
-    let members = with_trace(alloc, test, protocol, config, choices, members)?;
+    let members = with_trace(alloc, setup, choices, members)?;
     line_of(alloc, &Value::Object(members))
 }
 
@@ -95,15 +90,13 @@ pub fn unended_json(
 /// Errors: out of memory only.
 pub fn last_step_json(
     alloc: Global,
-    test: &Test,
-    protocol: ProtocolKind,
-    config: Config,
+    setup: &Setup<'_>,
     choices: &[Choice],
 ) -> Result<String, NoMemory>
-    requires { CoresExist (length test.now.programs) choices.now }
-    ensures { IfOk result (λ text. string_bytes text ≡ json_last_step test.now protocol config choices.now) }
+    requires { CoresExist (length setup.now.test.now.programs) choices.now }
+    ensures { IfOk result (λ text. string_bytes text ≡ json_last_step setup.now.test.now setup.now.protocol setup.now.config choices.now) }
 {
-    let step = last_step(alloc, test, protocol, config, choices)?;
+    let step = last_step(alloc, setup, choices)?;
     line_of(alloc, &step)
 }
 
@@ -112,21 +105,19 @@ pub fn last_step_json(
 /// Errors: out of memory only.
 fn with_trace(
     alloc: Global,
-    test: &Test,
-    protocol: ProtocolKind,
-    config: Config,
+    setup: &Setup<'_>,
     choices: &[Choice],
     members: Map<String, Value>,
 ) -> Result<Map<String, Value>, NoMemory>
-    requires { CoresExist (length test.now.programs) choices.now }
-    ensures { IfOk result (λ new. members_view new.entries ≡ with_trace test.now protocol config choices.now (members_view members.entries)) }
+    requires { CoresExist (length setup.now.test.now.programs) choices.now }
+    ensures { IfOk result (λ new. members_view new.entries ≡ with_trace setup.now.test.now setup.now.protocol setup.now.config choices.now (members_view members.entries)) }
 {
     let mut members = members;
-    let trace = traced(alloc, test, protocol, config, choices)?;
+    let trace = traced(alloc, setup, choices)?;
     put(&mut members, alloc, "trace", trace)?;
-    let proposition = proposition_value(alloc, test)?;
+    let proposition = proposition_value(alloc, setup.test)?;
     put(&mut members, alloc, "proposition", proposition)?;
-    let programs = programs_value(alloc, test)?;
+    let programs = programs_value(alloc, setup.test)?;
     put(&mut members, alloc, "programs", programs)?;
     Ok(members)
 }

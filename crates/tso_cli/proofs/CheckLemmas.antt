@@ -1,7 +1,7 @@
 -- What `check` answers, and what that means.
 use Rattle.tso_cli.proofs.Vocabulary.{◌≡◌, ◌≢◌, ℕ, false, ◌<◌, ◌≤◌, ◌^◌, List, [], length, get_or, Some, slice_get, slice_index_or, All, refl, sym, ap, subst, arith, slice_get-get_or, Litmus, IsTest, IsWhole, IsTsoExecution, StandsIn, Run, program_of, Entry, FitsTest, IsExecution, HasWord, HasAccess, IsEntryFor, IsOrderFor, SpellsOrder, HasFault, OrderFault, IsFirstBreach, Breach, ProtocolKind, Configuration, report, ShownRun, shown_of, IsCheckAnswer, IsJudgement, valid, valid_line, invalid_line, JudgesOrder, JudgesEachOrder, PrintsExecution, Status, Good}
 use Rattle.tso_model.specs.declared.execution.Kind.{Kind}
-use Rattle.tso_model.specs.declared.execution.Kind.TheVariants.{R, W, F, LR, LW}
+use Rattle.tso_model.specs.declared.execution.Kind.TheVariants.{F}
 use Rattle.snoop_bus.specs.Geometry.{IsShapeWithinLimits}
 use Rattle.commands.specs.Answers.{refused, judged, invalid}
 
@@ -69,11 +69,8 @@ printed-is-valid t kind c r out answer status real once never test short prints 
 
 access : (t : Litmus) (kind : Kind) (loc value : ℕ) → (kind ≢ F → loc < length t.locations) → (kind ≡ F → (loc ≡ 0) × (value ≡ 0)) → value < 2 ^ 32
     → HasAccess t kind loc value
-access t R loc value known fence word = (known (λ e. absurd cc), word)
-access t W loc value known fence word = (known (λ e. absurd cc), word)
 access t F loc value known fence word = fence refl
-access t LR loc value known fence word = (known (λ e. absurd cc), word)
-access t LW loc value known fence word = (known (λ e. absurd cc), word)
+access t kind loc value known fence word = (known (λ e. absurd cc), word)
 
 entry-for : (t : Litmus) (e : Entry) → IsTest t → FitsTest t e → HasWord e → IsEntryFor t e
 entry-for t e test fits word =

@@ -1,5 +1,5 @@
 -- On the atomic bus the protocol and the shape of the caches change two kinds of lines alone.
-use Rattle.tso_cli.proofs.Vocabulary.{◌≡◌, ◌<◌, ◌==◌, ◌+◌, ℕ, zero, suc, Bool, true, false, cond, List, [], ◌∷◌, ◌++◌, length, Some, codes, refl, sym, ap, subst, ◌∙◌, inl, inr, append_assoc, arith, decimal, Litmus, IsTest, registers_in, Run, run, Choice, IsDecidedAsChoices, TooMany, table_of, ProtocolKind, Configuration, printed_order, ShownRun, line, head, body, test_line, machine_line, register_lines, memory_line, condition_line, choices_line, cache_lines, report, RunCounts, tally_text, Plan, parts_of, EndsInFeed, input_refusal, test_refusal, choices_refusal, unfinished_run_line, report_in, unfinished_in, run_under, counts_under, shown_of, verdict, sweep_status, IsSweepAnswer, choices_of, seeded_run, with_one_run, counts_from, sweep_counts, IsAnswerTo, IsInputAnswer, IsAnswer, too_large, answered, run_text, run_status, status_under, IsRunAnswer, ran, ending_text, IsTraceAnswer, traced, traced_in, FitsForm, IsTooLong, too_long, trace_text, trace_under, json_ended, json_unended, AreReadOneWay, Settings, Status, Good, Refused, Unended, atomic-run, counts-each, never-both, one-word}
+use Rattle.tso_cli.proofs.Vocabulary.{◌≡◌, ◌<◌, ◌==◌, ◌+◌, ℕ, zero, suc, Bool, true, false, cond, List, [], ◌∷◌, ◌++◌, length, Some, codes, refl, sym, ap, subst, ◌∙◌, inl, inr, append_assoc, decimal, Litmus, registers_in, Run, run, Choice, IsDecidedAsChoices, TooMany, table_of, ProtocolKind, Configuration, printed_order, ShownRun, line, head, body, test_line, machine_line, register_lines, memory_line, condition_line, choices_line, cache_lines, report, RunCounts, tally_text, Plan, EndsInFeed, choices_refusal, unfinished_run_line, report_in, unfinished_in, run_under, counts_under, shown_of, verdict, sweep_status, IsSweepAnswer, choices_of, seeded_run, with_one_run, counts_from, sweep_counts, IsAnswer, run_text, run_status, status_under, IsRunAnswer, ran, ending_text, IsTraceAnswer, traced, traced_in, FitsForm, IsTooLong, too_long, trace_text, trace_under, json_ended, json_unended, AreReadOneWay, Status, Good, Refused, Unended, atomic-run, counts-each, never-both, one-word}
 use Rattle.std.proofs.Common.{append-nil}
 use Rattle.machine_core.specs.declared.counts.Counts.{Counts}
 use Rattle.tso_report.specs.Json.{json_report}
@@ -10,6 +10,7 @@ use Rattle.commands.specs.Answers.{text_under, refused}
 use Rattle.tso_cli.specs.Machines.{AreAtomicAtOneDepth, DifferInLines, DifferInMembers, ReportsDiffer, RunsAnswerAlike, TracesDiffer, TracesAnswerAlike, SweepsAnswerAlike, TracesDifferIn}
 use Rattle.commands.specs.Trace.{traced_text, refused, object_text}
 use Rattle.trace_report.specs.Shown.{ShownStep as Step}
+use Rattle.tso_cli.proofs.OneAnswer.{inputs-alike}
 
 -- ---- a report as one text with two places
 
@@ -269,31 +270,13 @@ sweep-answers-alike t kind other c d plan out again status too shape is is_too =
       refused = λ is_refused. absurd (never-refused ((sweep_counts t kind c plan).unfinished == 0) (sym is.status_is ∙ is_refused));
     }
 
--- of whole inputs: two commands answer alike, where they do so of each test and of what is refused
-inputs-alike : (s other : Settings) (Alike : List ℕ → List ℕ → Status → Status → Type 0) (input out again : List ℕ) (status too : Status) → AreReadOneWay
-    → ((text : List ℕ) → Alike text text Refused Refused)
-    → ((t : Litmus) (text out again : List ℕ) (status too : Status) → IsTest t → IsAnswerTo s t text out status → IsAnswerTo other t text again too → Alike out again status too)
-    → IsInputAnswer s input out status → IsInputAnswer other input again too → Alike out again status too
-inputs-alike s other Alike input _ _ _ _ law same step (too_large l) (too_large m) = same input_refusal
-inputs-alike s other Alike input _ _ _ _ law same step (too_large l) (refused f small h) = absurd (omega arith)
-inputs-alike s other Alike input _ _ _ _ law same step (too_large l) (answered t out status small spelled is) = absurd (omega arith)
-inputs-alike s other Alike input _ _ _ _ law same step (refused f small h) (too_large m) = absurd (omega arith)
-inputs-alike s other Alike input _ _ _ _ law same step (refused f small h) (refused g less k) =
-    subst (λ (text : List ℕ). Alike (test_refusal f) text Refused Refused) (ap test_refusal (law.one_refusal _ f g h k)) (same (test_refusal f))
-inputs-alike s other Alike input _ _ _ _ law same step (refused f small h) (answered t out status less spelled is) = absurd (law.refused_or_not _ t f spelled h)
-inputs-alike s other Alike input _ _ _ _ law same step (answered t out status small spelled is) (too_large m) = absurd (omega arith)
-inputs-alike s other Alike input _ _ _ _ law same step (answered t out status small spelled is) (refused f less h) = absurd (law.refused_or_not _ t f spelled h)
-inputs-alike s other Alike input _ _ _ _ law same step (answered t out status small spelled is) (answered t2 out2 status2 less spelled2 is2) =
-    step t2 (parts_of input).rest out out2 status status2 (law.test _ t2 spelled2)
-    (subst (λ t. IsAnswerTo s t (parts_of input).rest out status) (law.one_test _ t t2 spelled spelled2) is) is2
-
 pub runs-alike : (kind other : ProtocolKind) (c d : Configuration) (json : Bool) (input out again : List ℕ) (status too : Status) → AreReadOneWay → AreAtomicAtOneDepth c d
     → IsAnswer (settings.Run kind c json) (Some input) out status → IsAnswer (settings.Run other d json) (Some input) again too
     → RunsAnswerAlike json kind other c d out again status too
 runs-alike kind other c d json input out again status too law shape is is_too =
     inputs-alike (settings.Run kind c json) (settings.Run other d json) (RunsAnswerAlike json kind other c d) input out again status too law
     (λ text. refusals-alike json kind other c d text text refl)
-    (λ t text out again status too test. run-answers-alike t kind other c d json text out again status too (law.decided (length t.programs) text test.some_core) shape) is is_too
+    (λ t text out again status too test short. run-answers-alike t kind other c d json text out again status too (law.decided (length t.programs) text test.some_core) shape) is is_too
 
 pub traces-alike : (kind other : ProtocolKind) (c d : Configuration) (json : Bool) (input out again : List ℕ) (status too : Status) → AreReadOneWay → AreAtomicAtOneDepth c d
     → IsAnswer (settings.Trace kind c json) (Some input) out status → IsAnswer (settings.Trace other d json) (Some input) again too
@@ -301,7 +284,7 @@ pub traces-alike : (kind other : ProtocolKind) (c d : Configuration) (json : Boo
 traces-alike kind other c d json input out again status too law shape is is_too =
     inputs-alike (settings.Trace kind c json) (settings.Trace other d json) (TracesAnswerAlike json kind other c d) input out again status too law
     (λ text. trace-refusals-alike json kind other c d text text refl)
-    (λ t text out again status too test. trace-answers-alike t kind other c d json text out again status too test.some_core (law.decided (length t.programs) text test.some_core) shape) is is_too
+    (λ t text out again status too test short. trace-answers-alike t kind other c d json text out again status too test.some_core (law.decided (length t.programs) text test.some_core) shape) is is_too
 
 pub sweeps-alike : (kind other : ProtocolKind) (c d : Configuration) (plan : Plan) (input out again : List ℕ) (status too : Status) → AreReadOneWay → AreAtomicAtOneDepth c d
     → IsAnswer (settings.Sweep kind c plan) (Some input) out status → IsAnswer (settings.Sweep other d plan) (Some input) again too
@@ -309,4 +292,4 @@ pub sweeps-alike : (kind other : ProtocolKind) (c d : Configuration) (plan : Pla
 sweeps-alike kind other c d plan input out again status too law shape is is_too =
     inputs-alike (settings.Sweep kind c plan) (settings.Sweep other d plan) (SweepsAnswerAlike kind other c d) input out again status too law
     (λ text. record { status = refl; swept = λ not_refused. absurd (not_refused refl); refused = λ is_refused. refl })
-    (λ t text out again status too test. sweep-answers-alike t kind other c d plan out again status too shape) is is_too
+    (λ t text out again status too test short. sweep-answers-alike t kind other c d plan out again status too shape) is is_too

@@ -4,7 +4,7 @@ use Rattle.tso_model.specs.Thread.{entries_of, with_value, value_in}
 use Rattle.tso_model.specs.SplitMachine.{Attempt}
 use Rattle.tso_model.specs.EitherBus.{BusState, unheld, effect_on, after_on, run_on_from, resting_on, then_on}
 use Rattle.tso_model.specs.declared.choice.Outcome.{Outcome}
-use Rattle.tso_model.specs.declared.choice.Outcome.TheVariants.{Committed, Buffered, Moved, Asked, Stalled}
+use Rattle.tso_model.specs.declared.choice.Outcome.TheVariants.{Committed}
 use Rattle.litmus_reader.specs.Spelling.{IsRefused as IsRefusedTest}
 use Rattle.tso_report.specs.Limits.{longest_report, IsSmall}
 use Rattle.tso_cli.specs.Answers.{refused}
@@ -49,10 +49,7 @@ registers_each core (p ∷ ps) registers order = ap suc (registers_each (core + 
 
 stall_few : (o : Outcome) → stall_count o ≤ 1
 stall_few Committed = omega arith
-stall_few Buffered = omega arith
-stall_few Moved = omega arith
-stall_few Asked = omega arith
-stall_few (Stalled why) = omega arith
+stall_few o = omega arith
 
 stalls_few : (bus : Bus) (t : Litmus) (depth : ℕ) (state : BusState) (xs : List Attempt) → (run_on_from bus t depth state xs).run.stalled ≤ (run_on_from bus t depth state xs).run.used
 stalls_few bus t depth state [] = omega arith
@@ -73,7 +70,7 @@ pub choices-few : (table : Table) (c : Configuration) (t : Litmus) (choices : Li
 choices-few table c t choices laws =
     subst (λ (r : Run). FewChoices (length choices) r) (sym (run-is table c t choices laws.atomic))
     (record {
-      count = (laws.stops c.bus t c.depth (attempts_in table c t choices)).count ∙ length-in table c t choices;
+      count = (laws.stops.stops c.bus t c.depth (attempts_in table c t choices)).count ∙ length-in table c t choices;
       stalls = stalls_few c.bus t c.depth (unheld (start t)) (attempts_in table c t choices);
     })
 

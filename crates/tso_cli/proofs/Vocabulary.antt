@@ -56,7 +56,7 @@ pub use Rattle.commands.specs.declared.answer.Status.TheVariants.{Good, Refused,
 pub use Rattle.std.proofs.lemmas.List.{append-nil, length-map}
 pub use Rattle.tso_report.specs.declared.named.Named.{Named}
 pub use Rattle.shown_values.specs.Shown.{names_shown, values_at}
-pub use Rattle.outcome_report.specs.Outcomes.{Outcome, shown_values, held_in, failed_in, is_met_in}
+pub use Rattle.outcome_report.specs.Outcomes.{Outcome, shown_values, held_in, failed_in, is_met_in, true_in, outcomes_line, state_line, by_line, outcome_lines, observation_line, true_line, condition_lines}
 pub use Rattle.command_line.specs.Search.{Search}
 pub use Rattle.commands.specs.Outcomes.{AreAllOutcomes, IsOutcomesAnswer, found, is_claimed_of, too_many}
 pub use Rattle.tso_cli.specs.OutcomesHeadline.{HeadlineOfOutcomes, all}

@@ -1,7 +1,7 @@
 -- What the answer of `why` means.
 use Rattle.tso_cli.proofs.Vocabulary.{◌≡◌, ℕ, Bool, true, false, not, List, [], length, Option, Some, None, refl, sym, ap, subst, arith, append-nil, Litmus, IsTest, Claim, Condition, NamesExist, truth_of, final_words, final_registers, registers_in, run, Choice, Entry, LeadTo, End, IsExecutionOf, depth_of, SpellsChoices, printed_choices, Explanation, IsWhyAnswer, Status, PrintsRefutation, PrintsExecutionOf, HeadlineOfReasons}
 use Rattle.tso_model.specs.declared.condition.Quantifier.{Quantifier}
-use Rattle.tso_model.specs.declared.condition.Quantifier.TheVariants.{Exists, NotExists, Forall}
+use Rattle.tso_model.specs.declared.condition.Quantifier.TheVariants.{Forall}
 use Rattle.refutation_laws.specs.Refutations.{Node, asked_claim, refutes}
 use Rattle.refutation_laws.specs.declared.model.Model.{Model}
 use Rattle.refutation_laws.specs.declared.model.Model.TheVariants.{Tso, Sequential}
@@ -36,9 +36,8 @@ so-when (Some c) registers memory q = by-quantifier c.quantifier c.claim q
   where
     by-quantifier : (quantifier : Quantifier) (claim : Claim) → truth_of registers memory (asked_claim (Some (record { quantifier = quantifier; claim = claim }))) ≡ true
         → truth_of registers memory claim ≡ truth_asked quantifier
-    by-quantifier Exists claim q = q
-    by-quantifier NotExists claim q = q
     by-quantifier Forall claim q = not-false (truth_of registers memory claim) q
+    by-quantifier quantifier claim q = q
 
 true-when : (condition : Option Condition) (registers : List (List ℕ)) (memory : List ℕ) → IsSoIn condition registers memory → truth_of registers memory (asked_claim condition) ≡ true
 true-when None registers memory q = refl
@@ -46,9 +45,8 @@ true-when (Some c) registers memory q = by-quantifier c.quantifier c.claim q
   where
     by-quantifier : (quantifier : Quantifier) (claim : Claim) → truth_of registers memory claim ≡ truth_asked quantifier
         → truth_of registers memory (asked_claim (Some (record { quantifier = quantifier; claim = claim }))) ≡ true
-    by-quantifier Exists claim q = q
-    by-quantifier NotExists claim q = q
     by-quantifier Forall claim q = ap not q
+    by-quantifier quantifier claim q = q
 
 never-so : (condition : Option Condition) (registers : List (List ℕ)) (memory : List ℕ) → truth_of registers memory (asked_claim condition) ≡ false → ¬ IsSoIn condition registers memory
 never-so condition registers memory q so = let p = true-when condition registers memory so in let z : ⊥ = cc in z

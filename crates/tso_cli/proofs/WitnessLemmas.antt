@@ -1,5 +1,5 @@
 -- What `witness` answers, and what that means.
-use Rattle.tso_cli.proofs.Vocabulary.{◌≡◌, ◌≢◌, ◌+◌, ◌*◌, ◌≤◌, ◌<◌, ◌^◌, ℕ, zero, suc, true, false, IsTrue, List, [], ◌∷◌, ◌++◌, length, All, refl, sym, ap, subst, ◌∙◌, arith, list_all, All-head, All-tail, All-weaker, most_depth, Litmus, IsTest, IsProgram, IsTsoExecution, run, CoresExist, Instr, StoreImm, StoreReg, Load, SetImm, SetReg, Fence, Xchg, Xadd, Entry, Choice, choices_along, LeadTo, needed, End, SpellsChoices, printed_choices, WitnessesOrder, WitnessesEachOrder, unreached, broken, IsDepth, IsEndingOf, drains, witness_line, IsWitness, IsWitnessAnswer, too_small, invalid, judged, Ending, Ended, Unfinished, Status, Good, AreReadOneWay}
+use Rattle.tso_cli.proofs.Vocabulary.{◌≡◌, ◌≢◌, ◌+◌, ◌*◌, ◌≤◌, ◌<◌, ◌^◌, ℕ, zero, suc, true, false, IsTrue, List, [], ◌∷◌, ◌++◌, length, All, refl, sym, ap, subst, ◌∙◌, arith, list_all, All-head, All-tail, All-weaker, most_depth, Litmus, IsTest, IsProgram, IsTsoExecution, run, CoresExist, Instr, StoreImm, Entry, Choice, choices_along, LeadTo, needed, End, SpellsChoices, printed_choices, WitnessesOrder, WitnessesEachOrder, unreached, broken, IsDepth, IsEndingOf, drains, witness_line, IsWitness, IsWitnessAnswer, too_small, invalid, judged, Ending, Ended, Unfinished, Status, Good, AreReadOneWay}
 use Rattle.tso_laws.specs.Counting.{is_plain_store, stores_in, instructions, stores_of_all}
 use Rattle.scheduler.specs.Limits.{most_choices}
 use Rattle.scheduler.specs.Words.{is_space}
@@ -20,13 +20,7 @@ pub record Reaching : Type 0 where
 
 store-few : (x : Instr) → is_plain_store x ≤ 1
 store-few (StoreImm loc value) = omega arith
-store-few (StoreReg loc reg) = omega arith
-store-few (Load reg loc) = omega arith
-store-few (SetImm reg value) = omega arith
-store-few (SetReg reg other) = omega arith
-store-few Fence = omega arith
-store-few (Xchg loc reg) = omega arith
-store-few (Xadd loc reg) = omega arith
+store-few x = omega arith
 
 stores_in-few : (p : List Instr) → stores_in p ≤ length p
 stores_in-few [] = omega arith

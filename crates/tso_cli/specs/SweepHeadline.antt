@@ -1,6 +1,5 @@
 -- What `sweep` prints: how many runs, one for each seed, left which final state. (Primer, chapter 4, for the axioms.)
-use Rattle.std.specs.Prelude.{ℕ, zero, suc, ◌+◌, ◌<◌, ◌≡◌, Bool, true, false, not, if◌then◌else◌}
-use Rattle.std.specs.Prelude.{List, ◌++◌, bytes_eq, All, Contains, Option, Some, None, IfSome, is_none}
+use Rattle.std.specs.Prelude.{ℕ, zero, suc, ◌+◌, ◌<◌, ◌≡◌, Bool, true, false, not, if◌then◌else◌, List, ◌++◌, bytes_eq, All, Contains, Option, Some, None, IfSome, is_none}
 use Rattle.std.specs.Map.{keys_of}
 use Rattle.tso_model.specs.Litmus.{Litmus}
 use Rattle.tso_model.specs.Axioms.{IsTsoExecution}

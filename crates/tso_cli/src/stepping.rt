@@ -16,11 +16,11 @@ use litmus_reader::{ReadError, test_or_fault};
 use machine_core::{Choice, Config};
 use protocol_tables::ProtocolKind;
 use scheduler::{read_choices, spelled_cores_exist};
-use simulator::Ending;
+use simulator::{Ending, Setup};
 use std::alloc::Global;
 use trace_json::last_step_json;
 use tso_io::MAX_INPUT;
-use tso_model::{NoMemory, Test};
+use tso_model::NoMemory;
 
 /// Of the trace that `trace --json` prints of an input the last step alone, with the machine after it; where no choice is
 /// used, the machine before the first choice. What it refuses, how, and the status are those of `trace --json`.
@@ -39,51 +39,50 @@ pub fn step_answer(
     }
     let parts = parts_of(input);
     match test_or_fault(alloc, parts.test) {
-        Ok(test) => test_answer(alloc, &test, protocol, config, parts.rest),
+        Ok(test) => {
+            let setup = Setup {
+                test: &test,
+                protocol,
+                config,
+            };
+            test_answer(alloc, &setup, parts.rest)
+        }
         Err(ReadError::Fault(fault)) => refused_test(alloc, Reader::Trace, parts.test, fault),
         Err(ReadError::NoMemory) => Err(NoMemory),
     }
 }
 
 /// The answer to a test and the text of choices.
-fn test_answer(
-    alloc: Global,
-    test: &Test,
-    protocol: ProtocolKind,
-    config: Config,
-    text: &[u8],
-) -> Result<Answer, NoMemory>
-    ensures { IfOk result (λ a. IsLastStep test.now protocol config text.now (string_bytes a.text) a.status) }
+fn test_answer(alloc: Global, setup: &Setup<'_>, text: &[u8]) -> Result<Answer, NoMemory>
+    ensures { IfOk result (λ a. IsLastStep setup.now.test.now setup.now.protocol setup.now.config text.now (string_bytes a.text) a.status) }
 {
     spelled_cores_exist();
-    match read_choices(alloc, test.cores(), text) {
-        Ok(choices) => last_answer(alloc, test, protocol, config, text, &choices),
-        Err(fault) => refused_choices(alloc, test, text, fault),
+    match read_choices(alloc, setup.test.cores(), text) {
+        Ok(choices) => last_answer(alloc, setup, text, &choices),
+        Err(fault) => refused_choices(alloc, setup.test, text, fault),
     }
 }
 
 /// The answer to the choices that the text spells.
 fn last_answer(
     alloc: Global,
-    test: &Test,
-    protocol: ProtocolKind,
-    config: Config,
+    setup: &Setup<'_>,
     text: &[u8],
     choices: &[Choice],
 ) -> Result<Answer, NoMemory>
-    requires cores { CoresExist (length test.now.programs) choices.now }
-    requires spelled { SpellsChoices (length test.now.programs) text.now choices.now }
-    ensures { IfOk result (λ a. IsLastStep test.now protocol config text.now (string_bytes a.text) a.status) }
+    requires cores { CoresExist (length setup.now.test.now.programs) choices.now }
+    requires spelled { SpellsChoices (length setup.now.test.now.programs) text.now choices.now }
+    ensures { IfOk result (λ a. IsLastStep setup.now.test.now setup.now.protocol setup.now.config text.now (string_bytes a.text) a.status) }
 {
-    match measure(alloc, test, protocol, config, text, choices)? {
+    match measure(alloc, setup, text, choices)? {
         Measured::TooLong(word) => refused_trace(alloc, text, word),
         Measured::Fits(driven) => {
-            let step = last_step_json(alloc, test, protocol, config, choices)?;
+            let step = last_step_json(alloc, setup, choices)?;
             let status = status_after(&driven.ending);
             Ok(Answer {
                 text: step,
                 status,
-                cause: cause_of(status, test, text, config, driven.stalls),
+                cause: cause_of(status, setup, text, driven.stalls),
             })
         }
     }

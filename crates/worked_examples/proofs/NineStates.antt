@@ -8,9 +8,7 @@ use Rattle.std.proofs.lemmas.Map.Keys.{IsDistinct-cons}
 use Rattle.std.proofs.lemmas.Map.Steps.{length-le_from_distinct_below}
 use Rattle.tso_model.specs.Runs.{CoresExist}
 use Rattle.tso_model.specs.FlatMachine.{CoreState, State, start, after_choice, chosen, core_of}
-use Rattle.tso_model.specs.declared.choice.Choice.{Choice}
-use Rattle.tso_model.specs.declared.choice.Choice.TheVariants.{Step, Drain}
-use Rattle.tso_model.specs.declared.execution.Kind.TheVariants.{W}
+use Rattle.basic_laws.specs.Types.{Choice, Step, Drain, W}
 use Rattle.tso_laws.specs.Choices.{state_after}
 use Rattle.explorer.specs.FinalStates.{IsReachable, HasMoreStates}
 use Rattle.worked_examples.specs.Written.{loc_x, loc_y, step, drain, memory_action, core_at}
@@ -60,23 +58,19 @@ drained stored = stored
 
 step-p0 : (a b : Stage) → after_choice two_stores 1 (at a b) (step 0) ≡ at (stepped a) b
 step-p0 to_come b = refl
-step-p0 pending b = refl
-step-p0 stored b = refl
+step-p0 a b = refl
 
 drain-p0 : (a b : Stage) → after_choice two_stores 1 (at a b) (drain 0) ≡ at (drained a) b
 drain-p0 to_come b = refl
-drain-p0 pending b = refl
-drain-p0 stored b = refl
+drain-p0 a b = refl
 
 step-p1 : (a b : Stage) → after_choice two_stores 1 (at a b) (step 1) ≡ at a (stepped b)
 step-p1 a to_come = refl
-step-p1 a pending = refl
-step-p1 a stored = refl
+step-p1 a b = refl
 
 drain-p1 : (a b : Stage) → after_choice two_stores 1 (at a b) (drain 1) ≡ at a (drained b)
 drain-p1 a to_come = refl
-drain-p1 a pending = refl
-drain-p1 a stored = refl
+drain-p1 a b = refl
 
 of-step : (core : ℕ) → core < 2 → (a b : Stage) → IsOneOfNine (after_choice two_stores 1 (at a b) (step core))
 of-step zero small a b = record { first = stepped a; second = b; is = step-p0 a b }
@@ -115,14 +109,8 @@ nine = at to_come to_come ∷ at to_come pending ∷ at to_come stored ∷ at pe
 numbered : (a b : Stage) → (slice_index_or nine (number (at a b)) (start two_stores) ≡ at a b) × (number (at a b) < 9)
 unfolding nine
 numbered to_come to_come = (refl, omega arith)
-numbered to_come pending = (refl, omega arith)
-numbered to_come stored = (refl, omega arith)
-numbered pending to_come = (refl, omega arith)
-numbered pending pending = (refl, omega arith)
-numbered pending stored = (refl, omega arith)
-numbered stored to_come = (refl, omega arith)
-numbered stored pending = (refl, omega arith)
-numbered stored stored = (refl, omega arith)
+numbered a to_come = (refl, omega arith)
+numbered a b = (refl, omega arith)
 
 known : (s : State) → IsOneOfNine s → (slice_index_or nine (number s) (start two_stores) ≡ s) × (number s < 9)
 known s is = subst (λ z. (slice_index_or nine (number z) (start two_stores) ≡ z) × (number z < 9)) (sym is.is) (numbered is.first is.second)
@@ -178,27 +166,20 @@ way_of core stored = step core ∷ drain core ∷ []
 at-reached : (a b : Stage) → IsReachable two_stores 1 (at a b)
 at-reached a b = record { choices = way_of 0 a ++ way_of 1 b; cores = cores a b; state_is = leads a b }
   where
+    of-second : (b : Stage) → CoresExist 2 (way_of 1 b)
+    of-second to_come = tt
+    of-second pending = (omega arith, tt)
+    of-second stored = (omega arith, (omega arith, tt))
+
     cores : (a b : Stage) → CoresExist 2 (way_of 0 a ++ way_of 1 b)
-    cores to_come to_come = tt
-    cores to_come pending = (omega arith, tt)
-    cores to_come stored = (omega arith, (omega arith, tt))
-    cores pending to_come = (omega arith, tt)
-    cores pending pending = (omega arith, (omega arith, tt))
-    cores pending stored = (omega arith, (omega arith, (omega arith, tt)))
-    cores stored to_come = (omega arith, (omega arith, tt))
-    cores stored pending = (omega arith, (omega arith, (omega arith, tt)))
-    cores stored stored = (omega arith, (omega arith, (omega arith, (omega arith, tt))))
+    cores to_come b = of-second b
+    cores pending b = (omega arith, of-second b)
+    cores stored b = (omega arith, (omega arith, of-second b))
 
     leads : (a b : Stage) → state_after two_stores 1 (start two_stores) (way_of 0 a ++ way_of 1 b) ≡ at a b
     leads to_come to_come = refl
-    leads to_come pending = refl
-    leads to_come stored = refl
-    leads pending to_come = refl
-    leads pending pending = refl
-    leads pending stored = refl
-    leads stored to_come = refl
-    leads stored pending = refl
-    leads stored stored = refl
+    leads a to_come = refl
+    leads a b = refl
 
 -- which stands at a place
 at-place : (i : ℕ) (s : State) → slice_get nine i ≡ Some s → (a : Stage) × (b : Stage) × (at a b ≡ s) × (number (at a b) ≡ i)

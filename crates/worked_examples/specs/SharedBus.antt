@@ -8,9 +8,8 @@
 --    .. | .. ;
 use Rattle.std.specs.Prelude.{true, false, List, [], ◌∷◌, None, codes}
 use Rattle.tso_model.specs.SplitMachine.{Attempt}
-use Rattle.tso_model.specs.declared.choice.Choice.{Choice}
+use Rattle.basic_laws.specs.Types.{Choice, Instr}
 use Rattle.tso_model.specs.Litmus.{Litmus}
-use Rattle.tso_model.specs.declared.instruction.Instr.{Instr}
 use Rattle.worked_examples.specs.Written.{six}
 
 -- a choice whose access misses, and one whose access hits

@@ -7,12 +7,7 @@ use Rattle.std.specs.Prelude.{ℕ, List, [], ◌∷◌, None, codes}
 use Rattle.tso_model.specs.Litmus.{Litmus}
 use Rattle.tso_model.specs.FlatMachine.{CoreState, Effect, effect_of}
 use Rattle.tso_model.specs.Runs.{run}
-use Rattle.tso_model.specs.declared.register.Reg.TheVariants.{Eax, Ebx, Ecx, Edx}
-use Rattle.tso_model.specs.declared.instruction.Instr.{Instr}
-use Rattle.tso_model.specs.declared.instruction.Instr.TheVariants.{StoreImm, StoreReg, SetImm, SetReg, Fence, Xchg, Xadd}
-use Rattle.tso_model.specs.declared.execution.Entry.{Entry}
-use Rattle.tso_model.specs.declared.execution.Kind.TheVariants.{W}
-use Rattle.tso_model.specs.declared.choice.Choice.{Choice}
+use Rattle.basic_laws.specs.Types.{Eax, Ebx, Ecx, Edx, Instr, StoreImm, StoreReg, SetImm, SetReg, Fence, Xchg, Xadd, Entry, W, Choice}
 use Rattle.worked_examples.specs.Written.{loc_x, loc_y, step, drain, six, memory_action, core_at}
 
 abbrev pub alone : List Instr → Litmus

@@ -2,9 +2,7 @@
 use Rattle.std.specs.Prelude.{ℕ, true, List, [], ◌∷◌, ◌++◌, codes, Some, None}
 use Rattle.tso_model.specs.Litmus.{Litmus}
 use Rattle.tso_model.specs.Condition.{TruthClaim, RegClaim, LocClaim, NotClaim, AndClaim, OrClaim}
-use Rattle.tso_model.specs.declared.condition.Quantifier.TheVariants.{Exists}
-use Rattle.tso_model.specs.declared.instruction.Instr.TheVariants.{StoreImm, Load, Fence, Xadd}
-use Rattle.tso_model.specs.declared.register.Reg.TheVariants.{Eax, Ebx}
+use Rattle.basic_laws.specs.Types.{Exists, StoreImm, Load, Fence, Xadd, Eax, Ebx}
 use Rattle.worked_examples.specs.Written.{loc_x, loc_y, loc_z, six}
 
 -- each section of a test, with comments, an empty item and empty cells

@@ -5,14 +5,7 @@ use Rattle.tso_model.specs.Litmus.{Litmus}
 use Rattle.tso_model.specs.SplitMachine.{Attempt}
 use Rattle.tso_model.specs.EitherBus.{BusState, unheld, effect_on, after_on}
 use Rattle.tso_model.specs.FlatMachine.{start}
-use Rattle.tso_model.specs.declared.choice.Bus.{Bus}
-use Rattle.tso_model.specs.declared.register.Reg.TheVariants.{Eax}
-use Rattle.tso_model.specs.declared.instruction.Instr.TheVariants.{StoreImm, Load}
-use Rattle.tso_model.specs.declared.execution.Entry.{Entry}
-use Rattle.tso_model.specs.declared.execution.Kind.TheVariants.{R, W}
-use Rattle.tso_model.specs.declared.choice.Choice.{Choice}
-use Rattle.tso_model.specs.declared.choice.Outcome.{Outcome}
-use Rattle.tso_model.specs.declared.choice.Outcome.TheVariants.{Committed, Buffered, Asked}
+use Rattle.basic_laws.specs.Types.{Bus, Eax, StoreImm, Load, Entry, R, W, Choice, Outcome, Committed, Buffered, Asked}
 use Rattle.snoop_bus.specs.Geometry.{Geometry}
 use Rattle.machine_core.specs.declared.counts.Counts.{Counts}
 use Rattle.worked_examples.specs.Written.{loc_x, loc_y, step, drain, six, memory_action}

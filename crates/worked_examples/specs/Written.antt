@@ -1,12 +1,7 @@
 -- What worked examples come to, written out by constructors and numerals alone: nothing here is of the definitions that are worked.
 use Rattle.std.specs.Prelude.{ℕ, List, [], ◌∷◌}
 use Rattle.tso_model.specs.FlatMachine.{CoreState, Effect}
-use Rattle.tso_model.specs.declared.instruction.Loc.{Loc}
-use Rattle.tso_model.specs.declared.execution.Entry.{Entry}
-use Rattle.tso_model.specs.declared.execution.Kind.{Kind}
-use Rattle.tso_model.specs.declared.choice.Choice.{Choice}
-use Rattle.tso_model.specs.declared.choice.Choice.TheVariants.{Step, Drain}
-use Rattle.tso_model.specs.declared.choice.Outcome.{Outcome}
+use Rattle.basic_laws.specs.Types.{Loc, Entry, Kind, Choice, Step, Drain, Outcome}
 
 -- three locations, in the order of their numbers
 abbrev pub loc_x : Loc

@@ -2,11 +2,9 @@
 
 ghost use Rattle.std.specs.Prelude.{◌≡◌, true, false, [], ◌∷◌};
 ghost use Rattle.tso_model.specs.Runs.{run};
-ghost use Rattle.tso_model.specs.declared.register.Reg.TheVariants.{Ebx};
+ghost use Rattle.basic_laws.specs.Types.{Ebx, R, W, F, LR, LW, Committed, Buffered, Moved, Stalled};
 ghost use Rattle.tso_model.specs.declared.instruction.Instr.TheVariants as instr;
-ghost use Rattle.tso_model.specs.declared.execution.Kind.TheVariants.{R, W, F, LR, LW};
 ghost use Rattle.tso_model.specs.declared.choice.Stall.TheVariants as stall;
-ghost use Rattle.tso_model.specs.declared.choice.Outcome.TheVariants.{Committed, Buffered, Moved, Stalled};
 ghost use Rattle.worked_examples.specs.Written.{loc_x, loc_y, step, drain, six, memory_action, core_at, comes};
 ghost use Rattle.worked_examples.specs.SmallPrograms.{alone, comes_of, first, three_stores, two_pending};
 ghost use Rattle.worked_examples.specs.inner.SmallPrograms.{load_of_own, load_of_other, drained};

@@ -8,10 +8,8 @@ ghost use Rattle.tso_model.specs.Thread.{entries_with, registers_with, reads_in}
 ghost use Rattle.tso_model.specs.FinalState.{final_words, final_registers};
 ghost use Rattle.tso_model.specs.FlatMachine.{registers_in};
 ghost use Rattle.tso_model.specs.Runs.{run};
-ghost use Rattle.tso_model.specs.declared.register.Reg.TheVariants.{Eax, Ebx, Ecx, Edx, Esi, Edi};
+ghost use Rattle.basic_laws.specs.Types.{Eax, Ebx, Ecx, Edx, Esi, Edi, Number, Held, Exchange, Add};
 ghost use Rattle.tso_model.specs.declared.instruction.Instr.TheVariants as instr;
-ghost use Rattle.tso_model.specs.declared.action.Operand.TheVariants.{Number, Held};
-ghost use Rattle.tso_model.specs.declared.action.Update.TheVariants.{Exchange, Add};
 ghost use Rattle.tso_model.specs.declared.action.Action.TheVariants.{Store, Load, Move, Fence, Lock};
 ghost use Rattle.worked_examples.specs.Written.{loc_x, loc_y, loc_z, six};
 ghost use Rattle.worked_examples.specs.EightInstructions.{eight, eight_program, eight_read, eight_entries};

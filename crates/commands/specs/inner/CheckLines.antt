@@ -2,8 +2,7 @@
 use Rattle.tso_model.specs.Litmus.{Litmus}
 use Rattle.order_builder.specs.PrintedOrder.{HasLocation, IsLocationFor}
 use Rattle.axiom_checker.specs.declared.breach.Breach.{Breach}
-use Rattle.axiom_checker.specs.declared.breach.Breach.TheVariants.{Extra, Twice, Missing, WrongValue, ProgramOrder}
-use Rattle.axiom_checker.specs.declared.breach.Breach.TheVariants.{NotAdjacent, ReadValue, NoMemory}
+use Rattle.axiom_checker.specs.declared.breach.Breach.TheVariants.{Extra, Twice, Missing, WrongValue, ProgramOrder, NotAdjacent, ReadValue, NoMemory}
 
 -- the locations of what the breach names are the test's
 abbrev pub CanBeNamed : Litmus → Breach → Type 0

@@ -3,11 +3,8 @@ use Rattle.std.specs.Prelude.{ℕ, ◌≡◌, ◌≢◌}
 use Rattle.tso_model.specs.FlatMachine.{chosen}
 use Rattle.tso_model.specs.MemoryAccess.{MemoryAccess, NoAccess, Reads, Writes, Locks, access_of}
 use Rattle.tso_model.specs.SplitMachine.{HeldBetween}
-use Rattle.tso_model.specs.declared.choice.Bus.TheVariants.{Split}
-use Rattle.tso_model.specs.declared.choice.Choice.{Choice}
-use Rattle.tso_model.specs.declared.choice.Outcome.TheVariants.{Stalled}
+use Rattle.basic_laws.specs.Types.{Split, Choice, Stalled, Entry}
 use Rattle.tso_model.specs.declared.choice.Stall.TheVariants.{Bus}
-use Rattle.tso_model.specs.declared.execution.Entry.{Entry}
 use Rattle.machine_core.specs.Caches.{Caches}
 use Rattle.machine_core.specs.Running.{Running, machine_effect}
 use Rattle.promises.specs.Locked.{ShareLine}

@@ -16,7 +16,7 @@ use Rattle.trace_report.specs.Lines.{line_name, transient_name}
 use Rattle.trace_json.specs.Values.{array_of_numbers, text_or_null}
 use Rattle.trace_json.specs.MachineJson.{bus_json, cores_json, words_on_bus, words_in_line}
 use Rattle.trace_json.specs.TraceJson.{Sourced, alone, step_to}
-use Rattle.trace_json.specs.declared.trace.SourcedStep.{SourcedStep}
+use Rattle.trace_json.specs.declared.following.SourcedStep.{SourcedStep}
 
 -- the machine runs this test, is configured so, and has a word for each location
 pub record IsMachineOfTest (t : Litmus) (c : Configuration) (m : Running) : Type 0 where

@@ -5,8 +5,7 @@ use Rattle.tso_model.specs.Litmus.{Litmus}
 use Rattle.scheduler.specs.Printed.{printed_choice}
 use Rattle.tso_report.specs.Json.{order_value}
 use Rattle.trace_report.specs.Shown.{ShownStep}
-use Rattle.trace_report.specs.Lines.{access_name, stall_name, line_name}
-use Rattle.trace_report.specs.Lines.{printed_core, printed_move, printed_change, printed_request}
+use Rattle.trace_report.specs.Lines.{access_name, stall_name, line_name, printed_core, printed_move, printed_change, printed_request}
 use Rattle.trace_json.specs.Values.{text_or_null, array_of_texts}
 use Rattle.trace_json.specs.StepJson.{outcome_word, stall_in}
 use Rattle.trace_json.specs.Supplied.{supplier_text}

@@ -1,8 +1,7 @@
 -- Entries before and after a read, and the two parts of locked instructions with others between them.
 use Rattle.std.specs.Prelude.{List, [], ◌∷◌, None, codes}
 use Rattle.tso_model.specs.Litmus.{Litmus}
-use Rattle.tso_model.specs.declared.execution.Entry.{Entry}
-use Rattle.tso_model.specs.declared.execution.Kind.TheVariants.{R, W, LR, LW}
+use Rattle.basic_laws.specs.Types.{Entry, R, W, LR, LW}
 use Rattle.worked_examples.specs.Written.{loc_x, loc_y, memory_action}
 
 --   { x=3; y=4; }, whatever the programs

@@ -3,12 +3,7 @@ use Rattle.std.specs.Prelude.{ℕ, List, [], ◌∷◌}
 use Rattle.tso_model.specs.Litmus.{Litmus}
 use Rattle.tso_model.specs.SplitMachine.{Attempt, BusEffect}
 use Rattle.tso_model.specs.EitherBus.{BusState, BusRun, effect_on, run_on}
-use Rattle.tso_model.specs.declared.choice.Bus.TheVariants.{Split}
-use Rattle.tso_model.specs.declared.register.Reg.TheVariants.{Eax}
-use Rattle.tso_model.specs.declared.instruction.Instr.{Instr}
-use Rattle.tso_model.specs.declared.instruction.Instr.TheVariants.{StoreImm, Load, Xchg}
-use Rattle.tso_model.specs.declared.execution.Entry.{Entry}
-use Rattle.tso_model.specs.declared.execution.Kind.TheVariants.{W, LR}
+use Rattle.basic_laws.specs.Types.{Split, Eax, Instr, StoreImm, Load, Xchg, Entry, W, LR}
 use Rattle.worked_examples.specs.Written.{loc_x, loc_y, step, drain, six, memory_action}
 use Rattle.worked_examples.specs.SharedBus.{missing, shared}
 

@@ -2,10 +2,7 @@
 use Rattle.std.specs.Prelude.{ℕ, List, [], ◌∷◌}
 use Rattle.tso_model.specs.Runs.{run}
 use Rattle.tso_model.specs.MemoryAccess.{MemoryAccess, access_of}
-use Rattle.tso_model.specs.declared.register.Reg.TheVariants.{Ebx}
-use Rattle.tso_model.specs.declared.instruction.Instr.{Instr}
-use Rattle.tso_model.specs.declared.instruction.Instr.TheVariants.{StoreImm, Load}
-use Rattle.tso_model.specs.declared.choice.Choice.{Choice}
+use Rattle.basic_laws.specs.Types.{Ebx, Instr, StoreImm, Load, Choice}
 use Rattle.worked_examples.specs.Written.{loc_x, loc_y, step, drain}
 use Rattle.worked_examples.specs.SmallPrograms.{alone}
 

@@ -2,8 +2,7 @@
 use Rattle.std.specs.Prelude.{List}
 use Rattle.tso_model.specs.FlatMachine.{CoreState}
 use Rattle.tso_model.specs.SplitMachine.{Holder, BusEffect}
-use Rattle.tso_model.specs.declared.execution.Entry.{Entry}
-use Rattle.tso_model.specs.declared.choice.Outcome.{Outcome}
+use Rattle.basic_laws.specs.Types.{Entry, Outcome}
 use Rattle.worked_examples.specs.Written.{comes}
 
 -- the same on a split bus, and who holds the bus afterwards

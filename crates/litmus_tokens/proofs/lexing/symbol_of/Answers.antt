@@ -1,7 +1,6 @@
 use Rattle.std.proofs.Common.{◌∙◌, None, Some, sym}
 use Rattle.litmus_tokens.proofs.Symbols.{symbol_looked, no_symbol, no_wedge, wedge_and, wedge_or, no_wedges}
-use Rattle.litmus_tokens.proofs.lexing.symbol_of.Goals.{else-first-eq47-via-then-first-eq47+else-second-eq92, else-first-eq47-via-else-first-eq47}
-use Rattle.litmus_tokens.proofs.lexing.symbol_of.Goals.{else-first-eq92-via-then-first-eq92+else-second-eq47, else-first-eq92-via-else-first-eq92}
+use Rattle.litmus_tokens.proofs.lexing.symbol_of.Goals.{else-first-eq47-via-then-first-eq47+else-second-eq92, else-first-eq47-via-else-first-eq47, else-first-eq92-via-then-first-eq92+else-second-eq47, else-first-eq92-via-else-first-eq92}
 use Rattle.litmus_tokens.proofs.lexing.symbol_of.Goals as goal
 
 pub returns-in_err-first-clause-value : goal.returns-in_err-first-clause-value

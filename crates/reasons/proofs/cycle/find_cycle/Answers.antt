@@ -5,9 +5,9 @@ use Rattle.reasons.proofs.cycle.find_cycle.Goals as goal
 
 pub returns-then-is_empty : goal.returns-then-is_empty
 returns-then-is_empty c =
-    let edge = is_edge c.args.test.now (known_of c.args.answers.now) (relations_of c.args.acyclic) in
+    let edge = is_edge c.args.branch.test.now (known_of c.args.branch.answers.now) (relations_of c.args.acyclic) in
     subst (Ordered (λ x y. edge x y ≡ true)) c.requires
-    (all-in-row edge c.args.events.now c.in_ok-sorted.sorted.row.items c.in_ok-sorted.sorted.rest.items c.in_ok-sorted.ensures
+    (all-in-row edge c.args.branch.events.now c.in_ok-sorted.sorted.row.items c.in_ok-sorted.sorted.rest.items c.in_ok-sorted.ensures
     (no-items c.in_ok-sorted.sorted.rest.items _ _ c.in_ok-sorted.sorted.rest.ok.0 c.is_empty.ensures c.if-is_empty.true))
 
 pub walk_back-requires-clause-inside : goal.walk_back-requires-clause-inside
@@ -16,6 +16,6 @@ walk_back-requires-clause-inside c = λ x i.
 
 pub walk_back-requires-clause-stuck : goal.walk_back-requires-clause-stuck
 walk_back-requires-clause-stuck c = λ x i.
-    let edge = is_edge c.args.test.now (known_of c.args.answers.now) (relations_of c.args.acyclic) in
+    let edge = is_edge c.args.branch.test.now (known_of c.args.branch.answers.now) (relations_of c.args.acyclic) in
     subst (λ es. list_any (λ y. edge y x) es ≡ true) (sym c.deref.ensures.value)
     (c.in_ok-sorted.ensures.stuck x (subst (λ es. IsIn es x) c.deref.ensures.value i))

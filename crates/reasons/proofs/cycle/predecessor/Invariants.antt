@@ -3,4 +3,4 @@ use Rattle.reasons.proofs.cycle.predecessor.Given as goal
 
 -- it is still to come
 abbrev pub invariant-loop-y : goal.invariant-loop-y
-invariant-loop-y l = list_any (λ y. is_edge l.test (known_of l.answers) (relations_of l.acyclic) y l.x) (drop l.y-index l.some) ≡ true
+invariant-loop-y l = list_any (λ y. is_edge l.branch.test.now (known_of l.branch.answers.now) (relations_of l.acyclic) y l.x) (drop l.y-index l.some) ≡ true

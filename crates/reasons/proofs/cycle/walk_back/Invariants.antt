@@ -3,7 +3,7 @@ use Rattle.reasons.proofs.Walking.{IsWalk}
 use Rattle.reasons.proofs.cycle.walk_back.Given as goal
 
 abbrev pub invariant-loop-path : goal.invariant-loop-path
-invariant-loop-path l = IsWalk (is_edge l.test (known_of l.answers) (relations_of l.acyclic)) l.some l.path.items l.at
+invariant-loop-path l = IsWalk (is_edge l.branch.test.now (known_of l.branch.answers.now) (relations_of l.acyclic)) l.some l.path.items l.at
 
 abbrev pub decreases-loop-path : goal.decreases-loop-path
 decreases-loop-path l = length l.some - length l.path.items

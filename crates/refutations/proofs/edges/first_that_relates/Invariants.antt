@@ -4,5 +4,5 @@ use Rattle.refutations.proofs.edges.first_that_relates.Given as goal
 
 abbrev pub invariant-loop-relation : goal.invariant-loop-relation
 invariant-loop-relation l =
-    spec.first_that_relates l.test (known_of l.answers) l.relations l.x l.y
-    ≡ spec.first_that_relates l.test (known_of l.answers) (drop l.relation-index l.relations) l.x l.y
+    spec.first_that_relates l.branch.test.now (known_of l.branch.answers.now) l.relations l.x l.y
+    ≡ spec.first_that_relates l.branch.test.now (known_of l.branch.answers.now) (drop l.relation-index l.relations) l.x l.y

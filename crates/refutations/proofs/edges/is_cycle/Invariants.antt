@@ -4,5 +4,5 @@ use Rattle.refutations.proofs.edges.is_cycle.Given as goal
 
 abbrev pub invariant-loop-next : goal.invariant-loop-next
 invariant-loop-next l =
-    spec.is_cycle l.test (spec.is_edge l.test (known_of l.answers) (relations_of l.acyclic)) l.cycle
-    ≡ spec.leads_back (spec.is_edge l.test (known_of l.answers) (relations_of l.acyclic)) l.first l.last (drop l.next-index l.rest)
+    spec.is_cycle l.branch.test.now (spec.is_edge l.branch.test.now (known_of l.branch.answers.now) (relations_of l.acyclic)) l.cycle
+    ≡ spec.leads_back (spec.is_edge l.branch.test.now (known_of l.branch.answers.now) (relations_of l.acyclic)) l.first l.last (drop l.next-index l.rest)

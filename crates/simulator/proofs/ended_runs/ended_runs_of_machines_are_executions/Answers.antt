@@ -4,7 +4,7 @@ use Rattle.simulator.proofs.ended_runs.ended_runs_of_machines_are_executions.Goa
 pub returns : goal.returns
 returns c =
     let runs : EndedRuns = record {
-      atomic = record { atomic = c.atomic_runs_are_flat_runs.ensures.atomic; side_by_side = c.atomic_runs_are_flat_runs.ensures.together };
+      atomic = c.atomic_runs_are_flat_runs.ensures;
       flat = c.runs_on_either_bus_are_flat_runs.ensures;
       free = c.runs_on_either_bus_stop_where_they_end.ensures.free;
       executions = c.ended_runs_are_executions.ensures;

@@ -1,5 +1,5 @@
 use Rattle.simulator.proofs.Vocabulary.{◌≡◌, ◌≤◌, ◌+◌, length, has_ended, CoresExist}
-use Rattle.simulator.proofs.DriveLemmas.{SoFar}
+use Rattle.simulator.proofs.DriveLemmas.{SoFar, WatchedSoFar}
 use Rattle.simulator.proofs.simulation.drive_machine.Given as goal
 
 -- the whole run is what was done so far and the run from here on
@@ -10,6 +10,8 @@ invariant-loop-ended g l = record {
   fewer : l.stalled ≤ l.used;
   over : l.ended ≡ has_ended l.machine.test l.machine.state.flat;
   so_far : SoFar l.initial.machine l.machine (g.C.Choices.coming l.initial.choices) (g.C.Choices.coming l.choices) l.used l.stalled;
+  watches : g.O.Observer.watches l.observer l.machine;
+  watched : WatchedSoFar g.O.Observer.makes l.initial.observer l.observer l.initial.machine l.machine (g.C.Choices.coming l.initial.choices) (g.C.Choices.coming l.choices) l.used;
 }
 
 abbrev pub decreases-loop-ended : goal.decreases-loop-ended

@@ -1,48 +1,66 @@
-use Rattle.simulator.proofs.Vocabulary.{arith, ap, ◌∙◌, AnswersFitBy}
-use Rattle.simulator.proofs.SimulationLemmas.{answers-fit}
+use Rattle.simulator.proofs.Vocabulary.{arith, ap, ◌∙◌, length, subst, sym, AnswersFitBy, Drives}
+use Rattle.simulator.specs.inner.Observed.{Watched}
+use Rattle.simulator.proofs.SimulationLemmas.{IsDriven, answers-fit}
 use Rattle.simulator.proofs.Endings.{Laws, IsLeftOf, ending-is, ending-fits, ending-counts}
 use Rattle.simulator.proofs.simulation.run_to_the_end.Goals as goal
-use Rattle.simulator.proofs.simulation.run_to_the_end.Goals.{After-drop-choices-2}
+use Rattle.simulator.proofs.simulation.run_to_the_end.Goals.{In_ok-ending}
+
+pub begin-requires : goal.begin-requires
+begin-requires g c = subst (g.O.Observer.begins c.args.observer.now) (sym c.in_ok-machine.ensures) (c.requires.begins (g.P.Protocol.table c.args.protocol))
 
 pub drive_machine-requires-clause-possible : goal.drive_machine-requires-clause-possible
-drive_machine-requires-clause-possible g c = rw c.in_ok-machine.ensures (c.attempts_lead_from_state_to_state.ensures.first c.args.config.bus c.args.test.now c.args.config.depth)
+drive_machine-requires-clause-possible g c = rw c.in_ok-machine.ensures (c.attempts_lead_from_state_to_state.ensures.first c.args.setup.now.config.bus c.args.setup.now.test.now c.args.setup.now.config.depth)
 
 pub ending_of-requires : goal.ending_of-requires
 ending_of-requires g c = c.in_ok-progress.ensures.drives.test ∙ ap (λ m. m.test) c.in_ok-machine.ensures
 
-laws : (g : _) (c : After-drop-choices-2 g) → Laws
+laws : (g : _) (c : In_ok-ending g) → Laws
 laws g c = record {
-  runs = record {
-    atomic = record { atomic = c.atomic_runs_are_flat_runs.ensures.atomic; side_by_side = c.atomic_runs_are_flat_runs.ensures.together };
-    stops = c.runs_on_either_bus_stop_where_they_end.ensures.stops;
-  };
+  runs = record { atomic = c.atomic_runs_are_flat_runs.ensures; stops = c.runs_on_either_bus_stop_where_they_end.ensures };
   executions = c.ended_runs_of_machines_are_executions.ensures.executions;
   once = c.whole_orders_have_each_entry_once.ensures;
 }
 
+-- the new machine was driven
+driven : (g : _) (c : In_ok-ending g) → IsDriven (g.P.Protocol.table c.args.protocol) c.args.setup.now.config c.args.setup.now.test.now c.in_ok-machine.machine c.drive_machine.new.machine c.args.choices.now c.in_ok-progress.progress.used c.in_ok-progress.progress.stalled
+driven g c = (
+  c.in_ok-machine.ensures,
+  subst (λ cs. Drives c.in_ok-machine.machine c.drive_machine.new.machine cs c.in_ok-progress.progress.used c.in_ok-progress.progress.stalled) c.new-choices.ensures c.in_ok-progress.ensures.drives,
+)
+
 -- how it is left
-left : (g : _) (c : After-drop-choices-2 g) → IsLeftOf (g.P.Protocol.table c.args.protocol) c.args.config c.args.test.now c.in_ok-machine.machine c.drive_machine.new.machine (g.C.Choices.coming c.args.choices) c.in_ok-progress.progress.used c.in_ok-progress.progress.stalled c.left-unused.result c.in_ok-ending.ending
+left : (g : _) (c : In_ok-ending g) → IsLeftOf (g.P.Protocol.table c.args.protocol) c.args.setup.now.config c.args.setup.now.test.now c.in_ok-machine.machine c.drive_machine.new.machine c.args.choices.now c.in_ok-progress.progress.used c.in_ok-progress.progress.stalled c.left-unused.result c.in_ok-ending.ending
 left g c = record {
-  driven = (c.in_ok-machine.ensures, c.in_ok-progress.ensures.drives);
-  unused_are = omega (arith, c.left-unused.ensures, c.in_ok-progress.ensures.left);
+  driven = driven g c;
+  unused_are = omega (arith, c.left-unused.ensures, c.in_ok-progress.ensures.left, ap length c.new-choices.ensures);
   left = c.in_ok-ending.ensures;
 }
 
-fit : (g : _) (c : After-drop-choices-2 g) → AnswersFitBy (g.P.Protocol.table c.args.protocol) c.args.config c.args.test.now (g.C.Choices.coming c.args.choices)
-fit g c =
-    answers-fit (g.P.Protocol.table c.args.protocol) c.args.config c.args.test.now c.in_ok-machine.machine c.drive_machine.new.machine (g.C.Choices.coming c.args.choices) _ _
-    (c.in_ok-machine.ensures, c.in_ok-progress.ensures.drives)
+fit : (g : _) (c : In_ok-ending g) → AnswersFitBy (g.P.Protocol.table c.args.protocol) c.args.setup.now.config c.args.setup.now.test.now c.args.choices.now
+fit g c = answers-fit (g.P.Protocol.table c.args.protocol) c.args.setup.now.config c.args.setup.now.test.now c.in_ok-machine.machine c.drive_machine.new.machine c.args.choices.now _ _ (driven g c)
 
 pub returns-clause-ending : goal.returns-clause-ending
-returns-clause-ending g c = ending-is (g.P.Protocol.table c.args.protocol) c.args.config c.args.test.now _ _ (g.C.Choices.coming c.args.choices) _ _ _ _ (laws g c) (left g c)
+returns-clause-ending g c = ending-is (g.P.Protocol.table c.args.protocol) c.args.setup.now.config c.args.setup.now.test.now _ _ c.args.choices.now _ _ _ _ (laws g c) (left g c)
 
 pub returns-clause-fits : goal.returns-clause-fits
 returns-clause-fits g c =
-    ending-fits (g.P.Protocol.table c.args.protocol) c.args.config c.args.test.now _ _ (g.C.Choices.coming c.args.choices) _ _ _ _ (laws g c) c.know_limits.ensures (fit g c)
+    ending-fits (g.P.Protocol.table c.args.protocol) c.args.setup.now.config c.args.setup.now.test.now _ _ c.args.choices.now _ _ _ _ (laws g c) c.know_limits.ensures (fit g c)
     (c.in_ok-progress.ensures.drives.test ∙ ap (λ m. m.test) c.in_ok-machine.ensures) (left g c)
 
 pub returns-clause-answers : goal.returns-clause-answers
 returns-clause-answers g c = fit g c
 
 pub returns-clause-counts : goal.returns-clause-counts
-returns-clause-counts g c = ending-counts (g.P.Protocol.table c.args.protocol) c.args.config c.args.test.now _ _ (g.C.Choices.coming c.args.choices) _ _ _ _ (left g c)
+returns-clause-counts g c = ending-counts (g.P.Protocol.table c.args.protocol) c.args.setup.now.config c.args.setup.now.test.now _ _ c.args.choices.now _ _ _ _ (left g c)
+
+pub returns-clause-watched : goal.returns-clause-watched
+returns-clause-watched g c = record {
+  begun = c.begin.new.self;
+  driven = c.drive_machine.new.observer;
+  left = c.drive_machine.new.machine;
+  opens = subst (λ m. g.O.Observer.opens c.args.observer.now m c.begin.new.self) c.in_ok-machine.ensures c.in_ok-begin.ensures.opens;
+  watched = subst (λ m. Watched g.O.Observer.makes c.begin.new.self m 1 c.args.choices.now c.drive_machine.new.observer c.drive_machine.new.machine) c.in_ok-machine.ensures
+      (subst (λ cs. Watched g.O.Observer.makes c.begin.new.self c.in_ok-machine.machine 1 cs c.drive_machine.new.observer c.drive_machine.new.machine) c.new-choices.ensures
+      c.in_ok-progress.ensures.watched);
+  ends = c.in_ok-end.ensures;
+}

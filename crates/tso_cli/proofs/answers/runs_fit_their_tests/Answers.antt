@@ -14,18 +14,12 @@ returns-clause-ended c =
       fits = c.whole_orders_have_each_entry_once.ensures.fits;
       report_spells = c.report_spells_its_order.ensures;
     } in
-    let laws : RunLaws = record {
-      atomic = record { atomic = c.atomic_runs_are_flat_runs.ensures.atomic; side_by_side = c.atomic_runs_are_flat_runs.ensures.together };
-      stops = c.runs_on_either_bus_stop_where_they_end.ensures.stops;
-    } in
+    let laws : RunLaws = record { atomic = c.atomic_runs_are_flat_runs.ensures; stops = c.runs_on_either_bus_stop_where_they_end.ensures } in
     run-fits runs laws c.order_can_be_printed.ensures
 
 pub returns-clause-choices : goal.returns-clause-choices
 returns-clause-choices c =
-    let laws : RunLaws = record {
-      atomic = record { atomic = c.atomic_runs_are_flat_runs.ensures.atomic; side_by_side = c.atomic_runs_are_flat_runs.ensures.together };
-      stops = c.runs_on_either_bus_stop_where_they_end.ensures.stops;
-    } in
+    let laws : RunLaws = record { atomic = c.atomic_runs_are_flat_runs.ensures; stops = c.runs_on_either_bus_stop_where_they_end.ensures } in
     choices-counted laws
 
 pub returns-clause-swept : goal.returns-clause-swept

@@ -15,10 +15,7 @@ returns-clause-inputs c =
       fits = c.whole_orders_have_each_entry_once.ensures.fits;
       report_spells = c.report_spells_its_order.ensures;
     } in
-    let laws : RunLaws = record {
-      atomic = record { atomic = c.atomic_runs_are_flat_runs.ensures.atomic; side_by_side = c.atomic_runs_are_flat_runs.ensures.together };
-      stops = c.runs_on_either_bus_stop_where_they_end.ensures.stops;
-    } in
+    let laws : RunLaws = record { atomic = c.atomic_runs_are_flat_runs.ensures; stops = c.runs_on_either_bus_stop_where_they_end.ensures } in
     λ kind config input out answer status within joinable is checked.
     rechecked kind config input out answer status texts runs laws c.reports_are_short.ensures within (c.joined_parts_are_separated.ensures (parts_of input).test out joinable) is checked
 

@@ -8,15 +8,15 @@ returns-in-TooLong c =
     let is = rw c.in-TooLong.is at c.in_ok-word.ensures in
     let word = c.in-TooLong.word in
     let line = choices_refusal (TooMany word) in
-    answer-is (IsLastStep c.args.test.now c.args.protocol c.args.config c.args.text.now) c.refused_trace.result line Refused c.refused_trace.ensures
+    answer-is (IsLastStep c.args.setup.now.test.now c.args.setup.now.protocol c.args.setup.now.config c.args.text.now) c.refused_trace.result line Refused c.refused_trace.ensures
     (refused line (too_long c.args.choices.now word c.requires.spelled is.long is.says))
 
 pub returns-in_ok-step-in-Fits : goal.returns-in_ok-step-in-Fits
 returns-in_ok-step-in-Fits c =
     let is = rw c.in-Fits.is at c.in_ok-word.ensures in
-    let t = c.args.test.now in
-    let kind = c.args.protocol in
-    let config = c.args.config in
+    let t = c.args.setup.now.test.now in
+    let kind = c.args.setup.now.protocol in
+    let config = c.args.setup.now.config in
     let choices = c.args.choices.now in
     answer-is {E = ℕ} (IsLastStep t kind config c.args.text.now) (Ok (record { text = c.in_ok-step-in-Fits.step; status = c.status_after-status.result; cause = c.cause_of.result })) (json_last_step t kind config choices) (status_under t kind config choices)
     (record { text = c.in_ok-step-in-Fits.ensures; status = c.status_after-status.ensures ∙ status-is t (run_under t kind config choices) c.in-Fits.driven.ending is.is })

@@ -7,6 +7,6 @@ use Rattle.tso_cli.proofs.stepping.test_answer.Goals as goal
 pub returns-in-Err : goal.returns-in-Err
 returns-in-Err c =
     let line = choices_refusal c.in-Err.fault in
-    refusal-is (IsLastStep c.args.test.now c.args.protocol c.args.config c.args.text.now) (c.in-Err.fault ≢ faults.NoMemory) c.refused_choices.result
+    refusal-is (IsLastStep c.args.setup.now.test.now c.args.setup.now.protocol c.args.setup.now.config c.args.text.now) (c.in-Err.fault ≢ faults.NoMemory) c.refused_choices.result
     line Refused c.refused_choices.ensures.says c.refused_choices.ensures.real
     (λ real. refused line (trace.refused c.in-Err.fault (rw c.cores.ensures.value at (c.in-Err.ensures.refused real))))

@@ -1,0 +1,153 @@
+//! One who follows a machine along its choices: what the machine's lines are in, and memory's own words.
+
+ghost use Rattle.std.specs.Prelude.{◌≡◌, ◌<◌, IfOk, OnOk, length};
+ghost use Rattle.serde_json.specs.View.{view};
+ghost use Rattle.tso_model.specs.FlatMachine.{chosen};
+ghost use Rattle.protocol_tables.specs.Tables.{Table};
+ghost use Rattle.machine_core.specs.Running.{new_machine, machine_effect, machine_after, AnswerFits};
+ghost use Rattle.trace_report.specs.Shown.{shown_step};
+ghost use Rattle.trace_report.specs.Known.{StepNamesExist};
+ghost use Rattle.trace_json.specs.TraceJson.{alone, sourced_by, step_to};
+ghost use Rattle.trace_json.specs.OwnWords.{own_words};
+ghost use Rattle.trace_json.specs.MachineJson.{machine_json};
+ghost use Rattle.trace_json.specs.inner.Looked.{sourced};
+ghost use Rattle.trace_json.specs.inner.Following.{CanFollow, Follows};
+
+use crate::machine::machine_value;
+use crate::own_words::own_words;
+use crate::step::step_value;
+use crate::supplied::{Source, found_by, supplied_to};
+use machine_core::{Choice, Config, Machine};
+use protocol_tables::Protocol;
+use serde_json::{Map, Value, put};
+use std::alloc::Global;
+use trace_report::Step;
+use trace_report::states::{PlacedState, states_of};
+use trace_report::telling::tell;
+use tso_model::{NoMemory, Test};
+
+/// What a choice did, and where the word is found that it read.
+#[derive(Drop)]
+pub(crate) struct SourcedStep {
+    pub(crate) step: Step,
+    supplied: Option<Source>,
+}
+
+/// Follows a machine.
+#[derive(Drop)]
+pub(crate) struct Follower<'t> {
+    alloc: Global,
+    test: &'t Test,
+    config: Config,
+    /// What the machine's lines are in.
+    states: Vec<PlacedState>,
+    /// Memory's own words.
+    memory: Vec<u32>,
+}
+
+impl<'t> Follower<'t> {
+    /// One who is to follow a machine from the beginning of this test on.
+    pub(crate) fn new(alloc: Global, test: &'t Test, config: Config) -> Result<Self, NoMemory>
+        ensures can { (table : Table) → IfOk result (λ f. CanFollow f (new_machine table config test.now)) }
+        ensures memory { IfOk result (λ f. f.memory.items ≡ test.now.words) }
+    {
+        test.know_limits();
+        let memory = words_of(alloc, test)?;
+        Ok(Follower {
+            alloc,
+            test,
+            config,
+            states: Vec::new(alloc),
+            memory,
+        })
+    }
+
+    /// Looks at a machine before its first choice.
+    pub(crate) fn begin<P: Protocol>(&mut self, machine: &Machine<'_, P>) -> Result<(), NoMemory>
+        requires { CanFollow self.old machine.now }
+        ensures follows { OnOk result (Follows self.new machine.now) }
+        ensures memory { OnOk result (self.new.memory.items ≡ self.old.memory.items) }
+    {
+        self.states = states_of(self.alloc, machine, self.test, self.config.words())?;
+        Ok(())
+    }
+
+    /// Makes a choice on the machine, and answers what it did.
+    pub(crate) fn tell<P: Protocol>(
+        &mut self,
+        machine: &mut Machine<'_, P>,
+        choice: Choice,
+    ) -> Result<SourcedStep, NoMemory>
+        requires follows { Follows self.old machine.old }
+        requires core { chosen choice < length machine.old.test.programs }
+        ensures step { IfOk result (λ told. sourced told ≡ sourced_by machine.old choice) }
+        ensures known { IfOk result (λ told. StepNamesExist self.new.test.now self.new.config.shape.words (shown_step told.step)) }
+        ensures outcome { IfOk result (λ told. told.step.outcome ≡ (machine_effect machine.old choice).effect.outcome) }
+        ensures after { OnOk result (machine.new ≡ machine_after machine.old choice) }
+        ensures answer { OnOk result (AnswerFits machine.old choice) }
+        ensures follows { OnOk result (Follows self.new machine.new) }
+        ensures memory { OnOk result (self.new.memory.items ≡ own_words machine.new self.old.memory.items) }
+    {
+        let alloc = self.alloc;
+        let test = self.test;
+        let words = self.config.words();
+        let found = found_by(machine, test, words, choice);
+        let step = tell(alloc, machine, &mut self.states, test, self.config, choice)?;
+        let supplied = supplied_to(&step, found);
+        let own = own_words(alloc, machine, test, words, &self.memory)?;
+        self.memory = own;
+        Ok(SourcedStep { step, supplied })
+    }
+
+    /// What a choice did, and the machine after it.
+    pub(crate) fn step_to<P: Protocol>(
+        &self,
+        machine: &Machine<'_, P>,
+        told: &SourcedStep,
+    ) -> Result<Value, NoMemory>
+        requires follows { Follows self.now machine.now }
+        requires known { StepNamesExist self.now.test.now self.now.config.shape.words (shown_step told.now.step) }
+        ensures { IfOk result (λ value. view value ≡ step_to (sourced told.now) machine.now self.now.memory.items) }
+    {
+        let after = self.machine(machine)?;
+        let words = self.config.words();
+        let value = step_value(
+            self.alloc,
+            self.test,
+            words,
+            &told.step,
+            told.supplied,
+            after,
+        )?;
+        Ok(value)
+    }
+
+    /// The machine as it now is.
+    pub(crate) fn machine<P: Protocol>(&self, machine: &Machine<'_, P>) -> Result<Value, NoMemory>
+        requires { Follows self.now machine.now }
+        ensures { IfOk result (λ value. view value ≡ machine_json machine.now self.now.memory.items) }
+    {
+        machine_value(self.alloc, machine, self.test, self.config, &self.memory)
+    }
+
+    /// The machine as the one before the first choice.
+    pub(crate) fn alone<P: Protocol>(&self, machine: &Machine<'_, P>) -> Result<Value, NoMemory>
+        requires { Follows self.now machine.now }
+        ensures { IfOk result (λ value. view value ≡ alone machine.now self.now.memory.items) }
+    {
+        let start = self.machine(machine)?;
+        let mut members = Map::new(self.alloc);
+        put(&mut members, self.alloc, "start", start)?;
+        Ok(Value::Object(members))
+    }
+}
+
+/// The test's first words.
+fn words_of(alloc: Global, test: &Test) -> Result<Vec<u32>, NoMemory>
+    ensures words { IfOk result (λ words. words.items ≡ test.now.words) }
+    ensures each { IfOk result (λ words. length words.items ≡ length test.now.locations) }
+{
+    let mut words = Vec::new(alloc);
+    words.extend_from_slice(test.initial_words())?;
+    Ok(words)
+}
