@@ -2,14 +2,14 @@
 //! their bytes.
 
 ghost use Rattle.std.specs.Prelude.{◌≡◌, ◌++◌, ◌∷◌, [], false, IfOk, OnOk, All, string_bytes, length, map};
-ghost use Rattle.serde_json.specs.Data.{Data, boolean, string};
+ghost use Rattle.serde_json.specs.Data.{Data, boolean, string, object, put as with_member};
 ghost use Rattle.serde_json.specs.Written.{compact_text, has_float};
 ghost use Rattle.serde_json.specs.View.{view, members_view};
 ghost use Rattle.order_builder.specs.PrintedOrder.{HasLocation};
 ghost use Rattle.tso_report.specs.Shown.{shown_run, IsRunOf};
 ghost use Rattle.tso_report.specs.Report.{line};
 ghost use Rattle.tso_report.specs.Json.{counts_value, cache_value, choices_value, verdict_value, condition_value, machine_value};
-ghost use Rattle.tso_report.specs.Json.{memory_members, memory_value, order_value, registers_value, cores_value};
+ghost use Rattle.tso_report.specs.Json.{numbers_members, memory_members, memory_value, order_value, registers_value, cores_value};
 ghost use Rattle.tso_report.specs.Json.{run_members, unfinished_members, json_report, json_unfinished};
 
 use crate::report::quantifier_text;
@@ -71,9 +71,9 @@ pub fn unfinished_members(
 ) -> Result<Map<String, Value>, NoMemory>
     ensures { IfOk result (λ members. members_view members.entries ≡ unfinished_members used stalled) }
 {
-    let counts = json!(in alloc; {"stalled": stalled, "used": used})?;
+    let counts = [("stalled", stalled as u64), ("used", used as u64)];
     let mut members = Map::new(alloc);
-    put(&mut members, alloc, "unfinished", counts)?;
+    put_numbers(&mut members, alloc, "unfinished", &counts)?;
     Ok(members)
 }
 
@@ -92,55 +92,40 @@ pub fn run_members(
     ensures { IfOk result (λ members. members_view members.entries ≡ run_members test.now protocol config (shown_run run.now)) }
 {
     let mut members = Map::new(alloc);
-    put(
-        &mut members,
-        alloc,
-        "cache",
-        cache_value(alloc, &run.left.counts)?,
-    )?;
-    put(
-        &mut members,
-        alloc,
-        "choices",
-        choices_value(alloc, run.used, run.stalled, run.unused)?,
-    )?;
-    put(
-        &mut members,
-        alloc,
-        "condition",
-        condition_value(alloc, test, run.holds)?,
-    )?;
-    put(
-        &mut members,
-        alloc,
-        "machine",
-        machine_value(alloc, protocol, config)?,
-    )?;
-    put(
-        &mut members,
-        alloc,
-        "memory",
-        memory_value(alloc, test, &run.left.state.memory)?,
-    )?;
-    put(
-        &mut members,
-        alloc,
-        "order",
-        order_value(alloc, test, &run.left.execution.order)?,
-    )?;
-    put(
-        &mut members,
-        alloc,
-        "registers",
-        cores_value(alloc, &run.left.state.registers)?,
-    )?;
-    put(
-        &mut members,
-        alloc,
-        "test",
-        Value::try_from_str(alloc, test.name())?,
-    )?;
+    put_run(&mut members, alloc, test, protocol, config, run)?;
     Ok(members)
+}
+
+fn put_run(
+    members: &mut Map<String, Value>,
+    alloc: Global,
+    test: &Test,
+    protocol: ProtocolKind,
+    config: Config,
+    run: &Run,
+) -> Result<(), NoMemory>
+    requires run { IsRunOf test.now (shown_run run.now) }
+    requires empty { members.old.entries ≡ [] }
+    ensures { OnOk result (members_view members.new.entries ≡ run_members test.now protocol config (shown_run run.now)) }
+{
+    let left = &run.left;
+    let cache = cache_value(alloc, &left.counts)?;
+    put(members, alloc, "cache", cache)?;
+    let choices = choices_value(alloc, run.used, run.stalled, run.unused)?;
+    put(members, alloc, "choices", choices)?;
+    let condition = condition_value(alloc, test, run.holds)?;
+    put(members, alloc, "condition", condition)?;
+    let machine = machine_value(alloc, protocol, config)?;
+    put(members, alloc, "machine", machine)?;
+    let memory = memory_value(alloc, test, &left.state.memory)?;
+    put(members, alloc, "memory", memory)?;
+    let order = order_value(alloc, test, &left.execution.order)?;
+    put(members, alloc, "order", order)?;
+    let registers = cores_value(alloc, &left.state.registers)?;
+    put(members, alloc, "registers", registers)?;
+    let name = Value::try_from_str(alloc, test.name())?;
+    put(members, alloc, "test", name)?;
+    Ok(())
 }
 
 fn cache_value(alloc: Global, counts: &[Counts]) -> Result<Value, NoMemory>
@@ -156,12 +141,15 @@ fn cache_value(alloc: Global, counts: &[Counts]) -> Result<Value, NoMemory>
 fn counts_value(alloc: Global, counts: Counts) -> Result<Value, NoMemory>
     ensures { IfOk result (λ value. view value ≡ counts_value counts) }
 {
-    let (hits, misses, upgrades) = (counts.hits, counts.misses, counts.upgrades);
-    let (forwards, write_backs, flushes) = (counts.forwards, counts.write_backs, counts.flushes);
-    Ok(
-        json!(in alloc; {"flushes": flushes, "forwards": forwards, "hits": hits, "misses": misses,
-            "upgrades": upgrades, "write_backs": write_backs})?,
-    )
+    let numbers = [
+        ("flushes", counts.flushes as u64),
+        ("forwards", counts.forwards as u64),
+        ("hits", counts.hits as u64),
+        ("misses", counts.misses as u64),
+        ("upgrades", counts.upgrades as u64),
+        ("write_backs", counts.write_backs as u64),
+    ];
+    numbers_value(alloc, &numbers)
 }
 
 fn choices_value(
@@ -172,7 +160,12 @@ fn choices_value(
 ) -> Result<Value, NoMemory>
     ensures { IfOk result (λ value. view value ≡ choices_value used stalled unused) }
 {
-    Ok(json!(in alloc; {"stalled": stalled, "unused": unused, "used": used})?)
+    let numbers = [
+        ("stalled", stalled as u64),
+        ("unused", unused as u64),
+        ("used", used as u64),
+    ];
+    numbers_value(alloc, &numbers)
 }
 
 fn condition_value(alloc: Global, test: &Test, holds: Option<bool>) -> Result<Value, NoMemory>
@@ -261,5 +254,40 @@ pub fn registers_value(alloc: Global, registers: &[u32; 6]) -> Result<Value, NoM
     ensures { IfOk result (λ value. view value ≡ registers_value registers.now) }
 {
     let [eax, ebx, ecx, edx, esi, edi] = *registers;
-    Ok(json!(in alloc; {"EAX": eax, "EBX": ebx, "ECX": ecx, "EDI": edi, "EDX": edx, "ESI": esi})?)
+    let numbers = [
+        ("EAX", eax as u64),
+        ("EBX", ebx as u64),
+        ("ECX", ecx as u64),
+        ("EDI", edi as u64),
+        ("EDX", edx as u64),
+        ("ESI", esi as u64),
+    ];
+    numbers_value(alloc, &numbers)
+}
+
+/// An object of numbers under their names.
+///
+/// Errors: out of memory only.
+pub fn numbers_value(alloc: Global, numbers: &[(&str, u64)]) -> Result<Value, NoMemory>
+    ensures { IfOk result (λ value. view value ≡ object (numbers_members (map (λ it. (it.0.now, it.1)) numbers.now))) }
+{
+    let mut members = Map::new(alloc);
+    for at in (0..numbers.len()).rev() {
+        let (name, number) = numbers[at];
+        put(&mut members, alloc, name, Value::from(number))?;
+    }
+    Ok(Value::Object(members))
+}
+
+fn put_numbers(
+    members: &mut Map<String, Value>,
+    alloc: Global,
+    name: &str,
+    numbers: &[(&str, u64)],
+) -> Result<(), NoMemory>
+    ensures { OnOk result (members_view members.new.entries ≡ with_member name.now (object (numbers_members (map (λ it. (it.0.now, it.1)) numbers.now))) (members_view members.old.entries)) }
+{
+    let value = numbers_value(alloc, numbers)?;
+    put(members, alloc, name, value)?;
+    Ok(())
 }
