@@ -1,6 +1,5 @@
 -- An eager choice of a core beside another choice of the same core.
 use Rattle.eager_laws.proofs.Vocabulary.{◌≡◌, ◌≢◌, ◌<◌, ℕ, ◌+◌, zero, suc, List, [], ◌∷◌, ◌++◌, Bool, true, false, Some, length, slice_get, slice_set, slice_index, arith, ap, sym, ◌∙◌, refl, ◌==◌, ◌&&◌, nat_lt, if◌then◌else◌, get_or-set_same, get_or-set_other, nat_tests, filter, action_of, Litmus, last_value, is_write, writes_to, entry, value_of, with_value, CoreState, State, Effect, idle, program_of, core_of, effect_by, step_of, drain_of, applied, after_choice, stored, step, drain, W, Instr, Action, Store, Load, Move, Entry, cases_Bool, inl, inr}
-use Rattle.tso_model.specs.declared.choice.Stall.TheVariants as stall
 use Rattle.eager_laws.proofs.Places.{set-set-same, Silent, silent-same, put}
 use Rattle.eager_laws.proofs.Avoiding.{holding, drained, buffered}
 

@@ -1,6 +1,6 @@
 -- The axioms of TSO: when an order of entries is an execution of a test.
 -- (Primer, chapter 4, the axioms of TSO; x86-TSO, section 3, for fences and locked instructions.)
-use Rattle.std.specs.Prelude.{ℕ, ◌+◌, ◌<◌, ◌≡◌, true, false, List, [], ◌∷◌, ◌++◌, filter, length, Some, slice_get, slice_index, suc}
+use Rattle.std.specs.Prelude.{ℕ, ◌<◌, ◌≡◌, true, false, List, [], ◌∷◌, ◌++◌, filter, length, Some, slice_get, slice_index, suc}
 use Rattle.tso_model.specs.ProgramOrder.{is_before, may_be_passed, is_read, writes_to, IsStorePart}
 use Rattle.tso_model.specs.Litmus.{Litmus}
 use Rattle.tso_model.specs.declared.execution.Entry.{Entry}

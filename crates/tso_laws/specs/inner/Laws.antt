@@ -1,5 +1,5 @@
 -- What those laws say that the steps of a proof need, and no public promise names.
-use Rattle.std.specs.Prelude.{ℕ, ◌+◌, ◌≡◌, List, [], ◌++◌, slice_get, Some}
+use Rattle.std.specs.Prelude.{ℕ, ◌≡◌, List, [], ◌++◌, slice_get, Some}
 use Rattle.tso_model.specs.Litmus.{Litmus, IsTest}
 use Rattle.tso_model.specs.ProgramEntries.{made}
 use Rattle.tso_model.specs.Axioms.{IsWhole}

@@ -1,4 +1,4 @@
-use Rattle.flat_machine.proofs.Vocabulary.{◌≡◌, ◌≤◌, ◌∙◌, length, map, ap, arith, core_of_processor}
+use Rattle.flat_machine.proofs.Vocabulary.{◌≤◌, ◌∙◌, length, map, ap, arith, core_of_processor}
 use Rattle.flat_machine.proofs.Starting.{all-copied}
 use Rattle.flat_machine.proofs.snapshot.copy.Goals as goal
 
