@@ -1,6 +1,5 @@
 -- Each choice on either bus counts an access only where one more instruction has made its own.
 use Rattle.machine_core.proofs.Vocabulary.{◌≡◌, ◌≢◌, ◌<◌, ℕ, List, drop, length, Option, None, Some, slice_get, refl, sym, ap, ◌∙◌, arith, Litmus, IsTest, action_of, CoreState, State, effect_by, step_of, effect_of, core_of, chosen, program_of, NoAccess, Locks, access_of, Holder, Free, HeldBy, HeldBetween, Attempt, BusEffect, acts, asks, begins, completes, writes_last, as_read, effect_on, Bus, Atomic, Split, Instr, Action, Store, Fence, Lock, Entry, Choice, Step, HasRead, HolderFits, Unused, Caches, is_awaited, use_of, use_with, HasIssuedItsStores, zero, suc, nat_lt, Effect, stored, is_none_pending, not_through, if-by, begins-by, completes-by, split-by}
-use Rattle.tso_model.specs.declared.choice.Stall.TheVariants as stall
 use Rattle.machine_core.proofs.EachUse.{asks-nothing}
 use Rattle.machine_core.proofs.CountBounds.{effect-advances}
 use Rattle.machine_core.proofs.CountsOnBus.{AdvancesOn, advances-acts, advances-frees, advances-reads, advances-writes, advances-rests}

@@ -2,7 +2,6 @@
 use Rattle.machine_core.proofs.Vocabulary.{◌≡◌, ℕ, zero, suc, List, [], ◌∷◌, Option, None, Some, All, slice_get, refl, ap, subst, arith, BusModel, IsFree, IsSameMachine, holder_in, transaction_in, awaited_in, CompletesAt, awaited_of, Through, caches_of, completion_by, HasUsed}
 use Rattle.snoop_bus.specs.declared.access.Access as bus_access
 use Rattle.snoop_bus.specs.declared.holding.HeldBus.{HeldBus}
-use Rattle.snoop_bus.specs.Held as bus
 
 pub All-got : {X : Type 0} (P : X → Type 0) (xs : List X) (i : ℕ) (x : X) → All P xs → slice_get xs i ≡ Some x → P x
 All-got P [] i x all h = absurd (let z : ⊥ = cc in z)

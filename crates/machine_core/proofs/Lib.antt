@@ -13,7 +13,6 @@ pub mod EachUse
 pub mod CountBounds
 pub mod CountsOnBus
 pub mod Advancing
-pub mod Branching
 pub mod Completions
 pub mod StepCompletions
 pub mod LastWrites

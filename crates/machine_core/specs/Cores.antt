@@ -6,7 +6,6 @@ use Rattle.tso_model.specs.FlatMachine.{CoreState, State}
 use Rattle.basic_laws.specs.Types.{Entry, W}
 use Rattle.store_buffer.specs.declared.Pending.{Pending}
 use Rattle.store_buffer.specs.Stores.{Stores}
-use Rattle.store_buffer.specs.inner.Stores.{stores}
 use Rattle.machine_core.specs.declared.processor.Processor.{Processor}
 
 -- the entry that a pending store of this core commits when it goes to memory

@@ -5,7 +5,6 @@ use Rattle.tso_model.specs.Litmus.{Litmus}
 use Rattle.tso_model.specs.SplitMachine.{BusEffect}
 use Rattle.tso_model.specs.declared.choice.Choice.{Choice}
 use Rattle.split_laws.specs.Holders.{HolderFits}
-use Rattle.snoop_bus.specs.Held.{holder}
 use Rattle.machine_core.specs.declared.hardware.Hardware.{Hardware}
 use Rattle.machine_core.specs.Keeping.{HardwareFitsTest, IsHeldForAccess, state_in}
 use Rattle.machine_core.specs.Effects.{ChoiceAnswer, HasUsed, HasEffect}

@@ -31,6 +31,7 @@ use split_laws::accesses_wait;
 use tso_model::{Action, Choice, Core, Instr, Loc, NoMemory, Outcome, Stall, Test};
 
 /// Makes a choice on a split bus, and answers its outcome and what it had to do with the caches.
+#[inline(always)]
 pub fn act_on_split<P: Protocol>(
     hardware: &mut Hardware<P>,
     test: &Test,
@@ -47,21 +48,11 @@ pub fn act_on_split<P: Protocol>(
     ensures of_test { AreOfTest test.now hardware.new }
 {
     match next_of(hardware) {
-        None => begin(hardware, test, choice),
-        Some(Next::Complete(asked)) => {
-            if is_same(asked, choice) {
-                complete(hardware, test, choice)
-            } else {
-                begin(hardware, test, choice)
-            }
+        Some(Next::Complete(asked)) if is_same(asked, choice) => complete(hardware, test, choice),
+        Some(Next::Write(read)) if is_same(Choice::Step(read.core), choice) => {
+            write_last(hardware, test, read)
         }
-        Some(Next::Write(read)) => {
-            if is_same(Choice::Step(read.core), choice) {
-                write_last(hardware, test, read)
-            } else {
-                begin(hardware, test, choice)
-            }
-        }
+        Some(_) | None => begin(hardware, test, choice),
     }
 }
 
@@ -72,6 +63,7 @@ fn is_same(a: Choice, b: Choice) -> bool
 }
 
 /// Makes a choice that isn't the holder's next one.
+#[inline(always)]
 fn begin<P: Protocol>(
     hardware: &mut Hardware<P>,
     test: &Test,
@@ -105,6 +97,7 @@ fn begin<P: Protocol>(
 }
 
 /// Whether a core's access needs the bus: a read or a write that doesn't hit, and a locked instruction's.
+#[inline(always)]
 fn needs_bus<P: Protocol>(bus: &SnoopBus<P>, core: Core, access: MemoryAccess) -> bool
     requires { core.0 < cores_of bus.now }
     ensures value { result ≡ needs_bus (memory_access_in access) (hits_by (caches_of bus.now) core.0 (memory_access_in access)) }
@@ -139,6 +132,7 @@ fn ask<P: Protocol>(bus: &mut SnoopBus<P>, core: Core, access: MemoryAccess)
 }
 
 /// The access that a choice makes.
+#[inline(always)]
 pub fn access_of<P: Protocol>(hardware: &Hardware<P>, test: &Test, choice: Choice) -> MemoryAccess
     requires core { chosen choice < length test.now.programs }
     requires fits { HardwareFitsTest test.now hardware.now }
@@ -158,6 +152,7 @@ pub fn access_of<P: Protocol>(hardware: &Hardware<P>, test: &Test, choice: Choic
 }
 
 /// The access of a step at this instruction.
+#[inline(always)]
 fn step_access(processor: &Processor, instr: Instr) -> MemoryAccess
     ensures value { (core : ℕ) → memory_access_in result ≡ step_access processor.now.stores.depth (Some instr) (pending_in core processor.now) }
     ensures known { (locations : ℕ) → KnownLocation locations instr → IsAccessAmong locations (memory_access_in result) }
@@ -171,6 +166,7 @@ fn step_access(processor: &Processor, instr: Instr) -> MemoryAccess
 }
 
 /// A plain store only waits in the buffer; without one it writes.
+#[inline(always)]
 fn store_access(processor: &Processor, loc: Loc) -> MemoryAccess
     ensures value { memory_access_in result ≡ store_access processor.now.stores.depth loc }
     ensures known { (locations : ℕ) → loc.0 < locations → IsAccessAmong locations (memory_access_in result) }
@@ -183,6 +179,7 @@ fn store_access(processor: &Processor, loc: Loc) -> MemoryAccess
 }
 
 /// A load reads, unless the core's own buffer answers it.
+#[inline(always)]
 fn load_access(processor: &Processor, loc: Loc) -> MemoryAccess
     ensures value { (core : ℕ) → memory_access_in result ≡ load_access loc (filter (writes_to loc.0) (pending_in core processor.now)) }
     ensures known { (locations : ℕ) → loc.0 < locations → IsAccessAmong locations (memory_access_in result) }
@@ -194,6 +191,7 @@ fn load_access(processor: &Processor, loc: Loc) -> MemoryAccess
 }
 
 /// A locked instruction waits until nothing is pending.
+#[inline(always)]
 fn locked_access(processor: &Processor, loc: Loc) -> MemoryAccess
     ensures value { (core : ℕ) → memory_access_in result ≡ locked_access loc (pending_in core processor.now) }
     ensures known { (locations : ℕ) → loc.0 < locations → IsAccessAmong locations (memory_access_in result) }
@@ -206,6 +204,7 @@ fn locked_access(processor: &Processor, loc: Loc) -> MemoryAccess
 }
 
 /// A drain writes the oldest pending store.
+#[inline(always)]
 fn drain_access(processor: &Processor) -> MemoryAccess
     ensures value { (core : ℕ) → memory_access_in result ≡ drain_access (pending_in core processor.now) }
     ensures known { (locations : ℕ) → AreKnown locations processor.now.stores → IsAccessAmong locations (memory_access_in result) }

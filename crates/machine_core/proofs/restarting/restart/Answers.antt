@@ -1,4 +1,4 @@
-use Rattle.machine_core.proofs.Vocabulary.{refl, ap, ◌∙◌, sym, subst, rules, length, All, with_items_is, words_of, holder_of, awaited_of, core_states, IsCore}
+use Rattle.machine_core.proofs.Vocabulary.{ap, ◌∙◌, sym, subst, rules, length, All, with_items_is, words_of, holder_of, awaited_of, core_states, IsCore}
 use Rattle.machine_core.proofs.Beginning.{begun-state, begun-statistics}
 use Rattle.machine_core.proofs.TallyLemmas.{tallied-first}
 use Rattle.machine_core.proofs.Splitting.{held-freed}
