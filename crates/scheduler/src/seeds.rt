@@ -1,7 +1,8 @@
 //! The choices of a seed. They are decided by a published generator (PCG XSH RR 64/32, O'Neill) and not by the machine that
 //! it runs on, so that a seed gives the same run everywhere.
 
-ghost use Rattle.std.specs.Prelude.{◌≡◌, ◌*◌, ◌%◌, ◌<◌, ◌++◌, IfOk, OnOk};
+ghost use Rattle.std.specs.Prelude.{◌≡◌, ◌*◌, ◌%◌, ◌<◌, ◌++◌, IfOk, OnOk, IsTrue};
+ghost use Rattle.std.specs.Int.{IsPowerOfTwo};
 ghost use Rattle.scheduler.specs.Seeds.{choice_of_word, seeded_choices};
 
 use crate::coming::{Choices, Seeded};
@@ -29,12 +30,24 @@ fn pick_of(cores: u8, word: u32) -> u32
     requires { 0 < cores }
     ensures { result ≡ word % (2 * cores) }
 {
+    let choices = 2 * u32::from(cores);
+    if is_power_of_two(cores) {
+        word & (choices - 1)
+    } else {
+        word % choices
+    }
+}
+
+/// Whether so many cores are a power of two that a test may have.
+fn is_power_of_two(cores: u8) -> bool
+    ensures { IsTrue result → IsPowerOfTwo (2 * cores) }
+{
     match cores {
-        1 => word % 2,
-        2 => word % 4,
-        4 => word % 8,
-        8 => word % 16,
-        _ => word % (2 * u32::from(cores)),
+        1 => true,
+        2 => true,
+        4 => true,
+        8 => true,
+        _ => false,
     }
 }
 
