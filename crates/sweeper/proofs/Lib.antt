@@ -3,3 +3,4 @@ pub mod RunsCounted
 pub mod SweptRuns
 pub mod FlatSweeps
 pub mod StateLemmas
+pub mod StallsAgain

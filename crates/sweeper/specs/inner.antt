@@ -1,2 +1,3 @@
 -- Words of contracts inside the project.
 pub mod Counting
+pub mod Stalling

@@ -10,9 +10,10 @@ ghost use Rattle.sweeper.specs.inner.Counting.{EachKindWith};
 
 use crate::flat_sweep::sweep_flat;
 use crate::runner::{Runner, count_runs, count_state};
+use crate::stalling::Stalling;
 use machine_core::{Bus, Config, Machine};
 use protocol_tables::{Mesi, Moesi, Mosi, Msi, Protocol, ProtocolKind};
-use scheduler::{Choices, Stalls, SweepPlan};
+use scheduler::{Choices, SweepPlan};
 use simulator::drive_machine;
 use split_laws::{
     atomic_runs_are_flat_runs, attempts_lead_from_state_to_state,
@@ -126,7 +127,7 @@ impl<'a, P: Protocol> Runner for MachineRunner<'a, P> {
         runs_on_either_bus_stop_where_they_end();
         test.know_limits();
         let mut choices = choices;
-        drive_machine(&mut self.machine, &mut Stalls::none(), &mut choices)?;
+        drive_machine(&mut self.machine, &mut Stalling::nothing(), &mut choices)?;
         if !self.machine.is_ended() {
             self.machine.restart();
             tally.add_unfinished();

@@ -5,5 +5,6 @@
 pub mod counting;
 mod flat_sweep;
 mod runner;
+mod stalling;
 
 pub use counting::{Swept, sweep};

@@ -1,0 +1,20 @@
+use Rattle.sweeper.proofs.Vocabulary.{sym, subst, ap, ◌∙◌, Ok, Running}
+use Rattle.tso_model.specs.declared.choice.Outcome.{Outcome}
+use Rattle.sweeper.specs.declared.stalling.Stalling.{Stalling}
+use Rattle.sweeper.specs.inner.Stalling.{AllStall, Stalls}
+use Rattle.sweeper.proofs.StallsAgain.{noted-stall}
+use Rattle.sweeper.proofs.stalling.StallingObserver.choose.Goals as goal
+
+pub returns-in-Some-clause-outcome : goal.returns-in-Some-clause-outcome
+returns-in-Some-clause-outcome g c = sym (c.requires.watches c.args.choice c.in-Some.reason (sym c.reason.ensures ∙ c.in-Some.is)).outcome
+
+pub returns-in-Stalled-clause-watches : goal.returns-in-Stalled-clause-watches
+returns-in-Stalled-clause-watches g c =
+    let same = c.in_ok-outcome.ensures.stall c.in-Stalled.reason (ap (λ (o : Outcome). Ok o) c.in-Stalled.is) in
+    let this : Stalls c.args.machine.now c.args.choice c.in-Stalled.reason = record {
+      outcome = sym c.in_ok-outcome.ensures.outcome ∙ c.in-Stalled.is;
+      same = sym c.in_ok-outcome.ensures.after ∙ same;
+      answer = c.in_ok-outcome.ensures.answer;
+    } in
+    let noted = noted-stall c.args.self.now c.args.machine.now c.args.choice c.in-Stalled.reason c.requires.watches this in
+    subst (λ (m : Running). AllStall c.note.new.self m) (sym same) (subst (λ (s : Stalling). AllStall s c.args.machine.now) (sym c.note.ensures) noted)
