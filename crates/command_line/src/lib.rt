@@ -8,8 +8,10 @@ mod known;
 mod options;
 pub mod search;
 pub mod settings;
+pub mod table;
 
 pub use explanation::ReasonPlan;
 pub use search::SearchPlan;
 pub use settings::{LineFault, Settings, settings_of};
 pub use shown_values::Show;
+pub use table::{DeclaredOption, SUBCOMMANDS, Subcommand, Value};

@@ -8,6 +8,7 @@ use crate::explanation::ReasonPlan;
 use crate::known::{know_config, know_plan, know_reason, know_search};
 use crate::options::command_line;
 use crate::search::SearchPlan;
+use crate::table::Subcommand;
 use clap::ArgMatches;
 use machine_core::{Bus, Config, Shape};
 use protocol_tables::ProtocolKind;
@@ -131,16 +132,15 @@ fn settings_in(name: &str, matches: &ArgMatches<'_>) -> Option<Settings>
 fn settings_named(name: &str, matches: &ArgMatches<'_>) -> Option<Settings>
     ensures { IfSome result HasDepth }
 {
-    match name {
-        "run" => run_settings(matches),
-        "trace" => trace_settings(matches),
-        "sweep" => sweep_settings(matches),
-        "outcomes" => outcomes_settings(matches),
-        "why" => why_settings(matches),
-        "check" => Some(Settings::Check),
-        "witness" => witness_settings(matches),
-        "tables" => Some(Settings::Tables(protocol_in(matches)?)),
-        _ => None,
+    match Subcommand::named(name)? {
+        Subcommand::Run => run_settings(matches),
+        Subcommand::Trace => trace_settings(matches),
+        Subcommand::Sweep => sweep_settings(matches),
+        Subcommand::Outcomes => outcomes_settings(matches),
+        Subcommand::Why => why_settings(matches),
+        Subcommand::Check => Some(Settings::Check),
+        Subcommand::Witness => witness_settings(matches),
+        Subcommand::Tables => Some(Settings::Tables(protocol_in(matches)?)),
     }
 }
 
