@@ -1,10 +1,10 @@
 //! What is said of a byte that isn't printable: a character that other texts have is told by its code point, since a hint is
 //! ASCII, with what stands for it here.
 
+use crate::line::{Line, Piece};
 use crate::place::Place;
 use crate::quotes::first_bytes;
 use crate::tables::{Alike, said_of_front};
-use crate::words::{Piece, Words, around, six};
 
 /// Characters of a test's signs, and what stands for them.
 static SIGNS: [Alike; 7] = [
@@ -52,40 +52,39 @@ static BLANKS: [Alike; 2] = [
     },
 ];
 
-/// Of a byte that isn't printable, and of the character that it begins.
-pub fn foreign_character<'a>(place: Place<'a>, byte: u8) -> Words<'a> {
-    match character_at(place.rest) {
-        Some(character) => cured(
-            place,
-            character,
-            said_of_front(&SIGNS, place.rest).unwrap_or("it may stand only in a comment"),
-        ),
-        None => around(
-            "the byte ",
-            Piece::Number(usize::from(byte)),
-            " can't stand here",
-        ),
+/// Says of a byte that isn't printable, and of the character that it begins.
+pub fn say_character(line: &mut Line, place: Place<'_>, byte: u8) {
+    let said = said_of_front(&SIGNS, place.rest).unwrap_or("it may stand only in a comment");
+    if !says_foreign_at(line, place, said) {
+        line.say_number("the byte {} can't stand here", usize::from(byte));
     }
 }
 
-/// Of the first character of a word or a line that isn't ASCII, if one is there: what is blank is told as such, and of any other
-/// this is said.
-pub fn foreign_in<'a>(text: &'a [u8], said: &'static str) -> Option<Words<'a>> {
-    let at = text.iter().position(|byte| !byte.is_ascii())?;
-    let place = Place::new(text, text.len().saturating_sub(at));
-    Some(cured(place, character_at(place.rest)?, said))
+/// Says of the first character of a word or a line that isn't ASCII: what is blank is told as such, and of any other this is
+/// said. Whether one is there.
+pub fn says_foreign(line: &mut Line, text: &[u8], said: &str) -> bool {
+    for at in 0..text.len() {
+        if !text[at].is_ascii() {
+            return says_foreign_at(line, Place::new(text, text.len() - at), said);
+        }
+    }
+    false
 }
 
-/// Of a character that isn't ASCII: what stands for it where it is blank, and else what is said.
-fn cured<'a>(place: Place<'a>, character: char, said: &'static str) -> Words<'a> {
-    six([
-        Piece::Character(character),
-        Piece::Text(", in column "),
-        Piece::Number(place.column()),
-        Piece::Text(", isn't ASCII: "),
-        Piece::Text(said_of_front(&BLANKS, place.rest).unwrap_or(said)),
-        Piece::Text(""),
-    ])
+/// Says of a character that isn't ASCII what stands for it where it is blank, and else this. Whether one stands there.
+fn says_foreign_at(line: &mut Line, place: Place<'_>, said: &str) -> bool {
+    let Some(character) = character_at(place.rest) else {
+        return false;
+    };
+    line.say_with(
+        "{}, in column {}, isn't ASCII: {}",
+        &[
+            Piece::Character(character),
+            Piece::Number(place.column()),
+            Piece::Text(said_of_front(&BLANKS, place.rest).unwrap_or(said)),
+        ],
+    );
+    true
 }
 
 /// The character at the front of a text, if it is in UTF-8 and not ASCII.

@@ -1,88 +1,50 @@
 //! What is said of choices: the word at fault, and which words may stand there.
 
-use crate::characters::foreign_in;
+use crate::characters::says_foreign;
+use crate::divider::begins_order;
 use crate::faults::ONE_TEST;
-use crate::printing::Where;
+use crate::hinting::NOTHING_KNOWN;
+use crate::line::{Line, Piece};
 use crate::quotes::{SPACES, is_all_digits};
-use crate::words::{Piece, Words, listed, naming, plain, six};
+use crate::tables::{is_exactly_one_of, is_one_of};
 use scheduler::{ChoiceFault, MAX_CHOICES};
-use std::alloc::{AllocError, Global};
-use tso_model::NoMemory;
 
-/// The place and the words of a fault in choices of a test with so many cores.
-///
-/// Errors: out of memory only.
-pub fn choice_words<'a>(
-    alloc: Global,
-    cores: u8,
-    text: &'a [u8],
-    fault: ChoiceFault,
-) -> Result<(Where, Words<'a>), NoMemory> {
-    let words = split_words(alloc, text)?;
+/// Says what is at fault in choices of a test with so many cores, with the word.
+pub fn say_choices(line: &mut Line, cores: u8, text: &[u8], fault: ChoiceFault) {
     match fault {
-        ChoiceFault::BadWord(number) => Ok((Where::Word(number), bad_word(&words, number))),
-        ChoiceFault::NoSuchCore(number) => Ok((
-            Where::Word(number),
-            no_such_core(nth(&words, number), cores),
-        )),
-        ChoiceFault::TooMany(number) => Ok((Where::Word(number), too_many(nth(&words, number)))),
-        ChoiceFault::NoMemory => Err(NoMemory),
+        ChoiceFault::BadWord(number) => {
+            let (word, part) = begin_word(line, text, number);
+            bad_word(line, word, part);
+        }
+        ChoiceFault::NoSuchCore(number) => {
+            let (word, _) = begin_word(line, text, number);
+            line.say_with(
+                "{}: the test has {}, numbered from 0",
+                &[Piece::Named(word), Piece::Count(usize::from(cores), "core")],
+            );
+        }
+        ChoiceFault::TooMany(number) => {
+            let (word, _) = begin_word(line, text, number);
+            line.say_of_number("{} goes over the limit of {} choices", word, MAX_CHOICES);
+        }
+        ChoiceFault::NoMemory => line.say(NOTHING_KNOWN),
     }
 }
 
-pub fn split_words(alloc: Global, text: &[u8]) -> Result<Vec<&[u8]>, AllocError> {
-    text.split(|byte| SPACES.contains(byte))
-        .filter(|word| !word.is_empty())
-        .collect(alloc)
-}
-
-/// The word of this number, from 1.
-fn nth<'a>(words: &[&'a [u8]], number: usize) -> &'a [u8] {
-    match words.get(number.saturating_sub(1)) {
-        Some(word) => *word,
-        None => &[],
-    }
-}
-
-fn too_many<'a>(word: &'a [u8]) -> Words<'a> {
-    listed(
-        Piece::Named(word),
-        Piece::Text(" goes over the limit of "),
-        Piece::Number(MAX_CHOICES),
-        Piece::Text(" choices"),
-    )
-}
-
-/// The place and the words where more choices are used than a trace as JSON may have steps: this word says the
-/// first one beyond.
-///
-/// Errors: out of memory only.
-pub fn too_many_steps<'a>(
-    alloc: Global,
-    text: &'a [u8],
-    number: usize,
-    most: usize,
-) -> Result<(Where, Words<'a>), NoMemory> {
-    let words = split_words(alloc, text)?;
-    let said = listed(
-        Piece::Named(nth(&words, number)),
-        Piece::Text(" goes over the limit of "),
-        Piece::Number(most),
-        Piece::Text(" choices for --json; without --json a trace may use more"),
+/// Says that more choices are used than a trace as JSON may have steps: this word says the first one beyond.
+pub fn too_many_steps(line: &mut Line, text: &[u8], number: usize, most: usize) {
+    let (word, _) = begin_word(line, text, number);
+    line.say_of_number(
+        "{} goes over the limit of {} choices for --json; without --json a trace may use more",
+        word,
+        most,
     );
-    Ok((Where::Word(number), said))
 }
 
-fn no_such_core<'a>(word: &'a [u8], cores: u8) -> Words<'a> {
-    if cores == 1 {
-        return naming(word, ": the test has 1 core, numbered from 0");
-    }
-    listed(
-        Piece::Named(word),
-        Piece::Text(": the test has "),
-        Piece::Number(usize::from(cores)),
-        Piece::Text(" cores, numbered from 0"),
-    )
+/// Says of which word of choices the hint is, from 1; that word, and which word of its item it is.
+fn begin_word<'a>(line: &mut Line, text: &'a [u8], number: usize) -> (&'a [u8], Part) {
+    line.say_number("word {}: ", number);
+    word_at(text, number)
 }
 
 /// Which word of its item a word is.
@@ -93,115 +55,100 @@ enum Part {
     Count,
 }
 
-/// Which word of its item stands after these words.
-fn part_after(words: &[&[u8]]) -> Part {
+/// The word of this number, from 1, and which word of its item it is.
+fn word_at(text: &[u8], number: usize) -> (&[u8], Part) {
     let mut part = Part::First;
-    for word in words {
-        part = match part {
-            Part::First if *word == b"seed".as_slice() => Part::Seed,
-            Part::Seed => Part::Count,
-            _ => Part::First,
-        };
+    let mut place = 0usize;
+    for word in text.split(|byte| SPACES.contains(byte)) {
+        if !word.is_empty() {
+            place = place.saturating_add(1);
+            if place == number {
+                return (word, part);
+            }
+            part = part_after(part, word);
+        }
     }
-    part
+    (&[], part)
 }
 
-fn words_before<'a, 'b>(words: &'b [&'a [u8]], number: usize) -> &'b [&'a [u8]] {
-    let (before, _) = words.split_at(number.saturating_sub(1).min(words.len()));
-    before
+/// Which word of its item stands after a word.
+fn part_after(part: Part, word: &[u8]) -> Part {
+    match part {
+        Part::First if is_exactly_one_of(&["seed"], word) => Part::Seed,
+        Part::Seed => Part::Count,
+        _ => Part::First,
+    }
 }
 
-fn bad_word<'a>(words: &[&'a [u8]], number: usize) -> Words<'a> {
-    let word = nth(words, number);
-    if let Some(words) = foreign_in(word, "choices are 0s, 0d and seed N M") {
-        return words;
+fn bad_word(line: &mut Line, word: &[u8], part: Part) {
+    if says_foreign(line, word, "choices are 0s, 0d and seed N M") {
+        return;
     }
-    match part_after(words_before(words, number)) {
-        Part::First => bad_first(word),
-        Part::Seed => naming(
+    match part {
+        Part::First => bad_first(line, word),
+        Part::Seed => line.say_of(
+            "{} is no seed: in seed N M the seed N is a number below 2^64",
             word,
-            " is no seed: in seed N M the seed N is a number below 2^64",
         ),
-        Part::Count => listed(
-            Piece::Named(word),
-            Piece::Text(" is no number: in seed N M there are M choices, at most "),
-            Piece::Number(MAX_CHOICES),
-            Piece::Text(""),
+        Part::Count => line.say_of_number(
+            "{} is no number: in seed N M there are M choices, at most {}",
+            word,
+            MAX_CHOICES,
         ),
     }
 }
 
-fn bad_first<'a>(word: &'a [u8]) -> Words<'a> {
-    if word == b"seed".as_slice() {
-        plain(
-            "write two numbers after seed, the seed and how many choices it makes, as in seed 1 1000",
-        )
-    } else if word.eq_ignore_ascii_case(b"seed") {
-        naming(word, ": write seed, in small letters")
+fn bad_first(line: &mut Line, word: &[u8]) {
+    let sentence = if is_exactly_one_of(&["seed"], word) {
+        "write two numbers after seed, the seed and how many choices it makes, as in seed 1 1000"
+    } else if is_one_of(&["seed"], word) {
+        "{}: write seed, in small letters"
     } else if is_all_digits(word) {
-        no_letter(word)
+        return no_letter(line, word);
     } else if word.starts_with(b"=") {
-        naming(
-            word,
-            ": an input has only one line ====, between the test and the choices",
-        )
+        "{}: an input has only one line ====, between the test and the choices"
     } else if word.starts_with(b"X86") {
-        plain(ONE_TEST)
-    } else if word == b"Test".as_slice() || word == b"Order".as_slice() {
-        naming(
-            word,
-            " begins an order, which check and witness read: run reads choices",
-        )
+        ONE_TEST
+    } else if begins_order(word) {
+        "{} begins an order, which check and witness read: run reads choices"
     } else {
-        other_first(word)
-    }
+        return other_first(line, word);
+    };
+    line.say_of(sentence, word);
 }
 
-fn other_first<'a>(word: &'a [u8]) -> Words<'a> {
-    if let Some(words) = capital(word) {
-        words
-    } else if word.contains(&b',') || word.contains(&b';') {
-        naming(word, ": only spaces and line ends stand between choices")
-    } else {
-        naming(
+fn other_first(line: &mut Line, word: &[u8]) {
+    match word.split_last() {
+        Some((b'S', digits)) if is_all_digits(digits) => {
+            in_small(line, "{}: write {}s, in small letters", word, digits);
+        }
+        Some((b'D', digits)) if is_all_digits(digits) => {
+            in_small(line, "{}: write {}d, in small letters", word, digits);
+        }
+        _ if word.contains(&b',') || word.contains(&b';') => line.say_of(
+            "{}: only spaces and line ends stand between choices",
             word,
-            " is no choice: 0s (core 0 steps), 0d (core 0 drains) or seed N M",
-        )
+        ),
+        _ => line.say_of(
+            "{} is no choice: 0s (core 0 steps), 0d (core 0 drains) or seed N M",
+            word,
+        ),
     }
 }
 
-/// What is said of a choice whose letter is a capital.
-fn capital<'a>(word: &'a [u8]) -> Option<Words<'a>> {
-    let (last, digits) = word.split_last()?;
-    if !is_all_digits(digits) {
-        return None;
-    }
-    match last {
-        b'S' => Some(in_small(word, digits, "s, in small letters")),
-        b'D' => Some(in_small(word, digits, "d, in small letters")),
-        _ => None,
-    }
+fn in_small(line: &mut Line, sentence: &str, word: &[u8], digits: &[u8]) {
+    line.say_with(sentence, &[Piece::Named(word), Piece::Shown(digits)]);
 }
 
-fn in_small<'a>(word: &'a [u8], digits: &'a [u8], letter: &'a str) -> Words<'a> {
-    listed(
-        Piece::Named(word),
-        Piece::Text(": write "),
-        Piece::Shown(digits),
-        Piece::Text(letter),
-    )
-}
-
-/// What is said of a number alone.
-fn no_letter<'a>(word: &'a [u8]) -> Words<'a> {
-    let number = Piece::Named(word);
-    let lacking = Piece::Text(" lacks its letter: ");
+/// Says of a number alone that a letter belongs to it.
+fn no_letter(line: &mut Line, word: &[u8]) {
     let core = if word.len() < 10 {
         Piece::Shown(word)
     } else {
         Piece::Text("0")
     };
-    let steps = Piece::Text("s steps that core, ");
-    let drains = Piece::Text("d drains it");
-    six([number, lacking, core, steps, core, drains])
+    line.say_with(
+        "{} lacks its letter: {}s steps that core, {}d drains it",
+        &[Piece::Named(word), core, core],
+    );
 }

@@ -1,38 +1,38 @@
 //! A dividing line that isn't there: what follows the test is then refused as a part of it, and the refusal alone would
 //! mislead.
 
+use crate::line::Line;
 use crate::quotes::{is_choice, word};
 use crate::reader::Reader;
-use crate::words::{Words, naming};
+use crate::tables::is_exactly_one_of;
 
-/// What is said where an input without a dividing line goes on after its test as it would after such
-/// a line.
-pub fn missing_divider<'a>(asked: Reader, is_divided: bool, rest: &'a [u8]) -> Option<Words<'a>> {
-    if is_divided {
-        return None;
-    }
-    let word = word(rest);
-    if word.starts_with(b"=") {
-        return Some(naming(
-            word,
-            " is no dividing line: write ==== alone, with no space before or after it",
-        ));
-    }
-    if is_choice(word) {
-        return Some(naming(
-            word,
-            " is no part of a test: put a line ==== between the test and the choices",
-        ));
-    }
-    if begins_order(asked, word) {
-        return Some(naming(
-            word,
-            " is no part of a test: put a line ==== between the test and the order",
-        ));
-    }
-    None
+/// For which command a test was read, and whether a dividing line stands after it.
+#[derive(Clone, Copy)]
+pub struct Asked {
+    pub reader: Reader,
+    pub is_divided: bool,
 }
 
-fn begins_order(asked: Reader, word: &[u8]) -> bool {
-    asked.takes_order() && (word == b"Order".as_slice() || word == b"Test".as_slice())
+/// Says that the dividing line is missing, where an input without one goes on after its test as it would after such a line.
+/// Whether it does.
+pub fn says_missing_divider(line: &mut Line, asked: Asked, rest: &[u8]) -> bool {
+    let word = word(rest);
+    let sentence = if asked.is_divided {
+        return false;
+    } else if word.starts_with(b"=") {
+        "{} is no dividing line: write ==== alone, with no space before or after it"
+    } else if is_choice(word) {
+        "{} is no part of a test: put a line ==== between the test and the choices"
+    } else if asked.reader.takes_order() && begins_order(word) {
+        "{} is no part of a test: put a line ==== between the test and the order"
+    } else {
+        return false;
+    };
+    line.say_of(sentence, word);
+    true
+}
+
+/// Whether an order, as `run` prints it, begins with this word.
+pub fn begins_order(word: &[u8]) -> bool {
+    is_exactly_one_of(&["Order", "Test"], word)
 }

@@ -2,47 +2,78 @@
 //! fault; and of a fault in a condition, also in the forms that other programs write and this one doesn't read.
 
 use crate::cells::bad_instruction;
-use crate::divider::missing_divider;
+use crate::divider::{Asked, says_missing_divider};
+use crate::hinting::NOTHING_KNOWN;
+use crate::line::Line;
 use crate::numbers::bad_number;
 use crate::openings::{bad_init, bad_token, no_header, unclosed};
 use crate::place::Place;
 use crate::quotes::up_to;
-use crate::reader::Reader;
 use crate::rows::{bad_header_row, too_large, wrong_cells};
-use crate::tables::is_one_of;
-use crate::words::{Piece, Words, around, listed, naming, plain};
+use crate::tables::{is_exactly_one_of, is_one_of};
 use litmus_reader::Why;
 use std::alloc::Global;
 use tso_model::NoMemory;
 
-/// The words for a fault at a place of a test.
+/// What is said of a comment of another form.
+pub const COMMENT: &str = "a comment is written (* .. *)";
+
+/// What is said of a second test.
+pub const ONE_TEST: &str =
+    "a second test begins here: an input has only one, so run tso once for each test; tools/campaign takes many";
+
+/// What is said of a sign or a word that other programs write in a condition.
+pub const CONNECTIVES: &str =
+    "{}: in a condition write /\\ for and, \\/ for or, ~ for not, and = alone";
+
+/// What is said of a number to base 16.
+pub const DECIMAL: &str = "{}: numbers are decimal";
+
+/// Says what is at fault at a place of a test, with the line.
 ///
 /// Errors: out of memory only.
-pub fn test_words<'a>(
+pub fn say_fault(
     alloc: Global,
-    asked: Reader,
-    is_divided: bool,
-    place: Place<'a>,
+    line: &mut Line,
+    asked: Asked,
+    place: Place<'_>,
     why: Why,
-) -> Result<Words<'a>, NoMemory> {
+) -> Result<(), NoMemory> {
+    line.say_number("line {}: ", line_of_fault(place, why));
     if let Some(said) = foreign_line(place, why) {
-        return Ok(plain(said));
+        line.say(said);
+        return Ok(());
     }
     match why {
-        Why::NoHeader => Ok(no_header(asked, place)),
-        Why::Unclosed => Ok(unclosed(asked, is_divided, place)),
-        Why::BadToken => Ok(bad_token(place)),
-        Why::BadInit => Ok(bad_init(place)),
-        Why::BadHeaderRow => Ok(bad_header_row(place)),
-        Why::WrongCells => Ok(wrong_cells(place)),
-        Why::BadInstruction => bad_instruction(alloc, place.rest),
-        Why::BadNumber => bad_number(alloc, place.rest),
-        Why::TwiceInit => Ok(twice_given(place)),
-        Why::NoSuchCore => Ok(no_such_core(place)),
-        Why::TooLarge => too_large(alloc, place),
-        Why::BadCondition => Ok(bad_condition(place)),
-        Why::Trailing => Ok(trailing(asked, is_divided, place)),
-        Why::NoMemory => Err(NoMemory),
+        Why::NoHeader => no_header(line, asked.reader, place),
+        Why::Unclosed => unclosed(line, asked, place),
+        Why::BadToken => bad_token(line, place),
+        Why::BadInit => bad_init(line, place),
+        Why::BadHeaderRow => bad_header_row(line, place),
+        Why::WrongCells => wrong_cells(line, place.rest),
+        Why::BadInstruction => return bad_instruction(alloc, line, place.rest),
+        Why::BadNumber => return bad_number(alloc, line, place.rest),
+        Why::TwiceInit => line.say_of(
+            "{} has a value already: give each location and each register only one",
+            up_to(place.rest, b'='),
+        ),
+        Why::NoSuchCore => line.say_of(
+            "there is no core {}: the row P0 | P1 | .. names the cores",
+            place.token(),
+        ),
+        Why::TooLarge => return too_large(alloc, line, place),
+        Why::BadCondition => bad_condition(line, place),
+        Why::Trailing => trailing(line, asked, place),
+        Why::NoMemory => line.say(NOTHING_KNOWN),
+    }
+    Ok(())
+}
+
+/// The line of a fault; of an input without a test, one that is there.
+fn line_of_fault(place: Place<'_>, why: Why) -> usize {
+    match why {
+        Why::NoHeader => place.line_with_bytes(),
+        _ => place.line(),
     }
 }
 
@@ -59,94 +90,63 @@ fn foreign_line(place: Place<'_>, why: Why) -> Option<&'static str> {
     }
 }
 
-fn twice_given<'a>(place: Place<'a>) -> Words<'a> {
-    naming(
-        up_to(place.rest, b'='),
-        " has a value already: give each location and each register only one",
-    )
-}
-
-fn no_such_core<'a>(place: Place<'a>) -> Words<'a> {
-    around(
-        "there is no core ",
-        Piece::Named(place.token()),
-        ": the row P0 | P1 | .. names the cores",
-    )
-}
-
-fn trailing<'a>(asked: Reader, is_divided: bool, place: Place<'a>) -> Words<'a> {
-    if let Some(words) = missing_divider(asked, is_divided, place.rest) {
-        words
-    } else if let Some(words) = foreign_form(place) {
-        words
-    } else {
-        naming(
+fn trailing(line: &mut Line, asked: Asked, place: Place<'_>) {
+    if !says_missing_divider(line, asked, place.rest) && !says_foreign_form(line, place) {
+        line.say_of(
+            "{} stands after the end of the test: leave it out",
             place.token(),
-            " stands after the end of the test: leave it out",
-        )
+        );
     }
 }
 
 const FORM: &str =
     ": a condition is exists, ~exists or forall, and then atoms as 0:EAX=1, x=1 or true, joined by /\\ and \\/";
 
-const OTHER_REGISTER: &str =
-    " is none of EAX, EBX, ECX, EDX, ESI, EDI, the registers of 32 bits: tools/import renames others, but not parts such as AL";
-
-/// What is said of a comment of another form.
-pub const COMMENT: &str = "a comment is written (* .. *)";
-
-/// What is said of a second test.
-pub const ONE_TEST: &str =
-    "a second test begins here: an input has only one, so run tso once for each test; tools/campaign takes many";
-
-/// What is said of a sign or a word that other programs write in a condition.
-pub const CONNECTIVES: &str =
-    ": in a condition write /\\ for and, \\/ for or, ~ for not, and = alone";
-
-/// Of what doesn't fit in a condition.
-pub fn bad_condition<'a>(place: Place<'a>) -> Words<'a> {
-    if let Some(words) = foreign_form(place) {
-        words
-    } else if let Some(words) = foreign_register(place) {
-        words
-    } else if place.rest.is_empty() {
-        around("the test ends within its condition", Piece::Text(FORM), "")
-    } else {
-        listed(
-            Piece::Named(place.token()),
-            Piece::Text(" doesn't fit"),
-            Piece::Text(FORM),
-            Piece::Text(""),
-        )
+/// Says what doesn't fit in a condition.
+fn bad_condition(line: &mut Line, place: Place<'_>) {
+    if says_foreign_form(line, place) || says_foreign_register(line, place) {
+        return;
     }
+    if place.rest.is_empty() {
+        line.say("the test ends within its condition");
+    } else {
+        line.say_of("{} doesn't fit", place.token());
+    }
+    line.say(FORM);
 }
 
-/// What is said of a number or a connective of another form, within a condition or after it.
-pub fn foreign_form<'a>(place: Place<'a>) -> Option<Words<'a>> {
+/// Says of a number or a connective of another form, within a condition or after it. Whether one stands there.
+fn says_foreign_form(line: &mut Line, place: Place<'_>) -> bool {
     if place.is_hexadecimal() {
-        Some(naming(place.with_last_byte(), ": numbers are decimal"))
+        line.say_of(DECIMAL, place.with_last_byte());
+        true
     } else if is_connective(place) {
-        Some(naming(place.token(), CONNECTIVES))
+        line.say_of(CONNECTIVES, place.token());
+        true
     } else {
-        None
+        false
     }
 }
 
 fn is_connective(place: Place<'_>) -> bool {
     let token = place.token();
     is_one_of(&["|", "and", "or"], token)
-        || (token == b"=".as_slice() && place.last_word() == b"=".as_slice())
+        || (is_exactly_one_of(&["="], token) && is_exactly_one_of(&["="], place.last_word()))
 }
 
-/// What is said of a register of another form: of one that isn't read, or of the `P` of its core.
-pub fn foreign_register<'a>(place: Place<'a>) -> Option<Words<'a>> {
+/// Says of a register of another form: of one that isn't read, or of the `P` of its core. Whether one stands there.
+pub fn says_foreign_register(line: &mut Line, place: Place<'_>) -> bool {
     let last = place.last_word();
     if place.is_register() {
-        Some(naming(place.token(), OTHER_REGISTER))
+        line.say_of(
+            "{} is none of EAX, EBX, ECX, EDX, ESI, EDI, the registers of 32 bits: tools/import renames others, but not parts such as AL",
+            place.token(),
+        );
+        true
     } else if place.rest.starts_with(b":") && last.starts_with(b"P") {
-        Some(naming(last, ": a core is its number alone here, as in 0:EAX"))
+        line.say_of("{}: a core is its number alone here, as in 0:EAX", last);
+        true
     } else {
-        None
+        false
     }
 }

@@ -4,25 +4,25 @@ use crate::tables::Alike;
 
 /// Of what isn't done one instruction after the other.
 pub const STRAIGHT: &str =
-    " isn't read: a program has no jumps and no compares; use XCHG to take a lock, and write out each try of a loop";
+    "{} isn't read: a program has no jumps and no compares; use XCHG to take a lock, and write out each try of a loop";
 
 /// By how its name begins, an instruction that isn't read without LOCK.
 pub static UNLOCKED: [Alike; 6] = [
     Alike {
         words: &["MFENCE"],
-        said: " stands alone in its cell",
+        said: "{} stands alone in its cell",
     },
     Alike {
         words: &["SFENCE", "LFENCE"],
-        said: " isn't read: it changes nothing in the order of plain loads and stores, so leave it out",
+        said: "{} isn't read: it changes nothing in the order of plain loads and stores, so leave it out",
     },
     Alike {
         words: &["XADD"],
-        said: " isn't read without LOCK, which makes it one step: LOCK XADD [x],EAX",
+        said: "{} isn't read without LOCK, which makes it one step: LOCK XADD [x],EAX",
     },
     Alike {
         words: &["NOP", "PAUSE", "CLFLUSH", "CLWB", "PREFETCH"],
-        said: " isn't read: it changes no final state, so leave it out",
+        said: "{} isn't read: it changes no final state, so leave it out",
     },
     Alike {
         words: &["J", "CMP", "CMOV", "TEST", "LOOP", "CALL", "RET"],
@@ -32,7 +32,7 @@ pub static UNLOCKED: [Alike; 6] = [
         words: &[
             "ADD", "INC", "SUB", "DEC", "AND", "OR", "XOR", "NOT", "NEG", "SHL", "SHR",
         ],
-        said: " isn't read: without LOCK it isn't one step. Write a load, as MOV EAX,[x], and a store of the result, as MOV [x],$1; to change a register, MOV EAX,$1",
+        said: "{} isn't read: without LOCK it isn't one step. Write a load, as MOV EAX,[x], and a store of the result, as MOV [x],$1; to change a register, MOV EAX,$1",
     },
 ];
 
@@ -40,11 +40,11 @@ pub static UNLOCKED: [Alike; 6] = [
 pub static LOCKED: [Alike; 4] = [
     Alike {
         words: &["ADD", "INC"],
-        said: " isn't read after LOCK: in a cell before it, put the number that it adds into a free register, as MOV EAX,$1; here write LOCK XADD [x],EAX",
+        said: "{} isn't read after LOCK: in a cell before it, put the number that it adds into a free register, as MOV EAX,$1; here write LOCK XADD [x],EAX",
     },
     Alike {
         words: &["SUB", "DEC"],
-        said: " isn't read after LOCK: in a cell before it, put 4294967296 minus its number into a free register, as MOV EAX,$4294967295; here write LOCK XADD [x],EAX",
+        said: "{} isn't read after LOCK: in a cell before it, put 4294967296 minus its number into a free register, as MOV EAX,$4294967295; here write LOCK XADD [x],EAX",
     },
     Alike {
         words: &["CMP", "BT"],
@@ -52,7 +52,7 @@ pub static LOCKED: [Alike; 4] = [
     },
     Alike {
         words: &["MOV"],
-        said: " can't be locked: LOCK may stand only before XCHG or XADD",
+        said: "{} can't be locked: LOCK may stand only before XCHG or XADD",
     },
 ];
 
@@ -60,23 +60,23 @@ pub static LOCKED: [Alike; 4] = [
 pub static SIZED: [Alike; 5] = [
     Alike {
         words: &["MOVL", "MOVQ"],
-        said: ": write MOV, for words of 32 bits",
+        said: "{}: write MOV, for words of 32 bits",
     },
     Alike {
         words: &["XCHGL", "XCHGQ"],
-        said: ": write XCHG, for words of 32 bits",
+        said: "{}: write XCHG, for words of 32 bits",
     },
     Alike {
         words: &["XADDL"],
-        said: ": write XADD, for words of 32 bits",
+        said: "{}: write XADD, for words of 32 bits",
     },
     Alike {
         words: &["XADDQ"],
-        said: " isn't read: it adds 64 bits, and words have only 32 here",
+        said: "{} isn't read: it adds 64 bits, and words have only 32 here",
     },
     Alike {
         words: &["MOVB", "MOVW", "XCHGB", "XCHGW", "XADDB", "XADDW"],
-        said: " isn't read: each access is to a whole word of 32 bits",
+        said: "{} isn't read: each access is to a whole word of 32 bits",
     },
 ];
 
@@ -84,18 +84,18 @@ pub static SIZED: [Alike; 5] = [
 pub static SIZES: [Alike; 3] = [
     Alike {
         words: &["DWORD", "PTR"],
-        said: ": leave DWORD PTR out, words have 32 bits",
+        said: "{}: leave DWORD PTR out, words have 32 bits",
     },
     Alike {
         words: &["QWORD", "WORD", "BYTE"],
-        said: " isn't read: each access is to a whole word of 32 bits",
+        said: "{} isn't read: each access is to a whole word of 32 bits",
     },
     Alike {
         words: &[
             "AL", "BL", "CL", "DL", "AH", "BH", "CH", "DH", "SIL", "DIL", "AX", "BX", "CX", "DX",
             "SI", "DI",
         ],
-        said: " is a part of a register: if the whole register will do, write EAX, EBX, ECX, EDX, ESI or EDI",
+        said: "{} is a part of a register: if the whole register will do, write EAX, EBX, ECX, EDX, ESI or EDI",
     },
 ];
 

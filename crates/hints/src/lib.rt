@@ -14,6 +14,7 @@ mod divider;
 mod faults;
 mod hinting;
 mod instructions;
+mod line;
 mod lines;
 mod listed;
 mod numbers;
@@ -30,7 +31,6 @@ mod search_end;
 mod tables;
 mod unended;
 mod unused;
-mod words;
 
 pub use cause::Cause;
 pub use hinting::hint_of;

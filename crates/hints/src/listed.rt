@@ -2,11 +2,8 @@
 //! see it.
 
 use crate::body::{body_of, is_name};
-use crate::place::Place;
-use crate::printing::Where;
-use crate::quotes::first_bytes;
-use crate::unused::NamedAt;
-use crate::words::{Piece, Words, around};
+use crate::line::Line;
+use crate::unused::{NamedAt, location_named, say_named};
 use litmus_tokens::{Lexeme, Symbol, Token, is_symbol, tokens_of, word};
 use std::alloc::Global;
 use tso_model::{Core, Loc, NoMemory, Reg, Test};
@@ -35,86 +32,76 @@ pub fn listed_in(alloc: Global, test: &Test, text: &[u8]) -> Result<Vec<Listed>,
     let tokens = tokens_of(alloc, body_of(text))?;
     let mut found = Vec::new(alloc);
     let mut core = None;
-    let Some(list) = list_of(&tokens.items) else {
-        return Ok(found);
-    };
-    for token in list {
-        match token.lexeme {
-            Lexeme::Symbol(Symbol::CloseSquare) => return Ok(found),
-            Lexeme::Symbol(Symbol::Semicolon) => core = None,
-            Lexeme::Number(digits) => core = word(digits),
-            Lexeme::Name(name) => {
-                if let Some(what) = named(test, core, name) {
-                    let first = text.len().saturating_sub(token.remaining);
-                    let length = name.len();
-                    found.push(Listed {
-                        first,
-                        length,
-                        what,
-                    })?;
-                }
-            }
-            Lexeme::Symbol(_) => {}
+    for token in list_of(&tokens.items) {
+        core = core_after(core, token);
+        if let Some(listed) = listed_at(test, text, core, token) {
+            found.push(listed)?;
         }
     }
     Ok(found)
 }
 
-/// What stands after `locations [`; `None` where the test has no list.
-fn list_of<'a, 'b>(tokens: &'b [Token<'a>]) -> Option<&'b [Token<'a>]> {
-    let place = place_of_list(tokens)?;
-    let (_, list) = tokens.split_at(place.min(tokens.len()));
-    Some(list)
-}
-
-/// How many tokens stand up to the end of `locations [`.
-fn place_of_list(tokens: &[Token<'_>]) -> Option<usize> {
-    let mut place = 0usize;
-    let mut is_named = false;
-    for token in tokens {
-        place = place.saturating_add(1);
-        if is_named && is_symbol(Symbol::OpenSquare, token) {
-            return Some(place);
+/// What stands in the brackets of `locations [..]`, or nothing where the test has no list.
+fn list_of<'a, 'b>(tokens: &'b [Token<'a>]) -> &'b [Token<'a>] {
+    let list = after_opening(tokens);
+    for end in 0..list.len() {
+        if is_symbol(Symbol::CloseSquare, &list[end]) {
+            return &list[..end];
         }
-        is_named = is_name(token, b"locations");
     }
-    None
+    list
 }
 
-/// What a name is, after the number of a core or after none.
-fn named(test: &Test, core: Option<u32>, name: &[u8]) -> Option<ListedName> {
-    match core {
-        None => location_named(test, name),
-        Some(core) => {
-            let reg = Reg::from_name(name)?;
-            if core < u32::from(test.cores()) {
-                Some(ListedName::Register(Core(core as u8), reg))
-            } else {
-                None
-            }
+/// What stands after `locations [`.
+fn after_opening<'a, 'b>(tokens: &'b [Token<'a>]) -> &'b [Token<'a>] {
+    for at in 1..tokens.len() {
+        if is_name(&tokens[at - 1], b"locations") && is_symbol(Symbol::OpenSquare, &tokens[at]) {
+            return &tokens[at + 1..];
         }
+    }
+    &[]
+}
+
+/// The core of the registers that stand after a token; they follow its number.
+fn core_after(core: Option<u32>, token: &Token<'_>) -> Option<u32> {
+    match token.lexeme {
+        Lexeme::Symbol(Symbol::Semicolon) => None,
+        Lexeme::Number(digits) => word(digits),
+        _ => core,
     }
 }
 
-fn location_named(test: &Test, name: &[u8]) -> Option<ListedName> {
-    for loc in 0..test.locations() {
-        if test.location_name(Loc(loc)).as_bytes() == name {
-            return Some(ListedName::Location(Loc(loc)));
-        }
-    }
-    None
-}
-
-/// The place and the words of a hint on a register or a location that is listed there, and that no state shows unless more
-/// is asked for.
-pub fn left_out<'a>(input: &'a [u8], at: NamedAt, is_register: bool) -> (Where, Words<'a>) {
-    let place = Place::new(input, input.len().saturating_sub(at.first));
-    let shows = if is_register {
-        ", which the states leave out: --show registers shows it"
-    } else {
-        ", which the states leave out: --show all shows it"
+/// What a token of the list names in this text of a test, after the number of a core or after none.
+fn listed_at(test: &Test, text: &[u8], core: Option<u32>, token: &Token<'_>) -> Option<Listed> {
+    let Lexeme::Name(name) = token.lexeme else {
+        return None;
     };
-    let name = first_bytes(place.rest, at.length);
-    let words = around("locations lists ", Piece::Named(name), shows);
-    (Where::Line(place.line()), words)
+    let what = match core {
+        None => ListedName::Location(location_named(test, name)?),
+        Some(core) => register_named(test, core, name)?,
+    };
+    Some(Listed {
+        first: text.len().saturating_sub(token.remaining),
+        length: name.len(),
+        what,
+    })
+}
+
+fn register_named(test: &Test, core: u32, name: &[u8]) -> Option<ListedName> {
+    let reg = Reg::from_name(name)?;
+    if core < u32::from(test.cores()) {
+        Some(ListedName::Register(Core(core as u8), reg))
+    } else {
+        None
+    }
+}
+
+/// Says of a register or a location that is listed there that no state shows it unless more is asked for.
+pub fn left_out(line: &mut Line, input: &[u8], first: usize, length: usize, is_register: bool) {
+    let sentence = if is_register {
+        "line {}: locations lists {}, which the states leave out: --show registers shows it"
+    } else {
+        "line {}: locations lists {}, which the states leave out: --show all shows it"
+    };
+    say_named(line, input, NamedAt { first, length }, sentence);
 }

@@ -1,6 +1,6 @@
 //! What is said of a number that is too great: which one, and the greatest that there may be.
 
-use crate::words::{Piece, Words, around, listed};
+use crate::line::Line;
 use litmus_tokens::{Lexeme, Symbol, Token, is_symbol, tokens_of, word};
 use std::alloc::Global;
 use tso_model::NoMemory;
@@ -11,17 +11,13 @@ pub const GREATEST: usize = u32::MAX as usize;
 /// Of an item with a value over the greatest.
 ///
 /// Errors: out of memory only.
-pub fn bad_number<'a>(alloc: Global, rest: &'a [u8]) -> Result<Words<'a>, NoMemory> {
+pub fn bad_number(alloc: Global, line: &mut Line, rest: &[u8]) -> Result<(), NoMemory> {
     let tokens = tokens_of(alloc, rest)?;
-    Ok(match first_over(&tokens.items) {
-        Some(digits) => listed(
-            Piece::Named(digits),
-            Piece::Text(" is over "),
-            Piece::Number(GREATEST),
-            Piece::Text(", the greatest value"),
-        ),
-        None => around("a value is at most ", Piece::Number(GREATEST), ""),
-    })
+    match first_over(&tokens.items) {
+        Some(digits) => line.say_of_number("{} is over {}, the greatest value", digits, GREATEST),
+        None => line.say_number("a value is at most {}", GREATEST),
+    }
+    Ok(())
 }
 
 /// The first number that is too great and names no core.

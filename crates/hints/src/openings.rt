@@ -1,16 +1,16 @@
 //! What is said of a fault before the rows of a test: in its header line, before its initial state or in that, and of what
 //! doesn't end.
 
-use crate::characters::{foreign_character, foreign_in};
-use crate::divider::missing_divider;
-use crate::faults::{COMMENT, CONNECTIVES, foreign_register};
+use crate::characters::{say_character, says_foreign};
+use crate::divider::{Asked, says_missing_divider};
+use crate::faults::{COMMENT, CONNECTIVES, DECIMAL, says_foreign_register};
+use crate::line::{Line, Piece};
 use crate::numbers::GREATEST;
 use crate::operands::percent;
 use crate::place::Place;
 use crate::quotes::{begins_with_letter, is_bare, up_to, word};
 use crate::reader::Reader;
-use crate::tables::{Alike, is_one_of, named_in, said_of_front};
-use crate::words::{Piece, Words, around, naming, plain, six};
+use crate::tables::{Alike, is_exactly_one_of, is_one_of, said_of, said_of_front};
 use tso_model::limits::MAX_NAME;
 use tso_model::names::{continues_name, is_location_name};
 
@@ -18,21 +18,21 @@ use tso_model::names::{continues_name, is_location_name};
 static HEADERS: [Alike; 4] = [
     Alike {
         words: &["X86"],
-        said: ": write X86, in capitals",
+        said: "{}: write X86, in capitals",
     },
     Alike {
         words: &["X86_64"],
-        said: " tests aren't read: tools/import turns them into X86 tests; if you do so by hand, begin with X86 and a name, and use EAX, EBX, ECX, EDX, ESI, EDI",
+        said: "{} tests aren't read: tools/import turns them into X86 tests; if you do so by hand, begin with X86 and a name, and use EAX, EBX, ECX, EDX, ESI, EDI",
     },
     Alike {
         words: &[
             "AArch64", "ARM", "PPC", "Power", "MIPS", "RISCV", "RISC-V", "S390", "Alpha", "SPARC",
         ],
-        said: " is another processor: a test begins with X86, a space and its name; tools/import turns an X86_64 test into an X86 test",
+        said: "{} is another processor: a test begins with X86, a space and its name; tools/import turns an X86_64 test into an X86 test",
     },
     Alike {
         words: &["C", "CPP", "C11", "LISA", "Bell", "LLVM", "JAVA", "ASL"],
-        said: " is a language: a test begins with X86, a space and its name; tools/import turns an X86_64 test into an X86 test",
+        said: "{} is a language: a test begins with X86, a space and its name; tools/import turns an X86_64 test into an X86 test",
     },
 ];
 
@@ -40,27 +40,27 @@ static HEADERS: [Alike; 4] = [
 static KEYWORDS: [Alike; 6] = [
     Alike {
         words: &["exist", "exists"],
-        said: " is no instruction: write exists",
+        said: "{} is no instruction: write exists",
     },
     Alike {
         words: &["forall"],
-        said: " is no instruction: write forall",
+        said: "{} is no instruction: write forall",
     },
     Alike {
         words: &["location", "locations"],
-        said: " is no instruction: write locations",
+        said: "{} is no instruction: write locations",
     },
     Alike {
         words: &["not"],
-        said: " exists isn't read: write ~exists",
+        said: "{} exists isn't read: write ~exists",
     },
     Alike {
         words: &["forbidden"],
-        said: " isn't read: write ~exists",
+        said: "{} isn't read: write ~exists",
     },
     Alike {
         words: &["filter", "final"],
-        said: " isn't read: a condition is exists, ~exists or forall",
+        said: "{} isn't read: a condition is exists, ~exists or forall",
     },
 ];
 
@@ -78,127 +78,25 @@ const TYPES: [&str; 10] = [
     "_Atomic",
 ];
 
-/// Of a header line.
-pub fn no_header<'a>(asked: Reader, place: Place<'a>) -> Words<'a> {
-    let rest = place.rest;
-    let word = word(rest);
-    if rest.is_empty() {
-        no_test(asked)
-    } else if rest.starts_with(b"\xef\xbb\xbf") {
-        plain("a byte order mark stands before X86: save the file without it")
-    } else if let Some(words) = foreign_in(up_to(rest, b'\n'), "a test's name is in ASCII") {
-        words
-    } else if word == b"X86".as_slice() {
-        plain("write a space and the test's name after X86, in printable ASCII")
-    } else if let Some(words) = named_in(&HEADERS, word) {
-        words
-    } else {
-        around(
-            "a test begins with X86, a space and its name, and not with ",
-            Piece::Named(word),
-            "",
-        )
-    }
-}
-
-/// Of an input without a test, for the command that reads it.
-fn no_test<'a>(asked: Reader) -> Words<'a> {
-    six([
-        Piece::Text("no test: give one on standard input, as in: tso "),
-        Piece::Text(asked.name()),
-        Piece::Text(" < FILE"),
-        Piece::Text(""),
-        Piece::Text(""),
-        Piece::Text(""),
-    ])
-}
-
-/// Of what doesn't end.
-pub fn unclosed<'a>(asked: Reader, is_divided: bool, place: Place<'a>) -> Words<'a> {
-    let rest = place.rest;
-    if rest.is_empty() {
-        plain(
-            "the test ends before its initial state: write { } between the first line and the row P0 | P1 ;",
-        )
-    } else if rest.starts_with(b"(*") {
-        plain("no *) ends the comment that begins here")
-    } else if rest.starts_with(b"\"") {
-        plain("no \" ends the quotation that begins here")
-    } else if rest.starts_with(b"{") {
-        plain("no } ends the initial state")
-    } else if rest.starts_with(b"[") {
-        plain("no ] ends locations [")
-    } else {
-        unclosed_row(asked, is_divided, place)
-    }
-}
-
-fn unclosed_row<'a>(asked: Reader, is_divided: bool, place: Place<'a>) -> Words<'a> {
-    let token = place.token();
-    if let Some(words) = named_in(&KEYWORDS, token) {
-        words
-    } else if let Some(words) = missing_divider(asked, is_divided, place.rest) {
-        words
-    } else {
-        around(
-            "no ; ends the row that begins with ",
-            Piece::Named(token),
-            "",
-        )
-    }
-}
-
-/// Of what begins no token, or stands where it can't before the initial state.
-pub fn bad_token<'a>(place: Place<'a>) -> Words<'a> {
-    let token = place.token();
-    if place.last_word() == b"locations".as_slice() {
-        return no_brackets(place);
-    }
-    if token.len() > MAX_NAME && !token.starts_with(b"0") && is_bare(token) {
-        return too_long_name(token);
-    }
-    match place.rest.first() {
-        Some(byte) if !begins_token(place.rest) => bad_byte(place, *byte),
-        _ => naming(
-            token,
-            " stands before the initial state { }: only \"..\", KEY=.. and comments may stand there",
-        ),
-    }
-}
-
-fn too_long_name<'a>(name: &'a [u8]) -> Words<'a> {
-    six([
-        Piece::Named(name),
-        Piece::Text(" has "),
-        Piece::Number(name.len()),
-        Piece::Text(" bytes: a name has at most "),
-        Piece::Number(MAX_NAME),
-        Piece::Text(""),
-    ])
-}
-
-fn no_brackets<'a>(place: Place<'a>) -> Words<'a> {
-    if place.rest.is_empty() {
-        return plain("write [ .. ] after locations: the test ends here");
-    }
-    around(
-        "write [ .. ] after locations, in front of ",
-        Piece::Named(place.token()),
-        "",
-    )
-}
-
-fn begins_token(text: &[u8]) -> bool {
-    match text.first() {
-        Some(first) => {
-            continues_name(*first)
-                || b"=;:[]{}|,$~()".contains(first)
-                || text.starts_with(b"/\\")
-                || text.starts_with(b"\\/")
-        }
-        None => false,
-    }
-}
+/// What has no end, by what it begins with.
+static OPENERS: [Alike; 4] = [
+    Alike {
+        words: &["(*"],
+        said: "no *) ends the comment that begins here",
+    },
+    Alike {
+        words: &["\""],
+        said: "no \" ends the quotation that begins here",
+    },
+    Alike {
+        words: &["{"],
+        said: "no } ends the initial state",
+    },
+    Alike {
+        words: &["["],
+        said: "no ] ends locations [",
+    },
+];
 
 /// What begins no token, and what is meant by it.
 static SIGNS: [Alike; 3] = [
@@ -216,57 +114,141 @@ static SIGNS: [Alike; 3] = [
     },
 ];
 
-fn bad_byte<'a>(place: Place<'a>, byte: u8) -> Words<'a> {
-    match said_of_front(&SIGNS, place.rest) {
-        Some(said) => plain(said),
-        None => other_byte(place, byte),
+/// Of a header line.
+pub fn no_header(line: &mut Line, asked: Reader, place: Place<'_>) {
+    let rest = place.rest;
+    if rest.is_empty() {
+        line.say_with(
+            "no test: give one on standard input, as in: tso {} < FILE",
+            &[Piece::Text(asked.name())],
+        );
+    } else if rest.starts_with(b"\xef\xbb\xbf") {
+        line.say("a byte order mark stands before X86: save the file without it");
+    } else if !says_foreign(line, up_to(rest, b'\n'), "a test's name is in ASCII") {
+        other_header(line, word(rest));
     }
 }
 
-fn other_byte<'a>(place: Place<'a>, byte: u8) -> Words<'a> {
-    match byte {
-        b'-' => around(
-            "a number has no sign: values are 0 to ",
-            Piece::Number(GREATEST),
-            "",
+/// Of a header line whose first word is this.
+fn other_header(line: &mut Line, word: &[u8]) {
+    let sentence = if is_exactly_one_of(&["X86"], word) {
+        "write a space and the test's name after X86, in printable ASCII"
+    } else {
+        said_of(&HEADERS, word).unwrap_or(
+            "a test begins with X86, a space and its name, and not with {}",
+        )
+    };
+    line.say_of(sentence, word);
+}
+
+/// Of what doesn't end.
+pub fn unclosed(line: &mut Line, asked: Asked, place: Place<'_>) {
+    let token = place.token();
+    if place.rest.is_empty() {
+        line.say(
+            "the test ends before its initial state: write { } between the first line and the row P0 | P1 ;",
+        );
+    } else if let Some(said) = said_of_front(&OPENERS, place.rest) {
+        line.say(said);
+    } else if let Some(said) = said_of(&KEYWORDS, token) {
+        line.say_of(said, token);
+    } else if !says_missing_divider(line, asked, place.rest) {
+        line.say_of("no ; ends the row that begins with {}", token);
+    }
+}
+
+/// Of what begins no token, or stands where it can't before the initial state.
+pub fn bad_token(line: &mut Line, place: Place<'_>) {
+    let token = place.token();
+    if is_exactly_one_of(&["locations"], place.last_word()) {
+        return no_brackets(line, token);
+    }
+    if token.len() > MAX_NAME && !token.starts_with(b"0") && is_bare(token) {
+        return line.say_with(
+            "{} has {} bytes: a name has at most {}",
+            &[
+                Piece::Named(token),
+                Piece::Number(token.len()),
+                Piece::Number(MAX_NAME),
+            ],
+        );
+    }
+    match place.rest.first() {
+        Some(byte) if !begins_token(place.rest) => bad_byte(line, place, *byte),
+        _ => line.say_of(
+            "{} stands before the initial state { }: only \"..\", KEY=.. and comments may stand there",
+            token,
         ),
-        b'#' if place.last_word() == b",".as_slice() => {
-            plain("a value is written with $: MOV [x],$1")
+    }
+}
+
+/// Of `locations`, after which this token stands, or none.
+fn no_brackets(line: &mut Line, token: &[u8]) {
+    let sentence = if token.is_empty() {
+        "write [ .. ] after locations: the test ends here"
+    } else {
+        "write [ .. ] after locations, in front of {}"
+    };
+    line.say_of(sentence, token);
+}
+
+fn begins_token(text: &[u8]) -> bool {
+    match text.first() {
+        Some(first) => {
+            continues_name(*first)
+                || b"=;:[]{}|,$~()".contains(first)
+                || text.starts_with(b"/\\")
+                || text.starts_with(b"\\/")
         }
-        b'#' => plain(COMMENT),
-        b'%' => percent(place),
-        b'&' | b'!' | b'/' | b'\\' | b'<' | b'>' => naming(place.token(), CONNECTIVES),
-        b'!'..=b'~' => naming(place.token(), " can't stand here"),
-        _ => foreign_character(place, byte),
+        None => false,
+    }
+}
+
+fn bad_byte(line: &mut Line, place: Place<'_>, byte: u8) {
+    match said_of_front(&SIGNS, place.rest) {
+        Some(said) => line.say(said),
+        None => other_byte(line, place, byte),
+    }
+}
+
+fn other_byte(line: &mut Line, place: Place<'_>, byte: u8) {
+    match byte {
+        b'-' => line.say_number("a number has no sign: values are 0 to {}", GREATEST),
+        b'#' if is_exactly_one_of(&[","], place.last_word()) => {
+            line.say("a value is written with $: MOV [x],$1");
+        }
+        b'#' => line.say(COMMENT),
+        b'%' => percent(line, place.cell()),
+        b'&' | b'!' | b'/' | b'\\' | b'<' | b'>' => line.say_of(CONNECTIVES, place.token()),
+        b'!'..=b'~' => line.say_of("{} can't stand here", place.token()),
+        _ => say_character(line, place, byte),
     }
 }
 
 /// Of an item of the initial state.
-pub fn bad_init<'a>(place: Place<'a>) -> Words<'a> {
-    let token = place.token();
+pub fn bad_init(line: &mut Line, place: Place<'_>) {
     let last = place.last_word();
     if place.is_hexadecimal() {
-        return naming(place.with_last_byte(), ": numbers are decimal");
-    }
-    if is_type(last) {
-        return naming(
+        line.say_of(DECIMAL, place.with_last_byte());
+    } else if is_type(last) {
+        line.say_of(
+            "{} is a type, and items have no types here: leave it out; if the item has no value, leave out the whole item, since 0 is its value",
             last,
-            " is a type, and items have no types here: leave it out; if the item has no value, leave out the whole item, since 0 is its value",
         );
+    } else if !says_foreign_register(line, place) {
+        let is_value = is_exactly_one_of(&["="], last);
+        unfit_item(line, is_value, place.token());
     }
-    if let Some(words) = foreign_register(place) {
-        return words;
-    }
-    if last == b"=".as_slice() && begins_with_letter(token) {
-        return naming(
-            token,
-            " is no number, and no register can hold an address here: write the location's name in the instruction, as [x]; tools/import turns such a test into this form",
-        );
-    }
-    naming(
-        token,
-        " doesn't fit: an item is x=1, [x]=1 or 0:EAX=1, and ; stands between items",
-    )
+}
+
+/// Of a token that doesn't fit in an item, where a value stands or elsewhere.
+fn unfit_item(line: &mut Line, is_value: bool, token: &[u8]) {
+    let sentence = if is_value && begins_with_letter(token) {
+        "{} is no number, and no register can hold an address here: write the location's name in the instruction, as [x]; tools/import turns such a test into this form"
+    } else {
+        "{} doesn't fit: an item is x=1, [x]=1 or 0:EAX=1, and ; stands between items"
+    };
+    line.say_of(sentence, token);
 }
 
 fn is_type(word: &[u8]) -> bool {

@@ -1,20 +1,19 @@
 //! AT&T's order of operands, source first. Here the destination stands first, so a hint on one sign of that order alone would
 //! turn a load into a store: each such hint tells of the order.
 
-use crate::place::Place;
+use crate::line::Line;
 use crate::quotes::after_byte;
-use crate::words::{Words, naming, plain};
 use litmus_tokens::{Lexeme, Symbol, Token};
 
 const SOURCE_FIRST: &str =
-    " is AT&T's order, source first; here the destination stands first, as in MOV EAX,[y]: tools/import turns it round";
+    "{} is AT&T's order, source first; here the destination stands first, as in MOV EAX,[y]: tools/import turns it round";
 
 /// Signs of AT&T's order stand beside a register or a location as they are written here.
 const BOTH_ORDERS: &str =
-    " mixes two orders of operands: AT&T's has the source first; here the destination stands first, as in the load MOV EAX,[y]";
+    "{} mixes two orders of operands: AT&T's has the source first; here the destination stands first, as in the load MOV EAX,[y]";
 
 const IN_REGISTER: &str =
-    " takes an address from a register, and no register can hold one here: write the location's name, as in [x]";
+    "{} takes an address from a register, and no register can hold one here: write the location's name, as in [x]";
 
 /// Of two operands in AT&T's order, as far as their tokens tell, which have no `%`: a number with `$` stands first, or one
 /// of them stands in `( )`.
@@ -41,18 +40,18 @@ pub fn source_first(operands: &[Token<'_>]) -> Option<&'static str> {
     }
 }
 
-/// Of a `%` before a register: in a cell with two operands it is a sign of AT&T's order.
-pub fn percent<'a>(place: Place<'a>) -> Words<'a> {
-    let cell = place.cell();
-    if !cell.contains(&b',') {
-        plain("a register is written without %: EAX")
+/// Of a `%` before a register of this cell: with two operands it is a sign of AT&T's order.
+pub fn percent(line: &mut Line, cell: &[u8]) {
+    let sentence = if !cell.contains(&b',') {
+        "a register is written without %: EAX"
     } else if cell.contains(&b'[') {
-        naming(cell, BOTH_ORDERS)
+        BOTH_ORDERS
     } else if has_address(cell) {
-        naming(cell, IN_REGISTER)
+        IN_REGISTER
     } else {
-        naming(cell, SOURCE_FIRST)
-    }
+        SOURCE_FIRST
+    };
+    line.say_of(sentence, cell);
 }
 
 /// Whether `%` follows the first `(`.

@@ -1,56 +1,47 @@
 //! What is said of orders: the line at fault, and what an order's text needs there.
 
-use crate::characters::foreign_in;
-use crate::printing::Where;
-use crate::quotes::{after_byte, is_all_digits, is_choice, up_to, word};
-use crate::words::{Piece, Words, around, listed, naming, plain};
+use crate::characters::says_foreign;
+use crate::hinting::NOTHING_KNOWN;
+use crate::line::Line;
+use crate::quotes::{after_byte, first_word, is_all_digits, is_choice, up_to};
+use crate::tables::is_exactly_one_of;
+use crate::unused::location_named;
 use litmus_tokens::word as word_value;
 use order_builder::OrderFault;
-use tso_model::{Loc, NoMemory, Test};
+use tso_model::Test;
 
-/// The place and the words of a fault in an order; of a line, with which `from_line` begins, whether it has
-/// a location that the test hasn't.
-///
-/// Errors: out of memory only.
-pub fn order_words<'a>(
+/// Says what is at fault in an order; of a line, with which `from_line` begins, whether it has a location that the test
+/// hasn't.
+pub fn say_order(
+    line: &mut Line,
     unknown_location: bool,
-    text: &'a [u8],
-    from_line: &'a [u8],
+    text: &[u8],
+    from_line: &[u8],
     fault: OrderFault,
-) -> Result<(Where, Words<'a>), NoMemory> {
+) {
     match fault {
-        OrderFault::NoOrder => Ok((Where::Input, no_order(text))),
-        OrderFault::BadLine(number) => Ok((
-            Where::LineAfter(number),
-            bad_line(unknown_location, first_line(from_line)),
-        )),
-        OrderFault::BadCount => Ok(bad_count(text)),
-        OrderFault::NoMemory => Err(NoMemory),
+        OrderFault::NoOrder => no_order(line, first_word(text)),
+        OrderFault::BadLine(number) => {
+            line.say_number("line {} after ====: ", number);
+            bad_line(line, unknown_location, first_line(from_line));
+        }
+        OrderFault::BadCount => bad_count(line, text),
+        OrderFault::NoMemory => line.say(NOTHING_KNOWN),
     }
 }
 
-fn no_order<'a>(text: &'a [u8]) -> Words<'a> {
-    let word = first_word(text);
-    if word.is_empty() {
-        plain("no order: give one after a line ====, as run prints it; --help says more")
+/// Of a text whose first word is this.
+fn no_order(line: &mut Line, word: &[u8]) {
+    let sentence = if word.is_empty() {
+        "no order: give one after a line ====, as run prints it; --help says more"
     } else if word.starts_with(b"{") {
-        plain("no line is Order: give the report that run prints without --json")
+        "no line is Order: give the report that run prints without --json"
     } else if is_choice(word) {
-        around(
-            "no line is Order: ",
-            Piece::Named(word),
-            " is a choice; check and witness read an order, as run prints it",
-        )
+        "no line is Order: {} is a choice; check and witness read an order, as run prints it"
     } else {
-        plain(
-            "no line is Order: an order begins with this line and ends with a line Endorder n, as run prints it",
-        )
-    }
-}
-
-/// The first word of a text, or no bytes.
-pub fn first_word(text: &[u8]) -> &[u8] {
-    word(text.trim_ascii_start())
+        "no line is Order: an order begins with this line and ends with a line Endorder n, as run prints it"
+    };
+    line.say_of(sentence, word);
 }
 
 /// A line without a carriage return at its end.
@@ -76,52 +67,45 @@ pub fn from_line_at_fault(text: &[u8], fault: OrderFault) -> &[u8] {
 
 /// What stands from the line of this number on, from 1.
 fn from_line(text: &[u8], number: usize) -> &[u8] {
-    if number <= 1 {
-        return text;
-    }
-    let mut line = 1usize;
-    for at in 0..text.len() {
-        if text[at] == b'\n' {
-            line = line.saturating_add(1);
-            if line == number {
-                return &text[at + 1..];
-            }
+    let mut rest = text;
+    for _ in 1..number {
+        match after_byte(rest, b'\n') {
+            Some(after) => rest = after,
+            None => return &[],
         }
     }
-    &[]
+    rest
 }
 
-fn bad_line<'a>(unknown_location: bool, line: &'a [u8]) -> Words<'a> {
-    if line.is_empty() {
-        return plain("an empty line stands in the order");
+fn bad_line(line: &mut Line, unknown_location: bool, entry: &[u8]) {
+    if entry.is_empty() {
+        line.say("an empty line stands in the order");
+    } else if !says_foreign(line, entry, "an order, as run prints it, is in ASCII") {
+        bad_entry(line, unknown_location, entry);
     }
-    if let Some(words) = foreign_in(line, "an order, as run prints it, is in ASCII") {
-        return words;
-    }
-    if line.starts_with(b"Endorder") {
-        return naming(
-            line,
-            ": the order ends with Endorder, one space and the number of entries",
+}
+
+fn bad_entry(line: &mut Line, unknown_location: bool, entry: &[u8]) {
+    if entry.starts_with(b"Endorder") {
+        line.say_of(
+            "{}: the order ends with Endorder, one space and the number of entries",
+            entry,
         );
-    }
-    if let Some(number) = number_out_of_range(line) {
-        return naming(number, ": a core and a place are numbers from 0 to 255");
-    }
-    match location_in(line) {
-        Some(name) if unknown_location => naming(name, " is no location of the test"),
-        _ => naming(
-            line,
-            " is no entry: P0:1 R x=0 with R, W, LR or LW, or P0:1 F",
-        ),
+    } else if let Some(number) = number_out_of_range(entry) {
+        line.say_of("{}: a core and a place are numbers from 0 to 255", number);
+    } else if unknown_location && let Some(name) = location_in(entry) {
+        line.say_of("{} is no location of the test", name);
+    } else {
+        line.say_of(
+            "{} is no entry: P0:1 R x=0 with R, W, LR or LW, or P0:1 F",
+            entry,
+        );
     }
 }
 
 /// The core or the place of an entry that is over 255.
-fn number_out_of_range(line: &[u8]) -> Option<&[u8]> {
-    let (first, digits) = line.split_first()?;
-    if *first != b'P' {
-        return None;
-    }
+fn number_out_of_range(entry: &[u8]) -> Option<&[u8]> {
+    let digits = entry.strip_prefix(b"P")?;
     let core = up_to(digits, b':');
     let place = up_to(after_byte(digits, b':')?, b' ');
     if is_over_a_byte(core) {
@@ -142,9 +126,8 @@ fn is_over_a_byte(digits: &[u8]) -> bool {
 }
 
 /// What stands before `=` in the third of three pieces, which one space separates.
-fn location_in(line: &[u8]) -> Option<&[u8]> {
-    let after_place = after_byte(line, b' ')?;
-    let access = after_byte(after_place, b' ')?;
+fn location_in(entry: &[u8]) -> Option<&[u8]> {
+    let access = after_byte(after_byte(entry, b' ')?, b' ')?;
     if access.contains(&b' ') || !access.contains(&b'=') {
         return None;
     }
@@ -154,54 +137,37 @@ fn location_in(line: &[u8]) -> Option<&[u8]> {
 /// Whether the line with which a text begins has a location that the test hasn't.
 pub fn names_no_location(test: &Test, text: &[u8]) -> bool {
     match location_in(first_line(text)) {
-        Some(name) => !is_location(test, name),
+        Some(name) => location_named(test, name).is_none(),
         None => false,
     }
 }
 
-fn is_location(test: &Test, name: &[u8]) -> bool {
-    for loc in 0..test.locations() {
-        if test.location_name(Loc(loc)).as_bytes() == name {
-            return true;
-        }
-    }
-    false
-}
-
-/// The place and the words for an order whose end is missing, or counts other entries.
-fn bad_count<'a>(text: &'a [u8]) -> (Where, Words<'a>) {
-    let mut number = 0usize;
+/// Says of an order that its end is missing, or counts other entries.
+fn bad_count(line: &mut Line, text: &[u8]) {
+    let mut rest = text;
     let mut start = 0usize;
-    for line in text.split(|byte| *byte == b'\n') {
-        number = number.saturating_add(1);
-        if start == 0 {
-            if without_return(line) == b"Order".as_slice() {
-                start = number;
-            }
-        } else if line.starts_with(b"Endorder ") {
-            return (
-                Where::LineAfter(number),
-                counted(
-                    without_return(line),
-                    number.saturating_sub(start).saturating_sub(1),
-                ),
-            );
+    for at in 0..text.len() {
+        let entry = first_line(rest);
+        if start == 0 && is_exactly_one_of(&["Order"], entry) {
+            start = at + 1;
+        } else if start > 0 && entry.starts_with(b"Endorder ") {
+            return counted(line, at + 1, entry, at.saturating_sub(start));
+        }
+        match after_byte(rest, b'\n') {
+            Some(after) => rest = after,
+            None => break,
         }
     }
-    (
-        Where::Input,
-        plain("no line Endorder n ends the order, where n is the number of its entries"),
-    )
+    line.say("no line Endorder n ends the order, where n is the number of its entries");
 }
 
-fn counted<'a>(line: &'a [u8], entries: usize) -> Words<'a> {
-    if entries == 1 {
-        return naming(line, " ends an order of 1 entry");
-    }
-    listed(
-        Piece::Named(line),
-        Piece::Text(" ends an order of "),
-        Piece::Number(entries),
-        Piece::Text(" entries"),
-    )
+/// Of the line of this number, which ends an order of so many entries.
+fn counted(line: &mut Line, number: usize, end: &[u8], entries: usize) {
+    let sentence = if entries == 1 {
+        "{} ends an order of 1 entry"
+    } else {
+        "{} ends an order of {} entries"
+    };
+    line.say_number("line {} after ====: ", number);
+    line.say_of_number(sentence, end, entries);
 }

@@ -28,37 +28,37 @@ pub fn limit_at(alloc: Global, place: Place<'_>) -> Result<Limit, NoMemory> {
     let body = body_of(place.before);
     let tokens = tokens_of(alloc, body)?;
     let ending = tokens_of(alloc, ending_of(body, &tokens))?;
-    Ok(if !ending.items.is_empty() {
-        limit_in_condition(&ending.items)
-    } else {
-        match after_initial_state(&tokens.items) {
-            Some(rows) => limit_in_rows(rows),
-            None => Limit::Locations,
-        }
-    })
+    Ok(limit_after(&tokens.items, &ending.items))
 }
 
-/// What stands after the `}` of the initial state.
-fn after_initial_state<'a, 'b>(tokens: &'b [Token<'a>]) -> Option<&'b [Token<'a>]> {
-    let end = place_of(Symbol::CloseCurly, tokens)?;
-    let (_, rest) = tokens.split_at(end.saturating_add(1).min(tokens.len()));
-    Some(rest)
+/// The limit that what stands after these tokens passes; the last of them are those of the condition, if it has begun.
+fn limit_after(tokens: &[Token<'_>], ending: &[Token<'_>]) -> Limit {
+    if !ending.is_empty() {
+        return limit_in_condition(ending);
+    }
+    match after_first(Symbol::CloseCurly, tokens) {
+        Some(rows) => limit_in_rows(rows),
+        None => Limit::Locations,
+    }
 }
 
-/// How many tokens stand before the first of this symbol.
-fn place_of(symbol: Symbol, tokens: &[Token<'_>]) -> Option<usize> {
-    let mut place = 0usize;
-    for token in tokens {
-        if is_symbol(symbol, token) {
-            return Some(place);
+/// What stands after the first of this symbol.
+fn after_first<'a, 'b>(symbol: Symbol, tokens: &'b [Token<'a>]) -> Option<&'b [Token<'a>]> {
+    for at in 0..tokens.len() {
+        if is_symbol(symbol, &tokens[at]) {
+            return Some(&tokens[at + 1..]);
         }
-        place = place.saturating_add(1);
     }
     None
 }
 
 fn limit_in_condition(tokens: &[Token<'_>]) -> Limit {
-    let atoms = tokens.iter().filter(|token| is_of_atom(token)).count();
+    let mut atoms = 0usize;
+    for token in tokens {
+        if is_of_atom(token) {
+            atoms = atoms.saturating_add(1);
+        }
+    }
     if atoms >= MAX_ATOMS {
         Limit::Atoms
     } else {
@@ -73,7 +73,7 @@ fn is_of_atom(token: &Token<'_>) -> bool {
 
 /// The limit that what stands after these tokens of rows passes; the first row is that of the cores.
 fn limit_in_rows(tokens: &[Token<'_>]) -> Limit {
-    if place_of(Symbol::Semicolon, tokens).is_none() {
+    if after_first(Symbol::Semicolon, tokens).is_none() {
         Limit::Cores
     } else if cells_above(tokens, bars_at_end(tokens)) >= MAX_INSTRUCTIONS {
         Limit::Instructions

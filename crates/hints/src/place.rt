@@ -4,6 +4,7 @@ use crate::quotes::{
     after_last, begins_with_letter, digits_and_letters, first_bytes, last_bytes, last_word, token,
     up_to_any,
 };
+use crate::tables::is_exactly_one_of;
 use litmus_tokens::line_of;
 
 /// What ends a cell of a row, or what stands before rows.
@@ -98,6 +99,6 @@ impl<'a> Place<'a> {
 
     /// Whether a letter follows a colon there, as that of a register does.
     pub fn is_register(self) -> bool {
-        self.last_word() == b":".as_slice() && begins_with_letter(self.rest)
+        is_exactly_one_of(&[":"], self.last_word()) && begins_with_letter(self.rest)
     }
 }

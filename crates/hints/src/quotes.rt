@@ -1,6 +1,7 @@
 //! What stands at a place of a text: the bytes that a hint names. They go by white space and names alone, since the text
 //! may be none that a lexer takes.
 
+use crate::tables::is_exactly_one_of;
 use tso_model::names::continues_name;
 
 /// White space.
@@ -50,25 +51,36 @@ fn token_len(text: &[u8]) -> usize {
 
 /// The digits at the front.
 fn digits(text: &[u8]) -> &[u8] {
-    first_bytes(
-        text,
-        text.iter().take_while(|byte| byte.is_ascii_digit()).count(),
-    )
+    let mut count = 0usize;
+    for byte in text {
+        if !byte.is_ascii_digit() {
+            break;
+        }
+        count = count.saturating_add(1);
+    }
+    first_bytes(text, count)
 }
 
 /// The letters, digits and underscores at the front.
 pub fn digits_and_letters(text: &[u8]) -> &[u8] {
-    first_bytes(
-        text,
-        text.iter()
-            .take_while(|byte| continues_name(**byte))
-            .count(),
-    )
+    let mut count = 0usize;
+    for byte in text {
+        if !continues_name(*byte) {
+            break;
+        }
+        count = count.saturating_add(1);
+    }
+    first_bytes(text, count)
 }
 
 /// What stands before the next white space.
 pub fn word(text: &[u8]) -> &[u8] {
     up_to_any(text, SPACES)
+}
+
+/// The first word of a text, or no bytes.
+pub fn first_word(text: &[u8]) -> &[u8] {
+    word(text.trim_ascii_start())
 }
 
 /// What stands before the first such byte, or all where there is none.
@@ -111,11 +123,14 @@ pub fn after_byte(text: &[u8], byte: u8) -> Option<&[u8]> {
 /// The letters, digits and underscores that a text ends with, white space aside; or else its last byte.
 pub fn last_word(text: &[u8]) -> &[u8] {
     let text = text.trim_ascii_end();
-    let count = text
-        .iter()
-        .rev()
-        .take_while(|byte| continues_name(**byte))
-        .count();
+    let mut count = 0usize;
+    for byte in text {
+        count = if continues_name(*byte) {
+            count.saturating_add(1)
+        } else {
+            0
+        };
+    }
     last_bytes(text, count.max(1))
 }
 
@@ -129,11 +144,8 @@ pub fn begins_with_letter(text: &[u8]) -> bool {
 
 /// Whether a word is a choice of one core, or begins those of a seed.
 pub fn is_choice(word: &[u8]) -> bool {
-    if word == b"seed".as_slice() {
-        return true;
-    }
     match word.split_last() {
-        Some((last, digits)) => matches!(last, b's' | b'd') && is_all_digits(digits),
-        None => false,
+        Some((b's' | b'd', digits)) => is_all_digits(digits) || is_exactly_one_of(&["seed"], word),
+        _ => false,
     }
 }

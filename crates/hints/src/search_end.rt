@@ -5,7 +5,7 @@ ghost use Rattle.std.specs.Prelude.{◌≡◌, ◌⊎◌, [], IfOk, string_bytes
 ghost use Rattle.hints.specs.Hint.{IsRunsLine, longest_runs_line};
 
 use crate::cause::Cause;
-use crate::words::{Piece, Words, eight};
+use crate::line::{Line, Piece};
 use scheduler::choices_text;
 use std::alloc::Global;
 use tso_model::{Choice, NoMemory};
@@ -44,26 +44,26 @@ pub struct SearchEnd {
     pub sighting: Sighting,
 }
 
-/// The words of a hint about a search that ended at its limit.
-pub fn search_ends<'a>(end: &SearchEnd) -> Words<'a> {
-    eight([
-        Piece::Text("the machine can reach more than "),
-        Piece::Number(end.most as usize),
-        Piece::Text(limit_words(end.is_raisable, end.is_buffered)),
-        Piece::Text(condition_words(&end.sighting)),
-        Piece::Text("; "),
-        number_met(end.finals),
-        unit_of_finals(end.finals),
-        Piece::Text(sighting_words(end.finals, &end.sighting)),
-    ])
+/// Of a search that ended at its limit.
+pub fn search_ends(line: &mut Line, end: &SearchEnd) {
+    line.say_with(
+        "the machine can reach more than {} states, {}{}; {} final {}",
+        &[
+            Piece::Number(end.most as usize),
+            Piece::Text(limit_words(end.is_raisable, end.is_buffered)),
+            Piece::Text(condition_words(&end.sighting)),
+            number_met(end.finals),
+            Piece::Text(met_words(end.finals, &end.sighting)),
+        ],
+    );
 }
 
 fn limit_words(is_raisable: bool, is_buffered: bool) -> &'static str {
     match (is_raisable, is_buffered) {
-        (true, true) => " states, the limit of --states: raise it, lower --depth, or ",
-        (true, false) => " states, the limit of --states: raise it, or ",
-        (false, true) => " states, the most that --states allows: lower --depth, or ",
-        (false, false) => " states, the most that --states allows: ",
+        (true, true) => "the limit of --states: raise it, lower --depth, or ",
+        (true, false) => "the limit of --states: raise it, or ",
+        (false, true) => "the most that --states allows: lower --depth, or ",
+        (false, false) => "the most that --states allows: ",
     }
 }
 
@@ -83,27 +83,15 @@ fn number_met<'a>(finals: usize) -> Piece<'a> {
     }
 }
 
-fn unit_of_finals<'a>(finals: usize) -> Piece<'a> {
-    match finals {
-        0 | 1 => Piece::Text(" final state was met"),
-        _ => Piece::Text(" final states were met"),
-    }
-}
-
-fn sighting_words(finals: usize, sighting: &Sighting) -> &'static str {
-    match sighting {
-        Sighting::NoCondition => "",
-        Sighting::None => unmet_words(finals),
-        Sighting::Met(_) if finals == 1 => ", which makes the proposition true",
-        Sighting::Met(_) => ", one of which makes the proposition true",
-    }
-}
-
-fn unmet_words(finals: usize) -> &'static str {
-    match finals {
-        0 => "",
-        1 => ", which makes the proposition false",
-        _ => ", none of which makes the proposition true",
+/// Of so many final states, whether one of them was looked for.
+fn met_words(finals: usize, sighting: &Sighting) -> &'static str {
+    match (finals, sighting) {
+        (0, _) | (1, Sighting::NoCondition) => "state was met",
+        (1, Sighting::None) => "state was met, which makes the proposition false",
+        (1, Sighting::Met(_)) => "state was met, which makes the proposition true",
+        (_, Sighting::NoCondition) => "states were met",
+        (_, Sighting::None) => "states were met, none of which makes the proposition true",
+        (_, Sighting::Met(_)) => "states were met, one of which makes the proposition true",
     }
 }
 

@@ -2,9 +2,8 @@
 //! of them.
 
 use crate::quotes::first_bytes;
-use crate::words::{Words, naming};
 
-/// Words that are alike, and what is said of one of them.
+/// Words that are alike, and what is said of one of them: a sentence, in whose gap that word stands.
 pub struct Alike {
     pub words: &'static [&'static str],
     pub said: &'static str,
@@ -18,12 +17,6 @@ pub fn said_of(table: &[Alike], word: &[u8]) -> Option<&'static str> {
         }
     }
     None
-}
-
-/// A word, and what a table says of it, if that is one of its words.
-pub fn named_in<'a>(table: &[Alike], word: &'a [u8]) -> Option<Words<'a>> {
-    let said = said_of(table, word)?;
-    Some(naming(word, said))
 }
 
 /// What a table says of the first of its words with which a text begins. Capitals and small letters count as one.
@@ -40,6 +33,16 @@ pub fn said_of_front(table: &[Alike], text: &[u8]) -> Option<&'static str> {
 pub fn is_one_of(words: &[&str], word: &[u8]) -> bool {
     for one in words {
         if one.as_bytes().eq_ignore_ascii_case(word) {
+            return true;
+        }
+    }
+    false
+}
+
+/// Whether a word is one of these, to the letter.
+pub fn is_exactly_one_of(words: &[&str], word: &[u8]) -> bool {
+    for one in words {
+        if one.as_bytes() == word {
             return true;
         }
     }

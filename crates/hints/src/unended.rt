@@ -1,60 +1,41 @@
 //! What is said of a run or a search that didn't end, and of a sweep that saw too little: what to ask for instead. A sweep
 //! that never saw a state doesn't show that there is none.
 
-use crate::orders::first_word;
-use crate::words::{Piece, Words, around, eight, plain};
+use crate::line::{Line, Piece};
+use crate::quotes::first_word;
 use scheduler::Stalls;
-use tso_model::{Core, Instr, Test};
+use tso_model::{Choice, Core, Instr, Stall, Test};
 
 /// Maximum number of seeds of a sweep.
 const MOST_SEEDS: u32 = 1000;
 
 /// Of a sweep whose seeds make so many choices: not all of its runs ended, or none.
-pub fn sweep_ends<'a>(length: u32, none_ended: bool) -> Words<'a> {
-    let opening = if none_ended {
-        "no run ended, so nothing was seen: raise --length, which is "
+pub fn sweep_ends(line: &mut Line, length: u32, none_ended: bool) {
+    let sentence = if none_ended {
+        "no run ended, so nothing was seen: raise --length, which is {}"
     } else {
-        "some runs didn't end: raise --length, which is "
+        "some runs didn't end: raise --length, which is {}"
     };
-    around(opening, Piece::Number(length as usize), "")
+    line.say_number(sentence, length as usize);
 }
 
 /// Of a sweep of so many runs at this depth, in none of which the condition's proposition was true.
-pub fn never_seen<'a>(runs: u32, depth: u8) -> Words<'a> {
-    eight([
-        Piece::Text("Never tells of "),
-        Piece::Number(runs as usize),
-        unit_of_runs(runs),
-        more_seeds(runs),
-        Piece::Text(" outcomes --depth "),
-        Piece::Number(usize::from(depth)),
-        Piece::Text(" tells of all runs"),
-        Piece::Text(""),
-    ])
-}
-
-fn unit_of_runs<'a>(runs: u32) -> Piece<'a> {
-    match runs {
-        1 => Piece::Text(" run only:"),
-        _ => Piece::Text(" runs only:"),
-    }
-}
-
-fn more_seeds<'a>(runs: u32) -> Piece<'a> {
-    if runs < MOST_SEEDS {
-        Piece::Text(" more seeds (--seeds 1000) take milliseconds, and")
+pub fn never_seen(line: &mut Line, runs: u32, depth: u8) {
+    let sentence = if runs < MOST_SEEDS {
+        "Never tells of {} only: more seeds (--seeds 1000) take milliseconds, and outcomes --depth {} tells of all runs"
     } else {
-        Piece::Text("")
-    }
+        "Never tells of {} only: outcomes --depth {} tells of all runs"
+    };
+    let runs = Piece::Count(runs as usize, "run");
+    line.say_with(sentence, &[runs, Piece::Number(usize::from(depth))]);
 }
 
 /// Of a search that may tell no more than so many cases apart.
-pub fn cases_end<'a>(most: u32) -> Words<'a> {
-    around(
-        "there are more cases to tell apart than ",
-        Piece::Number(most as usize),
-        ", the limit of --cases: raise it, or use outcomes",
-    )
+pub fn cases_end(line: &mut Line, most: u32) {
+    line.say_number(
+        "there are more cases to tell apart than {}, the limit of --cases: raise it, or use outcomes",
+        most as usize,
+    );
 }
 
 /// Whether nothing but white space stands where choices may.
@@ -63,52 +44,58 @@ pub fn has_no_choices(choices: &[u8]) -> bool {
 }
 
 /// Of a run without choices.
-pub fn no_choices<'a>() -> Words<'a> {
-    plain("no choices: give some after a line ====, or use sweep or outcomes, which take none")
+pub fn no_choices(line: &mut Line) {
+    line.say("no choices: give some after a line ====, or use sweep or outcomes, which take none");
 }
 
 /// Of a run under choices that are too few, of which these stalled, of a test that takes at least so many steps and
 /// drains.
-pub fn choices_end<'a>(steps: usize, drains: usize, stalls: Stalls) -> Words<'a> {
-    let opening = Piece::Text("the choices end before the test, which takes at least ");
-    let number = Piece::Number(steps);
-    let unit = unit_of_steps(steps);
-    let joint = joint(drains);
-    let second = number_of_drains(drains);
-    let closing = closing(drains);
-    let stalled = Piece::Stalled(stalls);
-    let nothing = Piece::Text("");
-    eight([
-        opening, number, unit, joint, second, closing, stalled, nothing,
-    ])
-}
-
-fn unit_of_steps<'a>(steps: usize) -> Piece<'a> {
-    match steps {
-        1 => Piece::Text(" step"),
-        _ => Piece::Text(" steps"),
+pub fn choices_end(line: &mut Line, steps: usize, drains: usize, stalls: &Stalls) {
+    let sentence = if drains == 0 {
+        "the choices end before the test, which takes at least {}: give more, or seed 1 1000 after them"
+    } else {
+        "the choices end before the test, which takes at least {} and {}: give more, or seed 1 1000 after them"
+    };
+    line.say_with(
+        sentence,
+        &[Piece::Count(steps, "step"), Piece::Count(drains, "drain")],
+    );
+    if stalls.count() > 0 {
+        choices_stalled(line, stalls);
     }
 }
 
-fn joint<'a>(drains: usize) -> Piece<'a> {
-    match drains {
-        0 => Piece::Text(""),
-        _ => Piece::Text(" and "),
+/// How many choices stalled, and for each reason the first that did.
+fn choices_stalled(line: &mut Line, stalls: &Stalls) {
+    line.say_number("; {} stalled: ", stalls.count());
+    let mut joint = "";
+    for first in &stalls.firsts() {
+        if let Some(choice) = first.choice {
+            line.say(joint);
+            choice_stalled(line, choice, first.reason);
+            joint = ", ";
+        }
     }
 }
 
-fn number_of_drains<'a>(drains: usize) -> Piece<'a> {
-    match drains {
-        0 => Piece::Text(""),
-        _ => Piece::Number(drains),
-    }
+/// A choice, why it stalled, and in brackets what to do or what is so.
+fn choice_stalled(line: &mut Line, choice: Choice, reason: Stall) {
+    let (core, letter) = match choice {
+        Choice::Step(core) => (core, "s"),
+        Choice::Drain(core) => (core, "d"),
+    };
+    let core = Piece::Number(usize::from(core.0));
+    line.say_with(stall_words(reason), &[core, Piece::Text(letter), core]);
 }
 
-fn closing<'a>(drains: usize) -> Piece<'a> {
-    match drains {
-        0 => Piece::Text(": give more, or seed 1 1000 after them"),
-        1 => Piece::Text(" drain: give more, or seed 1 1000 after them"),
-        _ => Piece::Text(" drains: give more, or seed 1 1000 after them"),
+fn stall_words(reason: Stall) -> &'static str {
+    match reason {
+        Stall::Done => "{}{} Done (at end)",
+        Stall::Full => "{}{} Full ({}d first)",
+        Stall::Fence => "{}{} Fence ({}d first)",
+        Stall::Lock => "{}{} Lock ({}d first)",
+        Stall::Empty => "{}{} Empty (no store)",
+        Stall::Bus => "{}{} Bus (held)",
     }
 }
 
@@ -131,10 +118,13 @@ fn count(test: &Test, only_stores: bool) -> usize {
 }
 
 fn count_in(program: &[Instr], only_stores: bool) -> usize {
-    program
-        .iter()
-        .filter(|instr| !only_stores || is_plain_store(**instr))
-        .count()
+    let mut count = 0usize;
+    for instr in program {
+        if !only_stores || is_plain_store(*instr) {
+            count = count.saturating_add(1);
+        }
+    }
+    count
 }
 
 fn is_plain_store(instr: Instr) -> bool {

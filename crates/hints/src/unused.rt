@@ -2,10 +2,9 @@
 //! then 0 in every run, and the answer says nothing.
 
 use crate::body::{body_of, ending_of, is_name};
+use crate::line::{Line, Piece};
 use crate::place::Place;
-use crate::printing::Where;
 use crate::quotes::first_bytes;
-use crate::words::{Piece, Words, around};
 use litmus_tokens::{Symbol, Token, is_symbol, tokens_of};
 use std::alloc::Global;
 use tso_model::{Core, Instr, Loc, NoMemory, Test};
@@ -17,16 +16,31 @@ pub struct NamedAt {
     pub length: usize,
 }
 
-/// The place and the words of a hint on the location that is named there.
-pub fn unused<'a>(input: &'a [u8], at: NamedAt) -> (Where, Words<'a>) {
+/// Says of the location whose name is so many bytes of an input, after so many others, that nothing else uses it.
+pub fn unused(line: &mut Line, input: &[u8], first: usize, length: usize) {
+    say_named(
+        line,
+        input,
+        NamedAt { first, length },
+        "line {}: the condition names {}, which no program uses and no initial state sets: it stays 0",
+    );
+}
+
+/// Says a sentence of a name in an input, with its line.
+pub fn say_named(line: &mut Line, input: &[u8], at: NamedAt, sentence: &str) {
     let place = Place::new(input, input.len().saturating_sub(at.first));
     let name = first_bytes(place.rest, at.length);
-    let words = around(
-        "the condition names ",
-        Piece::Named(name),
-        ", which no program uses and no initial state sets: it stays 0",
-    );
-    (Where::Line(place.line()), words)
+    line.say_with(sentence, &[Piece::Number(place.line()), Piece::Named(name)]);
+}
+
+/// The location of a test that has this name.
+pub fn location_named(test: &Test, name: &[u8]) -> Option<Loc> {
+    for loc in 0..test.locations() {
+        if test.location_name(Loc(loc)).as_bytes() == name {
+            return Some(Loc(loc));
+        }
+    }
+    None
 }
 
 /// The first location of a test that no program uses and no initial state sets, so that its condition alone
@@ -74,11 +88,16 @@ fn uses_all_locations(test: &Test) -> bool {
 
 fn is_used(test: &Test, loc: Loc) -> bool {
     for core in 0..test.cores() {
-        if test
-            .program(Core(core))
-            .iter()
-            .any(|instr| accesses(*instr, loc))
-        {
+        if is_used_in(test.program(Core(core)), loc) {
+            return true;
+        }
+    }
+    false
+}
+
+fn is_used_in(program: &[Instr], loc: Loc) -> bool {
+    for instr in program {
+        if accesses(*instr, loc) {
             return true;
         }
     }

@@ -1,0 +1,158 @@
+//! The line of a hint while it is written: sentences, and what stands in their gaps. A hint is short, so it is written into
+//! an array, and no step takes memory.
+
+use crate::quotes::{first_bytes, is_bare};
+
+/// Maximum length of the words of a hint, in bytes.
+const MAX_WORDS: usize = 249;
+
+/// Maximum length of what is shown of one thing, in bytes.
+const MAX_SHOWN: usize = 32;
+
+/// What stands in a gap of a sentence.
+#[derive(Clone, Copy)]
+pub enum Piece<'a> {
+    /// These words.
+    Text(&'a str),
+    /// Bytes of the input: bare where they are a name or a number, and else in quotation marks.
+    Named(&'a [u8]),
+    /// Bytes of the input as they stand.
+    Shown(&'a [u8]),
+    /// A number.
+    Number(usize),
+    /// So many things, which this word names if there is one of them.
+    Count(usize, &'a str),
+    /// A character, by its code point.
+    Character(char),
+}
+
+/// The words of a hint; those that it has no room for are left out.
+#[derive(Drop)]
+pub struct Line {
+    bytes: [u8; MAX_WORDS],
+    length: usize,
+}
+
+impl Line {
+    /// No words.
+    pub fn new() -> Line {
+        Line {
+            bytes: [0; MAX_WORDS],
+            length: 0,
+        }
+    }
+
+    /// What is written.
+    pub fn words(&self) -> &[u8] {
+        first_bytes(&self.bytes, self.length)
+    }
+
+    /// Whether nothing is written.
+    pub fn is_empty(&self) -> bool {
+        self.length == 0
+    }
+
+    /// Writes a sentence without gaps.
+    pub fn say(&mut self, sentence: &str) {
+        self.push(sentence.as_bytes());
+    }
+
+    /// Writes a sentence; in its gap `{}`, if it has one, this is named.
+    pub fn say_of(&mut self, sentence: &str, named: &[u8]) {
+        self.say_with(sentence, &[Piece::Named(named)]);
+    }
+
+    /// Writes a sentence with this number in its gap.
+    pub fn say_number(&mut self, sentence: &str, number: usize) {
+        self.say_with(sentence, &[Piece::Number(number)]);
+    }
+
+    /// Writes a sentence; in its first gap this is named, and in its second stands this number.
+    pub fn say_of_number(&mut self, sentence: &str, named: &[u8], number: usize) {
+        self.say_with(sentence, &[Piece::Named(named), Piece::Number(number)]);
+    }
+
+    /// Writes a sentence, whose gaps `{}` the pieces fill in their order. A piece without a gap isn't written.
+    pub fn say_with(&mut self, sentence: &str, pieces: &[Piece<'_>]) {
+        let mut pieces = pieces.iter();
+        let mut is_after_gap = false;
+        for part in sentence.split("{}") {
+            if is_after_gap && let Some(piece) = pieces.next() {
+                self.push_piece(*piece);
+            }
+            self.push(part.as_bytes());
+            is_after_gap = true;
+        }
+    }
+
+    fn push_piece(&mut self, piece: Piece<'_>) {
+        match piece {
+            Piece::Text(text) => self.push(text.as_bytes()),
+            Piece::Named(name) => self.push_named(name),
+            Piece::Shown(shown) => self.push_shown(shown),
+            Piece::Number(number) => self.push_number(number),
+            Piece::Count(count, unit) => self.push_count(count, unit),
+            Piece::Character(character) => self.push_code_point(character),
+        }
+    }
+
+    fn push_count(&mut self, count: usize, unit: &str) {
+        self.push_number(count);
+        self.push(b" ");
+        self.push(unit.as_bytes());
+        if count != 1 {
+            self.push(b"s");
+        }
+    }
+
+    fn push_number(&mut self, number: usize) {
+        self.push(itoa::Buffer::new().format(number).as_bytes());
+    }
+
+    /// A character's code point, as `U+2227`: at least four digits.
+    fn push_code_point(&mut self, character: char) {
+        self.push(b"U+");
+        let code_point = u32::from(character);
+        for place in [5u32, 4, 3, 2, 1, 0] {
+            let rest = code_point >> (4 * place);
+            if place < 4 || rest > 0 {
+                self.push_digit(rest % 16);
+            }
+        }
+    }
+
+    /// A digit to base 16.
+    fn push_digit(&mut self, digit: u32) {
+        if let Some(digit) = b"0123456789ABCDEF".get(digit as usize) {
+            self.push(&[*digit]);
+        }
+    }
+
+    /// A name or a number bare, everything else in quotation marks.
+    fn push_named(&mut self, name: &[u8]) {
+        if is_bare(name) {
+            return self.push_shown(name);
+        }
+        self.push(b"'");
+        self.push_shown(name);
+        self.push(b"'");
+    }
+
+    /// The bytes; of too many the first, and two points.
+    fn push_shown(&mut self, shown: &[u8]) {
+        if shown.len() <= MAX_SHOWN {
+            return self.push(shown);
+        }
+        self.push(first_bytes(shown, MAX_SHOWN - 2));
+        self.push(b"..");
+    }
+
+    fn push(&mut self, bytes: &[u8]) {
+        for byte in bytes {
+            if self.length < MAX_WORDS {
+                self.bytes[self.length] = *byte;
+                self.length += 1;
+            }
+        }
+    }
+}
