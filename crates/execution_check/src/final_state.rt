@@ -1,10 +1,11 @@
-//! The final state of an order: the last write to each location, and what the programs compute from their reads.
+//! What an order makes of the programs, by its own read values: their entries, and the final state, which is the last write to each
+//! location and what the programs compute from their reads.
 ghost use Rattle.std.specs.Prelude.{◌≡◌, ◌<◌, ◌++◌, [], IfOk, length, slice_index_or};
 ghost use Rattle.tso_model.specs.ProgramEntries as entries;
 ghost use Rattle.tso_model.specs.FinalState as state;
 
 use std::alloc::Global;
-use tso_model::{Action, Core, Entry, Kind, NoMemory, Test, thread_entries};
+use tso_model::{Action, Core, Entry, Kind, NoMemory, Test, Thread, thread_entries};
 
 fn read_value(order: &[Entry], core: Core, place: u8, kind: Kind) -> u32
     ensures { result ≡ entries.read_value core.0 place kind order.now }
@@ -54,18 +55,32 @@ fn read_values(
     Ok(values)
 }
 
-fn registers_of(
-    alloc: Global,
-    test: &Test,
-    core: Core,
-    order: &[Entry],
-) -> Result<[u32; 6], NoMemory>
+/// What a core's program makes where its reads return what the order itself says.
+///
+/// Errors: out of memory only.
+fn thread_of(alloc: Global, test: &Test, core: Core, order: &[Entry]) -> Result<Thread, NoMemory>
     requires { core.0 < length test.now.programs }
-    ensures { IfOk result (λ r. r ≡ state.registers_of core.0 (slice_index_or test.now.programs core.0 []) (slice_index_or test.now.registers core.0 []) order.now) }
+    ensures entries { IfOk result (λ thread. thread.entries.items
+        ≡ entries.made_by core.0 (slice_index_or test.now.programs core.0 []) (slice_index_or test.now.registers core.0 []) order.now) }
+    ensures registers { IfOk result (λ thread. thread.registers
+        ≡ state.registers_of core.0 (slice_index_or test.now.programs core.0 []) (slice_index_or test.now.registers core.0 []) order.now) }
 {
     let values = read_values(alloc, test, core, order)?;
-    let thread = thread_entries(alloc, test, core, &values)?;
-    Ok(thread.registers)
+    thread_entries(alloc, test, core, &values)
+}
+
+/// The entries that the programs make where their reads return what the order itself says, core by core and in program order.
+///
+/// Errors: out of memory only.
+pub fn entries_made(alloc: Global, test: &Test, order: &[Entry]) -> Result<Vec<Entry>, NoMemory>
+    ensures { IfOk result (λ made. made.items ≡ entries.made test.now order.now) }
+{
+    let mut made = Vec::new(alloc);
+    for number in 0..test.cores() {
+        let thread = thread_of(alloc, test, Core(number), order)?;
+        made.extend_from_slice(&thread.entries)?;
+    }
+    Ok(made)
 }
 
 /// The registers of each core at the end.
@@ -80,7 +95,8 @@ pub fn registers_left(
 {
     let mut left = Vec::new(alloc);
     for number in 0..test.cores() {
-        left.push(registers_of(alloc, test, Core(number), order)?)?;
+        let thread = thread_of(alloc, test, Core(number), order)?;
+        left.push(thread.registers)?;
     }
     Ok(left)
 }

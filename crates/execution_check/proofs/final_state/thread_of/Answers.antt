@@ -1,6 +1,6 @@
 use Rattle.std.proofs.Common.{[], length, slice_index_or, ap, ◌∙◌}
 use Rattle.axiom_checker.proofs.Made.{reads-count}
-use Rattle.execution_check.proofs.final_state.registers_of.Goals as goal
+use Rattle.execution_check.proofs.final_state.thread_of.Goals as goal
 
 pub thread_entries-requires-clause-reads : goal.thread_entries-requires-clause-reads
 thread_entries-requires-clause-reads c =
