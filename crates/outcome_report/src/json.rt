@@ -199,7 +199,10 @@ fn put_holds(
     Ok(())
 }
 
-fn values_value(
+/// The values of these registers and locations, each under its name.
+///
+/// Errors: out of memory only.
+pub fn values_value(
     alloc: Global,
     test: &Test,
     names: &[Named],

@@ -8,7 +8,7 @@
 pub mod alike_outcomes;
 mod counting;
 pub mod hidden;
-mod json;
+pub mod json;
 mod outcomes;
 pub mod report;
 mod text;

@@ -1,5 +1,5 @@
 -- Lists that a loop makes of another one, item by item.
-use Rattle.reason_report.proofs.Vocabulary.{ℕ, ◌+◌, ◌≡◌, ◌<◌, List, [], ◌∷◌, ◌++◌, length, drop, get_or, map, sym, ap, ◌∙◌, append_assoc, drop_more}
+use Rattle.reason_report.proofs.Vocabulary.{ℕ, ◌+◌, ◌≡◌, ◌<◌, ◌≤◌, append-nil, drop_all, List, [], ◌∷◌, ◌++◌, length, drop, get_or, map, sym, ap, ◌∙◌, append_assoc, drop_more}
 use Rattle.reason_report.proofs.Lists.{map-push, map-twice}
 
 -- what is made of the next item stands behind what is made
@@ -26,3 +26,9 @@ pub one-more-of-seen : {X Z Y V : Type 0} (f : Z → Y) (item : X → Z) (view :
 one-more-of-seen f item view xs i d made new v whole w e n h =
     ap (λ ys. map view new ++ ys) (map-twice item f (drop (i + 1) xs))
     ∙ one-more-seen (λ z. f (item z)) view xs i d made new v whole w e n (ap (λ ys. map view made ++ ys) (sym (map-twice item f (drop i xs))) ∙ h)
+
+-- nothing is left to be made at the end
+pub all-made : {X Y : Type 0} (F : List X → List Y) → F [] ≡ [] → (xs : List X) (i : ℕ) (made whole : List Y) → length xs ≤ i
+    → made ++ F (drop i xs) ≡ whole → made ≡ whole
+all-made F none xs i made whole over so =
+    sym (append-nil made) ∙ (ap (λ ys. made ++ ys) (sym (ap F (drop_all i xs over) ∙ none)) ∙ so)

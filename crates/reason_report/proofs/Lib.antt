@@ -7,4 +7,3 @@ pub mod Laying
 pub mod Moving
 pub mod NoFloats
 pub mod Shown
-pub mod Threads

@@ -1,11 +1,14 @@
 -- What is shown of an execution is its candidate.
-use Rattle.reason_report.proofs.Vocabulary.{ℕ, suc, zero, ◌+◌, ◌||◌, ◌≡◌, ◌≤◌, ◌<◌, Bool, true, false, cond, List, [], ◌∷◌, ◌++◌, length, drop, get_or, map, Option, Some, None, refl, sym, ap, ◌∙◌, arith, subst, append_assoc, All, filter, slice_get, codes, flat_map, list_any, at_drop_more, append-nil, drop_all, Data, Members, no_members, member, put, object, array, string, items_of, Litmus, is_read, writes_to, is_before, made, final_words, final_registers, words_from, registers_from, Instr, Choice, Entry, IsIn, IsCandidateOf, LeaveTheSame, last_in, IsExecutionOf, Model, value_members, printed_entry, line, test_line, looked_at, verdict_line, outcomes_verdict_value, model_name, asked_line, from_line, reads_of, coherence_lines, coherence_line, allowed_text, asked_value, from_value, coherence_members, with_coherence, allowed_value, Reading, Named, NameExists, allowed_in, ShowsExecution, last_or, ReadsIt, AreIn, AreReadings, IsShown, read_with_source, reading_line, reading_value, coherence_by, coherence_members_by, drop-cons, values_in, shown_value}
+use Rattle.reason_report.proofs.Vocabulary.{ℕ, suc, zero, ◌+◌, ◌||◌, ◌≡◌, ◌≤◌, ◌<◌, Bool, true, false, cond, List, [], ◌∷◌, ◌++◌, length, drop, get_or, map, Option, Some, None, refl, sym, ap, ◌∙◌, arith, subst, append_assoc, All, filter, slice_get, codes, flat_map, list_any, at_drop_more, append-nil, drop_all, Data, Members, no_members, member, put, object, array, string, items_of, Litmus, is_read, writes_to, is_before, made, final_words, final_registers, Choice, Entry, IsIn, IsCandidateOf, LeaveTheSame, last_in, IsExecutionOf, Model, value_members, printed_entry, line, test_line, looked_at, verdict_line, outcomes_verdict_value, model_name, asked_line, from_line, reads_of, coherence_lines, coherence_line, allowed_text, asked_value, from_value, coherence_members, with_coherence, allowed_value, Reading, Named, NameExists, allowed_in, ShowsExecution, last_or, ReadsIt, AreIn, AreReadings, IsShown, read_with_source, reading_line, reading_value, coherence_by, coherence_members_by, drop-cons, values_in, shown_value}
 use Rattle.tso_model.specs.Axioms.{counting, IsTsoExecution}
 use Rattle.relational_model.specs.Candidates.{Candidate, words_left}
 use Rattle.refutation_laws.specs.declared.model.Model.TheVariants.{Tso, Sequential}
 use Rattle.scheduler.specs.Printed.{printed_choices}
 use Rattle.outcome_report.specs.Outcomes.{by_line, state_line}
+use Rattle.reason_report.specs.ReasonText.{source_text, read_source}
 use Rattle.reason_report.specs.inner.Shown as inner
+use Rattle.reason_report.specs.inner.Shown.{event_of, event_of_write}
+use Rattle.reason_report.specs.declared.steps.Event.{Event}
 
 -- ---- the last write
 
@@ -58,7 +61,7 @@ last-more p xs i j x within more is b e last =
 
 -- ---- the reads
 
-abbrev paired : Entry → Option Entry → Reading
+abbrev paired : Event → Option Event → Reading
 paired r w = record { read = r; write = w }
 
 pub all-in : (order es : List Entry) → ((k : ℕ) (e : Entry) → slice_get es k ≡ Some e → IsIn order e) → AreIn order es
@@ -82,9 +85,10 @@ module _ (t : Litmus) (order : List Entry) (c : Candidate) (of : IsCandidateOf t
       by-case ih false is ys k = ih ys k
       by-case ih true is [] k = absurd k
       by-case ih true is (y ∷ ys) k =
-          let source : y.write ≡ c.source e = k.1.source ∙ sym (of.sources k.1.front e k.1.back k.1.place is) in
-          ap (λ (r : Entry). paired r y.write ∷ ys) k.0
-          ∙ (ap (λ (w : Option Entry). paired e w ∷ ys) source ∙ ap (λ zs. read_with_source c e ∷ zs) (ih ys k.2))
+          let source : y.write ≡ event_of_write (c.source e) =
+          k.1.source ∙ ap event_of_write (sym (of.sources k.1.front e k.1.back k.1.place is)) in
+          ap (λ (r : Event). paired r y.write ∷ ys) k.0
+          ∙ (ap (λ (w : Option Event). paired (event_of e) w ∷ ys) source ∙ ap (λ zs. read_with_source c e ∷ zs) (ih ys k.2))
 
   pub shown-is : LeaveTheSame t order c → (xs : List Reading) → AreReadings order (filter is_read (made t order)) xs → (vs : List ℕ)
       → vs ≡ map (shown_value (final_registers t order) (final_words t order)) (looked_at t) → IsShown t order xs vs c
@@ -96,14 +100,26 @@ module _ (t : Litmus) (order : List Entry) (c : Candidate) (of : IsCandidateOf t
 
 -- ---- as it is printed
 
+source-is : (t : Litmus) (w : Option Entry) → source_text t (event_of_write w) ≡ read_source t w
+source-is t None = refl
+source-is t (Some w) = refl
+
+abbrev with-source : Litmus → Entry → List ℕ → Data
+with-source t r text = object (member (codes "read") (string (printed_entry t r)) (member (codes "write") (string text) no_members))
+
 module _ (t : Litmus) (order : List Entry) (c : Candidate) (same : (loc : ℕ) → c.coherence loc ≡ filter (writes_to loc) order) where
   pub reads-lines : (rs : List Entry) → flat_map (reading_line t) (map (read_with_source c) rs) ≡ flat_map (from_line t c) rs
   reads-lines [] = refl
-  reads-lines (r ∷ rs) = ap (λ bytes. from_line t c r ++ bytes) (reads-lines rs)
+  reads-lines (r ∷ rs) =
+      ap (λ text. (codes "From " ++ (printed_entry t r ++ (codes " " ++ line text))) ++ flat_map (reading_line t) (map (read_with_source c) rs))
+      (source-is t (c.source r))
+      ∙ ap (λ bytes. from_line t c r ++ bytes) (reads-lines rs)
 
   pub reads-values : (rs : List Entry) → map (reading_value t) (map (read_with_source c) rs) ≡ map (from_value t c) rs
   reads-values [] = refl
-  reads-values (r ∷ rs) = ap (λ vs. from_value t c r ∷ vs) (reads-values rs)
+  reads-values (r ∷ rs) =
+      ap (λ text. with-source t r text ∷ map (reading_value t) (map (read_with_source c) rs)) (source-is t (c.source r))
+      ∙ ap (λ vs. from_value t c r ∷ vs) (reads-values rs)
 
   pub locations-lines : (names : List (List ℕ)) (loc : ℕ) → coherence_by t order loc names ≡ coherence_lines t c loc names
   locations-lines [] loc = refl
@@ -210,7 +226,7 @@ module _ (order es : List Entry) (i j : ℕ) (d : Entry) (within : i < length es
       ap (filter is_read) (drop-cons es i d within ∙ ap (λ n. get_or es i d ∷ drop n es) one-on)
       ∙ ap (λ (x : Bool). cond x (get_or es i d ∷ filter is_read (drop j es)) (filter is_read (drop j es))) (sym is)
 
-  pub reading-more : b ≡ true → (x : Reading) → x.read ≡ get_or es i d → ReadsIt order (get_or es i d) x.write → news ≡ all ++ (x ∷ [])
+  pub reading-more : b ≡ true → (x : Reading) → x.read ≡ event_of (get_or es i d) → ReadsIt order (get_or es i d) x.write → news ≡ all ++ (x ∷ [])
       → Completes order es j news
   reading-more h x same reads e = λ rest k.
       let left : filter is_read (drop i es) ≡ get_or es i d ∷ filter is_read (drop j es) =
@@ -237,14 +253,6 @@ readings-done order es i all over so =
 pub tso-of : (model : Model) (t : Litmus) (order : List Entry) → IsExecutionOf model t order → IsTsoExecution t order
 tso-of Tso t order h = h
 tso-of Sequential t order h = h.execution
-
-pub registers-length : (core : ℕ) (ps : List (List Instr)) (rs : List (List ℕ)) (order : List Entry) → length (registers_from core ps rs order) ≡ length ps
-registers-length core [] rs order = refl
-registers-length core (p ∷ ps) rs order = ap (λ n. suc n) (registers-length (core + 1) ps rs order)
-
-pub words-length : (loc : ℕ) (ws : List ℕ) (order : List Entry) → length (words_from loc ws order) ≡ length ws
-words-length loc [] order = refl
-words-length loc (w ∷ ws) order = ap (λ n. suc n) (words-length (loc + 1) ws order)
 
 pub location-written : (e0 e1 e2 e3 e4 name ws : List ℕ) → e1 ≡ e0 ++ codes "Coherence " → e2 ≡ e1 ++ name → e3 ≡ e2 ++ ws → e4 ≡ e3 ++ (10 ∷ [])
     → e4 ≡ e0 ++ (codes "Coherence " ++ (name ++ line ws))

@@ -4,3 +4,4 @@ pub mod Parts
 pub mod Closed
 pub mod Tasks
 pub mod Shown
+pub mod Pieces

@@ -1,24 +1,23 @@
 //! An execution in which what a test asks is so, as JSON: one line, and its objects have their keys in the order of their bytes.
 
-ghost use Rattle.std.specs.Prelude.{◌≡◌, ◌<◌, [], IfOk, OnOk, string_bytes, length, filter, map, slice_index_or};
+ghost use Rattle.std.specs.Prelude.{◌≡◌, ◌<◌, [], All, IfOk, OnOk, string_bytes, length, filter, map, slice_index_or};
 ghost use Rattle.serde_json.specs.Data.{object, array, string};
 ghost use Rattle.serde_json.specs.View.{view, members_view, items_of};
 ghost use Rattle.tso_model.specs.ProgramOrder as program_order;
 ghost use Rattle.relational_model.specs.Candidates.{Candidate};
 ghost use Rattle.order_builder.specs.PrintedOrder.{printed_entry};
+ghost use Rattle.tso_report.specs.inner.Tally.{NameExists};
 ghost use Rattle.tso_report.specs.Tally.{looked_at};
-ghost use Rattle.outcome_report.specs.OutcomesJson.{value_members};
 ghost use Rattle.reason_report.specs.ReasonJson as spec;
-ghost use Rattle.reason_report.specs.ReasonText as text;
 ghost use Rattle.reason_report.specs.inner.Shown.{IsShown, reading_value, coherence_members_by, shown_allowed_value};
-ghost use Rattle.reason_report.specs.inner.Shown.{with_answer, with_candidate, with_end};
+ghost use Rattle.reason_report.specs.inner.Shown.{with_candidate, with_end};
 
-use crate::allowed_text::{has_write, write_entry, write_read_source};
-use crate::as_json::put_text;
-use crate::as_text::key_text;
-use crate::asked::{asked_value, model_name};
-use crate::readings::Reading;
-use outcome_report::verdict::outcomes_verdict_value;
+use crate::allowed_text::has_write;
+use crate::as_json::put_answer;
+use crate::pieces::Piece;
+use crate::pieces_json::{event_value, object_of};
+use crate::readings::{Reading, event_of};
+use outcome_report::json::values_value;
 use refutation_laws::Model;
 use refutations::events::writes_to;
 use scheduler::choices_text;
@@ -41,6 +40,7 @@ pub fn allowed_json(
     values: &[u32],
     choices: &[Choice],
 ) -> Result<String, NoMemory>
+    requires known { All (NameExists (length test.now.programs) (length test.now.locations)) names.now }
     requires names { names.now ≡ looked_at test.now }
     requires values { length values.now ≡ length names.now }
     ensures { IfOk result (λ text. (c : Candidate) → IsShown test.now order.now readings.now values.now c
@@ -60,37 +60,16 @@ fn allowed_value(
     values: &[u32],
     choices: &[Choice],
 ) -> Result<Value, NoMemory>
+    requires known { All (NameExists (length test.now.programs) (length test.now.locations)) names.now }
     requires names { names.now ≡ looked_at test.now }
     requires values { length values.now ≡ length names.now }
     ensures { IfOk result (λ value. view value ≡ shown_allowed_value model test.now order.now readings.now values.now choices.now) }
 {
     let mut members = Map::new(alloc);
-    put_answer(&mut members, alloc, test, model)?;
+    put_answer(&mut members, alloc, test, model, "allowed", true)?;
     put_candidate(&mut members, alloc, test, order, readings)?;
     put_end(&mut members, alloc, test, names, values, choices)?;
     Ok(Value::Object(members))
-}
-
-/// What is answered to what the test asks.
-fn put_answer(
-    members: &mut Map<String, Value>,
-    alloc: Global,
-    test: &Test,
-    model: Model,
-) -> Result<(), NoMemory>
-    ensures { OnOk result (members_view members.new.entries ≡ with_answer model test.now (members_view members.old.entries)) }
-{
-    put_text(members, alloc, "answer", "allowed")?;
-    put(members, alloc, "asked", asked_value(alloc, test)?)?;
-    put_text(members, alloc, "model", model_name(model))?;
-    put_text(members, alloc, "test", test.name())?;
-    put(
-        members,
-        alloc,
-        "verdict",
-        outcomes_verdict_value(alloc, test, true)?,
-    )?;
-    Ok(())
 }
 
 /// What each read reads from, and the writes to each location in their order.
@@ -127,7 +106,8 @@ fn put_end(
     values: &[u32],
     choices: &[Choice],
 ) -> Result<(), NoMemory>
-    requires { length values.now ≡ length names.now }
+    requires known { All (NameExists (length test.now.programs) (length test.now.locations)) names.now }
+    requires values { length values.now ≡ length names.now }
     ensures { OnOk result (members_view members.new.entries ≡ with_end test.now names.now values.now choices.now (members_view members.old.entries)) }
 {
     let choices = choices_text(alloc, choices)?;
@@ -176,18 +156,10 @@ fn writes_value(alloc: Global, test: &Test, order: &[Entry], loc: Loc) -> Result
     let mut values = Vec::new(alloc);
     for entry in order {
         if writes_to(loc.0, entry) {
-            values.push(entry_value(alloc, test, entry)?)?;
+            values.push(event_value(alloc, test, &event_of(entry))?)?;
         }
     }
     Ok(Value::Array(values))
-}
-
-fn entry_value(alloc: Global, test: &Test, entry: &Entry) -> Result<Value, NoMemory>
-    ensures { IfOk result (λ value. view value ≡ string (printed_entry test.now entry.now)) }
-{
-    let mut text = String::new(alloc);
-    write_entry(&mut text, test, entry)?;
-    Ok(Value::String(text))
 }
 
 fn sources_value(alloc: Global, test: &Test, readings: &[Reading]) -> Result<Value, NoMemory>
@@ -203,48 +175,9 @@ fn sources_value(alloc: Global, test: &Test, readings: &[Reading]) -> Result<Val
 fn reading_value(alloc: Global, test: &Test, reading: &Reading) -> Result<Value, NoMemory>
     ensures { IfOk result (λ value. view value ≡ reading_value test.now reading.now) }
 {
-    let mut members = Map::new(alloc);
-    put_reading(&mut members, alloc, test, reading)?;
-    Ok(Value::Object(members))
-}
-
-fn put_reading(
-    members: &mut Map<String, Value>,
-    alloc: Global,
-    test: &Test,
-    reading: &Reading,
-) -> Result<(), NoMemory>
-    requires { members.old.entries ≡ [] }
-    ensures { OnOk result (object (members_view members.new.entries) ≡ reading_value test.now reading.now) }
-{
-    let read = entry_value(alloc, test, &reading.read)?;
-    put(members, alloc, "read", read)?;
-    let write = source_value(alloc, test, &reading.write)?;
-    put(members, alloc, "write", write)?;
-    Ok(())
-}
-
-fn source_value(alloc: Global, test: &Test, write: &Option<Entry>) -> Result<Value, NoMemory>
-    ensures { IfOk result (λ value. view value ≡ string (text.read_source test.now write.now)) }
-{
-    let mut text = String::new(alloc);
-    write_read_source(&mut text, test, write)?;
-    Ok(Value::String(text))
-}
-
-fn values_value(
-    alloc: Global,
-    test: &Test,
-    names: &[Named],
-    values: &[u32],
-) -> Result<Value, NoMemory>
-    requires values { length values.now ≡ length names.now }
-    ensures { IfOk result (λ value. view value ≡ object (value_members test.now names.now values.now)) }
-{
-    let mut members = Map::new(alloc);
-    for at in (0..names.len()).rev() {
-        let key = key_text(alloc, test, names[at])?;
-        put(&mut members, alloc, &key, Value::from(values[at]))?;
-    }
-    Ok(Value::Object(members))
+    let fields = [
+        ("read", Piece::Event(&reading.read)),
+        ("write", Piece::Source(&reading.write)),
+    ];
+    object_of(alloc, test, &fields)
 }

@@ -12,10 +12,10 @@ ghost use Rattle.outcome_report.specs.Outcomes.{by_line, state_line};
 ghost use Rattle.reason_report.specs.ReasonText as spec;
 ghost use Rattle.reason_report.specs.inner.Shown.{IsShown, allowed_line, reading_line, coherence_by};
 
-use crate::as_text::write_event;
 use crate::asked::{model_name, write_asked};
-use crate::readings::Reading;
-use crate::steps::Event;
+use crate::pieces::Piece;
+use crate::pieces_text::{write_event, write_pieces};
+use crate::readings::{Reading, event_of};
 use outcome_report::verdict::write_verdict;
 use refutation_laws::Model;
 use refutations::events::writes_to;
@@ -48,7 +48,7 @@ pub fn allowed_text(
 {
     let mut text = String::new(alloc);
     write_test(&mut text, test)?;
-    write_allowed(&mut text, model)?;
+    write_allowed(&mut text, test, model)?;
     write_asked(&mut text, test)?;
     write_readings(&mut text, test, readings)?;
     write_coherence(&mut text, test, order)?;
@@ -59,12 +59,15 @@ pub fn allowed_text(
 }
 
 /// `Allowed tso`.
-fn write_allowed(text: &mut String, model: Model) -> Result<(), NoMemory>
+fn write_allowed(text: &mut String, test: &Test, model: Model) -> Result<(), NoMemory>
     ensures { OnOk result (string_bytes text.new ≡ string_bytes text.old ++ allowed_line model) }
 {
-    let model = model_name(model);
-    write!(text, "Allowed {model}\n")?;
-    Ok(())
+    let pieces = [
+        Piece::Text("Allowed "),
+        Piece::Text(model_name(model)),
+        Piece::Text("\n"),
+    ];
+    write_pieces(text, test, &pieces)
 }
 
 fn write_readings(text: &mut String, test: &Test, readings: &[Reading]) -> Result<(), NoMemory>
@@ -80,40 +83,14 @@ fn write_readings(text: &mut String, test: &Test, readings: &[Reading]) -> Resul
 fn write_reading(text: &mut String, test: &Test, reading: &Reading) -> Result<(), NoMemory>
     ensures { OnOk result (string_bytes text.new ≡ string_bytes text.old ++ reading_line test.now reading.now) }
 {
-    text.push_str("From ")?;
-    write_entry(text, test, &reading.read)?;
-    text.push(' ')?;
-    write_read_source(text, test, &reading.write)?;
-    text.push('\n')?;
-    Ok(())
-}
-
-/// A write, or `initial`.
-pub fn write_read_source(
-    text: &mut String,
-    test: &Test,
-    write: &Option<Entry>,
-) -> Result<(), NoMemory>
-    ensures { OnOk result (string_bytes text.new ≡ string_bytes text.old ++ spec.read_source test.now write.now) }
-{
-    match write {
-        None => {
-            text.push_str("initial")?;
-            Ok(())
-        }
-        Some(write) => write_entry(text, test, write),
-    }
-}
-
-/// An entry, with its value.
-pub fn write_entry(text: &mut String, test: &Test, entry: &Entry) -> Result<(), NoMemory>
-    ensures { OnOk result (string_bytes text.new ≡ string_bytes text.old ++ printed_entry test.now entry.now) }
-{
-    let event = Event {
-        entry: *entry,
-        value: Some(entry.value),
-    };
-    write_event(text, test, &event)
+    let pieces = [
+        Piece::Text("From "),
+        Piece::Event(&reading.read),
+        Piece::Text(" "),
+        Piece::Source(&reading.write),
+        Piece::Text("\n"),
+    ];
+    write_pieces(text, test, &pieces)
 }
 
 fn write_coherence(text: &mut String, test: &Test, order: &[Entry]) -> Result<(), NoMemory>
@@ -145,7 +122,12 @@ fn write_location(text: &mut String, test: &Test, order: &[Entry], loc: Loc) -> 
 pub fn has_write(order: &[Entry], loc: Loc) -> bool
     ensures { result ≡ list_any (program_order.writes_to loc.0) order.now }
 {
-    order.iter().any(|e| writes_to(loc.0, e))
+    for e in order {
+        if writes_to(loc.0, e) {
+            return true;
+        }
+    }
+    false
 }
 
 fn write_writes(text: &mut String, test: &Test, order: &[Entry], loc: Loc) -> Result<(), NoMemory>
@@ -155,7 +137,7 @@ fn write_writes(text: &mut String, test: &Test, order: &[Entry], loc: Loc) -> Re
     for entry in order {
         if writes_to(loc.0, entry) {
             text.push(' ')?;
-            write_entry(text, test, entry)?;
+            write_event(text, test, &event_of(entry))?;
         }
     }
     Ok(())

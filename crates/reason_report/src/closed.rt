@@ -101,14 +101,7 @@ fn close(
     let given = give(alloc, tree, answers)?;
     let shares = is_source(branch.reply) && is_false(node_at(tree.nodes, branch.at));
     let named = if shares {
-        named_among(
-            alloc,
-            tree.test,
-            tree.events,
-            &given.answers,
-            &given.facts,
-            tree.places,
-        )?
+        named_among(alloc, tree, &given)?
     } else {
         Vec::new(alloc)
     };

@@ -101,56 +101,14 @@ fn words_in(
     ensures { IfOk result (λ words. words.items
         ≡ flat_map (λ k. places.words_at tree.entry.test.now k place) (known_alike leaf.now others.now)) }
 {
-    let mut words = words_of(alloc, tree, &leaf.given, place)?;
+    let mut words = words_at(alloc, tree, &leaf.given, place)?;
     for other in others {
         if are_alike(leaf, &other.leaf) {
-            let more = words_of(alloc, tree, &other.leaf.given, place)?;
+            let more = words_at(alloc, tree, &other.leaf.given, place)?;
             words.extend_from_slice(&more)?;
         }
     }
     Ok(words)
-}
-
-fn words_of(
-    alloc: Global,
-    tree: Refutation<'_>,
-    given: &Given,
-    place: Named,
-) -> Result<Vec<Option<u32>>, NoMemory>
-    requires tree { IsLayoutReady tree }
-    requires given { IsGiven tree.test.now given.now }
-    requires place { NameExists (length tree.test.now.programs) (length tree.test.now.locations) place }
-    ensures { IfOk result (λ words. words.items ≡ places.words_at tree.entry.test.now (known_of given.now.answers) place) }
-{
-    words_at(
-        alloc,
-        tree.test,
-        tree.events,
-        &given.answers,
-        &given.facts,
-        place,
-    )
-}
-
-fn is_named(
-    alloc: Global,
-    tree: Refutation<'_>,
-    given: &Given,
-    place: Named,
-) -> Result<bool, NoMemory>
-    requires tree { IsLayoutReady tree }
-    requires given { IsGiven tree.test.now given.now }
-    requires place { NameExists (length tree.test.now.programs) (length tree.test.now.locations) place }
-    ensures { IfOk result (λ b. b ≡ places.suffices tree.entry.test.now (asked_claim tree.entry.test.now.condition) (known_of given.now.answers) place) }
-{
-    suffices(
-        alloc,
-        tree.test,
-        tree.events,
-        &given.answers,
-        &given.facts,
-        place,
-    )
 }
 
 fn place_in(
@@ -190,7 +148,7 @@ fn places_in(
 {
     let mut all = Vec::new(alloc);
     for named in tree.places {
-        if is_named(alloc, tree, &leaf.given, *named)? {
+        if suffices(alloc, tree, &leaf.given, *named)? {
             all.push(place_in(alloc, tree, leaf, others, *named)?)?;
         }
     }

@@ -1,6 +1,6 @@
 //! Why a proposition is false by the values that are known: the registers and locations that suffice to tell it.
 
-ghost use Rattle.std.specs.Prelude.{◌≡◌, ◌==◌, All, IfOk, OnOk, length, map, true, is_some};
+ghost use Rattle.std.specs.Prelude.{◌≡◌, ◌==◌, IfOk, OnOk, length, map, true, is_some};
 ghost use Rattle.std.specs.List.{list_all, list_any};
 ghost use Rattle.tso_model.specs.Condition.{NamesExist, claim_of, RegClaim, LocClaim};
 ghost use Rattle.refutation_laws.specs.Known.{events_of};
@@ -9,8 +9,12 @@ ghost use Rattle.refutations.specs.inner.Trees.{known_of};
 ghost use Rattle.refutations.specs.inner.Facts.{AreFacts};
 ghost use Rattle.tso_report.specs.inner.Tally.{NameExists};
 ghost use Rattle.reason_report.specs.Places as spec;
+ghost use Rattle.reason_report.specs.inner.Parts.{IsLayoutReady};
+ghost use Rattle.reason_report.specs.inner.Closed.{IsGiven};
 ghost use Rattle.reason_report.specs.inner.Views.{with_new_word};
 
+use crate::closed::Given;
+use crate::parts::Refutation;
 use refutations::propositions::{allows, register_at_end, words_at_end};
 use refutations::{Answers, Facts};
 use std::alloc::Global;
@@ -107,24 +111,23 @@ fn tells_asked(
 /// Errors: out of memory only.
 pub fn words_at(
     alloc: Global,
-    test: &Test,
-    events: &[Entry],
-    answers: &Answers,
-    facts: &Facts,
+    tree: Refutation<'_>,
+    given: &Given,
     place: Named,
 ) -> Result<Vec<Option<u32>>, NoMemory>
-    requires events { events.now ≡ events_of test.now }
-    requires facts { AreFacts test.now (known_of answers.now) facts.now }
-    requires place { NameExists (length test.now.programs) (length test.now.locations) place }
-    ensures { IfOk result (λ words. words.items ≡ spec.words_at test.now (known_of answers.now) place) }
+    requires tree { IsLayoutReady tree }
+    requires given { IsGiven tree.test.now given.now }
+    requires place { NameExists (length tree.test.now.programs) (length tree.test.now.locations) place }
+    ensures { IfOk result (λ words. words.items ≡ spec.words_at tree.entry.test.now (known_of given.now.answers) place) }
 {
+    let (answers, facts) = (&given.answers, &given.facts);
     match place {
         Named::Register(core, reg) => {
             let mut words = Vec::new(alloc);
-            words.push(register_at_end(test, answers, facts, core, reg))?;
+            words.push(register_at_end(tree.test, answers, facts, core, reg))?;
             Ok(words)
         }
-        Named::Location(loc) => words_at_end(alloc, test, events, answers, facts, loc),
+        Named::Location(loc) => { words_at_end(alloc, tree.test, tree.events, answers, facts, loc) }
     }
 }
 
@@ -148,21 +151,19 @@ fn are_all_known(words: &[Option<u32>]) -> bool
 /// Errors: out of memory only.
 pub fn suffices(
     alloc: Global,
-    test: &Test,
-    events: &[Entry],
-    answers: &Answers,
-    facts: &Facts,
+    tree: Refutation<'_>,
+    given: &Given,
     place: Named,
 ) -> Result<bool, NoMemory>
-    requires events { events.now ≡ events_of test.now }
-    requires facts { AreFacts test.now (known_of answers.now) facts.now }
-    requires place { NameExists (length test.now.programs) (length test.now.locations) place }
-    ensures { IfOk result (λ b. b ≡ spec.suffices test.now (asked_claim test.now.condition) (known_of answers.now) place) }
+    requires tree { IsLayoutReady tree }
+    requires given { IsGiven tree.test.now given.now }
+    requires place { NameExists (length tree.test.now.programs) (length tree.test.now.locations) place }
+    ensures { IfOk result (λ b. b ≡ spec.suffices tree.entry.test.now (asked_claim tree.entry.test.now.condition) (known_of given.now.answers) place) }
 {
-    if !tells_asked(test, events, answers, facts, place) {
+    if !tells_asked(tree.test, tree.events, &given.answers, &given.facts, place) {
         return Ok(false);
     }
-    let words = words_at(alloc, test, events, answers, facts, place)?;
+    let words = words_at(alloc, tree, given, place)?;
     Ok(are_known(&words))
 }
 
@@ -171,21 +172,17 @@ pub fn suffices(
 /// Errors: out of memory only.
 pub fn named_among(
     alloc: Global,
-    test: &Test,
-    events: &[Entry],
-    answers: &Answers,
-    facts: &Facts,
-    places: &[Named],
+    tree: Refutation<'_>,
+    given: &Given,
 ) -> Result<Vec<bool>, NoMemory>
-    requires events { events.now ≡ events_of test.now }
-    requires facts { AreFacts test.now (known_of answers.now) facts.now }
-    requires places { All (NameExists (length test.now.programs) (length test.now.locations)) places.now }
+    requires tree { IsLayoutReady tree }
+    requires given { IsGiven tree.test.now given.now }
     ensures { IfOk result (λ named. named.items
-        ≡ map (spec.suffices test.now (asked_claim test.now.condition) (known_of answers.now)) places.now) }
+        ≡ map (spec.suffices tree.entry.test.now (asked_claim tree.entry.test.now.condition) (known_of given.now.answers)) tree.entry.places.now) }
 {
     let mut named = Vec::new(alloc);
-    for place in places {
-        named.push(suffices(alloc, test, events, answers, facts, *place)?)?;
+    for place in tree.places {
+        named.push(suffices(alloc, tree, given, *place)?)?;
     }
     Ok(named)
 }

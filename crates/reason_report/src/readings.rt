@@ -7,8 +7,10 @@ ghost use Rattle.tso_model.specs.Axioms.{counting};
 ghost use Rattle.tso_model.specs.declared.execution.Entry as declared;
 ghost use Rattle.relational_model.specs.Events.{IsIn};
 ghost use Rattle.relational_model.specs.CandidatesOfOrders.{last_in};
+ghost use Rattle.reason_report.specs.inner.Shown as shown;
 ghost use Rattle.reason_report.specs.inner.Shown.{last_or, AreIn, ReadsIt, AreReadings};
 
+use crate::steps::Event;
 use refutations::events::{is_before, is_read, writes_to};
 use std::alloc::Global;
 use tso_model::{Entry, NoMemory};
@@ -16,8 +18,18 @@ use tso_model::{Entry, NoMemory};
 /// A read, and the write that it reads from; none is the initial one.
 #[derive(Clone, Copy)]
 pub struct Reading {
-    pub read: Entry,
-    pub write: Option<Entry>,
+    pub read: Event,
+    pub write: Option<Event>,
+}
+
+/// An entry of an order as an event, with its own value.
+pub fn event_of(e: &Entry) -> Event
+    ensures { result ≡ shown.event_of e.now }
+{
+    Event {
+        entry: *e,
+        value: Some(e.value),
+    }
 }
 
 /// The reads among these entries of an order, each with the write that it reads from.
@@ -31,7 +43,7 @@ pub fn readings(alloc: Global, order: &[Entry], entries: &[Entry]) -> Result<Vec
     for read in entries {
         if is_read(read) {
             all.push(Reading {
-                read: *read,
+                read: event_of(read),
                 write: source_in(order, read),
             })?;
         }
@@ -40,12 +52,15 @@ pub fn readings(alloc: Global, order: &[Entry], entries: &[Entry]) -> Result<Vec
 }
 
 /// The write that an entry of the order reads from.
-fn source_in(order: &[Entry], read: &Entry) -> Option<Entry>
+fn source_in(order: &[Entry], read: &Entry) -> Option<Event>
     requires { IsIn order.now read.now }
     ensures { ReadsIt order.now read.now result }
 {
     let at = place_in(order, read);
-    last_counting(read, &order[..at], &order[at + 1..])
+    match last_counting(read, &order[..at], &order[at + 1..]) {
+        None => None,
+        Some(write) => Some(event_of(&write)),
+    }
 }
 
 /// Where an entry of the order stands in it.

@@ -10,8 +10,8 @@ use crate::allowed_text::allowed_text;
 use crate::as_json::{never_json, unfinished_reason_json};
 use crate::as_text::{never_text, unfinished_text};
 use crate::layout::steps_of;
-use crate::made::{make, words_after};
 use crate::readings::readings;
+use execution_check::final_state::{entries_made, registers_left, words_left};
 use refutation_laws::Model;
 use refutations::Node;
 use relational_model::{candidates_of_executions_are_allowed, executions_have_candidates};
@@ -60,11 +60,12 @@ pub fn allowed_report(
     candidates_of_executions_are_allowed();
     test.know_limits();
     let order = execution.order.as_slice();
-    let made = make(alloc, test, order)?;
-    let words = words_after(alloc, test, order)?;
-    let readings = readings(alloc, order, &made.entries)?;
+    let entries = entries_made(alloc, test, order)?;
+    let readings = readings(alloc, order, &entries)?;
+    let registers = registers_left(alloc, test, order)?;
+    let words = words_left(alloc, test, order)?;
     let names = looked_at(alloc, test)?;
-    let values = values_at(alloc, &names, &made.registers, &words)?;
+    let values = values_at(alloc, &names, &registers, &words)?;
     if json {
         allowed_json(
             alloc, test, model, order, &readings, &names, &values, choices,

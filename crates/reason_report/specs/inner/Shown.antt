@@ -1,5 +1,5 @@
 -- An execution as the code shows it: what its reads read from, by its order.
-use Rattle.std.specs.Prelude.{ℕ, ◌+◌, ◌≡◌, true, List, [], ◌∷◌, ◌++◌, map, filter, Option, Some, codes}
+use Rattle.std.specs.Prelude.{ℕ, ◌+◌, ◌≡◌, Bool, true, List, [], ◌∷◌, ◌++◌, map, filter, Option, Some, None, codes}
 use Rattle.serde_json.specs.Data.{Data, string, array, object, Members, no_members, member, put}
 use Rattle.serde_json.specs.View.{items_of}
 use Rattle.tso_model.specs.Litmus.{Litmus}
@@ -12,27 +12,35 @@ use Rattle.relational_model.specs.CandidatesOfOrders.{last_in}
 use Rattle.refutation_laws.specs.declared.model.Model.{Model}
 use Rattle.tso_model.specs.declared.choice.Choice.{Choice}
 use Rattle.scheduler.specs.Printed.{printed_choices}
-use Rattle.order_builder.specs.PrintedOrder.{printed_entry}
 use Rattle.tso_report.specs.Report.{line}
 use Rattle.tso_report.specs.Tally.{looked_at}
 use Rattle.tso_report.specs.declared.named.Named.{Named}
 use Rattle.outcome_report.specs.OutcomesJson.{value_members}
-use Rattle.reason_report.specs.ReasonText.{model_name, read_source, reads_of, coherence_line, values_left}
+use Rattle.reason_report.specs.ReasonText.{model_name, event_text, source_text, reads_of, coherence_line, values_left}
 use Rattle.outcome_report.specs.Verdict.{outcomes_verdict_value}
-use Rattle.reason_report.specs.ReasonJson.{asked_value, with_coherence}
+use Rattle.reason_report.specs.ReasonJson.{asked_value, event_value, with_coherence}
 use Rattle.reason_report.specs.declared.readings.Reading.{Reading}
+use Rattle.reason_report.specs.declared.steps.Event.{Event}
 
 -- the last of these, or else this one
 abbrev pub last_or : Option Entry → List Entry → Option Entry
 last_or e [] = e
 last_or e (x ∷ xs) = last_or (Some x) xs
 
+-- an entry with its own value, and so a write
+abbrev pub event_of : Entry → Event
+event_of e = record { entry = e; value = Some e.value }
+
+abbrev pub event_of_write : Option Entry → Option Event
+event_of_write None = None
+event_of_write (Some w) = Some (event_of w)
+
 -- in the order the read reads from this write
-pub record ReadsIt (order : List Entry) (r : Entry) (w : Option Entry) : Type 0 where
+pub record ReadsIt (order : List Entry) (r : Entry) (w : Option Event) : Type 0 where
   pub front : List Entry
   pub back : List Entry
   pub place : order ≡ front ++ (r ∷ back)
-  pub source : w ≡ last_in (counting r front back)
+  pub source : w ≡ event_of_write (last_in (counting r front back))
 
 -- each of these stands in the order
 abbrev pub AreIn : List Entry → List Entry → Type 0
@@ -42,11 +50,11 @@ AreIn order (e ∷ es) = IsIn order e × AreIn order es
 -- these reads, each with the write that it reads from
 abbrev pub AreReadings : List Entry → List Entry → List Reading → Type 0
 AreReadings order [] [] = Unit {0}
-AreReadings order (r ∷ rs) (x ∷ xs) = (x.read ≡ r) × ReadsIt order r x.write × AreReadings order rs xs
+AreReadings order (r ∷ rs) (x ∷ xs) = (x.read ≡ event_of r) × ReadsIt order r x.write × AreReadings order rs xs
 AreReadings order _ _ = ⊥
 
 abbrev pub read_with_source : Candidate → Entry → Reading
-read_with_source c r = record { read = r; write = c.source r }
+read_with_source c r = record { read = event_of r; write = event_of_write (c.source r) }
 
 -- a candidate of which this is shown
 pub record IsShown (t : Litmus) (order : List Entry) (xs : List Reading) (vs : List ℕ) (c : Candidate) : Type 0 where
@@ -60,12 +68,12 @@ allowed_line model = codes "Allowed " ++ line (model_name model)
 
 -- `From P0:1 R y=0 initial`
 abbrev pub reading_line : Litmus → Reading → List ℕ
-reading_line t x = codes "From " ++ (printed_entry t x.read ++ (codes " " ++ line (read_source t x.write)))
+reading_line t x = codes "From " ++ (event_text t x.read ++ (codes " " ++ line (source_text t x.write)))
 
 abbrev pub reading_value : Litmus → Reading → Data
 reading_value t x =
-    object (member (codes "read") (string (printed_entry t x.read))
-    (member (codes "write") (string (read_source t x.write)) no_members))
+    object (member (codes "read") (event_value t x.read)
+    (member (codes "write") (string (source_text t x.write)) no_members))
 
 -- the writes of the order to each location from this one on
 abbrev pub coherence_by : Litmus → List Entry → ℕ → List (List ℕ) → List ℕ
@@ -77,14 +85,14 @@ coherence_members_by t order loc [] = no_members
 coherence_members_by t order loc (name ∷ names) =
     with_coherence t name (filter (writes_to loc) order) (coherence_members_by t order (loc + 1) names)
 
--- these members, and what is answered to what the test asks
-abbrev pub with_answer : Model → Litmus → Members → Members
-with_answer model t members =
-    put (codes "verdict") (outcomes_verdict_value t.condition true)
+-- these members, and what is answered to what the test asks, with herd's verdict
+abbrev pub with_answer : Model → Litmus → List ℕ → Bool → Members → Members
+with_answer model t answer allowed members =
+    put (codes "verdict") (outcomes_verdict_value t.condition allowed)
+    (put (codes "asked") (asked_value t.condition)
     (put (codes "test") (string t.name)
     (put (codes "model") (string (model_name model))
-    (put (codes "asked") (asked_value t.condition)
-    (put (codes "answer") (string (codes "allowed")) members))))
+    (put (codes "answer") (string answer) members))))
 
 -- and what each read reads from, and the writes to each location
 abbrev pub with_candidate : Litmus → List Entry → List Reading → Members → Members

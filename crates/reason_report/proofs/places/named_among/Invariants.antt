@@ -3,5 +3,5 @@ use Rattle.reason_report.proofs.places.named_among.Given as goal
 
 abbrev pub invariant-loop-place : goal.invariant-loop-place
 invariant-loop-place l =
-    l.named.items ++ map (suffices l.test (asked_claim l.test.condition) (known_of l.answers)) (drop l.place-index l.places)
-    ≡ map (suffices l.test (asked_claim l.test.condition) (known_of l.answers)) l.places
+    l.named.items ++ map (suffices l.tree.test.now (asked_claim l.tree.test.now.condition) (known_of l.given.answers)) (drop l.place-index l.tree.places.now)
+    ≡ map (suffices l.tree.test.now (asked_claim l.tree.test.now.condition) (known_of l.given.answers)) l.tree.places.now

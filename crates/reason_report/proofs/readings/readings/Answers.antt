@@ -11,7 +11,7 @@ loop-read-preserved c =
     elim c.if-is_read.branch [
       | then-is_read+in_ok-push w ↦
           reading-more c.args.order.now c.args.entries.now c.loop-read.read-index (c.loop-read.read-index + 1) _ c.loop-read-test.true refl c.is_read.result
-          c.is_read.ensures c.loop-read.all.items c.if-is_read.all.items c.loop-read.invariant w.if-is_read.true _ refl w.source_in.ensures
+          c.is_read.ensures c.loop-read.all.items c.if-is_read.all.items c.loop-read.invariant w.if-is_read.true _ w.event_of.ensures w.source_in.ensures
           (ap (λ v. v.items) w.all-is ∙ w.in_ok-push.ensures.items)
       | else-is_read w ↦
           reading-less c.args.order.now c.args.entries.now c.loop-read.read-index (c.loop-read.read-index + 1) _ c.loop-read-test.true refl c.is_read.result

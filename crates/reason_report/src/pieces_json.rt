@@ -1,0 +1,191 @@
+//! Pieces as JSON values: events, cycles, places and the like, and the objects that have them.
+
+ghost use Rattle.std.specs.Prelude.{◌≡◌, [], IfOk, OnOk, map};
+ghost use Rattle.serde_json.specs.Data as values;
+ghost use Rattle.serde_json.specs.Data.{object, array, string, no_members};
+ghost use Rattle.serde_json.specs.View.{view, members_view, items_of};
+ghost use Rattle.tso_report.specs.Json.{count};
+ghost use Rattle.reason_report.specs.ReasonText as text;
+ghost use Rattle.reason_report.specs.ReasonJson as spec;
+ghost use Rattle.reason_report.specs.inner.Pieces as pieces;
+ghost use Rattle.reason_report.specs.inner.Pieces.{with_fields};
+ghost use Rattle.reason_report.specs.Views.{place_of};
+
+use crate::pieces::Piece;
+use crate::pieces_text::{key_text, relation_text, write_event, write_source};
+use crate::steps::{Edge, Event, Place};
+use serde_json::{Map, Value, put};
+use std::alloc::Global;
+use tso_model::{NoMemory, Test};
+
+/// An object with what stands under each of these keys.
+///
+/// Errors: out of memory only.
+pub fn object_of(
+    alloc: Global,
+    test: &Test,
+    fields: &[(&str, Piece<'_>)],
+) -> Result<Value, NoMemory>
+    ensures { IfOk result (λ value. view value ≡ object (with_fields test.now fields.now no_members)) }
+{
+    let mut members = Map::new(alloc);
+    put_fields(&mut members, alloc, test, fields)?;
+    Ok(Value::Object(members))
+}
+
+/// Puts what stands under each of these keys.
+///
+/// Errors: out of memory only.
+pub fn put_fields(
+    members: &mut Map<String, Value>,
+    alloc: Global,
+    test: &Test,
+    fields: &[(&str, Piece<'_>)],
+) -> Result<(), NoMemory>
+    ensures { OnOk result (members_view members.new.entries
+        ≡ with_fields test.now fields.now (members_view members.old.entries)) }
+{
+    for (key, piece) in fields {
+        let value = piece_value(alloc, test, *piece)?;
+        put(members, alloc, key, value)?;
+    }
+    Ok(())
+}
+
+fn piece_value(alloc: Global, test: &Test, piece: Piece<'_>) -> Result<Value, NoMemory>
+    ensures { IfOk result (λ value. view value ≡ pieces.piece_value test.now piece.entry) }
+{
+    match piece {
+        Piece::Text(characters) => Ok(Value::try_from_str(alloc, characters)?),
+        Piece::Number(number) => Ok(Value::from(number)),
+        Piece::Depth(depth) => Ok(Value::from(depth)),
+        Piece::Event(event) => event_value(alloc, test, event),
+        Piece::Source(write) => source_value(alloc, test, write),
+        Piece::Sources(writes) => sources_value(alloc, test, writes),
+        Piece::Cycle(edges) => edges_value(alloc, test, edges),
+        Piece::Places(places) => places_value(alloc, test, places),
+    }
+}
+
+fn sources_value(alloc: Global, test: &Test, writes: &[Option<Event>]) -> Result<Value, NoMemory>
+    ensures { IfOk result (λ value. view value ≡ array (items_of (map (λ w. string (text.source_text test.now w)) writes.now))) }
+{
+    let mut values = Vec::new(alloc);
+    for write in writes {
+        values.push(source_value(alloc, test, write)?)?;
+    }
+    Ok(Value::Array(values))
+}
+
+fn source_value(alloc: Global, test: &Test, write: &Option<Event>) -> Result<Value, NoMemory>
+    ensures { IfOk result (λ value. view value ≡ string (text.source_text test.now write.now)) }
+{
+    let mut text = String::new(alloc);
+    write_source(&mut text, test, write)?;
+    Ok(Value::String(text))
+}
+
+fn put_text(
+    members: &mut Map<String, Value>,
+    alloc: Global,
+    key: &str,
+    text: &str,
+) -> Result<(), NoMemory>
+    ensures { OnOk result (members_view members.new.entries
+        ≡ values.put key.now (string text.now) (members_view members.old.entries)) }
+{
+    let value = Value::try_from_str(alloc, text)?;
+    put(members, alloc, key, value)?;
+    Ok(())
+}
+
+fn put_event(
+    members: &mut Map<String, Value>,
+    alloc: Global,
+    test: &Test,
+    key: &str,
+    event: &Event,
+) -> Result<(), NoMemory>
+    ensures { OnOk result (members_view members.new.entries
+        ≡ values.put key.now (spec.event_value test.now event.now) (members_view members.old.entries)) }
+{
+    let value = event_value(alloc, test, event)?;
+    put(members, alloc, key, value)?;
+    Ok(())
+}
+
+/// An event as a string.
+///
+/// Errors: out of memory only.
+pub fn event_value(alloc: Global, test: &Test, event: &Event) -> Result<Value, NoMemory>
+    ensures { IfOk result (λ value. view value ≡ spec.event_value test.now event.now) }
+{
+    let mut text = String::new(alloc);
+    write_event(&mut text, test, event)?;
+    Ok(Value::String(text))
+}
+
+fn edges_value(alloc: Global, test: &Test, edges: &[Edge]) -> Result<Value, NoMemory>
+    ensures { IfOk result (λ value. view value ≡ spec.edges_value test.now edges.now) }
+{
+    let mut values = Vec::new(alloc);
+    for edge in edges {
+        values.push(edge_value(alloc, test, edge)?)?;
+    }
+    Ok(Value::Array(values))
+}
+
+fn edge_value(alloc: Global, test: &Test, edge: &Edge) -> Result<Value, NoMemory>
+    ensures { IfOk result (λ value. view value ≡ spec.edge_value test.now edge.now) }
+{
+    let mut members = Map::new(alloc);
+    put_edge(&mut members, alloc, test, edge)?;
+    Ok(Value::Object(members))
+}
+
+fn put_edge(
+    members: &mut Map<String, Value>,
+    alloc: Global,
+    test: &Test,
+    edge: &Edge,
+) -> Result<(), NoMemory>
+    requires { members.old.entries ≡ [] }
+    ensures { OnOk result (object (members_view members.new.entries) ≡ spec.edge_value test.now edge.now) }
+{
+    put_event(members, alloc, test, "from", &edge.source)?;
+    put_text(members, alloc, "relation", relation_text(edge.relation))?;
+    put_event(members, alloc, test, "to", &edge.target)
+}
+
+fn places_value(alloc: Global, test: &Test, places: &[Place]) -> Result<Value, NoMemory>
+    ensures { IfOk result (λ value. view value ≡ object (spec.place_members test.now (map place_of places.now))) }
+{
+    let mut members = Map::new(alloc);
+    for at in (0..places.len()).rev() {
+        let place = &places[at];
+        let key = key_text(alloc, test, place.named)?;
+        put(
+            &mut members,
+            alloc,
+            &key,
+            words_value(alloc, &place.values)?,
+        )?;
+    }
+    Ok(Value::Object(members))
+}
+
+fn words_value(alloc: Global, words: &[u32]) -> Result<Value, NoMemory>
+    ensures { IfOk result (λ value. view value ≡ array (items_of (map count words.now))) }
+{
+    let mut values = Vec::new(alloc);
+    for word in words {
+        values.push(word_value(*word))?;
+    }
+    Ok(Value::Array(values))
+}
+
+fn word_value(word: u32) -> Value
+    ensures { view result ≡ count word }
+{
+    Value::from(word)
+}
