@@ -1,13 +1,14 @@
 //! The search: from case to case, depth first. In each a leaf is found, or a question is asked, or an execution is met.
-ghost use Rattle.std.specs.Prelude.{◌≡◌, IfOk, IfSome, true};
-ghost use Rattle.refutation_laws.specs.Known.{events_of};
+ghost use Rattle.std.specs.Prelude.{◌≡◌, ◌∷◌, [], IfOk, IfSome, true};
+ghost use Rattle.refutation_laws.specs.Known.{events_of, nothing};
 ghost use Rattle.refutation_laws.specs.inner.FullCases.{IsSound};
 ghost use Rattle.refutation_laws.specs.Refutations.{asked_claim, is_node};
 ghost use Rattle.refutation_laws.specs.Models.{IsMet};
 ghost use Rattle.refutations.specs.Trees.{node_of};
 ghost use Rattle.refutations.specs.inner.Trees.{known_of};
+ghost use Rattle.refutations.specs.inner.Stack.{cases_of};
 ghost use Rattle.reasons.specs.Reasons.{IsReason, is_leaf};
-ghost use Rattle.reasons.specs.inner.Cases.{IsLeafless, IsSearchStep};
+ghost use Rattle.reasons.specs.inner.Cases.{IsLeafless, IsSearchStep, reason_or_never};
 
 use crate::leaves::{find_leaf, is_leaf};
 use crate::order::make_order;
@@ -149,28 +150,67 @@ pub fn explain(alloc: Global, test: &Test, model: Model, limit: usize) -> Result
 {
     let events = make_events(alloc, test)?;
     let mut guide = make_guide(alloc, test, &events, model)?;
-    if let Some(execution) = met_execution(alloc, &guide, test, model)? {
+    search(alloc, &mut guide, test, &events, model, limit)
+}
+
+/// The search, from the case in which nothing is answered. An execution that the guide proposes ends it before it begins.
+fn search(
+    alloc: Global,
+    guide: &mut Guide,
+    test: &Test,
+    events: &[Entry],
+    model: Model,
+    limit: usize,
+) -> Result<Reason, NoMemory>
+    requires { events.now ≡ events_of test.now }
+    ensures { IfOk result (IsReason model test.now limit) }
+{
+    if let Some(execution) = met_execution(alloc, guide, test, model)? {
         return Ok(Reason::Allowed(execution));
     }
     let mut cases = Vec::new(alloc);
     add_case(&mut cases, no_answers(alloc))?;
     let mut nodes = Vec::new(alloc);
+    match close_cases(
+        alloc, guide, test, events, model, limit, &mut cases, &mut nodes,
+    )? {
+        Some(reason) => Ok(reason),
+        None => Ok(Reason::Never(nodes)),
+    }
+}
+
+/// Goes from case to case, until each is closed by the nodes, or there is another reason to end the search.
+fn close_cases(
+    alloc: Global,
+    guide: &mut Guide,
+    test: &Test,
+    events: &[Entry],
+    model: Model,
+    limit: usize,
+    cases: &mut Vec<Answers>,
+    nodes: &mut Vec<Node>,
+) -> Result<Option<Reason>, NoMemory>
+    requires events { events.now ≡ events_of test.now }
+    requires cases { cases_of cases.old.items ≡ nothing ∷ [] }
+    requires nodes { nodes.old.items ≡ [] }
+    ensures { IfOk result (λ reason. IsReason model test.now limit (reason_or_never nodes.new reason)) }
+{
     let mut leaves = 0;
     while let Some(answers) = cases.pop() {
-        match guided_step(alloc, &mut guide, test, &events, model, &answers)? {
+        match guided_step(alloc, guide, test, events, model, &answers)? {
             Step::Leaf(leaf) => {
                 if leaves == limit {
-                    return Ok(Reason::TooMany);
+                    return Ok(Some(Reason::TooMany));
                 }
                 leaves += 1;
                 nodes.push(leaf)?;
             }
             Step::Question(question) => {
-                add_branches(alloc, &mut cases, test, &events, &answers, &question)?;
+                add_branches(alloc, cases, test, events, &answers, &question)?;
                 nodes.push(question)?;
             }
-            Step::Allowed(execution) => return Ok(Reason::Allowed(execution)),
+            Step::Allowed(execution) => return Ok(Some(Reason::Allowed(execution))),
         }
     }
-    Ok(Reason::Never(nodes))
+    Ok(None)
 }

@@ -1,5 +1,6 @@
 -- What is done with an open case.
 use Rattle.std.specs.Prelude.{◌≡◌, true, false, if◌then◌else◌, List, [], ◌∷◌, Option, Some, None}
+use Rattle.std.specs.Global.{Vec}
 use Rattle.tso_model.specs.Litmus.{Litmus}
 use Rattle.tso_model.specs.declared.execution.Entry.{Entry}
 use Rattle.refutation_laws.specs.Known.{Known, events_of}
@@ -14,6 +15,8 @@ use Rattle.refutations.specs.Trees.{node_of}
 use Rattle.refutations.specs.declared.tree.Node.{Node}
 use Rattle.refutations.specs.declared.tree.Node.TheVariants.{Between}
 use Rattle.reasons.specs.Reasons.{is_leaf}
+use Rattle.reasons.specs.declared.reason.Reason.{Reason}
+use Rattle.reasons.specs.declared.reason.Reason.TheVariants.{Never}
 use Rattle.reasons.specs.declared.reason.Step.{Step}
 use Rattle.reasons.specs.declared.reason.Step.TheVariants.{Leaf, Question, Allowed}
 
@@ -21,6 +24,11 @@ abbrev pub IsSearchStep : Model → Litmus → Known → Step → Type 0
 IsSearchStep model t k (Leaf n) = (is_node model t (asked_claim t.condition) k (node_of n) ≡ true) × (is_leaf (node_of n) ≡ true)
 IsSearchStep model t k (Question n) = (may_ask t (node_of n) ≡ true) × (is_answered k (node_of n) ≡ false)
 IsSearchStep model t k (Allowed execution) = IsMet model t (asked_claim t.condition) execution.order.items
+
+-- what ended the search, or else the nodes are a refutation
+abbrev pub reason_or_never : Vec Node → Option Reason → Reason
+reason_or_never nodes None = Never nodes
+reason_or_never nodes (Some reason) = reason
 
 -- ---- leaves
 

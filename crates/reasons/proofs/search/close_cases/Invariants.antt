@@ -1,7 +1,7 @@
 use Rattle.reasons.proofs.Vocabulary.{◌≤◌, map, node_of, cases_of}
 use Rattle.reasons.proofs.Weighing.{total}
 use Rattle.reasons.proofs.Searching.{IsSearch}
-use Rattle.reasons.proofs.search.explain.Given as goal
+use Rattle.reasons.proofs.search.close_cases.Given as goal
 
 abbrev pub invariant-loop-answers : goal.invariant-loop-answers
 invariant-loop-answers l = record {
