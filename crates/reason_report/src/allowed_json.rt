@@ -10,12 +10,12 @@ ghost use Rattle.tso_report.specs.inner.Tally.{NameExists};
 ghost use Rattle.tso_report.specs.Tally.{looked_at};
 ghost use Rattle.reason_report.specs.ReasonJson as spec;
 ghost use Rattle.reason_report.specs.inner.Shown.{IsShown, reading_value, coherence_members_by, shown_allowed_value};
-ghost use Rattle.reason_report.specs.inner.Shown.{with_candidate, with_end};
+ghost use Rattle.reason_report.specs.inner.Shown.{with_answer, with_execution};
 
 use crate::allowed_text::has_write;
-use crate::as_json::put_answer;
+use crate::asked::model_name;
 use crate::pieces::Piece;
-use crate::pieces_json::{event_value, object_of};
+use crate::pieces_json::{event_value, object_of, put_fields};
 use crate::readings::{Reading, event_of};
 use outcome_report::json::values_value;
 use refutation_laws::Model;
@@ -65,59 +65,55 @@ fn allowed_value(
     requires values { length values.now ≡ length names.now }
     ensures { IfOk result (λ value. view value ≡ shown_allowed_value model test.now order.now readings.now values.now choices.now) }
 {
+    let choices = choices_text(alloc, choices)?;
     let mut members = Map::new(alloc);
-    put_answer(&mut members, alloc, test, model, "allowed", true)?;
-    put_candidate(&mut members, alloc, test, order, readings)?;
-    put_end(&mut members, alloc, test, names, values, choices)?;
+    put_answer(&mut members, alloc, test, model, &choices)?;
+    put_execution(&mut members, alloc, test, order, readings, names, values)?;
     Ok(Value::Object(members))
 }
 
-/// What each read reads from, and the writes to each location in their order.
-fn put_candidate(
+/// What is answered to what the test asks, and the choices that lead there.
+fn put_answer<'a>(
+    members: &mut Map<String, Value>,
+    alloc: Global,
+    test: &'a Test,
+    model: Model,
+    choices: &'a str,
+) -> Result<(), NoMemory>
+    ensures { OnOk result (members_view members.new.entries ≡ with_answer model test.now choices.now (members_view members.old.entries)) }
+{
+    let fields = [
+        ("answer", Piece::Text("allowed")),
+        ("asked", Piece::Asked),
+        ("choices", Piece::Text(choices)),
+        ("model", Piece::Text(model_name(model))),
+        ("test", Piece::Text(test.name())),
+        ("verdict", Piece::Verdict(true)),
+    ];
+    put_fields(members, alloc, test, &fields)
+}
+
+/// What each read reads from, the writes to each location in their order, and the values that are looked at.
+fn put_execution(
     members: &mut Map<String, Value>,
     alloc: Global,
     test: &Test,
     order: &[Entry],
     readings: &[Reading],
-) -> Result<(), NoMemory>
-    ensures { OnOk result (members_view members.new.entries ≡ with_candidate test.now order.now readings.now (members_view members.old.entries)) }
-{
-    put(
-        members,
-        alloc,
-        "coherence",
-        coherence_value(alloc, test, order)?,
-    )?;
-    put(
-        members,
-        alloc,
-        "sources",
-        sources_value(alloc, test, readings)?,
-    )?;
-    Ok(())
-}
-
-/// Choices that lead there, and the values that are looked at.
-fn put_end(
-    members: &mut Map<String, Value>,
-    alloc: Global,
-    test: &Test,
     names: &[Named],
     values: &[u32],
-    choices: &[Choice],
 ) -> Result<(), NoMemory>
     requires known { All (NameExists (length test.now.programs) (length test.now.locations)) names.now }
     requires values { length values.now ≡ length names.now }
-    ensures { OnOk result (members_view members.new.entries ≡ with_end test.now names.now values.now choices.now (members_view members.old.entries)) }
+    ensures { OnOk result (members_view members.new.entries
+        ≡ with_execution test.now order.now readings.now names.now values.now (members_view members.old.entries)) }
 {
-    let choices = choices_text(alloc, choices)?;
-    put(members, alloc, "choices", Value::String(choices))?;
-    put(
-        members,
-        alloc,
-        "values",
-        values_value(alloc, test, names, values)?,
-    )?;
+    let coherence = coherence_value(alloc, test, order)?;
+    put(members, alloc, "coherence", coherence)?;
+    let sources = sources_value(alloc, test, readings)?;
+    put(members, alloc, "sources", sources)?;
+    let values = values_value(alloc, test, names, values)?;
+    put(members, alloc, "values", values)?;
     Ok(())
 }
 

@@ -5,14 +5,12 @@ ghost use Rattle.std.specs.Prelude.{◌≡◌, [], IfOk, OnOk, string_bytes, map
 ghost use Rattle.serde_json.specs.Data.{object, array};
 ghost use Rattle.serde_json.specs.View.{view, members_view, items_of};
 ghost use Rattle.reason_report.specs.ReasonJson as spec;
-ghost use Rattle.reason_report.specs.inner.Shown.{with_answer};
 ghost use Rattle.reason_report.specs.Views.{answer_of, closing_of, reason_step_of};
 
-use crate::asked::{asked_value, model_name};
+use crate::asked::model_name;
 use crate::pieces::Piece;
 use crate::pieces_json::{object_of, put_fields};
 use crate::steps::{Answer, Closing, Step, leaves_in};
-use outcome_report::verdict::outcomes_verdict_value;
 use refutation_laws::Model;
 use serde_json::{Map, Value, json, put};
 use std::alloc::Global;
@@ -69,36 +67,16 @@ fn put_never(
     requires { members.old.entries ≡ [] }
     ensures { OnOk result (object (members_view members.new.entries) ≡ spec.never_value_of model test.now (map reason_step_of steps.now)) }
 {
-    let leaves = leaves_in(steps);
-    put_answer(members, alloc, test, model, "never", false)?;
-    put_fields(members, alloc, test, &[("leaves", Piece::Number(leaves))])?;
-    put(members, alloc, "steps", steps_value(alloc, test, steps)?)?;
-    Ok(())
-}
-
-/// Puts what is answered to what the test asks, and herd's verdict.
-///
-/// Errors: out of memory only.
-pub fn put_answer<'a>(
-    members: &mut Map<String, Value>,
-    alloc: Global,
-    test: &'a Test,
-    model: Model,
-    answer: &'a str,
-    allowed: bool,
-) -> Result<(), NoMemory>
-    ensures { OnOk result (members_view members.new.entries
-        ≡ with_answer model test.now answer.now allowed (members_view members.old.entries)) }
-{
     let fields = [
-        ("answer", Piece::Text(answer)),
+        ("answer", Piece::Text("never")),
+        ("asked", Piece::Asked),
+        ("leaves", Piece::Number(leaves_in(steps))),
         ("model", Piece::Text(model_name(model))),
         ("test", Piece::Text(test.name())),
+        ("verdict", Piece::Verdict(false)),
     ];
     put_fields(members, alloc, test, &fields)?;
-    put(members, alloc, "asked", asked_value(alloc, test)?)?;
-    let verdict = outcomes_verdict_value(alloc, test, allowed)?;
-    put(members, alloc, "verdict", verdict)?;
+    put(members, alloc, "steps", steps_value(alloc, test, steps)?)?;
     Ok(())
 }
 

@@ -5,7 +5,7 @@ ghost use Rattle.std.specs.List.{flat_map};
 ghost use Rattle.reason_report.specs.ReasonText as spec;
 ghost use Rattle.reason_report.specs.Views.{answer_of, closing_of, reason_step_of};
 
-use crate::asked::{model_name, write_asked};
+use crate::asked::model_name;
 use crate::pieces::Piece;
 use crate::pieces_text::write_pieces;
 use crate::steps::{Answer, Closing, Step, leaves_in};
@@ -30,7 +30,6 @@ pub fn never_text(
     let mut text = String::new(alloc);
     write_test(&mut text, test)?;
     write_never(&mut text, test, model, leaves_in(steps))?;
-    write_asked(&mut text, test)?;
     write_steps(&mut text, test, steps)?;
     write_verdict(&mut text, test, false)?;
     Ok(text)
@@ -47,9 +46,9 @@ pub fn unfinished_text(alloc: Global, limit: u32) -> Result<String, NoMemory>
     Ok(text)
 }
 
-/// `Never tso leaves=3`.
+/// `Never tso leaves=3`, and what is asked.
 fn write_never(text: &mut String, test: &Test, model: Model, leaves: usize) -> Result<(), NoMemory>
-    ensures { OnOk result (string_bytes text.new ≡ string_bytes text.old ++ spec.never_line model leaves) }
+    ensures { OnOk result (string_bytes text.new ≡ string_bytes text.old ++ (spec.never_line model leaves ++ spec.asked_line test.now.condition)) }
 {
     let pieces = [
         Piece::Text("Never "),
@@ -57,6 +56,7 @@ fn write_never(text: &mut String, test: &Test, model: Model, leaves: usize) -> R
         Piece::Text(" leaves="),
         Piece::Number(leaves),
         Piece::Text("\n"),
+        Piece::Asked,
     ];
     write_pieces(text, test, &pieces)
 }

@@ -2,12 +2,9 @@
 
 ghost use Rattle.std.specs.Prelude.{◌≡◌, ◌++◌, IfOk, OnOk, string_bytes};
 ghost use Rattle.serde_json.specs.View.{view};
-ghost use Rattle.tso_report.specs.Report.{printed_truth};
 ghost use Rattle.reason_report.specs.ReasonText as spec;
 ghost use Rattle.reason_report.specs.ReasonJson as values;
 
-use crate::pieces::Piece;
-use crate::pieces_text::write_pieces;
 use refutation_laws::Model;
 use serde_json::{Value, json};
 use std::alloc::Global;
@@ -38,23 +35,16 @@ pub fn truth_asked(quantifier: Quantifier) -> bool
 pub fn write_asked(text: &mut String, test: &Test) -> Result<(), NoMemory>
     ensures { OnOk result (string_bytes text.new ≡ string_bytes text.old ++ spec.asked_line test.now.condition) }
 {
-    let Some(cond) = test.cond() else {
-        return Ok(());
-    };
-    let pieces = [
-        Piece::Text("Asked "),
-        Piece::Text(quantifier_text(cond.quantifier)),
-        Piece::Text(" "),
-        Piece::Text(truth_word(truth_asked(cond.quantifier))),
-        Piece::Text("\n"),
-    ];
-    write_pieces(text, test, &pieces)
-}
-
-fn truth_word(truth: bool) -> &'static str
-    ensures { result.now ≡ printed_truth truth }
-{
-    if truth { "true" } else { "false" }
+    if let Some(cond) = test.cond() {
+        let quantifier = quantifier_text(cond.quantifier);
+        let truth = if truth_asked(cond.quantifier) {
+            "true"
+        } else {
+            "false"
+        };
+        write!(text, "Asked {quantifier} {truth}\n")?;
+    }
+    Ok(())
 }
 
 /// The quantifier of the condition and the truth that it asks for, or `null`.

@@ -11,6 +11,10 @@ pub enum Piece<'a> {
     Number(usize),
     /// How deep a step stands: so many blanks in a line.
     Depth(usize),
+    /// What the test asks.
+    Asked,
+    /// Herd's verdict where what the test asks can be, or where it never is.
+    Verdict(bool),
     /// An event.
     Event(&'a Event),
     /// What a read reads from; none is the initial write.

@@ -11,9 +11,11 @@ ghost use Rattle.reason_report.specs.inner.Pieces as pieces;
 ghost use Rattle.reason_report.specs.inner.Pieces.{with_fields};
 ghost use Rattle.reason_report.specs.Views.{place_of};
 
+use crate::asked::asked_value;
 use crate::pieces::Piece;
 use crate::pieces_text::{key_text, relation_text, write_event, write_source};
 use crate::steps::{Edge, Event, Place};
+use outcome_report::verdict::outcomes_verdict_value;
 use serde_json::{Map, Value, put};
 use std::alloc::Global;
 use tso_model::{NoMemory, Test};
@@ -59,6 +61,8 @@ fn piece_value(alloc: Global, test: &Test, piece: Piece<'_>) -> Result<Value, No
         Piece::Text(characters) => Ok(Value::try_from_str(alloc, characters)?),
         Piece::Number(number) => Ok(Value::from(number)),
         Piece::Depth(depth) => Ok(Value::from(depth)),
+        Piece::Asked => asked_value(alloc, test),
+        Piece::Verdict(allowed) => outcomes_verdict_value(alloc, test, allowed),
         Piece::Event(event) => event_value(alloc, test, event),
         Piece::Source(write) => source_value(alloc, test, write),
         Piece::Sources(writes) => sources_value(alloc, test, writes),

@@ -9,9 +9,11 @@ ghost use Rattle.reason_report.specs.inner.Views.{known_access};
 ghost use Rattle.reason_report.specs.Views.{place_of};
 ghost use Rattle.reason_report.specs.inner.Views.{value_text};
 
+use crate::asked::write_asked;
 use crate::pieces::Piece;
 use crate::steps::{Edge, Event, Place};
 use order_builder::letters_of;
+use outcome_report::verdict::write_verdict;
 use refutation_laws::Relation;
 use std::alloc::Global;
 use tso_model::{Kind, Loc, NoMemory, Test};
@@ -36,6 +38,8 @@ fn write_piece(text: &mut String, test: &Test, piece: Piece<'_>) -> Result<(), N
         Piece::Text(characters) => Ok(text.push_str(characters)?),
         Piece::Number(number) => Ok(write!(text, "{number}")?),
         Piece::Depth(depth) => write_blanks(text, depth),
+        Piece::Asked => write_asked(text, test),
+        Piece::Verdict(allowed) => write_verdict(text, test, allowed),
         Piece::Event(event) => write_event(text, test, event),
         Piece::Source(write) => write_source(text, test, write),
         Piece::Sources(writes) => write_sources(text, test, writes),

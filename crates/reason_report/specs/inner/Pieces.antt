@@ -7,8 +7,9 @@ use Rattle.serde_json.specs.Data.{Data, string, array, object, Members, put}
 use Rattle.serde_json.specs.View.{items_of}
 use Rattle.tso_model.specs.Litmus.{Litmus}
 use Rattle.tso_report.specs.Json.{count}
-use Rattle.reason_report.specs.ReasonText.{blanks, event_text, source_text, sources_text, cycle_text, place_text}
-use Rattle.reason_report.specs.ReasonJson.{event_value, edges_value, place_members}
+use Rattle.outcome_report.specs.Verdict.{verdict_line, outcomes_verdict_value}
+use Rattle.reason_report.specs.ReasonText.{asked_line, blanks, event_text, source_text, sources_text, cycle_text, place_text}
+use Rattle.reason_report.specs.ReasonJson.{asked_value, event_value, edges_value, place_members}
 use Rattle.reason_report.specs.Views.{place_of}
 use Rattle.reason_report.specs.declared.pieces.Piece.{Piece}
 use Rattle.reason_report.specs.declared.pieces.Piece.TheVariants as piece
@@ -17,6 +18,8 @@ abbrev pub piece_text : Litmus → Piece → List ℕ
 piece_text t (piece.Text text) = text.now
 piece_text t (piece.Number n) = decimal n
 piece_text t (piece.Depth depth) = blanks depth
+piece_text t piece.Asked = asked_line t.condition
+piece_text t (piece.Verdict allowed) = verdict_line t.condition allowed
 piece_text t (piece.Event e) = event_text t e.now
 piece_text t (piece.Source write) = source_text t write.now
 piece_text t (piece.Sources writes) = sources_text t writes.now
@@ -27,6 +30,8 @@ abbrev pub piece_value : Litmus → Piece → Data
 piece_value t (piece.Text text) = string text.now
 piece_value t (piece.Number n) = count n
 piece_value t (piece.Depth depth) = count depth
+piece_value t piece.Asked = asked_value t.condition
+piece_value t (piece.Verdict allowed) = outcomes_verdict_value t.condition allowed
 piece_value t (piece.Event e) = event_value t e.now
 piece_value t (piece.Source write) = string (source_text t write.now)
 piece_value t (piece.Sources writes) = array (items_of (map (λ w. string (source_text t w)) writes.now))

@@ -1,5 +1,5 @@
 -- An execution as the code shows it: what its reads read from, by its order.
-use Rattle.std.specs.Prelude.{ℕ, ◌+◌, ◌≡◌, Bool, true, List, [], ◌∷◌, ◌++◌, map, filter, Option, Some, None, codes}
+use Rattle.std.specs.Prelude.{ℕ, ◌+◌, ◌≡◌, true, List, [], ◌∷◌, ◌++◌, map, filter, Option, Some, None, codes}
 use Rattle.serde_json.specs.Data.{Data, string, array, object, Members, no_members, member, put}
 use Rattle.serde_json.specs.View.{items_of}
 use Rattle.tso_model.specs.Litmus.{Litmus}
@@ -85,26 +85,22 @@ coherence_members_by t order loc [] = no_members
 coherence_members_by t order loc (name ∷ names) =
     with_coherence t name (filter (writes_to loc) order) (coherence_members_by t order (loc + 1) names)
 
--- these members, and what is answered to what the test asks, with herd's verdict
-abbrev pub with_answer : Model → Litmus → List ℕ → Bool → Members → Members
-with_answer model t answer allowed members =
-    put (codes "verdict") (outcomes_verdict_value t.condition allowed)
-    (put (codes "asked") (asked_value t.condition)
+-- these members, and what is answered to what the test asks, with choices that lead there
+abbrev pub with_answer : Model → Litmus → List ℕ → Members → Members
+with_answer model t choices members =
+    put (codes "verdict") (outcomes_verdict_value t.condition true)
     (put (codes "test") (string t.name)
     (put (codes "model") (string (model_name model))
-    (put (codes "answer") (string answer) members))))
+    (put (codes "choices") (string choices)
+    (put (codes "asked") (asked_value t.condition)
+    (put (codes "answer") (string (codes "allowed")) members)))))
 
--- and what each read reads from, and the writes to each location
-abbrev pub with_candidate : Litmus → List Entry → List Reading → Members → Members
-with_candidate t order readings members =
-    put (codes "sources") (array (items_of (map (reading_value t) readings)))
-    (put (codes "coherence") (object (coherence_members_by t order 0 t.locations)) members)
-
--- and choices that lead there, and the values at these
-abbrev pub with_end : Litmus → List Named → List ℕ → List Choice → Members → Members
-with_end t names values choices members =
+-- and what each read reads from, the writes to each location, and the values at these
+abbrev pub with_execution : Litmus → List Entry → List Reading → List Named → List ℕ → Members → Members
+with_execution t order readings names values members =
     put (codes "values") (object (value_members t names values))
-    (put (codes "choices") (string (printed_choices choices)) members)
+    (put (codes "sources") (array (items_of (map (reading_value t) readings)))
+    (put (codes "coherence") (object (coherence_members_by t order 0 t.locations)) members))
 
 -- all of it, as `allowed_value` has it of a candidate
 abbrev pub shown_allowed_value : Model → Litmus → List Entry → List Reading → List ℕ → List Choice → Data

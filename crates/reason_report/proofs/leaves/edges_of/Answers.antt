@@ -1,0 +1,15 @@
+use Rattle.reason_report.proofs.Vocabulary.{[], ◌∷◌, ◌++◌, ap, sym, ◌∙◌, drop_all, known_of, relations_of}
+use Rattle.reason_report.specs.Steps as spec
+use Rattle.reason_report.proofs.leaves.edges_of.Goals as goal
+
+-- the edge back to the first event is the last one
+pub returns : goal.returns
+returns c =
+    let t = c.args.tree.test.now in
+    let k = known_of c.args.given.now.answers in
+    let edges = c.loop-next.edges.items in
+    c.in_ok-push-2.ensures.items
+    ∙ (ap (λ e. edges ++ (e ∷ [])) c.edge_at-2.ensures
+    ∙ (ap (λ es. edges ++ es) (sym (ap (spec.edges_back t k (relations_of c.args.acyclic) c.in-Some.first.now c.loop-next.last.now)
+    (drop_all c.loop-next.next-index c.in-Some.rest.now c.loop-next-test.false)))
+    ∙ c.loop-next.invariant))
