@@ -14,7 +14,7 @@ pub record ItemsAfter (part : Part) (i : Initial) (ps : List Piece) (total : Rea
 pub items_start : (part : Part) (names : List (List ℕ)) (ps : List Piece) → ItemsAfter part (initial names [] []) ps (items_at part names ps)
 items_start part names ps = record { count = length ps; enough = omega arith; same = refl }
 
-nothing_left : (symbol : Symbol) (ps : List Piece) → length ps ≤ 0 → symbol_at symbol ps ≡ None
+pub nothing_left : (symbol : Symbol) (ps : List Piece) → length ps ≤ 0 → symbol_at symbol ps ≡ None
 unfolding symbol_at
 nothing_left symbol [] le = refl
 nothing_left symbol (p ∷ ps) le = absurd (omega arith)
@@ -45,7 +45,7 @@ items_go_on part i after ps rest total at is shorter b = by_count b.count b.enou
     }
 
 -- where nothing is left, a step is refused as the end is
-at_the_end : (part : Part) (i : Initial) (ps : List Piece) → length ps ≤ 0 → step_in part i ps ≡ Err (unfit part ps)
+pub at_the_end : (part : Part) (i : Initial) (ps : List Piece) → length ps ≤ 0 → step_in part i ps ≡ Err (unfit part ps)
 unfolding step_in item_in setting_at plain_setting location_at name_at number_at symbol_at
 at_the_end part i [] le = refl
 at_the_end part i (p ∷ ps) le = absurd (omega arith)

@@ -48,3 +48,4 @@ pub mod SettingCuts
 pub mod SectionItems
 pub mod SectionRows
 pub mod SectionReadings
+pub mod Sectioned

@@ -5,7 +5,7 @@ use Rattle.litmus_reader.proofs.Cuts.{Section, Cut, CutAfter, AtEnd, AlikeOption
 
 -- ---- a section of a text
 
-through_map : (ends : List Symbol) (A B : Type 0) → (A → B) → (ps : List Piece) → Through ends A ps → Through ends B ps
+pub through_map : (ends : List Symbol) (A B : Type 0) → (A → B) → (ps : List Piece) → Through ends A ps → Through ends B ps
 through_map ends A B f [] h = f h
 through_map ends A B f (p ∷ ps) h = by_test (is_one_of ends p) (through_map ends A B f ps) h
   where
@@ -19,10 +19,10 @@ item_section remaining text rest stop = record { ends = item_ends; more = tokens
 pub item_section_cut : (remaining : ℕ) (text rest : List ℕ) (ps : List Piece) (stop : Stop) → IsSection item_ends text ps rest stop → Cut (item_section remaining text rest stop) ps (tokens_in text)
 item_section_cut remaining text rest ps stop s = record { parts = s.tokens; through = through_map item_ends _ _ (λ h. (h.0, ap (in_initial remaining) h.1)) ps s.through }
 
-abbrev pub row_section : List ℕ → List ℕ → Stop → Section
-row_section text rest stop = record { ends = row_ends; more = tokens_in rest; part = part_of BadHeaderRow stop; whole = part_of BadHeaderRow (stop_of text); same_why = refl }
+abbrev pub row_section : List Piece → Stop → Stop → Section
+row_section more stop also = record { ends = row_ends; more = more; part = part_of BadHeaderRow stop; whole = part_of BadHeaderRow also; same_why = refl }
 
-pub row_section_cut : (text rest : List ℕ) (ps : List Piece) (stop : Stop) → IsSection row_ends text ps rest stop → Cut (row_section text rest stop) ps (tokens_in text)
+pub row_section_cut : (text rest : List ℕ) (ps : List Piece) (stop : Stop) → IsSection row_ends text ps rest stop → Cut (row_section (tokens_in rest) stop (stop_of text)) ps (tokens_in text)
 row_section_cut text rest ps stop s = record { parts = s.tokens; through = through_map row_ends _ _ (λ h. (h.0, ap (part_of BadHeaderRow) h.1)) ps s.through }
 
 -- ---- the header row
@@ -57,45 +57,45 @@ separator_cut k of ps all c =
 abbrev pub EndAfter : Section → ℕ × List Piece → ℕ × List Piece → Type 0
 EndAfter k x y = (x.0 ≡ y.0) × AtEnd k x.1 y.1
 
-columns_cut : (text rest : List ℕ) (stop : Stop) (n core : ℕ) (ps all : List Piece) → Cut (row_section text rest stop) ps all
-    → Alike (EndAfter (row_section text rest stop)) (columns stop n core ps) (columns (stop_of text) n core all)
+pub columns_cut : (more : List Piece) (stop also : Stop) (n core : ℕ) (ps all : List Piece) → Cut (row_section more stop also) ps all
+    → Alike (EndAfter (row_section more stop also)) (columns stop n core ps) (columns also n core all)
 unfolding columns
-columns_cut text rest stop zero core ps all c =
-    let k = row_section text rest stop in
-    bind_alike (Cut k) (EndAfter k) (or_unfit (part_of BadHeaderRow stop) ps (word_after (core_name core) ps)) (or_unfit (part_of BadHeaderRow (stop_of text)) all (word_after (core_name core) all)) _ _ (or_unfit_alike k (Cut k) ps all _ _ c (core_cut k core ps all c))
+columns_cut more stop also zero core ps all c =
+    let k = row_section more stop also in
+    bind_alike (Cut k) (EndAfter k) (or_unfit (part_of BadHeaderRow stop) ps (word_after (core_name core) ps)) (or_unfit (part_of BadHeaderRow also) all (word_after (core_name core) all)) _ _ (or_unfit_alike k (Cut k) ps all _ _ c (core_cut k core ps all c))
     (λ x y a. ap (λ (l : ℕ). Err (fault TooLarge l)) (remaining_cut k ps all c))
-columns_cut text rest stop (suc n) core ps all c =
-    let k = row_section text rest stop in
-    bind_alike (Cut k) (EndAfter k) (or_unfit (part_of BadHeaderRow stop) ps (word_after (core_name core) ps)) (or_unfit (part_of BadHeaderRow (stop_of text)) all (word_after (core_name core) all)) _ _ (or_unfit_alike k (Cut k) ps all _ _ c (core_cut k core ps all c))
-    (λ x y a. bind_alike (AfterSeparator k) (EndAfter k) (or_unfit (part_of BadHeaderRow stop) x (separator_at x)) (or_unfit (part_of BadHeaderRow (stop_of text)) y (separator_at y)) _ _ (or_unfit_alike k (AfterSeparator k) x y _ _ a (separator_cut k refl x y a))
+columns_cut more stop also (suc n) core ps all c =
+    let k = row_section more stop also in
+    bind_alike (Cut k) (EndAfter k) (or_unfit (part_of BadHeaderRow stop) ps (word_after (core_name core) ps)) (or_unfit (part_of BadHeaderRow also) all (word_after (core_name core) all)) _ _ (or_unfit_alike k (Cut k) ps all _ _ c (core_cut k core ps all c))
+    (λ x y a. bind_alike (AfterSeparator k) (EndAfter k) (or_unfit (part_of BadHeaderRow stop) x (separator_at x)) (or_unfit (part_of BadHeaderRow also) y (separator_at y)) _ _ (or_unfit_alike k (AfterSeparator k) x y _ _ a (separator_cut k refl x y a))
     (λ u v b. cond_alike (Alike (EndAfter k)) u.0 v.0 _ _ _ _ b.0
-    (λ is. columns_cut text rest stop n (core + 1) u.1 v.1 (rw is at b.1))
+    (λ is. columns_cut more stop also n (core + 1) u.1 v.1 (rw is at b.1))
     (λ is. ((core + 1, v.1), refl, (refl, rw is at b.1)))))
 
 pub header_found : (text rest : List ℕ) (stop : Stop) (cores : ℕ) (ps after : List Piece) → IsSection row_ends text ps rest stop → Ok (cores, after) ≡ columns stop most_cores 0 ps
     → Ok (cores, tokens_in rest) ≡ columns (stop_of text) most_cores 0 (tokens_in text)
 header_found text rest stop cores ps after s e =
-    let k = row_section text rest stop in
-    let a : Alike (EndAfter k) (Ok (cores, after)) (columns (stop_of text) most_cores 0 (tokens_in text)) = rw (sym e) at (columns_cut text rest stop most_cores 0 ps (tokens_in text) (row_section_cut text rest ps stop s)) in
+    let k = row_section (tokens_in rest) stop (stop_of text) in
+    let a : Alike (EndAfter k) (Ok (cores, after)) (columns (stop_of text) most_cores 0 (tokens_in text)) = rw (sym e) at (columns_cut (tokens_in rest) stop (stop_of text) most_cores 0 ps (tokens_in text) (row_section_cut text rest ps stop s)) in
     sym (a.1 ∙ ap (λ (n : ℕ). Ok (n, a.0.1)) (sym a.2.0) ∙ ap (λ (l : List Piece). Ok (cores, l)) a.2.1.1)
 
 pub header_fails : (text rest : List ℕ) (stop : Stop) (f : Fault) (ps : List Piece) → IsSection row_ends text ps rest stop → Err f ≡ columns stop most_cores 0 ps → Err f ≡ columns (stop_of text) most_cores 0 (tokens_in text)
 header_fails text rest stop f ps s e =
-    let k = row_section text rest stop in
-    let a : Alike (EndAfter k) (Err f) (columns (stop_of text) most_cores 0 (tokens_in text)) = rw (sym e) at (columns_cut text rest stop most_cores 0 ps (tokens_in text) (row_section_cut text rest ps stop s)) in
+    let k = row_section (tokens_in rest) stop (stop_of text) in
+    let a : Alike (EndAfter k) (Err f) (columns (stop_of text) most_cores 0 (tokens_in text)) = rw (sym e) at (columns_cut (tokens_in rest) stop (stop_of text) most_cores 0 ps (tokens_in text) (row_section_cut text rest ps stop s)) in
     sym a
 
 -- ---- rows
 
-abbrev Within : List Piece → Type 0
+abbrev pub Within : List Piece → Type 0
 Within [] = Unit {0}
 Within (p ∷ ps) = (is_symbol Semicolon p ≡ false) × Within ps
 
-data Ending (Otherwise : Type 0) : List Piece → Type 0 where
+pub data Ending (Otherwise : Type 0) : List Piece → Type 0 where
   ended : (front : List Piece) (last : Piece) → Within front → is_symbol Semicolon last ≡ true → Ending Otherwise (front ++ last ∷ [])
   endless : (ps : List Piece) → Within ps → Otherwise → Ending Otherwise ps
 
-ending : (Otherwise : Type 0) (ps : List Piece) → Through row_ends Otherwise ps → Ending Otherwise ps
+pub ending : (Otherwise : Type 0) (ps : List Piece) → Through row_ends Otherwise ps → Ending Otherwise ps
 ending Otherwise [] h = endless [] tt h
 ending Otherwise (p ∷ ps) h = by_test (is_symbol Semicolon p) refl (ending Otherwise ps) h
   where
@@ -138,7 +138,7 @@ pub record RowFound (stop : Stop) (all row more : List Piece) : Type 0 where
   pub is : row_at stop all ≡ Ok (row, more)
   pub shorter : length more < length all
 
-row_found_by : (stop also : Stop) (ps more row after : List Piece) → Ending ((more ≡ []) × (stop ≡ also)) ps → Ok (row, after) ≡ row_at stop ps → RowFound also (ps ++ more) row more
+pub row_found_by : (stop also : Stop) (ps more row after : List Piece) → Ending ((more ≡ []) × (stop ≡ also)) ps → Ok (row, after) ≡ row_at stop ps → RowFound also (ps ++ more) row more
 row_found_by stop also _ more row after (ended front last within is) e =
     let here : (let q : Result (List Piece × List Piece) Fault = Ok (front, []) in q) ≡ Ok (row, after) = sym (row_here stop front [] last within is) ∙ sym e in
     let same : front ≡ row = ap (λ (r : Result (List Piece × List Piece) Fault). elim r [ Ok x ↦ x.0 | Err f ↦ [] ]) here in
@@ -151,7 +151,7 @@ row_found_by stop also ps more row after (endless _ within holds) e =
     let never : (let q : Result (List Piece × List Piece) Fault = Ok (row, after) in q) ≡ Err (at_stop (fault Unclosed (remaining_of ps)) stop) = e ∙ row_missing stop ps within in
     absurd cc
 
-row_fails_by : (stop also : Stop) (f : Fault) (ps more : List Piece) → Ending ((more ≡ []) × (stop ≡ also)) ps → Err f ≡ row_at stop ps → row_at also (ps ++ more) ≡ Err f
+pub row_fails_by : (stop also : Stop) (f : Fault) (ps more : List Piece) → Ending ((more ≡ []) × (stop ≡ also)) ps → Err f ≡ row_at stop ps → row_at also (ps ++ more) ≡ Err f
 row_fails_by stop also f _ more (ended front last within is) e =
     let never : (let q : Result (List Piece × List Piece) Fault = Err f in q) ≡ Ok (front, []) = e ∙ row_here stop front [] last within is in
     absurd cc
@@ -166,4 +166,4 @@ pub row_not_found : (text rest : List ℕ) (stop : Stop) (f : Fault) (ps : List 
 row_not_found text rest stop f ps s e = rw s.tokens (row_fails_by stop (stop_of text) f ps (tokens_in rest) (ending _ ps s.through) e)
 
 pub remaining_kept : (text rest : List ℕ) (stop : Stop) (ps : List Piece) → IsSection row_ends text ps rest stop → remaining_of ps ≡ remaining_of (tokens_in text)
-remaining_kept text rest stop ps s = sym (remaining_cut (row_section text rest stop) ps (tokens_in text) (row_section_cut text rest ps stop s))
+remaining_kept text rest stop ps s = sym (remaining_cut (row_section (tokens_in rest) stop (stop_of text)) ps (tokens_in text) (row_section_cut text rest ps stop s))

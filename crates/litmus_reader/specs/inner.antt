@@ -7,3 +7,4 @@ pub mod Reading
 pub mod Rows
 pub mod Returned
 pub mod Sections
+pub mod Sectioned
