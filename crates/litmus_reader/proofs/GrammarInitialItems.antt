@@ -1,80 +1,59 @@
 -- Initial states are read as they are spelled.
-use Rattle.litmus_reader.proofs.Vocabulary.{◌≡◌, ℕ, zero, suc, ◌<◌, Bool, true, false, cond, List, [], ◌∷◌, ◌++◌, length, Some, None, Ok, Err, refl, sym, ap, subst, ◌∙◌, inl, inr, append_assoc, arith, length-append, length-map, append-nil, Stop, OpenCurly, CloseCurly, Semicolon, Term, number, name, symbol, Piece, is_symbol, symbol_at, Part, ◌>>=◌, setting_at, Initial, initial, judged, item_in, step_in, items_within, items_at, initial_at, ends_item, terms, IsSetting, sets_register, sets_location, sets_in_squares, IsInitialItem, AreInitialItems, last, more, IsInitialState, in_braces, Fits, unfit, remaining_of, in_initial, Setting, or_unfit, Passes, ◌||◌}
+use Rattle.litmus_reader.proofs.Vocabulary.{End, Unclosed, OpenSquare, section_of, there, section, item_end, Section, item_ends, fault, ◌≡◌, ℕ, zero, suc, Bool, true, false, cond, List, [], ◌∷◌, ◌++◌, length, Some, None, Ok, Err, refl, sym, ap, subst, ◌∙◌, inl, inr, append_assoc, arith, append-nil, Stop, OpenCurly, CloseCurly, Semicolon, Term, number, name, symbol, Piece, is_symbol, symbol_at, Part, setting_at, Initial, initial, judged, item_in, items_within, items_at, initial_at, terms, IsSetting, sets_register, sets_location, sets_in_squares, IsInitialItem, AreInitialItems, last, more, IsInitialState, in_braces, Fits, remaining_of, in_initial, Setting, or_unfit, Passes}
 use Rattle.litmus_reader.specs.GrammarInitial.{empty, given}
-use Rattle.litmus_reader.proofs.ItemSteps.{ReadItems, ItemsAfter, items_start, items_end, items_go_on}
-use Rattle.litmus_reader.proofs.GrammarTokens.{chosen, there_is, bind_ok, or_unfit_ok, ok_pair, opened, symbol_found, terms_append}
+use Rattle.litmus_reader.proofs.ItemSteps.{ReadItems, ItemsAfter, items_start, items_done, items_further}
+use Rattle.litmus_reader.proofs.SectionSteps.{Lacks, ends_with, section_found, section_terms, section_last, section_parts}
+use Rattle.litmus_reader.proofs.GrammarTokens.{there_is, there_some, some_is, bind_ok, or_unfit_ok, ok_pair, opened, symbol_found, terms_append}
 use Rattle.litmus_reader.proofs.GrammarItems.{setting_found, setting_taken}
 use Rattle.litmus_reader.proofs.GrammarInitialJudged.{Holds, judged_found, judged_taken}
 use Rattle.litmus_reader.proofs.Readings.{Reads}
 
 -- ---- found
 
--- a setting begins with neither `;` nor `}`
-pub record NoEnd (ps : List Piece) : Type 0 where
-  pub semicolon : symbol_at Semicolon ps ≡ None
-  pub curly : symbol_at CloseCurly ps ≡ None
+-- a setting has none of the symbols with which an item ends, and doesn't begin with one
+record IsNoEnd (ts : List Term) : Type 0 where
+  pub lacks : Lacks (ends_with item_ends) ts
+  pub before_it : (back : List Term) (ps : List Piece) → terms ps ≡ ts ++ back → item_end ps ≡ None
 
-pub no_end : (ts back : List Term) (s : Setting) → IsSetting ts s → (ps : List Piece) → terms ps ≡ ts ++ back → NoEnd ps
-unfolding symbol_at is_symbol
-no_end _ back _ (sets_register core word v reg good) ps e =
-    opened NoEnd ps (number core) _ e (λ p rest is after_it. record { semicolon = rw is refl; curly = rw is refl })
-no_end _ back _ (sets_location x v good) ps e =
-    opened NoEnd ps (name x) _ e (λ p rest is after_it. record { semicolon = rw is refl; curly = rw is refl })
-no_end _ back _ (sets_in_squares x v good) ps e =
-    opened NoEnd ps _ _ e (λ p rest is after_it. record { semicolon = rw is refl; curly = rw is refl })
+setting_no_end : (ts : List Term) (s : Setting) → IsSetting ts s → IsNoEnd ts
+unfolding item_end symbol_at is_symbol
+setting_no_end _ _ (sets_register core word v reg good) = record { lacks = (refl, (refl, (refl, (refl, (refl, tt))))); before_it = λ back ps e. opened (λ ps. item_end ps ≡ None) ps (number core) _ e (λ p rest is _. rw is refl) }
+setting_no_end _ _ (sets_location x v good) = record { lacks = (refl, (refl, (refl, tt))); before_it = λ back ps e. opened (λ ps. item_end ps ≡ None) ps (name x) _ e (λ p rest is _. rw is refl) }
+setting_no_end _ _ (sets_in_squares x v good) = record { lacks = (refl, (refl, (refl, (refl, (refl, tt))))); before_it = λ back ps e. opened (λ ps. item_end ps ≡ None) ps (symbol OpenSquare) _ e (λ p rest is _. rw is refl) }
 
-pub length-terms : (ps : List Piece) → length (terms ps) ≡ length ps
-length-terms ps = length-map ps (λ p. p.term)
+item_lacks : (ts : List Term) (item : List Setting) → IsInitialItem ts item → Lacks (ends_with item_ends) ts
+item_lacks _ _ empty = tt
+item_lacks _ _ (given ts s is) = (setting_no_end ts s is).lacks
 
-pub setting_some : (ts : List Term) (s : Setting) → IsSetting ts s → 0 < length ts
-setting_some _ _ (sets_register core word v reg good) = omega arith
-setting_some _ _ (sets_location x v good) = omega arith
-setting_some _ _ (sets_in_squares x v good) = omega arith
+-- what ends an item, and with the last one the initial state
+abbrev end_term : Bool → Term
+end_term true = symbol CloseCurly
+end_term false = symbol Semicolon
 
--- what ends an item
-pub data IsEnd : Term → Type 0 where
-  at_semicolon : IsEnd (symbol Semicolon)
-  at_curly : IsEnd (symbol CloseCurly)
+is_end : (is_last : Bool) → ends_with item_ends (end_term is_last) ≡ true
+is_end true = refl
+is_end false = refl
 
-pub ended : (t : Term) (back : List Term) → IsEnd t → (ps : List Piece) → terms ps ≡ t ∷ back → ends_item ps ≡ true
-unfolding ends_item is_symbol
-ended _ back at_semicolon ps e = opened (λ ps. ends_item ps ≡ true) ps (symbol Semicolon) back e (λ p rest is after_it. rw is refl)
-ended _ back at_curly ps e = opened (λ ps. ends_item ps ≡ true) ps (symbol CloseCurly) back e (λ p rest is after_it. rw is refl)
+ended : (is_last : Bool) (ps : List Piece) → terms ps ≡ end_term is_last ∷ [] → item_end ps ≡ Some is_last
+unfolding item_end symbol_at is_symbol
+ended true ps e = opened (λ ps. item_end ps ≡ Some true) ps (symbol CloseCurly) [] e (λ p rest is _. rw is refl)
+ended false ps e = opened (λ ps. item_end ps ≡ Some false) ps (symbol Semicolon) [] e (λ p rest is _. rw is refl)
 
--- an item is taken in, and what stands from its end on
-pub record Stepped (part : Part) (i : Initial) (ps : List Piece) (done : List Setting) (after_it : List Term) : Type 0 where
+-- an item is taken in
+record ItemFound (part : Part) (i : Initial) (ps : List Piece) (done : List Setting) (is_last : Bool) : Type 0 where
   pub after : Initial
-  pub rest : List Piece
-  pub is : step_in part i ps ≡ Ok (after, rest)
-  pub goes_on : None ≡ symbol_at CloseCurly ps
-  pub shorter : length rest < length ps
-  pub parts : terms rest ≡ after_it
+  pub is : item_in part i ps ≡ Ok (after, is_last)
   pub holds : Holds done after
 
-pub item_stepped : (part : Part) (i : Initial) (ps : List Piece) (done others : List Setting) (s : Setting) (ts back : List Term) (t : Term) → IsEnd t → IsSetting ts s → terms ps ≡ ts ++ t ∷ back
-    → Holds done i → Fits (done ++ s ∷ others) → Stepped part i ps (done ++ s ∷ []) (t ∷ back)
-unfolding step_in item_in
-item_stepped part i ps done others s ts back t end is e h fits =
-    let found = setting_found part ts (t ∷ back) s is ps e in
-    let none = no_end ts (t ∷ back) s is ps e in
+item_found : (part : Part) (i : Initial) (ps : List Piece) (done item others : List Setting) (ts : List Term) (is_last : Bool) → IsInitialItem ts item → terms ps ≡ ts ++ end_term is_last ∷ []
+    → Holds done i → Fits (done ++ (item ++ others)) → ItemFound part i ps (done ++ item) is_last
+unfolding item_in
+item_found part i ps done _ others _ is_last empty e h fits = record { after = i; is = rw (ended is_last ps e) refl; holds = subst (λ (l : List Setting). Holds l i) (sym (append-nil done)) h }
+item_found part i ps done _ others _ is_last (given ts s is) e h fits =
+    let found = setting_found part ts (end_term is_last ∷ []) s is ps e in
+    let none = (setting_no_end ts s is).before_it (end_term is_last ∷ []) ps e in
     let j = judged_found (remaining_of ps) i done others s h fits in
-    let ends = ended t back end found.rest found.after_it in
-    let long = setting_some ts s is in
-    record {
-      after = j.after;
-      rest = found.rest;
-      is = rw (none.semicolon, found.is, ends, j.is) refl;
-      goes_on = sym none.curly;
-      shorter = omega (arith, long, ap length e, length-append ts (t ∷ back), length-terms ps, ap length found.after_it, length-terms found.rest);
-      parts = found.after_it;
-      holds = j.holds;
-    }
-
-pub semicolon_stepped : (part : Part) (i : Initial) (ps : List Piece) (done : List Setting) (back : List Term) → terms ps ≡ symbol Semicolon ∷ back → Holds done i → Stepped part i ps done back
-unfolding step_in symbol_at is_symbol
-semicolon_stepped part i ps done back e h =
-    opened (λ ps. Stepped part i ps done back) ps (symbol Semicolon) back e (λ p rest is after_it.
-    record { after = i; rest = rest; is = rw is refl; goes_on = rw is refl; shorter = omega arith; parts = after_it; holds = h })
+    record { after = j.after; is = rw (none, found.is, ended is_last found.rest found.after_it, j.is) refl; holds = j.holds }
 
 -- all items are taken in
 record Found (total : ReadItems) (settings : List Setting) (back : List Term) : Type 0 where
@@ -84,34 +63,35 @@ record Found (total : ReadItems) (settings : List Setting) (back : List Term) : 
   pub parts : terms rest ≡ back
   pub holds : Holds settings after
 
-pub go_on : (part : Part) (i : Initial) (ps : List Piece) (done : List Setting) (after_it : List Term) (total : ReadItems) → (s : Stepped part i ps done after_it) → ItemsAfter part i ps total → ItemsAfter part s.after s.rest total
-go_on part i ps done after_it total s b = items_go_on part i s.after ps s.rest total s.goes_on s.is s.shorter b
+-- an item is found as a section, and taken in
+record OneFound (remaining : ℕ) (stop : Stop) (i : Initial) (ps : List Piece) (done : List Setting) (is_last : Bool) (back : List Term) : Type 0 where
+  pub s : Section
+  pub at : section_of item_ends stop ps ≡ s
+  pub one : ItemFound (in_initial remaining s.stop) i s.tokens done is_last
+  pub after_it : terms s.rest ≡ back
 
-closed : (part : Part) (i : Initial) (ps : List Piece) (total : ReadItems) (done : List Setting) (back : List Term) → terms ps ≡ symbol CloseCurly ∷ back → Holds done i → ItemsAfter part i ps total → Found total done back
-unfolding symbol_at is_symbol
-closed part i ps total done back e h =
-    opened (λ ps. ItemsAfter part i ps total → Found total done back) ps (symbol CloseCurly) back e (λ p rest is after_it b.
-    record { after = i; rest = rest; is = items_end part i (p ∷ rest) rest total (rw is refl) b; parts = after_it; holds = h })
+one_found : (remaining : ℕ) (stop : Stop) (i : Initial) (ps : List Piece) (done item others : List Setting) (ts back : List Term) (is_last : Bool) → IsInitialItem ts item → terms ps ≡ ts ++ end_term is_last ∷ back
+    → Holds done i → Fits (done ++ (item ++ others)) → OneFound remaining stop i ps (done ++ item) is_last back
+one_found remaining stop i ps done item others ts back is_last is e h fits =
+    let f = section_found item_ends stop ts back (end_term is_last) (item_lacks ts item is) (is_end is_last) ps e in
+    let tokens = f.front ++ f.last ∷ [] in
+    record {
+      s = section tokens End f.rest;
+      at = f.is;
+      one = item_found (in_initial remaining End) i tokens done item others ts is_last is (section_terms item_ends stop ts back (end_term is_last) ps f) h fits;
+      after_it = f.is_rest;
+    }
 
-items_found : (ts : List Term) (settings : List Setting) → AreInitialItems ts settings → (part : Part) (i : Initial) (ps : List Piece) (total : ReadItems) (done : List Setting) (back : List Term)
-    → terms ps ≡ ts ++ symbol CloseCurly ∷ back → Holds done i → Fits (done ++ settings) → ItemsAfter part i ps total → Found total (done ++ settings) back
-items_found _ _ (last _ _ empty) part i ps total done back e h fits b =
-    subst (λ (l : List Setting). Found total l back) (sym (append-nil done)) (closed part i ps total done back e h b)
-items_found _ _ (last _ _ (given ts s is)) part i ps total done back e h fits b =
-    let one = item_stepped part i ps done [] s ts back (symbol CloseCurly) at_curly is e h fits in
-    closed part one.after one.rest total (done ++ s ∷ []) back one.parts one.holds (go_on part i ps (done ++ s ∷ []) _ total one b)
-items_found _ _ (more _ others _ settings empty are) part i ps total done back e h fits b =
-    let end = semicolon_stepped part i ps done (others ++ symbol CloseCurly ∷ back) e h in
-    items_found others settings are part end.after end.rest total done back end.parts end.holds fits (go_on part i ps done _ total end b)
-items_found _ _ (more _ others _ settings (given ts s is) are) part i ps total done back e h fits b =
-    let further = others ++ symbol CloseCurly ∷ back in
-    let front : terms ps ≡ ts ++ symbol Semicolon ∷ further = e ∙ append_assoc ts (symbol Semicolon ∷ others) (symbol CloseCurly ∷ back) in
-    let one = item_stepped part i ps done settings s ts further (symbol Semicolon) at_semicolon is front h fits in
-    let end = semicolon_stepped part one.after one.rest (done ++ s ∷ []) further one.parts one.holds in
-    let all : (done ++ s ∷ []) ++ settings ≡ done ++ s ∷ settings = append_assoc done (s ∷ []) settings in
-    let b2 = go_on part one.after one.rest (done ++ s ∷ []) further total end (go_on part i ps (done ++ s ∷ []) (symbol Semicolon ∷ further) total one b) in
-    subst (λ (l : List Setting). Found total l back) all
-    (items_found others settings are part end.after end.rest total (done ++ s ∷ []) back end.parts end.holds (subst Fits (sym all) fits) b2)
+items_found : (ts : List Term) (settings : List Setting) → AreInitialItems ts settings → (remaining : ℕ) (stop : Stop) (i : Initial) (ps : List Piece) (total : ReadItems) (done : List Setting) (back : List Term)
+    → terms ps ≡ ts ++ symbol CloseCurly ∷ back → Holds done i → Fits (done ++ settings) → ItemsAfter remaining stop i ps total → Found total (done ++ settings) back
+items_found _ _ (last ts item is) remaining stop i ps total done back e h fits b =
+    let f = one_found remaining stop i ps done item [] ts back true is e h (subst (λ (l : List Setting). Fits (done ++ l)) (sym (append-nil item)) fits) in
+    record { after = f.one.after; rest = f.s.rest; is = items_done remaining stop i f.one.after ps f.s total f.at f.one.is b; parts = f.after_it; holds = f.one.holds }
+items_found _ _ (more ts others item settings is are) remaining stop i ps total done back e h fits b =
+    let f = one_found remaining stop i ps done item settings ts (others ++ symbol CloseCurly ∷ back) false is (e ∙ append_assoc ts (symbol Semicolon ∷ others) (symbol CloseCurly ∷ back)) h fits in
+    let further = items_further remaining stop i f.one.after ps f.s total f.at f.one.is b in
+    let all : (done ++ item) ++ settings ≡ done ++ (item ++ settings) = append_assoc done item settings in
+    subst (λ (l : List Setting). Found total l back) all (items_found others settings are remaining stop f.one.after f.s.rest total (done ++ item) back f.after_it f.one.holds (subst Fits (sym all) fits) further)
 
 pub nothing : Holds [] (initial [] [] [])
 nothing = record { names = refl; words = refl; registers = refl }
@@ -126,139 +106,136 @@ unfolding initial_at symbol_at is_symbol
 initial_found stop ps _ back _ (in_braces ts settings are) fits e =
     let front : terms ps ≡ symbol OpenCurly ∷ ts ++ symbol CloseCurly ∷ back = e ∙ ap (λ (l : List Term). symbol OpenCurly ∷ l) (append_assoc ts (symbol CloseCurly ∷ []) back) in
     opened (λ ps. InitialFound stop ps settings back) ps (symbol OpenCurly) (ts ++ symbol CloseCurly ∷ back) front (λ p rest is after_it.
-    let part = in_initial p.remaining stop in
-    let found = items_found ts settings are part (initial [] [] []) rest (items_at part [] rest) [] back after_it nothing fits (items_start part [] rest) in
+    let found = items_found ts settings are p.remaining stop (initial [] [] []) rest (items_at p.remaining stop [] rest) [] back after_it nothing fits (items_start p.remaining stop [] rest) in
     record { i = found.after; reads = record { rest = found.rest; is = rw is found.is; after_it = found.parts }; holds = found.holds })
 
 -- ---- taken
 
--- what has been read of the item at hand: nothing, or all, and then its end stands there
-data AtHand (ps : List Piece) : List Term → List Setting → Type 0 where
-  before_any : AtHand ps [] []
-  after_one : (ts : List Term) (s : Setting) → IsSetting ts s → ends_item ps ≡ true → AtHand ps ts (s ∷ [])
+-- the end of an item was taken
+record EndTaken (ps : List Piece) (is_last : Bool) : Type 0 where
+  pub end : Piece
+  pub back : List Piece
+  pub parts : ps ≡ end ∷ back
+  pub is : end.term ≡ end_term is_last
 
-item_at_hand : (ps : List Piece) (ts : List Term) (item : List Setting) → AtHand ps ts item → IsInitialItem ts item
-item_at_hand ps _ _ before_any = empty
-item_at_hand ps _ _ (after_one ts s is end) = given ts s is
+end_taken : (ps : List Piece) (is_last : Bool) → item_end ps ≡ Some is_last → EndTaken ps is_last
+unfolding item_end
+end_taken ps is_last e =
+    elim (there_is (symbol_at Semicolon ps) (λ _. Some false) (there (symbol_at CloseCurly ps) (λ _. Some true) None) (Some is_last) e) [
+      | inl hit ↦
+          let p = symbol_found Semicolon ps hit.0 hit.1 in
+          record { end = p.0; back = hit.0; parts = p.1; is = p.2 ∙ ap end_term (some_is false is_last hit.2) }
+      | inr miss ↦
+          let hit = there_some (symbol_at CloseCurly ps) (λ _. Some true) is_last miss.1 in
+          let p = symbol_found CloseCurly ps hit.0 hit.1 in
+          record { end = p.0; back = hit.0; parts = p.1; is = p.2 ∙ ap end_term (some_is true is_last hit.2) }
+    ]
 
--- what stands before the `}`, after what is at hand
-record ItemsTaken (ts : List Term) (item done : List Setting) (ps rest : List Piece) (i : Initial) : Type 0 where
+-- an item was taken, up to its end
+record ItemTaken (ps : List Piece) (done : List Setting) (after : Initial) (is_last : Bool) : Type 0 where
+  pub front : List Piece
+  pub end : Piece
+  pub back : List Piece
+  pub parts : ps ≡ front ++ end ∷ back
+  pub ends : end.term ≡ end_term is_last
+  pub item : List Setting
+  pub is : IsInitialItem (terms front) item
+  pub holds : Holds (done ++ item) after
+  pub fits : Fits (done ++ item)
+
+item_taken : (part : Part) (i : Initial) (ps : List Piece) (done : List Setting) (after : Initial) (is_last : Bool) → item_in part i ps ≡ Ok (after, is_last) → Holds done i → Fits done → ItemTaken ps done after is_last
+unfolding item_in
+item_taken part i ps done after is_last e h fits =
+    elim (there_is (item_end ps) (λ last. Ok (i, last)) _ (Ok (after, is_last)) e) [
+      | inl none ↦
+          let same = ok_pair i after none.0 is_last none.2 in
+          let at = end_taken ps none.0 none.1 in
+          record {
+            front = [];
+            end = at.end;
+            back = at.back;
+            parts = at.parts;
+            ends = at.is ∙ ap end_term same.1;
+            item = [];
+            is = empty;
+            holds = subst (λ (l : List Setting). Holds l after) (sym (append-nil done)) (subst (Holds done) same.0 h);
+            fits = subst Fits (sym (append-nil done)) fits;
+          }
+      | inr some ↦
+          let a = bind_ok (setting_at part ps) _ (after, is_last) some.1 in
+          let b = bind_ok (or_unfit part a.0.1 (item_end a.0.1)) _ (after, is_last) a.2 in
+          let j = bind_ok (judged (remaining_of ps) i a.0.0) _ (after, is_last) b.2 in
+          let same = ok_pair j.0 after b.0 is_last j.2 in
+          let taken = setting_taken part ps a.0.1 a.0.0 a.1 in
+          let at = end_taken a.0.1 b.0 (or_unfit_ok part a.0.1 (item_end a.0.1) b.0 b.1) in
+          let both = judged_taken (remaining_of ps) i after done a.0.0 (j.1 ∙ ap (λ (k : Initial). Ok k) same.0) h fits in
+          record {
+            front = taken.front;
+            end = at.end;
+            back = at.back;
+            parts = taken.parts ∙ ap (λ (l : List Piece). taken.front ++ l) at.parts;
+            ends = at.is ∙ ap end_term same.1;
+            item = a.0.0 ∷ [];
+            is = given (terms taken.front) a.0.0 taken.is;
+            holds = both.0;
+            fits = both.1;
+          }
+    ]
+
+-- what stands before the `}`
+record ItemsTaken (done : List Setting) (ps rest : List Piece) (i : Initial) : Type 0 where
   pub further : List Piece
   pub last : Piece
   pub settings : List Setting
-  pub are : AreInitialItems (ts ++ terms further) (item ++ settings)
+  pub are : AreInitialItems (terms further) settings
   pub parts : ps ≡ further ++ last ∷ rest
   pub closes : last.term ≡ symbol CloseCurly
   pub holds : Holds (done ++ settings) i
   pub fits : Fits (done ++ settings)
 
-pub not_ended : (ps : List Piece) → symbol_at CloseCurly ps ≡ None → symbol_at Semicolon ps ≡ None → ends_item ps ≡ true → ⊥
-unfolding ends_item symbol_at
-not_ended [] curly semicolon e = cc
-not_ended (p ∷ ps) curly semicolon e = by_tests (is_symbol Semicolon p) (is_symbol CloseCurly p) semicolon curly e
-  where
-    by_tests : (a b : Bool) → cond a (Some ps) None ≡ None → cond b (Some ps) None ≡ None → (a || b) ≡ true → ⊥
-    by_tests true b s c h = cc
-    by_tests false true s c h = cc
-    by_tests false false s c h = cc
-
--- an item that was read: its setting, and what ends it
-pub record ItemRead (i j : Initial) (ps rest : List Piece) : Type 0 where
-  pub s : Setting
-  pub spelled : Passes (λ ts. IsSetting ts s) ps rest
-  pub ends : ends_item rest ≡ true
-  pub judges : judged (remaining_of ps) i s ≡ Ok j
-
-pub item_read : (part : Part) (i j : Initial) (ps rest : List Piece) → item_in part i ps ≡ Ok (j, rest) → ItemRead i j ps rest
-unfolding item_in
-item_read part i j ps rest e =
-    let found = bind_ok (setting_at part ps) _ (j, rest) e in
-    let s = found.0.0 in
-    elim (chosen (ends_item found.0.1) (judged (remaining_of ps) i s >>= λ after. Ok (after, found.0.1)) (Err (unfit part found.0.1)) (Ok (j, rest)) found.2) [
-      | inl end ↦
-          let noted = bind_ok (judged (remaining_of ps) i s) _ (j, rest) end.1 in
-          let same = ok_pair noted.0 j found.0.1 rest noted.2 in
-          record {
-            s = s;
-            spelled = setting_taken part ps rest s (found.1 ∙ ap (λ (l : List Piece). Ok (s, l)) same.1);
-            ends = ap ends_item (sym same.1) ∙ end.0;
-            judges = noted.1 ∙ ap (λ (k : Initial). Ok k) same.0;
-          }
-      | inr miss ↦ absurd cc
-    ]
-
--- and was taken in
-record ItemTaken (ps rest : List Piece) (done : List Setting) (i after : Initial) : Type 0 where
-  pub read : ItemRead i after ps rest
-  pub holds : Holds (done ++ read.s ∷ []) after
-  pub fits : Fits (done ++ read.s ∷ [])
-
-item_taken : (part : Part) (i : Initial) (ps : List Piece) (done : List Setting) (after : Initial × List Piece) → item_in part i ps ≡ Ok after → Holds done i → Fits done → ItemTaken ps after.1 done i after.0
-item_taken part i ps done after e h fits =
-    let read = item_read part i after.0 ps after.1 e in
-    let both = judged_taken (remaining_of ps) i after.0 done read.s read.judges h fits in
-    record { read = read; holds = both.0; fits = both.1 }
-
-onto : (ts : List Term) (item done : List Setting) (ps after_it rest : List Piece) (h i j : Initial) → AtHand ps ts item → symbol_at CloseCurly ps ≡ None → symbol_at Semicolon ps ≡ None
-    → (one : ItemTaken ps after_it done h i) → ItemsTaken (terms one.read.spelled.front) (one.read.s ∷ []) (done ++ one.read.s ∷ []) after_it rest j → ItemsTaken ts item done ps rest j
-onto _ _ done ps after_it rest h i j before_any curly semicolon one others =
-    let all : (done ++ one.read.s ∷ []) ++ others.settings ≡ done ++ one.read.s ∷ others.settings = append_assoc done (one.read.s ∷ []) others.settings in
+onto : (done : List Setting) (ps after rest : List Piece) (i j : Initial) (t : ItemTaken ps done i false) → ItemsTaken (done ++ t.item) after rest j → (all : List Piece) → all ≡ t.front ++ t.end ∷ after → ItemsTaken done all rest j
+onto done ps after rest i j t others all parts =
+    let settings : (done ++ t.item) ++ others.settings ≡ done ++ (t.item ++ others.settings) = append_assoc done t.item others.settings in
     record {
-      further = one.read.spelled.front ++ others.further;
+      further = t.front ++ t.end ∷ others.further;
       last = others.last;
-      settings = one.read.s ∷ others.settings;
-      are = subst (λ ts. AreInitialItems ts (one.read.s ∷ others.settings)) (sym (terms_append one.read.spelled.front others.further)) others.are;
-      parts = one.read.spelled.parts ∙ ap (λ (l : List Piece). one.read.spelled.front ++ l) others.parts ∙ sym (append_assoc one.read.spelled.front others.further (others.last ∷ rest));
+      settings = t.item ++ others.settings;
+      are = rw (terms_append t.front (t.end ∷ others.further), t.ends) (more (terms t.front) (terms others.further) t.item others.settings t.is others.are);
+      parts = parts ∙ ap (λ (l : List Piece). t.front ++ t.end ∷ l) others.parts ∙ sym (append_assoc t.front (t.end ∷ others.further) (others.last ∷ rest));
       closes = others.closes;
-      holds = subst (λ (l : List Setting). Holds l j) all others.holds;
-      fits = subst Fits all others.fits;
+      holds = subst (λ (l : List Setting). Holds l j) settings others.holds;
+      fits = subst Fits settings others.fits;
     }
-onto _ _ done ps after_it rest h i j (after_one ts s is end) curly semicolon one others = absurd (not_ended ps curly semicolon end)
 
-items_taken : (n : ℕ) (part : Part) (i j : Initial) (ps rest : List Piece) (ts : List Term) (item done : List Setting) → AtHand ps ts item → Holds done i → Fits done
-    → items_within n part i ps ≡ Ok (j, rest) → ItemsTaken ts item done ps rest j
-unfolding items_within step_in item_in
-items_taken zero part i j ps rest ts item done hand h fits e =
-    let never : (let r : ReadItems = Err (unfit part ps) in r) ≡ Ok (j, rest) = e in
+items_taken : (n remaining : ℕ) (stop : Stop) (i j : Initial) (ps rest : List Piece) (done : List Setting) → Holds done i → Fits done → items_within n remaining stop i ps ≡ Ok (j, rest) → ItemsTaken done ps rest j
+unfolding items_within is_symbol
+items_taken zero remaining stop i j ps rest done h fits e =
+    let never : (let r : ReadItems = Err (fault Unclosed remaining) in r) ≡ Ok (j, rest) = e in
     absurd cc
-items_taken (suc n) part i j ps rest ts item done hand h fits e =
-    elim (there_is (symbol_at CloseCurly ps) (λ (rest : List Piece). Ok (i, rest)) (step_in part i ps >>= λ read. items_within n part read.0 read.1) (Ok (j, rest)) e) [
-      | inl close ↦
-          let same = ok_pair i j close.0 rest close.2 in
-          let curly = symbol_found CloseCurly ps close.0 close.1 in
-          record {
-            further = [];
-            last = curly.0;
-            settings = [];
-            are = last (ts ++ []) (item ++ []) (subst (λ (l : List Term). IsInitialItem l (item ++ [])) (sym (append-nil ts)) (subst (λ (l : List Setting). IsInitialItem ts l) (sym (append-nil item)) (item_at_hand ps ts item hand)));
-            parts = curly.1 ∙ ap (λ (l : List Piece). curly.0 ∷ l) same.1;
-            closes = curly.2;
-            holds = subst (λ (l : List Setting). Holds l j) (sym (append-nil done)) (subst (Holds done) same.0 h);
-            fits = subst Fits (sym (append-nil done)) fits;
-          }
-      | inr open_still ↦
-          let stepped = bind_ok (step_in part i ps) _ (j, rest) open_still.1 in
-          elim (there_is (symbol_at Semicolon ps) (λ (rest : List Piece). Ok (i, rest)) (item_in part i ps) (Ok stepped.0) stepped.1) [
-            | inl end ↦
-                let same = ok_pair i stepped.0.0 end.0 stepped.0.1 end.2 in
-                let others = items_taken n part stepped.0.0 j stepped.0.1 rest [] [] done before_any (subst (Holds done) same.0 h) fits stepped.2 in
-                let semicolon = symbol_found Semicolon ps end.0 end.1 in
-                record {
-                  further = semicolon.0 ∷ others.further;
-                  last = others.last;
-                  settings = others.settings;
-                  are = rw semicolon.2 (more ts (terms others.further) item others.settings (item_at_hand ps ts item hand) others.are);
-                  parts = semicolon.1 ∙ ap (λ (l : List Piece). semicolon.0 ∷ l) (same.1 ∙ others.parts);
-                  closes = others.closes;
-                  holds = others.holds;
-                  fits = others.fits;
-                }
-            | inr no_end ↦
-                let one = item_taken part i ps done stepped.0 no_end.1 h fits in
-                let others = items_taken n part stepped.0.0 j stepped.0.1 rest (terms one.read.spelled.front) (one.read.s ∷ []) (done ++ one.read.s ∷ []) (after_one (terms one.read.spelled.front) one.read.s one.read.spelled.is one.read.ends) one.holds one.fits stepped.2 in
-                onto ts item done ps stepped.0.1 rest i stepped.0.0 j hand open_still.0 no_end.0 one others
-          ]
-    ]
+items_taken (suc n) remaining stop i j ps rest done h fits e =
+    let s = section_of item_ends stop ps in
+    let b = bind_ok (item_in (in_initial remaining s.stop) i s.tokens) _ (j, rest) e in
+    let t = item_taken (in_initial remaining s.stop) i s.tokens done b.0.0 b.0.1 b.1 h fits in
+    let none = section_last item_ends stop ps t.front t.back t.end t.parts (ap (ends_with item_ends) t.ends ∙ is_end b.0.1) in
+    let whole : ps ≡ t.front ++ t.end ∷ s.rest =
+    section_parts item_ends stop ps ∙ ap (λ (l : List Piece). l ++ s.rest) (t.parts ∙ ap (λ (l : List Piece). t.front ++ t.end ∷ l) none) ∙ append_assoc t.front (t.end ∷ []) s.rest in
+    by_end b.0.0 b.0.1 s.tokens s.rest t whole b.2 (λ i h fits e. items_taken n remaining stop i j s.rest rest (done ++ t.item) h fits e)
+  where
+    by_end : (k : Initial) (is_last : Bool) (tokens after : List Piece) (t : ItemTaken tokens done k is_last) → ps ≡ t.front ++ t.end ∷ after → cond is_last (Ok (k, after)) (items_within n remaining stop k after) ≡ Ok (j, rest)
+        → ((k : Initial) → Holds (done ++ t.item) k → Fits (done ++ t.item) → items_within n remaining stop k after ≡ Ok (j, rest) → ItemsTaken (done ++ t.item) after rest j) → ItemsTaken done ps rest j
+    by_end k true tokens after t whole e further =
+        let same = ok_pair k j after rest e in
+        record {
+          further = t.front;
+          last = t.end;
+          settings = t.item;
+          are = last (terms t.front) t.item t.is;
+          parts = whole ∙ ap (λ (l : List Piece). t.front ++ t.end ∷ l) same.1;
+          closes = t.ends;
+          holds = subst (Holds (done ++ t.item)) same.0 t.holds;
+          fits = t.fits;
+        }
+    by_end k false tokens after t whole e further = onto done tokens after rest k j t (further k t.holds t.fits e) ps whole
 
 pub record InitialTaken (ps rest : List Piece) (i : Initial) : Type 0 where
   pub settings : List Setting
@@ -270,8 +247,7 @@ pub initial_taken : (stop : Stop) (ps rest : List Piece) (i : Initial) → initi
 unfolding initial_at
 initial_taken stop ps rest i e =
     let front = bind_ok (or_unfit _ ps (symbol_at OpenCurly ps)) _ (i, rest) e in
-    let part = in_initial (remaining_of ps) stop in
-    let all = items_taken (length front.0) part (initial [] [] []) i front.0 rest [] [] [] before_any nothing (record { once = refl; values = refl; few = omega arith }) front.2 in
+    let all = items_taken (suc (length front.0)) (remaining_of ps) stop (initial [] [] []) i front.0 rest [] nothing (record { once = refl; values = refl; few = omega arith }) front.2 in
     let curly = symbol_found OpenCurly ps front.0 (or_unfit_ok _ ps (symbol_at OpenCurly ps) front.0 front.1) in
     record {
       settings = all.settings;

@@ -1,20 +1,16 @@
 -- Rows are separated into cells as they are spelled.
-use Rattle.litmus_reader.proofs.Vocabulary.{◌≡◌, ℕ, suc, ◌+◌, ◌<◌, Bool, true, false, ltb, List, [], ◌∷◌, ◌++◌, length, Option, Some, None, Ok, Err, refl, sym, ap, subst, ◌∙◌, inl, inr, append_assoc, arith, slice_split, onto_first, position_or_len, before_first, after_first, ltb-true, lt-ltb, append-nil, slice_split-cons_yes, slice_split-cons_no, Stop, Symbol, OpenSquare, CloseSquare, Comma, Dollar, Semicolon, Bar, Term, symbol, Piece, is_symbol_term, is_symbol, name_at, Unclosed, spelled_in, row_at, terms, IsCell, IsField, empty, full, AreFields, IsRow, row, fault, at_stop, remaining_of, Shape, cells_of, ArgumentTerm, codes, IsOperand, IsCall, Passes, IsLocked}
+use Rattle.litmus_reader.proofs.Vocabulary.{section, End, row_ends, section_of, ◌≡◌, ℕ, suc, ◌+◌, ◌<◌, Bool, true, false, ltb, List, [], ◌∷◌, ◌++◌, length, Option, Some, None, Ok, Err, refl, sym, ap, subst, ◌∙◌, inl, inr, append_assoc, arith, slice_split, onto_first, position_or_len, before_first, ltb-true, lt-ltb, append-nil, slice_split-cons_yes, slice_split-cons_no, Stop, Symbol, OpenSquare, CloseSquare, Comma, Dollar, Semicolon, Bar, Term, symbol, Piece, is_symbol_term, is_symbol, name_at, Unclosed, spelled_in, row_at, terms, IsCell, IsField, empty, full, AreFields, IsRow, row, fault, at_stop, remaining_of, Shape, cells_of, ArgumentTerm, codes, IsOperand, IsCall, Passes, IsLocked}
 use Rattle.litmus_reader.specs.GrammarCells as cells
 use Rattle.litmus_reader.specs.GrammarRows.{last, more}
 use Rattle.litmus_tokens.proofs.Symbols.{spelled_so}
-use Rattle.litmus_reader.proofs.GrammarTokens.{chosen, ok_pair, symbol_is, terms_append}
+use Rattle.litmus_reader.proofs.GrammarTokens.{chosen, ok_is, symbol_is}
+use Rattle.litmus_reader.proofs.SectionSteps.{Lacks, ends_with, section_found, section_terms, section_taken, section_parts}
 use Rattle.litmus_reader.proofs.GrammarCells.{cell_again, cell_takes}
 use Rattle.litmus_reader.proofs.Readings.{ReadsRow, IsReadAs, AreReadAs}
 
 -- ---- cells have no `|` and no `;`
 
--- no such symbol among the tokens
-abbrev Lacks : Symbol → List Term → Type 0
-Lacks s [] = Unit {0}
-Lacks s (t ∷ ts) = (is_symbol_term s t ≡ false) × Lacks s ts
-
-lacks-append : (s : Symbol) (ts us : List Term) → Lacks s ts → Lacks s us → Lacks s (ts ++ us)
+lacks-append : (s : Symbol) (ts us : List Term) → Lacks (is_symbol_term s) ts → Lacks (is_symbol_term s) us → Lacks (is_symbol_term s) (ts ++ us)
 lacks-append s [] us h k = k
 lacks-append s (t ∷ ts) us h k = (h.0, lacks-append s ts us h.1 k)
 
@@ -31,30 +27,30 @@ bar_parts = record { no_open = refl; no_close = refl; no_comma = refl; no_dollar
 semicolon_parts : Parts Semicolon
 semicolon_parts = record { no_open = refl; no_close = refl; no_comma = refl; no_dollar = refl }
 
-operand_lacks : (s : Symbol) → Parts s → (ts : List Term) (o : ArgumentTerm) → IsOperand ts o → Lacks s ts
+operand_lacks : (s : Symbol) → Parts s → (ts : List Term) (o : ArgumentTerm) → IsOperand ts o → Lacks (is_symbol_term s) ts
 operand_lacks s p _ _ (cells.plain v) = (refl, tt)
 operand_lacks s p _ _ (cells.with_dollar v) = (p.no_dollar, (refl, tt))
 operand_lacks s p _ _ (cells.in_squares x good) = (p.no_open, (refl, (p.no_close, tt)))
 operand_lacks s p _ _ (cells.named word reg is) = (refl, tt)
 
-call_lacks : (s : Symbol) → Parts s → (word : List ℕ) (ts : List Term) (a b : ArgumentTerm) → IsCall word ts a b → Lacks s ts
+call_lacks : (s : Symbol) → Parts s → (word : List ℕ) (ts : List Term) (a b : ArgumentTerm) → IsCall word ts a b → Lacks (is_symbol_term s) ts
 call_lacks s p word _ _ _ (cells.call letters a b first second is f g) = (refl, lacks-append s a (symbol Comma ∷ b) (operand_lacks s p a first f) (p.no_comma, operand_lacks s p b second g))
 
-locked_lacks : (s : Symbol) → Parts s → (ts : List Term) (shape : Shape) → IsLocked ts shape → Lacks s ts
+locked_lacks : (s : Symbol) → Parts s → (ts : List Term) (shape : Shape) → IsLocked ts shape → Lacks (is_symbol_term s) ts
 locked_lacks s p _ _ (cells.locked_exchange ts a b shape is made) = call_lacks s p (codes "XCHG") ts a b is
 locked_lacks s p _ _ (cells.locked_addition ts a b shape is made) = call_lacks s p (codes "XADD") ts a b is
 
-cell_lacks : (s : Symbol) → Parts s → (ts : List Term) (shape : Shape) → IsCell ts shape → Lacks s ts
+cell_lacks : (s : Symbol) → Parts s → (ts : List Term) (shape : Shape) → IsCell ts shape → Lacks (is_symbol_term s) ts
 cell_lacks s p _ _ (cells.moves ts a b shape is made) = call_lacks s p (codes "MOV") ts a b is
 cell_lacks s p _ _ (cells.fences letters is) = (refl, tt)
 cell_lacks s p _ _ (cells.exchanges ts a b shape is made) = call_lacks s p (codes "XCHG") ts a b is
 cell_lacks s p _ _ (cells.locks letters ts shape is locked) = (refl, locked_lacks s p ts shape locked)
 
-field_lacks : (s : Symbol) → Parts s → (ts : List Term) (c : Option Shape) → IsField ts c → Lacks s ts
+field_lacks : (s : Symbol) → Parts s → (ts : List Term) (c : Option Shape) → IsField ts c → Lacks (is_symbol_term s) ts
 field_lacks s p _ _ empty = tt
 field_lacks s p _ _ (full ts shape is) = cell_lacks s p ts shape is
 
-fields_lack : (ts : List Term) (cells : List (Option Shape)) → AreFields ts cells → Lacks Semicolon ts
+fields_lack : (ts : List Term) (cells : List (Option Shape)) → AreFields ts cells → Lacks (is_symbol_term Semicolon) ts
 fields_lack _ _ (last ts c is) = field_lacks Semicolon semicolon_parts ts c is
 fields_lack _ _ (more ts us c cs is are) = lacks-append Semicolon ts (symbol Bar ∷ us) (field_lacks Semicolon semicolon_parts ts c is) (refl, fields_lack us cs are)
 
@@ -67,7 +63,6 @@ record Cut (s : Symbol) (us back : List Term) (ps : List Piece) : Type 0 where
   pub split : slice_split (is_symbol s) ps ≡ front ∷ slice_split (is_symbol s) rest
   pub there : position_or_len (is_symbol s) ps < length ps
   pub before : before_first (is_symbol s) ps ≡ front
-  pub after : after_first (is_symbol s) ps ≡ rest
   pub is_front : terms front ≡ us
   pub is_rest : terms rest ≡ back
 
@@ -90,7 +85,6 @@ cut_here s back p ps hit after_it = record {
   split = slice_split-cons_yes (is_symbol s) p ps hit;
   there = rw hit (omega arith);
   before = rw hit refl;
-  after = rw hit refl;
   is_front = refl;
   is_rest = after_it;
 }
@@ -100,11 +94,6 @@ before_miss s p ps miss =
     let further : 1 + position_or_len (is_symbol s) ps ≡ suc (position_or_len (is_symbol s) ps) = omega arith in
     rw (miss, further) refl
 
-after_miss : (s : Symbol) (p : Piece) (ps : List Piece) → is_symbol s p ≡ false → after_first (is_symbol s) (p ∷ ps) ≡ after_first (is_symbol s) ps
-after_miss s p ps miss =
-    let further : 1 + position_or_len (is_symbol s) ps + 1 ≡ suc (position_or_len (is_symbol s) ps + 1) = omega arith in
-    rw (miss, further) refl
-
 cut_further : (s : Symbol) (u : Term) (us back : List Term) (p : Piece) (ps : List Piece) → is_symbol s p ≡ false → p.term ≡ u → Cut s us back ps → Cut s (u ∷ us) back (p ∷ ps)
 cut_further s u us back p ps miss is c = record {
   front = p ∷ c.front;
@@ -112,12 +101,11 @@ cut_further s u us back p ps miss is c = record {
   split = slice_split-cons_no (is_symbol s) p ps miss ∙ ap (onto_first p) c.split;
   there = rw miss (omega (arith, c.there));
   before = before_miss s p ps miss ∙ ap (λ (l : List Piece). p ∷ l) c.before;
-  after = after_miss s p ps miss ∙ c.after;
   is_front = rw (is, c.is_front) refl;
   is_rest = c.is_rest;
 }
 
-cut : (s : Symbol) (us back : List Term) → Lacks s us → (ps : List Piece) → terms ps ≡ us ++ symbol s ∷ back → Cut s us back ps
+cut : (s : Symbol) (us back : List Term) → Lacks (is_symbol_term s) us → (ps : List Piece) → terms ps ≡ us ++ symbol s ∷ back → Cut s us back ps
 cut s us back lacks [] e = absurd (no_end s us back e)
 cut s [] back lacks (p ∷ ps) e =
     let is : p.term ≡ symbol s = cc in
@@ -128,7 +116,7 @@ cut s (u ∷ us) back lacks (p ∷ ps) e =
     let after_it : terms ps ≡ us ++ symbol s ∷ back = cc in
     cut_further s u us back p ps (misses s p u is lacks.0) is (cut s us back lacks.1 ps after_it)
 
-uncut : (s : Symbol) (ps : List Piece) → Lacks s (terms ps) → slice_split (is_symbol s) ps ≡ ps ∷ []
+uncut : (s : Symbol) (ps : List Piece) → Lacks (is_symbol_term s) (terms ps) → slice_split (is_symbol s) ps ≡ ps ∷ []
 uncut s [] lacks = refl
 uncut s (p ∷ ps) lacks = slice_split-cons_no (is_symbol s) p ps (misses s p p.term refl lacks.0) ∙ ap (onto_first p) (uncut s ps lacks.1)
 
@@ -146,33 +134,40 @@ field_read _ _ (full ts shape is) (p ∷ ps) e = cell_again (p ∷ ps) shape (su
 
 fields_read : (ts : List Term) (cells : List (Option Shape)) → AreFields ts cells → (ps : List Piece) → terms ps ≡ ts → AreReadAs (cells_of ps) cells
 fields_read _ _ (last ts c is) ps e =
-    let lacks : Lacks Bar (terms ps) = subst (λ (l : List Term). Lacks Bar l) (sym e) (field_lacks Bar bar_parts ts c is) in
+    let lacks : Lacks (is_symbol_term Bar) (terms ps) = subst (λ (l : List Term). Lacks (is_symbol_term Bar) l) (sym e) (field_lacks Bar bar_parts ts c is) in
     subst (λ (l : List (List Piece)). AreReadAs l (c ∷ [])) (sym (uncut Bar ps lacks)) (field_read ts c is ps e, tt)
 fields_read _ _ (more ts us c cs is are) ps e =
     let at = cut Bar ts us (field_lacks Bar bar_parts ts c is) ps e in
     subst (λ (l : List (List Piece)). AreReadAs l (c ∷ cs)) (sym at.split) (field_read ts c is at.front at.is_front, fields_read us cs are at.rest at.is_rest)
 
+lacks_end : (ts : List Term) → Lacks (is_symbol_term Semicolon) ts → Lacks (ends_with row_ends) ts
+lacks_end [] lacks = tt
+lacks_end (t ∷ ts) lacks = (rw lacks.0 refl, lacks_end ts lacks.1)
+
 pub row_again : (stop : Stop) (cores : ℕ) (ps : List Piece) (ts back : List Term) (cells : List (Option Shape)) → IsRow cores ts cells → terms ps ≡ ts ++ back → ReadsRow stop ps cells back
 unfolding row_at
 row_again stop cores ps _ back _ (row ts cells are count) e =
-    let at = cut Semicolon ts back (fields_lack ts cells are) ps (e ∙ append_assoc ts (symbol Semicolon ∷ []) back) in
-    let closed : row_at stop ps ≡ Ok (at.front, at.rest) = rw (lt-ltb _ _ at.there, at.before, at.after) refl in
-    record { row = at.front; rest = at.rest; is = closed; cells_are = fields_read ts cells are at.front at.is_front; after_it = at.is_rest }
+    let lacks = fields_lack ts cells are in
+    let f = section_found row_ends stop ts back (symbol Semicolon) (lacks_end ts lacks) refl ps (e ∙ append_assoc ts (symbol Semicolon ∷ []) back) in
+    let tokens = f.front ++ f.last ∷ [] in
+    let at = cut Semicolon ts [] lacks tokens (section_terms row_ends stop ts back (symbol Semicolon) ps f) in
+    let closed : row_at End tokens ≡ Ok at.front = rw (lt-ltb _ _ at.there, at.before) refl in
+    record { s = section tokens End f.rest; at = f.is; row = at.front; is = closed; cells_are = fields_read ts cells are at.front at.is_front; after_it = f.is_rest }
 
 -- ---- taken
 
-row_cut : (s : Symbol) (ps : List Piece) → position_or_len (is_symbol s) ps < length ps → (p : Piece) × (ps ≡ before_first (is_symbol s) ps ++ p ∷ after_first (is_symbol s) ps) × (p.term ≡ symbol s)
+row_cut : (s : Symbol) (ps : List Piece) → position_or_len (is_symbol s) ps < length ps → (p : Piece) × (back : List Piece) × (ps ≡ before_first (is_symbol s) ps ++ p ∷ back) × (p.term ≡ symbol s)
 row_cut s [] lt = absurd (omega arith)
 row_cut s (p ∷ ps) lt = by_first (λ h. row_cut s ps h) (is_symbol s p) refl
   where
-    by_first : (position_or_len (is_symbol s) ps < length ps → (q : Piece) × (ps ≡ before_first (is_symbol s) ps ++ q ∷ after_first (is_symbol s) ps) × (q.term ≡ symbol s)) → (b : Bool) → is_symbol s p ≡ b
-        → (q : Piece) × (p ∷ ps ≡ before_first (is_symbol s) (p ∷ ps) ++ q ∷ after_first (is_symbol s) (p ∷ ps)) × (q.term ≡ symbol s)
-    by_first further true is = (p, rw is refl, symbol_is s p is)
+    by_first : (position_or_len (is_symbol s) ps < length ps → (q : Piece) × (back : List Piece) × (ps ≡ before_first (is_symbol s) ps ++ q ∷ back) × (q.term ≡ symbol s)) → (b : Bool) → is_symbol s p ≡ b
+        → (q : Piece) × (back : List Piece) × (p ∷ ps ≡ before_first (is_symbol s) (p ∷ ps) ++ q ∷ back) × (q.term ≡ symbol s)
+    by_first further true is = (p, ps, rw is refl, symbol_is s p is)
     by_first further false is =
         let lower : position_or_len (is_symbol s) (p ∷ ps) < length (p ∷ ps) = lt in
         let apart : 1 + position_or_len (is_symbol s) ps < suc (length ps) = rw is at lower in
         let found = further (omega (arith, apart)) in
-        (found.0, rw (before_miss s p ps is, after_miss s p ps is) (ap (λ (l : List Piece). p ∷ l) found.1), found.2)
+        (found.0, found.1, rw (before_miss s p ps is) (ap (λ (l : List Piece). p ∷ l) found.2), found.3)
 
 -- cells with vertical bars between them
 abbrev after_bars : List (List Piece) → List Term
@@ -222,22 +217,18 @@ fields_made (ps ∷ []) (c ∷ []) some are = subst (λ (ts : List Term). AreFie
 fields_made (ps ∷ []) (c ∷ d ∷ cs) some are = absurd are.1
 fields_made (ps ∷ qs ∷ rest) (c ∷ cs) some are = more (terms ps) (joined (qs ∷ rest)) c cs (field_made ps c are.0) (fields_made (qs ∷ rest) cs tt are.1)
 
-pub row_takes : (stop : Stop) (cores : ℕ) (ps front rest : List Piece) (cells : List (Option Shape)) → row_at stop ps ≡ Ok (front, rest) → AreReadAs (cells_of front) cells → length cells ≡ cores
-    → Passes (λ ts. IsRow cores ts cells) ps rest
+pub row_takes : (stop : Stop) (cores : ℕ) (ps front : List Piece) (cells : List (Option Shape)) → row_at (section_of row_ends stop ps).stop (section_of row_ends stop ps).tokens ≡ Ok front → AreReadAs (cells_of front) cells
+    → length cells ≡ cores → Passes (λ ts. IsRow cores ts cells) ps (section_of row_ends stop ps).rest
 unfolding row_at
-row_takes stop cores ps front rest cells e are count =
-    elim (chosen (ltb (position_or_len (is_symbol Semicolon) ps) (length ps)) (Ok (before_first (is_symbol Semicolon) ps, after_first (is_symbol Semicolon) ps))
-    (Err (at_stop (fault Unclosed (remaining_of ps)) stop)) (Ok (front, rest)) e) [
+row_takes stop cores ps front cells e are count =
+    let s = section_of row_ends stop ps in
+    elim (chosen (ltb (position_or_len (is_symbol Semicolon) s.tokens) (length s.tokens)) (Ok (before_first (is_symbol Semicolon) s.tokens)) (Err (at_stop (fault Unclosed (remaining_of s.tokens)) s.stop)) (Ok front) e) [
       | inl hit ↦
-          let same = ok_pair (before_first (is_symbol Semicolon) ps) front (after_first (is_symbol Semicolon) ps) rest hit.1 in
-          let whole = row_cut Semicolon ps (ltb-true _ _ hit.0) in
+          let same = ok_is (before_first (is_symbol Semicolon) s.tokens) front hit.1 in
+          let end = row_cut Semicolon s.tokens (ltb-true _ _ hit.0) in
+          let whole = section_taken row_ends stop ps front end.1 end.0 (symbol Semicolon) (end.2 ∙ ap (λ (l : List Piece). l ++ end.0 ∷ end.1) same) end.3 refl in
           let split = split_joined front in
           let fields = subst (λ (ts : List Term). AreFields ts cells) split.1 (fields_made (cells_of front) cells split.0 are) in
-          record {
-            front = front ++ whole.0 ∷ [];
-            is = rw (terms_append front (whole.0 ∷ []), whole.2) (row (terms front) cells fields count);
-            parts = whole.1 ∙ ap (λ (l : List Piece). l ++ whole.0 ∷ after_first (is_symbol Semicolon) ps) same.0
-                ∙ ap (λ (l : List Piece). front ++ whole.0 ∷ l) same.1 ∙ sym (append_assoc front (whole.0 ∷ []) rest);
-          }
+          record { front = s.tokens; parts = section_parts row_ends stop ps; is = subst (λ (ts : List Term). IsRow cores ts cells) (sym whole) (row (terms front) cells fields count) }
       | inr miss ↦ absurd cc
     ]

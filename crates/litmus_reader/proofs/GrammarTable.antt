@@ -1,11 +1,11 @@
 -- Rows one after the other are read as they are spelled.
-use Rattle.litmus_reader.proofs.Vocabulary.{◌≡◌, ℕ, zero, suc, ◌≤◌, ◌<◌, Bool, true, false, eqb, eqb-true, eq-eqb, IsTrue, List, [], ◌∷◌, ◌++◌, length, Option, Ok, Err, refl, sym, ap, subst, ◌∙◌, inl, inr, append_assoc, arith, codes, bytes_eq, bytes_eq-Decides, length-append, length-map, append-nil, same_letters, Stop, Semicolon, Bar, Term, symbol, Piece, is_symbol, WrongCells, CoreInstr, ◌>>=◌, cells_of, row_at, row_in, Rows, rows, rows_within, rows_at, terms, IsCell, numbered, IsField, empty, full, AreFields, IsRow, row, AreRows, ends_rows, fault, remaining_of, Shape, ArgumentTerm, IsCall, Comma, name, Passes}
+use Rattle.litmus_reader.proofs.Vocabulary.{Fault, row_ends, Result, section_of, ◌≡◌, ℕ, zero, suc, ◌≤◌, Bool, true, false, eqb, eqb-true, eq-eqb, IsTrue, List, [], ◌∷◌, ◌++◌, length, Option, Ok, Err, refl, sym, ap, subst, ◌∙◌, inl, inr, append_assoc, arith, codes, bytes_eq, bytes_eq-Decides, append-nil, same_letters, Stop, Semicolon, Bar, Term, symbol, Piece, is_symbol, WrongCells, ◌>>=◌, cells_of, row_at, row_in, Rows, rows, rows_within, rows_at, terms, IsCell, numbered, IsField, empty, full, AreFields, IsRow, row, AreRows, ends_rows, fault, remaining_of, Shape, ArgumentTerm, IsCall, Comma, name, Passes}
 use Rattle.litmus_reader.specs.GrammarCells as cells
 use Rattle.litmus_reader.specs.GrammarRows as grammar
 use Rattle.litmus_reader.specs.GrammarTable.{none, more}
 use Rattle.litmus_reader.proofs.Placed.{Placed, placed_from, placed_in, EntriesWithin}
 use Rattle.litmus_reader.proofs.GrammarTokens.{chosen, ok_is, bind_ok, terms_append}
-use Rattle.litmus_reader.proofs.GrammarPhrases.{terms_length}
+use Rattle.litmus_reader.proofs.RowSteps.{RowsAfter, rows_start, rows_end, rows_go_on, row_shorter}
 use Rattle.litmus_reader.proofs.GrammarRows.{row_again, row_takes}
 use Rattle.litmus_reader.proofs.GrammarTableEntries.{names_of, instrs_of, Read, read_of, within_first, within_none, cells_found, CellsTaken, cells_taken}
 use Rattle.litmus_reader.proofs.Readings.{AreReadAs, rows_by, ReadsPlaced, SpellsRows, ends_table}
@@ -53,9 +53,6 @@ fields_begin _ _ (grammar.more ts us c cs is are) back =
 pub row_begins : (cores : ℕ) (ts : List Term) (cells : List (Option Shape)) → IsRow cores ts cells → (back : List Term) → ends_table (ts ++ back) ≡ false
 row_begins cores _ _ (row ts cells are count) back = ap ends_table (append_assoc ts (symbol Semicolon ∷ []) back) ∙ fields_begin ts cells are back
 
-row_some : (cores : ℕ) (ts : List Term) (cells : List (Option Shape)) → IsRow cores ts cells → 0 < length ts
-row_some cores _ _ (row ts cells are count) = omega (arith, length-append ts (symbol Semicolon ∷ []))
-
 pub row_count : (cores : ℕ) (ts : List Term) (cells : List (Option Shape)) → IsRow cores ts cells → length cells ≡ cores
 row_count cores _ _ (row ts cells are count) = count
 
@@ -63,15 +60,6 @@ pub ends_is : (ps : List Piece) → ends_rows ps ≡ ends_table (terms ps)
 unfolding ends_rows is_symbol
 ends_is [] = refl
 ends_is (p ∷ ps) = refl
-
--- a row is a token or more
-pub row_shorter : (cores : ℕ) (ts : List Term) (cells : List (Option Shape)) (ps rest : List Piece) → IsRow cores ts cells → terms ps ≡ ts ++ terms rest → length rest < length ps
-row_shorter cores ts cells ps rest is e =
-    let whole = terms_length ps (ts ++ terms rest) e in
-    let sum = length-append ts (terms rest) in
-    let remaining = length-map rest (λ p. p.term) in
-    let some = row_some cores ts cells is in
-    omega (arith, whole, sum, remaining, some)
 
 -- ---- one row
 
@@ -81,81 +69,63 @@ as_many [] (c ∷ cs) are = absurd are
 as_many (ps ∷ rest) [] are = absurd are
 as_many (ps ∷ rest) (c ∷ cs) are = ap suc (as_many rest cs are.1)
 
-pub row_found : (cores remaining : ℕ) (names : List (List ℕ)) (done : List Placed) (front : List Piece) (cells : List (Option Shape)) → length cells ≡ cores → AreReadAs (cells_of front) cells
-    → EntriesWithin names (done ++ placed_from 0 cells) → row_in cores remaining (instrs_of names done) (names_of names done) front ≡ Ok (read_of names (done ++ placed_from 0 cells))
+pub row_found : (cores : ℕ) (stop : Stop) (names : List (List ℕ)) (done : List Placed) (ps front : List Piece) (cells : List (Option Shape)) → row_at stop ps ≡ Ok front → length cells ≡ cores
+    → AreReadAs (cells_of front) cells → EntriesWithin names (done ++ placed_from 0 cells)
+    → row_in cores stop (instrs_of names done) (names_of names done) ps ≡ Ok (read_of names (done ++ placed_from 0 cells))
 unfolding row_in
-row_found cores remaining names done front cells count are h =
+row_found cores stop names done ps front cells at count are h =
     let same : eqb (length (cells_of front)) cores ≡ true = eq-eqb (length (cells_of front)) cores (as_many (cells_of front) cells are ∙ count) in
-    rw same (cells_found (cells_of front) cells are 0 names done h)
+    rw (at, same) (cells_found (cells_of front) cells are 0 names done h)
 
-pub record RowTaken (cores : ℕ) (names : List (List ℕ)) (done : List Placed) (front : List Piece) (r : Read) : Type 0 where
+pub record RowTaken (cores : ℕ) (stop : Stop) (names : List (List ℕ)) (done : List Placed) (ps : List Piece) (r : Read) : Type 0 where
+  pub front : List Piece
+  pub at : row_at stop ps ≡ Ok front
   pub count : length (cells_of front) ≡ cores
   pub cells : CellsTaken 0 names done (cells_of front) r
 
-pub row_taken : (cores remaining : ℕ) (names : List (List ℕ)) (done : List Placed) (front : List Piece) (r : Read) → EntriesWithin names done
-    → row_in cores remaining (instrs_of names done) (names_of names done) front ≡ Ok r → RowTaken cores names done front r
+pub row_taken : (cores : ℕ) (stop : Stop) (names : List (List ℕ)) (done : List Placed) (ps : List Piece) (r : Read) → EntriesWithin names done
+    → row_in cores stop (instrs_of names done) (names_of names done) ps ≡ Ok r → RowTaken cores stop names done ps r
 unfolding row_in
-row_taken cores remaining names done front r h e =
-    elim (chosen (eqb (length (cells_of front)) cores) _ (Err (fault WrongCells remaining)) (Ok r) e) [
-      | inl hit ↦ record { count = eqb-true _ _ hit.0; cells = cells_taken (cells_of front) 0 names done r h hit.1 }
+row_taken cores stop names done ps r h e =
+    let a = bind_ok (row_at stop ps) _ r e in
+    elim (chosen (eqb (length (cells_of a.0)) cores) _ (Err (fault WrongCells (remaining_of ps))) (Ok r) a.2) [
+      | inl hit ↦ record { front = a.0; at = a.1; count = eqb-true _ _ hit.0; cells = cells_taken (cells_of a.0) 0 names done r h hit.1 }
       | inr miss ↦ absurd cc
     ]
 
 -- ---- rows found
 
-rows_end : (n : ℕ) (stop : Stop) (cores : ℕ) (instrs : List CoreInstr) (names : List (List ℕ)) (ps : List Piece) → ends_rows ps ≡ true → rows_within n stop cores instrs names ps ≡ Ok (rows instrs names ps)
-unfolding rows_within
-rows_end zero stop cores instrs names ps end = refl
-rows_end (suc n) stop cores instrs names ps end = rw end refl
-
-rows_step : (n : ℕ) (stop : Stop) (cores : ℕ) (instrs : List CoreInstr) (names : List (List ℕ)) (ps front rest : List Piece) (read : Read) → ends_rows ps ≡ false → row_at stop ps ≡ Ok (front, rest)
-    → row_in cores (remaining_of ps) instrs names front ≡ Ok read → rows_within (suc n) stop cores instrs names ps ≡ rows_within n stop cores read.0 read.1 rest
-unfolding rows_within
-rows_step n stop cores instrs names ps front rest read go at is = rw (go, at, is) refl
-
-record RowsFound (n : ℕ) (stop : Stop) (cores : ℕ) (names : List (List ℕ)) (done all : List Placed) (back : List Term) (ps : List Piece) : Type 0 where
+record RowsFound (total : Result Rows Fault) (names : List (List ℕ)) (all : List Placed) (back : List Term) : Type 0 where
   pub rest : List Piece
-  pub is : rows_within n stop cores (instrs_of names done) (names_of names done) ps ≡ Ok (rows_by names all rest)
+  pub is : total ≡ Ok (rows_by names all rest)
   pub after_it : terms rest ≡ back
 
-rows_found : (stop : Stop) (cores : ℕ) (names : List (List ℕ)) (ts : List Term) (table : List (List (Option Shape))) → AreRows cores ts table → (n : ℕ) (ps : List Piece) → length ps ≤ n
-    → (done : List Placed) → EntriesWithin names (done ++ placed_in table) → (back : List Term) → terms ps ≡ ts ++ back → ends_table back ≡ true → RowsFound n stop cores names done (done ++ placed_in table) back ps
-rows_found stop cores names _ _ none n ps enough done h back e end =
+rows_found : (stop : Stop) (cores : ℕ) (names : List (List ℕ)) (ts : List Term) (table : List (List (Option Shape))) → AreRows cores ts table → (ps : List Piece) (total : Result Rows Fault)
+    → (done : List Placed) → EntriesWithin names (done ++ placed_in table) → (back : List Term) → terms ps ≡ ts ++ back → ends_table back ≡ true
+    → RowsAfter stop cores (instrs_of names done) (names_of names done) ps total → RowsFound total names (done ++ placed_in table) back
+rows_found stop cores names _ _ none ps total done h back e end b =
     let here : ends_rows ps ≡ true = ends_is ps ∙ ap ends_table e ∙ end in
     record {
       rest = ps;
-      is = rows_end n stop cores (instrs_of names done) (names_of names done) ps here ∙ ap (λ (l : List Placed). Ok (rows_by names l ps)) (sym (append-nil done));
+      is = rows_end stop cores (instrs_of names done) (names_of names done) ps total here b ∙ ap (λ (l : List Placed). Ok (rows_by names l ps)) (sym (append-nil done));
       after_it = e;
     }
-rows_found stop cores names _ _ (more ts us cells others is are) n ps enough done h back e end =
+rows_found stop cores names _ _ (more ts us cells others is are) ps total done h back e end b =
     let e' : terms ps ≡ ts ++ (us ++ back) = e ∙ append_assoc ts us back in
     let first = row_again stop cores ps ts (us ++ back) cells is e' in
     let one = placed_from 0 cells in
     let regroup : (done ++ one) ++ placed_in others ≡ done ++ (one ++ placed_in others) = append_assoc done one (placed_in others) in
     let whole : EntriesWithin names ((done ++ one) ++ placed_in others) = subst (λ (l : List Placed). EntriesWithin names l) (sym regroup) h in
-    let read = row_found cores (remaining_of ps) names done first.row cells (row_count cores ts cells is) first.cells_are (within_first names (done ++ one) (placed_in others) whole) in
+    let read = row_found cores first.s.stop names done first.s.tokens first.row cells first.is (row_count cores ts cells is) first.cells_are (within_first names (done ++ one) (placed_in others) whole) in
     let go : ends_rows ps ≡ false = ends_is ps ∙ ap ends_table e' ∙ row_begins cores ts cells is (us ++ back) in
-    let shorter = row_shorter cores ts cells ps first.rest is (e' ∙ ap (λ (l : List Term). ts ++ l) (sym first.after_it)) in
-    subst (λ (l : List Placed). RowsFound n stop cores names done l back ps) regroup (by_count n enough go first.row first.rest first.is read shorter (λ k le. rows_found stop cores names us others are k first.rest le (done ++ one) whole back first.after_it end))
-  where
-    by_count : (n : ℕ) → length ps ≤ n → ends_rows ps ≡ false → (front rest : List Piece) → row_at stop ps ≡ Ok (front, rest)
-        → row_in cores (remaining_of ps) (instrs_of names done) (names_of names done) front ≡ Ok (read_of names (done ++ placed_from 0 cells)) → length rest < length ps
-        → ((k : ℕ) → length rest ≤ k → RowsFound k stop cores names (done ++ placed_from 0 cells) ((done ++ placed_from 0 cells) ++ placed_in others) back rest)
-        → RowsFound n stop cores names done ((done ++ placed_from 0 cells) ++ placed_in others) back ps
-    by_count zero le go front rest at read shorter further = absurd (omega arith)
-    by_count (suc k) le go front rest at read shorter further =
-        let f = further k (omega arith) in
-        record {
-          rest = f.rest;
-          is = rows_step k stop cores (instrs_of names done) (names_of names done) ps front rest (read_of names (done ++ placed_from 0 cells)) go at read ∙ f.is;
-          after_it = f.after_it;
-        }
+    let further = rows_go_on stop cores (instrs_of names done) (instrs_of names (done ++ one)) (names_of names done) (names_of names (done ++ one)) ps first.s total go first.at read b in
+    subst (λ (l : List Placed). RowsFound total names l back) regroup (rows_found stop cores names us others are first.s.rest total (done ++ one) whole back first.after_it end further)
 
 pub rows_again : (stop : Stop) (cores : ℕ) (names : List (List ℕ)) (ps : List Piece) (ts back : List Term) (table : List (List (Option Shape))) → AreRows cores ts table
     → EntriesWithin names (placed_in table) → terms ps ≡ ts ++ back → ends_table back ≡ true → ReadsPlaced (rows_at stop cores names ps) names (placed_in table) back
 unfolding numbered
 rows_again stop cores names ps ts back table are h e end =
-    let f = rows_found stop cores names ts table are (length ps) ps (omega arith) [] h back e end in
+    let f = rows_found stop cores names ts table are ps (rows_at stop cores names ps) [] h back e end (rows_start stop cores names ps) in
     record { rest = f.rest; is = f.is; after_it = f.after_it }
 
 -- ---- rows taken
@@ -185,21 +155,21 @@ unfolding rows_within
 rows_taken zero stop cores names done [] r enough h e = no_more cores names done [] r h (ends_is []) (ok_is (rows (instrs_of names done) (names_of names done) []) r e)
 rows_taken zero stop cores names done (p ∷ ps) r enough h e = absurd (omega arith)
 rows_taken (suc n) stop cores names done ps r enough h e =
+    let s = section_of row_ends stop ps in
     elim (chosen (ends_rows ps) (Ok (rows (instrs_of names done) (names_of names done) ps))
-    (row_at stop ps >>= λ row. row_in cores (remaining_of ps) (instrs_of names done) (names_of names done) row.0 >>= λ read. rows_within n stop cores read.0 read.1 row.1) (Ok r) e) [
+    (row_in cores s.stop (instrs_of names done) (names_of names done) s.tokens >>= λ read. rows_within n stop cores read.0 read.1 s.rest) (Ok r) e) [
       | inl end ↦ no_more cores names done ps r h end.0 (ok_is (rows (instrs_of names done) (names_of names done) ps) r end.1)
       | inr go ↦
-          let a = bind_ok (row_at stop ps) (λ row. row_in cores (remaining_of ps) (instrs_of names done) (names_of names done) row.0 >>= λ read. rows_within n stop cores read.0 read.1 row.1) r go.1 in
-          let b = bind_ok (row_in cores (remaining_of ps) (instrs_of names done) (names_of names done) a.0.0) (λ read. rows_within n stop cores read.0 read.1 a.0.1) r a.2 in
-          let t = row_taken cores (remaining_of ps) names done a.0.0 b.0 h b.1 in
+          let b = bind_ok (row_in cores s.stop (instrs_of names done) (names_of names done) s.tokens) (λ read. rows_within n stop cores read.0 read.1 s.rest) r go.1 in
+          let t = row_taken cores s.stop names done s.tokens b.0 h b.1 in
           let cells = t.cells.cells in
           let one = placed_from 0 cells in
-          let count : length cells ≡ cores = sym (as_many (cells_of a.0.0) cells t.cells.are) ∙ t.count in
-          let front = row_takes stop cores ps a.0.0 a.0.1 cells a.1 t.cells.are count in
-          let shorter = row_shorter cores (terms front.front) cells ps a.0.1 front.is (ap terms front.parts ∙ terms_append front.front a.0.1) in
-          let further : rows_within n stop cores (instrs_of names (done ++ one)) (names_of names (done ++ one)) a.0.1 ≡ Ok r =
-          ap (λ (read : Read). rows_within n stop cores read.0 read.1 a.0.1) (sym t.cells.given) ∙ b.2 in
-          let others = rows_taken n stop cores names (done ++ one) a.0.1 r (omega arith) t.cells.within further in
+          let count : length cells ≡ cores = sym (as_many (cells_of t.front) cells t.cells.are) ∙ t.count in
+          let front = row_takes stop cores ps t.front cells t.at t.cells.are count in
+          let shorter = row_shorter stop cores (instrs_of names done) (names_of names done) ps s b.0 refl b.1 in
+          let further : rows_within n stop cores (instrs_of names (done ++ one)) (names_of names (done ++ one)) s.rest ≡ Ok r =
+          ap (λ (read : Read). rows_within n stop cores read.0 read.1 s.rest) (sym t.cells.given) ∙ b.2 in
+          let others = rows_taken n stop cores names (done ++ one) s.rest r (omega arith) t.cells.within further in
           let regroup : (done ++ one) ++ placed_in others.table ≡ done ++ (one ++ placed_in others.table) = append_assoc done one (placed_in others.table) in
           record {
             table = cells ∷ others.table;

@@ -1,5 +1,5 @@
 -- A whole text is read as it is spelled.
-use Rattle.litmus_reader.proofs.Vocabulary.{◌≡◌, ℕ, ◌≤◌, ◌+◌, true, false, ltb, List, [], ◌∷◌, ◌++◌, length, map, drop, Option, Ok, refl, sym, ap, subst, ◌∙◌, inl, inr, append_assoc, arith, IsTrue, ltb-false, le-ltb, length-map-range_with_len, range_with_len, Litmus, Instr, Stop, Term, Piece, pieces_of, sized, header_at, braces_at, Initial, words_of, registers_of, initial_at, Rows, Table, table, table_at, rows_at, test_of, tail_at, body_of, reading_of, terms, Passes, numbered, with_name, IsHeaderLine, has_cores, names_in, first_words, first_registers, condition, says_exists, says_forall, says_not_exists, MayAsk, nothing, a_condition, IsEnding, at_once, after_locations, names_asked, condition_of, IsAskedWithin, Shape, Setting, WrittenCondition, Written, program_of, columns, most_cores, length-map}
+use Rattle.litmus_reader.proofs.Vocabulary.{◌>>=◌, Fault, row_ends, Result, section_of, ◌≡◌, ℕ, ◌≤◌, ◌+◌, true, false, ltb, List, [], ◌∷◌, ◌++◌, length, map, drop, Option, Ok, refl, sym, ap, subst, ◌∙◌, inl, inr, append_assoc, arith, IsTrue, ltb-false, le-ltb, length-map-range_with_len, range_with_len, Litmus, Instr, Stop, Term, Piece, pieces_of, sized, header_at, braces_at, Initial, words_of, registers_of, initial_at, Rows, Table, table, table_at, rows_at, test_of, tail_at, body_of, reading_of, terms, Passes, numbered, with_name, IsHeaderLine, has_cores, names_in, first_words, first_registers, condition, says_exists, says_forall, says_not_exists, MayAsk, nothing, a_condition, IsEnding, at_once, after_locations, names_asked, condition_of, IsAskedWithin, Shape, Setting, WrittenCondition, Written, program_of, columns, most_cores, length-map}
 use Rattle.std.proofs.Common.{length-append}
 use Rattle.litmus_reader.specs.Limits.{longest_text}
 use Rattle.litmus_reader.proofs.Placed.{placed_in, instrs_with, locations_of, EntriesWithin}
@@ -12,7 +12,8 @@ use Rattle.litmus_reader.proofs.GrammarHeader.{header_again, header_takes}
 use Rattle.litmus_reader.proofs.GrammarInformation.{lines_again, lines_take}
 use Rattle.litmus_reader.proofs.GrammarInitialItems.{initial_found, initial_taken}
 use Rattle.litmus_reader.proofs.GrammarInitialSaid.{said}
-use Rattle.litmus_reader.proofs.GrammarColumns.{header_row_again, header_row_takes}
+use Rattle.litmus_reader.proofs.GrammarColumns.{header_row_again, header_row_found, header_row_takes}
+use Rattle.litmus_reader.proofs.RowSteps.{table_is}
 use Rattle.litmus_reader.proofs.GrammarTable.{rows_again, rows_take}
 use Rattle.litmus_reader.proofs.GrammarPhrases.{terms_length}
 use Rattle.litmus_reader.proofs.GrammarEnding.{Given, given, tail_again, tail_takes}
@@ -104,7 +105,7 @@ parts_are w i says =
 -- ---- found
 
 body_found : (braces : List ℕ) (w : Written) → IsBody braces w → KeepsLimits w → body_of w.name braces (pieces_of braces).1 (pieces_of braces).0 ≡ Ok (test_written w)
-unfolding body_of table_at
+unfolding body_of
 body_found braces w b limits =
     let stop = (pieces_of braces).1 in
     let ps = (pieces_of braces).0 in
@@ -118,17 +119,20 @@ body_found braces w b limits =
     let c = header_row_again stop i.rest (terms two.front) (terms b.rows) w.cores two.is (i.after_it ∙ ap terms two.parts ∙ terms_append two.front b.rows) in
     let registers : registers_of w.cores initial.i.registers ≡ Ok (first_registers w.settings w.cores) = says.registers w.cores limits.cores in
     let within : EntriesWithin initial.i.names es = subst (λ names. EntriesWithin names es) (sym says.names) (entries_within (first_names w) w.table limits.rows) in
-    let r = rows_again stop w.cores initial.i.names c.rest (terms three.front) (terms b.ending) w.table three.is within (c.after_it ∙ ap terms three.parts ∙ terms_append three.front b.ending)
+    let r = rows_again stop w.cores initial.i.names c.s.rest (terms three.front) (terms b.ending) w.table three.is within (c.after_it ∙ ap terms three.parts ∙ terms_append three.front b.ending)
     (ends_here braces stop b.ending w.asked b.is_ending) in
     let known = numbered initial.i.names (locations_of es) in
     let most : length initial.i.names ≤ 16 = let more = grows (locations_of es) initial.i.names in omega (arith, more, within.room) in
-    let last = left (initial_taken stop ps i.rest initial.i i.is).spelled (left (header_row_takes stop i.rest c.rest w.cores c.is) (left (rows_take stop w.cores initial.i.names c.rest (rows_by initial.i.names es r.rest) most r.is).spelled (all_left r.rest))) in
+    let last = left (initial_taken stop ps i.rest initial.i i.is).spelled (left (header_row_found stop i.rest w.cores c.s c.at c.is) (left (rows_take stop w.cores initial.i.names c.s.rest (rows_by initial.i.names es r.rest) most r.is).spelled (all_left r.rest))) in
     let whole = left one (left two (left three (all_left b.ending))) in
     let same : r.rest ≡ b.ending = same_end last.taken whole.taken r.rest b.ending (sym last.parts ∙ whole.parts) (same_length r.rest b.ending r.after_it) in
     let asked : IsAskedWithin w.cores known w.asked = subst (λ names. IsAskedWithin w.cores (numbered names (locations_of es)) w.asked) (sym says.names) (subst (λ named. IsAskedWithin w.cores (numbered (first_names w) named) w.asked) (sym (named-same w.table)) limits.condition) in
     let tail : tail_at braces stop w.cores known r.rest ≡ Ok (given known w.asked) =
     subst (λ (l : List Piece). tail_at braces stop w.cores known l ≡ Ok (given known w.asked)) (sym same) (tail_again braces stop w.cores known b.ending w.asked b.is_ending asked) in
-    rw (i.is, c.is, registers, r.is, tail) (ap (λ (t : Litmus). Ok t) (parts_are w initial.i says))
+    let table_here : table_at stop initial.i.registers initial.i.names i.rest ≡ Ok (table w.cores (first_registers w.settings w.cores) (rows_by initial.i.names es r.rest)) =
+    table_is stop initial.i.registers initial.i.names i.rest c.s w.cores (first_registers w.settings w.cores) c.at (sym c.is) registers
+    ∙ ap (λ (x : Result Rows Fault). x >>= λ rows. Ok (table w.cores (first_registers w.settings w.cores) rows)) r.is in
+    rw (i.is, table_here, tail) (ap (λ (t : Litmus). Ok t) (parts_are w initial.i says))
 
 pub sized_found : (text : List ℕ) → length text ≤ longest_text → sized text ≡ Ok text
 sized_found text small = let fits : ltb longest_text (length text) ≡ false = le-ltb _ _ small in rw fits refl
@@ -168,25 +172,26 @@ body_taken called braces t e =
     let i = bind_ok (initial_at stop [] ps) _ t e in
     let b = bind_ok (table_at stop i.0.0.registers i.0.0.names i.0.1) _ t i.2 in
     let tail = bind_ok (tail_at braces stop b.0.cores b.0.rows.names b.0.rows.rest) _ t b.2 in
-    let c = bind_ok (columns stop most_cores 0 i.0.1) _ b.0 b.1 in
-    let g = bind_ok (registers_of c.0.0 i.0.0.registers) _ b.0 c.2 in
-    let r = bind_ok (rows_at stop c.0.0 i.0.0.names c.0.1) _ b.0 g.2 in
-    let is_table : table c.0.0 g.0 r.0 ≡ b.0 = ok_is (table c.0.0 g.0 r.0) b.0 r.2 in
+    let header = section_of row_ends stop i.0.1 in
+    let c = bind_ok (columns header.stop most_cores 0 header.tokens) _ b.0 b.1 in
+    let g = bind_ok (registers_of c.0 i.0.0.registers) _ b.0 c.2 in
+    let r = bind_ok (rows_at stop c.0 i.0.0.names header.rest) _ b.0 g.2 in
+    let is_table : table c.0 g.0 r.0 ≡ b.0 = ok_is (table c.0 g.0 r.0) b.0 r.2 in
     let initial = initial_taken stop ps i.0.1 i.0.0 i.1 in
-    let columns = header_row_takes stop i.0.1 c.0.1 c.0.0 c.1 in
+    let columns = header_row_takes stop i.0.1 c.0 c.1 in
     let settings = initial.settings in
     let says = said settings i.0.0 initial.holds initial.fits in
     let few : length i.0.0.names ≤ 16 = rw says.names (let count = numbered_few (names_in settings) [] in let most = initial.fits.few in omega (arith, count, most)) in
-    let rows = rows_take stop c.0.0 i.0.0.names c.0.1 r.0 few r.1 in
+    let rows = rows_take stop c.0 i.0.0.names header.rest r.0 few r.1 in
     let es = placed_in rows.table in
     let known = numbered i.0.0.names (locations_of es) in
-    let tail_here : tail_at braces stop c.0.0 r.0.names r.0.rest ≡ Ok tail.0 = subst (λ (b : Table). tail_at braces stop b.cores b.rows.names b.rows.rest ≡ Ok tail.0) (sym is_table) tail.1 in
+    let tail_here : tail_at braces stop c.0 r.0.names r.0.rest ≡ Ok tail.0 = subst (λ (b : Table). tail_at braces stop b.cores b.rows.names b.rows.rest ≡ Ok tail.0) (sym is_table) tail.1 in
     let names_are : r.0.names ≡ known = ap (λ (r : Rows). r.names) rows.given in
     let instrs_are : r.0.instrs ≡ instrs_with known es = ap (λ (r : Rows). r.instrs) rows.given in
-    let ends = tail_takes braces stop c.0.0 known r.0.rest tail.0 rows.within.room (subst (λ names. tail_at braces stop c.0.0 names r.0.rest ≡ Ok tail.0) names_are tail_here) in
-    let w : Written = written called settings c.0.0 rows.table ends.c in
-    let has : IsTrue (has_cores c.0.0 settings) = says.cores c.0.0 g.0 g.1 in
-    let registers : first_registers settings c.0.0 ≡ g.0 = ok_is (first_registers settings c.0.0) g.0 (sym (says.registers c.0.0 has) ∙ g.1) in
+    let ends = tail_takes braces stop c.0 known r.0.rest tail.0 rows.within.room (subst (λ names. tail_at braces stop c.0 names r.0.rest ≡ Ok tail.0) names_are tail_here) in
+    let w : Written = written called settings c.0 rows.table ends.c in
+    let has : IsTrue (has_cores c.0 settings) = says.cores c.0 g.0 g.1 in
+    let registers : first_registers settings c.0 ≡ g.0 = ok_is (first_registers settings c.0) g.0 (sym (says.registers c.0 has) ∙ g.1) in
     let read : test_of called tail.0.1 i.0.0.words b.0.registers b.0.rows.instrs tail.0.0 ≡ t = ok_is (test_of called tail.0.1 i.0.0.words b.0.registers b.0.rows.instrs tail.0.0) t tail.2 in
     let table_read : test_of called tail.0.1 i.0.0.words g.0 r.0.instrs tail.0.0 ≡ t = subst (λ (b : Table). test_of called tail.0.1 i.0.0.words b.registers b.rows.instrs tail.0.0 ≡ t) (sym is_table) read in
     let gives : parts_give w i.0.0 ≡ t =
@@ -197,7 +202,7 @@ body_taken called braces t e =
       w = w;
       named = refl;
       body = record {
-        rows = c.0.1;
+        rows = header.rest;
         ending = r.0.rest;
         head = record {
           columns = i.0.1;
@@ -211,8 +216,8 @@ body_taken called braces t e =
         settings = initial.fits;
         cores = has;
         rows = columns_within (numbered [] (names_in settings)) rows.table (subst (λ names. EntriesWithin names es) says.names rows.within);
-        condition = subst (λ named. IsAskedWithin c.0.0 (numbered (numbered [] (names_in settings)) named) ends.c) (named-same rows.table)
-            (subst (λ names. IsAskedWithin c.0.0 (numbered names (locations_of es)) ends.c) says.names ends.within);
+        condition = subst (λ named. IsAskedWithin c.0 (numbered (numbered [] (names_in settings)) named) ends.c) (named-same rows.table)
+            (subst (λ names. IsAskedWithin c.0 (numbered names (locations_of es)) ends.c) says.names ends.within);
       };
       says = sym gives ∙ parts_are w i.0.0 says;
     }

@@ -43,9 +43,3 @@ pub mod GrammarTest
 pub mod Decided
 pub mod Lexed
 pub mod SectionSteps
-pub mod Cuts
-pub mod SettingCuts
-pub mod SectionItems
-pub mod SectionRows
-pub mod SectionReadings
-pub mod Sectioned

@@ -1,6 +1,6 @@
 -- What readings give, as proofs speak of it.
 use Rattle.std.specs.Prelude.{◌≡◌, List, ◌++◌, Result, Ok, ℕ, true, [], ◌∷◌, length, IsTrue, Option, Some, None, ◌+◌, Bool, ◌||◌}
-use Rattle.litmus_reader.proofs.Vocabulary.{Term, Piece, Passes, Fault, Initial, words_of, registers_of, numbered, Stop, row_at, Rows, rows, terms, spelled_in, Claimed, claimed, Proposition, Conditioned, conditioned, Quantifier, AreRows, ends_rows, ends_rows_term, IsCondition, IsWithin, locations_in, atoms_of, claim_by, has_cores, names_in, first_words, first_registers, Shape, Setting, Phrase, cells_of, is_symbol_term, Tilde}
+use Rattle.litmus_reader.proofs.Vocabulary.{row_ends, section_of, Section, Term, Piece, Passes, Fault, Initial, words_of, registers_of, numbered, Stop, row_at, Rows, rows, terms, spelled_in, Claimed, claimed, Proposition, Conditioned, conditioned, Quantifier, AreRows, ends_rows, ends_rows_term, IsCondition, IsWithin, locations_in, atoms_of, claim_by, has_cores, names_in, first_words, first_registers, Shape, Setting, Phrase, cells_of, is_symbol_term, Tilde}
 use Rattle.litmus_reader.proofs.Placed.{Placed, placed_in, instrs_with, locations_of, EntriesWithin}
 
 -- nothing stands there, or a token with which no row begins
@@ -38,11 +38,12 @@ AreReadAs (ps ∷ rest) (c ∷ cs) = IsReadAs ps c × AreReadAs rest cs
 
 -- a reading parts such a row from these tokens
 pub record ReadsRow (stop : Stop) (ps : List Piece) (cells : List (Option Shape)) (back : List Term) : Type 0 where
+  pub s : Section
+  pub at : section_of row_ends stop ps ≡ s
   pub row : List Piece
-  pub rest : List Piece
-  pub is : row_at stop ps ≡ Ok (row, rest)
+  pub is : row_at s.stop s.tokens ≡ Ok row
   pub cells_are : AreReadAs (cells_of row) cells
-  pub after_it : terms rest ≡ back
+  pub after_it : terms s.rest ≡ back
 
 -- what is read of entries after these names, where this stands after them
 abbrev pub rows_by : List (List ℕ) → List Placed → List Piece → Rows

@@ -1,6 +1,7 @@
 -- All rows, one after the other.
-use Rattle.litmus_reader.proofs.Vocabulary.{◌≡◌, ℕ, zero, suc, ◌≤◌, ◌<◌, true, false, List, [], ◌∷◌, length, Result, Ok, Err, refl, sym, ap, ◌∙◌, arith, Stop, Piece, Fault, ReadError, CoreInstr, Fails, ◌>>=◌, Given, registers_of, Rows, rows, row_at, row_in, rows_within, rows_at, table, table_at, remaining_of, ends_rows, columns, most_cores}
+use Rattle.litmus_reader.proofs.Vocabulary.{◌≡◌, ℕ, zero, suc, ◌≤◌, ◌<◌, true, false, List, [], ◌∷◌, length, Result, Ok, Err, refl, sym, ◌∙◌, arith, Stop, Piece, Fault, ReadError, CoreInstr, Fails, ◌>>=◌, Given, registers_of, Rows, rows, row_at, row_in, rows_within, rows_at, table, table_at, ends_rows, columns, most_cores, section_of, Section, row_ends, at_stop, fault, Unclosed}
 use Rattle.litmus_cells.specs.declared.fault.ReadError.TheVariants as errors
+use Rattle.litmus_reader.proofs.SectionSteps.{section_shorter}
 
 -- the total is what the rest gives, in some number of rows that is enough
 pub record RowsAfter (stop : Stop) (cores : ℕ) (instrs : List CoreInstr) (names : List (List ℕ)) (ps : List Piece) (total : Result Rows Fault) : Type 0 where
@@ -25,62 +26,71 @@ rows_end stop cores instrs names ps total ends b = by_count b.count b.same
     by_count zero same = sym same
     by_count (suc n) same = sym (rw ends at same)
 
--- one row more
-step : (n : ℕ) (stop : Stop) (cores : ℕ) (instrs : List CoreInstr) (names : List (List ℕ)) (ps row rest : List Piece)
-    → ends_rows ps ≡ false → row_at stop ps ≡ Ok (row, rest)
-    → rows_within (suc n) stop cores instrs names ps ≡ (row_in cores (remaining_of ps) instrs names row >>= λ read. rows_within n stop cores read.0 read.1 rest)
-unfolding rows_within
-step n stop cores instrs names ps row rest more at = rw (more, at) refl
+abbrev ReadCells : Type 0
+ReadCells = Result (List CoreInstr × List (List ℕ)) Fault
 
-pub rows_go_on : (stop : Stop) (cores remaining : ℕ) (instrs after : List CoreInstr) (names known : List (List ℕ)) (ps row rest : List Piece) (total : Result Rows Fault)
-    → ends_rows ps ≡ false → remaining ≡ remaining_of ps → row_at stop ps ≡ Ok (row, rest) → row_in cores remaining instrs names row ≡ Ok (after, known) → length rest < length ps
-    → RowsAfter stop cores instrs names ps total → RowsAfter stop cores after known rest total
-rows_go_on stop cores remaining instrs after names known ps row rest total more place at read shorter b = by_count b.count b.enough b.same
+-- a row that is read has a token, with which it ends
+pub row_some : (cores : ℕ) (stop : Stop) (instrs : List CoreInstr) (names : List (List ℕ)) (ps : List Piece) (x : List CoreInstr × List (List ℕ)) → row_in cores stop instrs names ps ≡ Ok x → 0 < length ps
+unfolding row_in row_at
+row_some cores stop instrs names [] x e = let never : (let q : ReadCells = Err (at_stop (fault Unclosed 0) stop) in q) ≡ Ok x = e in absurd cc
+row_some cores stop instrs names (p ∷ ps) x e = omega arith
+
+-- one row more
+step : (n : ℕ) (stop : Stop) (cores : ℕ) (instrs : List CoreInstr) (names : List (List ℕ)) (ps : List Piece) (s : Section) (r : ReadCells)
+    → ends_rows ps ≡ false → section_of row_ends stop ps ≡ s → row_in cores s.stop instrs names s.tokens ≡ r
+    → rows_within (suc n) stop cores instrs names ps ≡ (r >>= λ read. rows_within n stop cores read.0 read.1 s.rest)
+unfolding rows_within
+step n stop cores instrs names ps s r more at is = rw (more, at, is) refl
+
+pub row_shorter : (stop : Stop) (cores : ℕ) (instrs : List CoreInstr) (names : List (List ℕ)) (ps : List Piece) (s : Section) (x : List CoreInstr × List (List ℕ))
+    → section_of row_ends stop ps ≡ s → row_in cores s.stop instrs names s.tokens ≡ Ok x → length s.rest < length ps
+row_shorter stop cores instrs names ps s x at read =
+    let shorter : 0 < length s.tokens → length s.rest < length ps = rw at at (section_shorter row_ends stop ps) in
+    shorter (row_some cores s.stop instrs names s.tokens x read)
+
+pub rows_go_on : (stop : Stop) (cores : ℕ) (instrs after : List CoreInstr) (names known : List (List ℕ)) (ps : List Piece) (s : Section) (total : Result Rows Fault)
+    → ends_rows ps ≡ false → section_of row_ends stop ps ≡ s → row_in cores s.stop instrs names s.tokens ≡ Ok (after, known)
+    → RowsAfter stop cores instrs names ps total → RowsAfter stop cores after known s.rest total
+rows_go_on stop cores instrs after names known ps s total more at read b = by_count b.count b.enough b.same
   where
-    by_count : (n : ℕ) → length ps ≤ n → rows_within n stop cores instrs names ps ≡ total → RowsAfter stop cores after known rest total
-    by_count zero enough same = absurd (omega arith)
+    by_count : (n : ℕ) → length ps ≤ n → rows_within n stop cores instrs names ps ≡ total → RowsAfter stop cores after known s.rest total
+    by_count zero enough same = let none : ends_rows ps ≡ true = nothing_left ps enough in absurd cc
     by_count (suc n) enough same = record {
       count = n;
-      enough = omega arith;
-      same = sym (step n stop cores instrs names ps row rest more at ∙ ap (λ (r : Result (List CoreInstr × List (List ℕ)) Fault). r >>= λ read. rows_within n stop cores read.0 read.1 rest) (ap (λ (l : ℕ). row_in cores l instrs names row) (sym place) ∙ read)) ∙ same;
+      enough = omega (arith, enough, row_shorter stop cores instrs names ps s (after, known) at read);
+      same = sym (step n stop cores instrs names ps s (Ok (after, known)) more at read) ∙ same;
     }
 
-pub row_fails : (e : ReadError) (stop : Stop) (cores remaining : ℕ) (instrs : List CoreInstr) (names : List (List ℕ)) (ps row rest : List Piece) (total : Result Rows Fault)
-    → ends_rows ps ≡ false → remaining ≡ remaining_of ps → row_at stop ps ≡ Ok (row, rest) → Fails e (row_in cores remaining instrs names row)
+pub row_fails : (e : ReadError) (stop : Stop) (cores : ℕ) (instrs : List CoreInstr) (names : List (List ℕ)) (ps : List Piece) (s : Section) (total : Result Rows Fault)
+    → ends_rows ps ≡ false → section_of row_ends stop ps ≡ s → Fails e (row_in cores s.stop instrs names s.tokens)
     → RowsAfter stop cores instrs names ps total → Fails e total
-row_fails errors.NoMemory stop cores remaining instrs names ps row rest total more place at read b = tt
-row_fails (errors.Fault f) stop cores remaining instrs names ps row rest total more place at read b = by_count b.count b.enough b.same
+row_fails errors.NoMemory stop cores instrs names ps s total more at read b = tt
+row_fails (errors.Fault f) stop cores instrs names ps s total more at read b = by_count b.count b.enough b.same
   where
     by_count : (n : ℕ) → length ps ≤ n → rows_within n stop cores instrs names ps ≡ total → total ≡ Err f
     by_count zero enough same = let none : ends_rows ps ≡ true = nothing_left ps enough in absurd cc
-    by_count (suc n) enough same = sym same ∙ step n stop cores instrs names ps row rest more at ∙ ap (λ (r : Result (List CoreInstr × List (List ℕ)) Fault). r >>= λ read. rows_within n stop cores read.0 read.1 rest) (ap (λ (l : ℕ). row_in cores l instrs names row) (sym place) ∙ read)
+    by_count (suc n) enough same = sym same ∙ step n stop cores instrs names ps s (Err f) more at read
 
-pub row_open : (f : Fault) (stop : Stop) (cores : ℕ) (instrs : List CoreInstr) (names : List (List ℕ)) (ps : List Piece) (total : Result Rows Fault)
-    → ends_rows ps ≡ false → row_at stop ps ≡ Err f → RowsAfter stop cores instrs names ps total → total ≡ Err f
-unfolding rows_within
-row_open f stop cores instrs names ps total more at b = by_count b.count b.enough b.same
-  where
-    by_count : (n : ℕ) → length ps ≤ n → rows_within n stop cores instrs names ps ≡ total → total ≡ Err f
-    by_count zero enough same = let none : ends_rows ps ≡ true = nothing_left ps enough in absurd cc
-    by_count (suc n) enough same = sym same ∙ rw (more, at) refl
+-- ---- the header row before them
 
-pub table_done : (stop : Stop) (cores : ℕ) (given : List Given) (registers : List (List ℕ)) (names : List (List ℕ)) (ps rest : List Piece) (r : Rows)
-    → Ok (cores, rest) ≡ columns stop most_cores 0 ps → registers_of cores given ≡ Ok registers → rows_at stop cores names rest ≡ Ok r → table_at stop given names ps ≡ Ok (table cores registers r)
+-- the header row of these tokens, and what all rows give after it
+pub table_is : (stop : Stop) (given : List Given) (names : List (List ℕ)) (ps : List Piece) (s : Section) (cores : ℕ) (registers : List (List ℕ)) → section_of row_ends stop ps ≡ s → Ok cores ≡ columns s.stop most_cores 0 s.tokens
+    → registers_of cores given ≡ Ok registers → table_at stop given names ps ≡ (rows_at stop cores names s.rest >>= λ rows. Ok (table cores registers rows))
 unfolding table_at
-table_done stop cores given registers names ps rest r at all is = rw (← at, all, is) refl
+table_is stop given names ps s cores registers at few all = rw (at, ← few, all) refl
 
-pub table_fails : (e : ReadError) (stop : Stop) (cores : ℕ) (given : List Given) (registers : List (List ℕ)) (names : List (List ℕ)) (ps rest : List Piece)
-    → Ok (cores, rest) ≡ columns stop most_cores 0 ps → registers_of cores given ≡ Ok registers → Fails e (rows_at stop cores names rest) → Fails e (table_at stop given names ps)
-unfolding table_at
-table_fails errors.NoMemory stop cores given registers names ps rest at all is = tt
-table_fails (errors.Fault f) stop cores given registers names ps rest at all is = rw (← at, all, is) refl
+pub table_fails : (e : ReadError) (stop : Stop) (given : List Given) (names : List (List ℕ)) (ps : List Piece) (s : Section) (cores : ℕ) (registers : List (List ℕ)) → section_of row_ends stop ps ≡ s
+    → Ok cores ≡ columns s.stop most_cores 0 s.tokens → registers_of cores given ≡ Ok registers → Fails e (rows_at stop cores names s.rest) → Fails e (table_at stop given names ps)
+table_fails errors.NoMemory stop given names ps s cores registers at few all is = tt
+table_fails (errors.Fault f) stop given names ps s cores registers at few all is = rw (table_is stop given names ps s cores registers at few all, is) refl
 
-pub registers_missing : (e : ReadError) (stop : Stop) (cores : ℕ) (given : List Given) (names : List (List ℕ)) (ps rest : List Piece)
-    → Ok (cores, rest) ≡ columns stop most_cores 0 ps → Fails e (registers_of cores given) → Fails e (table_at stop given names ps)
+pub registers_missing : (e : ReadError) (stop : Stop) (given : List Given) (names : List (List ℕ)) (ps : List Piece) (s : Section) (cores : ℕ) → section_of row_ends stop ps ≡ s
+    → Ok cores ≡ columns s.stop most_cores 0 s.tokens → Fails e (registers_of cores given) → Fails e (table_at stop given names ps)
 unfolding table_at
-registers_missing errors.NoMemory stop cores given names ps rest at is = tt
-registers_missing (errors.Fault f) stop cores given names ps rest at is = rw (← at, is) refl
+registers_missing errors.NoMemory stop given names ps s cores at few is = tt
+registers_missing (errors.Fault f) stop given names ps s cores at few is = rw (at, ← few, is) refl
 
-pub columns_missing : (f : Fault) (stop : Stop) (given : List Given) (names : List (List ℕ)) (ps : List Piece) → Err f ≡ columns stop most_cores 0 ps → table_at stop given names ps ≡ Err f
+pub columns_missing : (f : Fault) (stop : Stop) (given : List Given) (names : List (List ℕ)) (ps : List Piece) (s : Section) → section_of row_ends stop ps ≡ s → Err f ≡ columns s.stop most_cores 0 s.tokens
+    → table_at stop given names ps ≡ Err f
 unfolding table_at
-columns_missing f stop given names ps at = rw (← at) refl
+columns_missing f stop given names ps s at is = rw (at, ← is) refl

@@ -1,18 +1,102 @@
 -- Sections of a text, one token after the other.
-use Rattle.litmus_reader.proofs.Vocabulary.{◌≡◌, ℕ, ◌+◌, ◌≤◌, ◌<◌, true, false, cond, List, [], ◌∷◌, ◌++◌, length, Some, None, Ok, Err, refl, sym, ap, ◌∙◌, append_assoc, arith, length-append, Stop, End, Symbol, Tilde, Term, number, name, symbol, Piece, piece_at, is_symbol, symbol_at, name_then, name_at, there, word_after, is_word, Why, ends_rows_term, ends_rows, fault, at_stop, remaining_of, tokens_in, stop_of, is_one_of, Through, IsSection, opened, bytes_eq, ◌||◌}
+use Rattle.litmus_reader.proofs.Vocabulary.{◌≡◌, ℕ, ◌+◌, ◌≤◌, ◌<◌, Bool, true, false, cond, List, [], ◌∷◌, ◌++◌, length, Some, None, Ok, Err, refl, sym, ap, ◌∙◌, append_assoc, append-nil, arith, length-append, list_any, Stop, End, Symbol, Tilde, Term, number, name, symbol, terms, Piece, piece_at, is_symbol_term, is_symbol, symbol_at, name_then, name_at, Why, there, is_one_of, Section, onto_section, section_of, section, IsSection, tokens_in, stop_of, opened, fault, at_stop, remaining_of, bytes_eq, ends_rows_term, ends_rows, is_word, word_after, ◌||◌}
 use Rattle.litmus_cells.specs.declared.fault.Why.TheVariants.{BadToken}
 use Rattle.litmus_reader.proofs.Lexed.{first_again, none_again}
+use Rattle.litmus_reader.proofs.GrammarTokens.{terms_append}
 
--- none of the tokens is one of these symbols
-abbrev pub NoneOf : List Symbol → List Piece → Type 0
-NoneOf ends [] = Unit {0}
-NoneOf ends (p ∷ ps) = (is_one_of ends p ≡ false) × NoneOf ends ps
+-- ---- sections of tokens
+
+-- a section after these tokens
+abbrev pub after_these : List Piece → Section → Section
+after_these ps s = section (ps ++ s.tokens) s.stop s.rest
+
+pub section_parts : (ends : List Symbol) (stop : Stop) (ps : List Piece) → ps ≡ (section_of ends stop ps).tokens ++ (section_of ends stop ps).rest
+unfolding section_of
+section_parts ends stop [] = refl
+section_parts ends stop (p ∷ ps) = by_test (is_one_of ends p) (section_parts ends stop ps)
+  where
+    by_test : (b : Bool) → ps ≡ (section_of ends stop ps).tokens ++ (section_of ends stop ps).rest
+        → p ∷ ps ≡ (cond b (section (p ∷ []) End ps) (onto_section p (section_of ends stop ps))).tokens ++ (cond b (section (p ∷ []) End ps) (onto_section p (section_of ends stop ps))).rest
+    by_test true further = refl
+    by_test false further = ap (λ (l : List Piece). p ∷ l) further
+
+-- a section that has a token takes one or more
+pub section_shorter : (ends : List Symbol) (stop : Stop) (ps : List Piece) → 0 < length (section_of ends stop ps).tokens → length (section_of ends stop ps).rest < length ps
+section_shorter ends stop ps some =
+    let s = section_of ends stop ps in
+    omega (arith, some, ap (λ (l : List Piece). length l) (section_parts ends stop ps), length-append s.tokens s.rest)
+
+-- one of the symbols stands last, if it stands there
+pub section_last : (ends : List Symbol) (stop : Stop) (ps front back : List Piece) (p : Piece) → (section_of ends stop ps).tokens ≡ front ++ p ∷ back → is_one_of ends p ≡ true → back ≡ []
+unfolding section_of
+section_last ends stop [] [] back p e is = absurd cc
+section_last ends stop [] (x ∷ front) back p e is = absurd cc
+section_last ends stop (q ∷ qs) front back p e is = by_test (is_one_of ends q) refl front e (λ front e. section_last ends stop qs front back p e is)
+  where
+    by_test : (b : Bool) → is_one_of ends q ≡ b → (front : List Piece) → (cond b (section (q ∷ []) End qs) (onto_section q (section_of ends stop qs))).tokens ≡ front ++ p ∷ back
+        → ((front : List Piece) → (section_of ends stop qs).tokens ≡ front ++ p ∷ back → back ≡ []) → back ≡ []
+    by_test true one [] e further = cc
+    by_test true one (x ∷ front) e further = none_last front cc
+      where
+        none_last : (front : List Piece) → [] ≡ front ++ p ∷ back → back ≡ []
+        none_last [] e = absurd cc
+        none_last (y ∷ front) e = absurd cc
+    by_test false none [] e further = let same : q ≡ p = cc in let also : is_one_of ends q ≡ true = ap (is_one_of ends) same ∙ is in absurd cc
+    by_test false none (x ∷ front) e further = further front cc
+
+-- where a symbol stands after some tokens that are none of these, there the section ends
+pub record SectionFound (ends : List Symbol) (stop : Stop) (us : List Term) (t : Term) (back : List Term) (ps : List Piece) : Type 0 where
+  pub front : List Piece
+  pub last : Piece
+  pub rest : List Piece
+  pub is : section_of ends stop ps ≡ section (front ++ last ∷ []) End rest
+  pub is_front : terms front ≡ us
+  pub is_last : last.term ≡ t
+  pub is_rest : terms rest ≡ back
+
+-- whether a term is one of these symbols
+abbrev pub ends_with : List Symbol → Term → Bool
+ends_with ends t = list_any (λ s. is_symbol_term s t) ends
+
+-- none of the terms is so
+abbrev pub Lacks : (Term → Bool) → List Term → Type 0
+Lacks is [] = Unit {0}
+Lacks is (t ∷ ts) = (is t ≡ false) × Lacks is ts
+
+pub section_found : (ends : List Symbol) (stop : Stop) (us back : List Term) (t : Term) → Lacks (ends_with ends) us → ends_with ends t ≡ true → (ps : List Piece) → terms ps ≡ us ++ t ∷ back
+    → SectionFound ends stop us t back ps
+unfolding section_of is_symbol
+section_found ends stop [] back t lacks one [] e = absurd cc
+section_found ends stop (u ∷ us) back t lacks one [] e = absurd cc
+section_found ends stop [] back t lacks one (p ∷ ps) e =
+    let is : p.term ≡ t = cc in
+    let after : terms ps ≡ back = cc in
+    let hit : is_one_of ends p ≡ true = ap (ends_with ends) is ∙ one in
+    record { front = []; last = p; rest = ps; is = rw hit refl; is_front = refl; is_last = is; is_rest = after }
+section_found ends stop (u ∷ us) back t lacks one (p ∷ ps) e =
+    let is : p.term ≡ u = cc in
+    let after : terms ps ≡ us ++ t ∷ back = cc in
+    let miss : is_one_of ends p ≡ false = ap (ends_with ends) is ∙ lacks.0 in
+    let further = section_found ends stop us back t lacks.1 one ps after in
+    record { front = p ∷ further.front; last = further.last; rest = further.rest; is = rw (miss, further.is) refl; is_front = rw (is, further.is_front) refl; is_last = further.is_last; is_rest = further.is_rest }
+
+pub section_terms : (ends : List Symbol) (stop : Stop) (us back : List Term) (t : Term) (ps : List Piece) → (f : SectionFound ends stop us t back ps) → terms (f.front ++ f.last ∷ []) ≡ us ++ t ∷ []
+section_terms ends stop us back t ps f = terms_append f.front (f.last ∷ []) ∙ rw (f.is_front, f.is_last) refl
+
+-- what a section has, where one of its symbols stands in it
+pub section_taken : (ends : List Symbol) (stop : Stop) (ps front back : List Piece) (end : Piece) (t : Term) → (section_of ends stop ps).tokens ≡ front ++ end ∷ back → end.term ≡ t → ends_with ends t ≡ true
+    → terms (section_of ends stop ps).tokens ≡ terms front ++ t ∷ []
+unfolding is_symbol
+section_taken ends stop ps front back end t e is one =
+    let none = section_last ends stop ps front back end e (ap (ends_with ends) is ∙ one) in
+    ap terms (e ∙ ap (λ (l : List Piece). front ++ end ∷ l) none) ∙ terms_append front (end ∷ []) ∙ rw is refl
+
+-- ---- sections of texts
 
 -- a section as far as it has been read
 pub record SoFar (ends : List Symbol) (text : List ℕ) (ps : List Piece) (rest : List ℕ) : Type 0 where
-  pub tokens : tokens_in text ≡ ps ++ tokens_in rest
+  pub is : section_of ends (stop_of text) (tokens_in text) ≡ after_these ps (section_of ends (stop_of text) (tokens_in rest))
   pub stop_kept : stop_of text ≡ stop_of rest
-  pub none : NoneOf ends ps
   pub within : length ps + length rest ≤ length text
 
 -- the tokens from one on
@@ -35,52 +119,35 @@ token_missing text stop e =
     record { tokens = sym (ap (λ (x : List Piece × Stop). x.0) all); stop_kept = sym (ap (λ (x : List Piece × Stop). x.1) all) }
 
 pub so_far_start : (ends : List Symbol) (text : List ℕ) → SoFar ends text [] text
-so_far_start ends text = record { tokens = refl; stop_kept = refl; none = tt; within = omega arith }
-
-none_more : (ends : List Symbol) (ps : List Piece) (p : Piece) → NoneOf ends ps → is_one_of ends p ≡ false → NoneOf ends (ps ++ p ∷ [])
-none_more ends [] p none other = (other, tt)
-none_more ends (q ∷ ps) p none other = (none.0, none_more ends ps p none.1 other)
-
-further : (text rest after : List ℕ) (ps : List Piece) (p : Piece) → tokens_in text ≡ ps ++ tokens_in rest → tokens_in rest ≡ p ∷ tokens_in after → tokens_in text ≡ (ps ++ p ∷ []) ++ tokens_in after
-further text rest after ps p before next = before ∙ ap (λ (l : List Piece). ps ++ l) next ∙ sym (append_assoc ps (p ∷ []) (tokens_in after))
+so_far_start ends text = record { is = refl; stop_kept = refl; within = omega arith }
 
 pub so_far_more : (ends : List Symbol) (text rest after : List ℕ) (ps : List Piece) (p : Piece) → Ok (p, after) ≡ piece_at rest → length after < length rest → is_one_of ends p ≡ false
     → SoFar ends text ps rest → SoFar ends text (ps ++ p ∷ []) after
+unfolding section_of
 so_far_more ends text rest after ps p e shorter other s =
     let t = token_there rest after p e in
+    let last = section_of ends (stop_of text) (tokens_in after) in
+    let one : section_of ends (stop_of text) (tokens_in rest) ≡ onto_section p last = rw (t.tokens, other) refl in
     record {
-      tokens = further text rest after ps p s.tokens t.tokens;
+      is = s.is ∙ ap (after_these ps) one ∙ ap (λ (l : List Piece). section l last.stop last.rest) (sym (append_assoc ps (p ∷ []) last.tokens));
       stop_kept = s.stop_kept ∙ t.stop_kept;
-      none = none_more ends ps p s.none other;
       within = omega (arith, s.within, shorter, length-append ps (p ∷ []));
     }
 
-through_last : (ends : List Symbol) (Otherwise : Type 0) (ps : List Piece) (p : Piece) → NoneOf ends ps → is_one_of ends p ≡ true → Through ends Otherwise (ps ++ p ∷ [])
-through_last ends Otherwise [] p none is = rw is refl
-through_last ends Otherwise (q ∷ ps) p none is = rw none.0 (through_last ends Otherwise ps p none.1 is)
-
-through_all : (ends : List Symbol) (Otherwise : Type 0) (ps : List Piece) → NoneOf ends ps → Otherwise → Through ends Otherwise ps
-through_all ends Otherwise [] none holds = holds
-through_all ends Otherwise (q ∷ ps) none holds = rw none.0 (through_all ends Otherwise ps none.1 holds)
-
 pub section_ends : (ends : List Symbol) (text rest after : List ℕ) (ps : List Piece) (p : Piece) → Ok (p, after) ≡ piece_at rest → is_one_of ends p ≡ true
     → SoFar ends text ps rest → IsSection ends text (ps ++ p ∷ []) after End
+unfolding section_of
 section_ends ends text rest after ps p e is s =
     let t = token_there rest after p e in
-    record {
-      tokens = further text rest after ps p s.tokens t.tokens;
-      stop_kept = s.stop_kept ∙ t.stop_kept;
-      through = through_last ends _ ps p s.none is;
-    }
+    let one : section_of ends (stop_of text) (tokens_in rest) ≡ section (p ∷ []) End (tokens_in after) = rw (t.tokens, is) refl in
+    record { is = s.is ∙ ap (after_these ps) one; stop_kept = s.stop_kept ∙ t.stop_kept }
 
 pub section_stops : (ends : List Symbol) (text rest : List ℕ) (ps : List Piece) (stop : Stop) → Err stop ≡ piece_at rest → SoFar ends text ps rest → IsSection ends text ps rest stop
+unfolding section_of
 section_stops ends text rest ps stop e s =
     let t = token_missing rest stop e in
-    record {
-      tokens = s.tokens;
-      stop_kept = s.stop_kept;
-      through = through_all ends _ ps s.none (t.tokens, sym t.stop_kept ∙ sym s.stop_kept);
-    }
+    let none : section_of ends (stop_of text) (tokens_in rest) ≡ section [] stop (tokens_in rest) = rw (t.tokens, s.stop_kept, t.stop_kept) refl in
+    record { is = s.is ∙ ap (after_these ps) none ∙ ap (λ (l : List Piece). section l stop (tokens_in rest)) (append-nil ps); stop_kept = s.stop_kept }
 
 -- ---- the token at the front
 

@@ -27,22 +27,23 @@ pub use Rattle.litmus_cells.specs.Faults.{◌>>=◌, or_fault, there}
 unfoldable pub use Rattle.litmus_cells.specs.Names.{location_at, register_at}
 pub use Rattle.litmus_reader.specs.Settings.{core_of}
 unfoldable pub use Rattle.litmus_reader.specs.Settings.{plain_setting, setting_at, value_at, register_setting, square_setting}
-pub use Rattle.litmus_reader.specs.Initial.{Initial, Given, gives, registers_of, words_of}
-unfoldable pub use Rattle.litmus_reader.specs.Initial.{item_in, step_in, items_within, initial_at, judged, registers_with, ends_item}
+pub use Rattle.litmus_reader.specs.Initial.{Initial, Given, gives, registers_of}
+unfoldable pub use Rattle.litmus_reader.specs.Initial.{item_end, item_in, items_within, initial_at, judged, registers_with}
 pub use Rattle.litmus_reader.specs.Places.{unfit, remaining_of, in_initial, at_stop, part_of, from_place}
 pub use Rattle.std.specs.Str.{bytes_eq, IsUtf8}
 pub use Rattle.tso_model.specs.Registers.{index_of, IsWord, same_letters, AreRegisters, register_named}
 pub use Rattle.tso_model.specs.declared.register.Reg.{Reg}
 pub use Rattle.litmus_cells.specs.declared.fault.Why.TheVariants.{TwiceInit, TooLarge, Unclosed, NoSuchCore, WrongCells, BadHeaderRow, BadCondition, BadInstruction, BadNumber, NoMemory}
 pub use Rattle.litmus_cells.specs.Numbers.{word_at}
-pub use Rattle.litmus_reader.specs.inner.Initial.{given, initial, given_of, named_by_key, named_by_word, KnowsGiven, with_register, items_at}
-pub use Rattle.litmus_reader.specs.inner.Sections.{before_opening, tokens_in, stop_of, is_one_of, Through, IsSection, opened, LastOr, item_ends, row_ends}
-unfoldable pub use Rattle.litmus_reader.specs.inner.Initial.{item_or_none, closes, section_in}
+pub use Rattle.litmus_reader.specs.inner.Initial.{given, initial, given_of, named_by_key, named_by_word, KnowsGiven, with_register, items_at, words_of}
+pub use Rattle.litmus_reader.specs.inner.Sections.{before_opening, tokens_in, stop_of, section, onto_section, is_one_of, item_ends, row_ends, IsSection, opened}
+pub use Rattle.litmus_reader.specs.Sections.{Section}
+unfoldable pub use Rattle.litmus_reader.specs.Sections.{section_of}
 pub use Rattle.litmus_cells.specs.Places.{fault}
 pub use Rattle.litmus_reader.specs.Written.{of_register, Setting, of_location, Phrase, truth, atom, negation, both, either, WrittenCondition, Written}
 pub use Rattle.tso_model.specs.Limits.{most_cores, most_instructions, most_locations, most_open, longest_name}
 pub use Rattle.litmus_reader.specs.Faults.{or_unfit}
-unfoldable pub use Rattle.litmus_reader.specs.Columns.{columns, separator_at}
+unfoldable pub use Rattle.litmus_reader.specs.Columns.{columns}
 pub use Rattle.std.proofs.lemmas.List.Splits.{slice_split_first, length-slice_split, slice_split-cons_yes, slice_split-cons_no}
 pub use Rattle.litmus_tokens.specs.declared.token.Token.{Token}
 pub use Rattle.litmus_tokens.specs.inner.Pieces.{piece_of, pieces}
@@ -59,8 +60,8 @@ unfoldable pub use Rattle.litmus_reader.specs.GrammarTable.{ends_rows}
 pub use Rattle.litmus_reader.specs.Observed.{square_by}
 unfoldable pub use Rattle.litmus_reader.specs.Observed.{square_within, square_end, ending_tokens, brackets_end}
 pub use Rattle.tso_model.specs.Condition.{Claim, TruthClaim, RegClaim, LocClaim, NotClaim, AndClaim, OrClaim, Condition, NamesExist, atoms_in, negations_in, claim_of}
-pub use Rattle.litmus_reader.specs.Conditions.{Claimed, Proposition, one_more, disjunction, bracketed, proposition_at, Conditioned}
-pub use Rattle.litmus_reader.specs.inner.Conditions.{claimed, conditioned, conjunction}
+pub use Rattle.litmus_reader.specs.Conditions.{Claimed, Proposition, one_more, disjunction, bracketed, Conditioned}
+pub use Rattle.litmus_reader.specs.inner.Conditions.{claimed, conditioned, conjunction, proposition_at}
 unfoldable pub use Rattle.litmus_reader.specs.Conditions.{chain, chain_of, opens_unit, atom_at, unit_by, unit_at, claim_in, truth_at, setting_atom, negation_at, quantified, condition_at}
 pub use Rattle.std.proofs.Math.Seq.{take-suc, drop-append_seam}
 pub use Rattle.tso_model.specs.declared.instruction.Instr.{Instr}

@@ -115,10 +115,6 @@ unfoldable pub unit_at : Stop → ℕ → ℕ → Proposition
 unit_at stop cores zero atoms names ps = if opens_unit ps then Err (fault TooLarge (remaining_of ps)) else atom_at stop cores atoms names ps
 unit_at stop cores (suc n) atoms names ps = unit_by stop cores (unit_at stop cores n) atoms names ps
 
--- a proposition, in which so many negations and brackets may be open at once
-abbrev pub proposition_at : Stop → ℕ → ℕ → Proposition
-proposition_at stop cores opens = disjunction (unit_at stop cores opens)
-
 -- what the condition gives, and what stands after it
 pub record Conditioned : Type 0 where
   pub condition : Option Condition
@@ -128,7 +124,7 @@ pub record Conditioned : Type 0 where
 -- the proposition after this quantifier
 unfoldable pub quantified : Stop → ℕ → Quantifier → List (List ℕ) → List Piece → Result Conditioned Fault
 quantified stop cores quantifier names ps = do
-  c ← proposition_at stop cores most_open 0 names ps
+  c ← disjunction (unit_at stop cores most_open) 0 names ps
   Ok (record { condition = Some (record { quantifier = quantifier; claim = c.claim }); names = c.names; rest = c.rest })
 
 -- the condition, if there is one: `exists`, `forall` or `~exists`, and a proposition

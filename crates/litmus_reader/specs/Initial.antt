@@ -1,5 +1,5 @@
 -- The initial state, as it is read: its items one after the other, each refused where it gives a second value.
-use Rattle.std.specs.Prelude.{ℕ, ◌-◌, zero, suc, Bool, List, [], ◌∷◌, ◌++◌, length, replicate, Result, Ok, Err, nat_lt, slice_index_or, slice_set, ◌==◌, ◌&&◌, if◌then◌else◌, false, ◌||◌}
+use Rattle.std.specs.Prelude.{ℕ, zero, suc, Bool, List, [], ◌∷◌, ◌++◌, length, replicate, Option, Some, None, true, Result, Ok, Err, nat_lt, slice_index_or, slice_set, ◌==◌, ◌&&◌, if◌then◌else◌, false}
 use Rattle.std.specs.List.{list_any}
 use Rattle.std.specs.Str.{bytes_eq}
 use Rattle.tso_model.specs.Registers.{index_of}
@@ -8,7 +8,7 @@ use Rattle.tso_model.specs.declared.register.Reg.{Reg}
 use Rattle.litmus_tokens.specs.declared.token.Stop.{Stop}
 use Rattle.litmus_tokens.specs.declared.token.Symbol.TheVariants.{OpenCurly, CloseCurly, Semicolon}
 use Rattle.litmus_tokens.specs.Pieces.{Piece}
-use Rattle.litmus_tokens.specs.Front.{is_symbol, symbol_at}
+use Rattle.litmus_tokens.specs.Front.{symbol_at}
 use Rattle.litmus_cells.specs.declared.fault.Why.TheVariants.{BadToken, Unclosed, TwiceInit}
 use Rattle.litmus_cells.specs.declared.fault.Fault.{Fault}
 use Rattle.litmus_reader.specs.declared.fault.Part.{Part}
@@ -18,7 +18,8 @@ use Rattle.litmus_cells.specs.Locations.{located}
 use Rattle.litmus_cells.specs.Numbers.{word_at}
 use Rattle.litmus_reader.specs.Settings.{setting_at, core_of}
 use Rattle.litmus_cells.specs.Places.{fault}
-use Rattle.litmus_reader.specs.Places.{at_stop, remaining_of, unfit, in_initial}
+use Rattle.litmus_reader.specs.Places.{at_stop, remaining_of, in_initial}
+use Rattle.litmus_reader.specs.Sections.{section_of}
 use Rattle.litmus_reader.specs.Written.{Setting, of_register, of_location}
 
 -- a register's first word, and the place of the item that gives it; the core is its digits
@@ -51,35 +52,32 @@ judged remaining i (of_location x v) =
     if nat_lt loc.0.0 (length i.words) then Err (fault TwiceInit remaining)
     else Ok (record i { names = loc.1; words = i.words ++ value ∷ [] })
 
--- whether an item ends here, by `;` or `}`
-unfoldable pub ends_item : List Piece → Bool
-ends_item [] = false
-ends_item (p ∷ ps) = is_symbol Semicolon p || is_symbol CloseCurly p
+-- whether the initial state ends with the item that ends here
+unfoldable pub item_end : List Piece → Option Bool
+item_end ps = there (symbol_at Semicolon ps) (λ _. Some false) (there (symbol_at CloseCurly ps) (λ _. Some true) None)
 
--- the item at the front, judged once its end is there, and what stands from that end on
-unfoldable pub item_in : Part → Initial → List Piece → Result (Initial × List Piece) Fault
+-- an item, judged once its end is there, and whether the initial state ends with it; an item may be empty
+unfoldable pub item_in : Part → Initial → List Piece → Result (Initial × Bool) Fault
 item_in part i ps =
-    setting_at part ps >>= λ setting.
-    if ends_item setting.1 then (judged (remaining_of ps) i setting.0 >>= λ after. Ok (after, setting.1))
-    else Err (unfit part setting.1)
+    there (item_end ps) (λ is_last. Ok (i, is_last))
+    (setting_at part ps >>= λ setting.
+    or_unfit part setting.1 (item_end setting.1) >>= λ is_last.
+    judged (remaining_of ps) i setting.0 >>= λ after. Ok (after, is_last))
 
--- a `;`, or else an item
-unfoldable pub step_in : Part → Initial → List Piece → Result (Initial × List Piece) Fault
-step_in part i ps = there (symbol_at Semicolon ps) (λ rest. Ok (i, rest)) (item_in part i ps)
-
--- what stands before the `}`, in at most n steps, and what stands after it; each step takes a token or more
-unfoldable pub items_within : ℕ → Part → Initial → List Piece → Result (Initial × List Piece) Fault
-items_within zero part i ps = Err (unfit part ps)
-items_within (suc n) part i ps =
-    there (symbol_at CloseCurly ps) (λ rest. Ok (i, rest))
-    (step_in part i ps >>= λ read. items_within n part read.0 read.1)
+-- what stands before the `}`, in fewer than n items, and what stands after it; an item is first taken to its end
+unfoldable pub items_within : ℕ → ℕ → Stop → Initial → List Piece → Result (Initial × List Piece) Fault
+items_within zero remaining stop i ps = Err (fault Unclosed remaining)
+items_within (suc n) remaining stop i ps =
+    let section = section_of (Semicolon ∷ CloseCurly ∷ []) stop ps in
+    item_in (in_initial remaining section.stop) i section.tokens >>= λ read.
+    if read.1 then Ok (read.0, section.rest) else items_within n remaining stop read.0 section.rest
 
 -- The initial state, and what stands after it; there are no names before it. Another token than its `{` is a bad one, and a
 -- text that ends before it is unclosed.
 unfoldable pub initial_at : Stop → List (List ℕ) → List Piece → Result (Initial × List Piece) Fault
 initial_at stop names ps = do
   rest ← or_unfit (record { why = BadToken; missing = at_stop (fault Unclosed 0) stop }) ps (symbol_at OpenCurly ps)
-  items_within (length rest) (in_initial (remaining_of ps) stop) (record { names = names; words = []; registers = [] }) rest
+  items_within (suc (length rest)) (remaining_of ps) stop (record { names = names; words = []; registers = [] }) rest
 
 -- the registers with these first words; the first of a core that isn't there is refused
 unfoldable pub registers_with : ℕ → List (List ℕ) → List Given → Result (List (List ℕ)) Fault
@@ -91,7 +89,3 @@ registers_with cores registers (g ∷ gs) = do
 -- each core's first registers; the six of a core begin as 0
 abbrev pub registers_of : ℕ → List Given → Result (List (List ℕ)) Fault
 registers_of cores all = registers_with cores (replicate cores (replicate 6 0)) all
-
--- each location's first word; one that the initial state doesn't name begins as 0
-abbrev pub words_of : ℕ → List ℕ → List ℕ
-words_of locations words = words ++ replicate (locations - length words) 0

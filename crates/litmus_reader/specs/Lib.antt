@@ -26,4 +26,5 @@ pub mod Initial
 pub mod Keywords
 pub mod Observed
 pub mod Rows
+pub mod Sections
 pub mod Settings

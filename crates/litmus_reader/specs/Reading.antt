@@ -1,6 +1,6 @@
 -- The reading of a whole text, part by part in the order of the text, and the first fault in it. A fault at a place becomes a
 -- refusal with a line at the end, where lines are counted.
-use Rattle.std.specs.Prelude.{ℕ, List, [], ◌∷◌, map, filter, ◌==◌, length, Option, Result, Ok, Err}
+use Rattle.std.specs.Prelude.{ℕ, ◌-◌, List, [], ◌∷◌, ◌++◌, map, filter, replicate, ◌==◌, length, Option, Result, Ok, Err}
 use Rattle.std.specs.List.{range_with_len}
 use Rattle.litmus_tokens.specs.Line.{line_of}
 use Rattle.litmus_cells.specs.declared.fault.Fault.{Fault}
@@ -15,7 +15,7 @@ use Rattle.litmus_cells.specs.declared.cell.CoreInstr.{CoreInstr}
 use Rattle.litmus_cells.specs.Faults.{◌>>=◌}
 use Rattle.litmus_reader.specs.Header.{sized, header_at}
 use Rattle.litmus_reader.specs.Information.{braces_at}
-use Rattle.litmus_reader.specs.Initial.{words_of, initial_at}
+use Rattle.litmus_reader.specs.Initial.{initial_at}
 use Rattle.litmus_reader.specs.Rows.{table_at}
 use Rattle.litmus_reader.specs.Observed.{ending_tokens}
 use Rattle.litmus_reader.specs.Conditions.{condition_at}
@@ -37,12 +37,12 @@ end_at (stops.Unclosed remaining) [] = Err (fault Unclosed remaining)
 abbrev pub program_of : List CoreInstr → ℕ → List Instr
 program_of instrs core = map (λ i. i.instr) (filter (λ i. i.core == core) instrs)
 
--- the test of what was read: each core has its registers and its program
+-- the test of what was read: a location that the initial state doesn't name begins as 0; each core has its registers and its program
 abbrev pub test_of : List ℕ → List (List ℕ) → List ℕ → List (List ℕ) → List CoreInstr → Option Condition → Litmus
 test_of name names words registers instrs condition = record {
   name = name;
   locations = names;
-  words = words_of (length names) words;
+  words = words ++ replicate (length names - length words) 0;
   registers = registers;
   programs = map (program_of instrs) (range_with_len 0 (length registers));
   condition = condition;

@@ -7,4 +7,3 @@ pub mod Reading
 pub mod Rows
 pub mod Returned
 pub mod Sections
-pub mod Sectioned

@@ -5,7 +5,6 @@ ghost use Rattle.std.specs.Prelude.{◌≡◌, ◌≤◌, ◌-◌, IfOk};
 ghost use Rattle.std.specs.Option.{option_map};
 ghost use Rattle.tso_model.specs.Limits.{most_cores};
 ghost use Rattle.litmus_tokens.specs.inner.Pieces.{pieces};
-ghost use Rattle.litmus_tokens.specs.inner.Mapped.{mapped};
 ghost use Rattle.litmus_reader.specs.Columns as spec;
 ghost use Rattle.litmus_reader.specs.GrammarColumns.{core_name};
 ghost use Rattle.litmus_reader.specs.Keywords.{word_after};
@@ -24,30 +23,12 @@ fn after_core<'a, 'b>(core: usize, tokens: &'b [Token<'a>]) -> Option<&'b [Token
     after_word(&[b'P', b'0' + core as u8], tokens)
 }
 
-/// Whether another core follows, and what stands after the vertical bar or the `;`.
-#[tactic(auto, unfolding(crate::specs::Columns::separator_at))]
-fn after_separator<'a, 'b>(tokens: &'b [Token<'a>]) -> Option<(bool, &'b [Token<'a>])>
-    ensures { option_map (λ x. (x.0, pieces x.1.now)) result ≡ spec.separator_at (pieces tokens.now) }
-{
-    if let Some(rest) = after_symbol(Symbol::Bar, tokens) {
-        return Some((true, rest));
-    }
-    if let Some(rest) = after_symbol(Symbol::Semicolon, tokens) {
-        return Some((false, rest));
-    }
-    None
-}
-
-/// How many cores the columns from this core on make, and the tokens after the row.
+/// How many cores the columns from this core's on make.
 #[tactic(auto, using(crate::proofs::ColumnSteps::columns_next, crate::proofs::ColumnSteps::columns_last))]
-fn columns_from<'a, 'b>(
-    stop: Stop,
-    core: usize,
-    tokens: &'b [Token<'a>],
-) -> Result<(usize, &'b [Token<'a>]), Fault>
+fn columns_from(stop: Stop, core: usize, tokens: &[Token<'_>]) -> Result<usize, Fault>
     requires { core ≤ most_cores }
-    ensures value { mapped (λ x. (x.0, pieces x.1.now)) result ≡ spec.columns stop (most_cores - core) core (pieces tokens.now) }
-    ensures cores { IfOk result (λ x. x.0 ≤ most_cores) }
+    ensures value { result ≡ spec.columns stop (most_cores - core) core (pieces tokens.now) }
+    ensures cores { IfOk result (λ cores. cores ≤ most_cores) }
 {
     let part = part_of(Why::BadHeaderRow, stop);
     let rest = part.expect(tokens, after_core(core, tokens))?;
@@ -57,23 +38,19 @@ fn columns_from<'a, 'b>(
             remaining: remaining_of(tokens),
         });
     }
-    let (more, rest) = part.expect(rest, after_separator(rest))?;
-    if more {
-        columns_from(stop, core + 1, rest)
-    } else {
-        Ok((core + 1, rest))
+    if let Some(rest) = after_symbol(Symbol::Bar, rest) {
+        return columns_from(stop, core + 1, rest);
     }
+    part.expect(rest, after_symbol(Symbol::Semicolon, rest))?;
+    Ok(core + 1)
 }
 
-/// How many cores the header row has, and the tokens after it.
+/// How many cores the header row of these tokens has.
 ///
 /// `TooLarge` at the name of a core too many, and `BadHeaderRow` at anything else that doesn't fit.
-pub fn columns_at<'a, 'b>(
-    stop: Stop,
-    tokens: &'b [Token<'a>],
-) -> Result<(usize, &'b [Token<'a>]), Fault>
-    ensures value { mapped (λ x. (x.0, pieces x.1.now)) result ≡ spec.columns stop most_cores 0 (pieces tokens.now) }
-    ensures cores { IfOk result (λ x. x.0 ≤ most_cores) }
+pub fn columns_at(stop: Stop, tokens: &[Token<'_>]) -> Result<usize, Fault>
+    ensures value { result ≡ spec.columns stop most_cores 0 (pieces tokens.now) }
+    ensures cores { IfOk result (λ cores. cores ≤ most_cores) }
 {
     columns_from(stop, 0, tokens)
 }

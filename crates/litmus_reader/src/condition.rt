@@ -247,7 +247,7 @@ fn proposition_at<'a, 'b>(
     tokens: &'b [Token<'a>],
 ) -> Result<(Prop, &'b [Token<'a>]), ReadError>
     requires { around.cores ≤ most_cores }
-    ensures value { GivesClaim (inner.proposition_at around.stop around.cores opens) atoms.old names.old.keys tokens.now result atoms.new names.new.keys }
+    ensures value { GivesClaim (spec.proposition_at around.stop around.cores opens) atoms.old names.old.keys tokens.now result atoms.new names.new.keys }
     ensures shorter { IfOk result (λ x. length x.1.now < length tokens.now) }
 {
     let (mut prop, mut rest) = conjunction_at(alloc, around, opens, atoms, names, tokens)?;

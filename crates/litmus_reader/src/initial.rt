@@ -8,10 +8,9 @@ ghost use Rattle.tso_model.specs.Limits.{most_cores};
 ghost use Rattle.litmus_cells.specs.inner.Faults.{Gives};
 ghost use Rattle.litmus_cells.specs.Locations.{texts};
 ghost use Rattle.litmus_reader.specs.inner.Settings.{setting_of};
-ghost use Rattle.litmus_reader.specs.inner.Initial as spec;
 ghost use Rattle.litmus_reader.specs.Initial as inner;
 ghost use Rattle.litmus_reader.specs.inner.Initial.{given_of, KnowsGiven};
-ghost use Rattle.litmus_reader.specs.inner.Returned.{GivesJudged, GivesItem, GivesSection, GivesInitial, so_far};
+ghost use Rattle.litmus_reader.specs.inner.Returned.{GivesJudged, GivesItem, GivesInitial, so_far};
 ghost use Rattle.litmus_reader.specs.inner.Sections.{tokens_in, stop_of};
 ghost use Rattle.litmus_reader.specs.Places as places;
 
@@ -20,7 +19,7 @@ use crate::section::{after_opening, read_item_tokens};
 use crate::setting::{SpelledSetting, core_of, setting_at};
 use indexmap::IndexSet;
 use litmus_cells::{Fault, ReadError, Why, located, word_at};
-use litmus_tokens::{Stop, Symbol, Token, is_symbol};
+use litmus_tokens::{Stop, Symbol, Token, after_symbol};
 use std::alloc::Global;
 use tso_model::{NoMemory, Reg};
 
@@ -125,70 +124,23 @@ fn note_item<'a>(
     Ok(())
 }
 
-#[tactic(auto, unfolding(crate::specs::Initial::ends_item))]
-fn ends_item(tokens: &[Token<'_>]) -> bool
-    ensures { result ≡ inner.ends_item (pieces tokens.now) }
+/// Whether the initial state ends with the item that ends here.
+#[tactic(auto, unfolding(crate::specs::Initial::item_end))]
+fn item_end(tokens: &[Token<'_>]) -> Option<bool>
+    ensures { result ≡ inner.item_end (pieces tokens.now) }
 {
-    match tokens.first() {
-        Some(first) => {
-            is_symbol(Symbol::Semicolon, first) || is_symbol(Symbol::CloseCurly, first)
-        }
-        None => false,
+    if let Some(_) = after_symbol(Symbol::Semicolon, tokens) {
+        return Some(false);
     }
+    if let Some(_) = after_symbol(Symbol::CloseCurly, tokens) {
+        return Some(true);
+    }
+    None
 }
 
-/// Reads the item at the front, and answers the tokens from its `;` or `}` on.
+/// Reads an item, which may be empty, with its end, and answers whether the initial state ends with it.
 #[tactic(auto, unfolding(crate::specs::Initial::item_in))]
-fn read_item<'a, 'b>(
-    part: Part,
-    state: &mut Initial<'a>,
-    names: &mut IndexSet<&'a [u8]>,
-    tokens: &'b [Token<'a>],
-) -> Result<&'b [Token<'a>], ReadError>
-    requires { KnowsGiven state.old }
-    ensures knows { OnOk result (KnowsGiven state.new) }
-    ensures value { GivesItem result names.new.keys state.new (inner.item_in part (so_far names.old.keys state.old) (pieces tokens.now)) }
-    ensures shorter { IfOk result (λ rest. length rest.now < length tokens.now) }
-{
-    let (item, rest) = setting_at(part, tokens)?;
-    if !ends_item(rest) {
-        return Err(ReadError::Fault(part.unfit(rest)));
-    }
-    note_item(remaining_of(tokens), state, names, item)?;
-    Ok(rest)
-}
-
-#[tactic(auto, unfolding(crate::specs::inner::Initial::closes))]
-fn closes(tokens: &[Token<'_>]) -> bool
-    ensures { result ≡ spec.closes (pieces tokens.now) }
-{
-    match tokens.first() {
-        Some(first) => is_symbol(Symbol::CloseCurly, first),
-        None => false,
-    }
-}
-
-/// Reads the item at the front, unless an item ends there, and answers the tokens from that end on.
-#[tactic(auto, unfolding(crate::specs::inner::Initial::item_or_none))]
-fn read_item_or_none<'a, 'b>(
-    part: Part,
-    state: &mut Initial<'a>,
-    names: &mut IndexSet<&'a [u8]>,
-    tokens: &'b [Token<'a>],
-) -> Result<&'b [Token<'a>], ReadError>
-    requires { KnowsGiven state.old }
-    ensures knows { OnOk result (KnowsGiven state.new) }
-    ensures value { GivesItem result names.new.keys state.new (spec.item_or_none part (so_far names.old.keys state.old) (pieces tokens.now)) }
-{
-    if ends_item(tokens) {
-        return Ok(tokens);
-    }
-    read_item(part, state, names, tokens)
-}
-
-/// Reads a section of the initial state, and answers whether the initial state ends with it.
-#[tactic(auto, unfolding(crate::specs::inner::Initial::section_in))]
-fn read_section<'a>(
+fn read_item<'a>(
     part: Part,
     state: &mut Initial<'a>,
     names: &mut IndexSet<&'a [u8]>,
@@ -196,10 +148,15 @@ fn read_section<'a>(
 ) -> Result<bool, ReadError>
     requires { KnowsGiven state.old }
     ensures knows { OnOk result (KnowsGiven state.new) }
-    ensures value { GivesSection result names.new.keys state.new (spec.section_in part (so_far names.old.keys state.old) (pieces tokens.now)) }
+    ensures value { GivesItem result names.new.keys state.new (inner.item_in part (so_far names.old.keys state.old) (pieces tokens.now)) }
 {
-    let end = read_item_or_none(part, state, names, tokens)?;
-    Ok(closes(end))
+    if let Some(is_last) = item_end(tokens) {
+        return Ok(is_last);
+    }
+    let (item, rest) = setting_at(part, tokens)?;
+    let is_last = part.expect(rest, item_end(rest))?;
+    note_item(remaining_of(tokens), state, names, item)?;
+    Ok(is_last)
 }
 
 /// Reads the initial state with which a text begins, and answers what it gives and what stands after it.
@@ -226,7 +183,7 @@ pub fn read_initial<'a>(
     'items: loop {
         let onward = read_item_tokens(&mut tokens, rest)?;
         let part = in_initial(remaining, onward.stop);
-        let is_last = read_section(part, &mut state, names, &tokens)?;
+        let is_last = read_item(part, &mut state, names, &tokens)?;
         rest = onward.rest;
         if is_last {
             return Ok((state, rest));

@@ -26,17 +26,13 @@ use litmus_cells::{CoreInstr, Fault, ReadError, Why};
 use litmus_tokens::{Lexeme, Stop, Symbol, Token, is_symbol, token_at};
 use std::alloc::Global;
 
-/// A row without its `;`, and the tokens after it.
+/// A row without its `;`.
 #[tactic(auto, using(crate::proofs::RowEnds::row_open, crate::proofs::RowEnds::row_closed))]
-fn row_at<'a, 'b>(
-    stop: Stop,
-    tokens: &'b [Token<'a>],
-) -> Result<(&'b [Token<'a>], &'b [Token<'a>]), Fault>
-    ensures value { mapped (λ x. (pieces x.0.now, pieces x.1.now)) result ≡ spec.row_at stop (pieces tokens.now) }
-    ensures shorter { IfOk result (λ x. length x.1.now < length tokens.now) }
+fn row_at<'a, 'b>(stop: Stop, tokens: &'b [Token<'a>]) -> Result<&'b [Token<'a>], Fault>
+    ensures { mapped (λ row. pieces row.now) result ≡ spec.row_at stop (pieces tokens.now) }
 {
     match argument_of(Symbol::Semicolon, tokens) {
-        Some(end) => Ok((&tokens[..end], &tokens[end + 1..])),
+        Some(end) => Ok(&tokens[..end]),
         None => Err(at_stop(
             Fault {
                 why: Why::Unclosed,
@@ -55,23 +51,25 @@ fn cell_count(row: &[Token<'_>]) -> usize
     row.iter().filter(|t| is_symbol(Symbol::Bar, t)).count() + 1
 }
 
-/// Reads a row whose first token stands at `remaining`.
+/// Reads the row of these tokens.
 ///
-/// `WrongCells` at `remaining` where it hasn't a cell for each core, and then what its cells refuse.
+/// `Unclosed` where it has no `;`, `WrongCells` where it hasn't a cell for each core, both at its first token,
+/// and then what its cells refuse.
 #[tactic(auto, unfolding(crate::specs::Rows::row_in))]
 fn read_row<'a>(
     cores: usize,
-    remaining: usize,
+    stop: Stop,
     instrs: &mut Vec<CoreInstr>,
     names: &mut IndexSet<&'a [u8]>,
-    row: &[Token<'a>],
+    tokens: &[Token<'a>],
 ) -> Result<(), ReadError>
-    ensures { GivesCells (spec.row_in cores remaining) instrs.old.items names.old.keys row.now result instrs.new.items names.new.keys }
+    ensures { GivesCells (spec.row_in cores stop) instrs.old.items names.old.keys tokens.now result instrs.new.items names.new.keys }
 {
+    let row = row_at(stop, tokens)?;
     if cell_count(row) != cores {
         return Err(ReadError::Fault(Fault {
             why: Why::WrongCells,
-            remaining,
+            remaining: remaining_of(tokens),
         }));
     }
     read_cells(instrs, names, row)
@@ -128,15 +126,13 @@ pub fn read_table<'a>(
 {
     let mut tokens = Vec::new(alloc);
     let header = read_row_tokens(&mut tokens, text)?;
-    let (cores, _) = columns_at(header.stop, &tokens)?;
+    let cores = columns_at(header.stop, &tokens)?;
     let registers = registers_of(alloc, cores, given)?;
     let mut instrs = Vec::new(alloc);
     let mut rest = header.rest;
     'rows: while !ends_rows(rest) {
         let onward = read_row_tokens(&mut tokens, rest)?;
-        let remaining = remaining_of(&tokens);
-        let (row, _) = row_at(onward.stop, &tokens)?;
-        read_row(cores, remaining, &mut instrs, names, row)?;
+        read_row(cores, onward.stop, &mut instrs, names, &tokens)?;
         rest = onward.rest;
     }
     let table = Table {

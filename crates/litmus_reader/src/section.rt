@@ -5,7 +5,7 @@ ghost use Rattle.std.specs.Prelude.{◌≡◌, ◌<◌, length, IfOk};
 ghost use Rattle.std.specs.List.{list_any};
 ghost use Rattle.litmus_tokens.specs.inner.Pieces.{piece_of, pieces};
 ghost use Rattle.litmus_reader.specs.inner.Sections as spec;
-ghost use Rattle.litmus_reader.specs.inner.Sections.{IsSection, item_ends, row_ends, tokens_in, stop_of};
+ghost use Rattle.litmus_reader.specs.inner.Sections.{IsSection, is_one_of, item_ends, row_ends, tokens_in, stop_of};
 ghost use Rattle.litmus_tokens.specs.inner.Mapped.{mapped};
 ghost use Rattle.litmus_reader.specs.Places as places;
 
@@ -23,7 +23,7 @@ pub struct Onward<'a> {
 }
 
 fn is_one_of(ends: &[Symbol], token: &Token<'_>) -> bool
-    ensures { result ≡ spec.is_one_of ends.now (piece_of token.now) }
+    ensures { result ≡ is_one_of ends.now (piece_of token.now) }
 {
     ends.iter().any(|s| is_symbol(*s, token))
 }

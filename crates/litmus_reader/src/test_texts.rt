@@ -6,8 +6,6 @@ ghost use Rattle.tso_model.specs.Litmus.{Litmus, IsTest};
 ghost use Rattle.litmus_reader.specs.declared.fault.TextFault.{TextFault};
 ghost use Rattle.litmus_reader.specs.GrammarTest.{FollowsGrammar};
 ghost use Rattle.litmus_reader.specs.Limits.{longest_text};
-ghost use Rattle.litmus_reader.specs.Reading.{reading_of};
-ghost use Rattle.litmus_reader.specs.inner.Sectioned.{reading_by_sections};
 ghost use Rattle.litmus_reader.specs.Spelling.{SpellsTest, IsRefused, IsDecided};
 
 /// A text spells the test that it has by the grammar, and no other; what spells a test follows the
@@ -15,11 +13,6 @@ ghost use Rattle.litmus_reader.specs.Spelling.{SpellsTest, IsRefused, IsDecided}
 pub fn spelled_tests_follow_the_grammar()
     ensures spells { (text : List ℕ) (t : Litmus) → FollowsGrammar text t → SpellsTest text t }
     ensures follows { (text : List ℕ) (t : Litmus) → SpellsTest text t → FollowsGrammar text t }
-{}
-
-/// A text that is read section by section gives what it gives token by token: a law of the definitions.
-pub fn reading_by_sections_is_the_reading()
-    ensures { (text : List ℕ) → reading_by_sections text ≡ reading_of text }
 {}
 
 /// Each text spells one test or gets one refusal, and never both: a law of the definitions, with

@@ -15,28 +15,29 @@ use Rattle.litmus_cells.specs.Forms.{locked_at, spelled_in}
 use Rattle.litmus_cells.specs.Locations.{located}
 use Rattle.litmus_cells.specs.Names.{location_at, register_at}
 use Rattle.litmus_reader.specs.Cells.{cells_in}
-use Rattle.litmus_reader.specs.Columns.{separator_at, columns}
+use Rattle.litmus_reader.specs.Columns.{columns}
 use Rattle.litmus_reader.specs.Conditions.{claim_in, truth_at, setting_atom, atom_at, chain, chain_of, negation_at, opens_unit, unit_by, unit_at, quantified, condition_at}
 use Rattle.litmus_reader.specs.GrammarTable.{ends_rows}
 use Rattle.litmus_reader.specs.GrammarText.{first_line, trimmed, name_in, continues_key}
 use Rattle.litmus_reader.specs.Header.{judged, header_at}
 use Rattle.litmus_reader.specs.Information.{quotation_end, information_end, begins_initial, braces_within, braces_at}
-use Rattle.litmus_reader.specs.Initial.{judged as judged_setting, ends_item, item_in, step_in, items_within, initial_at, registers_with}
+use Rattle.litmus_reader.specs.Initial.{judged as judged_setting, item_end, item_in, items_within, initial_at, registers_with}
 use Rattle.litmus_reader.specs.Keywords.{word_after}
 use Rattle.litmus_reader.specs.Observed.{square_within, square_end, brackets_end, ending_tokens}
 use Rattle.litmus_reader.specs.Reading.{end_at, tail_at, body_of, reading_of}
 use Rattle.litmus_reader.specs.Rows.{row_at, row_in, rows_within, table_at}
+use Rattle.litmus_reader.specs.Sections.{section_of}
 use Rattle.litmus_reader.specs.Settings.{value_at, register_setting, square_setting, plain_setting, setting_at}
 use Rattle.decimals.specs.Decimals.{decimal_from}
 
 unfoldable pub computed_reading : List ℕ → Result Litmus Fault
 unfolding is_symbol symbol_at name_at number_at is_space gap_end piece_at pieces_within pieces_of symbols symbol_of
     term_at argument_at two_arguments instr_of cell_in locked_at spelled_in located location_at register_at cells_in
-    separator_at columns claim_in truth_at setting_atom atom_at chain chain_of negation_at opens_unit unit_by
+    columns claim_in truth_at setting_atom atom_at chain chain_of negation_at opens_unit unit_by
     unit_at quantified condition_at ends_rows first_line trimmed name_in continues_key judged header_at
-    quotation_end information_end begins_initial braces_within braces_at judged_setting ends_item item_in step_in
+    quotation_end information_end begins_initial braces_within braces_at judged_setting item_end item_in
     items_within initial_at registers_with word_after square_within square_end brackets_end ending_tokens
-    end_at tail_at body_of reading_of row_at row_in rows_within table_at value_at register_setting
+    end_at tail_at body_of reading_of row_at row_in rows_within table_at section_of value_at register_setting
     square_setting plain_setting setting_at decimal_from
 computed_reading text = reading_of text
 

@@ -5,7 +5,7 @@ use Rattle.tso_model.specs.Condition.{Claim, AndClaim, Condition}
 use Rattle.litmus_tokens.specs.declared.token.Stop.{Stop}
 use Rattle.litmus_tokens.specs.declared.token.Symbol.TheVariants.{And}
 use Rattle.litmus_tokens.specs.Pieces.{Piece}
-use Rattle.litmus_reader.specs.Conditions.{Claimed, Conditioned, Proposition, chain_of, unit_at}
+use Rattle.litmus_reader.specs.Conditions.{Claimed, Conditioned, Proposition, chain_of, disjunction, unit_at}
 
 abbrev pub claimed : Claim → ℕ → List (List ℕ) → List Piece → Claimed
 claimed claim atoms names rest = record { claim = claim; atoms = atoms; names = names; rest = rest }
@@ -20,3 +20,7 @@ conjunction unit = chain_of And AndClaim unit
 -- units joined by `/\`, in which so many negations and brackets may be open at once
 abbrev pub conjunction_at : Stop → ℕ → ℕ → Proposition
 conjunction_at stop cores opens = conjunction (unit_at stop cores opens)
+
+-- a proposition, in which so many negations and brackets may be open at once
+abbrev pub proposition_at : Stop → ℕ → ℕ → Proposition
+proposition_at stop cores opens = disjunction (unit_at stop cores opens)

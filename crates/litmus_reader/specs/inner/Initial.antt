@@ -1,17 +1,14 @@
 -- The initial state, as it is read: its items one after the other, each refused where it gives a second value.
-use Rattle.std.specs.Prelude.{ℕ, ◌≡◌, map, Bool, List, [], ◌∷◌, length, slice_index_or, slice_set, Result, Ok, if◌then◌else◌, false}
+use Rattle.std.specs.Prelude.{ℕ, ◌≡◌, map, suc, ◌-◌, ◌++◌, replicate, List, [], length, slice_index_or, slice_set, Result}
 use Rattle.tso_model.specs.Thread.{with_value}
 use denote.Ref.{Bor}
 use Rattle.tso_model.specs.Registers.{index_of}
 use Rattle.tso_model.specs.declared.register.Reg.{Reg}
-use Rattle.litmus_tokens.specs.declared.token.Symbol.TheVariants.{CloseCurly}
+use Rattle.litmus_tokens.specs.declared.token.Stop.{Stop}
 use Rattle.litmus_tokens.specs.Pieces.{Piece}
-use Rattle.litmus_tokens.specs.Front.{is_symbol}
 use Rattle.litmus_cells.specs.declared.fault.Fault.{Fault}
-use Rattle.litmus_reader.specs.declared.fault.Part.{Part}
 use Rattle.litmus_reader.specs.declared.initial.RegisterWord.{RegisterWord}
-use Rattle.litmus_cells.specs.Faults.{◌>>=◌}
-use Rattle.litmus_reader.specs.Initial.{Given, Initial, ends_item, item_in, items_within}
+use Rattle.litmus_reader.specs.Initial.{Given, Initial, items_within}
 use Rattle.litmus_reader.specs.declared.initial.Initial as code
 
 abbrev pub given : ℕ → List ℕ → Reg → ℕ → Given
@@ -42,18 +39,9 @@ abbrev pub with_register : List (List ℕ) → ℕ → Reg → ℕ → List (Lis
 with_register registers core reg value = slice_set registers core (with_value (slice_index_or registers core []) reg value)
 
 -- all items, separated by `;`, and what stands after the `}`
-abbrev pub items_at : Part → List (List ℕ) → List Piece → Result (Initial × List Piece) Fault
-items_at part names ps = items_within (length ps) part (initial names [] []) ps
+abbrev pub items_at : ℕ → Stop → List (List ℕ) → List Piece → Result (Initial × List Piece) Fault
+items_at remaining stop names ps = items_within (suc (length ps)) remaining stop (initial names [] []) ps
 
--- the item at the front, unless an item ends there, and what stands from that end on
-unfoldable pub item_or_none : Part → Initial → List Piece → Result (Initial × List Piece) Fault
-item_or_none part i ps = if ends_item ps then Ok (i, ps) else item_in part i ps
-
--- whether the initial state ends here
-unfoldable pub closes : List Piece → Bool
-closes [] = false
-closes (p ∷ ps) = is_symbol CloseCurly p
-
--- what a section of the initial state gives, which ends as an item does, and whether the initial state ends with it
-unfoldable pub section_in : Part → Initial → List Piece → Result (Initial × Bool) Fault
-section_in part i ps = item_or_none part i ps >>= λ read. Ok (read.0, closes read.1)
+-- each location's first word; one that the initial state doesn't name begins as 0
+abbrev pub words_of : ℕ → List ℕ → List ℕ
+words_of locations words = words ++ replicate (locations - length words) 0

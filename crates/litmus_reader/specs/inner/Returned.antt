@@ -50,14 +50,9 @@ abbrev pub GivesJudged : {X : Type 0} → ℕ → Setting → List (Bor (List �
     → List (Bor (List ℕ)) → state.Initial → Type 0
 GivesJudged remaining s names old result names_new new = Gives (λ _. so_far names_new new) result (judged remaining (so_far names old) s)
 
--- the initial state with one item more, and what stands after that item
-abbrev pub GivesItem : Result (Bor (List Token)) ReadError → List (Bor (List ℕ)) → state.Initial
-    → Result (Initial × List Piece) Fault → Type 0
-GivesItem result names i read = Gives (λ rest. (so_far names i, pieces rest.now)) result read
-
--- the initial state with a section more, and whether it ends
-abbrev pub GivesSection : Result Bool ReadError → List (Bor (List ℕ)) → state.Initial → Result (Initial × Bool) Fault → Type 0
-GivesSection result names i read = Gives (λ is_last. (so_far names i, is_last)) result read
+-- the initial state with one item more, and whether it ends with that
+abbrev pub GivesItem : Result Bool ReadError → List (Bor (List ℕ)) → state.Initial → Result (Initial × Bool) Fault → Type 0
+GivesItem result names i read = Gives (λ is_last. (so_far names i, is_last)) result read
 
 -- the whole initial state, and what stands after it
 abbrev pub GivesInitial : Result (state.Initial × Bor (List ℕ)) ReadError → List (Bor (List ℕ))

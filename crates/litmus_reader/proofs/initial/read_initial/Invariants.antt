@@ -1,11 +1,11 @@
-use Rattle.litmus_reader.proofs.Vocabulary.{◌≡◌, length, map, texts, in_initial, given_of, KnowsGiven, initial, items_at, tokens_in, stop_of}
+use Rattle.litmus_reader.proofs.Vocabulary.{◌≡◌, length, map, texts, given_of, KnowsGiven, initial, items_at, tokens_in, stop_of}
 use Rattle.litmus_reader.proofs.ItemSteps.{ItemsAfter}
 use Rattle.litmus_reader.proofs.initial.read_initial.Given as goal
 
 abbrev pub invariant-items : goal.invariant-items
 invariant-items l = record {
-  items : ItemsAfter (in_initial l.remaining (stop_of l.text)) (initial (texts l.names.keys) l.state.words.items (map given_of l.state.registers.items)) (tokens_in l.rest)
-      (items_at (in_initial l.remaining (stop_of l.text)) (texts l.initial.names.keys) (tokens_in l.initial.rest));
+  items : ItemsAfter l.remaining (stop_of l.text) (initial (texts l.names.keys) l.state.words.items (map given_of l.state.registers.items)) (tokens_in l.rest)
+      (items_at l.remaining (stop_of l.text) (texts l.initial.names.keys) (tokens_in l.initial.rest));
   knows : KnowsGiven l.state;
   stop_kept : stop_of l.rest ≡ stop_of l.text;
 }
