@@ -52,7 +52,7 @@ judged remaining i (of_location x v) =
     if nat_lt loc.0.0 (length i.words) then Err (fault TwiceInit remaining)
     else Ok (record i { names = loc.1; words = i.words ++ value ∷ [] })
 
--- whether the initial state ends with the item that ends here
+-- where an item ends, whether the initial state ends with it
 unfoldable pub item_end : List Piece → Option Bool
 item_end ps = there (symbol_at Semicolon ps) (λ _. Some false) (there (symbol_at CloseCurly ps) (λ _. Some true) None)
 

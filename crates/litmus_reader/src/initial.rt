@@ -124,15 +124,15 @@ fn note_item<'a>(
     Ok(())
 }
 
-/// Whether the initial state ends with the item that ends here.
+/// Where an item ends here, whether the initial state ends with it.
 #[tactic(auto, unfolding(crate::specs::Initial::item_end))]
 fn item_end(tokens: &[Token<'_>]) -> Option<bool>
     ensures { result ≡ inner.item_end (pieces tokens.now) }
 {
-    if let Some(_) = after_symbol(Symbol::Semicolon, tokens) {
+    if after_symbol(Symbol::Semicolon, tokens).is_some() {
         return Some(false);
     }
-    if let Some(_) = after_symbol(Symbol::CloseCurly, tokens) {
+    if after_symbol(Symbol::CloseCurly, tokens).is_some() {
         return Some(true);
     }
     None

@@ -19,9 +19,8 @@ symbol_at s [] = None
 symbol_at s (p ∷ ps) = if is_symbol s p then Some ps else None
 
 abbrev pub name_then : Term → List Piece → Option (List ℕ × List Piece)
-name_then (number digits) ps = None
 name_then (name x) ps = Some (x, ps)
-name_then (symbol s) ps = None
+name_then other ps = None
 
 -- the name at the front, and what stands after it
 unfoldable pub name_at : List Piece → Option (List ℕ × List Piece)
@@ -30,8 +29,7 @@ name_at (p ∷ ps) = name_then p.term ps
 
 abbrev pub number_then : Term → List Piece → Option (List ℕ × List Piece)
 number_then (number digits) ps = Some (digits, ps)
-number_then (name x) ps = None
-number_then (symbol s) ps = None
+number_then other ps = None
 
 -- the digits of the number at the front, and what stands after it
 unfoldable pub number_at : List Piece → Option (List ℕ × List Piece)
