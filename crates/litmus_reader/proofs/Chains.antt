@@ -1,15 +1,17 @@
 -- Propositions with a symbol between them, one after the other.
-use Rattle.litmus_reader.proofs.Vocabulary.{◌≡◌, ℕ, zero, suc, ◌≤◌, ◌<◌, List, [], ◌∷◌, length, Some, None, Result, Ok, Err, refl, sym, ap, subst, ◌∙◌, arith, Claim, Symbol, Piece, symbol_at, Fault, ReadError, Fails, ◌>>=◌, Claimed, claimed, Proposition, chain, chain_of}
+use Rattle.litmus_reader.proofs.Vocabulary.{◌≡◌, ℕ, suc, ◌≤◌, ◌<◌, List, [], ◌∷◌, length, Some, None, Result, Ok, Err, refl, sym, subst, arith, Claim, Symbol, Piece, symbol_at, Fault, ReadError, Fails, ◌>>=◌, Claimed, claimed, Proposition, chain, chain_of}
+use Rattle.litmus_reader.proofs.Loops.{After, ends, goes_on}
 use Rattle.litmus_cells.specs.declared.fault.ReadError.TheVariants as errors
 
 abbrev pub joined_to : (Claim → Claim → Claim) → Claim → Claimed → Claimed
 joined_to join left right = record right { claim = join left right.claim }
 
--- the total is what has been read and then what the rest gives, in some number of steps that is enough
-pub record ChainAfter (symbol : Symbol) (join : Claim → Claim → Claim) (unit : Proposition) (c : Claimed) (total : Result Claimed Fault) : Type 0 where
-  pub count : ℕ
-  pub enough : length c.rest ≤ count
-  pub same : chain symbol join unit count c ≡ total
+abbrev left : Claimed → ℕ
+left c = length c.rest
+
+-- the total is what has been read and then what the rest gives
+abbrev pub ChainAfter : Symbol → (Claim → Claim → Claim) → Proposition → Claimed → Result Claimed Fault → Type 0
+ChainAfter symbol join unit c total = After left (chain symbol join unit) c total
 
 pub chain_start : (symbol : Symbol) (join : Claim → Claim → Claim) (unit : Proposition) (atoms : ℕ) (names : List (List ℕ)) (ps : List Piece) (first : Claimed)
     → unit atoms names ps ≡ Ok first → ChainAfter symbol join unit first (chain_of symbol join unit atoms names ps)
@@ -24,38 +26,24 @@ nothing_left symbol (p ∷ ps) le = absurd (omega arith)
 pub chain_end : (symbol : Symbol) (join : Claim → Claim → Claim) (unit : Proposition) (c : Claimed) (total : Result Claimed Fault)
     → symbol_at symbol c.rest ≡ None → ChainAfter symbol join unit c total → total ≡ Ok c
 unfolding chain
-chain_end symbol join unit c total none b = by_count b.count b.same
-  where
-    by_count : (n : ℕ) → chain symbol join unit n c ≡ total → total ≡ Ok c
-    by_count zero same = sym same
-    by_count (suc n) same = sym (rw none at same)
+chain_end symbol join unit c total none b = ends left (chain symbol join unit) c (Ok c) total (λ _. refl) (λ n. rw none refl) b
 
-step : (n : ℕ) (symbol : Symbol) (join : Claim → Claim → Claim) (unit : Proposition) (c : Claimed) (rest : List Piece)
-    → symbol_at symbol c.rest ≡ Some rest → chain symbol join unit (suc n) c ≡ (unit c.atoms c.names rest >>= λ right. chain symbol join unit n (joined_to join c.claim right))
+step : (n : ℕ) (symbol : Symbol) (join : Claim → Claim → Claim) (unit : Proposition) (c : Claimed) (rest : List Piece) (r : Result Claimed Fault)
+    → symbol_at symbol c.rest ≡ Some rest → unit c.atoms c.names rest ≡ r → chain symbol join unit (suc n) c ≡ (r >>= λ right. chain symbol join unit n (joined_to join c.claim right))
 unfolding chain
-step n symbol join unit c rest at = rw at refl
+step n symbol join unit c rest r at is = rw (at, is) refl
 
 pub chain_go_on : (symbol : Symbol) (join : Claim → Claim → Claim) (unit : Proposition) (c right : Claimed) (rest : List Piece) (total : Result Claimed Fault)
     → symbol_at symbol c.rest ≡ Some rest → unit c.atoms c.names rest ≡ Ok right → length right.rest < length c.rest
     → ChainAfter symbol join unit c total → ChainAfter symbol join unit (joined_to join c.claim right) total
-chain_go_on symbol join unit c right rest total at is shorter b = by_count b.count b.enough b.same
-  where
-    by_count : (n : ℕ) → length c.rest ≤ n → chain symbol join unit n c ≡ total → ChainAfter symbol join unit (joined_to join c.claim right) total
-    by_count zero enough same = absurd (omega arith)
-    by_count (suc n) enough same = record {
-      count = n;
-      enough = omega arith;
-      same = sym (step n symbol join unit c rest at ∙ ap (λ (r : Result Claimed Fault). r >>= λ right. chain symbol join unit n (joined_to join c.claim right)) is) ∙ same;
-    }
+chain_go_on symbol join unit c right rest total at is shorter b =
+    goes_on left (chain symbol join unit) c (joined_to join c.claim right) total shorter (λ n. step n symbol join unit c rest (Ok right) at is) b
 
 pub chain_fails : (e : ReadError) (symbol : Symbol) (join : Claim → Claim → Claim) (unit : Proposition) (c : Claimed) (rest : List Piece) (total : Result Claimed Fault)
     → symbol_at symbol c.rest ≡ Some rest → Fails e (unit c.atoms c.names rest) → ChainAfter symbol join unit c total → Fails e total
 chain_fails errors.NoMemory symbol join unit c rest total at is b = tt
-chain_fails (errors.Fault f) symbol join unit c rest total at is b = by_count b.count b.enough b.same
-  where
-    by_count : (n : ℕ) → length c.rest ≤ n → chain symbol join unit n c ≡ total → total ≡ Err f
-    by_count zero enough same = let none : symbol_at symbol c.rest ≡ None = nothing_left symbol c.rest enough in absurd cc
-    by_count (suc n) enough same = sym same ∙ step n symbol join unit c rest at ∙ ap (λ (r : Result Claimed Fault). r >>= λ right. chain symbol join unit n (joined_to join c.claim right)) is
+chain_fails (errors.Fault f) symbol join unit c rest total at is b =
+    ends left (chain symbol join unit) c (Err f) total (λ none. let missing : symbol_at symbol c.rest ≡ None = nothing_left symbol c.rest none in absurd cc) (λ n. step n symbol join unit c rest (Err f) at is) b
 
 pub chain_never_starts : (e : ReadError) (symbol : Symbol) (join : Claim → Claim → Claim) (unit : Proposition) (atoms : ℕ) (names : List (List ℕ)) (ps : List Piece)
     → Fails e (unit atoms names ps) → Fails e (chain_of symbol join unit atoms names ps)

@@ -1,46 +1,35 @@
 -- All information lines, one after the other.
-use Rattle.litmus_reader.proofs.Vocabulary.{◌≡◌, ℕ, zero, suc, ◌<◌, true, false, List, length, None, Result, Ok, Err, refl, arith, gap_end, Fault, from_gap, information_end, begins_initial, braces_within, braces_at}
+use Rattle.litmus_reader.proofs.Vocabulary.{sym, ◌≡◌, ℕ, suc, ◌<◌, true, false, List, length, None, Result, Ok, Err, refl, arith, gap_end, Fault, from_gap, information_end, begins_initial, braces_within, braces_at}
+use Rattle.litmus_reader.proofs.Loops.{After, ends, goes_on}
 
--- the total is what the rest gives, in some number of steps that is enough
-pub record BracesAfter (bytes : List ℕ) (total : Result (List ℕ) Fault) : Type 0 where
-  pub count : ℕ
-  pub enough : length bytes < count
-  pub same : braces_within count bytes ≡ total
+abbrev left : List ℕ → ℕ
+left bytes = suc (length bytes)
+
+-- the total is what the rest gives
+abbrev pub BracesAfter : List ℕ → Result (List ℕ) Fault → Type 0
+BracesAfter bytes total = After left braces_within bytes total
 
 pub braces_start : (bytes : List ℕ) → BracesAfter bytes (braces_at bytes)
 unfolding braces_at
 braces_start bytes = record { count = suc (length bytes); enough = omega arith; same = refl }
 
+shown : (bytes : List ℕ) (r total : Result (List ℕ) Fault) → ((n : ℕ) → braces_within (suc n) bytes ≡ r) → BracesAfter bytes total → r ≡ total
+shown bytes r total step b = sym (ends left braces_within bytes r total (λ none. absurd (omega (arith, none))) step b)
+
 pub braces_here : (bytes at : List ℕ) (total : Result (List ℕ) Fault) → Ok at ≡ from_gap (gap_end None bytes) → begins_initial at ≡ true → BracesAfter bytes total → Ok at ≡ total
 unfolding braces_within
-braces_here bytes at total is here b = by_count b.count b.enough b.same
-  where
-    by_count : (n : ℕ) → length bytes < n → braces_within n bytes ≡ total → Ok at ≡ total
-    by_count zero enough same = absurd (omega arith)
-    by_count (suc n) enough same = rw (← is, here) at same
+braces_here bytes at total is here b = shown bytes (Ok at) total (λ n. rw (← is, here) refl) b
 
 pub braces_further : (bytes at rest : List ℕ) (total : Result (List ℕ) Fault) → Ok at ≡ from_gap (gap_end None bytes) → begins_initial at ≡ false → Ok rest ≡ information_end at → length rest < length bytes
     → BracesAfter bytes total → BracesAfter rest total
 unfolding braces_within
-braces_further bytes at rest total is more line shorter b = by_count b.count b.enough b.same
-  where
-    by_count : (n : ℕ) → length bytes < n → braces_within n bytes ≡ total → BracesAfter rest total
-    by_count zero enough same = absurd (omega arith)
-    by_count (suc n) enough same = record { count = n; enough = omega arith; same = rw (← is, more, ← line) at same }
+braces_further bytes at rest total is more line shorter b = goes_on left braces_within bytes rest total (omega (arith, shorter)) (λ n. rw (← is, more, ← line) refl) b
 
 pub braces_gap_fails : (f : Fault) (bytes : List ℕ) (total : Result (List ℕ) Fault) → Err f ≡ from_gap (gap_end None bytes) → BracesAfter bytes total → Err f ≡ total
 unfolding braces_within
-braces_gap_fails f bytes total is b = by_count b.count b.enough b.same
-  where
-    by_count : (n : ℕ) → length bytes < n → braces_within n bytes ≡ total → Err f ≡ total
-    by_count zero enough same = absurd (omega arith)
-    by_count (suc n) enough same = rw (← is) at same
+braces_gap_fails f bytes total is b = shown bytes (Err f) total (λ n. rw (← is) refl) b
 
 pub braces_line_fails : (f : Fault) (bytes at : List ℕ) (total : Result (List ℕ) Fault) → Ok at ≡ from_gap (gap_end None bytes) → begins_initial at ≡ false → Err f ≡ information_end at
     → BracesAfter bytes total → Err f ≡ total
 unfolding braces_within
-braces_line_fails f bytes at total is more line b = by_count b.count b.enough b.same
-  where
-    by_count : (n : ℕ) → length bytes < n → braces_within n bytes ≡ total → Err f ≡ total
-    by_count zero enough same = absurd (omega arith)
-    by_count (suc n) enough same = rw (← is, more, ← line) at same
+braces_line_fails f bytes at total is more line b = shown bytes (Err f) total (λ n. rw (← is, more, ← line) refl) b

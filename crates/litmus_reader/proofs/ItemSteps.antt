@@ -1,16 +1,21 @@
 -- All items of the initial state, one after the other.
-use Rattle.litmus_reader.proofs.Vocabulary.{◌≡◌, ℕ, zero, suc, ◌<◌, true, false, List, [], ◌∷◌, length, Result, Ok, Err, refl, sym, ◌∙◌, arith, Stop, OpenCurly, Piece, symbol_at, name_at, number_at, Fault, Part, ReadError, Fails, ◌>>=◌, location_at, plain_setting, setting_at, Initial, initial, item_end, item_in, items_within, items_at, initial_at, in_initial, or_unfit, before_opening, Unclosed, remaining_of, unfit, Bool, cond, Section, section_of, item_ends}
+use Rattle.litmus_reader.proofs.Vocabulary.{◌≡◌, ℕ, suc, ◌<◌, true, false, List, [], ◌∷◌, length, Result, Ok, Err, refl, arith, Stop, OpenCurly, Piece, symbol_at, name_at, number_at, Fault, Part, ReadError, Fails, ◌>>=◌, location_at, plain_setting, setting_at, Initial, initial, item_end, item_in, items_within, items_at, initial_at, in_initial, or_unfit, before_opening, Unclosed, remaining_of, unfit, Bool, cond, Section, section_of, item_ends}
+use Rattle.litmus_reader.proofs.Loops.{After, ends, goes_on}
 use Rattle.litmus_cells.specs.declared.fault.ReadError.TheVariants as errors
 use Rattle.litmus_reader.proofs.SectionSteps.{section_shorter}
 
 abbrev pub ReadItems : Type 0
 ReadItems = Result (Initial × List Piece) Fault
 
--- the total is what the rest gives, in some number of items that is enough
-pub record ItemsAfter (remaining : ℕ) (stop : Stop) (i : Initial) (ps : List Piece) (total : ReadItems) : Type 0 where
-  pub count : ℕ
-  pub enough : length ps < count
-  pub same : items_within count remaining stop i ps ≡ total
+abbrev left : Initial × List Piece → ℕ
+left x = suc (length x.1)
+
+abbrev steps : ℕ → Stop → ℕ → Initial × List Piece → ReadItems
+steps remaining stop n x = items_within n remaining stop x.0 x.1
+
+-- the total is what the rest gives
+abbrev pub ItemsAfter : ℕ → Stop → Initial → List Piece → ReadItems → Type 0
+ItemsAfter remaining stop i ps total = After left (steps remaining stop) (i, ps) total
 
 pub items_start : (remaining : ℕ) (stop : Stop) (names : List (List ℕ)) (ps : List Piece) → ItemsAfter remaining stop (initial names [] []) ps (items_at remaining stop names ps)
 items_start remaining stop names ps = record { count = suc (length ps); enough = omega arith; same = refl }
@@ -32,30 +37,19 @@ step n remaining stop i ps s r at is = rw (at, is) refl
 
 pub items_done : (remaining : ℕ) (stop : Stop) (i j : Initial) (ps : List Piece) (s : Section) (total : ReadItems) → section_of item_ends stop ps ≡ s → item_in (in_initial remaining s.stop) i s.tokens ≡ Ok (j, true)
     → ItemsAfter remaining stop i ps total → total ≡ Ok (j, s.rest)
-items_done remaining stop i j ps s total at is b = by_count b.count b.enough b.same
-  where
-    by_count : (n : ℕ) → length ps < n → items_within n remaining stop i ps ≡ total → total ≡ Ok (j, s.rest)
-    by_count zero enough same = absurd (omega arith)
-    by_count (suc n) enough same = sym same ∙ step n remaining stop i ps s (Ok (j, true)) at is
+items_done remaining stop i j ps s total at is b = ends left (steps remaining stop) (i, ps) (Ok (j, s.rest)) total (λ none. absurd (omega (arith, none))) (λ n. step n remaining stop i ps s (Ok (j, true)) at is) b
 
 pub items_further : (remaining : ℕ) (stop : Stop) (i j : Initial) (ps : List Piece) (s : Section) (total : ReadItems) → section_of item_ends stop ps ≡ s → item_in (in_initial remaining s.stop) i s.tokens ≡ Ok (j, false)
     → ItemsAfter remaining stop i ps total → ItemsAfter remaining stop j s.rest total
-items_further remaining stop i j ps s total at is b = by_count b.count b.enough b.same
-  where
-    by_count : (n : ℕ) → length ps < n → items_within n remaining stop i ps ≡ total → ItemsAfter remaining stop j s.rest total
-    by_count zero enough same = absurd (omega arith)
-    by_count (suc n) enough same =
-        let shorter : 0 < length s.tokens → length s.rest < length ps = rw at at (section_shorter item_ends stop ps) in
-        record { count = n; enough = omega (arith, enough, shorter (item_some (in_initial remaining s.stop) i s.tokens (j, false) is)); same = sym (step n remaining stop i ps s (Ok (j, false)) at is) ∙ same }
+items_further remaining stop i j ps s total at is b =
+    let shorter : 0 < length s.tokens → length s.rest < length ps = rw at at (section_shorter item_ends stop ps) in
+    let some = item_some (in_initial remaining s.stop) i s.tokens (j, false) is in
+    goes_on left (steps remaining stop) (i, ps) (j, s.rest) total (omega (arith, shorter some)) (λ n. step n remaining stop i ps s (Ok (j, false)) at is) b
 
 pub items_fail : (e : ReadError) (remaining : ℕ) (stop : Stop) (i : Initial) (ps : List Piece) (s : Section) (total : ReadItems) → section_of item_ends stop ps ≡ s → Fails e (item_in (in_initial remaining s.stop) i s.tokens)
     → ItemsAfter remaining stop i ps total → Fails e total
 items_fail errors.NoMemory remaining stop i ps s total at is b = tt
-items_fail (errors.Fault f) remaining stop i ps s total at is b = by_count b.count b.enough b.same
-  where
-    by_count : (n : ℕ) → length ps < n → items_within n remaining stop i ps ≡ total → total ≡ Err f
-    by_count zero enough same = absurd (omega arith)
-    by_count (suc n) enough same = sym same ∙ step n remaining stop i ps s (Err f) at is
+items_fail (errors.Fault f) remaining stop i ps s total at is b = ends left (steps remaining stop) (i, ps) (Err f) total (λ none. absurd (omega (arith, none))) (λ n. step n remaining stop i ps s (Err f) at is) b
 
 -- ---- the `{` before them
 

@@ -1,6 +1,7 @@
 pub mod Vocabulary
 pub mod Maps
 pub mod Lines
+pub mod Loops
 pub mod Informed
 pub mod ItemSteps
 pub mod Listed

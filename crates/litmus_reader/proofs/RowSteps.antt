@@ -1,13 +1,18 @@
 -- All rows, one after the other.
-use Rattle.litmus_reader.proofs.Vocabulary.{◌≡◌, ℕ, zero, suc, ◌≤◌, ◌<◌, true, false, List, [], ◌∷◌, length, Result, Ok, Err, refl, sym, ◌∙◌, arith, Stop, Piece, Fault, ReadError, CoreInstr, Fails, ◌>>=◌, Given, registers_of, Rows, rows, row_at, row_in, rows_within, rows_at, table, table_at, ends_rows, columns, most_cores, section_of, Section, row_ends, at_stop, fault, Unclosed}
+use Rattle.litmus_reader.proofs.Vocabulary.{◌≡◌, ℕ, suc, ◌≤◌, ◌<◌, true, false, List, [], ◌∷◌, length, Result, Ok, Err, refl, arith, Stop, Piece, Fault, ReadError, CoreInstr, Fails, ◌>>=◌, Given, registers_of, Rows, rows, row_at, row_in, rows_within, rows_at, table, table_at, ends_rows, columns, most_cores, section_of, Section, row_ends, at_stop, fault, Unclosed}
+use Rattle.litmus_reader.proofs.Loops.{After, ends, goes_on}
 use Rattle.litmus_cells.specs.declared.fault.ReadError.TheVariants as errors
 use Rattle.litmus_reader.proofs.SectionSteps.{section_shorter}
 
--- the total is what the rest gives, in some number of rows that is enough
-pub record RowsAfter (stop : Stop) (cores : ℕ) (instrs : List CoreInstr) (names : List (List ℕ)) (ps : List Piece) (total : Result Rows Fault) : Type 0 where
-  pub count : ℕ
-  pub enough : length ps ≤ count
-  pub same : rows_within count stop cores instrs names ps ≡ total
+abbrev left : List CoreInstr × List (List ℕ) × List Piece → ℕ
+left x = length x.2
+
+abbrev steps : Stop → ℕ → ℕ → List CoreInstr × List (List ℕ) × List Piece → Result Rows Fault
+steps stop cores n x = rows_within n stop cores x.0 x.1 x.2
+
+-- the total is what the rest gives
+abbrev pub RowsAfter : Stop → ℕ → List CoreInstr → List (List ℕ) → List Piece → Result Rows Fault → Type 0
+RowsAfter stop cores instrs names ps total = After left (steps stop cores) (instrs, names, ps) total
 
 pub rows_start : (stop : Stop) (cores : ℕ) (names : List (List ℕ)) (ps : List Piece) → RowsAfter stop cores [] names ps (rows_at stop cores names ps)
 rows_start stop cores names ps = record { count = length ps; enough = omega arith; same = refl }
@@ -20,11 +25,7 @@ nothing_left (p ∷ ps) le = absurd (omega arith)
 pub rows_end : (stop : Stop) (cores : ℕ) (instrs : List CoreInstr) (names : List (List ℕ)) (ps : List Piece) (total : Result Rows Fault)
     → ends_rows ps ≡ true → RowsAfter stop cores instrs names ps total → total ≡ Ok (rows instrs names ps)
 unfolding rows_within
-rows_end stop cores instrs names ps total ends b = by_count b.count b.same
-  where
-    by_count : (n : ℕ) → rows_within n stop cores instrs names ps ≡ total → total ≡ Ok (rows instrs names ps)
-    by_count zero same = sym same
-    by_count (suc n) same = sym (rw ends at same)
+rows_end stop cores instrs names ps total end b = ends left (steps stop cores) (instrs, names, ps) (Ok (rows instrs names ps)) total (λ _. refl) (λ n. rw end refl) b
 
 abbrev ReadCells : Type 0
 ReadCells = Result (List CoreInstr × List (List ℕ)) Fault
@@ -51,25 +52,16 @@ row_shorter stop cores instrs names ps s x at read =
 pub rows_go_on : (stop : Stop) (cores : ℕ) (instrs after : List CoreInstr) (names known : List (List ℕ)) (ps : List Piece) (s : Section) (total : Result Rows Fault)
     → ends_rows ps ≡ false → section_of row_ends stop ps ≡ s → row_in cores s.stop instrs names s.tokens ≡ Ok (after, known)
     → RowsAfter stop cores instrs names ps total → RowsAfter stop cores after known s.rest total
-rows_go_on stop cores instrs after names known ps s total more at read b = by_count b.count b.enough b.same
-  where
-    by_count : (n : ℕ) → length ps ≤ n → rows_within n stop cores instrs names ps ≡ total → RowsAfter stop cores after known s.rest total
-    by_count zero enough same = let none : ends_rows ps ≡ true = nothing_left ps enough in absurd cc
-    by_count (suc n) enough same = record {
-      count = n;
-      enough = omega (arith, enough, row_shorter stop cores instrs names ps s (after, known) at read);
-      same = sym (step n stop cores instrs names ps s (Ok (after, known)) more at read) ∙ same;
-    }
+rows_go_on stop cores instrs after names known ps s total more at read b =
+    let shorter = row_shorter stop cores instrs names ps s (after, known) at read in
+    goes_on left (steps stop cores) (instrs, names, ps) (after, known, s.rest) total shorter (λ n. step n stop cores instrs names ps s (Ok (after, known)) more at read) b
 
 pub row_fails : (e : ReadError) (stop : Stop) (cores : ℕ) (instrs : List CoreInstr) (names : List (List ℕ)) (ps : List Piece) (s : Section) (total : Result Rows Fault)
     → ends_rows ps ≡ false → section_of row_ends stop ps ≡ s → Fails e (row_in cores s.stop instrs names s.tokens)
     → RowsAfter stop cores instrs names ps total → Fails e total
 row_fails errors.NoMemory stop cores instrs names ps s total more at read b = tt
-row_fails (errors.Fault f) stop cores instrs names ps s total more at read b = by_count b.count b.enough b.same
-  where
-    by_count : (n : ℕ) → length ps ≤ n → rows_within n stop cores instrs names ps ≡ total → total ≡ Err f
-    by_count zero enough same = let none : ends_rows ps ≡ true = nothing_left ps enough in absurd cc
-    by_count (suc n) enough same = sym same ∙ step n stop cores instrs names ps s (Err f) more at read
+row_fails (errors.Fault f) stop cores instrs names ps s total more at read b =
+    ends left (steps stop cores) (instrs, names, ps) (Err f) total (λ none. let here : ends_rows ps ≡ true = nothing_left ps none in absurd cc) (λ n. step n stop cores instrs names ps s (Err f) more at read) b
 
 -- ---- the header row before them
 
