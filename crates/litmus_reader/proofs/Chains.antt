@@ -2,6 +2,7 @@
 use Rattle.litmus_reader.proofs.Vocabulary.{◌≡◌, ℕ, suc, ◌≤◌, ◌<◌, List, [], ◌∷◌, length, Some, None, Result, Ok, Err, refl, sym, subst, arith, Claim, Symbol, Piece, symbol_at, Fault, ReadError, Fails, ◌>>=◌, Claimed, claimed, Proposition, chain, chain_of}
 use Rattle.litmus_reader.proofs.Loops.{After, ends, goes_on}
 use Rattle.litmus_cells.specs.declared.fault.ReadError.TheVariants as errors
+use Rattle.litmus_reader.proofs.GrammarTokens.{ok_is}
 
 abbrev pub joined_to : (Claim → Claim → Claim) → Claim → Claimed → Claimed
 joined_to join left right = record right { claim = join left right.claim }
@@ -50,9 +51,6 @@ pub chain_never_starts : (e : ReadError) (symbol : Symbol) (join : Claim → Cla
 unfolding chain_of
 chain_never_starts errors.NoMemory symbol join unit atoms names ps is = tt
 chain_never_starts (errors.Fault f) symbol join unit atoms names ps is = rw is refl
-
-ok_is : {A : Type 0} (x y : A) → (let a : Result A Fault = Ok x in a) ≡ Ok y → x ≡ y
-ok_is x y e = cc
 
 -- one step more, where the joined claim has another spelling
 pub chain_joined : (symbol : Symbol) (join : Claim → Claim → Claim) (unit : Proposition) (left right whole : Claim) (before atoms : ℕ) (old names : List (List ℕ)) (front after_it rest : List Piece) (total : Result Claimed Fault)

@@ -5,9 +5,7 @@ use Rattle.litmus_reader.specs.declared.fault.TextFault.{TextFault}
 use Rattle.litmus_cells.specs.declared.fault.ReadError.TheVariants as errors
 use Rattle.litmus_reader.specs.inner.Reading.{refusal_in, refusal_of}
 use Rattle.litmus_reader.specs.Spelling.{SpellsTest, IsRefused, IsDecided}
-
-some_is : (x y : TextFault) → Some x ≡ Some y → x ≡ y
-some_is x y e = cc
+use Rattle.litmus_reader.proofs.GrammarTokens.{some_is, ok_is}
 
 same_refusal : (text : List ℕ) (r : TextFault) (f : Fault) → r.line ≡ line_of text f.remaining → r.why ≡ f.why → refusal text f ≡ r
 same_refusal text r f line why =
@@ -33,19 +31,16 @@ pub refused_where_read : {T : Type 0} (result : Result T TextFault) (text : List
 refused_where_read (Ok x) text h = tt
 refused_where_read (Err r) text h = λ other. refused_so text r (h other)
 
-same_test : (t other : Litmus) → (let r : Result Litmus Fault = Ok t in r) ≡ Ok other → t ≡ other
-same_test t other e = cc
-
 -- what is returned where the reading gives a test
 pub read_only : (result : Result Litmus ReadError) (t : Litmus) (read : Result Litmus Fault) → read ≡ Ok t → Gives (λ test. test) result read
     → MatchResult result (λ test. test ≡ t) (λ e. e ≡ errors.NoMemory)
-read_only (Ok test) t read is gives = same_test test t (sym gives ∙ is)
+read_only (Ok test) t read is gives = ok_is test t (sym gives ∙ is)
 read_only (Err errors.NoMemory) t read is gives = refl
 read_only (Err (errors.Fault f)) t read is gives = absurd (let never = sym gives ∙ is in cc)
 
 pub decided : (text : List ℕ) → IsDecided text
 decided text = record {
-  one_test = λ t other first second. same_test t other (sym first ∙ second);
+  one_test = λ t other first second. ok_is t other (sym first ∙ second);
   one_refusal = λ r other first second. some_is r other (sym (read_so text r first) ∙ read_so text other second);
   never_both = λ t r spelled is. let never = sym spelled ∙ is.is in cc;
   always = by_reading (reading_of text) refl;

@@ -1,11 +1,7 @@
 -- Tokens at the front, found and taken.
-use Rattle.litmus_reader.proofs.Vocabulary.{◌≡◌, ℕ, Bool, true, false, cond, List, [], ◌∷◌, Option, Some, None, Result, Ok, Err, refl, sym, ap, ◌∙◌, ◌⊎◌, inl, inr, bytes_eq, bytes_eq-Decides, Symbol, Term, number, name, symbol, spelling_of, Piece, is_symbol_term, is_symbol, symbol_at, name_then, name_at, number_then, number_at, Fault, Part, ◌>>=◌, there, or_unfit, terms, or_fault, word_after, ◌++◌}
+use Rattle.litmus_reader.proofs.Vocabulary.{◌≡◌, ℕ, true, List, [], ◌∷◌, Option, Some, None, Result, Ok, Err, refl, sym, ap, ◌∙◌, ◌⊎◌, inl, inr, bytes_eq, bytes_eq-Decides, Symbol, Term, number, name, symbol, spelling_of, Piece, is_symbol_term, is_symbol, symbol_at, name_then, name_at, number_then, number_at, Fault, Part, ◌>>=◌, there, or_unfit, terms, or_fault, word_after, ◌++◌}
 use Rattle.litmus_tokens.proofs.Symbols.{spelling_tells}
-
--- which way a test went
-pub chosen : {A : Type 0} (b : Bool) (x y z : A) → cond b x y ≡ z → ((b ≡ true) × (x ≡ z)) ⊎ ((b ≡ false) × (y ≡ z))
-chosen true x y z e = inl (refl, e)
-chosen false x y z e = inr (refl, e)
+pub use Rattle.litmus_tokens.proofs.Gaps.{chosen}
 
 pub there_is : {A B : Type 0} (o : Option A) (f : A → B) (other z : B) → there o f other ≡ z → ((x : A) × (o ≡ Some x) × (f x ≡ z)) ⊎ ((o ≡ None) × (other ≡ z))
 there_is (Some x) f other z e = inl (x, refl, e)

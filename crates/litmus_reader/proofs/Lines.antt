@@ -1,6 +1,6 @@
 -- The line at the front.
 use Rattle.litmus_reader.proofs.Vocabulary.{◌≡◌, ℕ, ◌+◌, ◌-◌, ◌≤◌, ltb, eqb, List, [], length, take, drop, Some, None, refl, sym, ◌∙◌, inl, inr, arith, position, position_or_len, before_first, after_first, ltb-false, take_all, length-drop, nil_from_length, first_line}
-use Rattle.litmus_reader.proofs.Maps.{chosen}
+use Rattle.litmus_tokens.proofs.Gaps.{chosen}
 
 pub line_cut : (bytes : List ℕ) (n : ℕ) → Some n ≡ position (λ b. eqb b 10) bytes → first_line bytes ≡ (take n bytes, take (length bytes - (n + 1)) (drop (n + 1) bytes))
 unfolding first_line

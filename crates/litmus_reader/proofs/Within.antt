@@ -15,6 +15,7 @@ use Rattle.litmus_reader.proofs.GrammarAtoms.{fits_atom}
 use Rattle.litmus_reader.proofs.GrammarTest.{body_taken, text_takes}
 use Rattle.litmus_reader.proofs.GrammarColumns.{grow}
 use Rattle.litmus_reader.proofs.GrammarHeader.{header_takes}
+use Rattle.litmus_reader.proofs.GrammarTokens.{some_is}
 
 -- ---- names are text
 
@@ -210,9 +211,6 @@ constant_word names (xchg x reg) f = tt
 constant_word names (xadd x reg) f = tt
 
 -- ---- the test
-
-some_is : (x y : Condition) → Some x ≡ Some y → x ≡ y
-some_is x y e = cc
 
 room_asked : (cores : ℕ) (names : List (List ℕ)) (c : Option WrittenCondition) → IsAskedWithin cores names c → length (numbered names (names_asked c)) ≤ 16
 unfolding numbered
