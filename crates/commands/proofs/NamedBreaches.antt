@@ -1,5 +1,5 @@
 -- What a breach names can be printed: it names entries of the order, or entries that the programs make.
-use Rattle.commands.proofs.Vocabulary.{◌≡◌, ◌≢◌, ℕ, ◌<◌, List, length, Some, slice_get, All, refl, subst, get_or_from_slice_get, slice_get_within, Litmus}
+use Rattle.commands.proofs.Vocabulary.{◌≡◌, ◌≢◌, ℕ, ◌<◌, List, length, Some, slice_get, All, subst, get_or_from_slice_get, slice_get_within, Litmus}
 use Rattle.tso_model.specs.ProgramEntries.{made}
 use Rattle.tso_model.specs.Standing.{StandsIn}
 use Rattle.tso_model.specs.declared.execution.Entry.{Entry}

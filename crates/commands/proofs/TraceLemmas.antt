@@ -1,5 +1,5 @@
 -- The text of a trace, put together of what was written.
-use Rattle.commands.proofs.Vocabulary.{◌≡◌, ℕ, true, false, List, ◌++◌, refl, sym, ap, ◌∙◌, append_assoc, Litmus, Run, Counts, body, unfinished_run_line, shown_of, ending_text}
+use Rattle.commands.proofs.Vocabulary.{◌≡◌, ℕ, true, List, ◌++◌, refl, sym, ap, ◌∙◌, append_assoc, Litmus, Run, Counts, body, shown_of, ending_text}
 use Rattle.tso_report.specs.Shown.{ShownRun}
 
 -- three pieces, one after the other

@@ -1,5 +1,5 @@
 -- What becomes of the observers that make a trace, and its last step alone.
-use Rattle.std.specs.Prelude.{ℕ, ◌≡◌, List, [], ◌∷◌, ◌++◌, map, Some, None, IfSome, option_map}
+use Rattle.std.specs.Prelude.{ℕ, ◌≡◌, [], ◌∷◌, ◌++◌, map, Some, None, IfSome, option_map}
 use Rattle.serde_json.specs.View.{view}
 use Rattle.tso_model.specs.declared.choice.Choice.{Choice}
 use Rattle.machine_core.specs.Running.{Running, machine_after}

@@ -1,4 +1,4 @@
-use Rattle.commands.proofs.Vocabulary.{◌<◌, ◌∙◌, ◌++◌, ap, sym, refl, subst, length, string_bytes, Litmus, chosen, ShownStep, shown_step, trace_step_of, trace_step_line, told_step}
+use Rattle.commands.proofs.Vocabulary.{◌<◌, ◌∙◌, ◌++◌, ap, refl, subst, length, string_bytes, Litmus, chosen, ShownStep, shown_step, trace_step_line}
 use Rattle.trace_report.proofs.RunsTold.{step-outcome}
 use Rattle.commands.proofs.ToldLines.{told-is}
 use Rattle.commands.proofs.told_run.TellerObserver.choose.Goals as goal
