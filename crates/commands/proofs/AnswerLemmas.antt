@@ -1,11 +1,14 @@
 -- From what an answer is to what it means.
-use Rattle.commands.proofs.Vocabulary.{ℕ, List, Result, Ok, Err, IfOk, OnOk, string_bytes, subst, sym, Status}
+use Rattle.commands.proofs.Vocabulary.{◌≡◌, ℕ, List, Result, Ok, Err, IfOk, OnOk, string_bytes, subst, sym, Status}
 use Rattle.commands.specs.inner.Answers.{Says}
 use Rattle.commands.specs.declared.answer.Answer.{Answer}
 
+pub same-answer : (P : List ℕ → Status → Type 0) (out other : List ℕ) (how status : Status) → out ≡ other → how ≡ status → P other status → P out how
+same-answer P out other how status text is p = subst (λ s. P out s) (sym is) (subst (λ o. P o status) (sym text) p)
+
 pub answer-is : {E : Type 0} (P : List ℕ → Status → Type 0) (r : Result Answer E) (out : List ℕ) (status : Status)
     → IfOk r (λ a. Says a out status) → P out status → IfOk r (λ a. P (string_bytes a.text) a.status)
-answer-is P (Ok a) out status says p = subst (λ s. P (string_bytes a.text) s) (sym says.status) (subst (λ o. P o status) (sym says.text) p)
+answer-is P (Ok a) out status says p = same-answer P (string_bytes a.text) out a.status status says.text says.status p
 answer-is P (Err e) out status says p = tt
 
 pub answer-means : {E : Type 0} (P Q : List ℕ → Status → Type 0) (r : Result Answer E) → ((out : List ℕ) (status : Status) → P out status → Q out status)

@@ -1,6 +1,6 @@
 -- How many choices a run uses, and the word that says the first one too many.
 use Rattle.commands.proofs.Vocabulary.{◌≡◌, ◌≤◌, ◌<◌, ℕ, Bool, true, false, ◌⊎◌, inl, inr, suc, List, [], ◌∷◌, length, Result, Option, Some, None, Err, refl, sym, ap, subst, ◌∙◌, arith, Litmus, start, Run, has_ended, Choice, TooMany, Table, table_of, ProtocolKind, Configuration, run_by, run_under, IsEndingOf, FitsForm, IsTooLong, Ended, Unfinished}
-use Rattle.std.specs.Prelude.{IsSome, if◌then◌else◌}
+use Rattle.std.specs.Prelude.{IsSome, IfSome, if◌then◌else◌}
 use Rattle.tso_model.specs.EitherBus.{BusState, unheld, effect_on, after_on, resting_on, then_on, run_on_from}
 use Rattle.tso_model.specs.SplitMachine.{Attempt}
 use Rattle.tso_model.specs.declared.choice.Bus.{Bus}
@@ -12,7 +12,7 @@ use Rattle.scheduler.proofs.Stopping.{stops}
 use Rattle.machine_core.specs.Answered.{answered}
 use Rattle.machine_core.specs.Statistics.{no_statistics}
 use Rattle.trace_json.specs.TracedRun.{most_steps}
-use Rattle.commands.specs.inner.Trace.{used_in}
+use Rattle.commands.specs.inner.Trace.{used_in, IsMeasured}
 use Rattle.simulator.specs.declared.simulation.Ending.{Ending}
 use Rattle.simulator.proofs.BusLemmas.{length-answered}
 
@@ -61,14 +61,14 @@ pub never-both : (json : Bool) (r : Run) → FitsForm json r → IsTooLong json 
 never-both json r fits long = let short = fits long.0 in let more = long.1 in omega (arith, short, more)
 
 -- a simulation that used more is too long, and one is not for whose choices no such word was found
-pub is-too-long : (t : Litmus) (r : Run) (e : Ending) (used : ℕ) → used ≡ used_in e → IsEndingOf t r e → most_steps < used → IsTooLong true r
+is-too-long : (t : Litmus) (r : Run) (e : Ending) (used : ℕ) → used ≡ used_in e → IsEndingOf t r e → most_steps < used → IsTooLong true r
 is-too-long t r e used is ending more = (refl, subst (λ (n : ℕ). most_steps < n) (is ∙ used-is t r e ending) more)
 
 never-none : (o : Option ℕ) → o ≡ None → IsSome o → ⊥
 never-none None same h = let no : ⊥ = cc in no
 never-none (Some n) same h = let no : ⊥ = cc in no
 
-pub is-short : (t : Litmus) (kind : ProtocolKind) (c : Configuration) (choices : List Choice) (e : Ending) (used : ℕ) (found : Option ℕ)
+is-short : (t : Litmus) (kind : ProtocolKind) (c : Configuration) (choices : List Choice) (e : Ending) (used : ℕ) (found : Option ℕ)
     → used ≡ used_in e → IsEndingOf t (run_under t kind c choices) e → found ≡ None → (used ≤ length choices → most_steps < used → IsSome found)
     → FitsForm true (run_under t kind c choices)
 is-short t kind c choices e used found is ending none there = by_length (too-long-or-not true (run_under t kind c choices))
@@ -79,6 +79,13 @@ is-short t kind c choices e used found is ending none there = by_length (too-lon
         let same = sym (is ∙ used-is t (run_under t kind c choices) e ending) in
         let some : IsSome found = there (subst (λ (n : ℕ). n ≤ length choices) same (used-within t kind c choices)) (subst (λ (n : ℕ). most_steps < n) same long.1) in
         absurd (never-none found none some)
+
+-- how it is measured, then
+pub is-measured : (t : Litmus) (kind : ProtocolKind) (c : Configuration) (choices : List Choice) (e : Ending) (text : List ℕ) (used : ℕ) (found : Option ℕ)
+    → used ≡ used_in e → IsEndingOf t (run_under t kind c choices) e → IfSome found (λ word. (most_steps < used) × IsWordOfChoice (length t.programs) text most_steps word)
+    → (used ≤ length choices → most_steps < used → IsSome found) → IsMeasured t (run_under t kind c choices) text found
+is-measured t kind c choices e text used None is ending said there = is-short t kind c choices e used None is ending refl there
+is-measured t kind c choices e text used (Some word) is ending said there = (is-too-long t (run_under t kind c choices) e used is ending said.0, said.1)
 
 -- one word says a choice
 pub one-word : (cores : ℕ) (text : List ℕ) (word other : ℕ) → 0 < cores → IsWordOfChoice cores text most_steps word → IsWordOfChoice cores text most_steps other → word ≡ other

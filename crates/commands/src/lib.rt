@@ -18,7 +18,7 @@ pub use answer::{Answer, Status, refused_input, refused_test};
 pub use checking::check_answer;
 pub use dividing::{Parts, parts_of};
 pub use explaining::why_answer;
-pub use measuring::{Driven, Measured, measure, refused_trace};
+pub use measuring::{refused_trace, word_too_far};
 pub use outcomes::outcomes_answer;
 pub use running::{cause_of, refused_choices, run_answer};
 pub use sweeping::sweep_answer;

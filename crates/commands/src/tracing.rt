@@ -5,13 +5,12 @@ ghost use Rattle.std.specs.Prelude.{◌≡◌, true, false, IfOk, OnOk, length, 
 ghost use Rattle.tso_model.specs.Runs.{CoresExist};
 ghost use Rattle.scheduler.specs.Grammar.{SpellsChoices};
 ghost use Rattle.commands.specs.Answers.{status_under};
-ghost use Rattle.simulator.specs.Runs.{run_under, counts_under, AnswersFit};
-ghost use Rattle.simulator.specs.Simulation.{IsEndingOf, FitsEnding, HasCounts};
+ghost use Rattle.simulator.specs.Runs.{AnswersFit};
 ghost use Rattle.commands.specs.Trace.{traced_in, IsTraceAnswer};
 ghost use Rattle.commands.specs.inner.Answers.{Says};
 
 use crate::answer::{Answer, Status};
-use crate::measuring::{Measured, measure, refused_trace};
+use crate::measuring::{refused_trace, word_too_far};
 use crate::running::{cause_of, refused_choices};
 use crate::told_run::simulate_telling;
 use hints::Cause;
@@ -20,7 +19,7 @@ use protocol_tables::ProtocolKind;
 use scheduler::{read_choices, spelled_cores_exist};
 use simulator::{Ending, Setup};
 use std::alloc::Global;
-use trace_json::{ended_json, unended_json};
+use trace_json::{TracedRun, ended_json, simulate_tracing, unended_json};
 use tso_model::{NoMemory, Test};
 use tso_report::{head_text, write_body};
 
@@ -105,7 +104,7 @@ fn lines_answer(
     }
 }
 
-/// The answer as JSON.
+/// The answer as JSON. The run is made once: its trace is kept as its choices are made, as far as it may be told.
 fn object_answer(
     alloc: Global,
     setup: &Setup<'_>,
@@ -116,47 +115,30 @@ fn object_answer(
     requires spelled { SpellsChoices (length setup.now.test.now.programs) text.now choices.now }
     ensures { IfOk result (λ a. IsTraceAnswer setup.now.test.now setup.now.protocol setup.now.config true text.now (string_bytes a.text) a.status) }
 {
-    match measure(alloc, setup, text, choices)? {
-        Measured::TooLong(word) => refused_trace(alloc, text, word),
-        Measured::Fits(driven) => {
-            let answer = object_of(alloc, setup, choices, &driven.ending)?;
-            Ok(Answer {
-                text: answer.text,
-                status: answer.status,
-                cause: cause_of(answer.status, setup, text, driven.stalls),
-            })
-        }
+    let traced = simulate_tracing(alloc, setup, choices)?;
+    if let Some(word) = word_too_far(setup, &traced.ending, text) {
+        return refused_trace(alloc, text, word);
     }
-}
-
-/// The object of a run of these choices that left the test so.
-fn object_of(
-    alloc: Global,
-    setup: &Setup<'_>,
-    choices: &[Choice],
-    ending: &Ending,
-) -> Result<Answer, NoMemory>
-    requires cores { CoresExist (length setup.now.test.now.programs) choices.now }
-    requires ending { IsEndingOf setup.now.test.now (run_under setup.now.test.now setup.now.protocol setup.now.config choices.now) ending.now }
-    requires fits { FitsEnding setup.now.test.now ending.now }
-    requires counts { HasCounts (counts_under setup.now.test.now setup.now.protocol setup.now.config choices.now) ending.now }
-    ensures { IfOk result (λ a. Says a (traced_in true setup.now.test.now setup.now.protocol setup.now.config choices.now) (status_under setup.now.test.now setup.now.protocol setup.now.config choices.now)) }
-{
+    let TracedRun {
+        ending,
+        told,
+        stalls,
+    } = traced;
     match ending {
         Ending::Ended(run) => {
-            let text = ended_json(alloc, setup, choices, run)?;
+            let object = ended_json(alloc, setup, &run, told)?;
             Ok(Answer {
-                text,
+                text: object,
                 status: Status::Good,
                 cause: Cause::Nothing,
             })
         }
         Ending::Unfinished { used, stalled } => {
-            let text = unended_json(alloc, setup, choices, *used, *stalled)?;
+            let object = unended_json(alloc, setup.test, used, stalled, told)?;
             Ok(Answer {
-                text,
+                text: object,
                 status: Status::Unended,
-                cause: Cause::Nothing,
+                cause: cause_of(Status::Unended, setup, text, stalls),
             })
         }
     }

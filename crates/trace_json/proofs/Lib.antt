@@ -7,4 +7,5 @@ pub mod Owning
 pub mod BusMemory
 pub mod Listed
 pub mod Tracing
+pub mod Within
 pub mod Supplying

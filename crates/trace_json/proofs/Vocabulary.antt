@@ -31,7 +31,7 @@ pub use Rattle.trace_json.specs.TraceJson.{Sourced, sourced_by, last_or, last_st
 pub use Rattle.trace_json.specs.declared.supplied.Source.{Source}
 pub use Rattle.tso_model.specs.Condition.{Condition, condition_of}
 pub use Rattle.trace_json.specs.Programs.{instruction_text, program_value, programs_value}
-pub use Rattle.trace_json.specs.TracedRun.{with_trace, ended_value, unended_value}
+pub use Rattle.trace_json.specs.TracedRun.{most_steps, with_trace_value}
 pub use Rattle.std.specs.Option.{unwrap_or}
 pub use Rattle.std.proofs.lemmas.List.{drop_all, length-drop, length-take, drop_more, get_or_past, map-append, take_more, take_all}
 pub use Rattle.std.proofs.Math.ListN.{drop_of_length-le, length-set}

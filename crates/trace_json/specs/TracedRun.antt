@@ -18,12 +18,20 @@ use Rattle.trace_json.specs.TraceJson.{trace_json, last_step_json}
 abbrev pub most_steps : ℕ
 most_steps = 1000
 
--- members, and with them what a trace adds
-abbrev pub with_trace : Litmus → ProtocolKind → Configuration → List Choice → Members → Members
-with_trace t kind c choices members =
+-- members, and with them what this trace adds
+abbrev pub with_trace_value : Litmus → Data → Members → Members
+with_trace_value t trace members =
     put (codes "programs") (programs_value t)
     (put (codes "proposition") (proposition_value t)
-    (put (codes "trace") (trace_json t kind c choices) members))
+    (put (codes "trace") trace members))
+
+-- the same as one line
+abbrev pub line_with : Litmus → Data → Members → List ℕ
+line_with t trace members = line (compact_text (object (with_trace_value t trace members)))
+
+-- members, and with them what the trace of a run under these choices adds
+abbrev pub with_trace : Litmus → ProtocolKind → Configuration → List Choice → Members → Members
+with_trace t kind c choices members = with_trace_value t (trace_json t kind c choices) members
 
 -- a run of the test that ended, under these choices on a machine of this protocol and configuration
 abbrev pub ended_value : Litmus → ProtocolKind → Configuration → List Choice → ShownRun → Data

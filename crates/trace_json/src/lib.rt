@@ -5,6 +5,7 @@
 mod copies;
 mod cores;
 mod following;
+mod limited;
 mod machine;
 pub mod memory_words;
 mod own_words;
@@ -16,4 +17,5 @@ mod texts;
 mod trace;
 mod traced_run;
 
-pub use traced_run::{MAX_STEPS, ended_json, last_step_json, unended_json, word_beyond};
+pub use trace::{TracedRun, simulate_telling_last, simulate_tracing};
+pub use traced_run::{MAX_STEPS, ended_json, unended_json, word_beyond};

@@ -1,56 +1,102 @@
-//! The trace of a run as a value, and its last step alone: each is made by an observer of the run.
+//! A run whose trace is kept as a value, or its last step alone: each is made by an observer of the run, while the run is made.
 
-ghost use Rattle.std.specs.Prelude.{◌≡◌, IfOk, length, option_map};
+ghost use Rattle.std.specs.Prelude.{◌≡◌, ◌≤◌, IfOk, OnOk, length, option_map};
 ghost use Rattle.serde_json.specs.View.{view};
 ghost use Rattle.tso_model.specs.Runs.{CoresExist};
+ghost use Rattle.simulator.specs.Runs.{run_under, counts_under, AnswersFit};
+ghost use Rattle.simulator.specs.Simulation.{IsEndingOf, FitsEnding, HasCounts};
 ghost use Rattle.trace_json.specs.TraceJson.{last_step_json, trace_json};
+ghost use Rattle.trace_json.specs.TracedRun.{most_steps};
 ghost use Rattle.trace_json.specs.inner.Looked.{sourced, told_last, trace_with};
 ghost use Rattle.trace_json.specs.inner.Following.{CanFollow, Follows};
 ghost use Rattle.trace_json.specs.inner.Observing.{OpensTrace, AddsStep, OpensLast, KeepsLast, TellsLast, KnowsLast};
 
 use crate::following::{Follower, SourcedStep};
+use crate::limited::Limited;
 use machine_core::{Choice, Machine, Outcome};
 use protocol_tables::Protocol;
+use scheduler::Stalls;
 use serde_json::{Map, Value, put};
-use simulator::{Observer, Setup, simulate_observed};
+use simulator::{Ending, Observer, Setup, simulate_observed};
 use std::alloc::Global;
+use trace_report::told_runs::traces_tell_their_runs;
 use tso_model::NoMemory;
 
-/// The trace of a test's run under these choices, on a machine of this protocol and configuration: an object of the
+/// How a run left its test, what is told of it as a value, and which choices stalled.
+#[derive(Drop)]
+pub struct TracedRun {
+    /// How it left its test.
+    pub ending: Ending,
+    /// What is told of it, where it used no more than [`MAX_STEPS`](crate::MAX_STEPS) choices.
+    pub told: Value,
+    /// Which choices stalled.
+    pub stalls: Stalls,
+}
+
+/// Runs a test under these choices, on a machine of this protocol and configuration, and keeps its trace: an object of the
 /// machine before the first choice, and of a step for each choice up to the first moment at which the test has
 /// ended, with the machine after it.
 ///
 /// Errors: out of memory only.
-pub fn traced(alloc: Global, setup: &Setup<'_>, choices: &[Choice]) -> Result<Value, NoMemory>
+pub fn simulate_tracing(
+    alloc: Global,
+    setup: &Setup<'_>,
+    choices: &[Choice],
+) -> Result<TracedRun, NoMemory>
     requires { CoresExist (length setup.now.test.now.programs) choices.now }
-    ensures { IfOk result (λ value. view value ≡ trace_json setup.now.test.now setup.now.protocol setup.now.config choices.now) }
+    ensures told { IfOk result (λ r. (run_under setup.now.test.now setup.now.protocol setup.now.config choices.now).used ≤ most_steps
+        → view r.told ≡ trace_json setup.now.test.now setup.now.protocol setup.now.config choices.now) }
+    ensures ending { IfOk result (λ r. IsEndingOf setup.now.test.now (run_under setup.now.test.now setup.now.protocol setup.now.config choices.now) r.ending) }
+    ensures fits { IfOk result (λ r. FitsEnding setup.now.test.now r.ending) }
+    ensures answers { OnOk result (AnswersFit setup.now.test.now setup.now.protocol setup.now.config choices.now) }
+    ensures counts { IfOk result (λ r. HasCounts (counts_under setup.now.test.now setup.now.protocol setup.now.config choices.now) r.ending) }
 {
+    traces_tell_their_runs();
     let follower = Follower::new(alloc, setup.test, setup.config)?;
-    let mut tracer = Tracer {
+    let mut limited = Limited::new(Tracer {
         follower,
         start: Value::Null,
         steps: Vec::new(alloc),
-    };
-    simulate_observed(alloc, setup, choices, &mut tracer)?;
-    let trace = trace_of_parts(alloc, tracer.start, Value::Array(tracer.steps))?;
-    Ok(trace)
+    });
+    let ending = simulate_observed(alloc, setup, choices, &mut limited)?;
+    let tracer = limited.observer;
+    let told = trace_of_parts(alloc, tracer.start, Value::Array(tracer.steps))?;
+    Ok(TracedRun {
+        ending,
+        told,
+        stalls: limited.stalls,
+    })
 }
 
-/// The last step of this trace alone; where no choice was used, the machine before the first choice.
+/// Runs a test under these choices as [`simulate_tracing`] does, and keeps of its trace the last step alone; where no choice
+/// was used, the machine before the first choice.
 ///
 /// Errors: out of memory only.
-pub fn last_step(alloc: Global, setup: &Setup<'_>, choices: &[Choice]) -> Result<Value, NoMemory>
+pub fn simulate_telling_last(
+    alloc: Global,
+    setup: &Setup<'_>,
+    choices: &[Choice],
+) -> Result<TracedRun, NoMemory>
     requires { CoresExist (length setup.now.test.now.programs) choices.now }
-    ensures { IfOk result (λ value. view value ≡ last_step_json setup.now.test.now setup.now.protocol setup.now.config choices.now) }
+    ensures told { IfOk result (λ r. (run_under setup.now.test.now setup.now.protocol setup.now.config choices.now).used ≤ most_steps
+        → view r.told ≡ last_step_json setup.now.test.now setup.now.protocol setup.now.config choices.now) }
+    ensures ending { IfOk result (λ r. IsEndingOf setup.now.test.now (run_under setup.now.test.now setup.now.protocol setup.now.config choices.now) r.ending) }
+    ensures answers { OnOk result (AnswersFit setup.now.test.now setup.now.protocol setup.now.config choices.now) }
 {
+    traces_tell_their_runs();
     let follower = Follower::new(alloc, setup.test, setup.config)?;
-    let mut last = LastStep {
+    let mut last = Limited::new(LastStep {
         follower,
         told: None,
         value: Value::Null,
-    };
-    simulate_observed(alloc, setup, choices, &mut last)?;
-    Ok(last.value)
+    });
+    let ending = simulate_observed(alloc, setup, choices, &mut last)?;
+    let step = last.observer;
+    Ok(TracedRun {
+        ending,
+        told: step.value,
+        stalls: last.stalls,
+    })
 }
 
 /// A trace from its parts.

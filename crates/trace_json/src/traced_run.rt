@@ -1,23 +1,23 @@
 //! A run with its trace as JSON, for programs to read. It is one line, and its objects have their keys in the order of
 //! their bytes.
 
-ghost use Rattle.std.specs.Prelude.{◌≡◌, ◌<◌, ◌≤◌, List, IfOk, IfSome, IsSome, None, length, string_bytes};
+ghost use Rattle.std.specs.Prelude.{◌≡◌, ◌<◌, ◌≤◌, List, IfOk, IfSome, IsSome, None, false, length, string_bytes};
 ghost use Rattle.serde_json.specs.View.{view, members_view};
-ghost use Rattle.tso_model.specs.Runs.{CoresExist};
+ghost use Rattle.serde_json.specs.Written.{has_float, members_have_float};
 ghost use Rattle.tso_model.specs.declared.choice.Choice.{Choice};
 ghost use Rattle.scheduler.specs.Grammar.{SpellsChoices};
 ghost use Rattle.scheduler.specs.WordOfChoice.{IsWordOfChoice};
+ghost use Rattle.tso_report.specs.Json.{run_members, unfinished_members};
 ghost use Rattle.tso_report.specs.Shown.{shown_run, IsRunOf};
-ghost use Rattle.trace_json.specs.TracedRun.{most_steps, with_trace, json_ended, json_unended, json_last_step};
+ghost use Rattle.trace_json.specs.TracedRun.{most_steps, line_with};
 
 use crate::programs::programs_value;
 use crate::proposition::proposition_value;
-use crate::trace::{last_step, traced};
 use scheduler::word_of_choice;
 use serde_json::{Map, Value, put};
 use simulator::Setup;
 use std::alloc::Global;
-use tso_model::{Choice, NoMemory};
+use tso_model::{NoMemory, Test};
 use tso_report::Run;
 use tso_report::json::{line_of, run_members, unfinished_members};
 
@@ -53,16 +53,15 @@ pub fn word_beyond(cores: u8, used: usize, text: &[u8]) -> Option<usize>
 pub fn ended_json(
     alloc: Global,
     setup: &Setup<'_>,
-    choices: &[Choice],
     run: &Run,
+    trace: Value,
 ) -> Result<String, NoMemory>
-    requires cores { CoresExist (length setup.now.test.now.programs) choices.now }
     requires run { IsRunOf setup.now.test.now (shown_run run.now) }
-    ensures { IfOk result (λ text. string_bytes text ≡ json_ended setup.now.test.now setup.now.protocol setup.now.config choices.now (shown_run run.now)) }
+    requires trace { has_float (view trace) ≡ false }
+    ensures { IfOk result (λ text. string_bytes text ≡ line_with setup.now.test.now (view trace) (run_members setup.now.test.now setup.now.protocol setup.now.config (shown_run run.now))) }
 {
     let members = run_members(alloc, setup.test, setup.protocol, setup.config, run)?;
-    let members = with_trace(alloc, setup, choices, members)?;
-    line_of(alloc, &Value::Object(members))
+    line_with(alloc, setup.test, trace, members)
 }
 
 /// A run that didn't end with its trace as JSON: an object of how many choices were used and how many of these
@@ -71,53 +70,34 @@ pub fn ended_json(
 /// Errors: out of memory only.
 pub fn unended_json(
     alloc: Global,
-    setup: &Setup<'_>,
-    choices: &[Choice],
+    test: &Test,
     used: usize,
     stalled: usize,
+    trace: Value,
 ) -> Result<String, NoMemory>
-    requires { CoresExist (length setup.now.test.now.programs) choices.now }
-    ensures { IfOk result (λ text. string_bytes text ≡ json_unended setup.now.test.now setup.now.protocol setup.now.config choices.now used stalled) }
+    requires { has_float (view trace) ≡ false }
+    ensures { IfOk result (λ text. string_bytes text ≡ line_with test.now (view trace) (unfinished_members used stalled)) }
 {
     let members = unfinished_members(alloc, used, stalled)?;
-    let members = with_trace(alloc, setup, choices, members)?;
-    line_of(alloc, &Value::Object(members))
+    line_with(alloc, test, trace, members)
 }
 
-/// The last step of this trace alone as JSON, with the machine after it; where no choice was used, the machine before
-/// the first choice. Printed compact, and a line feed.
-///
-/// Errors: out of memory only.
-pub fn last_step_json(
+/// The members of a run, and with them the programs, the condition's proposition and the trace, as one line.
+fn line_with(
     alloc: Global,
-    setup: &Setup<'_>,
-    choices: &[Choice],
-) -> Result<String, NoMemory>
-    requires { CoresExist (length setup.now.test.now.programs) choices.now }
-    ensures { IfOk result (λ text. string_bytes text ≡ json_last_step setup.now.test.now setup.now.protocol setup.now.config choices.now) }
-{
-    let step = last_step(alloc, setup, choices)?;
-    line_of(alloc, &step)
-}
-
-/// Adds the programs, the condition's proposition and the trace to the members of a run.
-///
-/// Errors: out of memory only.
-fn with_trace(
-    alloc: Global,
-    setup: &Setup<'_>,
-    choices: &[Choice],
+    test: &Test,
+    trace: Value,
     members: Map<String, Value>,
-) -> Result<Map<String, Value>, NoMemory>
-    requires { CoresExist (length setup.now.test.now.programs) choices.now }
-    ensures { IfOk result (λ new. members_view new.entries ≡ with_trace setup.now.test.now setup.now.protocol setup.now.config choices.now (members_view members.entries)) }
+) -> Result<String, NoMemory>
+    requires trace { has_float (view trace) ≡ false }
+    requires members { members_have_float (members_view members.entries) ≡ false }
+    ensures { IfOk result (λ text. string_bytes text ≡ line_with test.now (view trace) (members_view members.entries)) }
 {
     let mut members = members;
-    let trace = traced(alloc, setup, choices)?;
     put(&mut members, alloc, "trace", trace)?;
-    let proposition = proposition_value(alloc, setup.test)?;
+    let proposition = proposition_value(alloc, test)?;
     put(&mut members, alloc, "proposition", proposition)?;
-    let programs = programs_value(alloc, setup.test)?;
+    let programs = programs_value(alloc, test)?;
     put(&mut members, alloc, "programs", programs)?;
-    Ok(members)
+    line_of(alloc, &Value::Object(members))
 }

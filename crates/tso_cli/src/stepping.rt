@@ -8,8 +8,8 @@ ghost use Rattle.tso_cli.specs.Step.{IsStepAnswer};
 ghost use Rattle.tso_cli.specs.inner.Step.{IsLastStep, status_after};
 
 use commands::{
-    Answer, Measured, Status, cause_of, measure, parts_of, refused_choices, refused_input,
-    refused_test, refused_trace,
+    Answer, Status, cause_of, parts_of, refused_choices, refused_input, refused_test,
+    refused_trace, word_too_far,
 };
 use hints::Reader;
 use litmus_reader::{ReadError, test_or_fault};
@@ -18,9 +18,10 @@ use protocol_tables::ProtocolKind;
 use scheduler::{read_choices, spelled_cores_exist};
 use simulator::{Ending, Setup};
 use std::alloc::Global;
-use trace_json::last_step_json;
+use trace_json::simulate_telling_last;
 use tso_io::MAX_INPUT;
 use tso_model::NoMemory;
+use tso_report::json::line_of;
 
 /// Of the trace that `trace --json` prints of an input the last step alone, with the machine after it; where no choice is
 /// used, the machine before the first choice. What it refuses, how, and the status are those of `trace --json`.
@@ -74,18 +75,17 @@ fn last_answer(
     requires spelled { SpellsChoices (length setup.now.test.now.programs) text.now choices.now }
     ensures { IfOk result (λ a. IsLastStep setup.now.test.now setup.now.protocol setup.now.config text.now (string_bytes a.text) a.status) }
 {
-    match measure(alloc, setup, text, choices)? {
-        Measured::TooLong(word) => refused_trace(alloc, text, word),
-        Measured::Fits(driven) => {
-            let step = last_step_json(alloc, setup, choices)?;
-            let status = status_after(&driven.ending);
-            Ok(Answer {
-                text: step,
-                status,
-                cause: cause_of(status, setup, text, driven.stalls),
-            })
-        }
+    let traced = simulate_telling_last(alloc, setup, choices)?;
+    if let Some(word) = word_too_far(setup, &traced.ending, text) {
+        return refused_trace(alloc, text, word);
     }
+    let step = line_of(alloc, &traced.told)?;
+    let status = status_after(&traced.ending);
+    Ok(Answer {
+        text: step,
+        status,
+        cause: cause_of(status, setup, text, traced.stalls),
+    })
 }
 
 /// The status of a run that left its test so.

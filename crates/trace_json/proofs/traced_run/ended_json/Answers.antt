@@ -1,10 +1,8 @@
-use Rattle.trace_json.proofs.Vocabulary.{◌∙◌, ap, object, has_float, view-Object, with_trace}
+use Rattle.trace_json.proofs.Vocabulary.{◌∙◌, ap, members_have_float}
 use Rattle.tso_report.specs.Shown.{shown_run}
-use Rattle.trace_json.proofs.NoFloatsWhole.{ended_has_no_float}
+use Rattle.tso_report.proofs.NoFloats.{run_has_no_float}
 use Rattle.trace_json.proofs.traced_run.ended_json.Goals as goal
 
-pub line_of-requires : goal.line_of-requires
-line_of-requires c =
-    ap has_float (view-Object c.in_ok-members-2.members
-    ∙ ap object (c.in_ok-members-2.ensures ∙ ap (with_trace c.args.setup.now.test.now c.args.setup.now.protocol c.args.setup.now.config c.args.choices.now) c.in_ok-members.ensures))
-    ∙ ended_has_no_float c.args.setup.now.test.now c.args.setup.now.protocol c.args.setup.now.config c.args.choices.now (shown_run c.args.run.now)
+pub line_with-requires-clause-members : goal.line_with-requires-clause-members
+line_with-requires-clause-members c =
+    ap members_have_float c.in_ok-members.ensures ∙ run_has_no_float c.args.setup.now.test.now c.args.setup.now.protocol c.args.setup.now.config (shown_run c.args.run.now)
