@@ -1,5 +1,5 @@
 -- What was printed is neither a refusal nor unfinished.
-use Rattle.tso_cli.proofs.Vocabulary.{◌⊎◌, inl, inr, Refused, Unended, IsPrinted}
+use Rattle.tso_cli.proofs.Vocabulary.{inl, inr, Refused, Unended, IsPrinted}
 
 pub refused-is-none : IsPrinted Refused → ⊥
 refused-is-none (inl is) = let no : ⊥ = cc in no
