@@ -1,12 +1,11 @@
 //! A branch of the search: the answers on it, what follows from them, and a trail by which it is undone.
 
-use crate::problem::{Problem, Relations, location, reads, writes};
-use crate::rows::{NONE, add, at, clear, has, join, join_own, put, put_word, row, word};
+use crate::numbers::{NONE, Numbers};
+use crate::problem::{Problem, Relations};
+use crate::rows::Rows;
+use crate::stack::Stack;
 use std::alloc::Global;
 use tso_model::NoMemory;
-
-/// No value is known.
-pub const UNKNOWN: u64 = u64::MAX;
 
 /// An answer: what a read reads from, or that one write comes before another one.
 #[derive(Clone, Copy)]
@@ -23,21 +22,13 @@ pub struct Fact {
     pub edges: usize,
 }
 
-/// How an edge follows from its fact.
-#[derive(Clone, Copy, PartialEq, Eq)]
-pub enum Label {
-    ReadsFrom,
-    Coherence,
-    FromReads,
-}
-
-/// What leads from one event to another one: a fact, and how it follows from it.
+/// What leads from one event to another one: a fact, from which it follows at once or, from a read to a write, by way of its source.
 #[derive(Clone, Copy)]
 pub struct Link {
     pub from: usize,
     pub to: usize,
-    pub label: Label,
     pub fact: usize,
+    pub is_from_read: bool,
 }
 
 /// An edge that answers tell; `next` is another one that leaves the same event.
@@ -48,358 +39,360 @@ pub struct Edge {
     pub next: usize,
 }
 
-/// Why a branch is closed.
+/// What stands where there is no fact.
+const NO_FACT: Fact = Fact {
+    answer: Answer::Before(NONE, NONE),
+    tried: true,
+    edges: 0,
+};
+
+/// What stands where there is no edge.
+const NO_EDGE: Edge = Edge {
+    link: Link {
+        from: NONE,
+        to: NONE,
+        fact: NONE,
+        is_from_read: false,
+    },
+    relations: Relations::Coherence,
+    next: NONE,
+};
+
+/// Whether a branch is closed, and why.
 #[derive(Clone, Copy)]
 pub enum Conflict {
-    /// None is.
     Open,
-    /// This edge closes a cycle.
-    Cycle(Edge),
+    /// The edge with this number closes a cycle.
+    Cycle,
     /// The read has no source left.
-    NoSource(usize),
-    /// What is asked is false by the values of this read, or of this location at the end.
-    False(usize),
+    NoSource,
+    /// What is asked is false by the values of the read, or of the location at the end.
+    False,
+}
+
+/// A change that is undone later.
+#[derive(Clone, Copy)]
+enum Change {
+    /// The word at this place of the rows was this one.
+    Word(usize, u64),
+    /// The last edge that leaves here was this one.
+    Head(usize, usize),
+    Source(usize),
+    Reader(usize),
+    Value(usize),
+    Pair(usize),
+    Removed(usize),
 }
 
 /// Where a branch stood.
 #[derive(Clone, Copy)]
 pub struct Mark {
-    pub trail: usize,
-    pub facts: usize,
-    pub edges: usize,
-    pub removed: usize,
-    pub values: usize,
-    pub excluded: usize,
-    pub next: usize,
-}
-
-/// What the facts say, to be looked up by event or by two of them.
-#[derive(Drop)]
-pub struct Tables {
-    /// The last edge that leaves an event.
-    pub heads: Vec<usize>,
-    /// The fact that says what a read reads from.
-    pub source: Vec<usize>,
-    /// The locked read that reads a write.
-    pub reader: Vec<usize>,
-    /// The values that reads return, and locations have at the end, wherever what is asked is so.
-    pub values: Vec<u64>,
-    /// The fact that says that one write is before another.
-    pub pairs: Vec<usize>,
-    /// How many facts and edges there were when a source was taken from a read.
-    pub removed_facts: Vec<usize>,
-    pub removed_edges: Vec<usize>,
+    trail: usize,
+    facts: usize,
+    edges: usize,
+    excluded: usize,
+    next: usize,
 }
 
 /// A branch.
 #[derive(Drop)]
 pub struct Branch {
-    /// Rows of what is after each event and before it, in each of the relations; then the sources that each read may still have.
-    pub rows: Vec<u64>,
-    /// Places of rows, with the words that stood there before.
-    trail: Vec<(usize, u64)>,
-    trail_length: usize,
-    pub facts: Vec<Fact>,
-    pub edges: Vec<Edge>,
-    pub tables: Tables,
-    pub removed: Vec<usize>,
-    pub valued: Vec<usize>,
+    pub problem: Problem,
+    /// What is after each event in each of the relations, what is before it, and the sources that each read may still have.
+    pub rows: Rows,
+    trail: Stack<Change>,
+    pub facts: Stack<Fact>,
+    pub edges: Stack<Edge>,
+    /// The last edge that leaves an event, in each of the relations.
+    pub heads: Numbers,
+    /// The fact that says what a read reads from.
+    pub source: Numbers,
+    /// The locked read that reads a write.
+    pub reader: Numbers,
+    /// The values that reads return, and locations have at the end, wherever what is asked is so; `NONE` where none is known.
+    pub values: Numbers,
+    /// The fact that says that one write is before another.
+    pairs: Numbers,
+    /// How many facts and edges there were when a source was taken from a read.
+    removed_facts: Numbers,
+    removed_edges: Numbers,
     /// Values that a read must not return.
-    pub excluded: Vec<(usize, u32)>,
-    pub dirty: Vec<u64>,
+    pub excluded: Stack<(usize, u32)>,
+    /// One row: the events that are to be looked at.
+    pub dirty: Rows,
     pub claim_is_dirty: bool,
     pub conflict: Conflict,
+    /// What closes the branch.
+    pub clash: usize,
     /// A read that is asked next, since values that hang on it can't be; `NONE` where there is none. A source makes all be looked at again.
     pub next: usize,
-    /// More would have to be kept than there is room for: the search gives up.
-    pub is_full: bool,
-    /// Memory was refused: the search ends.
-    pub is_refused: bool,
 }
 
-fn relations_index(relations: Relations) -> usize {
-    match relations {
-        Relations::OnLocation => 0,
-        Relations::Global => 2,
-        Relations::Coherence => 4,
+impl Branch {
+    /// The row of what is after an event.
+    pub fn after(&self, relations: Relations, a: usize) -> usize {
+        self.problem.row(relations, a)
     }
-}
 
-/// Where the row begins of what is after an event.
-pub fn after(problem: &Problem, relations: Relations, a: usize) -> usize {
-    let i = relations_index(relations)
-        .wrapping_mul(problem.size)
-        .wrapping_add(a);
-    row(i, problem.width)
-}
-
-/// Where the row begins of what is before an event.
-pub fn before(problem: &Problem, relations: Relations, a: usize) -> usize {
-    let i = relations_index(relations)
-        .wrapping_add(1)
-        .wrapping_mul(problem.size)
-        .wrapping_add(a);
-    row(i, problem.width)
-}
-
-/// Where the row begins of the sources that a read may still have.
-pub fn candidates(problem: &Problem, r: usize) -> usize {
-    row(problem.size.wrapping_mul(6).wrapping_add(r), problem.width)
-}
-
-/// Whether one event is known to be before another one.
-pub fn is_known(
-    problem: &Problem,
-    branch: &Branch,
-    relations: Relations,
-    a: usize,
-    b: usize,
-) -> bool {
-    has(&branch.rows, after(problem, relations, a), b)
-}
-
-/// Where the edges stand that leave an event.
-pub fn head(problem: &Problem, relations: Relations, a: usize) -> usize {
-    let i = relations_index(relations) / 2;
-    i.wrapping_mul(problem.size).wrapping_add(a)
-}
-
-/// Where two events have their place in a table.
-pub fn cell(problem: &Problem, a: usize, b: usize) -> usize {
-    a.wrapping_mul(problem.size).wrapping_add(b)
-}
-
-fn close_over(problem: &Problem, branch: &mut Branch, relations: Relations, edges: &[u64]) {
-    let width = problem.width;
-    for a in 0..problem.size {
-        join(
-            &mut branch.rows,
-            after(problem, relations, a),
-            edges,
-            row(a, width),
-            width,
-        );
+    /// The row of what is before an event.
+    pub fn before(&self, relations: Relations, a: usize) -> usize {
+        self.problem
+            .size
+            .wrapping_mul(3)
+            .wrapping_add(self.problem.row(relations, a))
     }
-    for middle in 0..problem.size {
-        let reached = after(problem, relations, middle);
-        for a in 0..problem.size {
-            if is_known(problem, branch, relations, a, middle) {
-                join_own(
-                    &mut branch.rows,
-                    after(problem, relations, a),
-                    reached,
-                    width,
-                );
-            }
+
+    /// The row of the sources that a read may still have.
+    pub fn candidates(&self, r: usize) -> usize {
+        self.problem.size.wrapping_mul(6).wrapping_add(r)
+    }
+
+    /// Whether one event is known to be before another one.
+    pub fn is_known(&self, relations: Relations, a: usize, b: usize) -> bool {
+        self.rows.has(self.after(relations, a), b)
+    }
+
+    /// Whether the read may still have the source.
+    pub fn is_candidate(&self, r: usize, s: usize) -> bool {
+        self.rows.has(self.candidates(r), s)
+    }
+
+    /// A word of what is after an event.
+    pub fn word_after(&self, relations: Relations, a: usize, k: usize) -> u64 {
+        self.rows.word(self.after(relations, a), k)
+    }
+
+    /// A word of what is before an event.
+    pub fn word_before(&self, relations: Relations, a: usize, k: usize) -> u64 {
+        self.rows.word(self.before(relations, a), k)
+    }
+
+    /// Where two events have their place in a table.
+    fn cell(&self, a: usize, b: usize) -> usize {
+        a.wrapping_mul(self.problem.size).wrapping_add(b)
+    }
+
+    /// The fact that says that one write is before another one.
+    pub fn pair(&self, a: usize, b: usize) -> usize {
+        self.pairs.at(self.cell(a, b))
+    }
+
+    /// How many facts there were when the source was taken from the read; `NONE` where it wasn't.
+    pub fn removed_at(&self, r: usize, s: usize) -> usize {
+        self.removed_facts.at(self.cell(r, s))
+    }
+
+    /// How many edges there were then.
+    pub fn edges_at(&self, r: usize, s: usize) -> usize {
+        self.removed_edges.at(self.cell(r, s))
+    }
+
+    /// A fact by its number.
+    pub fn fact(&self, number: usize) -> Fact {
+        self.facts.at(number, NO_FACT)
+    }
+
+    /// An edge by its number.
+    pub fn edge(&self, number: usize) -> Edge {
+        self.edges.at(number, NO_EDGE)
+    }
+
+    /// The write that a read is known to read from.
+    pub fn source_of(&self, r: usize) -> usize {
+        match self.fact(self.source.at(r)).answer {
+            Answer::Source(_, s) => s,
+            Answer::Before(..) => NONE,
         }
     }
-    for a in 0..problem.size {
-        for b in 0..problem.size {
-            if is_known(problem, branch, relations, a, b) {
-                add(&mut branch.rows, before(problem, relations, b), a);
-            }
-        }
+
+    /// Whether memory was refused.
+    pub fn is_refused(&self) -> bool {
+        self.trail.is_refused()
+            | self.facts.is_refused()
+            | self.edges.is_refused()
+            | self.excluded.is_refused()
     }
 }
 
-fn fill_candidates(problem: &Problem, branch: &mut Branch) {
-    for r in problem.locations..problem.size {
-        let loc = location(problem, r);
-        if reads(problem, r) {
-            let start = candidates(problem, r);
-            let them = row(loc, problem.width);
-            join(
-                &mut branch.rows,
-                start,
-                &problem.writes_to,
-                them,
-                problem.width,
-            );
-            add(&mut branch.rows, start, loc);
-        }
+/// Fills the rows with what the program alone tells.
+fn fill_rows(rows: &mut Rows, problem: &Problem) {
+    let size = problem.size;
+    for row in 0..size.wrapping_mul(3) {
+        rows.join(row, &problem.program, row);
     }
-}
-
-fn fill_initial_order(problem: &Problem, branch: &mut Branch) {
-    for a in problem.locations..problem.size {
-        if writes(problem, a) {
-            let initial = location(problem, a);
-            add(
-                &mut branch.rows,
-                after(problem, Relations::Coherence, initial),
-                a,
-            );
-            add(
-                &mut branch.rows,
-                before(problem, Relations::Coherence, a),
-                initial,
-            );
+    for relations in 0..3usize {
+        let first = relations.wrapping_mul(size);
+        rows.close_over(first, size);
+        rows.turn_over(first, size.wrapping_mul(3).wrapping_add(first), size);
+    }
+    for r in problem.locations..size {
+        let event = problem.event(r);
+        if event.reads {
+            let row = size.wrapping_mul(6).wrapping_add(r);
+            rows.join(row, &problem.writes_to, event.location);
+            rows.add(row, event.location);
         }
     }
 }
 
-/// All is to be looked at.
-pub fn look_at_all(problem: &Problem, branch: &mut Branch) {
-    for a in 0..problem.size {
-        add(&mut branch.dirty, 0, a);
+/// Marks an event as to be looked at.
+pub fn look_at(branch: &mut Branch, a: usize) {
+    branch.dirty.add(0, a);
+}
+
+/// Marks all as to be looked at.
+pub fn look_at_all(branch: &mut Branch) {
+    for a in 0..branch.problem.size {
+        branch.dirty.add(0, a);
     }
     branch.claim_is_dirty = true;
 }
 
-fn make_tables(alloc: Global, problem: &Problem) -> Result<Tables, NoMemory> {
-    let size = problem.size;
-    let cells = cell(problem, size, 0);
-    Ok(Tables {
-        heads: vec![in alloc; NONE; size.wrapping_mul(3)]?,
-        source: vec![in alloc; NONE; size]?,
-        reader: vec![in alloc; NONE; size]?,
-        values: vec![in alloc; UNKNOWN; size]?,
-        pairs: vec![in alloc; NONE; cells]?,
-        removed_facts: vec![in alloc; NONE; cells]?,
-        removed_edges: vec![in alloc; NONE; cells]?,
-    })
-}
-
-fn start(problem: &Problem, branch: &mut Branch) {
-    close_over(problem, branch, Relations::OnLocation, &problem.on_location);
-    close_over(problem, branch, Relations::Global, &problem.global);
-    fill_initial_order(problem, branch);
-    fill_candidates(problem, branch);
-    look_at_all(problem, branch);
+/// Marks what reads a location as to be looked at.
+pub fn look_at_readers(branch: &mut Branch, loc: usize) {
+    branch.dirty.join(0, &branch.problem.readers_of, loc);
 }
 
 /// A branch with no answer.
 ///
 /// Errors: out of memory only.
-pub fn make_branch(alloc: Global, problem: &Problem) -> Result<Branch, NoMemory> {
-    let cells = cell(problem, problem.size, 0);
-    let most = row(problem.size.wrapping_mul(7), problem.width);
+pub fn make_branch(alloc: Global, problem: Problem) -> Result<Branch, NoMemory> {
+    let size = problem.size;
+    let cells = size.wrapping_mul(size);
+    let mut rows = Rows::new(alloc, size.wrapping_mul(7), size)?;
+    fill_rows(&mut rows, &problem);
     let mut branch = Branch {
-        tables: make_tables(alloc, problem)?,
-        rows: vec![in alloc; 0u64; most]?,
-        trail: vec![in alloc; (NONE, 0u64); cells.wrapping_mul(2).wrapping_add(1024)]?,
-        trail_length: 0,
-        dirty: vec![in alloc; 0u64; problem.width]?,
-        facts: Vec::new(alloc),
-        edges: Vec::new(alloc),
-        removed: Vec::new(alloc),
-        valued: Vec::new(alloc),
-        excluded: Vec::new(alloc),
+        problem,
+        rows,
+        trail: Stack::new(alloc),
+        facts: Stack::new(alloc),
+        edges: Stack::new(alloc),
+        heads: Numbers::new(alloc, size.wrapping_mul(3), NONE)?,
+        source: Numbers::new(alloc, size, NONE)?,
+        reader: Numbers::new(alloc, size, NONE)?,
+        values: Numbers::new(alloc, size, NONE)?,
+        pairs: Numbers::new(alloc, cells, NONE)?,
+        removed_facts: Numbers::new(alloc, cells, NONE)?,
+        removed_edges: Numbers::new(alloc, cells, NONE)?,
+        excluded: Stack::new(alloc),
+        dirty: Rows::new(alloc, 1, size)?,
         claim_is_dirty: true,
         conflict: Conflict::Open,
+        clash: NONE,
         next: NONE,
-        is_full: false,
-        is_refused: false,
     };
-    start(problem, &mut branch);
+    look_at_all(&mut branch);
     Ok(branch)
+}
+
+/// The branch is closed. False, as what closes it.
+pub fn close(branch: &mut Branch, conflict: Conflict, clash: usize) -> bool {
+    branch.conflict = conflict;
+    branch.clash = clash;
+    false
 }
 
 /// Where the branch stands.
 pub fn mark_here(branch: &Branch) -> Mark {
     Mark {
-        trail: branch.trail_length,
+        trail: branch.trail.len(),
         facts: branch.facts.len(),
         edges: branch.edges.len(),
-        removed: branch.removed.len(),
-        values: branch.valued.len(),
         excluded: branch.excluded.len(),
         next: branch.next,
     }
 }
 
-fn undo_rows(branch: &mut Branch, mark: &Mark) {
-    for _step in mark.trail..branch.trail_length {
-        branch.trail_length = branch.trail_length.wrapping_sub(1);
-        if let Some((place, bits)) = branch.trail.get(branch.trail_length).copied() {
-            put_word(&mut branch.rows, place, bits);
-        }
-    }
-}
-
-fn undo_edges(problem: &Problem, branch: &mut Branch, mark: &Mark) {
-    for _step in mark.edges..branch.edges.len() {
-        if let Some(edge) = branch.edges.pop() {
-            put(
-                &mut branch.tables.heads,
-                head(problem, edge.relations, edge.link.from),
-                edge.next,
-            );
-        }
-    }
-}
-
-fn undo_facts(problem: &Problem, branch: &mut Branch, mark: &Mark) {
-    for _step in mark.facts..branch.facts.len() {
-        if let Some(fact) = branch.facts.pop() {
-            match fact.answer {
-                Answer::Source(r, w) => {
-                    put(&mut branch.tables.source, r, NONE);
-                    if at(&branch.tables.reader, w) == r {
-                        put(&mut branch.tables.reader, w, NONE);
-                    }
-                }
-                Answer::Before(a, b) => put(&mut branch.tables.pairs, cell(problem, a, b), NONE),
-            }
-        }
-    }
-}
-
-fn undo_values(branch: &mut Branch, mark: &Mark) {
-    for _step in mark.removed..branch.removed.len() {
-        if let Some(place) = branch.removed.pop() {
-            put(&mut branch.tables.removed_facts, place, NONE);
-        }
-    }
-    for _step in mark.values..branch.valued.len() {
-        if let Some(r) = branch.valued.pop() {
-            put_word(&mut branch.tables.values, r, UNKNOWN);
-        }
-    }
-    for _step in mark.excluded..branch.excluded.len() {
-        let _last = branch.excluded.pop();
+fn undo_one(branch: &mut Branch, change: Change) {
+    match change {
+        Change::Word(place, bits) => branch.rows.put_at(place, bits),
+        Change::Head(place, edge) => branch.heads.put(place, edge),
+        Change::Source(r) => branch.source.put(r, NONE),
+        Change::Reader(w) => branch.reader.put(w, NONE),
+        Change::Value(r) => branch.values.put(r, NONE),
+        Change::Pair(place) => branch.pairs.put(place, NONE),
+        Change::Removed(place) => branch.removed_facts.put(place, NONE),
     }
 }
 
 /// Goes back to where the branch stood.
-pub fn undo(problem: &Problem, branch: &mut Branch, mark: &Mark) {
-    undo_rows(branch, mark);
-    undo_edges(problem, branch, mark);
-    undo_facts(problem, branch, mark);
-    undo_values(branch, mark);
-    clear(&mut branch.dirty, 0, problem.width);
+pub fn undo(branch: &mut Branch, mark: &Mark) {
+    for _change in mark.trail..branch.trail.len() {
+        let change = branch.trail.pop(Change::Removed(NONE));
+        undo_one(branch, change);
+    }
+    branch.facts.cut(mark.facts);
+    branch.edges.cut(mark.edges);
+    branch.excluded.cut(mark.excluded);
+    branch.dirty.clear(0);
     branch.claim_is_dirty = false;
     branch.conflict = Conflict::Open;
     branch.next = mark.next;
 }
 
-/// Writes a word of a row, so that it is undone later.
-pub fn change(branch: &mut Branch, place: usize, bits: u64) {
-    let old = word(&branch.rows, place);
-    match branch.trail.get_mut(branch.trail_length) {
-        Some(kept) => *kept = (place, old),
-        None => {
-            branch.is_full = true;
-            return;
-        }
+/// Writes a word of a row.
+pub fn change_word(branch: &mut Branch, row: usize, k: usize, bits: u64) {
+    let old = branch.rows.word(row, k);
+    let place = branch.rows.place(row, k);
+    branch.trail.push(Change::Word(place, old));
+    branch.rows.put_at(place, bits);
+}
+
+/// Notes that an edge is the last one that leaves its event.
+pub fn put_head(branch: &mut Branch, place: usize, edge: usize) {
+    let old = branch.heads.at(place);
+    branch.trail.push(Change::Head(place, old));
+    branch.heads.put(place, edge);
+}
+
+/// Adds a fact, and gives its number.
+fn add_fact(branch: &mut Branch, answer: Answer, tried: bool) -> usize {
+    let number = branch.facts.len();
+    branch.facts.push(Fact {
+        answer,
+        tried,
+        edges: branch.edges.len(),
+    });
+    number
+}
+
+/// Adds the fact that a read reads from a write, and gives its number.
+pub fn add_source(branch: &mut Branch, r: usize, w: usize, tried: bool) -> usize {
+    let fact = add_fact(branch, Answer::Source(r, w), tried);
+    branch.trail.push(Change::Source(r));
+    branch.source.put(r, fact);
+    fact
+}
+
+/// Adds the fact that one write is before another one, and gives its number.
+pub fn add_order(branch: &mut Branch, a: usize, b: usize, tried: bool) -> usize {
+    let fact = add_fact(branch, Answer::Before(a, b), tried);
+    let place = branch.cell(a, b);
+    branch.trail.push(Change::Pair(place));
+    branch.pairs.put(place, fact);
+    fact
+}
+
+/// Notes the first locked read that reads a write.
+pub fn add_reader(branch: &mut Branch, w: usize, r: usize) {
+    if branch.reader.at(w) == NONE {
+        branch.trail.push(Change::Reader(w));
+        branch.reader.put(w, r);
     }
-    branch.trail_length = branch.trail_length.wrapping_add(1);
-    put_word(&mut branch.rows, place, bits);
 }
 
-/// Marks the events of a word as to be looked at.
-pub fn look_at(branch: &mut Branch, a: usize) {
-    add(&mut branch.dirty, 0, a);
+/// Notes that a read can't have this source.
+pub fn note_removed(branch: &mut Branch, r: usize, s: usize) {
+    let place = branch.cell(r, s);
+    branch.trail.push(Change::Removed(place));
+    branch.removed_facts.put(place, branch.facts.len());
+    branch.removed_edges.put(place, branch.edges.len());
 }
 
-/// Marks what reads a location as to be looked at.
-pub fn look_at_readers(problem: &Problem, branch: &mut Branch, loc: usize) {
-    let them = row(loc, problem.width);
-    join(
-        &mut branch.dirty,
-        0,
-        &problem.readers_of,
-        them,
-        problem.width,
-    );
+/// Notes what a read returns, or a location has at the end.
+pub fn note_value(branch: &mut Branch, r: usize, value: usize) {
+    branch.trail.push(Change::Value(r));
+    branch.values.put(r, value);
+    look_at(branch, r);
+    branch.claim_is_dirty = true;
 }

@@ -1,113 +1,132 @@
 //! Edges that answers tell, and what is before what by chains of them.
 
 use crate::branch::{
-    Answer, Branch, Conflict, Edge, Label, Link, after, before, cell, change, head, is_known,
-    look_at, look_at_readers,
+    Branch, Conflict, Edge, Link, add_order, change_word, close, look_at, look_at_readers, put_head,
 };
-use crate::notes::note;
-use crate::problem::{Problem, Relations, is_initial, location};
-use crate::rows::{at, bit, lowest, put, rest, row, word};
+use crate::problem::Relations;
+use crate::rows::{bit, lowest, rest};
 
-fn spread_one(
-    problem: &Problem,
-    branch: &mut Branch,
-    start: usize,
-    added: usize,
+/// A row, and a number that belongs to it as well.
+#[derive(Clone, Copy)]
+struct Ends {
+    row: usize,
     also: usize,
-) -> bool {
+}
+
+/// A word of a row, with the number that belongs to it.
+fn word_of(branch: &Branch, ends: Ends, k: usize) -> u64 {
+    let own = if k == ends.also / 64 {
+        bit(ends.also)
+    } else {
+        0
+    };
+    branch.rows.word(ends.row, k) | own
+}
+
+/// Adds to a row all of these. Whether any is new.
+fn widen(branch: &mut Branch, row: usize, added: Ends) -> bool {
     let mut changed = false;
-    for k in 0..problem.width {
-        let place = start.wrapping_add(k);
-        let old = word(&branch.rows, place);
-        let own = if k == also / 64 { bit(also) } else { 0 };
-        let new = old | word(&branch.rows, added.wrapping_add(k)) | own;
+    for k in 0..branch.problem.width {
+        let old = branch.rows.word(row, k);
+        let new = old | word_of(branch, added, k);
         if new != old {
-            change(branch, place, new);
+            change_word(branch, row, k, new);
             changed = true;
         }
     }
     changed
 }
 
-/// What is before a gets all that is after b, and the other way round.
-fn spread(problem: &Problem, branch: &mut Branch, relations: Relations, a: usize, b: usize) {
-    for k in 0..problem.width {
-        let mut left = word(&branch.rows, before(problem, relations, a).wrapping_add(k));
-        if k == a / 64 {
-            left |= bit(a);
-        }
-        for _bit in 0..64u8 {
+/// Widens the rows of some events, which stand from `first` on.
+fn widen_each(branch: &mut Branch, some: Ends, first: usize, added: Ends) {
+    for k in 0..branch.problem.width {
+        let mut left = word_of(branch, some, k);
+        for _event in 0..64u8 {
             if left == 0 {
                 break;
             }
-            let x = row(k, 64).wrapping_add(lowest(left));
+            let x = lowest(k, left);
             left = rest(left);
-            let start = after(problem, relations, x);
-            if spread_one(problem, branch, start, after(problem, relations, b), b) {
-                look_at(branch, x);
-            }
-        }
-    }
-    for k in 0..problem.width {
-        let mut left = word(&branch.rows, after(problem, relations, b).wrapping_add(k));
-        if k == b / 64 {
-            left |= bit(b);
-        }
-        for _bit in 0..64u8 {
-            if left == 0 {
-                break;
-            }
-            let x = row(k, 64).wrapping_add(lowest(left));
-            left = rest(left);
-            let start = before(problem, relations, x);
-            if spread_one(problem, branch, start, before(problem, relations, a), a) {
+            if widen(branch, first.wrapping_add(x), added) {
                 look_at(branch, x);
             }
         }
     }
 }
 
+/// What is before a gets all that is after b, and the other way round.
+fn spread(branch: &mut Branch, relations: Relations, a: usize, b: usize) {
+    let earlier = Ends {
+        row: branch.before(relations, a),
+        also: a,
+    };
+    let later = Ends {
+        row: branch.after(relations, b),
+        also: b,
+    };
+    let first_after = branch.after(relations, 0);
+    let first_before = branch.before(relations, 0);
+    widen_each(branch, earlier, first_after, later);
+    widen_each(branch, later, first_before, earlier);
+}
+
 /// Adds an edge, and what follows. False where it closes a cycle.
-pub fn add_edge(problem: &Problem, branch: &mut Branch, relations: Relations, link: Link) -> bool {
+pub fn add_edge(branch: &mut Branch, relations: Relations, link: Link) -> bool {
     let Link { from: a, to: b, .. } = link;
-    if is_known(problem, branch, relations, a, b) {
+    if branch.is_known(relations, a, b) {
         return true;
     }
-    let place = head(problem, relations, a);
+    let place = branch.problem.row(relations, a);
     let edge = Edge {
         link,
         relations,
-        next: at(&branch.tables.heads, place),
+        next: branch.heads.at(place),
     };
-    if a == b || is_known(problem, branch, relations, b, a) {
-        branch.conflict = Conflict::Cycle(edge);
-        return false;
-    }
     let number = branch.edges.len();
-    branch.is_refused |= branch.edges.push(edge).is_err();
-    put(&mut branch.tables.heads, place, number);
-    spread(problem, branch, relations, a, b);
-    if relations == Relations::Coherence {
-        look_at_readers(problem, branch, location(problem, a));
+    branch.edges.push(edge);
+    if a == b || branch.is_known(relations, b, a) {
+        return close(branch, Conflict::Cycle, number);
+    }
+    put_head(branch, place, number);
+    spread(branch, relations, a, b);
+    if matches!(relations, Relations::Coherence) {
+        let loc = branch.problem.location(a);
+        look_at_readers(branch, loc);
     }
     true
 }
 
+/// Adds an edge of both relations. False where it closes a cycle.
+pub fn add_edges(branch: &mut Branch, link: Link) -> bool {
+    add_edge(branch, Relations::OnLocation, link) && add_edge(branch, Relations::Global, link)
+}
+
 /// One write comes before another one. False where that closes a cycle.
-pub fn put_before(problem: &Problem, branch: &mut Branch, a: usize, b: usize, tried: bool) -> bool {
-    if is_initial(problem, a) || is_known(problem, branch, Relations::Coherence, a, b) {
+pub fn put_before(branch: &mut Branch, a: usize, b: usize, tried: bool) -> bool {
+    if branch.problem.is_initial(a) || branch.is_known(Relations::Coherence, a, b) {
         return true;
     }
-    let fact = note(branch, Answer::Before(a, b), tried);
-    put(&mut branch.tables.pairs, cell(problem, a, b), fact);
-
     let link = Link {
         from: a,
         to: b,
-        label: Label::Coherence,
-        fact,
+        fact: add_order(branch, a, b, tried),
+        is_from_read: false,
     };
-    add_edge(problem, branch, Relations::Coherence, link)
-        && add_edge(problem, branch, Relations::OnLocation, link)
-        && add_edge(problem, branch, Relations::Global, link)
+    add_edge(branch, Relations::Coherence, link) && add_edges(branch, link)
+}
+
+/// Writes to one location stand in coherence as they stand in their program.
+pub fn put_program_order(branch: &mut Branch) {
+    for a in branch.problem.locations..branch.problem.size {
+        let event = branch.problem.event(a);
+        let row = branch.problem.row(Relations::OnLocation, a);
+        for b in a..branch.problem.size {
+            if event.writes
+                && branch.problem.is_write_to(event.location, b)
+                && branch.problem.program.has(row, b)
+            {
+                let _open = put_before(branch, a, b, false);
+            }
+        }
+    }
 }

@@ -1,189 +1,247 @@
 //! The tree of a refutation while it grows: each node with its first branch, and with the node of the next branch beside it.
 
 use crate::evidence::{Closing, Evidence};
-use crate::problem::{Problem, event};
-use crate::rows::{NONE, at};
+use crate::numbers::{List, NONE};
+use crate::problem::Problem;
+use crate::stack::Stack;
 use refutations::Node;
 use std::alloc::Global;
+use std::mem::swap;
 use tso_model::{Entry, NoMemory};
 
 /// What stands at a node.
-#[derive(Clone, Copy, PartialEq, Eq)]
+#[derive(Clone, Copy)]
 pub enum Growth {
-    ReadsFrom,
-    ComesFirst,
-    OnLocation,
-    Global,
-    Between,
+    /// The read.
+    ReadsFrom(usize),
+    /// Both writes.
+    ComesFirst(usize, usize),
+    /// Where the cycle begins, and how long it is.
+    OnLocation(usize, usize),
+    Global(usize, usize),
+    /// The load part, the write between, and the store part.
+    Between(usize, usize, usize),
     False,
 }
 
-/// A node: of a question the events that it names, of a leaf where its cycle stands and how long it is, or its events.
+/// A node.
 #[derive(Clone, Copy)]
 pub struct Twig {
-    pub growth: Growth,
-    pub first: usize,
-    pub second: usize,
-    pub third: usize,
+    growth: Growth,
     /// Its first branch.
-    pub child: usize,
+    child: usize,
     /// The next branch of the node above.
-    pub beside: usize,
-    pub leaves: usize,
+    beside: usize,
+    leaves: usize,
 }
 
 /// Nodes, and the events of their cycles.
 #[derive(Drop)]
 pub struct Trees {
-    pub twigs: Vec<Twig>,
-    pub events: Vec<usize>,
-    /// Memory was refused: the search ends.
-    pub is_refused: bool,
+    twigs: Stack<Twig>,
+    events: Stack<usize>,
 }
 
 /// No nodes.
 pub fn no_trees(alloc: Global) -> Trees {
     Trees {
-        twigs: Vec::new(alloc),
-        events: Vec::new(alloc),
-        is_refused: false,
+        twigs: Stack::new(alloc),
+        events: Stack::new(alloc),
     }
 }
 
-fn add_twig(trees: &mut Trees, growth: Growth, first: usize, second: usize, third: usize) -> usize {
+/// Takes all nodes away.
+pub fn clear_trees(trees: &mut Trees) {
+    trees.twigs.cut(0);
+    trees.events.cut(0);
+}
+
+/// Whether memory was refused.
+pub fn are_refused(trees: &Trees) -> bool {
+    trees.twigs.is_refused() | trees.events.is_refused()
+}
+
+fn add_twig(trees: &mut Trees, growth: Growth, leaves: usize) -> usize {
     let number = trees.twigs.len();
-    let twig = Twig {
+    trees.twigs.push(Twig {
         growth,
-        first,
-        second,
-        third,
         child: NONE,
         beside: NONE,
-        leaves: 1,
-    };
-    if trees.twigs.push(twig).is_err() {
+        leaves,
+    });
+    if trees.twigs.is_refused() {
         // A number that the next twig will have must not be handed out: trees would grow into themselves.
-        trees.is_refused = true;
         return NONE;
     }
     number
 }
 
 /// A question with no branch yet.
-pub fn add_question(trees: &mut Trees, growth: Growth, first: usize, second: usize) -> usize {
-    let number = add_twig(trees, growth, first, second, NONE);
-    if let Some(twig) = trees.twigs.get_mut(number) {
-        twig.leaves = 0;
-    }
-    number
+pub fn add_question(trees: &mut Trees, growth: Growth) -> usize {
+    add_twig(trees, growth, 0)
 }
 
-/// How many leaves a tree has.
-pub fn leaves_of(trees: &Trees, number: usize) -> usize {
-    match trees.twigs.get(number) {
-        None => 0,
-        Some(twig) => twig.leaves,
-    }
+/// A leaf.
+pub fn add_leaf(trees: &mut Trees, growth: Growth) -> usize {
+    add_twig(trees, growth, 1)
 }
 
-/// Puts a branch before the branches of a question.
-pub fn put_branch(trees: &mut Trees, question: usize, branch: usize) {
-    let leaves = leaves_of(trees, branch);
-    let mut next = NONE;
-    if let Some(above) = trees.twigs.get_mut(question) {
-        next = above.child;
-        above.child = branch;
-        above.leaves = above.leaves.wrapping_add(leaves);
+fn add_events(events: &mut Stack<usize>, cycle: &List) {
+    for i in 0..cycle.len() {
+        events.push(cycle.at(i));
     }
-    if let Some(twig) = trees.twigs.get_mut(branch) {
-        twig.beside = next;
-    }
-}
-
-/// A leaf of three events.
-pub fn add_between(trees: &mut Trees, r: usize, v: usize, w: usize) -> usize {
-    add_twig(trees, Growth::Between, r, v, w)
-}
-
-/// A leaf by which what is asked is false.
-pub fn add_false(trees: &mut Trees) -> usize {
-    add_twig(trees, Growth::False, NONE, NONE, NONE)
 }
 
 /// A leaf of a cycle.
 pub fn add_cycle(trees: &mut Trees, evidence: &Evidence) -> usize {
     let start = trees.events.len();
-    for i in 0..evidence.cycle_length {
-        trees.is_refused |= trees.events.push(at(&evidence.cycle, i)).is_err();
-    }
-    let growth = if evidence.closing == Closing::Global {
-        Growth::Global
+    let length = evidence.cycle.len();
+    add_events(&mut trees.events, &evidence.cycle);
+    if matches!(evidence.closing, Closing::Global) {
+        add_leaf(trees, Growth::Global(start, length))
     } else {
-        Growth::OnLocation
-    };
-    add_twig(trees, growth, start, evidence.cycle_length, NONE)
+        add_leaf(trees, Growth::OnLocation(start, length))
+    }
 }
 
-/// An event as a tree names it.
-fn named(problem: &Problem, a: usize) -> Entry {
-    event(problem, a)
+/// What stands where there is no node.
+const NO_TWIG: Twig = Twig {
+    growth: Growth::False,
+    child: NONE,
+    beside: NONE,
+    leaves: 0,
+};
+
+/// How many leaves a tree has.
+pub fn leaves_of(trees: &Trees, number: usize) -> usize {
+    trees.twigs.at(number, NO_TWIG).leaves
 }
 
+/// Puts a branch before the branches of a question.
+pub fn put_branch(trees: &mut Trees, question: usize, branch: usize) {
+    let above = trees.twigs.at(question, NO_TWIG);
+    let below = trees.twigs.at(branch, NO_TWIG);
+    trees.twigs.put(
+        branch,
+        Twig {
+            beside: above.child,
+            ..below
+        },
+    );
+    trees.twigs.put(
+        question,
+        Twig {
+            child: branch,
+            leaves: above.leaves.wrapping_add(below.leaves),
+            ..above
+        },
+    );
+}
+
+/// The events of a cycle.
 fn cycle_of(
     alloc: Global,
     problem: &Problem,
-    trees: &Trees,
-    twig: &Twig,
+    events: &Stack<usize>,
+    start: usize,
+    length: usize,
 ) -> Result<Vec<Entry>, NoMemory> {
-    let mut cycle = Vec::new(alloc);
-    for i in 0..twig.second {
-        cycle.push(named(problem, at(&trees.events, twig.first.wrapping_add(i))))?;
+    let mut cycle = Stack::new(alloc);
+    for i in 0..length {
+        let a = events.at(start.wrapping_add(i), NONE);
+        cycle.push(problem.event(a).entry);
     }
-    Ok(cycle)
+    cycle.into_items()
 }
 
-fn node_of(alloc: Global, problem: &Problem, trees: &Trees, twig: &Twig) -> Result<Node, NoMemory> {
-    match twig.growth {
-        Growth::ReadsFrom => Ok(Node::ReadsFrom(named(problem, twig.first))),
-        Growth::ComesFirst => {
-            Ok(Node::ComesFirst(named(problem, twig.first), named(problem, twig.second)))
-        }
-        Growth::OnLocation => Ok(Node::OnLocation(cycle_of(alloc, problem, trees, twig)?)),
-        Growth::Global => Ok(Node::Globally(cycle_of(alloc, problem, trees, twig)?)),
-        Growth::Between => Ok(Node::Between(
-            named(problem, twig.first),
-            named(problem, twig.second),
-            named(problem, twig.third),
-        )),
-        Growth::False => Ok(Node::FalseClaim),
-    }
-}
-
-/// The nodes of a tree, each before its branches.
-///
-/// Errors: out of memory only.
-pub fn list_nodes(
+/// What stands at a node, as a refutation has it.
+fn node_of(
     alloc: Global,
     problem: &Problem,
     trees: &Trees,
-    root: usize,
-) -> Result<Vec<Node>, NoMemory> {
-    let mut nodes = Vec::new(alloc);
-    let mut open = Vec::new(alloc);
-    open.push(root)?;
-    for _node in 0..u64::MAX {
-        let Some(number) = open.pop() else {
-            break;
-        };
-        if let Some(twig) = trees.twigs.get(number).copied() {
-            nodes.push(node_of(alloc, problem, trees, &twig)?)?;
-            if twig.beside != NONE {
-                open.push(twig.beside)?;
-            }
-            if twig.child != NONE {
-                open.push(twig.child)?;
-            }
+    growth: Growth,
+) -> Result<Node, NoMemory> {
+    let entry = |a: usize| problem.event(a).entry;
+    Ok(match growth {
+        Growth::ReadsFrom(r) => Node::ReadsFrom(entry(r)),
+        Growth::ComesFirst(a, b) => Node::ComesFirst(entry(a), entry(b)),
+        Growth::OnLocation(start, length) => {
+            Node::OnLocation(cycle_of(alloc, problem, &trees.events, start, length)?)
+        }
+        Growth::Global(start, length) => {
+            Node::Globally(cycle_of(alloc, problem, &trees.events, start, length)?)
+        }
+        Growth::Between(r, v, w) => Node::Between(entry(r), entry(v), entry(w)),
+        Growth::False => Node::FalseClaim,
+    })
+}
+
+/// A tree that is proposed, and its nodes that aren't taken yet but for what stands below them.
+#[derive(Drop)]
+pub struct Proposal {
+    trees: Trees,
+    open: Stack<usize>,
+}
+
+impl Proposal {
+    /// No tree.
+    pub fn none(alloc: Global) -> Proposal {
+        Proposal {
+            trees: no_trees(alloc),
+            open: Stack::new(alloc),
         }
     }
-    Ok(nodes)
+
+    /// Whether memory was refused.
+    pub fn is_refused(&self) -> bool {
+        are_refused(&self.trees) | self.open.is_refused()
+    }
+
+    /// Whether all nodes are taken.
+    pub fn is_taken(&self) -> bool {
+        self.open.len() == 0
+    }
+
+    /// Forgets the nodes that aren't taken yet.
+    pub fn forget(&mut self) {
+        self.open.cut(0);
+    }
+
+    /// Proposes the tree that starts here, and gives back those that stood here before.
+    pub fn propose(&mut self, trees: &mut Trees, root: usize) {
+        swap(&mut self.trees, trees);
+        self.open.cut(0);
+        self.open.push(root);
+    }
+
+    /// Takes a node, and opens those that stand behind it.
+    fn take(&mut self) -> Growth {
+        let number = self.open.pop(NONE);
+        let twig = self.trees.twigs.at(number, NO_TWIG);
+        if twig.beside != NONE {
+            self.open.push(twig.beside);
+        }
+        if twig.child != NONE {
+            self.open.push(twig.child);
+        }
+        twig.growth
+    }
+}
+
+/// The next node of the tree that is proposed, where these are still to be taken, each before its branches.
+///
+/// Errors: out of memory only.
+pub fn next_node(
+    alloc: Global,
+    problem: &Problem,
+    proposal: &mut Proposal,
+) -> Result<Option<Node>, NoMemory> {
+    if proposal.is_taken() {
+        return Ok(None);
+    }
+    let growth = proposal.take();
+    if proposal.is_refused() {
+        return Err(NoMemory);
+    }
+    Ok(Some(node_of(alloc, problem, &proposal.trees, growth)?))
 }

@@ -1,49 +1,34 @@
 //! The search: questions are asked, what follows is noted, and where a branch is closed its tree is made and the next answer tried.
 //! An answer that its tree doesn't use is no question: the tree stands in its place.
 
-use crate::branch::{Branch, Mark, look_at_all, make_branch, mark_here, undo};
-use crate::case::{case_of, ordered};
-use crate::choosing::{Ask, choose, lateness, list_sources};
-use crate::edges::put_before;
+use crate::branch::{Branch, Mark, look_at, look_at_all, make_branch, mark_here, undo};
+use crate::chance::{Chance, first_chance};
+use crate::choosing::{Ask, choose};
+use crate::edges::{put_before, put_program_order};
+use crate::growing::clear_trees;
 use crate::looking::{deduce, put_source};
+use crate::numbers::NONE;
 use crate::offers::{Desk, make_desk};
-use crate::problem::{Problem, location, writes};
-use crate::reasoning::{add_conflict, add_order_question, add_source_question, wrap};
-use crate::rows::{NONE, at, clear, has, join, put, remove, row};
+use crate::problem::Problem;
+use crate::questions::{Frame, Questions, begin, no_frame};
+use crate::reasoning::{add_conflict, add_source_question, add_tried_order, wrap};
+use crate::wanted::want_asked;
 use std::alloc::Global;
-use tso_model::{NoMemory, Test};
-
-/// A question that is asked on the branch.
-#[derive(Clone, Copy)]
-pub struct Frame {
-    pub ask: Ask,
-    pub mark: Mark,
-    /// Where the answers begin that are still to be tried.
-    pub answers: usize,
-    /// The answer that is tried, with its fact.
-    pub answer: usize,
-    pub fact: usize,
-    /// Where the trees begin of those that were tried.
-    pub trees: usize,
-}
+use tso_model::NoMemory;
 
 /// A search.
 #[derive(Drop)]
 pub struct Hunt {
     pub branch: Branch,
     pub desk: Desk,
-    frames: Vec<Frame>,
-    answers: Vec<usize>,
-    /// Answers that were tried, each with its tree.
-    tried: Vec<(usize, usize)>,
-    /// For each question the facts that its trees use.
-    used: Vec<u64>,
-    used_width: usize,
+    questions: Questions,
+    /// Where the branch stood before the first question.
+    start: Mark,
     /// How many cases were looked at.
-    pub cases: u64,
-    pub pause: u64,
-    round: u64,
-    seed: u64,
+    pub cases: usize,
+    pause: usize,
+    round: usize,
+    chance: Chance,
 }
 
 /// What a search found.
@@ -57,115 +42,54 @@ pub enum Find {
     Paused,
 }
 
-/// A search that hasn't begun.
-///
-/// Errors: out of memory only.
-pub fn make_hunt(alloc: Global, problem: &Problem) -> Result<Hunt, NoMemory> {
+/// How many facts a branch may have.
+fn most_facts(problem: &Problem) -> usize {
     let mut most = problem.size.wrapping_mul(2);
     for a in problem.locations..problem.size {
         for b in a..problem.size {
-            if writes(problem, a)
-                && writes(problem, b)
-                && location(problem, a) == location(problem, b)
-            {
+            if problem.event(a).writes && problem.is_write_to(problem.location(a), b) {
                 most = most.wrapping_add(1);
             }
         }
     }
-    let mut hunt = Hunt {
-        branch: make_branch(alloc, problem)?,
-        desk: make_desk(alloc, problem, most)?,
-        frames: Vec::new(alloc),
-        answers: Vec::new(alloc),
-        tried: Vec::new(alloc),
-        used: Vec::new(alloc),
-        used_width: most / 64 + 1,
+    most
+}
+
+/// A search that hasn't begun.
+///
+/// Errors: out of memory only.
+pub fn make_hunt(alloc: Global, problem: Problem) -> Result<Hunt, NoMemory> {
+    let most = most_facts(&problem);
+    let desk = make_desk(alloc, problem.size, most)?;
+    let mut branch = make_branch(alloc, problem)?;
+    put_program_order(&mut branch);
+    let start = mark_here(&branch);
+    Ok(Hunt {
+        branch,
+        desk,
+        questions: Questions::none(alloc),
+        start,
         cases: 0,
         pause: 0,
         round: 0,
-        seed: 1,
-    };
-    put_program_order(problem, &mut hunt.branch);
-    Ok(hunt)
+        chance: first_chance(),
+    })
 }
 
-/// Writes to one location stand in coherence as they stand in their program.
-fn put_program_order(problem: &Problem, branch: &mut Branch) {
-    for a in problem.locations..problem.size {
-        for b in a..problem.size {
-            if writes(problem, a)
-                && writes(problem, b)
-                && has(&problem.on_location, row(a, problem.width), b)
-            {
-                let _open = put_before(problem, branch, a, b, false);
-            }
-        }
-    }
+/// Whether memory was refused.
+pub fn is_refused(hunt: &Hunt) -> bool {
+    hunt.branch.is_refused() | hunt.desk.is_refused() | hunt.questions.is_refused()
 }
 
-pub fn random(hunt: &mut Hunt) -> u64 {
-    let mut seed = hunt.seed;
-    seed ^= seed.wrapping_mul(8192);
-    seed ^= seed / 128;
-    seed ^= seed.wrapping_mul(131_072);
-    hunt.seed = seed;
-    seed / 2048
-}
-
-/// Puts another answer first, now and then.
-fn shuffle(hunt: &mut Hunt, start: usize) {
-    let several = hunt.answers.len().wrapping_sub(start);
-    if hunt.round == 0 || several < 2 || random(hunt) % 8 != 0 {
-        return;
-    }
-    let last = hunt.answers.len().wrapping_sub(1);
-    let number = random(hunt);
-    let other = start.wrapping_add((number % (several.max(1) as u64)) as usize);
-    let one = at(&hunt.answers, last);
-    let two = at(&hunt.answers, other);
-    put(&mut hunt.answers, last, two);
-    put(&mut hunt.answers, other, one);
-}
-
-/// Begins a question.
-fn begin(problem: &Problem, hunt: &mut Hunt, test: &Test, ask: Ask) {
-    let start = hunt.answers.len();
+/// Puts an answer on the branch. False where that closes it.
+fn put_answer(branch: &mut Branch, ask: Ask, answer: usize) -> bool {
     match ask {
-        Ask::Source(r) => {
-            let listed = list_sources(case_of(problem, &hunt.branch, test), r, &mut hunt.answers);
-            hunt.branch.is_refused |= !listed;
-            shuffle(hunt, start);
-        }
-        Ask::Order(a, b) => {
-            let case = case_of(problem, &hunt.branch, test);
-            let late = lateness(case, a) > lateness(case, b);
-            hunt.branch.is_refused |= hunt.answers.push(if late { 0 } else { 1 }).is_err();
-            hunt.branch.is_refused |= hunt.answers.push(if late { 1 } else { 0 }).is_err();
-        }
-        Ask::Nothing => {}
-    }
-    for _word in 0..hunt.used_width {
-        hunt.branch.is_refused |= hunt.used.push(0).is_err();
-    }
-    let frame = Frame {
-        ask,
-        mark: mark_here(&hunt.branch),
-        answers: start,
-        answer: NONE,
-        fact: NONE,
-        trees: hunt.tried.len(),
-    };
-    hunt.branch.is_refused |= hunt.frames.push(frame).is_err();
-}
-
-fn put_answer(problem: &Problem, branch: &mut Branch, ask: Ask, answer: usize) -> bool {
-    match ask {
-        Ask::Source(r) => put_source(problem, branch, r, answer, true),
+        Ask::Source(r) => put_source(branch, r, answer, true),
         Ask::Order(a, b) => {
             if answer == 0 {
-                put_before(problem, branch, b, a, true)
+                put_before(branch, b, a, true)
             } else {
-                put_before(problem, branch, a, b, true)
+                put_before(branch, a, b, true)
             }
         }
         Ask::Nothing => true,
@@ -173,7 +97,7 @@ fn put_answer(problem: &Problem, branch: &mut Branch, ask: Ask, answer: usize) -
 }
 
 /// What came of the next answer of a question.
-#[derive(Clone, Copy, PartialEq, Eq)]
+#[derive(Clone, Copy)]
 enum Next {
     Open,
     Closed,
@@ -181,155 +105,105 @@ enum Next {
 }
 
 /// Tries the next answer of the last question.
-fn try_next(problem: &Problem, hunt: &mut Hunt) -> Next {
-    let fact = hunt.branch.facts.len();
-    let Some(frame) = hunt.frames.last_mut() else {
-        return Next::None;
-    };
-    if hunt.answers.len() <= frame.answers {
-        return Next::None;
-    }
-    let Some(answer) = hunt.answers.pop() else {
-        return Next::None;
-    };
-    frame.answer = answer;
-    frame.fact = fact;
-    let ask = frame.ask;
-    if put_answer(problem, &mut hunt.branch, ask, answer) {
+fn try_next(branch: &mut Branch, questions: &mut Questions, frame: &Frame) -> Next {
+    let answer = questions.next_answer(frame, branch.facts.len());
+    if answer == NONE {
+        Next::None
+    } else if put_answer(branch, frame.ask, answer) {
         Next::Open
     } else {
         Next::Closed
     }
 }
 
-/// Where what a question uses is kept.
-fn used_start(hunt: &Hunt) -> usize {
-    row(hunt.frames.len().wrapping_sub(1), hunt.used_width)
-}
-
-/// Takes the last question away, with all that is kept for it.
-fn drop_frame(hunt: &mut Hunt, frame: &Frame) {
-    let _frame = hunt.frames.pop();
-    for _answer in frame.answers..hunt.answers.len() {
-        let _last = hunt.answers.pop();
-    }
-    for _tree in frame.trees..hunt.tried.len() {
-        let _last = hunt.tried.pop();
-    }
-    for _word in 0..hunt.used_width {
-        let _last = hunt.used.pop();
-    }
-}
-
 /// The tree of a question all of whose answers are closed.
-fn finish(problem: &Problem, hunt: &mut Hunt, test: &Test, frame: &Frame) -> usize {
-    let start = used_start(hunt);
-    let width = hunt.used_width;
-    clear(&mut hunt.desk.used, 0, width);
-    join(&mut hunt.desk.used, 0, &hunt.used, start, width);
-    hunt.desk.above = hunt.branch.facts.len();
-    let mut trees = (NONE, NONE);
-    for i in frame.trees..hunt.tried.len() {
-        if let Some((answer, tree)) = hunt.tried.get(i).copied() {
-            match frame.ask {
-                Ask::Source(_) => put(&mut hunt.desk.branches, answer, tree),
-                _ => {
-                    if answer == 0 {
-                        trees.1 = tree;
-                    } else {
-                        trees.0 = tree;
-                    }
-                }
-            }
-        }
-    }
+fn finish(branch: &Branch, desk: &mut Desk, questions: &mut Questions, frame: &Frame) -> usize {
+    desk.used.clear(0);
+    questions.use_again(frame, &mut desk.used);
+    questions.put_trees(frame, &mut desk.branches);
+    questions.drop_last(frame);
+    desk.above = branch.facts.len();
     match frame.ask {
-        Ask::Source(r) => {
-            let case = case_of(problem, &hunt.branch, test);
-            add_source_question(case, &mut hunt.desk, r)
-        }
-        Ask::Order(a, b) => add_order_question(&mut hunt.desk, ordered(a, b), trees.0, trees.1),
+        Ask::Source(r) => add_source_question(branch, desk, r),
+        Ask::Order(a, b) => add_tried_order(desk, a, b),
         Ask::Nothing => NONE,
     }
 }
 
-/// A closed answer is kept for its question. An answer that isn't used closes the question, and its tree goes on alone.
-fn keep_or_jump(hunt: &mut Hunt, frame: &Frame, tree: usize) -> bool {
-    if !has(&hunt.desk.used, 0, frame.fact) {
-        return false;
+/// Goes back to the last question with the tree of its answer. The question's tree, where that is known; else `NONE`.
+fn go_back_one(
+    branch: &mut Branch,
+    desk: &mut Desk,
+    questions: &mut Questions,
+    frame: &Frame,
+    tree: usize,
+) -> usize {
+    undo(branch, &frame.mark);
+    if !desk.used.has(0, frame.fact) {
+        // The tree doesn't use the answer, and closes the question.
+        questions.drop_last(frame);
+        return tree;
     }
-    remove(&mut hunt.desk.used, 0, frame.fact);
-    let start = used_start(hunt);
-    let width = hunt.used_width;
-    join(&mut hunt.used, start, &hunt.desk.used, 0, width);
-    hunt.branch.is_refused |= hunt.tried.push((frame.answer, tree)).is_err();
-    true
-}
-
-/// Whether memory was refused.
-pub fn is_refused(hunt: &Hunt) -> bool {
-    hunt.branch.is_refused || hunt.desk.trees.is_refused
-}
-
-/// Whether the search can't go on.
-fn must_end(hunt: &Hunt) -> bool {
-    hunt.branch.is_full || is_refused(hunt)
+    questions.keep(frame, tree, &desk.used);
+    match try_next(branch, questions, frame) {
+        Next::Open => NONE,
+        Next::Closed => add_conflict(branch, desk),
+        Next::None => finish(branch, desk, questions, frame),
+    }
 }
 
 /// Goes back from a closed branch to the next answer that is open. The tree where there is none.
-pub fn go_back(problem: &Problem, hunt: &mut Hunt, test: &Test) -> usize {
-    let width = hunt.used_width;
-    clear(&mut hunt.desk.used, 0, width);
-    let mut tree = add_conflict(case_of(problem, &hunt.branch, test), &mut hunt.desk);
+fn go_back(branch: &mut Branch, desk: &mut Desk, questions: &mut Questions) -> usize {
+    let mut tree = add_conflict(branch, desk);
     for _step in 0..u64::MAX {
-        if must_end(hunt) {
+        if branch.is_refused() | desk.is_refused() | questions.is_refused() {
             return NONE;
         }
-        let Some(frame) = hunt.frames.last().copied() else {
-            let case = case_of(problem, &hunt.branch, test);
-            return wrap(case, &mut hunt.desk, 0, tree);
-        };
-        let from = frame.fact.wrapping_add(1);
-        let case = case_of(problem, &hunt.branch, test);
-        tree = wrap(case, &mut hunt.desk, from, tree);
-        undo(problem, &mut hunt.branch, &frame.mark);
-        if !keep_or_jump(hunt, &frame, tree) {
-            drop_frame(hunt, &frame);
-            continue;
+        if questions.is_empty() {
+            return wrap(branch, desk, 0, tree);
         }
-        match try_next(problem, hunt) {
-            Next::Open => return NONE,
-            Next::Closed => {
-                clear(&mut hunt.desk.used, 0, width);
-                tree = add_conflict(case_of(problem, &hunt.branch, test), &mut hunt.desk);
-            }
-            Next::None => {
-                tree = finish(problem, hunt, test, &frame);
-                drop_frame(hunt, &frame);
-            }
+        let frame = questions.last(no_frame(mark_here(branch)));
+        tree = wrap(branch, desk, frame.fact.wrapping_add(1), tree);
+        tree = go_back_one(branch, desk, questions, &frame, tree);
+        if tree == NONE {
+            return NONE;
         }
     }
     NONE
 }
 
+/// Asks the next question, and tries its first answer. What came of it; none where no question is open.
+fn ask_next(hunt: &mut Hunt) -> Next {
+    let ask = choose(&hunt.branch, &hunt.desk.weights, hunt.round);
+    if matches!(ask, Ask::Nothing) {
+        return Next::None;
+    }
+    let by_chance = hunt.round != 0;
+    let frame = begin(
+        &hunt.branch,
+        &mut hunt.questions,
+        &mut hunt.chance,
+        ask,
+        by_chance,
+    );
+    try_next(&mut hunt.branch, &mut hunt.questions, &frame)
+}
+
 /// Searches until all is closed, or a branch is open to the end, or it pauses.
-pub fn search(problem: &Problem, hunt: &mut Hunt, test: &Test) -> Find {
+fn search(hunt: &mut Hunt) -> Find {
     for _case in 0..u64::MAX {
         hunt.cases = hunt.cases.wrapping_add(1);
-        if hunt.cases > hunt.pause || must_end(hunt) {
+        if hunt.cases > hunt.pause || is_refused(hunt) {
             return Find::Paused;
         }
-        if deduce(problem, &mut hunt.branch, test) {
-            let ask = choose(case_of(problem, &hunt.branch, test), &hunt.desk, hunt.round);
-            if matches!(ask, Ask::Nothing) {
-                return Find::Allowed;
-            }
-            begin(problem, hunt, test, ask);
-            if try_next(problem, hunt) == Next::Open {
-                continue;
+        if deduce(&mut hunt.branch) {
+            match ask_next(hunt) {
+                Next::Open => continue,
+                Next::None => return Find::Allowed,
+                Next::Closed => {}
             }
         }
-        let tree = go_back(problem, hunt, test);
+        let tree = go_back(&mut hunt.branch, &mut hunt.desk, &mut hunt.questions);
         if tree != NONE {
             return Find::Refuted(tree);
         }
@@ -338,35 +212,56 @@ pub fn search(problem: &Problem, hunt: &mut Hunt, test: &Test) -> Find {
 }
 
 /// Takes all questions back.
-pub fn start_anew(problem: &Problem, hunt: &mut Hunt, start: &Mark) {
-    undo(problem, &mut hunt.branch, start);
-    look_at_all(problem, &mut hunt.branch);
-    for _frame in 0..hunt.frames.len() {
-        if let Some(frame) = hunt.frames.last().copied() {
-            drop_frame(hunt, &frame);
-        }
-    }
-    for _twig in 0..hunt.desk.trees.twigs.len() {
-        let _last = hunt.desk.trees.twigs.pop();
-    }
-    for _event in 0..hunt.desk.trees.events.len() {
-        let _last = hunt.desk.trees.events.pop();
-    }
+pub fn start_anew(hunt: &mut Hunt) {
+    undo(&mut hunt.branch, &hunt.start);
+    look_at_all(&mut hunt.branch);
+    hunt.questions.clear();
+    clear_trees(&mut hunt.desk.trees);
     hunt.round = hunt.round.wrapping_add(1);
 }
 
 /// Searches with pauses, after each of which it begins anew with what it learnt of which questions matter: at most so many cases.
-pub fn hunt_for(problem: &Problem, hunt: &mut Hunt, test: &Test, most: u64) -> Find {
-    let start = mark_here(&hunt.branch);
-    let mut step = 400u64;
+pub fn hunt_for(hunt: &mut Hunt, most: usize) -> Find {
+    let mut step = 400usize;
     for _round in 0..u64::MAX {
         hunt.pause = hunt.cases.wrapping_add(step);
-        let found = search(problem, hunt, test);
-        if !matches!(found, Find::Paused) || hunt.cases > most || must_end(hunt) {
+        let found = search(hunt);
+        if !matches!(found, Find::Paused) || hunt.cases > most || is_refused(hunt) {
             return found;
         }
-        start_anew(problem, hunt, &start);
+        start_anew(hunt);
         step = step.wrapping_add(step / 4);
     }
     Find::Paused
+}
+
+/// Looks at one event after the other in an order of chance, with all that follows. False where that closes the branch.
+fn look_by_chance(branch: &mut Branch, chance: &mut Chance) -> bool {
+    if !want_asked(branch) {
+        return false;
+    }
+    branch.claim_is_dirty = false;
+    branch.dirty.clear(0);
+    for _event in 0..branch.problem.size {
+        look_at(branch, chance.below(branch.problem.size));
+        if !deduce(branch) {
+            return false;
+        }
+    }
+    look_at_all(branch);
+    true
+}
+
+/// Begins anew, with another order in which things follow, and looks at so many cases at most: it may find a smaller tree.
+pub fn hunt_again(hunt: &mut Hunt, most: usize) -> Find {
+    start_anew(hunt);
+    hunt.pause = hunt.cases.wrapping_add(most);
+    if look_by_chance(&mut hunt.branch, &mut hunt.chance) {
+        return search(hunt);
+    }
+    let tree = go_back(&mut hunt.branch, &mut hunt.desk, &mut hunt.questions);
+    if tree == NONE {
+        return Find::Paused;
+    }
+    Find::Refuted(tree)
 }

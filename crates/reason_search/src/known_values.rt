@@ -1,335 +1,290 @@
 //! Values that answers tell, read by read: and whether what is asked is false by them, with the answers by which it is.
 
-use crate::branch::{Branch, UNKNOWN, cell};
-use crate::case::Case;
-use crate::deduction::{Demand, asked_truth, meets, wants_both};
+use crate::branch::Branch;
+use crate::claim::{Demand, Part, Parts, can_be, can_be_made};
 use crate::evidence::{Evidence, need};
-use crate::notes::source_of;
-use crate::problem::{Problem, Term, final_term, is_initial, reads, term_of};
-use crate::rows::{NONE, at, has, is_empty, row};
+use crate::numbers::{NONE, Numbers};
+use crate::problem::Term;
+use crate::rows::Rows;
+use crate::wanted::term_value;
 use std::alloc::Global;
-use tso_model::{NoMemory, Prop};
-
-/// What is known of a read: the source that it is supposed to have, its value, and whether this is needed.
-#[derive(Clone, Copy)]
-struct Known {
-    supposed: usize,
-    value: u64,
-    is_needed: bool,
-}
-
-const NOTHING: Known = Known {
-    supposed: NONE,
-    value: UNKNOWN,
-    is_needed: false,
-};
+use tso_model::NoMemory;
 
 /// Values by the first so many facts, and by answers that are supposed: sources of reads, or a write that comes before another one.
 #[derive(Drop)]
 pub struct KnownValues {
     pub limit: usize,
+    /// The write that is supposed to come before another one.
     pub first: usize,
-    pub second: usize,
-    reads: Vec<Known>,
+    supposed: Numbers,
+    values: Numbers,
+    /// One row: the reads whose values are needed.
+    needed: Rows,
+    /// The parts of what is asked that can be so.
+    parts: Parts,
 }
 
 /// No value is known.
 ///
 /// Errors: out of memory only.
-pub fn make_values(alloc: Global, problem: &Problem) -> Result<KnownValues, NoMemory> {
+pub fn make_values(alloc: Global, size: usize) -> Result<KnownValues, NoMemory> {
     Ok(KnownValues {
         limit: 0,
         first: NONE,
-        second: NONE,
-        reads: vec![in alloc; NOTHING; problem.size]?,
+        supposed: Numbers::new(alloc, size, NONE)?,
+        values: Numbers::new(alloc, size, NONE)?,
+        needed: Rows::new(alloc, 1, size)?,
+        parts: Parts::none(),
     })
 }
 
 /// Begins anew with so many facts, and nothing supposed.
-pub fn suppose_nothing(values: &mut KnownValues, limit: usize) {
-    values.limit = limit;
-    for known in &mut values.reads {
-        *known = NOTHING;
-    }
-    values.first = NONE;
-    values.second = NONE;
+pub fn suppose_nothing(known: &mut KnownValues, limit: usize) {
+    known.limit = limit;
+    known.first = NONE;
+    known.supposed.fill(NONE);
+    known.values.fill(NONE);
 }
 
 /// Supposes that a read has a source, or none.
-pub fn suppose(values: &mut KnownValues, r: usize, s: usize) {
-    if let Some(known) = values.reads.get_mut(r) {
-        known.supposed = s;
-    }
+pub fn suppose(known: &mut KnownValues, r: usize, s: usize) {
+    known.supposed.put(r, s);
 }
 
 /// The source that a read is supposed to have.
-pub fn supposed(values: &KnownValues, r: usize) -> usize {
-    values.reads.get(r).copied().unwrap_or(NOTHING).supposed
-}
-
-fn put_value(values: &mut KnownValues, r: usize, value: u64) {
-    if let Some(known) = values.reads.get_mut(r) {
-        known.value = value;
-    }
-}
-
-/// Whether a write is known to come before another one to its location.
-pub fn is_overwritten(case: Case<'_>, values: &KnownValues, w: usize) -> bool {
-    overwriting(case, values, w) != NONE
+pub fn supposed(known: &KnownValues, r: usize) -> usize {
+    known.supposed.at(r)
 }
 
 /// The source that a read has, or is supposed to have.
-pub fn source(branch: &Branch, values: &KnownValues, r: usize) -> usize {
-    let by_hand = supposed(values, r);
-    if by_hand != NONE {
-        return by_hand;
-    }
-    if at(&branch.tables.source, r) < values.limit {
-        source_of(branch, r)
+pub fn source(branch: &Branch, known: &KnownValues, r: usize) -> usize {
+    let by_hand = known.supposed.at(r);
+    if by_hand == NONE && branch.source.at(r) < known.limit {
+        branch.source_of(r)
     } else {
-        NONE
+        by_hand
     }
 }
 
-fn value(values: &KnownValues, r: usize) -> u64 {
-    values.reads.get(r).copied().unwrap_or(NOTHING).value
+/// What a read returns by the values that are known.
+pub fn value(known: &KnownValues, r: usize) -> usize {
+    known.values.at(r)
 }
 
-fn sum(first: u64, second: u64) -> u64 {
-    if first == UNKNOWN || second == UNKNOWN {
-        UNKNOWN
-    } else {
-        first.wrapping_add(second) % 4_294_967_296
+/// What an event writes by the values that are known.
+pub fn value_written(branch: &Branch, known: &KnownValues, w: usize) -> usize {
+    term_value(&known.values, branch.problem.term(w))
+}
+
+/// Notes what a read returns, if it is known. Whether it is new.
+fn find_value(branch: &Branch, known: &mut KnownValues, r: usize) -> bool {
+    let s = source(branch, known, r);
+    if s == NONE || known.values.at(r) != NONE {
+        return false;
     }
+    let found = value_written(branch, known, s);
+    known.values.put(r, found);
+    found != NONE
 }
 
-/// What a term is by the values that are known.
-pub fn term_value(values: &KnownValues, term: Term) -> u64 {
-    match term {
-        Term::Number(number) => u64::from(number),
-        Term::Of(r) => value(values, r),
-        Term::Plus(r, number) => sum(value(values, r), u64::from(number)),
-        Term::Sum(r, q) => sum(value(values, r), value(values, q)),
-    }
-}
-
-fn run_round(case: Case<'_>, values: &mut KnownValues) -> bool {
+/// Finds values read by read. Whether any is new.
+fn run_round(branch: &Branch, known: &mut KnownValues) -> bool {
     let mut changed = false;
-    for r in case.problem.locations..case.problem.size {
-        if value(values, r) == UNKNOWN && reads(case.problem, r) {
-            let s = source(case.branch, values, r);
-            if s != NONE {
-                let found = term_value(values, term_of(case.problem, s));
-                if found != UNKNOWN {
-                    put_value(values, r, found);
-                    changed = true;
-                }
-            }
-        }
+    for r in branch.problem.locations..branch.problem.size {
+        changed |= find_value(branch, known, r);
     }
     changed
 }
 
 /// Finds the values.
-pub fn run(case: Case<'_>, values: &mut KnownValues) {
-    for r in 0..case.problem.size {
-        put_value(values, r, UNKNOWN);
-    }
-    for _round in 0..case.problem.size {
-        if !run_round(case, values) {
+pub fn run(branch: &Branch, known: &mut KnownValues) {
+    known.values.fill(NONE);
+    for _round in 0..branch.problem.size {
+        if !run_round(branch, known) {
             break;
         }
     }
 }
 
-fn can_be(demand: Demand, value: u64) -> bool {
-    value == UNKNOWN || meets(value, demand)
-}
-
 /// The fact that a write comes before another one, `limit` where it is supposed, and `NONE` where there is none.
-fn overwriting(case: Case<'_>, values: &KnownValues, w: usize) -> usize {
-    if values.first == w && values.second != NONE {
-        return values.limit;
+fn overwriting(branch: &Branch, known: &KnownValues, w: usize) -> usize {
+    if known.first == w {
+        return known.limit;
     }
-    for v in case.problem.locations..case.problem.size {
-        let fact = at(&case.branch.tables.pairs, cell(case.problem, w, v));
-        if fact < values.limit {
+    for v in branch.problem.locations..branch.problem.size {
+        let fact = branch.pair(w, v);
+        if fact < known.limit {
             return fact;
         }
     }
     NONE
 }
 
-fn word_can_be(case: Case<'_>, values: &KnownValues, loc: usize, demand: Demand) -> bool {
-    let start = row(loc, case.problem.width);
-    if is_empty(&case.problem.writes_to, start, case.problem.width) {
-        return can_be(demand, term_value(values, term_of(case.problem, loc)));
-    }
-    for w in case.problem.locations..case.problem.size {
-        if has(&case.problem.writes_to, start, w)
-            && can_be(demand, term_value(values, term_of(case.problem, w)))
-            && overwriting(case, values, w) == NONE
-        {
-            return true;
-        }
-    }
-    false
+/// Whether a write is known to come before another one to its location.
+pub fn is_overwritten(branch: &Branch, known: &KnownValues, w: usize) -> bool {
+    overwriting(branch, known, w) != NONE
 }
 
-fn allows(case: Case<'_>, values: &KnownValues, prop: &Prop, truth: bool) -> bool {
-    match prop {
-        Prop::Truth(value) => *value == truth,
-        Prop::RegIs(core, reg, number) => {
-            let held = final_term(case.problem, usize::from(core.0), reg.index());
-            can_be(
-                Demand {
-                    number: *number,
-                    truth,
-                },
-                term_value(values, held),
-            )
+/// Whether a write can be the last one, and its value is as demanded, or isn't known.
+fn write_can_be(branch: &Branch, known: &KnownValues, w: usize, demand: Demand) -> bool {
+    can_be(demand, value_written(branch, known, w)) && !is_overwritten(branch, known, w)
+}
+
+/// Whether a location can have such a word at the end.
+fn word_can_be(branch: &Branch, known: &KnownValues, loc: usize, demand: Demand) -> bool {
+    let mut found = false;
+    for w in branch.problem.locations..branch.problem.size {
+        if branch.problem.is_write_to(loc, w) {
+            found |= write_can_be(branch, known, w, demand);
         }
-        Prop::LocIs(loc, number) => {
-            word_can_be(
-                case,
-                values,
-                usize::from(loc.0),
-                Demand {
-                    number: *number,
-                    truth,
-                },
-            )
-        }
-        Prop::Not(inner) => allows(case, values, inner, !truth),
-        Prop::And(left, right) | Prop::Or(left, right) => {
-            if wants_both(prop, truth) {
-                allows(case, values, right, truth) && allows(case, values, left, truth)
+    }
+    found
+}
+
+/// Whether a part can be so where it is known which of the parts behind it can be.
+fn part_can_be(branch: &Branch, known: &KnownValues, i: usize) -> bool {
+    match branch.problem.part(i) {
+        Part::Value(r, demand) => {
+            if branch.problem.is_initial(r) {
+                word_can_be(branch, known, r, demand)
             } else {
-                allows(case, values, right, truth) || allows(case, values, left, truth)
+                can_be(demand, known.values.at(r))
             }
         }
+        part => can_be_made(part, i, &known.parts),
     }
 }
 
 /// Whether what is asked is false by these values.
-pub fn is_false(case: Case<'_>, values: &KnownValues) -> bool {
-    match case.test.cond() {
-        None => false,
-        Some(cond) => !allows(case, values, &cond.prop, asked_truth(cond)),
+pub fn is_false(branch: &Branch, known: &mut KnownValues) -> bool {
+    let several = branch.problem.claim.len();
+    known.parts = Parts::none();
+    let mut i = several;
+    for _part in 0..several {
+        i = i.wrapping_sub(1);
+        let can = part_can_be(branch, known, i);
+        known.parts.add(i, can);
     }
+    several != 0 && !known.parts.has(0)
 }
 
-fn need_read(values: &mut KnownValues, r: usize) {
-    if let Some(known) = values.reads.get_mut(r) {
-        known.is_needed = true;
-    }
+fn need_term(known: &mut KnownValues, term: Term) {
+    known.needed.add(0, term.first);
+    known.needed.add(0, term.second);
 }
 
-fn need_term(values: &mut KnownValues, term: Term) {
-    match term {
-        Term::Number(_) => {}
-        Term::Of(r) | Term::Plus(r, _) => need_read(values, r),
-        Term::Sum(r, q) => {
-            need_read(values, r);
-            need_read(values, q);
-        }
+/// Notes by what a write doesn't give its location such a word at the end.
+fn need_write(
+    branch: &Branch,
+    known: &mut KnownValues,
+    evidence: &mut Evidence,
+    w: usize,
+    demand: Demand,
+) {
+    if !can_be(demand, value_written(branch, known, w)) {
+        need_term(known, branch.problem.term(w));
+        return;
+    }
+    let fact = overwriting(branch, known, w);
+    if fact < known.limit {
+        need(evidence, fact);
     }
 }
 
 /// Notes by what a location doesn't have such a word at the end.
 fn need_word(
-    case: Case<'_>,
-    values: &mut KnownValues,
+    branch: &Branch,
+    known: &mut KnownValues,
     evidence: &mut Evidence,
     loc: usize,
     demand: Demand,
 ) {
-    for w in case.problem.locations..case.problem.size {
-        if has(&case.problem.writes_to, row(loc, case.problem.width), w) {
-            if can_be(demand, term_value(values, term_of(case.problem, w))) {
-                let fact = overwriting(case, values, w);
-                if fact < values.limit {
-                    need(evidence, fact);
-                }
-            } else {
-                need_term(values, term_of(case.problem, w));
-            }
+    for w in branch.problem.locations..branch.problem.size {
+        if branch.problem.is_write_to(loc, w) {
+            need_write(branch, known, evidence, w, demand);
         }
     }
 }
 
-/// Notes by what a proposition that is false is false.
-fn need_prop(
-    case: Case<'_>,
-    values: &mut KnownValues,
+/// Notes by what a part is false, and adds to those that are false on which this hangs.
+fn need_part(
+    branch: &Branch,
+    known: &mut KnownValues,
     evidence: &mut Evidence,
-    prop: &Prop,
-    truth: bool,
+    i: usize,
+    wrong: &mut Parts,
 ) {
-    match prop {
-        Prop::Truth(_) => {}
-        Prop::RegIs(core, reg, _) => {
-            need_term(
-                values,
-                final_term(case.problem, usize::from(core.0), reg.index()),
-            );
-        }
-        Prop::LocIs(loc, number) => {
-            let demand = Demand {
-                number: *number,
-                truth,
-            };
-            need_word(case, values, evidence, usize::from(loc.0), demand);
-        }
-        Prop::Not(inner) => need_prop(case, values, evidence, inner, !truth),
-        Prop::And(left, right) | Prop::Or(left, right) => {
-            let both = wants_both(prop, truth);
-            let is_open = both && allows(case, values, right, truth);
-            if is_open || !both {
-                need_prop(case, values, evidence, left, truth);
-            }
-            if !is_open {
-                need_prop(case, values, evidence, right, truth);
+    let first = i.wrapping_add(1);
+    match branch.problem.part(i) {
+        Part::Value(r, demand) => {
+            if branch.problem.is_initial(r) {
+                need_word(branch, known, evidence, r, demand);
+            } else {
+                known.needed.add(0, r);
             }
         }
+        Part::Both(second) => {
+            let is_second = !known.parts.has(second);
+            wrong.add(second, is_second);
+            wrong.add(first, !is_second);
+        }
+        Part::Either(second) => {
+            wrong.add(first, true);
+            wrong.add(second, true);
+        }
+        Part::Fixed(_) => {}
     }
 }
 
-fn is_needed(values: &KnownValues, r: usize) -> bool {
-    values.reads.get(r).copied().unwrap_or(NOTHING).is_needed
+/// Adds the source from which a needed value comes. Whether there is such a one that wasn't added before.
+fn need_source(
+    branch: &Branch,
+    known: &mut KnownValues,
+    evidence: &mut Evidence,
+    r: usize,
+) -> bool {
+    if !known.needed.has(0, r) || known.values.at(r) == NONE {
+        return false;
+    }
+    // Its value is told once, and forgotten.
+    known.values.put(r, NONE);
+    if known.supposed.at(r) == NONE {
+        need(evidence, branch.source.at(r));
+    }
+    let s = source(branch, known, r);
+    if s != NONE {
+        need_term(known, branch.problem.term(s));
+    }
+    true
+}
+
+/// Adds the sources from which needed values come, read by read. Whether any is new.
+fn need_round(branch: &Branch, known: &mut KnownValues, evidence: &mut Evidence) -> bool {
+    let mut changed = false;
+    for r in branch.problem.locations..branch.problem.size {
+        changed |= need_source(branch, known, evidence, r);
+    }
+    changed
 }
 
 /// Adds the sources from which the needed values come.
-fn need_sources(case: Case<'_>, values: &mut KnownValues, evidence: &mut Evidence) {
-    for _round in 0..case.problem.size {
-        let mut changed = false;
-        for r in case.problem.locations..case.problem.size {
-            if is_needed(values, r) && value(values, r) != UNKNOWN {
-                // its value is told once, and forgotten
-                put_value(values, r, UNKNOWN);
-                changed = true;
-                if supposed(values, r) == NONE {
-                    need(evidence, at(&case.branch.tables.source, r));
-                }
-                let s = source(case.branch, values, r);
-                if s != NONE && !is_initial(case.problem, s) {
-                    need_term(values, term_of(case.problem, s));
-                }
-            }
-        }
-        if !changed {
+fn need_sources(branch: &Branch, known: &mut KnownValues, evidence: &mut Evidence) {
+    for _round in 0..branch.problem.size {
+        if !need_round(branch, known, evidence) {
             break;
         }
     }
 }
 
-/// Adds the facts by which what is asked is false, where it is.
-pub fn need_falsity(case: Case<'_>, values: &mut KnownValues, evidence: &mut Evidence) {
-    for known in &mut values.reads {
-        known.is_needed = false;
+/// Adds the facts by which what is asked is false, where it was found to be.
+pub fn need_falsity(branch: &Branch, known: &mut KnownValues, evidence: &mut Evidence) {
+    known.needed.clear(0);
+    let mut wrong = Parts::none();
+    wrong.add(0, true);
+    for i in 0..branch.problem.claim.len() {
+        if wrong.has(i) {
+            need_part(branch, known, evidence, i, &mut wrong);
+        }
     }
-    if let Some(cond) = case.test.cond() {
-        need_prop(case, values, evidence, &cond.prop, asked_truth(cond));
-    }
-    need_sources(case, values, evidence);
+    need_sources(branch, known, evidence);
 }

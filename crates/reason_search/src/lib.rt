@@ -2,12 +2,11 @@
 //! judged elsewhere. So its contracts say nothing but that it is safe and ends.
 #![tactic(auto)]
 
-pub mod again;
 pub mod branch;
-pub mod case;
+pub mod chance;
 pub mod choosing;
+pub mod claim;
 pub mod closing;
-pub mod deduction;
 pub mod edges;
 pub mod evidence;
 pub mod falsity;
@@ -15,15 +14,17 @@ pub mod growing;
 pub mod guide;
 pub mod hunting;
 pub mod known_values;
-pub mod last_words;
 pub mod looking;
-pub mod naming;
-pub mod notes;
+pub mod numbers;
 pub mod offers;
 pub mod ordering;
 pub mod paths;
 pub mod problem;
+pub mod questions;
 pub mod reasoning;
 pub mod rows;
+pub mod stack;
+pub mod wanted;
+pub mod weights;
 
 pub use guide::{Guide, forget, make_guide, propose, proposed_order};

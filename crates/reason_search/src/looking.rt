@@ -1,107 +1,103 @@
-//! What follows at a read and at a location, and all that follows in a branch.
+//! What follows at a write, at a read and at a location, and all that follows in a branch.
 
 use crate::branch::{
-    Answer, Branch, Conflict, Label, Link, after, before, candidates, change, is_known, look_at,
-    look_at_all, look_at_readers,
+    Branch, Conflict, Link, add_reader, add_source, change_word, close, look_at, look_at_all,
+    look_at_readers, note_removed,
 };
-use crate::case::{Reading, read_from};
-use crate::deduction::{is_wrong_value, look_at_write, match_values, want_asked};
-use crate::edges::{add_edge, put_before};
-use crate::last_words::look_at_last;
-use crate::notes::{note, note_removed, source_of};
-use crate::problem::{Problem, Relations, event, is_initial, location, partner, reads, writes};
-use crate::rows::{NONE, at, bit, has, lowest, put, put_word, rest, row, word};
-use tso_model::{Kind, Test};
+use crate::edges::{add_edge, add_edges, put_before};
+use crate::numbers::NONE;
+use crate::problem::Relations;
+use crate::rows::{bit, lowest, rest};
+use crate::wanted::{is_wrong_value, match_values, want_asked};
+use tso_model::Kind;
 
 /// Whether a read from this write is an edge of the global relations.
-pub fn is_global_source(problem: &Problem, w: usize, r: usize) -> bool {
-    problem.sequential || event(problem, w).core.0 != event(problem, r).core.0
+pub fn is_global_source(branch: &Branch, w: usize, r: usize) -> bool {
+    branch.problem.sequential || branch.problem.core(w) != branch.problem.core(r)
 }
 
 /// A read has this source. False where that closes a cycle.
-pub fn put_source(problem: &Problem, branch: &mut Branch, r: usize, w: usize, tried: bool) -> bool {
-    let fact = note(branch, Answer::Source(r, w), tried);
-    put(&mut branch.tables.source, r, fact);
-    look_at(branch, r);
-    if branch.next != NONE {
-        branch.next = NONE;
-        look_at_all(problem, branch);
-    }
-    if event(problem, r).kind == Kind::LR {
-        if at(&branch.tables.reader, w) == NONE {
-            put(&mut branch.tables.reader, w, r);
-        }
-        look_at_readers(problem, branch, location(problem, r));
-    }
-
+pub fn put_source(branch: &mut Branch, r: usize, w: usize, tried: bool) -> bool {
     let link = Link {
         from: w,
         to: r,
-        label: Label::ReadsFrom,
-        fact,
+        fact: add_source(branch, r, w, tried),
+        is_from_read: false,
     };
-    add_edge(problem, branch, Relations::OnLocation, link)
-        && (!is_global_source(problem, w, r) || add_edge(problem, branch, Relations::Global, link))
+    look_at(branch, r);
+    if branch.next != NONE {
+        branch.next = NONE;
+        look_at_all(branch);
+    }
+    let event = branch.problem.event(r);
+    if matches!(event.entry.kind, Kind::LR) {
+        add_reader(branch, w, r);
+        look_at_readers(branch, event.location);
+    }
+    add_edge(branch, Relations::OnLocation, link)
+        && (!is_global_source(branch, w, r) || add_edge(branch, Relations::Global, link))
 }
 
-/// The read is before each of these writes, which are after its source.
-fn add_from_reads(problem: &Problem, branch: &mut Branch, r: usize, k: usize, some: u64) -> bool {
-    let fact = at(&branch.tables.source, r);
+/// Where each of some writes is put.
+#[derive(Clone, Copy)]
+enum Put {
+    /// Before this write, if it is another one.
+    Before(usize),
+    /// After this write, if it is another one.
+    After(usize),
+    /// After this read, since it is after the read's source.
+    FromRead(usize),
+}
+
+fn put_one(branch: &mut Branch, put: Put, v: usize) -> bool {
+    match put {
+        Put::Before(w) => v == w || put_before(branch, v, w, false),
+        Put::After(w) => v == w || put_before(branch, w, v, false),
+        Put::FromRead(r) => {
+            let link = Link {
+                from: r,
+                to: v,
+                fact: branch.source.at(r),
+                is_from_read: true,
+            };
+            add_edges(branch, link)
+        }
+    }
+}
+
+/// Puts each write of a word in its place. False where that closes the branch.
+fn put_each(branch: &mut Branch, put: Put, k: usize, some: u64) -> bool {
     let mut left = some;
-    for _bit in 0..64u8 {
+    for _write in 0..64u8 {
         if left == 0 {
             break;
         }
-        let v = row(k, 64).wrapping_add(lowest(left));
+        let v = lowest(k, left);
         left = rest(left);
-
-        let link = Link {
-            from: r,
-            to: v,
-            label: Label::FromReads,
-            fact,
-        };
-        if !add_edge(problem, branch, Relations::OnLocation, link)
-            || !add_edge(problem, branch, Relations::Global, link)
-        {
+        if !put_one(branch, put, v) {
             return false;
         }
     }
     true
 }
 
-/// Each of these writes but `own` is before `w`.
-pub fn put_all_before(
-    problem: &Problem,
-    branch: &mut Branch,
-    k: usize,
-    some: u64,
-    w: usize,
-) -> bool {
-    let mut left = some;
-    for _bit in 0..64u8 {
-        if left == 0 {
-            break;
-        }
-        let v = row(k, 64).wrapping_add(lowest(left));
-        left = rest(left);
-        if v != w && !put_before(problem, branch, v, w, false) {
-            return false;
-        }
-    }
-    true
+/// A word of what is after an event on its location or globally.
+fn word_later(branch: &Branch, a: usize, k: usize) -> u64 {
+    branch.word_after(Relations::OnLocation, a, k) | branch.word_after(Relations::Global, a, k)
 }
 
-/// Each of these writes but `w` is after `w`.
-fn put_all_after(problem: &Problem, branch: &mut Branch, k: usize, some: u64, w: usize) -> bool {
-    let mut left = some;
-    for _bit in 0..64u8 {
-        if left == 0 {
-            break;
-        }
-        let v = row(k, 64).wrapping_add(lowest(left));
-        left = rest(left);
-        if v != w && !put_before(problem, branch, w, v, false) {
+/// A word of what is before an event on its location or globally.
+fn word_earlier(branch: &Branch, a: usize, k: usize) -> u64 {
+    branch.word_before(Relations::OnLocation, a, k) | branch.word_before(Relations::Global, a, k)
+}
+
+/// Writes that are after this one by one of the relations are after it in coherence.
+fn look_at_write(branch: &mut Branch, a: usize) -> bool {
+    let loc = branch.problem.location(a);
+    for k in 0..branch.problem.width {
+        let later = word_later(branch, a, k) & branch.problem.writes_to.word(loc, k);
+        let known = branch.word_after(Relations::Coherence, a, k);
+        if !put_each(branch, Put::After(a), k, later & !known) {
             return false;
         }
     }
@@ -109,212 +105,216 @@ fn put_all_after(problem: &Problem, branch: &mut Branch, k: usize, some: u64, w:
 }
 
 /// No write comes between the source of a load part and its store part.
-fn keep_together(
-    problem: &Problem,
-    branch: &mut Branch,
-    reading: Reading,
-    k: usize,
-    them: u64,
-) -> bool {
-    let own = partner(problem, reading.read);
-    let s = reading.write;
-
-    let later = word(
-        &branch.rows,
-        after(problem, Relations::Coherence, s).wrapping_add(k),
-    );
-    let own_later = word(
-        &branch.rows,
-        after(problem, Relations::Coherence, own).wrapping_add(k),
-    );
-    if !put_all_after(problem, branch, k, later & them & !own_later, own) {
+fn keep_together(branch: &mut Branch, s: usize, own: usize, k: usize, them: u64) -> bool {
+    let later = branch.word_after(Relations::Coherence, s, k);
+    let own_later = branch.word_after(Relations::Coherence, own, k);
+    if !put_each(branch, Put::After(own), k, later & them & !own_later) {
         return false;
     }
-    let earlier = word(
-        &branch.rows,
-        before(problem, Relations::Coherence, own).wrapping_add(k),
-    );
-    let known = word(
-        &branch.rows,
-        before(problem, Relations::Coherence, s).wrapping_add(k),
-    );
-    if is_initial(problem, s) {
-        return true;
-    }
-    put_all_before(problem, branch, k, earlier & them & !known, s)
+    put_before_source(
+        branch,
+        s,
+        branch.word_before(Relations::Coherence, own, k),
+        k,
+        them,
+    )
 }
 
-fn word_after(problem: &Problem, branch: &Branch, relations: Relations, a: usize, k: usize) -> u64 {
-    word(&branch.rows, after(problem, relations, a).wrapping_add(k))
+/// These writes are before a source, unless it is the initial write.
+fn put_before_source(branch: &mut Branch, s: usize, earlier: u64, k: usize, them: u64) -> bool {
+    let known = branch.word_before(Relations::Coherence, s, k);
+    branch.problem.is_initial(s) || put_each(branch, Put::Before(s), k, earlier & them & !known)
 }
 
-pub fn word_before(
-    problem: &Problem,
-    branch: &Branch,
-    relations: Relations,
-    a: usize,
-    k: usize,
-) -> u64 {
-    word(&branch.rows, before(problem, relations, a).wrapping_add(k))
+/// What follows for the writes of a word at a read whose source is known.
+fn look_at_writes(branch: &mut Branch, r: usize, s: usize, own: usize, k: usize) -> bool {
+    let loc = branch.problem.location(r);
+    let them = branch.problem.writes_to.word(loc, k);
+    let later = branch.word_after(Relations::Coherence, s, k);
+    let passed = branch.word_after(Relations::OnLocation, r, k)
+        & branch.word_after(Relations::Global, r, k);
+    put_each(branch, Put::FromRead(r), k, later & !passed & them)
+        && put_before_source(branch, s, word_earlier(branch, r, k), k, them)
+        && (own == NONE || keep_together(branch, s, own, k, them))
 }
 
 /// What follows at a read whose source is known.
-fn look_at_known(problem: &Problem, branch: &mut Branch, test: &Test, r: usize, s: usize) -> bool {
-    let loc = row(location(problem, r), problem.width);
-    let own = partner(problem, r);
-    for k in 0..problem.width {
-        let them = word(&problem.writes_to, loc.wrapping_add(k));
-        let later = word_after(problem, branch, Relations::Coherence, s, k);
-        let passed = word_after(problem, branch, Relations::OnLocation, r, k)
-            & word_after(problem, branch, Relations::Global, r, k);
-        if !add_from_reads(problem, branch, r, k, later & !passed & them) {
-            return false;
-        }
-        let earlier = word_before(problem, branch, Relations::OnLocation, r, k)
-            | word_before(problem, branch, Relations::Global, r, k);
-        let known = word_before(problem, branch, Relations::Coherence, s, k);
-        if !is_initial(problem, s)
-            && !put_all_before(problem, branch, k, earlier & them & !known, s)
-        {
-            return false;
-        }
-        if own != NONE && !keep_together(problem, branch, read_from(r, s), k, them) {
+fn look_at_known(branch: &mut Branch, r: usize, s: usize) -> bool {
+    let own = branch.problem.partner(r);
+    for k in 0..branch.problem.width {
+        if !look_at_writes(branch, r, s, own, k) {
             return false;
         }
     }
-    match_values(problem, branch, test, r, s)
+    match_values(branch, r, s)
 }
 
-/// Whether a read can't have this source, for what is known of the order.
-fn is_impossible(problem: &Problem, branch: &Branch, r: usize, s: usize) -> bool {
-    if is_known(problem, branch, Relations::OnLocation, r, s)
-        || is_global_source(problem, s, r) && is_known(problem, branch, Relations::Global, r, s)
-    {
-        return true;
-    }
-    let own = partner(problem, r);
-    let loc = row(location(problem, r), problem.width);
-    for k in 0..problem.width {
-        let later = word_after(problem, branch, Relations::Coherence, s, k)
-            & word(&problem.writes_to, loc.wrapping_add(k));
-        let mut earlier = word_before(problem, branch, Relations::OnLocation, r, k)
-            | word_before(problem, branch, Relations::Global, r, k);
+/// Whether a write is known to come between a source and a read, or its store part.
+fn is_parted(branch: &Branch, r: usize, s: usize, own: usize) -> bool {
+    let loc = branch.problem.location(r);
+    for k in 0..branch.problem.width {
+        let later = branch.word_after(Relations::Coherence, s, k)
+            & branch.problem.writes_to.word(loc, k);
+        let mut earlier = word_earlier(branch, r, k);
         if own != NONE {
-            earlier |= word_before(problem, branch, Relations::Coherence, own, k);
+            earlier |= branch.word_before(Relations::Coherence, own, k);
         }
         if later & earlier != 0 {
             return true;
         }
     }
-    own != NONE && is_read_by_another(problem, branch, r, s)
+    false
+}
+
+/// Whether a read is known to be before a write from which it would read.
+pub fn is_before_source(branch: &Branch, relations: Relations, r: usize, s: usize) -> bool {
+    match relations {
+        Relations::Global => {
+            is_global_source(branch, s, r) && branch.is_known(Relations::Global, r, s)
+        }
+        _ => branch.is_known(relations, r, s),
+    }
+}
+
+/// Whether a read can't have this source, for what is known of the order.
+fn is_impossible(branch: &Branch, r: usize, s: usize) -> bool {
+    let own = branch.problem.partner(r);
+    is_before_source(branch, Relations::OnLocation, r, s)
+        || is_before_source(branch, Relations::Global, r, s)
+        || is_parted(branch, r, s, own)
+        || own != NONE && is_read_by_another(branch, r, s)
 }
 
 /// Whether a locked instruction of another core reads from this write.
-pub fn is_read_by_another(problem: &Problem, branch: &Branch, r: usize, s: usize) -> bool {
-    let other = at(&branch.tables.reader, s);
-    other != NONE && other != r && event(problem, other).core.0 != event(problem, r).core.0
+pub fn is_read_by_another(branch: &Branch, r: usize, s: usize) -> bool {
+    let other = branch.reader.at(s);
+    other != NONE && other != r && branch.problem.core(other) != branch.problem.core(r)
 }
 
 /// Takes a source from a read.
-fn take_source(problem: &Problem, branch: &mut Branch, r: usize, s: usize) {
-    let place = candidates(problem, r).wrapping_add(s / 64);
-    let bits = word(&branch.rows, place) & !bit(s);
-    change(branch, place, bits);
-    note_removed(problem, branch, r, s)
+fn take_source(branch: &mut Branch, r: usize, s: usize) {
+    let row = branch.candidates(r);
+    let bits = branch.rows.word(row, s / 64) & !bit(s);
+    change_word(branch, row, s / 64, bits);
+    note_removed(branch, r, s);
 }
 
-/// The only source that is left, `NONE` where there are several; and whether there is one.
-fn only_candidate(problem: &Problem, branch: &Branch, r: usize) -> (usize, bool) {
-    let mut only = NONE;
-    for k in 0..problem.width {
-        let left = word(&branch.rows, candidates(problem, r).wrapping_add(k));
-        if left != 0 {
-            if only != NONE || rest(left) != 0 {
-                return (NONE, true);
-            }
-            only = row(k, 64).wrapping_add(lowest(left));
+/// Takes from a read those sources of a word that it can't have.
+fn take_sources(branch: &mut Branch, r: usize, k: usize) {
+    let mut left = branch.rows.word(branch.candidates(r), k);
+    for _source in 0..64u8 {
+        if left == 0 {
+            break;
+        }
+        let s = lowest(k, left);
+        left = rest(left);
+        if is_impossible(branch, r, s) || is_wrong_value(branch, r, s) {
+            take_source(branch, r, s);
         }
     }
-    (only, only != NONE)
 }
 
 /// What follows at a read whose source is open.
-fn look_at_open(problem: &Problem, branch: &mut Branch, test: &Test, r: usize) -> bool {
-    for k in 0..problem.width {
-        let mut left = word(&branch.rows, candidates(problem, r).wrapping_add(k));
-        for _bit in 0..64u8 {
-            if left == 0 {
-                break;
-            }
-            let s = row(k, 64).wrapping_add(lowest(left));
-            left = rest(left);
-            if is_impossible(problem, branch, r, s) || is_wrong_value(problem, branch, test, r, s) {
-                take_source(problem, branch, r, s);
-            }
-        }
+fn look_at_open(branch: &mut Branch, r: usize) -> bool {
+    for k in 0..branch.problem.width {
+        take_sources(branch, r, k);
     }
-    let (only, some) = only_candidate(problem, branch, r);
-    if !some {
-        branch.conflict = Conflict::NoSource(r);
-        return false;
+    let row = branch.candidates(r);
+    match branch.rows.count(row) {
+        0 => close(branch, Conflict::NoSource, r),
+        1 => {
+            let only = branch.rows.first(row);
+            put_source(branch, r, only, false)
+        }
+        _ => true,
+    }
+}
+
+/// Whether a write can be the last one to its location.
+pub fn can_be_last(branch: &Branch, loc: usize, a: usize) -> bool {
+    branch.problem.is_write_to(loc, a)
+        && branch.rows.is_empty(branch.after(Relations::Coherence, a))
+        && !is_wrong_value(branch, loc, a)
+}
+
+/// The only write to a location that can be its last one; `NONE` where there are several or none.
+fn only_last(branch: &mut Branch, loc: usize) -> usize {
+    let mut only = NONE;
+    for a in branch.problem.locations..branch.problem.size {
+        if can_be_last(branch, loc, a) {
+            if only != NONE {
+                return NONE;
+            }
+            only = a;
+        }
     }
     if only == NONE {
-        return true;
+        let _closed = close(branch, Conflict::False, loc);
     }
-    put_source(problem, branch, r, only, false)
+    only
 }
 
-fn look_at_one(problem: &Problem, branch: &mut Branch, test: &Test, a: usize) -> bool {
-    if is_initial(problem, a) {
-        if has(&problem.asked, 0, a) {
-            return look_at_last(problem, branch, test, a);
+/// What follows at a location of which something is asked.
+fn look_at_last(branch: &mut Branch, loc: usize) -> bool {
+    let only = only_last(branch, loc);
+    if only == NONE {
+        return matches!(branch.conflict, Conflict::Open);
+    }
+    for k in 0..branch.problem.width {
+        let known = branch.word_before(Relations::Coherence, only, k);
+        let others = branch.problem.writes_to.word(loc, k) & !known;
+        if !put_each(branch, Put::Before(only), k, others) {
+            return false;
         }
+    }
+    match_values(branch, loc, only)
+}
+
+fn look_at_one(branch: &mut Branch, a: usize) -> bool {
+    if branch.problem.is_initial(a) {
+        return !branch.problem.relevant.has(0, a) || look_at_last(branch, a);
+    }
+    let event = branch.problem.event(a);
+    if event.writes {
+        return look_at_write(branch, a);
+    }
+    if !event.reads {
         return true;
     }
-    if writes(problem, a) {
-        return look_at_write(problem, branch, a);
-    }
-    if !reads(problem, a) {
-        return true;
-    }
-    let s = source_of(branch, a);
+    let s = branch.source_of(a);
     if s != NONE {
-        look_at_known(problem, branch, test, a, s)
+        look_at_known(branch, a, s)
     } else {
-        look_at_open(problem, branch, test, a)
+        look_at_open(branch, a)
     }
 }
 
-fn take_dirty(problem: &Problem, branch: &mut Branch) -> usize {
-    for k in 0..problem.width {
-        let bits = word(&branch.dirty, k);
-        if bits != 0 {
-            put_word(&mut branch.dirty, k, rest(bits));
-            return row(k, 64).wrapping_add(lowest(bits));
-        }
-    }
-    NONE
+/// The next event that is to be looked at.
+fn take_dirty(branch: &mut Branch) -> usize {
+    let next = branch.dirty.first(0);
+    branch.dirty.remove(0, next);
+    next
 }
 
 /// Notes all that follows. False where the branch is closed.
-pub fn deduce(problem: &Problem, branch: &mut Branch, test: &Test) -> bool {
+pub fn deduce(branch: &mut Branch) -> bool {
     for _step in 0..u64::MAX {
-        if branch.is_refused {
+        if branch.is_refused() {
             // What follows can't be noted any more, so it would follow again and again.
             return true;
         }
         if branch.claim_is_dirty {
             branch.claim_is_dirty = false;
-            if !want_asked(problem, branch, test) {
+            if !want_asked(branch) {
                 return false;
             }
             continue;
         }
-        let next = take_dirty(problem, branch);
+        let next = take_dirty(branch);
         if next == NONE {
             return true;
         }
-        if !look_at_one(problem, branch, test, next) {
+        if !look_at_one(branch, next) {
             return false;
         }
     }

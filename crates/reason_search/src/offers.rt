@@ -1,65 +1,112 @@
 //! The best reason for a source that a read can't have, and for an order that follows: of several the one that brings the fewest
 //! answers.
 
-use crate::branch::{cell, is_known};
-use crate::case::{Case, Pair, Reading, ordered};
-use crate::evidence::{
-    Closing, Evidence, follow, make_evidence, need, need_order, offer, reset, show_order, visit,
-    weigh,
-};
-use crate::growing::{Trees, no_trees};
+use crate::branch::{Branch, Edge};
+use crate::evidence::{Closing, Evidence, make_evidence, need, reset, visit, visit_three, weigh};
+use crate::falsity::Asked;
+use crate::growing::{Trees, are_refused, no_trees};
 use crate::known_values::{
     KnownValues, is_false, make_values, need_falsity, run, suppose, suppose_nothing,
 };
-use crate::looking::{is_global_source, is_read_by_another};
-use crate::notes::source_of;
-use crate::paths::{
-    Edges, Paths, begin, find, first_edges, make_paths, start_from, start_from_later,
-};
-use crate::problem::{Problem, Relations, event, location, partner};
-use crate::rows::{NONE, at, has, row};
+use crate::looking::{is_before_source, is_read_by_another};
+use crate::numbers::{NONE, Numbers};
+use crate::paths::{Edges, Paths, begin, find, make_paths, start_from, start_from_later};
+use crate::problem::Relations;
+use crate::rows::Rows;
+use crate::stack::Stack;
+use crate::weights::Weights;
 use std::alloc::Global;
+use std::mem::swap;
 use tso_model::NoMemory;
 
 /// What reasons are made with.
 #[derive(Drop)]
 pub struct Desk {
-    pub alloc: Global,
     pub paths: Paths,
     pub inner: Paths,
     pub best: Evidence,
     pub trial: Evidence,
     pub values: KnownValues,
     pub trees: Trees,
-    /// The facts that the tree in hand uses.
-    pub used: Vec<u64>,
+    /// Questions in hand.
+    pub asked: Stack<Asked>,
+    /// One row: the facts that the tree in hand uses.
+    pub used: Rows,
     /// How many facts stand above the tree in hand, if it uses them.
     pub above: usize,
     /// For each source its tree, while a question's branches are put together.
-    pub branches: Vec<usize>,
-    /// How often each event stood in a question that was needed, of late more.
-    pub weight: Vec<u64>,
-    pub step: u64,
+    pub branches: Numbers,
+    pub weights: Weights,
+}
+
+impl Desk {
+    /// Whether memory was refused.
+    pub fn is_refused(&self) -> bool {
+        are_refused(&self.trees) | self.asked.is_refused()
+    }
 }
 
 /// What reasons are made with, for at most so many facts.
 ///
 /// Errors: out of memory only.
-pub fn make_desk(alloc: Global, problem: &Problem, facts: usize) -> Result<Desk, NoMemory> {
+pub fn make_desk(alloc: Global, size: usize, facts: usize) -> Result<Desk, NoMemory> {
     Ok(Desk {
-        alloc,
-        paths: make_paths(alloc, problem)?,
-        inner: make_paths(alloc, problem)?,
-        best: make_evidence(alloc, problem)?,
-        trial: make_evidence(alloc, problem)?,
-        values: make_values(alloc, problem)?,
+        paths: make_paths(alloc, size)?,
+        inner: make_paths(alloc, size)?,
+        best: make_evidence(alloc, size)?,
+        trial: make_evidence(alloc, size)?,
+        values: make_values(alloc, size)?,
         trees: no_trees(alloc),
-        used: vec![in alloc; 0u64; facts / 64 + 1]?,
+        asked: Stack::new(alloc),
+        used: Rows::new(alloc, 1, facts)?,
         above: 0,
-        branches: vec![in alloc; NONE; problem.size]?,
-        weight: vec![in alloc; 0u64; problem.size]?,
-        step: 1024,
+        branches: Numbers::new(alloc, size, NONE)?,
+        weights: Weights::new(alloc, size)?,
     })
+}
+
+/// Adds to the leaf in hand the facts that one write comes before another one.
+fn need_order(branch: &Branch, desk: &mut Desk, a: usize, b: usize, limit: usize) {
+    begin(&mut desk.inner);
+    start_from(&mut desk.inner, a);
+    let edges = Edges {
+        relations: Relations::Coherence,
+        limit,
+    };
+    if find(branch, &mut desk.inner, edges, b) {
+        for i in 0..desk.inner.events.len() {
+            let edge = branch.edge(desk.inner.edges.at(i));
+            need(&mut desk.trial, edge.link.fact);
+        }
+    }
+}
+
+/// The same, and adds to the cycle the writes that stand between them.
+pub fn show_order(branch: &Branch, desk: &mut Desk, a: usize, b: usize, limit: usize) {
+    need_order(branch, desk, a, b, limit);
+    for i in 1..desk.inner.events.len() {
+        visit(&mut desk.trial, desk.inner.events.from_end(i));
+    }
+}
+
+/// Adds the facts of an edge; after its first event the writes are shown that stand between a read's source and what it is before.
+fn need_edge(branch: &Branch, desk: &mut Desk, edge: Edge, limit: usize) {
+    need(&mut desk.trial, edge.link.fact);
+    if edge.link.is_from_read {
+        let s = branch.source_of(edge.link.from);
+        show_order(branch, desk, s, edge.link.to, limit);
+    }
+}
+
+/// Adds the path that was found, without its end.
+fn follow(branch: &Branch, desk: &mut Desk) {
+    for i in 0..desk.paths.events.len() {
+        visit(&mut desk.trial, desk.paths.events.from_end(i));
+        let limit = desk.paths.edges.from_end(i);
+        if limit != NONE {
+            need_edge(branch, desk, branch.edge(limit), limit);
+        }
+    }
 }
 
 /// What kind of leaf a cycle of these relations is.
@@ -70,232 +117,256 @@ fn closing_of(relations: Relations) -> Closing {
     }
 }
 
-/// Offers the leaf in hand.
-fn offer_trial(desk: &mut Desk, length: usize) {
-    weigh(&mut desk.trial, &desk.used, length);
-    offer(&mut desk.best, &desk.trial);
+/// Takes in hand the leaf of a cycle that an edge closes.
+pub fn close_cycle(branch: &Branch, desk: &mut Desk, edge: Edge) {
+    let limit = branch.edges.len();
+    let edges = Edges {
+        relations: edge.relations,
+        limit,
+    };
+    reset(&mut desk.trial, closing_of(edge.relations));
+    begin(&mut desk.paths);
+    start_from(&mut desk.paths, edge.link.to);
+    if edge.link.to == edge.link.from || find(branch, &mut desk.paths, edges, edge.link.from) {
+        follow(branch, desk);
+        visit(&mut desk.trial, edge.link.from);
+        need_edge(branch, desk, edge, limit);
+    }
 }
 
+/// Offers the leaf in hand, which counts as so long: the better one is the best then.
+fn offer(desk: &mut Desk, length: usize) {
+    weigh(&mut desk.trial, &desk.used, length);
+    if desk.trial.cost < desk.best.cost {
+        swap(&mut desk.trial, &mut desk.best);
+    }
+}
+
+/// Offers the cycle in hand.
 fn offer_cycle(desk: &mut Desk) {
-    let length = desk.trial.cycle_length;
-    offer_trial(desk, length);
+    let length = desk.trial.cycle.len();
+    offer(desk, length);
 }
 
 /// Takes in hand the cycle of a path to `to`, and of an edge back. False where there is no path.
-fn take_cycle(case: Case<'_>, desk: &mut Desk, edges: Edges, to: usize) -> bool {
-    if !find(case, &mut desk.paths, edges, to) {
+fn take_cycle(branch: &Branch, desk: &mut Desk, edges: Edges, to: usize) -> bool {
+    if !find(branch, &mut desk.paths, edges, to) {
         return false;
     }
     reset(&mut desk.trial, closing_of(edges.relations));
-    follow(case, &desk.paths, &mut desk.inner, &mut desk.trial);
+    follow(branch, desk);
     visit(&mut desk.trial, to);
     true
 }
 
-/// Makes the leaf in hand one of a write between two parts.
-fn put_between(desk: &mut Desk, r: usize, v: usize, own: usize) {
+/// Takes in hand the cycle of a path from one event to another one, and of an edge back.
+fn take_path(branch: &Branch, desk: &mut Desk, edges: Edges, from: usize, to: usize) -> bool {
+    begin(&mut desk.paths);
+    start_from(&mut desk.paths, from);
+    take_cycle(branch, desk, edges, to)
+}
+
+/// Makes the leaf in hand one of a write between two parts, and offers it.
+fn offer_write_between(desk: &mut Desk, r: usize, v: usize, own: usize) {
     desk.trial.closing = Closing::Between;
-    desk.trial.cycle_length = 0;
-    visit(&mut desk.trial, r);
-    visit(&mut desk.trial, v);
-    visit(&mut desk.trial, own);
+    desk.trial.cycle.clear();
+    visit_three(&mut desk.trial, r, v, own);
+    offer(desk, 6);
 }
 
 /// Offers a cycle: the path from one end to the other, and the edge back, which follows from a fact or from what is supposed.
-fn offer_path(case: Case<'_>, desk: &mut Desk, edges: Edges, ends: Pair, fact: usize) {
-    begin(case.problem, &mut desk.paths);
-    start_from(&mut desk.paths, ends.first);
-    if take_cycle(case, desk, edges, ends.second) {
+fn offer_path(branch: &Branch, desk: &mut Desk, edges: Edges, from: usize, to: usize, fact: usize) {
+    if take_path(branch, desk, edges, from, to) {
         need(&mut desk.trial, fact);
         offer_cycle(desk);
     }
 }
 
 /// The same of both relations.
-fn offer_paths(case: Case<'_>, desk: &mut Desk, ends: Pair, limit: usize, fact: usize) {
-    offer_path(
-        case,
-        desk,
-        first_edges(Relations::OnLocation, limit),
-        ends,
-        fact,
-    );
-    offer_path(
-        case,
-        desk,
-        first_edges(Relations::Global, limit),
-        ends,
-        fact,
-    );
+fn offer_paths(
+    branch: &Branch,
+    desk: &mut Desk,
+    from: usize,
+    to: usize,
+    limit: usize,
+    fact: usize,
+) {
+    offer_path(branch, desk, on_location(limit), from, to, fact);
+    offer_path(branch, desk, global(limit), from, to, fact);
+}
+
+fn on_location(limit: usize) -> Edges {
+    Edges {
+        relations: Relations::OnLocation,
+        limit,
+    }
+}
+
+fn global(limit: usize) -> Edges {
+    Edges {
+        relations: Relations::Global,
+        limit,
+    }
+}
+
+fn coherence(limit: usize) -> Edges {
+    Edges {
+        relations: Relations::Coherence,
+        limit,
+    }
+}
+
+/// Offers a cycle where the read is before the source.
+fn offer_back(branch: &Branch, desk: &mut Desk, edges: Edges, r: usize, s: usize) {
+    if is_before_source(branch, edges.relations, r, s) {
+        offer_path(branch, desk, edges, r, s, NONE);
+    }
 }
 
 /// Offers a cycle by from-reads: from a write after the source to the read, and back.
-fn offer_from_reads(case: Case<'_>, desk: &mut Desk, edges: Edges, reading: Reading) {
-    start_from_later(case, &mut desk.paths, reading.write, edges.limit);
-    if take_cycle(case, desk, edges, reading.read) {
-        let order = ordered(reading.write, at(&desk.trial.cycle, 0));
-        show_order(case, &mut desk.inner, &mut desk.trial, order, edges.limit);
+fn offer_from_reads(branch: &Branch, desk: &mut Desk, edges: Edges, r: usize, s: usize) {
+    start_from_later(branch, &mut desk.paths, s, edges.limit);
+    if take_cycle(branch, desk, edges, r) {
+        let first = desk.trial.cycle.at(0);
+        show_order(branch, desk, s, first, edges.limit);
         offer_cycle(desk);
     }
 }
 
-/// Offers a write between the source of a load part and its store part.
-fn offer_between(case: Case<'_>, desk: &mut Desk, reading: Reading, limit: usize) {
-    let own = partner(case.problem, reading.read);
-    let core = event(case.problem, reading.read).core.0;
-    start_from_later(case, &mut desk.inner, reading.write, limit);
-    begin(case.problem, &mut desk.paths);
-    for x in case.problem.locations..case.problem.size {
-        if has(&desk.inner.starts, 0, x)
-            && x != own
-            && event(case.problem, x).core.0 != core
-            && is_known(case.problem, case.branch, Relations::Coherence, x, own)
+/// Begins with the writes of other cores after a source that are known to be before the read's store part.
+fn start_between(branch: &Branch, desk: &mut Desk, r: usize, s: usize, own: usize, limit: usize) {
+    start_from_later(branch, &mut desk.inner, s, limit);
+    begin(&mut desk.paths);
+    for x in branch.problem.locations..branch.problem.size {
+        if desk.inner.starts.has(0, x)
+            && branch.problem.core(x) != branch.problem.core(r)
+            && branch.is_known(Relations::Coherence, x, own)
         {
             start_from(&mut desk.paths, x);
         }
     }
-    if take_cycle(case, desk, first_edges(Relations::Coherence, limit), own) {
-        let x = at(&desk.trial.cycle, 0);
-        need_order(
-            case,
-            &mut desk.inner,
-            &mut desk.trial,
-            ordered(reading.write, x),
-            limit,
-        );
-        put_between(desk, reading.read, x, own);
-        offer_trial(desk, 6);
+}
+
+/// Offers a write between the source of a load part and its store part.
+fn offer_between(branch: &Branch, desk: &mut Desk, r: usize, s: usize, limit: usize) {
+    let own = branch.problem.partner(r);
+    start_between(branch, desk, r, s, own, limit);
+    if take_cycle(branch, desk, coherence(limit), own) {
+        let x = desk.trial.cycle.at(0);
+        need_order(branch, desk, s, x, limit);
+        offer_write_between(desk, r, x, own);
     }
 }
 
-/// Offers that what is asked is false by the values that are set.
-fn offer_false(case: Case<'_>, desk: &mut Desk) -> bool {
-    run(case, &mut desk.values);
-    if !is_false(case, &desk.values) {
+/// Takes in hand that what is asked is false by the values that answers tell. False where it isn't.
+pub fn take_false(branch: &Branch, desk: &mut Desk) -> bool {
+    run(branch, &mut desk.values);
+    if !is_false(branch, &mut desk.values) {
         return false;
     }
     reset(&mut desk.trial, Closing::False);
-    need_falsity(case, &mut desk.values, &mut desk.trial);
-    offer_trial(desk, 0);
+    need_falsity(branch, &mut desk.values, &mut desk.trial);
     true
 }
 
+/// Offers that what is asked is false by the values that are set.
+fn offer_false(branch: &Branch, desk: &mut Desk) {
+    if take_false(branch, desk) {
+        offer(desk, 0);
+    }
+}
+
 /// Finds the best reason why a read can't have a source.
-pub fn find_why_not(case: Case<'_>, desk: &mut Desk, reading: Reading) {
-    let place = cell(case.problem, reading.read, reading.write);
-    let facts = at(&case.branch.tables.removed_facts, place);
+pub fn find_why_not(branch: &Branch, desk: &mut Desk, r: usize, s: usize) {
     reset(&mut desk.best, Closing::None);
-    suppose_nothing(&mut desk.values, facts);
-    suppose(&mut desk.values, reading.read, reading.write);
-    let _found = offer_false(case, desk);
-    offer_orders(case, desk, reading);
+    suppose_nothing(&mut desk.values, branch.removed_at(r, s));
+    suppose(&mut desk.values, r, s);
+    offer_false(branch, desk);
+    offer_orders(branch, desk, r, s);
 }
 
 /// Offers the reasons by order why a read can't have a source.
-pub fn offer_orders(case: Case<'_>, desk: &mut Desk, reading: Reading) {
-    let Reading { read: r, write: s } = reading;
-    let place = cell(case.problem, r, s);
-    let facts = at(&case.branch.tables.removed_facts, place);
-    let limit = at(&case.branch.tables.removed_edges, place);
-    let on_location = first_edges(Relations::OnLocation, limit);
-    let global = first_edges(Relations::Global, limit);
-    if is_known(case.problem, case.branch, Relations::OnLocation, r, s) {
-        offer_path(case, desk, on_location, ordered(r, s), NONE);
-    }
-    if is_global_source(case.problem, s, r)
-        && is_known(case.problem, case.branch, Relations::Global, r, s)
-    {
-        offer_path(case, desk, global, ordered(r, s), NONE);
-    }
-    offer_from_reads(case, desk, on_location, reading);
-    offer_from_reads(case, desk, global, reading);
-    if partner(case.problem, r) != NONE {
-        offer_between(case, desk, reading, limit);
-        offer_twice(case, desk, reading, facts);
+pub fn offer_orders(branch: &Branch, desk: &mut Desk, r: usize, s: usize) {
+    let limit = branch.edges_at(r, s);
+    offer_back(branch, desk, on_location(limit), r, s);
+    offer_back(branch, desk, global(limit), r, s);
+    offer_from_reads(branch, desk, on_location(limit), r, s);
+    offer_from_reads(branch, desk, global(limit), r, s);
+    if branch.problem.partner(r) != NONE {
+        offer_between(branch, desk, r, s, limit);
+        offer_twice(branch, desk, r, s);
     }
 }
 
 /// Offers that another locked instruction reads the same write.
-fn offer_twice(case: Case<'_>, desk: &mut Desk, reading: Reading, facts: usize) {
-    let Reading { read: r, write: s } = reading;
-    let other = at(&case.branch.tables.reader, s);
-    let source = at(&case.branch.tables.source, other);
-    if source < facts && is_read_by_another(case.problem, case.branch, r, s) {
+fn offer_twice(branch: &Branch, desk: &mut Desk, r: usize, s: usize) {
+    let other = branch.reader.at(s);
+    let source = branch.source.at(other);
+    if source < branch.removed_at(r, s) && is_read_by_another(branch, r, s) {
         reset(&mut desk.trial, Closing::Twice);
         need(&mut desk.trial, source);
-        visit(&mut desk.trial, other);
-        visit(&mut desk.trial, r);
-        visit(&mut desk.trial, s);
-        offer_trial(desk, 16);
+        visit_three(&mut desk.trial, other, r, s);
+        offer(desk, 16);
     }
 }
 
-/// Finds the best reason why one write can't come before another one, where a fact says that it comes after it.
-pub fn find_why_before(case: Case<'_>, desk: &mut Desk, order: Pair, fact: usize, limit: usize) {
-    let Pair {
-        first: a,
-        second: b,
-    } = order;
+/// Finds the best reason why b can't come before a, where a fact says that it comes after it.
+pub fn find_why_before(
+    branch: &Branch,
+    desk: &mut Desk,
+    a: usize,
+    b: usize,
+    fact: usize,
+    limit: usize,
+) {
+    let loc = branch.problem.location(a);
     reset(&mut desk.best, Closing::None);
-    offer_paths(case, desk, order, limit, NONE);
-    let loc = location(case.problem, a);
+    offer_paths(branch, desk, a, b, limit, NONE);
     suppose_nothing(&mut desk.values, fact);
     desk.values.first = b;
-    desk.values.second = a;
-    if has(&case.problem.asked, 0, loc) {
-        let _found = offer_false(case, desk);
+    if branch.problem.relevant.has(0, loc) {
+        offer_false(branch, desk);
     }
-    for r in case.problem.locations..case.problem.size {
-        let source = at(&case.branch.tables.source, r);
-        if source < fact && has(&case.problem.readers_of, row(loc, case.problem.width), r) {
-            if source_of(case.branch, r) == b {
-                // b before a: r is before a
-                offer_paths(case, desk, ordered(a, r), limit, source);
-            }
-            offer_parts(case, desk, order, r, limit);
+    for r in branch.problem.locations..branch.problem.size {
+        if branch.source.at(r) < fact && branch.problem.location(r) == loc {
+            offer_read(branch, desk, a, b, r, limit);
         }
     }
 }
 
-/// The write that would stand between the parts of a locked instruction if b were before a, and the path by which a is before b.
-fn parted_by(case: Case<'_>, order: Pair, r: usize) -> Option<(usize, Pair)> {
-    let Pair {
-        first: a,
-        second: b,
-    } = order;
-    let own = partner(case.problem, r);
-    let s = source_of(case.branch, r);
-    if s == b && a != own && is_known(case.problem, case.branch, Relations::Coherence, a, own) {
-        return Some((a, ordered(a, own)));
+/// Offers the reasons by a read of their location why b can't come before a.
+fn offer_read(branch: &Branch, desk: &mut Desk, a: usize, b: usize, r: usize, limit: usize) {
+    let own = branch.problem.partner(r);
+    let s = branch.source_of(r);
+    if s == b {
+        // b before a: r is before a
+        offer_paths(branch, desk, a, r, limit, branch.source.at(r));
     }
-    if own == a && s != b && is_known(case.problem, case.branch, Relations::Coherence, s, b) {
-        return Some((b, ordered(s, b)));
-    }
-    None
-}
-
-/// Offers that b before a would put a write between the parts of a locked instruction.
-fn offer_parts(case: Case<'_>, desk: &mut Desk, order: Pair, r: usize, limit: usize) {
-    let own = partner(case.problem, r);
     if own == NONE {
         return;
     }
-    let Some((between, ends)) = parted_by(case, order, r) else {
-        return;
-    };
-    if event(case.problem, between).core.0 == event(case.problem, r).core.0 {
-        return;
+    if s == b && a != own {
+        offer_parts(branch, desk, a, own, a, r, limit);
+    } else if own == a && s != b {
+        offer_parts(branch, desk, s, b, b, r, limit);
     }
-    begin(case.problem, &mut desk.paths);
-    start_from(&mut desk.paths, ends.first);
-    if take_cycle(
-        case,
-        desk,
-        first_edges(Relations::Coherence, limit),
-        ends.second,
-    ) {
-        need(&mut desk.trial, at(&case.branch.tables.source, r));
-        put_between(desk, r, between, own);
-        offer_trial(desk, 6);
+}
+
+/// Offers a write of another core between the parts of a locked instruction, where one write is known to be before another one.
+fn offer_parts(
+    branch: &Branch,
+    desk: &mut Desk,
+    first: usize,
+    second: usize,
+    between: usize,
+    r: usize,
+    limit: usize,
+) {
+    if branch.is_known(Relations::Coherence, first, second)
+        && branch.problem.core(between) != branch.problem.core(r)
+        && take_path(branch, desk, coherence(limit), first, second)
+    {
+        need(&mut desk.trial, branch.source.at(r));
+        offer_write_between(desk, r, between, branch.problem.partner(r));
     }
 }

@@ -1,29 +1,54 @@
-//! What a search works on: the events by number, what program order keeps of them, and what each write writes in terms of what is
-//! read. The initial write of each location stands before the events.
+//! What a search works on: the events by number, what program order keeps of them, what each write writes in terms of what is read,
+//! and what is asked. The initial write of each location stands before the events.
 
 ghost use Rattle.std.specs.Prelude.{◌<◌, length};
 
-use crate::naming::{has_choice, mark_asked, mark_named, mark_relevant};
-use crate::rows::{NONE, add, row};
+use crate::claim::{Part, has_choice, mark_relevant, parts_of};
+use crate::numbers::NONE;
+use crate::rows::Rows;
+use crate::stack::Stack;
 use refutation_laws::Model;
 use refutations::events::{is_access, is_before, is_locked, is_read, is_write};
 use std::alloc::Global;
-use tso_model::{Action, Core, Entry, Kind, Loc, NoMemory, Operand, Quantifier, Test, Update};
+use tso_model::{Action, Core, Entry, Kind, Loc, NoMemory, Operand, Test, Update};
 
-/// A value in terms of what reads return.
+/// A value: a number and what up to two reads return, added up. `NONE` is no read.
 #[derive(Clone, Copy)]
-pub enum Term {
-    Number(u32),
-    /// What the read returns.
-    Of(usize),
-    /// The sum of what the read returns and a number.
-    Plus(usize, u32),
-    /// The sum of what two reads return.
-    Sum(usize, usize),
+pub struct Term {
+    pub number: u32,
+    pub first: usize,
+    pub second: usize,
 }
 
+/// An event.
+#[derive(Clone, Copy)]
+pub struct Event {
+    pub entry: Entry,
+    pub location: usize,
+    pub reads: bool,
+    /// Whether it is a write, and not an initial one.
+    pub writes: bool,
+    /// The other part of a locked instruction, which stands beside it; `NONE` for others.
+    pub partner: usize,
+}
+
+/// What stands where there is no event.
+const NO_EVENT: Event = Event {
+    entry: Entry {
+        core: Core(255),
+        place: 0,
+        kind: Kind::F,
+        loc: Loc(0),
+        value: 0,
+    },
+    location: 0,
+    reads: false,
+    writes: false,
+    partner: NONE,
+};
+
 /// The relations whose edges are kept: those of one location, the global ones, and coherence.
-#[derive(Clone, Copy, PartialEq, Eq)]
+#[derive(Clone, Copy)]
 pub enum Relations {
     OnLocation,
     Global,
@@ -39,80 +64,128 @@ pub struct Problem {
     pub width: usize,
     pub locations: usize,
     pub sequential: bool,
-    pub events: Vec<Entry>,
+    events: Stack<Event>,
+    terms: Stack<Term>,
     /// The writes to each location but the initial one.
-    pub writes_to: Vec<u64>,
+    pub writes_to: Rows,
     /// The reads of each location, and its initial write.
-    pub readers_of: Vec<u64>,
-    /// Edges between accesses of one location that the program alone tells.
-    pub on_location: Vec<u64>,
-    /// Edges of the global relations that the program alone tells.
-    pub global: Vec<u64>,
-    /// What each event writes or returns.
-    pub terms: Vec<Term>,
-    /// What each register holds at the end, six to a core.
-    pub finals: Vec<Term>,
-    /// The locations of which something is asked.
-    pub asked: Vec<u64>,
-    /// The reads on whose values what is asked may hang.
-    pub relevant: Vec<u64>,
-    /// Whether what is asked can be true in more ways than one.
+    pub readers_of: Rows,
+    /// The edges of each of the relations that the program alone tells.
+    pub program: Rows,
+    /// What is asked.
+    pub claim: Stack<Part>,
+    /// Whether what is asked can be so in more ways than one.
     pub has_choice: bool,
+    /// One row: the locations of which something is asked, and the reads on whose values what is asked may hang.
+    pub relevant: Rows,
 }
 
-/// An event by its number.
-pub fn event(problem: &Problem, i: usize) -> Entry {
-    problem.events.get(i).copied().unwrap_or(Entry {
-        core: Core(255),
-        place: 0,
-        kind: Kind::F,
-        loc: Loc(0),
-        value: 0,
-    })
-}
+impl Problem {
+    /// An event by its number.
+    pub fn event(&self, i: usize) -> Event {
+        self.events.at(i, NO_EVENT)
+    }
 
-/// The location of an event, by its number.
-pub fn location(problem: &Problem, i: usize) -> usize {
-    usize::from(event(problem, i).loc.0)
-}
+    /// The location of an event.
+    pub fn location(&self, i: usize) -> usize {
+        self.event(i).location
+    }
 
-/// Whether this is the initial write of a location.
-pub fn is_initial(problem: &Problem, i: usize) -> bool {
-    i < problem.locations
-}
+    /// The other part of a locked instruction.
+    pub fn partner(&self, i: usize) -> usize {
+        self.event(i).partner
+    }
 
-/// Whether this is a read.
-pub fn reads(problem: &Problem, i: usize) -> bool {
-    !is_initial(problem, i) && is_read(&event(problem, i))
-}
+    /// The core of an event.
+    pub fn core(&self, i: usize) -> u8 {
+        self.event(i).entry.core.0
+    }
 
-/// Whether this is a write, and not an initial one.
-pub fn writes(problem: &Problem, i: usize) -> bool {
-    !is_initial(problem, i) && is_write(&event(problem, i))
-}
+    /// Whether this is the initial write of a location.
+    pub fn is_initial(&self, i: usize) -> bool {
+        i < self.locations
+    }
 
-/// The other part of a locked instruction, which stands beside it.
-pub fn partner(problem: &Problem, a: usize) -> usize {
-    match event(problem, a).kind {
-        Kind::LR => a.wrapping_add(1),
-        Kind::LW => a.wrapping_sub(1),
-        _ => NONE,
+    /// Whether this is a write to the location, and not the initial one.
+    pub fn is_write_to(&self, loc: usize, i: usize) -> bool {
+        self.writes_to.has(loc, i)
+    }
+
+    /// Whether a location has such a write.
+    pub fn is_written(&self, loc: usize) -> bool {
+        !self.writes_to.is_empty(loc)
+    }
+
+    /// What an event writes or returns.
+    pub fn term(&self, i: usize) -> Term {
+        self.terms.at(i, bare_number(0))
+    }
+
+    /// A part of what is asked.
+    pub fn part(&self, i: usize) -> Part {
+        self.claim.at(i, Part::Fixed(true))
+    }
+
+    /// The row of what is after an event by the program alone.
+    pub fn row(&self, relations: Relations, a: usize) -> usize {
+        (relations as usize).wrapping_mul(self.size).wrapping_add(a)
+    }
+
+    fn add_edge(&mut self, relations: Relations, a: usize, b: usize) {
+        let row = self.row(relations, a);
+        self.program.add(row, b);
+    }
+
+    fn is_refused(&self) -> bool {
+        self.events.is_refused() | self.terms.is_refused() | self.claim.is_refused()
     }
 }
 
-/// What an event writes or returns.
-pub fn term_of(problem: &Problem, i: usize) -> Term {
-    problem.terms.get(i).copied().unwrap_or(Term::Number(0))
+/// A number that hangs on no read.
+pub fn bare_number(value: u32) -> Term {
+    Term {
+        number: value,
+        first: NONE,
+        second: NONE,
+    }
 }
 
-/// What a register holds at the end.
-pub fn final_term(problem: &Problem, core: usize, reg: usize) -> Term {
-    let place = core.wrapping_mul(6).wrapping_add(reg);
-    problem
-        .finals
-        .get(place)
-        .copied()
-        .unwrap_or(Term::Number(0))
+/// What a read returns.
+fn returned(r: usize) -> Term {
+    Term {
+        number: 0,
+        first: r,
+        second: NONE,
+    }
+}
+
+/// The event with this number.
+fn event_of(i: usize, entry: Entry) -> Event {
+    Event {
+        entry,
+        location: usize::from(entry.loc.0),
+        reads: is_read(&entry),
+        writes: is_write(&entry),
+        partner: match entry.kind {
+            Kind::LR => i.wrapping_add(1),
+            Kind::LW => i.wrapping_sub(1),
+            _ => NONE,
+        },
+    }
+}
+
+/// Notes the events, after the initial writes.
+fn add_events(problem: &mut Problem, events: &[Entry]) {
+    for location in 0..problem.locations {
+        problem.events.push(Event {
+            location,
+            ..NO_EVENT
+        });
+    }
+    for entry in events {
+        let i = problem.events.len();
+        problem.events.push(event_of(i, *entry));
+    }
 }
 
 fn is_fenced(events: &[Entry], x: &Entry, y: &Entry) -> bool {
@@ -129,158 +202,117 @@ fn is_kept(events: &[Entry], sequential: bool, x: &Entry, y: &Entry) -> bool {
     sequential || !passes || is_locked(x) || is_locked(y) || is_fenced(events, x, y)
 }
 
-fn is_on_location(x: &Entry, y: &Entry) -> bool {
-    is_access(x) && is_access(y) && x.loc.0 == y.loc.0
-}
-
-/// Adds the edges that the program alone tells.
-fn add_program_order(problem: &mut Problem) {
-    for a in problem.locations..problem.size {
-        let x = event(problem, a);
-        let start = row(a, problem.width);
-        for b in problem.locations..problem.size {
-            let y = event(problem, b);
-            if is_before(&x, &y) && is_access(&x) && is_access(&y) {
-                if is_on_location(&x, &y) {
-                    add(&mut problem.on_location, start, b);
-                }
-                if is_kept(&problem.events, problem.sequential, &x, &y) {
-                    add(&mut problem.global, start, b);
-                }
-            }
+/// Adds the edge between two events that program order tells, if it tells one.
+fn add_pair(problem: &mut Problem, events: &[Entry], a: usize, b: usize) {
+    let x = problem.event(a).entry;
+    let y = problem.event(b).entry;
+    if is_before(&x, &y) && is_access(&x) && is_access(&y) {
+        if x.loc.0 == y.loc.0 {
+            problem.add_edge(Relations::OnLocation, a, b);
+        }
+        if is_kept(events, problem.sequential, &x, &y) {
+            problem.add_edge(Relations::Global, a, b);
         }
     }
 }
 
-/// Notes for each location what writes to it and what reads it.
+/// Adds the edges that program order tells.
+fn add_program_order(problem: &mut Problem, events: &[Entry]) {
+    for a in problem.locations..problem.size {
+        for b in problem.locations..problem.size {
+            add_pair(problem, events, a, b);
+        }
+    }
+}
+
+/// Notes for each location what writes to it and what reads it. Its initial write is before all others.
 fn add_accesses(problem: &mut Problem) {
     for a in 0..problem.size {
-        let loc = location(problem, a);
-        let start = row(loc, problem.width);
-        if writes(problem, a) {
-            add(&mut problem.writes_to, start, a);
-            let initial = row(loc, problem.width);
-            add(&mut problem.on_location, initial, a);
-            add(&mut problem.global, initial, a);
+        let event = problem.event(a);
+        let loc = event.location;
+        if event.writes {
+            problem.writes_to.add(loc, a);
+            problem.add_edge(Relations::OnLocation, loc, a);
+            problem.add_edge(Relations::Global, loc, a);
+            problem.add_edge(Relations::Coherence, loc, a);
         }
-        if reads(problem, a) || is_initial(problem, a) {
-            add(&mut problem.readers_of, start, a);
+        if event.reads || problem.is_initial(a) {
+            problem.readers_of.add(loc, a);
         }
     }
 }
 
 fn held(registers: &[Term; 6], operand: Operand) -> Term {
     match operand {
-        Operand::Number(value) => Term::Number(value),
+        Operand::Number(value) => bare_number(value),
         Operand::Held(reg) => registers[reg.index()],
     }
 }
 
+/// What a locked instruction writes, where its load part is this read and its register holds this.
 fn updated(update: Update, read: usize, held: Term) -> Term {
-    match (update, held) {
-        (Update::Exchange, _) => held,
-        (Update::Add, Term::Number(value)) => Term::Plus(read, value),
-        (Update::Add, Term::Of(other)) => Term::Sum(read, other),
-        (Update::Add, _) => Term::Of(read),
+    match update {
+        Update::Exchange => held,
+        Update::Add => {
+            Term {
+                number: held.number,
+                first: read,
+                second: held.first,
+            }
+        }
     }
 }
 
-/// The terms of what an action does, where its first event has this number.
-fn add_terms(
-    terms: &mut Vec<Term>,
-    registers: &mut [Term; 6],
-    next: usize,
-    action: Action,
-) -> Result<(), NoMemory> {
+/// The terms of what an action does.
+fn add_terms(terms: &mut Stack<Term>, registers: &mut [Term; 6], action: Action) {
+    let next = returned(terms.len());
     match action {
-        Action::Store(_, operand) => terms.push(held(registers, operand))?,
+        Action::Store(_, operand) => terms.push(held(registers, operand)),
         Action::Load(reg, _) => {
-            terms.push(Term::Of(next))?;
-            registers[reg.index()] = Term::Of(next);
+            terms.push(next);
+            registers[reg.index()] = next;
         }
         Action::Move(reg, operand) => registers[reg.index()] = held(registers, operand),
-        Action::Fence => terms.push(Term::Number(0))?,
+        Action::Fence => terms.push(bare_number(0)),
         Action::Lock(_, reg, update) => {
-            terms.push(Term::Of(next))?;
-            terms.push(updated(update, next, registers[reg.index()]))?;
-            registers[reg.index()] = Term::Of(next);
+            terms.push(next);
+            terms.push(updated(update, next.first, registers[reg.index()]));
+            registers[reg.index()] = next;
         }
     }
-    Ok(())
 }
 
-fn first_terms(test: &Test, core: Core) -> [Term; 6]
+/// The terms of a core's events; adds what its registers hold at the end.
+fn run_core(terms: &mut Stack<Term>, finals: &mut Stack<Term>, test: &Test, core: Core)
     requires { core.0 < length test.now.programs }
 {
     let first = test.initial_registers(core);
-    [
-        Term::Number(first[0]),
-        Term::Number(first[1]),
-        Term::Number(first[2]),
-        Term::Number(first[3]),
-        Term::Number(first[4]),
-        Term::Number(first[5]),
-    ]
-}
-
-fn run_core(problem: &mut Problem, test: &Test, core: Core) -> Result<(), NoMemory>
-    requires { core.0 < length test.now.programs }
-{
-    let mut registers = first_terms(test, core);
+    let mut registers = [
+        bare_number(first[0]),
+        bare_number(first[1]),
+        bare_number(first[2]),
+        bare_number(first[3]),
+        bare_number(first[4]),
+        bare_number(first[5]),
+    ];
     for instr in test.program(core) {
-        let next = problem.terms.len();
-        add_terms(&mut problem.terms, &mut registers, next, instr.action())?;
+        add_terms(terms, &mut registers, instr.action());
     }
     for held in registers {
-        problem.finals.push(held)?;
+        finals.push(held);
     }
-    Ok(())
 }
 
-fn initial_writes(alloc: Global, test: &Test) -> Result<Vec<Entry>, NoMemory> {
-    let mut initial = Vec::new(alloc);
-    for number in 0..test.locations() {
-        initial.push(Entry {
-            core: Core(255),
-            place: 0,
-            kind: Kind::W,
-            loc: Loc(number),
-            value: 0,
-        })?;
-    }
-    Ok(initial)
-}
-
-/// The terms of all events and registers.
-fn run_cores(problem: &mut Problem, test: &Test) -> Result<(), NoMemory> {
+/// The terms of all events. What is returned are those of all registers at the end, six to a core.
+fn run_cores(alloc: Global, problem: &mut Problem, test: &Test) -> Stack<Term> {
+    let mut finals = Stack::new(alloc);
     for word in test.initial_words() {
-        problem.terms.push(Term::Number(*word))?;
+        problem.terms.push(bare_number(*word));
     }
-    for number in 0..test.cores() {
-        run_core(problem, test, Core(number))?;
+    for core in 0..test.cores() {
+        run_core(&mut problem.terms, &mut finals, test, Core(core));
     }
-    Ok(())
-}
-
-/// Marks what is asked.
-fn mark_claim(problem: &mut Problem, test: &Test) {
-    if let Some(cond) = test.cond() {
-        mark_asked(&mut problem.asked, &cond.prop);
-        problem.has_choice = has_choice(&cond.prop, !matches!(cond.quantifier, Quantifier::Forall));
-        mark_named(problem, &cond.prop);
-    }
-    mark_relevant(problem);
-}
-
-/// The initial writes, and after them the events.
-fn with_initial_writes(
-    alloc: Global,
-    test: &Test,
-    events: &[Entry],
-) -> Result<Vec<Entry>, NoMemory> {
-    let mut all = initial_writes(alloc, test)?;
-    all.extend_from_slice(events)?;
-    Ok(all)
+    finals
 }
 
 /// What a search for a reason works on.
@@ -294,26 +326,29 @@ pub fn make_problem(
 ) -> Result<Problem, NoMemory> {
     let locations = usize::from(test.locations());
     let size = locations.wrapping_add(events.len());
-    let width = size / 64 + 1;
     let mut problem = Problem {
         size,
-        width,
+        width: size / 64 + 1,
         locations,
         sequential: matches!(model, Model::Sequential),
-        writes_to: vec![in alloc; 0u64; row(locations, width)]?,
-        readers_of: vec![in alloc; 0u64; row(locations, width)]?,
-        on_location: vec![in alloc; 0u64; row(size, width)]?,
-        global: vec![in alloc; 0u64; row(size, width)]?,
-        asked: vec![in alloc; 0u64; width]?,
-        relevant: vec![in alloc; 0u64; width]?,
-        events: with_initial_writes(alloc, test, events)?,
-        terms: Vec::new(alloc),
-        finals: Vec::new(alloc),
+        events: Stack::new(alloc),
+        terms: Stack::new(alloc),
+        writes_to: Rows::new(alloc, locations, size)?,
+        readers_of: Rows::new(alloc, locations, size)?,
+        program: Rows::new(alloc, size.wrapping_mul(3), size)?,
+        claim: Stack::new(alloc),
         has_choice: false,
+        relevant: Rows::new(alloc, 1, size)?,
     };
-    run_cores(&mut problem, test)?;
-    add_program_order(&mut problem);
+    add_events(&mut problem, events);
     add_accesses(&mut problem);
-    mark_claim(&mut problem, test);
+    add_program_order(&mut problem, events);
+    let finals = run_cores(alloc, &mut problem, test);
+    problem.claim = parts_of(alloc, &problem, &finals, test);
+    problem.has_choice = has_choice(&problem.claim);
+    mark_relevant(&mut problem);
+    if problem.is_refused() | finals.is_refused() {
+        return Err(NoMemory);
+    }
     Ok(problem)
 }

@@ -1,64 +1,25 @@
-//! Lists that can be asked at any place, and rows of bits as sets of small numbers.
+//! Rows of bits: each row is a set of small numbers.
 
-/// No number.
-pub const NONE: usize = usize::MAX;
+use crate::numbers::NONE;
+use std::alloc::Global;
+use tso_model::NoMemory;
 
-/// The number at a place, and `NONE` where there is no such place.
-pub fn at(numbers: &[usize], i: usize) -> usize {
-    numbers.get(i).copied().unwrap_or(NONE)
+/// Rows of bits, all of so many words.
+#[derive(Drop)]
+pub struct Rows {
+    words: Vec<u64>,
+    width: usize,
 }
 
-/// Writes a number at a place that there is.
-pub fn put(numbers: &mut [usize], i: usize, number: usize) {
-    if let Some(place) = numbers.get_mut(i) {
-        *place = number;
-    }
-}
-
-/// The word at a place, and no bits where there is no such place.
-pub fn word(rows: &[u64], i: usize) -> u64 {
-    rows.get(i).copied().unwrap_or(0)
-}
-
-/// Writes a word at a place that there is.
-pub fn put_word(rows: &mut [u64], i: usize, bits: u64) {
-    if let Some(place) = rows.get_mut(i) {
-        *place = bits;
-    }
-}
-
-/// The word in which a bit stands alone.
+/// The word in which a number's bit stands alone.
 pub fn bit(i: usize) -> u64 {
     1u64 << (i % 64)
 }
 
-/// Whether the row that begins here has the number.
-pub fn has(rows: &[u64], start: usize, i: usize) -> bool {
-    word(rows, start.wrapping_add(i / 64)) & bit(i) != 0
-}
-
-/// Adds a number to the row that begins here.
-pub fn add(rows: &mut [u64], start: usize, i: usize) {
-    let place = start.wrapping_add(i / 64);
-    let bits = word(rows, place) | bit(i);
-    put_word(rows, place, bits);
-}
-
-/// Takes a number out of the row that begins here.
-pub fn remove(rows: &mut [u64], start: usize, i: usize) {
-    let place = start.wrapping_add(i / 64);
-    let bits = word(rows, place) & !bit(i);
-    put_word(rows, place, bits);
-}
-
-/// Where the row of a number begins, in rows of this many words.
-pub fn row(i: usize, width: usize) -> usize {
-    i.wrapping_mul(width)
-}
-
-/// The lowest number of a word that isn't empty.
-pub fn lowest(bits: u64) -> usize {
-    bits.trailing_zeros() as usize
+/// The lowest number of a word that isn't empty, where the word is the `k`-th of its row.
+pub fn lowest(k: usize, bits: u64) -> usize {
+    k.wrapping_mul(64)
+        .wrapping_add(bits.trailing_zeros() as usize)
 }
 
 /// The word without its lowest number.
@@ -66,46 +27,120 @@ pub fn rest(bits: u64) -> u64 {
     bits & bits.wrapping_sub(1)
 }
 
-/// How many numbers a row has.
-pub fn count(rows: &[u64], start: usize, width: usize) -> usize {
-    let mut sum = 0usize;
-    for k in 0..width {
-        sum = sum.wrapping_add(word(rows, start.wrapping_add(k)).count_ones() as usize);
+impl Rows {
+    /// So many empty rows for numbers below `most`.
+    ///
+    /// Errors: out of memory only.
+    pub fn new(alloc: Global, count: usize, most: usize) -> Result<Rows, NoMemory> {
+        let width = most / 64 + 1;
+        Ok(Rows {
+            words: vec![in alloc; 0u64; count.wrapping_mul(width)]?,
+            width,
+        })
     }
-    sum
-}
 
-/// Whether a row has no number.
-pub fn is_empty(rows: &[u64], start: usize, width: usize) -> bool {
-    for k in 0..width {
-        if word(rows, start.wrapping_add(k)) != 0 {
-            return false;
+    /// Where a word of a row stands among all words.
+    pub fn place(&self, row: usize, k: usize) -> usize {
+        row.wrapping_mul(self.width).wrapping_add(k)
+    }
+
+    /// Writes the word at a place.
+    pub fn put_at(&mut self, place: usize, bits: u64) {
+        if let Some(word) = self.words.get_mut(place) {
+            *word = bits;
         }
     }
-    true
-}
 
-/// Makes a row empty.
-pub fn clear(rows: &mut [u64], start: usize, width: usize) {
-    for k in 0..width {
-        put_word(rows, start.wrapping_add(k), 0);
+    /// A word of a row, and no bits where there is no such row.
+    pub fn word(&self, row: usize, k: usize) -> u64 {
+        self.words.get(self.place(row, k)).copied().unwrap_or(0)
     }
-}
 
-/// Adds to a row all of another one.
-pub fn join(rows: &mut [u64], start: usize, others: &[u64], other: usize, width: usize) {
-    for k in 0..width {
-        let place = start.wrapping_add(k);
-        let bits = word(rows, place) | word(others, other.wrapping_add(k));
-        put_word(rows, place, bits);
+    /// Writes a word of a row.
+    pub fn put_word(&mut self, row: usize, k: usize, bits: u64) {
+        self.put_at(self.place(row, k), bits);
     }
-}
 
-/// Adds to a row all of another one of the same rows.
-pub fn join_own(rows: &mut [u64], start: usize, other: usize, width: usize) {
-    for k in 0..width {
-        let place = start.wrapping_add(k);
-        let bits = word(rows, place) | word(rows, other.wrapping_add(k));
-        put_word(rows, place, bits);
+    /// Whether a row has the number.
+    pub fn has(&self, row: usize, i: usize) -> bool {
+        self.word(row, i / 64) & bit(i) != 0
+    }
+
+    /// Adds a number to a row.
+    pub fn add(&mut self, row: usize, i: usize) {
+        self.put_word(row, i / 64, self.word(row, i / 64) | bit(i));
+    }
+
+    /// Takes a number out of a row.
+    pub fn remove(&mut self, row: usize, i: usize) {
+        self.put_word(row, i / 64, self.word(row, i / 64) & !bit(i));
+    }
+
+    /// How many numbers a row has.
+    pub fn count(&self, row: usize) -> usize {
+        let mut sum = 0usize;
+        for k in 0..self.width {
+            sum = sum.wrapping_add(self.word(row, k).count_ones() as usize);
+        }
+        sum
+    }
+
+    /// The lowest number of a row, and `NONE` where it has none.
+    pub fn first(&self, row: usize) -> usize {
+        for k in 0..self.width {
+            let bits = self.word(row, k);
+            if bits != 0 {
+                return lowest(k, bits);
+            }
+        }
+        NONE
+    }
+
+    /// Whether a row has no number.
+    pub fn is_empty(&self, row: usize) -> bool {
+        self.count(row) == 0
+    }
+
+    /// Makes a row empty.
+    pub fn clear(&mut self, row: usize) {
+        for k in 0..self.width {
+            self.put_word(row, k, 0);
+        }
+    }
+
+    /// Adds to a row all of a row of others.
+    pub fn join(&mut self, row: usize, others: &Rows, other: usize) {
+        for k in 0..self.width {
+            self.put_word(row, k, self.word(row, k) | others.word(other, k));
+        }
+    }
+
+    /// Adds to each of so many rows, from one on, what stands in the rows of its numbers.
+    pub fn close_over(&mut self, first: usize, size: usize) {
+        for middle in 0..size {
+            for i in 0..size {
+                if self.has(first.wrapping_add(i), middle) {
+                    self.join_own(first.wrapping_add(i), first.wrapping_add(middle));
+                }
+            }
+        }
+    }
+
+    /// Adds to each of so many rows, from `into` on, the numbers of the rows from `first` on that have its number.
+    pub fn turn_over(&mut self, first: usize, into: usize, size: usize) {
+        for i in 0..size {
+            for j in 0..size {
+                if self.has(first.wrapping_add(i), j) {
+                    self.add(into.wrapping_add(j), i);
+                }
+            }
+        }
+    }
+
+    /// Adds to a row all of another one.
+    pub fn join_own(&mut self, row: usize, other: usize) {
+        for k in 0..self.width {
+            self.put_word(row, k, self.word(row, k) | self.word(other, k));
+        }
     }
 }

@@ -1,0 +1,197 @@
+//! What is asked of the final state, as a list of parts. A part that is made of two stands before them, the first one right behind it.
+
+use crate::numbers::NONE;
+use crate::problem::{Problem, Term, bare_number};
+use crate::rows::bit;
+use crate::stack::Stack;
+use std::alloc::Global;
+use tso_model::{Loc, Prop, Quantifier, Test};
+
+/// What a value has to be: this number, or any other one.
+#[derive(Clone, Copy)]
+pub struct Demand {
+    pub number: u32,
+    /// Whether it has to be this number.
+    pub truth: bool,
+}
+
+/// A part of what is asked.
+#[derive(Clone, Copy)]
+pub enum Part {
+    /// It is so, or isn't, whatever the events do.
+    Fixed(bool),
+    /// What a read returns, or a location has at the end, is as demanded.
+    Value(usize, Demand),
+    /// The next part is so, and the part with this number.
+    Both(usize),
+    /// The next part is so, or the part with this number.
+    Either(usize),
+}
+
+/// A set of parts: of at most 256 atoms there are at most 511.
+#[derive(Clone, Copy)]
+pub struct Parts {
+    words: [u64; 8],
+}
+
+impl Parts {
+    /// No part.
+    pub fn none() -> Parts {
+        Parts { words: [0; 8] }
+    }
+
+    /// Whether it has the part with this number.
+    pub fn has(&self, i: usize) -> bool {
+        self.words[i / 64 % 8] & bit(i) != 0
+    }
+
+    /// Adds the part with this number, where `is_in` says so.
+    pub fn add(&mut self, i: usize, is_in: bool) {
+        if is_in {
+            self.words[i / 64 % 8] |= bit(i);
+        }
+    }
+}
+
+/// Whether a value is as it has to be.
+pub fn meets(value: usize, demand: Demand) -> bool {
+    (value == demand.number as usize) == demand.truth
+}
+
+/// Whether a value is as it has to be, or isn't known.
+pub fn can_be(demand: Demand, value: usize) -> bool {
+    value == NONE || meets(value, demand)
+}
+
+/// Whether a part can be so where it is known which of the parts behind it can be.
+pub fn can_be_made(part: Part, i: usize, parts: &Parts) -> bool {
+    match part {
+        Part::Fixed(truth) => truth,
+        Part::Value(..) => parts.has(i),
+        Part::Both(second) => parts.has(i.wrapping_add(1)) && parts.has(second),
+        Part::Either(second) => parts.has(i.wrapping_add(1)) || parts.has(second),
+    }
+}
+
+/// A part that says of a term that it has a number, or hasn't.
+fn term_part(term: Term, number: u32, truth: bool) -> Part {
+    if term.first == NONE {
+        Part::Fixed((term.number == number) == truth)
+    } else {
+        Part::Value(term.first, Demand { number, truth })
+    }
+}
+
+/// A part that says of a location that it has a number at the end, or hasn't.
+fn word_part(problem: &Problem, loc: Loc, number: u32, truth: bool) -> Part {
+    let x = usize::from(loc.0);
+    if problem.is_written(x) {
+        Part::Value(x, Demand { number, truth })
+    } else {
+        term_part(problem.term(x), number, truth)
+    }
+}
+
+/// Adds the parts of what says that a proposition has this truth.
+fn add_parts(
+    parts: &mut Stack<Part>,
+    problem: &Problem,
+    finals: &Stack<Term>,
+    prop: &Prop,
+    truth: bool,
+) {
+    match prop {
+        Prop::Truth(value) => parts.push(Part::Fixed(*value == truth)),
+        Prop::RegIs(core, reg, number) => {
+            let place = usize::from(core.0)
+                .wrapping_mul(6)
+                .wrapping_add(reg.index());
+            parts.push(term_part(finals.at(place, bare_number(0)), *number, truth));
+        }
+        Prop::LocIs(loc, number) => parts.push(word_part(problem, *loc, *number, truth)),
+        Prop::Not(inner) => add_parts(parts, problem, finals, inner, !truth),
+        Prop::And(left, right) | Prop::Or(left, right) => {
+            let place = parts.len();
+            parts.push(Part::Fixed(true));
+            add_parts(parts, problem, finals, left, truth);
+            let second = parts.len();
+            add_parts(parts, problem, finals, right, truth);
+            let both = matches!(prop, Prop::And(..)) == truth;
+            parts.put(
+                place,
+                if both {
+                    Part::Both(second)
+                } else {
+                    Part::Either(second)
+                },
+            );
+        }
+    }
+}
+
+/// The parts of what a test asks.
+pub fn parts_of(
+    alloc: Global,
+    problem: &Problem,
+    finals: &Stack<Term>,
+    test: &Test,
+) -> Stack<Part> {
+    let mut parts = Stack::new(alloc);
+    if let Some(cond) = test.cond() {
+        let truth = !matches!(cond.quantifier, Quantifier::Forall);
+        add_parts(&mut parts, problem, finals, &cond.prop, truth);
+    }
+    parts
+}
+
+/// Whether what is asked can be so in more ways than one.
+pub fn has_choice(claim: &Stack<Part>) -> bool {
+    for i in 0..claim.len() {
+        if matches!(claim.at(i, Part::Fixed(true)), Part::Either(_)) {
+            return true;
+        }
+    }
+    false
+}
+
+fn is_location_relevant(problem: &Problem, loc: usize) -> bool {
+    for a in 0..problem.size {
+        if problem.relevant.has(0, a) && problem.location(a) == loc {
+            return true;
+        }
+    }
+    false
+}
+
+/// Marks the reads on which the values hang that a location may get. Whether any is new.
+fn mark_written(problem: &mut Problem, loc: usize) -> bool {
+    let before = problem.relevant.count(0);
+    for w in 0..problem.size {
+        if problem.is_write_to(loc, w) {
+            let term = problem.term(w);
+            problem.relevant.add(0, term.first);
+            problem.relevant.add(0, term.second);
+        }
+    }
+    problem.relevant.count(0) != before
+}
+
+/// Marks the locations and reads that what is asked names, and the reads on whose values those hang that they may have.
+pub fn mark_relevant(problem: &mut Problem) {
+    for i in 0..problem.claim.len() {
+        if let Part::Value(r, _) = problem.part(i) {
+            problem.relevant.add(0, r);
+        }
+    }
+    for _round in 0..problem.size {
+        let mut changed = false;
+        for loc in 0..problem.locations {
+            if is_location_relevant(problem, loc) && mark_written(problem, loc) {
+                changed = true;
+            }
+        }
+        if !changed {
+            break;
+        }
+    }
+}
