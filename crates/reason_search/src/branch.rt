@@ -5,7 +5,6 @@ use crate::problem::{Problem, Relations};
 use crate::rows::Rows;
 use crate::stack::Stack;
 use std::alloc::Global;
-use tso_model::NoMemory;
 
 /// An answer: what a read reads from, or that one write comes before another one.
 #[derive(Clone, Copy)]
@@ -214,15 +213,32 @@ impl Branch {
     }
 }
 
+/// Whether memory was refused for what a branch looks up.
+pub fn lacks_tables(branch: &Branch) -> bool {
+    let size = branch.problem.size;
+    let cells = size.wrapping_mul(size);
+    branch.rows.lack(size.wrapping_mul(7))
+        | branch.heads.lacks(size.wrapping_mul(3))
+        | branch.source.lacks(size)
+        | branch.reader.lacks(size)
+        | branch.values.lacks(size)
+        | branch.pairs.lacks(cells)
+        | branch.removed_facts.lacks(cells)
+        | branch.removed_edges.lacks(cells)
+        | branch.dirty.lack(1)
+}
+
 /// Fills the rows with what the program alone tells.
 fn fill_rows(rows: &mut Rows, problem: &Problem) {
     let size = problem.size;
     for row in 0..size.wrapping_mul(3) {
         rows.join(row, &problem.program, row);
     }
+    // What the program tells of coherence is closed.
+    rows.close_over(0, size);
+    rows.close_over(size, size);
     for relations in 0..3usize {
         let first = relations.wrapping_mul(size);
-        rows.close_over(first, size);
         rows.turn_over(first, size.wrapping_mul(3).wrapping_add(first), size);
     }
     for r in problem.locations..size {
@@ -254,12 +270,10 @@ pub fn look_at_readers(branch: &mut Branch, loc: usize) {
 }
 
 /// A branch with no answer.
-///
-/// Errors: out of memory only.
-pub fn make_branch(alloc: Global, problem: Problem) -> Result<Branch, NoMemory> {
+pub fn make_branch(alloc: Global, problem: Problem) -> Branch {
     let size = problem.size;
     let cells = size.wrapping_mul(size);
-    let mut rows = Rows::new(alloc, size.wrapping_mul(7), size)?;
+    let mut rows = Rows::new(alloc, size.wrapping_mul(7), size);
     fill_rows(&mut rows, &problem);
     let mut branch = Branch {
         problem,
@@ -267,22 +281,22 @@ pub fn make_branch(alloc: Global, problem: Problem) -> Result<Branch, NoMemory> 
         trail: Stack::new(alloc),
         facts: Stack::new(alloc),
         edges: Stack::new(alloc),
-        heads: Numbers::new(alloc, size.wrapping_mul(3), NONE)?,
-        source: Numbers::new(alloc, size, NONE)?,
-        reader: Numbers::new(alloc, size, NONE)?,
-        values: Numbers::new(alloc, size, NONE)?,
-        pairs: Numbers::new(alloc, cells, NONE)?,
-        removed_facts: Numbers::new(alloc, cells, NONE)?,
-        removed_edges: Numbers::new(alloc, cells, NONE)?,
+        heads: Numbers::new(alloc, size.wrapping_mul(3), NONE),
+        source: Numbers::new(alloc, size, NONE),
+        reader: Numbers::new(alloc, size, NONE),
+        values: Numbers::new(alloc, size, NONE),
+        pairs: Numbers::new(alloc, cells, NONE),
+        removed_facts: Numbers::new(alloc, cells, NONE),
+        removed_edges: Numbers::new(alloc, cells, NONE),
         excluded: Stack::new(alloc),
-        dirty: Rows::new(alloc, 1, size)?,
+        dirty: Rows::new(alloc, 1, size),
         claim_is_dirty: true,
         conflict: Conflict::Open,
         clash: NONE,
         next: NONE,
     };
     look_at_all(&mut branch);
-    Ok(branch)
+    branch
 }
 
 /// The branch is closed. False, as what closes it.

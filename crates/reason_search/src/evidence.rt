@@ -3,7 +3,6 @@
 use crate::numbers::{List, NONE};
 use crate::rows::Rows;
 use std::alloc::Global;
-use tso_model::NoMemory;
 
 /// What kind of leaf closes a case.
 #[derive(Clone, Copy)]
@@ -26,16 +25,25 @@ pub struct Evidence {
 }
 
 /// No leaf yet.
-///
-/// Errors: out of memory only.
-pub fn make_evidence(alloc: Global, size: usize) -> Result<Evidence, NoMemory> {
-    let most = size.wrapping_mul(4).wrapping_add(64);
-    Ok(Evidence {
+pub fn make_evidence(alloc: Global, size: usize) -> Evidence {
+    let most = most_events(size);
+    Evidence {
         closing: Closing::None,
-        cycle: List::new(alloc, most)?,
-        facts: List::new(alloc, most)?,
+        cycle: List::new(alloc, most),
+        facts: List::new(alloc, most),
         cost: NONE,
-    })
+    }
+}
+
+/// How many events a cycle, and how many facts a leaf has room for.
+fn most_events(size: usize) -> usize {
+    size.wrapping_mul(4).wrapping_add(64)
+}
+
+/// Whether memory was refused for a leaf.
+pub fn lacks_room(evidence: &Evidence, size: usize) -> bool {
+    let most = most_events(size);
+    evidence.cycle.lacks(most) | evidence.facts.lacks(most)
 }
 
 /// Begins a leaf anew.

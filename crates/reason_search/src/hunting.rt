@@ -1,14 +1,16 @@
 //! The search: questions are asked, what follows is noted, and where a branch is closed its tree is made and the next answer tried.
 //! An answer that its tree doesn't use is no question: the tree stands in its place.
 
-use crate::branch::{Branch, Mark, look_at, look_at_all, make_branch, mark_here, undo};
+use crate::branch::{
+    Branch, Mark, lacks_tables, look_at, look_at_all, make_branch, mark_here, undo,
+};
 use crate::chance::{Chance, first_chance};
 use crate::choosing::{Ask, choose};
 use crate::edges::{put_before, put_program_order};
 use crate::growing::clear_trees;
 use crate::looking::{deduce, put_source};
 use crate::numbers::NONE;
-use crate::offers::{Desk, make_desk};
+use crate::offers::{Desk, lacks_room, make_desk};
 use crate::problem::Problem;
 use crate::questions::{Frame, Questions, begin, no_frame};
 use crate::reasoning::{add_conflict, add_source_question, add_tried_order, wrap};
@@ -60,8 +62,11 @@ fn most_facts(problem: &Problem) -> usize {
 /// Errors: out of memory only.
 pub fn make_hunt(alloc: Global, problem: Problem) -> Result<Hunt, NoMemory> {
     let most = most_facts(&problem);
-    let desk = make_desk(alloc, problem.size, most)?;
-    let mut branch = make_branch(alloc, problem)?;
+    let desk = make_desk(alloc, problem.size, most);
+    let mut branch = make_branch(alloc, problem);
+    if lacks_tables(&branch) | lacks_room(&desk, branch.problem.size) {
+        return Err(NoMemory);
+    }
     put_program_order(&mut branch);
     let start = mark_here(&branch);
     Ok(Hunt {

@@ -8,7 +8,6 @@ use crate::problem::Term;
 use crate::rows::Rows;
 use crate::wanted::term_value;
 use std::alloc::Global;
-use tso_model::NoMemory;
 
 /// Values by the first so many facts, and by answers that are supposed: sources of reads, or a write that comes before another one.
 #[derive(Drop)]
@@ -25,17 +24,20 @@ pub struct KnownValues {
 }
 
 /// No value is known.
-///
-/// Errors: out of memory only.
-pub fn make_values(alloc: Global, size: usize) -> Result<KnownValues, NoMemory> {
-    Ok(KnownValues {
+pub fn make_values(alloc: Global, size: usize) -> KnownValues {
+    KnownValues {
         limit: 0,
         first: NONE,
-        supposed: Numbers::new(alloc, size, NONE)?,
-        values: Numbers::new(alloc, size, NONE)?,
-        needed: Rows::new(alloc, 1, size)?,
+        supposed: Numbers::new(alloc, size, NONE),
+        values: Numbers::new(alloc, size, NONE),
+        needed: Rows::new(alloc, 1, size),
         parts: Parts::none(),
-    })
+    }
+}
+
+/// Whether memory was refused for values.
+pub fn lack_room(known: &KnownValues, size: usize) -> bool {
+    known.supposed.lacks(size) | known.values.lacks(size) | known.needed.lack(1)
 }
 
 /// Begins anew with so many facts, and nothing supposed.

@@ -1,7 +1,6 @@
 //! Numbers that can be asked at any place.
 
 use std::alloc::Global;
-use tso_model::NoMemory;
 
 /// No number.
 pub const NONE: usize = usize::MAX;
@@ -13,13 +12,16 @@ pub struct Numbers {
 }
 
 impl Numbers {
-    /// So many numbers, all the same.
-    ///
-    /// Errors: out of memory only.
-    pub fn new(alloc: Global, count: usize, number: usize) -> Result<Numbers, NoMemory> {
-        Ok(Numbers {
-            items: vec![in alloc; number; count]?,
-        })
+    /// So many numbers, all the same, and none at all where memory is refused.
+    pub fn new(alloc: Global, count: usize, number: usize) -> Numbers {
+        Numbers {
+            items: vec![in alloc; number; count].unwrap_or(Vec::new(alloc)),
+        }
+    }
+
+    /// Whether there aren't so many.
+    pub fn lacks(&self, count: usize) -> bool {
+        self.items.len() != count
     }
 
     /// The number at a place, and `NONE` where there is no such place.
@@ -50,14 +52,17 @@ pub struct List {
 }
 
 impl List {
-    /// An empty list with room for so many.
-    ///
-    /// Errors: out of memory only.
-    pub fn new(alloc: Global, room: usize) -> Result<List, NoMemory> {
-        Ok(List {
-            numbers: Numbers::new(alloc, room, NONE)?,
+    /// An empty list with room for so many, and with none where memory is refused.
+    pub fn new(alloc: Global, room: usize) -> List {
+        List {
+            numbers: Numbers::new(alloc, room, NONE),
             length: 0,
-        })
+        }
+    }
+
+    /// Whether there isn't room for so many.
+    pub fn lacks(&self, room: usize) -> bool {
+        self.numbers.lacks(room)
     }
 
     /// How many numbers the list has.

@@ -2,22 +2,24 @@
 //! answers.
 
 use crate::branch::{Branch, Edge};
+use crate::evidence;
 use crate::evidence::{Closing, Evidence, make_evidence, need, reset, visit, visit_three, weigh};
 use crate::falsity::Asked;
 use crate::growing::{Trees, are_refused, no_trees};
 use crate::known_values::{
-    KnownValues, is_false, make_values, need_falsity, run, suppose, suppose_nothing,
+    KnownValues, is_false, lack_room, make_values, need_falsity, run, suppose, suppose_nothing,
 };
 use crate::looking::{is_before_source, is_read_by_another};
 use crate::numbers::{NONE, Numbers};
-use crate::paths::{Edges, Paths, begin, find, make_paths, start_from, start_from_later};
+use crate::paths::{
+    Edges, Paths, begin, find, lack_tables, make_paths, start_from, start_from_later,
+};
 use crate::problem::Relations;
 use crate::rows::Rows;
 use crate::stack::Stack;
 use crate::weights::Weights;
 use std::alloc::Global;
 use std::mem::swap;
-use tso_model::NoMemory;
 
 /// What reasons are made with.
 #[derive(Drop)]
@@ -47,22 +49,32 @@ impl Desk {
 }
 
 /// What reasons are made with, for at most so many facts.
-///
-/// Errors: out of memory only.
-pub fn make_desk(alloc: Global, size: usize, facts: usize) -> Result<Desk, NoMemory> {
-    Ok(Desk {
-        paths: make_paths(alloc, size)?,
-        inner: make_paths(alloc, size)?,
-        best: make_evidence(alloc, size)?,
-        trial: make_evidence(alloc, size)?,
-        values: make_values(alloc, size)?,
+pub fn make_desk(alloc: Global, size: usize, facts: usize) -> Desk {
+    Desk {
+        paths: make_paths(alloc, size),
+        inner: make_paths(alloc, size),
+        best: make_evidence(alloc, size),
+        trial: make_evidence(alloc, size),
+        values: make_values(alloc, size),
         trees: no_trees(alloc),
         asked: Stack::new(alloc),
-        used: Rows::new(alloc, 1, facts)?,
+        used: Rows::new(alloc, 1, facts),
         above: 0,
-        branches: Numbers::new(alloc, size, NONE)?,
-        weights: Weights::new(alloc, size)?,
-    })
+        branches: Numbers::new(alloc, size, NONE),
+        weights: Weights::new(alloc, size),
+    }
+}
+
+/// Whether memory was refused for what reasons are made with.
+pub fn lacks_room(desk: &Desk, size: usize) -> bool {
+    lack_tables(&desk.paths, size)
+        | lack_tables(&desk.inner, size)
+        | evidence::lacks_room(&desk.best, size)
+        | evidence::lacks_room(&desk.trial, size)
+        | lack_room(&desk.values, size)
+        | desk.used.lack(1)
+        | desk.branches.lacks(size)
+        | desk.weights.lacks_room()
 }
 
 /// Adds to the leaf in hand the facts that one write comes before another one.

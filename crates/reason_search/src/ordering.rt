@@ -101,10 +101,13 @@ fn place_all(branch: &Branch, placing: &mut Placing) {
 pub fn make_order(alloc: Global, branch: &Branch) -> Result<Vec<Entry>, NoMemory> {
     let size = branch.problem.size;
     let mut placing = Placing {
-        waits: Rows::new(alloc, size, size)?,
-        left: Rows::new(alloc, 1, size)?,
+        waits: Rows::new(alloc, size, size),
+        left: Rows::new(alloc, 1, size),
         order: Stack::new(alloc),
     };
+    if placing.waits.lack(size) | placing.left.lack(1) {
+        return Err(NoMemory);
+    }
     for a in branch.problem.locations..size {
         find_waits(branch, &mut placing, a);
     }

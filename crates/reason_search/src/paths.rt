@@ -5,7 +5,6 @@ use crate::numbers::{List, NONE, Numbers};
 use crate::problem::Relations;
 use crate::rows::{Rows, lowest, rest};
 use std::alloc::Global;
-use tso_model::NoMemory;
 
 /// The edges that a path may use: those of the program, and of those that answers tell the first so many.
 #[derive(Clone, Copy)]
@@ -33,19 +32,28 @@ pub struct Paths {
 }
 
 /// Paths over the events of a problem.
-///
-/// Errors: out of memory only.
-pub fn make_paths(alloc: Global, size: usize) -> Result<Paths, NoMemory> {
-    Ok(Paths {
-        back: Numbers::new(alloc, size, NONE)?,
-        by: Numbers::new(alloc, size, NONE)?,
-        queue: List::new(alloc, size.wrapping_add(1))?,
+pub fn make_paths(alloc: Global, size: usize) -> Paths {
+    Paths {
+        back: Numbers::new(alloc, size, NONE),
+        by: Numbers::new(alloc, size, NONE),
+        queue: List::new(alloc, size.wrapping_add(1)),
         next: 0,
-        seen: Rows::new(alloc, 1, size)?,
-        starts: Rows::new(alloc, 1, size)?,
-        events: List::new(alloc, size)?,
-        edges: List::new(alloc, size)?,
-    })
+        seen: Rows::new(alloc, 1, size),
+        starts: Rows::new(alloc, 1, size),
+        events: List::new(alloc, size),
+        edges: List::new(alloc, size),
+    }
+}
+
+/// Whether memory was refused for a search for paths.
+pub fn lack_tables(paths: &Paths, size: usize) -> bool {
+    paths.back.lacks(size)
+        | paths.by.lacks(size)
+        | paths.queue.lacks(size.wrapping_add(1))
+        | paths.seen.lack(1)
+        | paths.starts.lack(1)
+        | paths.events.lacks(size)
+        | paths.edges.lacks(size)
 }
 
 /// Begins a search for paths with no start.

@@ -137,7 +137,13 @@ impl Problem {
     }
 
     fn is_refused(&self) -> bool {
-        self.events.is_refused() | self.terms.is_refused() | self.claim.is_refused()
+        self.events.is_refused()
+            | self.terms.is_refused()
+            | self.claim.is_refused()
+            | self.writes_to.lack(self.locations)
+            | self.readers_of.lack(self.locations)
+            | self.program.lack(self.size.wrapping_mul(3))
+            | self.relevant.lack(1)
     }
 }
 
@@ -333,12 +339,12 @@ pub fn make_problem(
         sequential: matches!(model, Model::Sequential),
         events: Stack::new(alloc),
         terms: Stack::new(alloc),
-        writes_to: Rows::new(alloc, locations, size)?,
-        readers_of: Rows::new(alloc, locations, size)?,
-        program: Rows::new(alloc, size.wrapping_mul(3), size)?,
+        writes_to: Rows::new(alloc, locations, size),
+        readers_of: Rows::new(alloc, locations, size),
+        program: Rows::new(alloc, size.wrapping_mul(3), size),
         claim: Stack::new(alloc),
         has_choice: false,
-        relevant: Rows::new(alloc, 1, size)?,
+        relevant: Rows::new(alloc, 1, size),
     };
     add_events(&mut problem, events);
     add_accesses(&mut problem);

@@ -2,7 +2,6 @@
 
 use crate::numbers::NONE;
 use std::alloc::Global;
-use tso_model::NoMemory;
 
 /// Rows of bits, all of so many words.
 #[derive(Drop)]
@@ -28,15 +27,19 @@ pub fn rest(bits: u64) -> u64 {
 }
 
 impl Rows {
-    /// So many empty rows for numbers below `most`.
-    ///
-    /// Errors: out of memory only.
-    pub fn new(alloc: Global, count: usize, most: usize) -> Result<Rows, NoMemory> {
+    /// So many empty rows for numbers below `most`, and none where memory is refused.
+    pub fn new(alloc: Global, count: usize, most: usize) -> Rows {
         let width = most / 64 + 1;
-        Ok(Rows {
-            words: vec![in alloc; 0u64; count.wrapping_mul(width)]?,
+        let words = vec![in alloc; 0u64; count.wrapping_mul(width)];
+        Rows {
+            words: words.unwrap_or(Vec::new(alloc)),
             width,
-        })
+        }
+    }
+
+    /// Whether there aren't so many.
+    pub fn lack(&self, count: usize) -> bool {
+        self.words.len() != count.wrapping_mul(self.width)
     }
 
     /// Where a word of a row stands among all words.

@@ -2,7 +2,6 @@
 
 use crate::numbers::Numbers;
 use std::alloc::Global;
-use tso_model::NoMemory;
 
 /// How often each event stood in a question that was needed, of late more.
 #[derive(Drop)]
@@ -18,14 +17,17 @@ fn quotient(number: usize, divisor: usize) -> usize {
 
 impl Weights {
     /// No event stood in one.
-    ///
-    /// Errors: out of memory only.
-    pub fn new(alloc: Global, size: usize) -> Result<Weights, NoMemory> {
-        Ok(Weights {
-            weights: Numbers::new(alloc, size, 0)?,
+    pub fn new(alloc: Global, size: usize) -> Weights {
+        Weights {
+            weights: Numbers::new(alloc, size, 0),
             size,
             step: 1024,
-        })
+        }
+    }
+
+    /// Whether memory was refused.
+    pub fn lacks_room(&self) -> bool {
+        self.weights.lacks(self.size)
     }
 
     /// The weight of an event.
