@@ -5,7 +5,9 @@ use crate::branch::{Branch, Fact, add_order};
 use crate::choosing::{Ask, choose};
 use crate::edges::put_before;
 use crate::growing::{Proposal, leaves_of, next_node};
-use crate::hunting::{Find, Hunt, hunt_again, hunt_for, is_refused, make_hunt, start_anew};
+use crate::hunting::{
+    Find, Hunt, hunt_again, hunt_for, is_refused, lacks_memory, make_hunt, start_anew,
+};
 use crate::looking::{deduce, put_source};
 use crate::numbers::NONE;
 use crate::offers::Desk;
@@ -71,10 +73,11 @@ pub fn make_guide(
     model: Model,
 ) -> Result<Guide, NoMemory> {
     let problem = make_problem(alloc, test, events, model)?;
-    let mut hunt = make_hunt(alloc, problem)?;
+    let mut hunt = make_hunt(alloc, problem);
     let mut proposal = Proposal::none(alloc);
-    let is_allowed = run(&mut hunt, &mut proposal);
-    if is_refused(&hunt) | proposal.is_refused() {
+    let lacks = lacks_memory(&hunt);
+    let is_allowed = !lacks && run(&mut hunt, &mut proposal);
+    if lacks | is_refused(&hunt) | proposal.is_refused() {
         return Err(NoMemory);
     }
     Ok(Guide {

@@ -16,7 +16,6 @@ use crate::questions::{Frame, Questions, begin, no_frame};
 use crate::reasoning::{add_conflict, add_source_question, add_tried_order, wrap};
 use crate::wanted::want_asked;
 use std::alloc::Global;
-use tso_model::NoMemory;
 
 /// A search.
 #[derive(Drop)]
@@ -58,27 +57,26 @@ fn most_facts(problem: &Problem) -> usize {
 }
 
 /// A search that hasn't begun.
-///
-/// Errors: out of memory only.
-pub fn make_hunt(alloc: Global, problem: Problem) -> Result<Hunt, NoMemory> {
+pub fn make_hunt(alloc: Global, problem: Problem) -> Hunt {
     let most = most_facts(&problem);
     let desk = make_desk(alloc, problem.size, most);
     let mut branch = make_branch(alloc, problem);
-    if lacks_tables(&branch) | lacks_room(&desk, branch.problem.size) {
-        return Err(NoMemory);
-    }
     put_program_order(&mut branch);
-    let start = mark_here(&branch);
-    Ok(Hunt {
+    Hunt {
+        start: mark_here(&branch),
         branch,
         desk,
         questions: Questions::none(alloc),
-        start,
         cases: 0,
         pause: 0,
         round: 0,
         chance: first_chance(),
-    })
+    }
+}
+
+/// Whether memory was refused for what the search looks up: then it must not begin.
+pub fn lacks_memory(hunt: &Hunt) -> bool {
+    lacks_tables(&hunt.branch) | lacks_room(&hunt.desk, hunt.branch.problem.size)
 }
 
 /// Whether memory was refused.
