@@ -1,5 +1,6 @@
 //! A branch of the search: the answers on it, what follows from them, and a trail by which it is undone.
 
+use crate::edges::fill_rows;
 use crate::numbers::{NONE, Numbers};
 use crate::problem::{Problem, Relations};
 use crate::rows::Rows;
@@ -226,29 +227,6 @@ pub fn lacks_tables(branch: &Branch) -> bool {
         | branch.removed_facts.lacks(cells)
         | branch.removed_edges.lacks(cells)
         | branch.dirty.lack(1)
-}
-
-/// Fills the rows with what the program alone tells.
-fn fill_rows(rows: &mut Rows, problem: &Problem) {
-    let size = problem.size;
-    for row in 0..size.wrapping_mul(3) {
-        rows.join(row, &problem.program, row);
-    }
-    // What the program tells of coherence is closed.
-    rows.close_over(0, size);
-    rows.close_over(size, size);
-    for relations in 0..3usize {
-        let first = relations.wrapping_mul(size);
-        rows.turn_over(first, size.wrapping_mul(3).wrapping_add(first), size);
-    }
-    for r in problem.locations..size {
-        let event = problem.event(r);
-        if event.reads {
-            let row = size.wrapping_mul(6).wrapping_add(r);
-            rows.join(row, &problem.writes_to, event.location);
-            rows.add(row, event.location);
-        }
-    }
 }
 
 /// Marks an event as to be looked at.

@@ -1,10 +1,10 @@
-//! Edges that answers tell, and what is before what by chains of them.
+//! Edges that the program and answers tell, and what is before what by chains of them.
 
 use crate::branch::{
     Branch, Conflict, Edge, Link, add_order, change_word, close, look_at, look_at_readers, put_head,
 };
-use crate::problem::Relations;
-use crate::rows::{bit, lowest, rest};
+use crate::problem::{Problem, Relations};
+use crate::rows::{Rows, bit, lowest, rest};
 
 /// A row, and a number that belongs to it as well.
 #[derive(Clone, Copy)]
@@ -127,6 +127,29 @@ pub fn put_program_order(branch: &mut Branch) {
             {
                 let _open = put_before(branch, a, b, false);
             }
+        }
+    }
+}
+
+/// Fills the rows with what the program alone tells.
+pub fn fill_rows(rows: &mut Rows, problem: &Problem) {
+    let size = problem.size;
+    for row in 0..size.wrapping_mul(3) {
+        rows.join(row, &problem.program, row);
+    }
+    // What the program tells of coherence is closed.
+    rows.close_over(0, size);
+    rows.close_over(size, size);
+    for relations in 0..3usize {
+        let first = relations.wrapping_mul(size);
+        rows.turn_over(first, size.wrapping_mul(3).wrapping_add(first), size);
+    }
+    for r in problem.locations..size {
+        let event = problem.event(r);
+        if event.reads {
+            let row = size.wrapping_mul(6).wrapping_add(r);
+            rows.join(row, &problem.writes_to, event.location);
+            rows.add(row, event.location);
         }
     }
 }
