@@ -6,4 +6,5 @@ pub mod NoFloats
 pub mod Looking
 pub mod States
 pub mod Tallies
+pub mod Listed
 pub mod CountLaws
