@@ -33,7 +33,7 @@ pub use Rattle.std.specs.declared.cmp.Ordering.TheVariants.{Less, Equal, Greater
 pub use Rattle.serde_json.specs.Data.{string, Members, no_members, member, put, object, Data}
 pub use Rattle.serde_json.specs.View.{items_of, view, members_view}
 pub use Rattle.serde_json.specs.Written.{has_float, items_have_float, members_have_float}
-pub use Rattle.tso_report.specs.Json.{count, numbers_members, counts_value, cache_value, condition_value, with_bus, configuration_members, machine_value, memory_members, memory_value, order_value, registers_value, cores_value, run_value}
+pub use Rattle.tso_report.specs.Json.{count, counts_value, cache_value, condition_value, with_bus, configuration_members, machine_value, memory_members, memory_value, order_value, registers_value, cores_value, run_value}
 pub use Rattle.tso_report.specs.inner.Tally.{NameExists, Tallied}
 pub use Rattle.std.specs.BTreeMap.{insert_entry, is_at}
 pub use Rattle.std.specs.Map.{lookup, keys_of, values_of}
@@ -45,3 +45,4 @@ pub use Rattle.std.specs.Iterator.Adapters.{zip_first, zip_second}
 pub use Rattle.std.proofs.lemmas.List.{drop_all}
 pub use Rattle.serde_json.proofs.Views.{view-Array}
 pub use Rattle.serde_json.specs.Data.{array}
+pub use Rattle.tso_report.specs.inner.Json.{numbers_members}

@@ -22,11 +22,6 @@ use Rattle.tso_report.specs.Report.{line, printed_quantifier}
 abbrev pub count : ℕ → Data
 count n = number (unsigned n)
 
--- numbers under their names, each where the bytes of its name belong
-abbrev pub numbers_members : List (List ℕ × ℕ) → Members
-numbers_members [] = no_members
-numbers_members ((name, n) ∷ more) = put name (count n) (numbers_members more)
-
 -- the counts of one core's cache
 abbrev pub counts_value : Counts → Data
 counts_value c =

@@ -9,7 +9,8 @@ ghost use Rattle.order_builder.specs.PrintedOrder.{HasLocation};
 ghost use Rattle.tso_report.specs.Shown.{shown_run, IsRunOf};
 ghost use Rattle.tso_report.specs.Report.{line};
 ghost use Rattle.tso_report.specs.Json.{counts_value, cache_value, choices_value, verdict_value, condition_value, machine_value};
-ghost use Rattle.tso_report.specs.Json.{numbers_members, memory_members, memory_value, order_value, registers_value, cores_value};
+ghost use Rattle.tso_report.specs.Json.{memory_members, memory_value, order_value, registers_value, cores_value};
+ghost use Rattle.tso_report.specs.inner.Json.{numbers_members};
 ghost use Rattle.tso_report.specs.Json.{run_members, unfinished_members, json_report, json_unfinished};
 
 use crate::report::quantifier_text;
