@@ -39,6 +39,13 @@ pub struct Edge {
     pub next: usize,
 }
 
+/// One event, and another one that comes after it.
+#[derive(Clone, Copy)]
+pub struct Order {
+    pub first: usize,
+    pub second: usize,
+}
+
 /// What stands where there is no fact.
 const NO_FACT: Fact = Fact {
     answer: Answer::Before(NONE, NONE),

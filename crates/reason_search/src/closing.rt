@@ -1,6 +1,6 @@
 //! The tree of a reason: a leaf, with questions above it where the definition wants answers that only follow.
 
-use crate::branch::Branch;
+use crate::branch::{Branch, Order};
 use crate::evidence::{Closing, reset, use_facts, visit, visit_three};
 use crate::growing::{Growth, add_cycle, add_leaf, add_question, put_branch};
 use crate::numbers::NONE;
@@ -24,17 +24,16 @@ fn add_trial(desk: &mut Desk) -> usize {
 fn add_pair_above(
     branch: &Branch,
     desk: &mut Desk,
-    a: usize,
-    b: usize,
+    order: Order,
     limit: usize,
     tree: usize,
 ) -> usize {
     reset(&mut desk.trial, Closing::OnLocation);
-    visit(&mut desk.trial, a);
-    show_order(branch, desk, a, b, limit);
-    visit(&mut desk.trial, b);
+    visit(&mut desk.trial, order.first);
+    show_order(branch, desk, order.first, order.second, limit);
+    visit(&mut desk.trial, order.second);
     let cycle = add_trial(desk);
-    ask_order(desk, a, b, cycle, tree)
+    ask_order(desk, order.first, order.second, cycle, tree)
 }
 
 /// Whether an answer above says that one write is before another one; it is used then.
@@ -50,38 +49,40 @@ fn is_used(branch: &Branch, desk: &mut Desk, a: usize, b: usize) -> bool {
     true
 }
 
-/// The tree of a write between two parts, with the pairs that only follow from chains. That `second` is before `first` is supposed.
+/// The tree of a write between two parts, with the pairs that only follow from chains. That this order is turned is supposed.
 fn add_between_tree(
     branch: &Branch,
     desk: &mut Desk,
     s: usize,
     limit: usize,
-    first: usize,
-    second: usize,
+    turned: Order,
 ) -> usize {
     let r = desk.best.cycle.at(0);
     let v = desk.best.cycle.at(1);
     let own = desk.best.cycle.at(2);
     let mut tree = add_leaf(&mut desk.trees, Growth::Between(r, v, own));
+    let (first, second) = (turned.first, turned.second);
     if !(v == second && own == first || is_used(branch, desk, v, own)) {
-        tree = add_pair_above(branch, desk, v, own, limit, tree);
+        let below = Order {
+            first: v,
+            second: own,
+        };
+        tree = add_pair_above(branch, desk, below, limit, tree);
     }
     if !(s == second && v == first || is_used(branch, desk, s, v)) {
-        tree = add_pair_above(branch, desk, s, v, limit, tree);
+        let above = Order {
+            first: s,
+            second: v,
+        };
+        tree = add_pair_above(branch, desk, above, limit, tree);
     }
     tree
 }
 
-/// A leaf, or one below the question which of a read's source and its store part comes first.
-fn add_one_read(
-    branch: &Branch,
-    desk: &mut Desk,
-    r: usize,
-    s: usize,
-    q: usize,
-    between: usize,
-) -> usize {
+/// A leaf, or one below the question which of a read's source and its store part comes first; `q` is the other read of the source.
+fn add_one_read(branch: &Branch, desk: &mut Desk, r: usize, s: usize, q: usize) -> usize {
     let own = branch.problem.partner(r);
+    let between = branch.problem.partner(q);
     reset(&mut desk.trial, Closing::OnLocation);
     visit_three(&mut desk.trial, s, r, own);
     if is_used(branch, desk, own, s) {
@@ -100,30 +101,23 @@ fn add_twice_tree(branch: &Branch, desk: &mut Desk, r: usize, q: usize, s: usize
     let first = branch.problem.partner(r);
     let second = branch.problem.partner(q);
     if is_used(branch, desk, first, second) {
-        return add_one_read(branch, desk, r, s, q, second);
+        return add_one_read(branch, desk, r, s, q);
     }
     if is_used(branch, desk, second, first) {
-        return add_one_read(branch, desk, q, s, r, first);
+        return add_one_read(branch, desk, q, s, r);
     }
-    let second_tree = add_one_read(branch, desk, q, s, r, first);
-    let first_tree = add_one_read(branch, desk, r, s, q, second);
+    let second_tree = add_one_read(branch, desk, q, s, r);
+    let first_tree = add_one_read(branch, desk, r, s, q);
     ask_order(desk, first, second, second_tree, first_tree)
 }
 
-/// The tree of the best reason, for a read of `s`, or where `second` is supposed to be before `first`; what it uses is used then.
-pub fn add_best(
-    branch: &Branch,
-    desk: &mut Desk,
-    limit: usize,
-    s: usize,
-    first: usize,
-    second: usize,
-) -> usize {
+/// The tree of the best reason, for a read of `s`, or where this order is supposed to be turned; what it uses is used then.
+pub fn add_best(branch: &Branch, desk: &mut Desk, limit: usize, s: usize, turned: Order) -> usize {
     use_facts(&desk.best, &mut desk.used);
     match desk.best.closing {
         Closing::None | Closing::False => add_leaf(&mut desk.trees, Growth::False),
         Closing::OnLocation | Closing::Global => add_cycle(&mut desk.trees, &desk.best),
-        Closing::Between => add_between_tree(branch, desk, s, limit, first, second),
+        Closing::Between => add_between_tree(branch, desk, s, limit, turned),
         Closing::Twice => {
             let r = desk.best.cycle.at(0);
             let q = desk.best.cycle.at(1);
@@ -136,5 +130,9 @@ pub fn add_best(
 /// The tree of the best reason why a read can't have a source.
 pub fn add_best_source(branch: &Branch, desk: &mut Desk, r: usize, s: usize) -> usize {
     let limit = branch.edges_at(r, s);
-    add_best(branch, desk, limit, s, NONE, NONE)
+    let none = Order {
+        first: NONE,
+        second: NONE,
+    };
+    add_best(branch, desk, limit, s, none)
 }

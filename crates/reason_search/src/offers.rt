@@ -1,7 +1,7 @@
 //! The best reason for a source that a read can't have, and for an order that follows: of several the one that brings the fewest
 //! answers.
 
-use crate::branch::{Branch, Edge};
+use crate::branch::{Branch, Edge, Order};
 use crate::evidence;
 use crate::evidence::{Closing, Evidence, make_evidence, need, reset, visit, visit_three, weigh};
 use crate::falsity::Asked;
@@ -187,24 +187,17 @@ fn offer_write_between(desk: &mut Desk, r: usize, v: usize, own: usize) {
 }
 
 /// Offers a cycle: the path from one end to the other, and the edge back, which follows from a fact or from what is supposed.
-fn offer_path(branch: &Branch, desk: &mut Desk, edges: Edges, from: usize, to: usize, fact: usize) {
-    if take_path(branch, desk, edges, from, to) {
+fn offer_path(branch: &Branch, desk: &mut Desk, edges: Edges, ends: Order, fact: usize) {
+    if take_path(branch, desk, edges, ends.first, ends.second) {
         need(&mut desk.trial, fact);
         offer_cycle(desk);
     }
 }
 
 /// The same of both relations.
-fn offer_paths(
-    branch: &Branch,
-    desk: &mut Desk,
-    from: usize,
-    to: usize,
-    limit: usize,
-    fact: usize,
-) {
-    offer_path(branch, desk, on_location(limit), from, to, fact);
-    offer_path(branch, desk, global(limit), from, to, fact);
+fn offer_paths(branch: &Branch, desk: &mut Desk, ends: Order, limit: usize, fact: usize) {
+    offer_path(branch, desk, on_location(limit), ends, fact);
+    offer_path(branch, desk, global(limit), ends, fact);
 }
 
 fn on_location(limit: usize) -> Edges {
@@ -231,7 +224,11 @@ fn coherence(limit: usize) -> Edges {
 /// Offers a cycle where the read is before the source.
 fn offer_back(branch: &Branch, desk: &mut Desk, edges: Edges, r: usize, s: usize) {
     if is_before_source(branch, edges.relations, r, s) {
-        offer_path(branch, desk, edges, r, s, NONE);
+        let ends = Order {
+            first: r,
+            second: s,
+        };
+        offer_path(branch, desk, edges, ends, NONE);
     }
 }
 
@@ -246,7 +243,8 @@ fn offer_from_reads(branch: &Branch, desk: &mut Desk, edges: Edges, r: usize, s:
 }
 
 /// Begins with the writes of other cores after a source that are known to be before the read's store part.
-fn start_between(branch: &Branch, desk: &mut Desk, r: usize, s: usize, own: usize, limit: usize) {
+fn start_between(branch: &Branch, desk: &mut Desk, r: usize, s: usize, limit: usize) {
+    let own = branch.problem.partner(r);
     start_from_later(branch, &mut desk.inner, s, limit);
     begin(&mut desk.paths);
     for x in branch.problem.locations..branch.problem.size {
@@ -262,7 +260,7 @@ fn start_between(branch: &Branch, desk: &mut Desk, r: usize, s: usize, own: usiz
 /// Offers a write between the source of a load part and its store part.
 fn offer_between(branch: &Branch, desk: &mut Desk, r: usize, s: usize, limit: usize) {
     let own = branch.problem.partner(r);
-    start_between(branch, desk, r, s, own, limit);
+    start_between(branch, desk, r, s, limit);
     if take_cycle(branch, desk, coherence(limit), own) {
         let x = desk.trial.cycle.at(0);
         need_order(branch, desk, s, x, limit);
@@ -322,63 +320,68 @@ fn offer_twice(branch: &Branch, desk: &mut Desk, r: usize, s: usize) {
     }
 }
 
-/// Finds the best reason why b can't come before a, where a fact says that it comes after it.
-pub fn find_why_before(
-    branch: &Branch,
-    desk: &mut Desk,
-    a: usize,
-    b: usize,
-    fact: usize,
-    limit: usize,
-) {
-    let loc = branch.problem.location(a);
+/// Finds the best reason why an order that a fact tells can't be turned.
+pub fn find_why_before(branch: &Branch, desk: &mut Desk, order: Order, fact: usize, limit: usize) {
+    let loc = branch.problem.location(order.first);
     reset(&mut desk.best, Closing::None);
-    offer_paths(branch, desk, a, b, limit, NONE);
+    offer_paths(branch, desk, order, limit, NONE);
     suppose_nothing(&mut desk.values, fact);
-    desk.values.first = b;
+    desk.values.first = order.second;
     if branch.problem.relevant.has(0, loc) {
         offer_false(branch, desk);
     }
     for r in branch.problem.locations..branch.problem.size {
         if branch.source.at(r) < fact && branch.problem.location(r) == loc {
-            offer_read(branch, desk, a, b, r, limit);
+            offer_read(branch, desk, order, r, limit);
         }
     }
 }
 
-/// Offers the reasons by a read of their location why b can't come before a.
-fn offer_read(branch: &Branch, desk: &mut Desk, a: usize, b: usize, r: usize, limit: usize) {
+/// Offers the reasons by a read of their location why an order can't be turned.
+fn offer_read(branch: &Branch, desk: &mut Desk, order: Order, r: usize, limit: usize) {
+    let (a, b) = (order.first, order.second);
     let own = branch.problem.partner(r);
     let s = branch.source_of(r);
     if s == b {
         // b before a: r is before a
-        offer_paths(branch, desk, a, r, limit, branch.source.at(r));
+        let ends = Order {
+            first: a,
+            second: r,
+        };
+        offer_paths(branch, desk, ends, limit, branch.source.at(r));
     }
     if own == NONE {
         return;
     }
     if s == b && a != own {
-        offer_parts(branch, desk, a, own, a, r, limit);
+        let ends = Order {
+            first: a,
+            second: own,
+        };
+        offer_parts(branch, desk, ends, r, limit);
     } else if own == a && s != b {
-        offer_parts(branch, desk, s, b, b, r, limit);
+        let ends = Order {
+            first: s,
+            second: b,
+        };
+        offer_parts(branch, desk, ends, r, limit);
     }
 }
 
-/// Offers a write of another core between the parts of a locked instruction, where one write is known to be before another one.
-fn offer_parts(
-    branch: &Branch,
-    desk: &mut Desk,
-    first: usize,
-    second: usize,
-    between: usize,
-    r: usize,
-    limit: usize,
-) {
-    if branch.is_known(Relations::Coherence, first, second)
+/// Offers a write of another core between the parts of a locked instruction, where one write is known to be before another one. It is
+/// the one of these two that isn't the store part; where neither is, the second.
+fn offer_parts(branch: &Branch, desk: &mut Desk, ends: Order, r: usize, limit: usize) {
+    let own = branch.problem.partner(r);
+    let between = if ends.second == own {
+        ends.first
+    } else {
+        ends.second
+    };
+    if branch.is_known(Relations::Coherence, ends.first, ends.second)
         && branch.problem.core(between) != branch.problem.core(r)
-        && take_path(branch, desk, coherence(limit), first, second)
+        && take_path(branch, desk, coherence(limit), ends.first, ends.second)
     {
         need(&mut desk.trial, branch.source.at(r));
-        offer_write_between(desk, r, between, branch.problem.partner(r));
+        offer_write_between(desk, r, between, own);
     }
 }

@@ -1,7 +1,7 @@
 //! Leaves and nodes for what a branch found closed: the shortest reason for each source that a read can't have, and for each order
 //! that follows.
 
-use crate::branch::{Answer, Branch, Conflict, Edge, Fact};
+use crate::branch::{Answer, Branch, Conflict, Edge, Fact, Order};
 use crate::closing::{add_best, add_best_source, ask_order};
 use crate::evidence::{is_found, use_facts};
 use crate::falsity::add_false_tree;
@@ -68,21 +68,14 @@ pub fn add_tried_order(desk: &mut Desk, a: usize, b: usize) -> usize {
     add_order_question(desk, a, b, first, second)
 }
 
-/// The tree where b is before a, and a fact says that it comes after it.
-fn add_other(
-    branch: &Branch,
-    desk: &mut Desk,
-    a: usize,
-    b: usize,
-    fact: usize,
-    edges: usize,
-) -> usize {
-    find_why_before(branch, desk, a, b, fact, edges);
+/// The tree where this order, which a fact tells, is turned.
+fn add_other(branch: &Branch, desk: &mut Desk, order: Order, fact: usize, edges: usize) -> usize {
+    find_why_before(branch, desk, order, fact, edges);
     if is_found(&desk.best) {
         let s = branch.source_of(desk.best.cycle.at(0));
-        add_best(branch, desk, edges, s, a, b)
+        add_best(branch, desk, edges, s, order)
     } else {
-        add_false_tree(branch, desk, branch.problem.location(a))
+        add_false_tree(branch, desk, branch.problem.location(order.first))
     }
 }
 
@@ -96,7 +89,11 @@ fn add_turned(branch: &Branch, desk: &mut Desk, number: usize) -> usize {
     if known == NONE || fact.tried {
         return NONE;
     }
-    let tree = add_other(branch, desk, a, b, number, fact.edges);
+    let order = Order {
+        first: a,
+        second: b,
+    };
+    let tree = add_other(branch, desk, order, number, fact.edges);
     desk.used.add(0, known);
     tree
 }
@@ -138,7 +135,11 @@ fn wrap_one(branch: &Branch, desk: &mut Desk, number: usize, fact: Fact, tree: u
             add_source_question(branch, desk, r)
         }
         Answer::Before(a, b) => {
-            let other = add_other(branch, desk, a, b, number, fact.edges);
+            let order = Order {
+                first: a,
+                second: b,
+            };
+            let other = add_other(branch, desk, order, number, fact.edges);
             add_order_question(desk, a, b, tree, other)
         }
     }
