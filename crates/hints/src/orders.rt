@@ -144,18 +144,18 @@ pub fn names_no_location(test: &Test, text: &[u8]) -> bool {
 
 /// Says of an order that its end is missing, or counts other entries.
 fn bad_count(line: &mut Line, text: &[u8]) {
-    let mut rest = text;
+    let mut number = 0usize;
     let mut start = 0usize;
-    for at in 0..text.len() {
-        let entry = first_line(rest);
-        if start == 0 && is_exactly_one_of(&["Order"], entry) {
-            start = at + 1;
-        } else if start > 0 && entry.starts_with(b"Endorder ") {
-            return counted(line, at + 1, entry, at.saturating_sub(start));
-        }
-        match after_byte(rest, b'\n') {
-            Some(after) => rest = after,
-            None => break,
+    for whole in text.split(|byte| *byte == b'\n') {
+        number = number.saturating_add(1);
+        let entry = without_return(whole);
+        if start == 0 {
+            if is_exactly_one_of(&["Order"], entry) {
+                start = number;
+            }
+        } else if entry.starts_with(b"Endorder ") {
+            let entries = number.saturating_sub(start).saturating_sub(1);
+            return counted(line, number, entry, entries);
         }
     }
     line.say("no line Endorder n ends the order, where n is the number of its entries");

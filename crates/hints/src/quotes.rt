@@ -124,12 +124,11 @@ pub fn after_byte(text: &[u8], byte: u8) -> Option<&[u8]> {
 pub fn last_word(text: &[u8]) -> &[u8] {
     let text = text.trim_ascii_end();
     let mut count = 0usize;
-    for byte in text {
-        count = if continues_name(*byte) {
-            count.saturating_add(1)
-        } else {
-            0
-        };
+    for at in (0..text.len()).rev() {
+        if !continues_name(text[at]) {
+            break;
+        }
+        count = count.saturating_add(1);
     }
     last_bytes(text, count.max(1))
 }
