@@ -45,11 +45,11 @@ class Definition:
         self.name, self.path, self.number, self.text = name, path, number, []
 
 class File:
-    """A file of definitions: what it imports, by the local name, and what it defines."""
+    """A file of definitions: what it imports, by the local name, what it hands on, and what it defines."""
 
     def __init__(self, module, path):
         self.module, self.path = module, path
-        self.imports, self.definitions, self.passed_on = {}, {}, []
+        self.imports, self.definitions, self.passed_on, self.handed_on = {}, {}, [], {}
         current = None
         with open(path) as file:
             lines = file.read().split("\n")
@@ -87,6 +87,8 @@ class File:
             name, _, other = item.strip().partition(" as ")
             if name:
                 self.imports[other or name] = (module, name)
+                if passes_on:
+                    self.handed_on[other or name] = (module, name)
 
 
 @lru_cache(None)
@@ -146,6 +148,9 @@ def reached(roots, case=None, without=()):
         if (module, name) in without:
             return
         if module not in files() or (module, name) in seen:
+            return
+        if name in files()[module].handed_on:
+            visit(*files()[module].handed_on[name])
             return
         if name not in files()[module].definitions:
             for source in files()[module].definitions.values():

@@ -18,7 +18,7 @@ from judging import TOP, content
 CRATES = os.path.join(TOP, "crates")
 HEADLINE = ("tso_cli.specs.Headline", "Headline")
 
-USE = re.compile(r"use Rattle\.([\w.]+?)(?:\.\{(.*)\}| as (\w+))?$")
+USE = re.compile(r"(?:pub )?use Rattle\.([\w.]+?)(?:\.\{(.*)\}| as (\w+))?$")
 HEAD = re.compile(r"(?:(?:pub|abbrev|unfoldable|record|data)\s+)*([A-Za-z_][\w']*)")
 PART = re.compile(r"^\s+(?:pub\s+)?([A-Za-z_][\w']*)\s*:", re.MULTILINE)
 WORD = re.compile(r"[A-Za-z_][\w']*")
@@ -66,6 +66,9 @@ def declared_from(start):
             found.add(declared.groups())
             continue
         imports, texts, parts = module_of(module)
+        if name in imports and name not in texts:
+            waiting.append(imports[name])  # This module hands the word on.
+            continue
         text = texts.get(name) or texts.get(parts.get(name), "")
         words = set(WORD.findall(text))
         waiting += [imports[word] for word in words if word in imports]

@@ -68,9 +68,9 @@ def abbreviations():
 
 @lru_cache(None)
 def handed_on(module):
-    """What a crate's vocabulary hands on from other files: the module and the name there, by the name. Of any other file nothing."""
+    """What a crate's vocabulary, of proofs or of definitions, hands on from other files: the module and the name there, by the name."""
     found = {}
-    if module.endswith(".proofs.Vocabulary"):
+    if module.endswith((".proofs.Vocabulary", ".specs.Vocabulary")):
         with open(os.path.join(TOP, "crates", *module.split(".")) + ".antt", encoding="utf-8") as file:
             lines = [believed.IMPORT.match(line.removeprefix("unfoldable ").strip()) for line in file if "pub use " in line]
         for line in lines:

@@ -1,26 +1,10 @@
 -- The answer to an input: what is written, and the status. Everything that the program promises is said of this; that each
 -- answer meets the headline is a law of it.
 use Rattle.std.specs.Prelude.{ℕ, Bool, if◌then◌else◌, List, length}
-use Rattle.tso_model.specs.Litmus.{Litmus}
-use Rattle.tso_model.specs.Axioms.{IsTsoExecution}
-use Rattle.tso_model.specs.Runs.{Run}
-use Rattle.tso_model.specs.declared.execution.Entry.{Entry}
-use Rattle.tso_model.specs.declared.choice.Choice.{Choice}
-use Rattle.scheduler.specs.Grammar.{SpellsChoices}
-use Rattle.scheduler.specs.Refusals.{IsRefusedAsChoices}
-use Rattle.scheduler.specs.declared.fault.ChoiceFault.{ChoiceFault}
-use Rattle.order_builder.specs.Spelling.{SpellsOrder, HasFault}
-use Rattle.order_builder.specs.declared.fault.OrderFault.{OrderFault}
-use Rattle.axiom_checker.specs.FirstBreach.{IsFirstBreach}
-use Rattle.axiom_checker.specs.declared.breach.Breach.{Breach}
-use Rattle.protocol_tables.specs.declared.kind.ProtocolKind.{ProtocolKind}
-use Rattle.machine_core.specs.Configuration.{Configuration}
-use Rattle.machine_core.specs.declared.counts.Counts.{Counts}
+use Rattle.commands.specs.Vocabulary.{AnswersFit, Breach, Choice, ChoiceFault, Configuration, Counts, counts_under, Entry, HasFault, IsFirstBreach, IsRefusedAsChoices, IsTsoExecution, Litmus, OrderFault, ProtocolKind, Run, run_under, shown_of, SpellsChoices, SpellsOrder}
 use Rattle.commands.specs.Lines.{choices_refusal}
 use Rattle.commands.specs.RunTexts.{report_in, unfinished_in}
-use Rattle.simulator.specs.Runs.{run_under, counts_under, AnswersFit}
 use Rattle.commands.specs.CheckLines.{order_refusal, valid_line, invalid_line}
-use Rattle.simulator.specs.Simulation.{shown_of}
 use Rattle.commands.specs.declared.answer.Status.{Status}
 use Rattle.commands.specs.declared.answer.Status.TheVariants.{Good, Refused, Unended, Invalid}
 

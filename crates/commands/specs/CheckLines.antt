@@ -1,14 +1,9 @@
 -- The lines that `check` writes: that an order is valid, or its first breach with the entries concerned.
 use Rattle.std.specs.Prelude.{ℕ, List, [], ◌++◌, slice_index_or, codes}
 use Rattle.std.specs.Fmt.{decimal}
-use Rattle.tso_model.specs.Litmus.{Litmus}
-use Rattle.tso_model.specs.declared.execution.Entry.{Entry}
+use Rattle.commands.specs.Vocabulary.{Breach, Entry, Extra, letters_of, Litmus, Missing, NoMemory, NotAdjacent, OrderFault, printed_entry, ProgramOrder, ReadValue, Twice, WrongValue}
 use Rattle.tso_model.specs.declared.execution.Kind.{Kind}
 use Rattle.tso_model.specs.declared.execution.Kind.TheVariants.{F}
-use Rattle.order_builder.specs.PrintedOrder.{letters_of, printed_entry}
-use Rattle.order_builder.specs.declared.fault.OrderFault.{OrderFault}
-use Rattle.axiom_checker.specs.declared.breach.Breach.{Breach}
-use Rattle.axiom_checker.specs.declared.breach.Breach.TheVariants.{Extra, Twice, Missing, WrongValue, ProgramOrder, NotAdjacent, ReadValue, NoMemory}
 use Rattle.tso_report.specs.Report.{line}
 use Rattle.order_builder.specs.declared.fault.OrderFault.TheVariants as orders
 

@@ -4,13 +4,8 @@ use Rattle.std.specs.Prelude.{ℕ, Bool, List, map, All, Contains}
 use Rattle.std.specs.Ordering.{nat_cmp}
 use Rattle.std.specs.Cmp.Lexicographic.{slice_cmp}
 use Rattle.std.specs.List.Sorted.{IsStrictlySortedBy}
-use Rattle.tso_model.specs.Litmus.{Litmus}
-use Rattle.outcome_laws.specs.Outcomes.{IsEnd, LeadToEnd}
+use Rattle.commands.specs.Vocabulary.{is_as_claimed, is_met_in, IsEnd, LeadToEnd, Litmus, Named, names_shown, Outcome, shown_values, values_at}
 use Rattle.explorer.specs.FinalStates.{HasMoreStates}
-use Rattle.tso_report.specs.declared.named.Named.{Named}
-use Rattle.shown_values.specs.Shown.{names_shown, values_at}
-use Rattle.outcome_report.specs.Verdict.{is_as_claimed}
-use Rattle.outcome_report.specs.Outcomes.{Outcome, shown_values, is_met_in}
 use Rattle.outcome_report.specs.Printed.{outcomes_in, unfinished_search_in}
 use Rattle.command_line.specs.Search.{Search}
 use Rattle.commands.specs.declared.answer.Status.{Status}

@@ -1,10 +1,6 @@
 -- What is written of a run: lines, or a JSON value on one line. Both show the same run.
 use Rattle.std.specs.Prelude.{ℕ, Bool, true, false, List}
-use Rattle.tso_model.specs.Litmus.{Litmus}
-use Rattle.protocol_tables.specs.declared.kind.ProtocolKind.{ProtocolKind}
-use Rattle.machine_core.specs.Configuration.{Configuration}
-use Rattle.tso_report.specs.Shown.{ShownRun}
-use Rattle.tso_report.specs.Report.{report}
+use Rattle.commands.specs.Vocabulary.{Configuration, Litmus, ProtocolKind, report, ShownRun}
 use Rattle.tso_report.specs.Json.{json_report, json_unfinished}
 use Rattle.commands.specs.Lines.{unfinished_run_line}
 

@@ -1,9 +1,6 @@
 -- The answer of `sweep`: what is counted of the runs under many seeds. Each run is one that `run` makes of `seed N M`.
 use Rattle.std.specs.Prelude.{ℕ, ◌≡◌, ◌==◌, if◌then◌else◌, List, ◌++◌}
-use Rattle.tso_model.specs.Litmus.{Litmus}
-use Rattle.protocol_tables.specs.declared.kind.ProtocolKind.{ProtocolKind}
-use Rattle.machine_core.specs.Configuration.{Configuration}
-use Rattle.tso_report.specs.Report.{head}
+use Rattle.commands.specs.Vocabulary.{Configuration, head, Litmus, ProtocolKind}
 use Rattle.tso_report.specs.Tally.{RunCounts, tally_text}
 use Rattle.scheduler.specs.Plan.{Plan}
 use Rattle.commands.specs.declared.answer.Status.{Status}

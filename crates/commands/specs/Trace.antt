@@ -1,23 +1,8 @@
 -- The answer of `trace`: what `run` answers, with what each choice did: after the first two lines, or in members of its own.
 use Rattle.std.specs.Prelude.{ℕ, ◌≡◌, ◌<◌, ◌≤◌, Bool, true, false, if◌then◌else◌, List, ◌++◌, length}
-use Rattle.tso_model.specs.Litmus.{Litmus}
-use Rattle.tso_model.specs.Runs.{Run}
-use Rattle.tso_model.specs.declared.choice.Choice.{Choice}
-use Rattle.scheduler.specs.Grammar.{SpellsChoices}
-use Rattle.scheduler.specs.Refusals.{IsRefusedAsChoices}
-use Rattle.scheduler.specs.WordOfChoice.{IsWordOfChoice}
-use Rattle.scheduler.specs.declared.fault.ChoiceFault.{ChoiceFault}
+use Rattle.commands.specs.Vocabulary.{AnswersFit, body, Choice, ChoiceFault, Configuration, Counts, counts_under, head, IsRefusedAsChoices, IsWordOfChoice, json_ended, json_unended, Litmus, most_steps, ProtocolKind, Run, run_under, shown_of, SpellsChoices, trace_text, trace_under}
 use Rattle.scheduler.specs.declared.fault.ChoiceFault.TheVariants.{TooMany}
-use Rattle.protocol_tables.specs.declared.kind.ProtocolKind.{ProtocolKind}
-use Rattle.machine_core.specs.Configuration.{Configuration}
-use Rattle.machine_core.specs.declared.counts.Counts.{Counts}
-use Rattle.tso_report.specs.Report.{head, body}
-use Rattle.trace_report.specs.Lines.{trace_text}
-use Rattle.trace_report.specs.Steps.{trace_under}
-use Rattle.trace_json.specs.TracedRun.{most_steps, json_ended, json_unended}
 use Rattle.commands.specs.Lines.{choices_refusal, unfinished_run_line}
-use Rattle.simulator.specs.Runs.{run_under, counts_under, AnswersFit}
-use Rattle.simulator.specs.Simulation.{shown_of}
 use Rattle.commands.specs.declared.answer.Status.{Status}
 use Rattle.commands.specs.declared.answer.Status.TheVariants.{Good, Refused, Unended}
 

@@ -1,14 +1,10 @@
 -- The answer of `why`: a refutation of what the test asks, an execution in which it is so, or that more cases have to be told apart than
 -- may be.
 use Rattle.std.specs.Prelude.{◌≡◌, ◌<◌, ℕ, Bool, true, false, List}
-use Rattle.tso_model.specs.Litmus.{Litmus}
-use Rattle.tso_model.specs.declared.choice.Choice.{Choice}
-use Rattle.tso_model.specs.declared.execution.Entry.{Entry}
-use Rattle.tso_laws.specs.Along.{LeadTo}
+use Rattle.commands.specs.Vocabulary.{Choice, Entry, is_as_claimed, LeadTo, Litmus}
 use Rattle.refutation_laws.specs.Refutations.{Node, asked_claim, refutes}
 use Rattle.refutation_laws.specs.Models.{IsMet, depth_of}
 use Rattle.reasons.specs.Reasons.{HasMoreCases, most_cases}
-use Rattle.outcome_report.specs.Verdict.{is_as_claimed}
 use Rattle.reason_report.specs.Printed.{refutation_in, ShowsExecution, unfinished_cases_in}
 use Rattle.command_line.specs.Explanation.{Explanation}
 use Rattle.commands.specs.declared.answer.Status.{Status}

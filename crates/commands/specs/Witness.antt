@@ -1,30 +1,15 @@
 -- The answer of `witness`: the choices that reach an order, or the depth that it needs, or its first breach. (Primer,
 -- chapter 4.)
 use Rattle.std.specs.Prelude.{ℕ, ◌≡◌, ◌<◌, ◌≤◌, Bool, List}
-use Rattle.tso_model.specs.Litmus.{Litmus}
-use Rattle.tso_model.specs.Axioms.{IsTsoExecution}
-use Rattle.tso_model.specs.Runs.{run}
-use Rattle.tso_model.specs.declared.execution.Entry.{Entry}
-use Rattle.tso_model.specs.declared.choice.Choice.{Choice}
-use Rattle.tso_laws.specs.Along.{choices_along}
+use Rattle.commands.specs.Vocabulary.{Breach, Choice, choices_along, Configuration, Ended, Ending, Entry, HasFault, IsEndingOf, IsFirstBreach, IsTsoExecution, Litmus, OrderFault, ProtocolKind, run, ShownRun, SpellsOrder, Unfinished}
 use Rattle.tso_laws.specs.Depth.{needed}
 use Rattle.scheduler.specs.Printed.{printed_choices}
-use Rattle.order_builder.specs.Spelling.{SpellsOrder, HasFault}
-use Rattle.order_builder.specs.declared.fault.OrderFault.{OrderFault}
-use Rattle.axiom_checker.specs.FirstBreach.{IsFirstBreach}
-use Rattle.axiom_checker.specs.declared.breach.Breach.{Breach}
 use Rattle.litmus_reader.specs.Spelling.{SpellsTest}
-use Rattle.protocol_tables.specs.declared.kind.ProtocolKind.{ProtocolKind}
-use Rattle.machine_core.specs.Configuration.{Configuration}
-use Rattle.tso_report.specs.Shown.{ShownRun}
 use Rattle.tso_report.specs.Report.{line}
 use Rattle.commands.specs.Dividing.{Parts}
 use Rattle.commands.specs.Lines.{depth_line}
 use Rattle.commands.specs.RunTexts.{report_in}
 use Rattle.commands.specs.CheckLines.{order_refusal, invalid_line}
-use Rattle.simulator.specs.Simulation.{IsEndingOf}
-use Rattle.simulator.specs.declared.simulation.Ending.{Ending}
-use Rattle.simulator.specs.declared.simulation.Ending.TheVariants.{Ended, Unfinished}
 use Rattle.commands.specs.declared.answer.Status.{Status}
 use Rattle.commands.specs.declared.answer.Status.TheVariants.{Good, Refused, Invalid}
 

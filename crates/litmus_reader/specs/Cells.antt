@@ -1,13 +1,8 @@
 -- The cells of a row, read from left to right: in this order names get their numbers, and the first fault is found.
 use Rattle.std.specs.Prelude.{ℕ, ◌+◌, List, [], ◌∷◌, Result, Ok}
-use Rattle.litmus_tokens.specs.Pieces.{Piece}
-use Rattle.litmus_cells.specs.declared.fault.Fault.{Fault}
-use Rattle.litmus_cells.specs.declared.cell.CoreInstr.{CoreInstr}
+use Rattle.litmus_reader.specs.Vocabulary.{Bar, CoreInstr, Fault, is_symbol, Piece, ◌>>=◌}
 use Rattle.litmus_cells.specs.Cells.{cell_in}
-use Rattle.litmus_cells.specs.Faults.{◌>>=◌}
 use Rattle.std.specs.List.{slice_split}
-use Rattle.litmus_tokens.specs.Front.{is_symbol}
-use Rattle.litmus_tokens.specs.declared.token.Symbol.TheVariants.{Bar}
 
 -- the cells of a row: what stands between its bars
 abbrev pub cells_of : List Piece → List (List Piece)

@@ -1,14 +1,7 @@
 -- The header row: `P0`, `P1`, .. separated by vertical bars and ended by `;`.
 use Rattle.std.specs.Prelude.{ℕ, zero, suc, ◌+◌, List, Result, Ok, Err}
-use Rattle.litmus_tokens.specs.declared.token.Stop.{Stop}
-use Rattle.litmus_tokens.specs.declared.token.Symbol.TheVariants.{Semicolon, Bar}
-use Rattle.litmus_tokens.specs.Pieces.{Piece}
-use Rattle.litmus_tokens.specs.Front.{symbol_at}
-use Rattle.litmus_cells.specs.declared.fault.Why.TheVariants.{TooLarge, BadHeaderRow}
-use Rattle.litmus_cells.specs.declared.fault.Fault.{Fault}
-use Rattle.litmus_cells.specs.Faults.{◌>>=◌, there}
+use Rattle.litmus_reader.specs.Vocabulary.{BadHeaderRow, Bar, Fault, fault, Piece, Semicolon, Stop, symbol_at, there, TooLarge, ◌>>=◌}
 use Rattle.litmus_reader.specs.Faults.{or_unfit}
-use Rattle.litmus_cells.specs.Places.{fault}
 use Rattle.litmus_reader.specs.Places.{remaining_of, part_of}
 use Rattle.litmus_reader.specs.GrammarColumns.{core_name}
 use Rattle.litmus_reader.specs.Keywords.{word_after}

@@ -1,24 +1,11 @@
 -- The condition, as it is read: by recursion on its units, of which only so many may be open at once; so the reading comes
 -- to an end.
 use Rattle.std.specs.Prelude.{ℕ, zero, suc, ◌+◌, Bool, true, false, List, length, codes, Option, Some, None, Result, Ok, Err, nat_lt, is_some, ◌||◌, if◌then◌else◌}
-use Rattle.tso_model.specs.Condition.{Claim, TruthClaim, RegClaim, LocClaim, NotClaim, AndClaim, OrClaim, Condition}
-use Rattle.tso_model.specs.declared.condition.Quantifier.{Quantifier}
-use Rattle.tso_model.specs.declared.condition.Quantifier.TheVariants.{Exists, NotExists, Forall}
-use Rattle.tso_model.specs.Limits.{most_atoms, most_open}
-use Rattle.litmus_tokens.specs.declared.token.Stop.{Stop}
-use Rattle.litmus_tokens.specs.declared.token.Symbol.{Symbol}
-use Rattle.litmus_tokens.specs.declared.token.Symbol.TheVariants.{OpenRound, CloseRound, And, Or, Tilde}
-use Rattle.litmus_tokens.specs.Pieces.{Piece}
-use Rattle.litmus_tokens.specs.Front.{symbol_at}
-use Rattle.litmus_cells.specs.declared.fault.Why.TheVariants.{TooLarge, BadCondition}
-use Rattle.litmus_cells.specs.declared.fault.Fault.{Fault}
-use Rattle.litmus_cells.specs.Faults.{◌>>=◌, there}
+use Rattle.litmus_reader.specs.Vocabulary.{And, AndClaim, BadCondition, Claim, CloseRound, Condition, Exists, Fault, fault, Forall, LocClaim, most_atoms, most_open, NotClaim, NotExists, OpenRound, Or, OrClaim, Piece, Quantifier, RegClaim, Stop, Symbol, symbol_at, there, Tilde, TooLarge, TruthClaim, word_at, ◌>>=◌}
 use Rattle.litmus_reader.specs.Faults.{or_unfit}
 use Rattle.litmus_reader.specs.Keywords.{word_after}
 use Rattle.litmus_cells.specs.Locations.{located}
-use Rattle.litmus_cells.specs.Numbers.{word_at}
 use Rattle.litmus_reader.specs.Settings.{setting_at, core_of}
-use Rattle.litmus_cells.specs.Places.{fault}
 use Rattle.litmus_reader.specs.Places.{remaining_of, part_of}
 use Rattle.litmus_reader.specs.Written.{Setting, of_register, of_location}
 

@@ -1,8 +1,6 @@
 -- What is there, or else the refusal of a token that doesn't fit.
 use Rattle.std.specs.Prelude.{List, Option, Result}
-use Rattle.litmus_tokens.specs.Pieces.{Piece}
-use Rattle.litmus_cells.specs.declared.fault.Fault.{Fault}
-use Rattle.litmus_cells.specs.Faults.{or_fault}
+use Rattle.litmus_reader.specs.Vocabulary.{Fault, or_fault, Piece}
 use Rattle.litmus_reader.specs.declared.fault.Part.{Part}
 use Rattle.litmus_reader.specs.Places.{unfit}
 

@@ -1,7 +1,6 @@
 -- Tokens of a text without their places: the grammar speaks of what is spelled, and places serve refusals alone.
 use Rattle.std.specs.Prelude.{◌≡◌, List, ◌++◌, map}
-use Rattle.litmus_tokens.specs.Terms.{Term}
-use Rattle.litmus_tokens.specs.Pieces.{Piece}
+use Rattle.litmus_reader.specs.Vocabulary.{Piece, Term}
 
 -- tokens, wherever they stand
 abbrev pub terms : List Piece → List Term

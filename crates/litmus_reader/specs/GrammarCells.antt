@@ -1,14 +1,9 @@
 -- Which tokens spell which instruction in a cell: the x86 instructions as litmus tests write them. (Intel's manual, for
 -- what they are; litmus7 and herd, for the form.)
 use Rattle.std.specs.Prelude.{◌≡◌, ℕ, List, [], ◌∷◌, ◌++◌, codes, Some, IsTrue}
-use Rattle.tso_model.specs.Names.{is_location_name}
-use Rattle.tso_model.specs.Registers.{register_named, same_letters}
-use Rattle.tso_model.specs.declared.register.Reg.{Reg}
-use Rattle.litmus_tokens.specs.declared.token.Symbol.TheVariants.{OpenSquare, CloseSquare, Comma, Dollar}
-use Rattle.decimals.specs.Decimals.{decimal_value}
+use Rattle.litmus_reader.specs.Vocabulary.{CloseSquare, Comma, decimal_value, Dollar, fence, is_location_name, load, OpenSquare, Reg, register_named, same_letters, set_imm, set_reg, Shape, store_imm, store_reg, xadd, xchg}
 use Rattle.litmus_tokens.specs.Terms.{Term, number, name, symbol}
 use Rattle.litmus_cells.specs.Arguments.{ArgumentTerm, in_memory, in_register, constant}
-use Rattle.litmus_cells.specs.Shapes.{Shape, store_imm, store_reg, load, set_imm, set_reg, fence, xchg, xadd}
 
 -- an operand
 pub data IsOperand : List Term → ArgumentTerm → Type 0 where

@@ -1,7 +1,6 @@
 -- Which tokens spell a header row of so many cores: it alone says how many there are.
 use Rattle.std.specs.Prelude.{◌≤◌, ℕ, ◌+◌, List, [], ◌∷◌}
-use Rattle.tso_model.specs.Limits.{most_cores}
-use Rattle.litmus_tokens.specs.declared.token.Symbol.TheVariants.{Semicolon, Bar}
+use Rattle.litmus_reader.specs.Vocabulary.{Bar, most_cores, Semicolon}
 use Rattle.litmus_tokens.specs.Terms.{Term, name, symbol}
 
 -- `P` and the core's number, which has one digit

@@ -1,20 +1,12 @@
 -- Which tokens spell which proposition: `/\` binds closer than `\/`, and `~` closer than both, so each is read in one way.
 use Rattle.std.specs.Prelude.{◌≤◌, ℕ, zero, suc, ◌+◌, true, false, List, [], ◌∷◌, ◌++◌, length, codes, IsTrue, Bool, ◌||◌}
 use Rattle.std.specs.List.{list_all}
-use Rattle.tso_model.specs.Condition.{Claim, TruthClaim, RegClaim, LocClaim, NotClaim, AndClaim, OrClaim}
-use Rattle.litmus_tokens.specs.declared.token.Symbol.{Symbol}
-use Rattle.litmus_tokens.specs.declared.token.Symbol.TheVariants.{OpenRound, CloseRound, And, Or, Tilde}
-use Rattle.decimals.specs.Decimals.{decimal_value}
+use Rattle.litmus_reader.specs.Vocabulary.{And, AndClaim, Claim, CloseRound, decimal_value, Exists, Forall, is_symbol_term, LocClaim, most_atoms, most_locations, most_open, NotClaim, NotExists, number_of, numbered, OpenRound, Or, OrClaim, Quantifier, RegClaim, Symbol, Tilde, TruthClaim}
 use Rattle.litmus_tokens.specs.Terms.{Term, name, symbol}
-use Rattle.tso_model.specs.Limits.{most_atoms, most_locations, most_open}
-use Rattle.tso_model.specs.declared.condition.Quantifier.{Quantifier}
-use Rattle.tso_model.specs.declared.condition.Quantifier.TheVariants.{Exists, NotExists, Forall}
-use Rattle.litmus_cells.specs.GrammarNames.{numbered, number_of}
 use Rattle.litmus_reader.specs.GrammarItems.{IsSetting}
 use Rattle.litmus_reader.specs.GrammarInitial.{names_in, is_allowed}
 use Rattle.litmus_reader.specs.Written.{Setting, of_register, of_location, Phrase, truth, atom, negation, both, either}
 use Rattle.litmus_reader.specs.Keywords.{is_word}
-use Rattle.litmus_tokens.specs.Front.{is_symbol_term}
 
 -- `true`, `false`, `c:REG=v`, `x=v` or `[x]=v`
 pub data IsAtom : List Term → Phrase → Type 0 where

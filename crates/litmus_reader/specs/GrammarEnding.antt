@@ -1,14 +1,8 @@
 -- Which tokens and bytes spell what stands after the rows: perhaps `locations [..]`, which has no effect, and perhaps a
 -- condition, up to the end of the text.
 use Rattle.std.specs.Prelude.{◌≡◌, ◌≤◌, ℕ, List, [], ◌∷◌, length, codes, Option, Some, None}
-use Rattle.tso_model.specs.Condition.{Condition}
-use Rattle.tso_model.specs.declared.condition.Quantifier.{Quantifier}
-use Rattle.tso_model.specs.Limits.{most_locations}
-use Rattle.litmus_tokens.specs.declared.token.Stop.{Stop}
-use Rattle.litmus_tokens.specs.declared.token.Stop.TheVariants.{End}
-use Rattle.litmus_tokens.specs.declared.token.Symbol.TheVariants.{OpenSquare}
+use Rattle.litmus_reader.specs.Vocabulary.{Condition, End, most_locations, OpenSquare, Piece, pieces_of, Quantifier, Stop}
 use Rattle.litmus_tokens.specs.Terms.{Term, name, symbol}
-use Rattle.litmus_tokens.specs.Pieces.{Piece, pieces_of}
 use Rattle.litmus_reader.specs.Grammar.{terms}
 use Rattle.litmus_reader.specs.GrammarConditions.{IsCondition, IsWithin, locations_in, claim_by}
 use Rattle.litmus_reader.specs.GrammarText.{ClosesBrackets}

@@ -3,13 +3,8 @@
 use Rattle.std.specs.Prelude.{ℕ, ◌^◌, ◌≤◌, Bool, true, false, not, List, [], ◌∷◌, ◌++◌, length, map, nat_lt, IsTrue, ◌==◌, ◌&&◌, if◌then◌else◌}
 use Rattle.std.specs.List.{list_any, list_all, range_with_len}
 use Rattle.std.specs.Str.{bytes_eq}
-use Rattle.tso_model.specs.Registers.{index_of}
-use Rattle.tso_model.specs.declared.register.Reg.{Reg}
+use Rattle.litmus_reader.specs.Vocabulary.{CloseCurly, decimal_value, index_of, most_locations, OpenCurly, Reg, Semicolon, symbol, Term}
 use Rattle.tso_model.specs.declared.register.Reg.TheVariants.{Eax, Ebx, Ecx, Edx, Esi, Edi}
-use Rattle.tso_model.specs.Limits.{most_locations}
-use Rattle.litmus_tokens.specs.declared.token.Symbol.TheVariants.{OpenCurly, CloseCurly, Semicolon}
-use Rattle.decimals.specs.Decimals.{decimal_value}
-use Rattle.litmus_tokens.specs.Terms.{Term, symbol}
 use Rattle.litmus_reader.specs.GrammarItems.{IsSetting}
 use Rattle.litmus_reader.specs.Written.{Setting, of_register, of_location}
 

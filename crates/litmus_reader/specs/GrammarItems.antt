@@ -1,11 +1,7 @@
 -- Which tokens spell which item of the initial state. The atoms of a condition have the same three forms. (This
 -- project's profile.)
 use Rattle.std.specs.Prelude.{◌≡◌, ℕ, List, [], ◌∷◌, Some, IsTrue}
-use Rattle.tso_model.specs.Names.{is_location_name}
-use Rattle.tso_model.specs.Registers.{register_named}
-use Rattle.tso_model.specs.declared.register.Reg.{Reg}
-use Rattle.litmus_tokens.specs.declared.token.Symbol.TheVariants.{Equals, Colon, OpenSquare, CloseSquare}
-use Rattle.decimals.specs.Decimals.{decimal_value}
+use Rattle.litmus_reader.specs.Vocabulary.{CloseSquare, Colon, decimal_value, Equals, is_location_name, OpenSquare, Reg, register_named}
 use Rattle.litmus_tokens.specs.Terms.{Term, number, name, symbol}
 use Rattle.litmus_reader.specs.Written.{Setting, of_register, of_location}
 

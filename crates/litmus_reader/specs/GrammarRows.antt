@@ -1,9 +1,7 @@
 -- Which tokens spell which row of the table: as many cells as there are cores, each of them an instruction or empty.
 use Rattle.std.specs.Prelude.{◌≡◌, ℕ, List, [], ◌∷◌, ◌++◌, length, Option, Some, None}
-use Rattle.litmus_tokens.specs.declared.token.Symbol.TheVariants.{Semicolon, Bar}
-use Rattle.litmus_tokens.specs.Terms.{Term, symbol}
+use Rattle.litmus_reader.specs.Vocabulary.{Bar, Semicolon, Shape, symbol, Term}
 use Rattle.litmus_reader.specs.GrammarCells.{IsCell}
-use Rattle.litmus_cells.specs.Shapes.{Shape}
 
 -- a cell: nothing, or an instruction
 pub data IsField : List Term → Option Shape → Type 0 where

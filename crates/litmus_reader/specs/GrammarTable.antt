@@ -1,16 +1,10 @@
 -- Which tokens spell which rows, and the instructions that these say: a core's program is its column, from top to bottom.
 use Rattle.std.specs.Prelude.{◌<◌, ◌≤◌, ℕ, ◌^◌, Bool, true, List, [], ◌∷◌, ◌++◌, length, All, IfSome, Option, Some, None, ◌||◌, false, codes, slice_index_or}
-use Rattle.tso_model.specs.declared.instruction.Instr.{Instr}
+use Rattle.litmus_reader.specs.Vocabulary.{fence, Instr, is_symbol, load, location, most_instructions, most_locations, number_of, numbered, Piece, set_imm, set_reg, Shape, store_imm, store_reg, Tilde, xadd, xchg}
 use Rattle.tso_model.specs.declared.instruction.Instr.TheVariants.{StoreImm, StoreReg, Load, SetImm, SetReg, Fence, Xchg, Xadd}
-use Rattle.tso_model.specs.Limits.{most_instructions, most_locations}
-use Rattle.litmus_tokens.specs.declared.token.Symbol.TheVariants.{Tilde}
 use Rattle.litmus_tokens.specs.Terms.{Term, name}
-use Rattle.litmus_tokens.specs.Front.{is_symbol}
-use Rattle.litmus_cells.specs.GrammarNames.{numbered, location, number_of}
 use Rattle.litmus_reader.specs.GrammarRows.{IsRow}
 use Rattle.std.specs.Str.{bytes_eq}
-use Rattle.litmus_tokens.specs.Pieces.{Piece}
-use Rattle.litmus_cells.specs.Shapes.{Shape, store_imm, store_reg, load, set_imm, set_reg, fence, xchg, xadd}
 use Rattle.std.specs.List.{flat_map}
 
 -- rows one after the other

@@ -2,11 +2,9 @@
 -- so that a slip of the reader can't change the meaning.
 use Rattle.std.specs.Prelude.{◌≡◌, ◌≤◌, ℕ, List, [], length, IsTrue, map}
 use Rattle.std.specs.List.{range_with_len}
-use Rattle.tso_model.specs.Litmus.{Litmus}
-use Rattle.litmus_tokens.specs.Pieces.{Piece, pieces_of}
+use Rattle.litmus_reader.specs.Vocabulary.{Litmus, numbered, Piece, pieces_of}
 use Rattle.litmus_reader.specs.Limits.{longest_text}
 use Rattle.litmus_reader.specs.Grammar.{Passes}
-use Rattle.litmus_cells.specs.GrammarNames.{numbered}
 use Rattle.litmus_reader.specs.GrammarText.{IsHeaderLine, AreInformationLines}
 use Rattle.litmus_reader.specs.GrammarInitial.{IsInitialState, Fits, has_cores, names_in, first_words, first_registers}
 use Rattle.litmus_reader.specs.GrammarColumns.{IsHeaderRow}

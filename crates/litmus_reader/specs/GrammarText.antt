@@ -3,8 +3,7 @@
 use Rattle.std.specs.Prelude.{◌≡◌, ℕ, Bool, List, [], ◌∷◌, ◌++◌, codes, None, Ok, IsTrue, IsFalse, ◌==◌, not, ◌-◌, false, length, take, drop, nat_eq, Option, Some, ◌&&◌, ◌||◌, if◌then◌else◌}
 use Rattle.std.specs.List.{list_all, prefix_len, suffix_len, starts_with, before_first, after_first}
 use Rattle.std.specs.Char.{is_ascii_alphabetic, is_ascii_alphanumeric}
-use Rattle.tso_model.specs.Names.{is_test_name}
-use Rattle.litmus_tokens.specs.Gap.{gap_end}
+use Rattle.litmus_reader.specs.Vocabulary.{gap_end, is_test_name}
 
 -- after white space and comments stand these bytes
 abbrev pub IsAfterGap : List ℕ → List ℕ → Type 0

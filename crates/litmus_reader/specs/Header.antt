@@ -1,15 +1,8 @@
 -- The size of a text and its header line. The size is judged first: a text that is too large is read no further.
 use Rattle.std.specs.Prelude.{ℕ, List, length, Option, Some, None, Result, Ok, Err, nat_lt, ◌&&◌, if◌then◌else◌}
 use Rattle.std.specs.List.{list_all}
-use Rattle.tso_model.specs.Limits.{longest_test_name}
-use Rattle.tso_model.specs.Names.{is_test_name, is_printable}
-use Rattle.litmus_tokens.specs.declared.token.Stop.{Stop}
-use Rattle.litmus_tokens.specs.Gap.{gap_end}
+use Rattle.litmus_reader.specs.Vocabulary.{Fault, fault, gap_end, is_printable, is_test_name, longest_test_name, NoHeader, Stop, TooLarge, Unclosed, ◌>>=◌}
 use Rattle.litmus_reader.specs.Limits.{longest_text}
-use Rattle.litmus_cells.specs.declared.fault.Why.TheVariants.{NoHeader, Unclosed, TooLarge}
-use Rattle.litmus_cells.specs.declared.fault.Fault.{Fault}
-use Rattle.litmus_cells.specs.Faults.{◌>>=◌}
-use Rattle.litmus_cells.specs.Places.{fault}
 use Rattle.litmus_reader.specs.Places.{at_stop}
 use Rattle.litmus_reader.specs.GrammarText.{first_line, name_in}
 

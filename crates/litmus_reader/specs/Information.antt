@@ -3,12 +3,8 @@
 use Rattle.std.specs.Prelude.{ℕ, zero, suc, Bool, false, List, [], ◌∷◌, length, drop, Option, Some, None, Result, Ok, Err, ◌==◌, if◌then◌else◌}
 use Rattle.std.specs.List.{prefix_len}
 use Rattle.std.specs.Char.{is_ascii_alphabetic}
-use Rattle.litmus_tokens.specs.Gap.{gap_end}
-use Rattle.litmus_cells.specs.declared.fault.Why.TheVariants.{Unclosed, BadToken}
-use Rattle.litmus_cells.specs.declared.fault.Fault.{Fault}
-use Rattle.litmus_cells.specs.Faults.{◌>>=◌, or_fault}
+use Rattle.litmus_reader.specs.Vocabulary.{BadToken, Fault, fault, gap_end, or_fault, Unclosed, ◌>>=◌}
 use Rattle.litmus_reader.specs.Header.{from_gap}
-use Rattle.litmus_cells.specs.Places.{fault}
 use Rattle.litmus_reader.specs.GrammarText.{first_line, continues_key}
 
 -- what stands after the next quotation mark; no comment is looked for before it

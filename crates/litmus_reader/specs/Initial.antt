@@ -2,22 +2,11 @@
 use Rattle.std.specs.Prelude.{ℕ, zero, suc, Bool, List, [], ◌∷◌, ◌++◌, length, replicate, Option, Some, None, true, Result, Ok, Err, nat_lt, slice_index_or, slice_set, ◌==◌, ◌&&◌, if◌then◌else◌, false}
 use Rattle.std.specs.List.{list_any}
 use Rattle.std.specs.Str.{bytes_eq}
-use Rattle.tso_model.specs.Registers.{index_of}
-use Rattle.tso_model.specs.Thread.{with_value}
-use Rattle.tso_model.specs.declared.register.Reg.{Reg}
-use Rattle.litmus_tokens.specs.declared.token.Stop.{Stop}
-use Rattle.litmus_tokens.specs.declared.token.Symbol.TheVariants.{OpenCurly, CloseCurly, Semicolon}
-use Rattle.litmus_tokens.specs.Pieces.{Piece}
-use Rattle.litmus_tokens.specs.Front.{symbol_at}
-use Rattle.litmus_cells.specs.declared.fault.Why.TheVariants.{BadToken, Unclosed, TwiceInit}
-use Rattle.litmus_cells.specs.declared.fault.Fault.{Fault}
+use Rattle.litmus_reader.specs.Vocabulary.{BadToken, CloseCurly, Fault, fault, index_of, OpenCurly, Piece, Reg, Semicolon, Stop, symbol_at, there, TwiceInit, Unclosed, with_value, word_at, ◌>>=◌}
 use Rattle.litmus_reader.specs.declared.fault.Part.{Part}
-use Rattle.litmus_cells.specs.Faults.{◌>>=◌, there}
 use Rattle.litmus_reader.specs.Faults.{or_unfit}
 use Rattle.litmus_cells.specs.Locations.{located}
-use Rattle.litmus_cells.specs.Numbers.{word_at}
 use Rattle.litmus_reader.specs.Settings.{setting_at, core_of}
-use Rattle.litmus_cells.specs.Places.{fault}
 use Rattle.litmus_reader.specs.Places.{at_stop, remaining_of, in_initial}
 use Rattle.litmus_reader.specs.Sections.{section_of}
 use Rattle.litmus_reader.specs.Written.{Setting, of_register, of_location}

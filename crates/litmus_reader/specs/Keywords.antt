@@ -2,9 +2,7 @@
 use Rattle.std.specs.Prelude.{ℕ, Bool, false, List, Option, Some, None, if◌then◌else◌}
 use Rattle.std.specs.Str.{bytes_eq}
 use Rattle.litmus_tokens.specs.Terms.{Term, name}
-use Rattle.litmus_tokens.specs.Pieces.{Piece}
-use Rattle.litmus_tokens.specs.Front.{name_at}
-use Rattle.litmus_cells.specs.Faults.{there}
+use Rattle.litmus_reader.specs.Vocabulary.{name_at, Piece, there}
 
 -- what stands after this word, if it is at the front
 unfoldable pub word_after : List ℕ → List Piece → Option (List Piece)

@@ -1,3 +1,4 @@
+pub mod Vocabulary
 pub mod Limits
 pub mod Written
 pub mod Places

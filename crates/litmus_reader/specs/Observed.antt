@@ -1,17 +1,9 @@
 -- `locations [..]`, which is read and has no effect: any bytes may stand in the brackets, so tokens begin anew after them.
 use Rattle.std.specs.Prelude.{ℕ, zero, suc, List, [], ◌∷◌, length, codes, None, Result, Ok, Err, ◌==◌, if◌then◌else◌}
-use Rattle.litmus_tokens.specs.declared.token.Stop.{Stop}
-use Rattle.litmus_tokens.specs.declared.token.Symbol.TheVariants.{OpenSquare}
-use Rattle.litmus_tokens.specs.Gap.{gap_end}
-use Rattle.litmus_tokens.specs.Pieces.{Piece, pieces_of}
-use Rattle.litmus_tokens.specs.Front.{symbol_at}
-use Rattle.litmus_cells.specs.declared.fault.Why.TheVariants.{Unclosed, BadToken}
-use Rattle.litmus_cells.specs.declared.fault.Fault.{Fault}
-use Rattle.litmus_cells.specs.Faults.{◌>>=◌, there}
+use Rattle.litmus_reader.specs.Vocabulary.{BadToken, Fault, fault, gap_end, OpenSquare, Piece, pieces_of, Stop, symbol_at, there, Unclosed, ◌>>=◌}
 use Rattle.litmus_reader.specs.Faults.{or_unfit}
 use Rattle.litmus_reader.specs.Header.{from_gap}
 use Rattle.litmus_reader.specs.Keywords.{word_after}
-use Rattle.litmus_cells.specs.Places.{fault}
 use Rattle.litmus_reader.specs.Places.{remaining_of, from_place, part_of}
 
 -- the first byte: the `]`, or one that is passed over; where there is none, the `[` at `remaining` is unclosed

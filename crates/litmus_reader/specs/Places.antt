@@ -1,12 +1,7 @@
 -- How each part of a text refuses a token that doesn't fit, at its place: how many bytes of the text stand from there on.
 use Rattle.std.specs.Prelude.{ℕ, List, [], ◌∷◌, ◌-◌, length, drop}
-use Rattle.litmus_tokens.specs.declared.token.Stop.{Stop}
+use Rattle.litmus_reader.specs.Vocabulary.{BadInit, BadToken, Fault, fault, Piece, Stop, Unclosed, Why}
 use Rattle.litmus_tokens.specs.declared.token.Stop.TheVariants as stops
-use Rattle.litmus_tokens.specs.Pieces.{Piece}
-use Rattle.litmus_cells.specs.declared.fault.Why.{Why}
-use Rattle.litmus_cells.specs.declared.fault.Why.TheVariants.{BadToken, Unclosed, BadInit}
-use Rattle.litmus_cells.specs.declared.fault.Fault.{Fault}
-use Rattle.litmus_cells.specs.Places.{fault}
 use Rattle.litmus_reader.specs.declared.fault.Part.{Part}
 
 -- where the tokens run out: the lexical fault that ended them, or at the end of the text this one

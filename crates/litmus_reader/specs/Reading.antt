@@ -2,24 +2,14 @@
 -- refusal with a line at the end, where lines are counted.
 use Rattle.std.specs.Prelude.{ℕ, ◌-◌, List, [], ◌∷◌, ◌++◌, map, filter, replicate, ◌==◌, length, Option, Result, Ok, Err}
 use Rattle.std.specs.List.{range_with_len}
-use Rattle.litmus_tokens.specs.Line.{line_of}
-use Rattle.litmus_cells.specs.declared.fault.Fault.{Fault}
+use Rattle.litmus_reader.specs.Vocabulary.{BadToken, Condition, CoreInstr, Fault, fault, Instr, line_of, Litmus, Piece, pieces_of, Stop, Trailing, Unclosed, ◌>>=◌}
 use Rattle.litmus_reader.specs.declared.fault.TextFault.{TextFault}
-use Rattle.tso_model.specs.Litmus.{Litmus}
-use Rattle.tso_model.specs.Condition.{Condition}
-use Rattle.tso_model.specs.declared.instruction.Instr.{Instr}
-use Rattle.litmus_tokens.specs.declared.token.Stop.{Stop}
-use Rattle.litmus_tokens.specs.Pieces.{Piece, pieces_of}
-use Rattle.litmus_cells.specs.declared.fault.Why.TheVariants.{BadToken, Unclosed, Trailing}
-use Rattle.litmus_cells.specs.declared.cell.CoreInstr.{CoreInstr}
-use Rattle.litmus_cells.specs.Faults.{◌>>=◌}
 use Rattle.litmus_reader.specs.Header.{sized, header_at}
 use Rattle.litmus_reader.specs.Information.{braces_at}
 use Rattle.litmus_reader.specs.Initial.{initial_at}
 use Rattle.litmus_reader.specs.Rows.{table_at}
 use Rattle.litmus_reader.specs.Observed.{ending_tokens}
 use Rattle.litmus_reader.specs.Conditions.{condition_at}
-use Rattle.litmus_cells.specs.Places.{fault}
 use Rattle.litmus_tokens.specs.declared.token.Stop.TheVariants as stops
 
 -- a refusal with the line of its place

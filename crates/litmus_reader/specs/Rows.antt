@@ -1,19 +1,10 @@
 -- The rows of the table: the number of cells is judged before any cell is read, so that a missing bar is refused as such.
 use Rattle.std.specs.Prelude.{ℕ, zero, suc, List, [], ◌∷◌, length, Result, Ok, Err, nat_lt, ◌==◌, if◌then◌else◌}
 use Rattle.std.specs.List.{position_or_len, before_first}
-use Rattle.litmus_tokens.specs.declared.token.Symbol.TheVariants.{Semicolon}
-use Rattle.litmus_tokens.specs.declared.token.Stop.{Stop}
-use Rattle.litmus_tokens.specs.Pieces.{Piece}
-use Rattle.litmus_tokens.specs.Front.{is_symbol}
-use Rattle.litmus_cells.specs.declared.fault.Why.TheVariants.{Unclosed, WrongCells}
-use Rattle.litmus_cells.specs.declared.fault.Fault.{Fault}
-use Rattle.litmus_cells.specs.declared.cell.CoreInstr.{CoreInstr}
-use Rattle.litmus_cells.specs.Faults.{◌>>=◌}
+use Rattle.litmus_reader.specs.Vocabulary.{CoreInstr, Fault, fault, is_symbol, most_cores, Piece, Semicolon, Stop, Unclosed, WrongCells, ◌>>=◌}
 use Rattle.litmus_reader.specs.Initial.{Given, registers_of}
 use Rattle.litmus_reader.specs.Columns.{columns}
-use Rattle.tso_model.specs.Limits.{most_cores}
 use Rattle.litmus_reader.specs.Cells.{cells_of, cells_in}
-use Rattle.litmus_cells.specs.Places.{fault}
 use Rattle.litmus_reader.specs.Places.{at_stop, remaining_of}
 use Rattle.litmus_reader.specs.Sections.{section_of}
 use Rattle.litmus_reader.specs.GrammarTable.{ends_rows}

@@ -2,11 +2,7 @@
 -- so it is read before there are more tokens.
 use Rattle.std.specs.Prelude.{List, [], ◌∷◌, if◌then◌else◌}
 use Rattle.std.specs.List.{list_any}
-use Rattle.litmus_tokens.specs.declared.token.Stop.{Stop}
-use Rattle.litmus_tokens.specs.declared.token.Stop.TheVariants.{End}
-use Rattle.litmus_tokens.specs.declared.token.Symbol.{Symbol}
-use Rattle.litmus_tokens.specs.Pieces.{Piece}
-use Rattle.litmus_tokens.specs.Front.{is_symbol}
+use Rattle.litmus_reader.specs.Vocabulary.{End, is_symbol, Piece, Stop, Symbol}
 
 -- some tokens, why there are no more of them, and those that stand after them
 pub record Section : Type 0 where

@@ -1,16 +1,9 @@
 -- `c:REG=v`, `x=v` and `[x]=v`, as they stand in the initial state and in conditions.
 use Rattle.std.specs.Prelude.{ℕ, List, Result, Ok, Err, nat_lt, if◌then◌else◌}
-use Rattle.litmus_tokens.specs.declared.token.Symbol.TheVariants.{Equals, Colon, OpenSquare, CloseSquare}
-use Rattle.decimals.specs.Decimals.{decimal_value}
-use Rattle.litmus_tokens.specs.Pieces.{Piece}
-use Rattle.litmus_tokens.specs.Front.{symbol_at, number_at}
-use Rattle.litmus_cells.specs.declared.fault.Why.TheVariants.{NoSuchCore}
-use Rattle.litmus_cells.specs.declared.fault.Fault.{Fault}
+use Rattle.litmus_reader.specs.Vocabulary.{CloseSquare, Colon, decimal_value, Equals, Fault, fault, NoSuchCore, number_at, OpenSquare, Piece, symbol_at, there, ◌>>=◌}
 use Rattle.litmus_cells.specs.Names.{location_at, register_at}
 use Rattle.litmus_reader.specs.declared.fault.Part.{Part}
-use Rattle.litmus_cells.specs.Faults.{◌>>=◌, there}
 use Rattle.litmus_reader.specs.Faults.{or_unfit}
-use Rattle.litmus_cells.specs.Places.{fault}
 use Rattle.litmus_reader.specs.Written.{Setting, of_register, of_location}
 
 -- `=v`

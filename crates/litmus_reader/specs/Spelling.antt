@@ -1,9 +1,7 @@
 -- Which text spells which test, and which refusal every other text gets: both are what one reading gives, which goes through the
 -- parts of a text in their order. Each text has one of the two, and never both.
 use Rattle.std.specs.Prelude.{◌≡◌, ◌⊎◌, ℕ, List, Ok, Err}
-use Rattle.tso_model.specs.Litmus.{Litmus}
-use Rattle.litmus_tokens.specs.Line.{line_of}
-use Rattle.litmus_cells.specs.declared.fault.Fault.{Fault}
+use Rattle.litmus_reader.specs.Vocabulary.{Fault, line_of, Litmus}
 use Rattle.litmus_reader.specs.declared.fault.TextFault.{TextFault}
 use Rattle.litmus_reader.specs.Reading.{reading_of}
 

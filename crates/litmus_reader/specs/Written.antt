@@ -1,8 +1,6 @@
 -- A test as it is written: locations by their names, cores by their digits, numbers of any size.
 use Rattle.std.specs.Prelude.{ℕ, List, Option, Bool}
-use Rattle.tso_model.specs.declared.register.Reg.{Reg}
-use Rattle.tso_model.specs.declared.condition.Quantifier.{Quantifier}
-use Rattle.litmus_cells.specs.Shapes.{Shape}
+use Rattle.litmus_reader.specs.Vocabulary.{Quantifier, Reg, Shape}
 
 -- A register's or a location's value, of any size. The core is its digits, without leading zeros.
 pub data Setting : Type 0 where

@@ -1,13 +1,8 @@
 -- Choices with the caches' answers along a run: each choice is answered by the caches as the choices before it left them.
 -- On a split bus that answer, whether the access hits, decides whether a choice asks for the bus or acts at once.
 use Rattle.std.specs.Prelude.{ℕ, List, [], ◌∷◌}
-use Rattle.tso_model.specs.Litmus.{Litmus}
-use Rattle.tso_model.specs.FlatMachine.{start}
-use Rattle.tso_model.specs.SplitMachine.{Attempt}
-use Rattle.tso_model.specs.EitherBus.{BusState, unheld}
+use Rattle.machine_core.specs.Vocabulary.{Attempt, BusState, Geometry, Litmus, start, Table, unheld}
 use Rattle.basic_laws.specs.Types.{Bus, Choice}
-use Rattle.protocol_tables.specs.Tables.{Table}
-use Rattle.snoop_bus.specs.Geometry.{Geometry}
 use Rattle.machine_core.specs.Caches.{Caches, attempt_of, use_on, state_after_on}
 use Rattle.machine_core.specs.Statistics.{no_statistics}
 

@@ -1,9 +1,8 @@
 -- What a contract sees of a machine's configuration. The depth of the store buffers decides which orders are in reach; on
 -- the atomic bus the shape of the caches has a part in the statistics alone. (This project's profile.)
 use Rattle.std.specs.Prelude.{ℕ, ◌≤◌}
-use Rattle.tso_model.specs.Limits.{most_depth}
+use Rattle.machine_core.specs.Vocabulary.{Geometry, most_depth}
 use Rattle.tso_model.specs.declared.choice.Bus.{Bus}
-use Rattle.snoop_bus.specs.Geometry.{Geometry}
 use Rattle.snoop_bus.specs.Geometry as shape
 
 -- how many stores each core's buffer holds (0: no core has a buffer), the shape of each core's cache, and the kind of bus

@@ -1,11 +1,8 @@
 -- A core of the machine as the flat machine has it: what its store buffer holds are its pending stores. So each choice of
 -- the code is held against one of the flat machine, and no promise has to speak of a buffer. (x86-TSO, section 3.)
 use Rattle.std.specs.Prelude.{ℕ, ◌+◌, ◌<◌, List, [], ◌∷◌, map, All}
-use Rattle.tso_model.specs.Thread.{entry}
-use Rattle.tso_model.specs.FlatMachine.{CoreState, State}
+use Rattle.machine_core.specs.Vocabulary.{CoreState, entry, Pending, State, Stores}
 use Rattle.basic_laws.specs.Types.{Entry, W}
-use Rattle.store_buffer.specs.declared.Pending.{Pending}
-use Rattle.store_buffer.specs.Stores.{Stores}
 use Rattle.machine_core.specs.declared.processor.Processor.{Processor}
 
 -- the entry that a pending store of this core commits when it goes to memory

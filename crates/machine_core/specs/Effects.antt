@@ -1,10 +1,8 @@
 -- A choice made on the hardware of a machine: its outcome, its effect on the state and the commits, and how it used the
 -- caches, which is what is counted. (This project's profile; what a choice does is the machine's on either bus.)
 use Rattle.std.specs.Prelude.{◌≡◌, ◌++◌}
-use Rattle.tso_model.specs.FlatMachine.{applied, chosen}
-use Rattle.tso_model.specs.SplitMachine.{BusEffect}
+use Rattle.machine_core.specs.Vocabulary.{applied, BusEffect, BusModel, chosen}
 use Rattle.basic_laws.specs.Types.{Choice, Outcome}
-use Rattle.snoop_bus.specs.Bus.{BusModel}
 use Rattle.machine_core.specs.declared.accesses.CacheUse.{CacheUse}
 use Rattle.machine_core.specs.declared.hardware.Hardware.{Hardware}
 use Rattle.machine_core.specs.Caches.{Used, caches_of}

@@ -1,14 +1,8 @@
 -- What the hardware of a machine keeps from choice to choice: all cores are on one bus, buffers hold stores to the test's
 -- locations, and the caches' bus is held for just the access that its holder goes on with. (This project's profile.)
 use Rattle.std.specs.Prelude.{ℕ, ◌≡◌, ◌≤◌, length, All, Option, None, Some, option_map}
-use Rattle.tso_model.specs.Litmus.{Litmus}
-use Rattle.tso_model.specs.FlatMachine.{State}
-use Rattle.tso_model.specs.MemoryAccess.{MemoryAccess, access_of}
-use Rattle.tso_model.specs.SplitMachine.{Holder, Free, HeldBy, HeldBetween}
-use Rattle.tso_model.specs.EitherBus.{BusState}
+use Rattle.machine_core.specs.Vocabulary.{access_of, BusState, cores_of, Free, HeldBetween, HeldBy, Holder, holder_of, Litmus, Locked, MemoryAccess, State, words_of}
 use Rattle.basic_laws.specs.Types.{Core, Choice, Step, Drain}
-use Rattle.snoop_bus.specs.Bus.{words_of, cores_of, holder_of}
-use Rattle.snoop_bus.specs.declared.holding.Stage.TheVariants.{Locked}
 use Rattle.machine_core.specs.declared.processor.Processor.{Processor}
 use Rattle.machine_core.specs.declared.hardware.Hardware.{Hardware}
 use Rattle.machine_core.specs.declared.counts.Counts.{Counts}

@@ -1,3 +1,4 @@
+pub mod Vocabulary
 pub mod Configuration
 pub mod Caches
 pub mod Statistics

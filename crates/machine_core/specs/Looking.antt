@@ -1,12 +1,8 @@
 -- What one who looks at a machine finds there of the action that holds a split bus: its next choice, its location, and what
 -- its line is in until the words come. (Primer, chapter 7, transient states.)
 use Rattle.std.specs.Prelude.{ℕ, Option, None, Some, option_map}
-use Rattle.tso_model.specs.Litmus.{Litmus}
-use Rattle.tso_model.specs.FlatMachine.{State}
-use Rattle.tso_model.specs.MemoryAccess.{access_of}
-use Rattle.tso_model.specs.SplitMachine.{Holder, Free, HeldBy, HeldBetween}
+use Rattle.machine_core.specs.Vocabulary.{access_of, Awaited, Free, HeldBetween, HeldBy, Holder, Litmus, State}
 use Rattle.basic_laws.specs.Types.{Loc, Choice, Step}
-use Rattle.snoop_bus.specs.Asks.{Awaited}
 use Rattle.machine_core.specs.declared.looking.BusHolder.{BusHolder}
 use Rattle.machine_core.specs.Caches.{at_access}
 use Rattle.machine_core.specs.Running.{Running}

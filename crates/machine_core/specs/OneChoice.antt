@@ -1,8 +1,7 @@
 -- A choice made on the hardware of a machine: what it needs of them, what it makes of them, and what it leaves as it was.
 -- (This project's profile; what a choice does is the machine's on either bus.)
 use Rattle.std.specs.Prelude.{◌≡◌}
-use Rattle.tso_model.specs.Litmus.{Litmus}
-use Rattle.tso_model.specs.SplitMachine.{BusEffect}
+use Rattle.machine_core.specs.Vocabulary.{BusEffect, Litmus}
 use Rattle.tso_model.specs.declared.choice.Choice.{Choice}
 use Rattle.split_laws.specs.Holders.{HolderFits}
 use Rattle.machine_core.specs.declared.hardware.Hardware.{Hardware}

@@ -1,15 +1,10 @@
 -- What a contract sees of a machine, and how a choice changes it. (This project's profile; what a choice does is the
 -- machine's on either bus.)
 use Rattle.std.specs.Prelude.{ℕ, Bool, false, List, [], ◌++◌}
-use Rattle.tso_model.specs.Litmus.{Litmus}
-use Rattle.tso_model.specs.FlatMachine.{start}
-use Rattle.tso_model.specs.EitherBus.{BusState, unheld, effect_on, HitFits}
+use Rattle.machine_core.specs.Vocabulary.{Attempt, BusEffect, BusState, effect_on, HitFits, Litmus, start, Table, table_of_rows, unheld}
 use Rattle.basic_laws.specs.Types.{Bus, Entry, Choice}
-use Rattle.protocol_tables.specs.Tables.{Table}
-use Rattle.snoop_bus.specs.Rows.{table_of_rows}
 use Rattle.machine_core.specs.Configuration.{Configuration}
 use Rattle.machine_core.specs.Statistics.{Statistics, no_statistics, statistics_after}
-use Rattle.tso_model.specs.SplitMachine.{Attempt, BusEffect}
 use Rattle.machine_core.specs.Caches.{Used, attempt_of, use_on, state_after_on}
 
 -- a machine: its test, the kind of its bus, the depth of its store buffers, the flat machine's state with who holds the bus,

@@ -1,8 +1,6 @@
 -- A choice made on the hardware of a machine with a split bus. (This project's profile; what a choice does is the split
 -- machine's.)
-use Rattle.tso_model.specs.Litmus.{Litmus}
-use Rattle.tso_model.specs.MemoryAccess.{access_of}
-use Rattle.tso_model.specs.SplitMachine.{BusEffect, completes}
+use Rattle.machine_core.specs.Vocabulary.{access_of, BusEffect, completes, Litmus}
 use Rattle.tso_model.specs.declared.choice.Choice.{Choice}
 use Rattle.machine_core.specs.declared.hardware.Hardware.{Hardware}
 use Rattle.machine_core.specs.Caches.{Used, caches_of, use_with}

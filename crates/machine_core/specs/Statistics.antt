@@ -1,16 +1,10 @@
 -- The statistics of a run: what the accesses of each core's cache were. (Primer, chapters 2, 6 and 7, for hits, misses and
 -- upgrades; that an access on a split bus is counted at its completion is this project's profile.)
 use Rattle.std.specs.Prelude.{ℕ, ◌+◌, Bool, true, false, if◌then◌else◌, Option, Some, None, List, [], ◌∷◌, length, replicate, slice_set, slice_index_or}
-use Rattle.tso_model.specs.Litmus.{Litmus}
-use Rattle.tso_model.specs.FlatMachine.{chosen, start}
-use Rattle.tso_model.specs.Runs.{has_ended}
-use Rattle.tso_model.specs.EitherBus.{BusState, unheld}
+use Rattle.machine_core.specs.Vocabulary.{BusState, chosen, Geometry, has_ended, Litmus, new_bus, start, Table, unheld}
 use Rattle.basic_laws.specs.Types.{Bus, Core, Choice}
-use Rattle.protocol_tables.specs.Tables.{Table}
 use Rattle.snoop_bus.specs.declared.access.AccessKind.{AccessKind}
 use Rattle.snoop_bus.specs.declared.access.AccessKind.TheVariants.{Hit, Upgrade, Miss}
-use Rattle.snoop_bus.specs.Geometry.{Geometry}
-use Rattle.snoop_bus.specs.Accesses.{new_bus}
 use Rattle.machine_core.specs.declared.counts.Counts.{Counts}
 use Rattle.machine_core.specs.declared.accesses.CacheUse.{CacheUse}
 use Rattle.machine_core.specs.declared.accesses.CacheUse.TheVariants.{Unused, Forwarded, Through}

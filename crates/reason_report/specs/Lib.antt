@@ -1,3 +1,4 @@
+pub mod Vocabulary
 pub mod Places
 pub mod Steps
 pub mod ReasonText

@@ -2,12 +2,8 @@
 -- there at the end.
 use Rattle.std.specs.Prelude.{ℕ, ◌==◌, ◌&&◌, ◌||◌, Bool, true, false, not, if◌then◌else◌, List, [], ◌∷◌, ◌++◌, map, filter, Option, Some, None, is_some}
 use Rattle.std.specs.List.{list_all, list_any, flat_map}
-use Rattle.tso_model.specs.Litmus.{Litmus}
-use Rattle.tso_model.specs.Condition.{Claim, TruthClaim, RegClaim, LocClaim, NotClaim, AndClaim, OrClaim}
-use Rattle.refutation_laws.specs.Known.{Known}
+use Rattle.reason_report.specs.Vocabulary.{AndClaim, Claim, claim_names_location, claim_names_register, Known, Litmus, LocClaim, looked_at, Named, NotClaim, OrClaim, RegClaim, TruthClaim}
 use Rattle.refutation_laws.specs.Values.{allows, register_at_end, words_at_end}
-use Rattle.tso_report.specs.Tally.{looked_at, claim_names_register, claim_names_location}
-use Rattle.tso_report.specs.declared.named.Named.{Named}
 use Rattle.tso_report.specs.declared.named.Named.TheVariants.{Register, Location}
 
 -- ---- which places

@@ -1,12 +1,7 @@
 -- What `why` prints, in either form: lines of text, or a JSON value on one line. Both show the same.
 use Rattle.std.specs.Prelude.{ℕ, ◌≡◌, Bool, true, false, List}
-use Rattle.tso_model.specs.Litmus.{Litmus}
-use Rattle.tso_model.specs.declared.choice.Choice.{Choice}
-use Rattle.tso_model.specs.declared.execution.Entry.{Entry}
-use Rattle.relational_model.specs.Candidates.{Candidate}
-use Rattle.relational_model.specs.CandidatesOfOrders.{IsCandidateOf}
+use Rattle.reason_report.specs.Vocabulary.{Candidate, Choice, Entry, IsCandidateOf, Litmus, Model}
 use Rattle.refutation_laws.specs.Refutations.{Node}
-use Rattle.refutation_laws.specs.declared.model.Model.{Model}
 use Rattle.reason_report.specs.ReasonText.{never_text, allowed_text, unfinished_reason_line}
 use Rattle.reason_report.specs.ReasonJson.{never_json, allowed_json, unfinished_reason_json}
 

@@ -1,23 +1,10 @@
 -- What `why` prints as a JSON value, for programs to read. Its objects have their keys in the order of their bytes.
 -- (This project's profile.)
 use Rattle.std.specs.Prelude.{ℕ, suc, true, false, List, [], ◌∷◌, map, Option, Some, None, codes}
-use Rattle.serde_json.specs.Data.{Data, null, boolean, string, array, object, Members, no_members, member, put}
-use Rattle.serde_json.specs.View.{items_of}
+use Rattle.reason_report.specs.Vocabulary.{array, boolean, Candidate, Choice, Condition, Data, Entry, items_of, key_of, line, Litmus, looked_at, member, Members, Model, no_members, null, object, outcomes_verdict_value, printed_choices, printed_entry, printed_quantifier, put, string, value_members}
 use Rattle.serde_json.specs.Written.{compact_text}
-use Rattle.tso_model.specs.Litmus.{Litmus}
-use Rattle.tso_model.specs.Condition.{Condition}
-use Rattle.tso_model.specs.declared.choice.Choice.{Choice}
-use Rattle.tso_model.specs.declared.execution.Entry.{Entry}
-use Rattle.relational_model.specs.Candidates.{Candidate}
 use Rattle.refutation_laws.specs.Refutations.{Node, asked_claim}
-use Rattle.refutation_laws.specs.declared.model.Model.{Model}
-use Rattle.scheduler.specs.Printed.{printed_choices}
-use Rattle.order_builder.specs.PrintedOrder.{printed_entry}
-use Rattle.tso_report.specs.Report.{line, printed_quantifier}
 use Rattle.tso_report.specs.Json.{count}
-use Rattle.tso_report.specs.Tally.{looked_at}
-use Rattle.outcome_report.specs.Verdict.{outcomes_verdict_value}
-use Rattle.outcome_report.specs.OutcomesJson.{key_of, value_members}
 use Rattle.reason_report.specs.Places.{Place}
 use Rattle.reason_report.specs.declared.steps.Event.{Event}
 use Rattle.reason_report.specs.declared.steps.Edge.{Edge}

@@ -2,28 +2,12 @@
 use Rattle.std.specs.Prelude.{ℕ, suc, Bool, true, false, List, [], ◌∷◌, ◌++◌, filter, Option, Some, None, slice_index_or, codes, replicate}
 use Rattle.std.specs.List.{flat_map}
 use Rattle.std.specs.Fmt.{decimal}
-use Rattle.tso_model.specs.Litmus.{Litmus}
-use Rattle.tso_model.specs.Condition.{Condition}
-use Rattle.tso_model.specs.Thread.{entry}
-use Rattle.tso_model.specs.ProgramOrder.{is_read}
-use Rattle.tso_model.specs.declared.choice.Choice.{Choice}
-use Rattle.tso_model.specs.declared.condition.Quantifier.{Quantifier}
-use Rattle.tso_model.specs.declared.condition.Quantifier.TheVariants.{Exists, NotExists, Forall}
-use Rattle.tso_model.specs.declared.execution.Entry.{Entry}
-use Rattle.tso_model.specs.declared.execution.Kind.{Kind}
-use Rattle.tso_model.specs.declared.execution.Kind.TheVariants.{F}
+use Rattle.reason_report.specs.Vocabulary.{Choice, Condition, entry, Entry, Exists, F, Forall, is_read, key_of, Kind, letters_of, line, Litmus, looked_at, Model, NotExists, printed_entry, printed_quantifier, printed_truth, Quantifier, Relation, test_line, values_in, verdict_line}
 use Rattle.relational_model.specs.Candidates.{Candidate, events, registers_left, words_left}
 use Rattle.refutation_laws.specs.Refutations.{Node, asked_claim}
-use Rattle.refutation_laws.specs.declared.model.Model.{Model}
 use Rattle.refutation_laws.specs.declared.model.Model.TheVariants.{Tso, Sequential}
-use Rattle.refutation_laws.specs.declared.model.Relation.{Relation}
 use Rattle.refutation_laws.specs.declared.model.Relation.TheVariants.{Po, PoLoc, PoGhb, Mfence, Implied, Rf, Rfe, Co, Fr}
-use Rattle.order_builder.specs.PrintedOrder.{letters_of, printed_entry}
-use Rattle.tso_report.specs.Report.{line, test_line, printed_quantifier, printed_truth}
-use Rattle.tso_report.specs.Tally.{looked_at, values_in}
-use Rattle.outcome_report.specs.Verdict.{verdict_line}
 use Rattle.outcome_report.specs.Outcomes.{by_line, state_line}
-use Rattle.outcome_report.specs.OutcomesJson.{key_of}
 use Rattle.reason_report.specs.Places.{Place}
 use Rattle.reason_report.specs.declared.steps.Event.{Event}
 use Rattle.reason_report.specs.declared.steps.Edge.{Edge}

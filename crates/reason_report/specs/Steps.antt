@@ -3,15 +3,10 @@
 -- only one is left, it is what follows, and its part stands at the same depth.
 use Rattle.std.specs.Prelude.{ℕ, ◌+◌, ◌&&◌, Bool, true, false, not, if◌then◌else◌, Option, Some, None, List, [], ◌∷◌, ◌++◌, map, filter, length, drop}
 use Rattle.std.specs.List.{list_any, flat_map}
-use Rattle.tso_model.specs.Litmus.{Litmus}
-use Rattle.tso_model.specs.Condition.{Claim}
-use Rattle.tso_model.specs.declared.execution.Entry.{Entry}
-use Rattle.refutation_laws.specs.Known.{Known, nothing, with_source, with_pair}
+use Rattle.reason_report.specs.Vocabulary.{Claim, Entry, Known, Litmus, Model, nothing, Relation, with_pair, with_source}
 use Rattle.refutation_laws.specs.Edges.{on_location, global_in}
 use Rattle.refutation_laws.specs.Shown.{first_that_relates, value_known}
 use Rattle.refutation_laws.specs.Refutations.{Node, ReadsFrom, ComesFirst, OnLocation, Globally, Between, FalseClaim, sources_of}
-use Rattle.refutation_laws.specs.declared.model.Model.{Model}
-use Rattle.refutation_laws.specs.declared.model.Relation.{Relation}
 use Rattle.reason_report.specs.declared.replies.Reply.{Reply}
 use Rattle.reason_report.specs.declared.replies.Reply.TheVariants.{Reads, First}
 use Rattle.reason_report.specs.declared.steps.Event.{Event}

@@ -1,18 +1,11 @@
 -- Worked reasons: what is printed of the literature's small tests, byte for byte.
 use Rattle.std.specs.Prelude.{List, ℕ, [], ◌∷◌, ◌++◌, Some, codes}
-use Rattle.tso_model.specs.Litmus.{Litmus}
-use Rattle.tso_model.specs.Condition.{Claim}
+use Rattle.reason_report.specs.Vocabulary.{Choice, Claim, entry, Exists, Litmus, NotExists, printed_lines, Quantifier, W}
 use Rattle.tso_model.specs.Examples.{sb, n6, loc_x}
-use Rattle.tso_model.specs.Thread.{entry}
 use Rattle.tso_model.specs.FlatMachine.{step, drain}
-use Rattle.tso_model.specs.declared.choice.Choice.{Choice}
-use Rattle.tso_model.specs.declared.condition.Quantifier.{Quantifier}
-use Rattle.tso_model.specs.declared.condition.Quantifier.TheVariants.{Exists, NotExists}
-use Rattle.tso_model.specs.declared.execution.Kind.TheVariants.{W}
 use Rattle.relational_model.specs.WorkedCandidates.{passing, between}
 use Rattle.refutation_laws.specs.Refutations.{Node, ComesFirst}
 use Rattle.refutation_laws.specs.Worked.{both_zero, passed, other_first, n6_refuted, lost}
-use Rattle.order_builder.specs.PrintedOrder.{printed_lines}
 
 -- the test with a condition
 abbrev pub asking : Litmus → Quantifier → Claim → Litmus

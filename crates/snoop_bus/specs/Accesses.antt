@@ -2,9 +2,7 @@
 -- chapters 2, 6 and 7; which line gives way, and which copies are sent to memory, is this project's profile.)
 use Rattle.std.specs.Prelude.{◌≡◌, ℕ, ◌/◌, Bool, true, false, Option, Some, None, List, length, slice_get, slice_set}
 use Rattle.std.specs.Int.{div_ceil}
-use Rattle.tso_model.specs.declared.instruction.Core.{Core}
-use Rattle.tso_model.specs.declared.instruction.Loc.{Loc}
-use Rattle.protocol_tables.specs.Tables.{Table}
+use Rattle.snoop_bus.specs.Vocabulary.{Core, Loc, State, Table}
 use Rattle.snoop_bus.specs.declared.access.Access.{Access}
 use Rattle.snoop_bus.specs.Geometry.{Geometry}
 use Rattle.snoop_bus.specs.Rows.{table_of_rows}
@@ -14,7 +12,6 @@ use Rattle.snoop_bus.specs.Copies.{cache_of, tags_of}
 use Rattle.snoop_bus.specs.Bus.{BusModel, bus_with, words_of, holder_of, empty_caches}
 use Rattle.snoop_bus.specs.Held.{transaction_in, holder, stage_for}
 use Rattle.snoop_bus.specs.Asks.{Awaited, AskedAccess, hits, request_for, asking, asked_memory, awaited_in, completed, completed_memory, whole_access, whole_memory}
-use Rattle.protocol_tables.specs.declared.state.State.{State}
 use Rattle.snoop_bus.specs.declared.looking.CachedLine.{CachedLine}
 
 -- memory with these words: as many lines as they need

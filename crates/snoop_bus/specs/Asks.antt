@@ -2,14 +2,7 @@
 -- completion the core's own line is filled. One that is made whole is a hit, or one half after the other. Lines and states
 -- alone, and memory. (Primer, chapter 7; which copies are sent or written to memory, and when, is this project's profile.)
 use Rattle.std.specs.Prelude.{◌≡◌, ◌≢◌, ℕ, Bool, true, false, List, Option, Some, None, is_some, option_map}
-use Rattle.tso_model.specs.declared.instruction.Core.{Core}
-use Rattle.protocol_tables.specs.declared.state.State.{State}
-use Rattle.protocol_tables.specs.declared.state.State.TheVariants.{I, M}
-use Rattle.protocol_tables.specs.declared.requests.Request.{Request}
-use Rattle.protocol_tables.specs.declared.requests.Request.TheVariants.{GetS, GetM}
-use Rattle.protocol_tables.specs.declared.requests.Transient.{Transient}
-use Rattle.protocol_tables.specs.declared.requests.Transient.TheVariants.{IsD, ImD, SmD}
-use Rattle.protocol_tables.specs.Tables.{Table}
+use Rattle.snoop_bus.specs.Vocabulary.{Core, GetM, GetS, I, ImD, IsD, M, Request, SmD, State, Table, Transient}
 use Rattle.protocol_tables.specs.Transients.{transient_of}
 use Rattle.snoop_bus.specs.declared.access.AccessKind.TheVariants.{Hit, Upgrade, Miss}
 use Rattle.snoop_bus.specs.declared.holding.Transaction.{Transaction}

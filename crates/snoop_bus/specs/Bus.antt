@@ -5,7 +5,7 @@ use Rattle.std.specs.Prelude.{◌≡◌, ◌≤◌, ◌<◌, ℕ, List, [], ◌�
 use Rattle.std.specs.Option.{option_or}
 use Rattle.cache_set.specs.Contents.{contents}
 use Rattle.snoop_bus.specs.Geometry.{Geometry}
-use Rattle.protocol_tables.specs.Tables.{Table}
+use Rattle.snoop_bus.specs.Vocabulary.{Table}
 use Rattle.snoop_bus.specs.Rows.{TableColumns, rows_of}
 use Rattle.snoop_bus.specs.Lines.{Words, line_in, words_in_lines}
 use Rattle.snoop_bus.specs.Copies.{Sets, copy_in, copy_at}

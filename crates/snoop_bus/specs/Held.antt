@@ -2,9 +2,7 @@
 -- line is to be filled; all that is said of copies is said of those that count. (This project's profile, after Primer,
 -- chapter 7.)
 use Rattle.std.specs.Prelude.{ℕ, Bool, true, false, List, ◌∷◌, slice_set, Option, Some, None, option_map}
-use Rattle.tso_model.specs.declared.instruction.Core.{Core}
-use Rattle.tso_model.specs.declared.instruction.Loc.{Loc}
-use Rattle.cache_set.specs.declared.Line.{Line}
+use Rattle.snoop_bus.specs.Vocabulary.{Core, Line, Loc}
 use Rattle.cache_set.specs.Contents.{Contents, contents}
 use Rattle.snoop_bus.specs.Copies.{Sets, in_set, cache_of}
 use Rattle.snoop_bus.specs.declared.holding.Stage.{Stage}

@@ -1,3 +1,4 @@
+pub mod Vocabulary
 pub mod Limits
 pub mod Geometry
 pub mod Rows

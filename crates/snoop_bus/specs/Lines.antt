@@ -2,7 +2,7 @@
 -- at offset l % words, where a line has so many words; each line has room for four, and the offsets past its words are 0.
 use Rattle.std.specs.Prelude.{ℕ, ◌+◌, ◌*◌, ◌/◌, ◌%◌, List, [], map, nat_lt, slice_index, slice_index_or, if◌then◌else◌}
 use Rattle.std.specs.List.{range_with_len}
-use Rattle.cache_set.specs.Limits.{most_words}
+use Rattle.snoop_bus.specs.Vocabulary.{most_words}
 
 -- the words of a line, offset by offset
 abbrev pub Words : Type 0

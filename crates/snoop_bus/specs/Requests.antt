@@ -1,10 +1,6 @@
 -- What a request on the bus asks of another core's copy: the column of the protocol's table for it (the snoop). (Primer,
 -- chapter 7.)
-use Rattle.protocol_tables.specs.declared.state.State.{State}
-use Rattle.protocol_tables.specs.declared.state.Snoop.{Snoop}
-use Rattle.protocol_tables.specs.Tables.{Table}
-use Rattle.protocol_tables.specs.declared.requests.Request.{Request}
-use Rattle.protocol_tables.specs.declared.requests.Request.TheVariants.{GetS, GetM}
+use Rattle.snoop_bus.specs.Vocabulary.{GetM, GetS, Request, Snoop, State, Table}
 
 -- a column of the protocol's table
 abbrev pub snoop_column : Table → Request → State → Snoop

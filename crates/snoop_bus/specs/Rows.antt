@@ -1,10 +1,7 @@
 -- A protocol's table written out, row by row: as what a contract sees of a bus, which holds no function. Two buses are then
 -- compared by lists.
 use Rattle.std.specs.Prelude.{Bool, true, false, List, [], ◌∷◌, Option, None, slice_index_or}
-use Rattle.protocol_tables.specs.declared.state.State.{State}
-use Rattle.protocol_tables.specs.declared.state.State.TheVariants.{I, S, E, O, M}
-use Rattle.protocol_tables.specs.declared.state.Snoop.{Snoop}
-use Rattle.protocol_tables.specs.Tables.{Table, snoop}
+use Rattle.snoop_bus.specs.Vocabulary.{E, I, M, O, S, Snoop, snoop, State, Table}
 
 -- a column of a table: what it has for M, O, E, S and I
 abbrev pub table_column : {A : Type 0} → (State → A) → List A

@@ -1,9 +1,7 @@
 -- A whole access beside the same access in its two halves, made from one bus on: the words, memory, the lines and states. (Primer,
 -- chapter 7.)
 use Rattle.std.specs.Prelude.{◌≡◌, ℕ, Bool, true, false, slice_set}
-use Rattle.tso_model.specs.declared.instruction.Core.{Core}
-use Rattle.tso_model.specs.declared.instruction.Loc.{Loc}
-use Rattle.protocol_tables.specs.Laws.{WritesInPlace}
+use Rattle.snoop_bus.specs.Vocabulary.{Core, Loc, WritesInPlace}
 use Rattle.snoop_bus.specs.declared.access.Access.{Access}
 use Rattle.snoop_bus.specs.Rows.{table_of_rows}
 use Rattle.snoop_bus.specs.Bus.{BusModel, IsFree, IsCoherent, IsSameMachine, words_of}

@@ -1,3 +1,4 @@
+pub mod Vocabulary
 pub mod Values
 pub mod inner
 pub mod MachineJson

@@ -1,22 +1,12 @@
 -- A machine between two choices as a JSON value. Its objects have their keys in the order of their bytes. (This project's
 -- profile.)
 use Rattle.std.specs.Prelude.{ℕ, zero, suc, ◌+◌, ◌*◌, ◌/◌, List, [], ◌∷◌, map, length, take, drop, Option, Some, None, option_map, slice_index_or, codes}
-use Rattle.serde_json.specs.Data.{Data, null, string, array, object, no_members, member}
-use Rattle.serde_json.specs.View.{items_of}
-use Rattle.tso_model.specs.Litmus.{Litmus}
-use Rattle.tso_model.specs.FlatMachine.{core_of, chosen}
+use Rattle.trace_json.specs.Vocabulary.{array, bus_holder_of, BusHolder, chosen, core_of, count, Data, items_of, line_name, line_state, Litmus, member, memory_value, names_in_line, no_members, null, object, printed_choice, registers_value, Running, state_name, store_text, string, transient_name}
 use Rattle.protocol_tables.specs.declared.requests.Transient.{Transient}
-use Rattle.scheduler.specs.Printed.{printed_choice}
 use Rattle.snoop_bus.specs.Tags.{tag_set}
 use Rattle.snoop_bus.specs.CacheContents.{sets_of}
 use Rattle.snoop_bus.specs.declared.looking.CachedLine.{CachedLine}
 use Rattle.snoop_bus.specs.Accesses.{with_words}
-use Rattle.machine_core.specs.Running.{Running}
-use Rattle.machine_core.specs.Looking.{bus_holder_of}
-use Rattle.machine_core.specs.declared.looking.BusHolder.{BusHolder}
-use Rattle.tso_report.specs.Json.{count, memory_value, registers_value}
-use Rattle.trace_report.specs.Lines.{names_in_line, line_name, store_text, state_name, transient_name}
-use Rattle.trace_report.specs.Steps.{line_state}
 use Rattle.trace_json.specs.Values.{array_of_numbers, text_or_null, array_of_texts}
 
 -- how many words a machine's lines have

@@ -1,11 +1,7 @@
 -- Memory's own words along a run: memory has the words of a line that are seen, but while some core's copy of the line is dirty,
 -- or a write access to it is awaited; then it has the words that it had before. (Primer, chapters 6 and 7.)
 use Rattle.std.specs.Prelude.{ℕ, zero, suc, ◌+◌, ◌/◌, ◌||◌, Bool, true, false, if◌then◌else◌, List, [], ◌∷◌, length}
-use Rattle.protocol_tables.specs.Laws.{is_dirty}
-use Rattle.protocol_tables.specs.declared.requests.Transient.TheVariants.{IsD, ImD, SmD}
-use Rattle.machine_core.specs.Running.{Running}
-use Rattle.trace_report.specs.Steps.{line_state}
-use Rattle.trace_report.specs.declared.step.LineState.{LineState}
+use Rattle.trace_json.specs.Vocabulary.{ImD, is_dirty, IsD, line_state, LineState, Running, SmD}
 use Rattle.trace_report.specs.declared.step.LineState.TheVariants.{Stable, Transient}
 
 -- whether a line in this state may have newer words than memory: it is dirty, or awaited to be written

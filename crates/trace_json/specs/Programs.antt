@@ -1,11 +1,7 @@
 -- The programs of a test as texts: each instruction as a cell of a test's table spells it. (This project's profile.)
 use Rattle.std.specs.Prelude.{ℕ, List, [], ◌++◌, map, slice_index_or, codes}
 use Rattle.std.specs.Fmt.{decimal}
-use Rattle.serde_json.specs.Data.{Data, array}
-use Rattle.serde_json.specs.View.{items_of}
-use Rattle.tso_model.specs.Litmus.{Litmus}
-use Rattle.tso_model.specs.Registers.{name_of}
-use Rattle.basic_laws.specs.Types.{Loc, Instr, StoreImm, StoreReg, Load, SetImm, SetReg, Fence, Xchg, Xadd}
+use Rattle.trace_json.specs.Vocabulary.{array, Data, Fence, Instr, items_of, Litmus, Load, Loc, name_of, SetImm, SetReg, StoreImm, StoreReg, Xadd, Xchg}
 use Rattle.trace_json.specs.Values.{array_of_texts}
 
 abbrev pub location_name : Litmus → Loc → List ℕ

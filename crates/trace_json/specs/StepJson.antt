@@ -1,13 +1,7 @@
 -- What a choice did as a JSON value, with the machine after it. Its keys stand in the order of their bytes. (This project's
 -- profile; the texts are those of the trace's lines.)
 use Rattle.std.specs.Prelude.{ℕ, List, map, Option, Some, None, option_map, codes}
-use Rattle.serde_json.specs.Data.{Data, boolean, string, object, no_members, member}
-use Rattle.tso_model.specs.Litmus.{Litmus}
-use Rattle.basic_laws.specs.Types.{Stall, Outcome, Committed, Buffered, Moved, Asked, Stalled}
-use Rattle.scheduler.specs.Printed.{printed_choice}
-use Rattle.tso_report.specs.Json.{order_value}
-use Rattle.trace_report.specs.Shown.{ShownStep}
-use Rattle.trace_report.specs.Lines.{access_name, stall_name, outcome_name, line_name, printed_core, printed_move, printed_change, printed_request}
+use Rattle.trace_json.specs.Vocabulary.{access_name, Asked, boolean, Buffered, Committed, Data, line_name, Litmus, member, Moved, no_members, object, order_value, Outcome, outcome_name, printed_change, printed_choice, printed_core, printed_move, printed_request, ShownStep, Stall, stall_name, Stalled, string}
 use Rattle.trace_json.specs.Values.{text_or_null, array_of_texts}
 use Rattle.trace_json.specs.Supplied.{supplier_text}
 use Rattle.trace_json.specs.declared.supplied.Source.{Source}

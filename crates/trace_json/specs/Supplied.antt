@@ -2,16 +2,9 @@
 -- the core, in another core's cache, or in memory. (x86-TSO, section 3, for the own stores; Primer, chapters 6 and 7, for the
 -- others; which copies supply their line is this project's profile.)
 use Rattle.std.specs.Prelude.{ℕ, zero, suc, ◌+◌, ◌/◌, ◌||◌, Bool, true, false, if◌then◌else◌, List, length, Option, Some, None, is_some, option_map, codes}
-use Rattle.tso_model.specs.FlatMachine.{chosen}
+use Rattle.trace_json.specs.Vocabulary.{chosen, E, I, M, O, printed_core, Running, S, ShownStep, State, tag_at, trace_step_of}
 use Rattle.tso_model.specs.MemoryAccess.{MemoryAccess, NoAccess, Reads, Writes, Locks, access_of}
 use Rattle.basic_laws.specs.Types.{Core, Choice, Outcome, Committed, Buffered, Moved, Asked, Stalled}
-use Rattle.protocol_tables.specs.declared.state.State.{State}
-use Rattle.protocol_tables.specs.declared.state.State.TheVariants.{I, S, E, O, M}
-use Rattle.snoop_bus.specs.Asks.{tag_at}
-use Rattle.machine_core.specs.Running.{Running}
-use Rattle.trace_report.specs.Shown.{ShownStep}
-use Rattle.trace_report.specs.Lines.{printed_core}
-use Rattle.trace_report.specs.Steps.{trace_step_of}
 use Rattle.trace_json.specs.declared.supplied.Source.{Source}
 use Rattle.trace_json.specs.declared.supplied.Source.TheVariants.{Buffer, Cache, Other, Bus, Memory}
 

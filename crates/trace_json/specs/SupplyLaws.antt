@@ -2,13 +2,9 @@
 -- (Primer, chapters 6 and 7.)
 use Rattle.std.specs.Prelude.{ℕ, ◌≡◌, ◌≢◌, ◌<◌, ◌/◌, true, List, length, Option, Some, None, slice_index_or, is_some}
 use Rattle.tso_model.specs.declared.instruction.Core.{Core}
-use Rattle.protocol_tables.specs.Tables.{table_of}
-use Rattle.protocol_tables.specs.declared.kind.ProtocolKind.{ProtocolKind}
+use Rattle.trace_json.specs.Vocabulary.{ProtocolKind, Running, State, table_of, tag_at}
 use Rattle.protocol_tables.specs.declared.requests.Request.{Request}
-use Rattle.protocol_tables.specs.declared.state.State.{State}
-use Rattle.snoop_bus.specs.Asks.{tag_at}
 use Rattle.snoop_bus.specs.Requests.{snoop_column}
-use Rattle.machine_core.specs.Running.{Running}
 use Rattle.trace_json.specs.OwnWords.{own_words}
 use Rattle.trace_json.specs.Supplied.{supplies, found_at}
 use Rattle.trace_json.specs.declared.supplied.Source.TheVariants.{Cache, Other, Bus, Memory}

@@ -1,17 +1,9 @@
 -- The trace of a run as a JSON value: the machine before the first choice, and a step for each choice that was used, with
 -- the machine after it. (This project's profile.)
 use Rattle.std.specs.Prelude.{ℕ, if◌then◌else◌, List, [], ◌∷◌, Option, codes}
-use Rattle.serde_json.specs.Data.{Data, array, object, no_members, member}
-use Rattle.serde_json.specs.View.{items_of}
-use Rattle.tso_model.specs.Litmus.{Litmus}
+use Rattle.trace_json.specs.Vocabulary.{array, Configuration, Data, items_of, Litmus, machine_after, member, new_machine, no_members, object, ProtocolKind, Running, ShownStep, table_of, trace_step_of}
 use Rattle.tso_model.specs.Runs.{has_ended}
 use Rattle.tso_model.specs.declared.choice.Choice.{Choice}
-use Rattle.protocol_tables.specs.Tables.{table_of}
-use Rattle.protocol_tables.specs.declared.kind.ProtocolKind.{ProtocolKind}
-use Rattle.machine_core.specs.Configuration.{Configuration}
-use Rattle.machine_core.specs.Running.{Running, new_machine, machine_after}
-use Rattle.trace_report.specs.Shown.{ShownStep}
-use Rattle.trace_report.specs.Steps.{trace_step_of}
 use Rattle.trace_json.specs.OwnWords.{own_words}
 use Rattle.trace_json.specs.MachineJson.{words_per_line, machine_json}
 use Rattle.trace_json.specs.StepJson.{step_json}

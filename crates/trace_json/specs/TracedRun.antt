@@ -1,15 +1,11 @@
 -- What `trace` prints as a JSON value: the members that `run` prints, and with them the programs, the condition's proposition
 -- and the trace. (This project's profile.)
 use Rattle.std.specs.Prelude.{ℕ, List, codes}
-use Rattle.serde_json.specs.Data.{Data, object, Members, put}
+use Rattle.trace_json.specs.Vocabulary.{Configuration, Data, Litmus, Members, object, ProtocolKind, put, run_members, unfinished_members}
 use Rattle.serde_json.specs.Written.{compact_text}
-use Rattle.tso_model.specs.Litmus.{Litmus}
 use Rattle.tso_model.specs.declared.choice.Choice.{Choice}
-use Rattle.protocol_tables.specs.declared.kind.ProtocolKind.{ProtocolKind}
-use Rattle.machine_core.specs.Configuration.{Configuration}
 use Rattle.tso_report.specs.Shown.{ShownRun}
 use Rattle.tso_report.specs.Report.{line}
-use Rattle.tso_report.specs.Json.{run_members, unfinished_members}
 use Rattle.trace_json.specs.Programs.{programs_value}
 use Rattle.trace_json.specs.Proposition.{proposition_value}
 use Rattle.trace_json.specs.TraceJson.{trace_json, last_step_json}

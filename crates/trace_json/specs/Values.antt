@@ -1,8 +1,6 @@
 -- Values that a trace is made of: lists of numbers and texts, and `null` where there is nothing to tell.
 use Rattle.std.specs.Prelude.{ℕ, List, map, Option, Some, None}
-use Rattle.serde_json.specs.Data.{Data, array, null, string}
-use Rattle.serde_json.specs.View.{items_of}
-use Rattle.tso_report.specs.Json.{count}
+use Rattle.trace_json.specs.Vocabulary.{array, count, Data, items_of, null, string}
 
 -- numbers, and texts, in a list
 abbrev pub array_of_numbers : List ℕ → Data

@@ -1,25 +1,10 @@
 -- The answer to an input: what is written, and the status. Everything that the program promises is said of this; that each
 -- answer meets the headline is a law of it.
 use Rattle.std.specs.Prelude.{ℕ, ◌+◌, ◌<◌, ◌≤◌, ◌≡◌, ◌⊎◌, List, length, Option, IfSome}
-use Rattle.tso_model.specs.Litmus.{Litmus}
+use Rattle.tso_cli.specs.Vocabulary.{Good, input_refusal, IsCheckAnswer, IsOutcomesAnswer, IsRunAnswer, IsSweepAnswer, IsTraceAnswer, Litmus, longest_input, NotAsClaimed, parts_of, printed_table, protocol_name, ProtocolKind, Refused, Settings, Status, table_of, test_refusal, TextFault}
 use Rattle.litmus_reader.specs.Spelling.{SpellsTest, IsRefused as IsRefusedTest}
-use Rattle.litmus_reader.specs.declared.fault.TextFault.{TextFault}
-use Rattle.protocol_tables.specs.Names.{protocol_name}
-use Rattle.protocol_tables.specs.Tables.{table_of}
-use Rattle.protocol_tables.specs.PrintedTable.{printed_table}
-use Rattle.protocol_tables.specs.declared.kind.ProtocolKind.{ProtocolKind}
-use Rattle.tso_io.specs.Limits.{longest_input}
-use Rattle.commands.specs.Dividing.{parts_of}
-use Rattle.commands.specs.Lines.{input_refusal, test_refusal}
-use Rattle.commands.specs.Trace.{IsTraceAnswer}
-use Rattle.commands.specs.Sweep.{IsSweepAnswer}
-use Rattle.commands.specs.Outcomes.{IsOutcomesAnswer}
 use Rattle.commands.specs.Why.{IsWhyAnswer}
 use Rattle.commands.specs.Witness.{IsWitnessAnswer}
-use Rattle.command_line.specs.declared.settings.Settings.{Settings}
-use Rattle.commands.specs.declared.answer.Status.{Status}
-use Rattle.commands.specs.declared.answer.Status.TheVariants.{Good, Refused, NotAsClaimed}
-use Rattle.commands.specs.Answers.{IsCheckAnswer, IsRunAnswer}
 use Rattle.command_line.specs.declared.settings.Settings.TheVariants as settings
 
 -- the answer of `tables`

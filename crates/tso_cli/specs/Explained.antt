@@ -1,19 +1,7 @@
 -- The choices that `why` prints, handed to `run`: they end with the order of the execution that was printed, so it can be seen to come up.
 use Rattle.std.specs.Prelude.{◌≡◌, ℕ, Bool, List, Some}
-use Rattle.tso_model.specs.Litmus.{Litmus}
-use Rattle.tso_model.specs.declared.choice.Choice.{Choice}
-use Rattle.tso_model.specs.declared.execution.Entry.{Entry}
-use Rattle.litmus_reader.specs.Spelling.{SpellsTest}
-use Rattle.refutation_laws.specs.declared.model.Model.{Model}
-use Rattle.scheduler.specs.Printed.{printed_choices}
-use Rattle.protocol_tables.specs.declared.kind.ProtocolKind.{ProtocolKind}
-use Rattle.machine_core.specs.Configuration.{Configuration}
-use Rattle.tso_report.specs.Shown.{ShownRun}
+use Rattle.tso_cli.specs.Vocabulary.{Choice, Configuration, Entry, Good, joined_parts, Litmus, Model, printed_choices, ProtocolKind, report_in, ShownRun, SpellsTest, Status}
 use Rattle.command_line.specs.declared.settings.Settings.TheVariants as settings
-use Rattle.commands.specs.Dividing.{joined_parts}
-use Rattle.commands.specs.RunTexts.{report_in}
-use Rattle.commands.specs.declared.answer.Status.{Status}
-use Rattle.commands.specs.declared.answer.Status.TheVariants.{Good}
 use Rattle.tso_cli.specs.Answers.{IsAnswer}
 use Rattle.tso_cli.specs.WhyHeadline.{PrintsRefutation, PrintsExecutionOf}
 

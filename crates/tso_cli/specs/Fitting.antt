@@ -1,19 +1,9 @@
 -- What may be shown of a run of a test, and what may be counted of its runs; and that the runs of a machine keep to it.
 use Rattle.std.specs.Prelude.{ℕ, ◌≡◌, ◌+◌, ◌<◌, ◌≤◌, ◌^◌, true, if◌then◌else◌, List, length, All, is_some}
-use Rattle.tso_model.specs.Litmus.{Litmus, IsTest}
+use Rattle.tso_cli.specs.Vocabulary.{AnswersFit, Choice, Configuration, counts_under, ended_in, IsRunOf, IsTest, Litmus, looked_at, most_seeds, Named, Plan, ProtocolKind, run_under, RunCounts, runs_in, shown_of, ShownRun, sweep_counts, SweepAnswersFit}
 use Rattle.tso_model.specs.Registers.{IsWord}
-use Rattle.tso_model.specs.declared.choice.Choice.{Choice}
 use Rattle.scheduler.specs.Limits.{most_choices}
-use Rattle.protocol_tables.specs.declared.kind.ProtocolKind.{ProtocolKind}
-use Rattle.machine_core.specs.Configuration.{Configuration}
-use Rattle.tso_report.specs.declared.named.Named.{Named}
-use Rattle.tso_report.specs.Shown.{ShownRun, IsRunOf}
 use Rattle.tso_report.specs.Limits.{IsSmall}
-use Rattle.tso_report.specs.Tally.{RunCounts, looked_at, ended_in, runs_in}
-use Rattle.scheduler.specs.Plan.{Plan, most_seeds}
-use Rattle.simulator.specs.Runs.{run_under, counts_under, AnswersFit}
-use Rattle.simulator.specs.Simulation.{shown_of}
-use Rattle.sweeper.specs.Counting.{sweep_counts, SweepAnswersFit}
 
 -- a run of this test: its parts are as many as the test has, and each is one that a run of the test can leave
 pub record RunFitsTest (t : Litmus) (s : ShownRun) : Type 0 where

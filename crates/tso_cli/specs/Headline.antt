@@ -1,17 +1,8 @@
 -- The headline: what each command prints of every input; every text that spells no test is refused with its line.
 use Rattle.std.specs.Prelude.{ℕ, ◌<◌, ◌≤◌, ◌≡◌, List, length, Option, IfSome}
-use Rattle.tso_model.specs.Litmus.{Litmus}
+use Rattle.tso_cli.specs.Vocabulary.{input_refusal, Litmus, longest_input, Parts, parts_of, printed_table, protocol_name, ProtocolKind, Settings, table_of, test_refusal, TextFault}
 use Rattle.litmus_reader.specs.Spelling.{SpellsTest, IsRefused as IsRefusedTest}
-use Rattle.litmus_reader.specs.declared.fault.TextFault.{TextFault}
-use Rattle.protocol_tables.specs.Names.{protocol_name}
-use Rattle.protocol_tables.specs.Tables.{table_of}
-use Rattle.protocol_tables.specs.PrintedTable.{printed_table}
-use Rattle.protocol_tables.specs.declared.kind.ProtocolKind.{ProtocolKind}
-use Rattle.command_line.specs.declared.settings.Settings.{Settings}
 use Rattle.command_line.specs.declared.settings.Settings.TheVariants as settings
-use Rattle.tso_io.specs.Limits.{longest_input}
-use Rattle.commands.specs.Dividing.{Parts, parts_of}
-use Rattle.commands.specs.Lines.{input_refusal, test_refusal}
 use Rattle.tso_cli.specs.RunHeadline.{HeadlineOfRuns}
 use Rattle.tso_cli.specs.TraceHeadline.{HeadlineOfTraces}
 use Rattle.tso_cli.specs.SweepHeadline.{HeadlineOfSweeps}

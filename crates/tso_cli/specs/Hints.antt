@@ -2,10 +2,8 @@
 -- second line. It is no part of the answer, and promises no more than its form.
 use Rattle.std.specs.Prelude.{◌≡◌, ◌⊎◌, ◌++◌, Bool, true, false, not, ℕ, List, []}
 use Rattle.hints.specs.Hint.{IsHint, IsRunsLine}
-use Rattle.command_line.specs.declared.settings.Settings.{Settings}
+use Rattle.tso_cli.specs.Vocabulary.{Good, Invalid, NotAsClaimed, Refused, Settings, Status, Unended}
 use Rattle.command_line.specs.declared.settings.Settings.TheVariants as settings
-use Rattle.commands.specs.declared.answer.Status.{Status}
-use Rattle.commands.specs.declared.answer.Status.TheVariants.{Good, Refused, Unended, Invalid, NotAsClaimed}
 
 -- whether an answer that was printed may mislead: final states in lines that people read may; JSON, a verdict and choices don't
 abbrev pub may_mislead : Settings → Bool

@@ -1,19 +1,8 @@
 -- What `check` and `witness` print of an order: that it is valid exactly where it is a TSO execution, and else its first
 -- breach; a witness choices that reach it, or the depth that it needs. (Primer, chapter 4, for the axioms.)
 use Rattle.std.specs.Prelude.{ℕ, ◌≡◌, ◌≢◌, ◌↔◌, List, length}
-use Rattle.tso_model.specs.Litmus.{Litmus}
-use Rattle.tso_model.specs.Axioms.{IsTsoExecution}
-use Rattle.tso_model.specs.Runs.{run}
-use Rattle.tso_model.specs.declared.choice.Choice.{Choice}
-use Rattle.tso_model.specs.declared.execution.Entry.{Entry}
-use Rattle.tso_laws.specs.Along.{LeadTo}
+use Rattle.tso_cli.specs.Vocabulary.{Breach, Choice, depth_line, Entry, HasFault, IsFirstBreach, IsTsoExecution, LeadTo, Litmus, OrderFault, run, SpellsChoices, SpellsOrder}
 use Rattle.tso_laws.specs.Depth.{needed}
-use Rattle.scheduler.specs.Grammar.{SpellsChoices}
-use Rattle.order_builder.specs.Spelling.{SpellsOrder, HasFault}
-use Rattle.order_builder.specs.declared.fault.OrderFault.{OrderFault}
-use Rattle.axiom_checker.specs.FirstBreach.{IsFirstBreach}
-use Rattle.axiom_checker.specs.declared.breach.Breach.{Breach}
-use Rattle.commands.specs.Lines.{depth_line}
 use Rattle.commands.specs.CheckLines.{order_refusal, valid_line, invalid_line}
 
 -- what is written of an order is `Check valid` exactly where it is a TSO execution of the test, else its first breach

@@ -1,3 +1,4 @@
+pub mod Vocabulary
 pub mod Streams
 pub mod Fitting
 pub mod Answers

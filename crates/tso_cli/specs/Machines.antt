@@ -2,22 +2,10 @@
 -- caches: one text, into which each puts its own `Machine` and `Cache` lines, or members, and nothing else. (This project's
 -- profile.)
 use Rattle.std.specs.Prelude.{ℕ, ◌≡◌, ◌≢◌, ◌⊎◌, Bool, true, false, List, ◌++◌, length}
-use Rattle.tso_model.specs.declared.choice.Bus.TheVariants.{Atomic}
-use Rattle.tso_model.specs.declared.choice.Choice.{Choice}
-use Rattle.protocol_tables.specs.declared.kind.ProtocolKind.{ProtocolKind}
-use Rattle.machine_core.specs.Configuration.{Configuration}
+use Rattle.tso_cli.specs.Vocabulary.{Atomic, cache_lines, cache_value, Choice, Configuration, EndsInFeed, Good, head, json_ended, json_report, json_unended, Litmus, machine_line, machine_value, ProtocolKind, Refused, ShownRun, Status, trace_text}
 use Rattle.machine_core.specs.declared.counts.Counts.{Counts}
-use Rattle.tso_model.specs.Litmus.{Litmus}
-use Rattle.tso_report.specs.Shown.{ShownRun}
-use Rattle.tso_report.specs.Report.{head, machine_line, cache_lines}
-use Rattle.trace_report.specs.Lines.{trace_text}
 use Rattle.trace_report.specs.Shown.{ShownStep as Step}
-use Rattle.tso_report.specs.Json.{cache_value, machine_value, json_report}
 use Rattle.tso_report.specs.JsonFrame.{OtherMembers, json_with}
-use Rattle.trace_json.specs.TracedRun.{json_ended, json_unended}
-use Rattle.commands.specs.Dividing.{EndsInFeed}
-use Rattle.commands.specs.declared.answer.Status.{Status}
-use Rattle.commands.specs.declared.answer.Status.TheVariants.{Good, Refused}
 
 -- both are on the atomic bus, and their store buffers have one depth; their caches may have any shape
 pub record AreAtomicAtOneDepth (c d : Configuration) : Type 0 where

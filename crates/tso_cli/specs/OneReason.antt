@@ -1,11 +1,7 @@
 -- What the headline leaves open of `why`: two texts of which it holds, for one model, each as lines or as JSON and with a limit of its own.
 -- Both are refutations, or both are executions; which ones they are may differ.
 use Rattle.std.specs.Prelude.{ℕ, ◌<◌, ◌≡◌, Bool, List}
-use Rattle.tso_model.specs.Litmus.{Litmus}
-use Rattle.litmus_reader.specs.Spelling.{SpellsTest}
-use Rattle.reasons.specs.Reasons.{HasMoreCases, most_cases}
-use Rattle.reason_report.specs.Printed.{unfinished_cases_in}
-use Rattle.command_line.specs.Explanation.{Explanation}
+use Rattle.tso_cli.specs.Vocabulary.{Explanation, HasMoreCases, Litmus, most_cases, SpellsTest, unfinished_cases_in}
 use Rattle.tso_cli.specs.WhyHeadline.{PrintsRefutation, PrintsExecutionOf}
 
 -- the text gives no reason: it says that more cases have to be told apart than may be

@@ -1,14 +1,7 @@
 -- What the headline leaves open of `outcomes`: two texts of which it holds, each as lines or as JSON. They show the same states of the
 -- input's own test, and differ in the choices that lead there alone.
 use Rattle.std.specs.Prelude.{ℕ, ◌≡◌, Bool, List, [], map}
-use Rattle.tso_model.specs.Litmus.{Litmus}
-use Rattle.litmus_reader.specs.Spelling.{SpellsTest}
-use Rattle.explorer.specs.FinalStates.{HasMoreStates}
-use Rattle.shown_values.specs.Shown.{names_shown}
-use Rattle.outcome_report.specs.Outcomes.{Outcome}
-use Rattle.outcome_report.specs.Printed.{outcomes_in, unfinished_search_in}
-use Rattle.outcome_report.specs.Laws.{OutcomesAreAlike}
-use Rattle.command_line.specs.Search.{Search}
+use Rattle.tso_cli.specs.Vocabulary.{HasMoreStates, Litmus, names_shown, Outcome, outcomes_in, OutcomesAreAlike, Search, SpellsTest, unfinished_search_in}
 
 -- the same state, with no choices
 abbrev pub without_choices : Outcome → Outcome

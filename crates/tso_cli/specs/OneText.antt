@@ -1,26 +1,8 @@
 -- What the headline leaves open: two texts of which it holds. Where it leaves one text alone, nothing that is printed can
 -- go wrong unnoticed.
 use Rattle.std.specs.Prelude.{ℕ, ◌≡◌, ◌⊎◌, Bool, true, false, List, ◌++◌, length}
-use Rattle.tso_model.specs.Litmus.{Litmus}
-use Rattle.tso_model.specs.declared.choice.Choice.{Choice}
-use Rattle.tso_model.specs.declared.execution.Entry.{Entry}
-use Rattle.tso_laws.specs.Along.{LeadTo}
-use Rattle.scheduler.specs.Grammar.{SpellsChoices}
-use Rattle.protocol_tables.specs.declared.kind.ProtocolKind.{ProtocolKind}
-use Rattle.machine_core.specs.Configuration.{Configuration}
-use Rattle.tso_report.specs.Shown.{ShownRun}
-use Rattle.tso_report.specs.Report.{head}
-use Rattle.trace_report.specs.Lines.{trace_text}
+use Rattle.tso_cli.specs.Vocabulary.{Choice, Configuration, Entry, head, json_ended, json_report, LeadTo, Litmus, names_shown, Outcome, outcomes_in, OutcomesAreAlike, ProtocolKind, report_in, Search, Settings, ShownRun, SpellsChoices, trace_text}
 use Rattle.trace_report.specs.Shown.{ShownStep as Step}
-use Rattle.tso_report.specs.Json.{json_report}
-use Rattle.trace_json.specs.TracedRun.{json_ended}
-use Rattle.shown_values.specs.Shown.{names_shown}
-use Rattle.outcome_report.specs.Outcomes.{Outcome}
-use Rattle.outcome_report.specs.Printed.{outcomes_in}
-use Rattle.outcome_report.specs.Laws.{OutcomesAreAlike}
-use Rattle.command_line.specs.Search.{Search}
-use Rattle.commands.specs.RunTexts.{report_in}
-use Rattle.command_line.specs.declared.settings.Settings.{Settings}
 use Rattle.command_line.specs.declared.settings.Settings.TheVariants as settings
 
 -- its answer is one text; of `outcomes` it isn't said which of the choices that lead to a state are printed, nor of which tests the

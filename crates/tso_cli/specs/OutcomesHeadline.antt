@@ -2,20 +2,8 @@
 -- (Primer, chapter 4, for the axioms, and chapter 3 for sequential consistency.)
 use Rattle.std.specs.Prelude.{ℕ, ◌≡◌, ◌↔◌, Bool, List, length, map, All, Contains}
 use Rattle.tso_model.specs.Limits.{most_depth}
-use Rattle.tso_model.specs.Litmus.{Litmus}
-use Rattle.tso_model.specs.Axioms.{IsTsoExecution}
-use Rattle.tso_model.specs.FinalState.{final_words, final_registers}
-use Rattle.tso_model.specs.declared.execution.Entry.{Entry}
+use Rattle.tso_cli.specs.Vocabulary.{AreAllOutcomes, Entry, final_registers, final_words, HasMoreStates, IsTsoExecution, Litmus, Named, names_shown, Outcome, outcomes_in, printed_choices, Search, shown_values, SpellsChoices, unfinished_search_in, values_at}
 use Rattle.outcome_laws.specs.Outcomes.{IsSequentiallyConsistent}
-use Rattle.explorer.specs.FinalStates.{HasMoreStates}
-use Rattle.scheduler.specs.Grammar.{SpellsChoices}
-use Rattle.scheduler.specs.Printed.{printed_choices}
-use Rattle.tso_report.specs.declared.named.Named.{Named}
-use Rattle.shown_values.specs.Shown.{names_shown, values_at}
-use Rattle.outcome_report.specs.Outcomes.{Outcome, shown_values}
-use Rattle.outcome_report.specs.Printed.{outcomes_in, unfinished_search_in}
-use Rattle.command_line.specs.Search.{Search}
-use Rattle.commands.specs.Outcomes.{AreAllOutcomes}
 
 -- the values that the final state of an order has at these names
 abbrev pub shown_after : Litmus → List Named → List Entry → List ℕ

@@ -1,23 +1,10 @@
 -- The choices that `outcomes` prints, handed to `run`: they end in the state that was printed, so every state can be seen
 -- to come up.
 use Rattle.std.specs.Prelude.{◌≡◌, ℕ, Bool, List, All, Some}
-use Rattle.tso_model.specs.Litmus.{Litmus}
-use Rattle.litmus_reader.specs.Spelling.{SpellsTest}
-use Rattle.scheduler.specs.Printed.{printed_choices}
-use Rattle.protocol_tables.specs.declared.kind.ProtocolKind.{ProtocolKind}
-use Rattle.machine_core.specs.Configuration.{Configuration}
-use Rattle.tso_report.specs.Shown.{ShownRun}
-use Rattle.tso_report.specs.declared.named.Named.{Named}
-use Rattle.shown_values.specs.Shown.{names_shown, values_at}
+use Rattle.tso_cli.specs.Vocabulary.{Configuration, Good, joined_parts, Litmus, Named, names_shown, Outcome, outcomes_in, printed_choices, ProtocolKind, report_in, shown_values, ShownRun, SpellsTest, Status, values_at}
 use Rattle.shown_values.specs.declared.show.Show.{Show}
-use Rattle.outcome_report.specs.Outcomes.{Outcome, shown_values}
-use Rattle.outcome_report.specs.Printed.{outcomes_in}
 use Rattle.command_line.specs.declared.settings.Settings.TheVariants as settings
 use Rattle.tso_cli.specs.Answers.{IsAnswer}
-use Rattle.commands.specs.Dividing.{joined_parts}
-use Rattle.commands.specs.RunTexts.{report_in}
-use Rattle.commands.specs.declared.answer.Status.{Status}
-use Rattle.commands.specs.declared.answer.Status.TheVariants.{Good}
 
 -- what is written is the report of a run that ended with these values at these names; none of its choices stalled, and none was left
 -- over

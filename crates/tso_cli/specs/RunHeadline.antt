@@ -1,23 +1,7 @@
 -- What `run` prints: a TSO execution of the test, with what it leaves.
 -- (Primer, chapter 4, for the axioms; x86-TSO, section 3, for fences and locked instructions.)
 use Rattle.std.specs.Prelude.{ℕ, ◌≡◌, Bool, true, false, List, length}
-use Rattle.tso_model.specs.Litmus.{Litmus}
-use Rattle.tso_model.specs.Axioms.{IsTsoExecution}
-use Rattle.tso_model.specs.SequentialConsistency.{KeepsAllOrder}
-use Rattle.tso_model.specs.FinalState.{final_words, final_registers}
-use Rattle.tso_model.specs.Runs.{Run, run}
-use Rattle.tso_model.specs.declared.choice.Bus.TheVariants.{Atomic, Split}
-use Rattle.tso_model.specs.declared.choice.Choice.{Choice}
-use Rattle.scheduler.specs.Grammar.{SpellsChoices}
-use Rattle.scheduler.specs.Refusals.{IsRefusedAsChoices}
-use Rattle.scheduler.specs.declared.fault.ChoiceFault.{ChoiceFault}
-use Rattle.order_builder.specs.Spelling.{SpellsOrder}
-use Rattle.protocol_tables.specs.declared.kind.ProtocolKind.{ProtocolKind}
-use Rattle.machine_core.specs.Configuration.{Configuration}
-use Rattle.tso_report.specs.Shown.{ShownRun}
-use Rattle.commands.specs.Lines.{choices_refusal}
-use Rattle.commands.specs.RunTexts.{report_in, unfinished_in}
-use Rattle.simulator.specs.Simulation.{verdict}
+use Rattle.tso_cli.specs.Vocabulary.{Atomic, Choice, ChoiceFault, choices_refusal, Configuration, final_registers, final_words, IsRefusedAsChoices, IsTsoExecution, KeepsAllOrder, Litmus, ProtocolKind, report_in, Run, run, ShownRun, SpellsChoices, SpellsOrder, Split, unfinished_in, verdict}
 use Rattle.tso_cli.specs.SplitRun.{split_run}
 
 -- what was printed is the report of a run, plain or as JSON: its order is a TSO execution of the test, and at depth 0, where no

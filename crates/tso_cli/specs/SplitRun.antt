@@ -1,16 +1,10 @@
 -- The run of a test on the split bus, where a request and its answer are two moments. (Primer, chapters 6 and 7; the rest is this
 -- project's profile.)
 use Rattle.std.specs.Prelude.{List}
-use Rattle.tso_model.specs.Litmus.{Litmus}
-use Rattle.tso_model.specs.Runs.{Run}
+use Rattle.tso_cli.specs.Vocabulary.{Choice, Configuration, Litmus, ProtocolKind, Run, Split, table_of}
 use Rattle.tso_model.specs.EitherBus.{run_on}
 use Rattle.tso_model.specs.Together.{together}
-use Rattle.tso_model.specs.declared.choice.Bus.TheVariants.{Split}
-use Rattle.tso_model.specs.declared.choice.Choice.{Choice}
-use Rattle.protocol_tables.specs.Tables.{table_of}
-use Rattle.protocol_tables.specs.declared.kind.ProtocolKind.{ProtocolKind}
 use Rattle.machine_core.specs.Answered.{answered}
-use Rattle.machine_core.specs.Configuration.{Configuration}
 
 -- the split machine's run, with the caches' answers whether an access hits; in its order each locked instruction's load part is
 -- put directly before its store part

@@ -1,21 +1,8 @@
 -- The answer of `step`, which the page asks for after each choice: of the trace that `trace --json` prints, the last step alone.
 use Rattle.std.specs.Prelude.{ℕ, ◌≤◌, true, List, length}
-use Rattle.tso_model.specs.Litmus.{Litmus}
-use Rattle.tso_model.specs.declared.choice.Choice.{Choice}
-use Rattle.litmus_reader.specs.Spelling.{SpellsTest}
-use Rattle.scheduler.specs.Grammar.{SpellsChoices}
-use Rattle.protocol_tables.specs.declared.kind.ProtocolKind.{ProtocolKind}
-use Rattle.machine_core.specs.Configuration.{Configuration}
-use Rattle.trace_json.specs.TracedRun.{json_last_step}
+use Rattle.tso_cli.specs.Vocabulary.{AnswersFit, Choice, Configuration, FitsForm, json_last_step, Litmus, longest_input, parts_of, ProtocolKind, Refused, run_under, SpellsChoices, SpellsTest, Status, status_under}
 use Rattle.command_line.specs.declared.settings.Settings.TheVariants as settings
 use Rattle.tso_cli.specs.Answers.{IsInputAnswer}
-use Rattle.commands.specs.Answers.{status_under}
-use Rattle.tso_io.specs.Limits.{longest_input}
-use Rattle.commands.specs.Dividing.{parts_of}
-use Rattle.simulator.specs.Runs.{run_under, AnswersFit}
-use Rattle.commands.specs.Trace.{FitsForm}
-use Rattle.commands.specs.declared.answer.Status.{Status}
-use Rattle.commands.specs.declared.answer.Status.TheVariants.{Refused}
 
 -- the answer to an input on a machine of this protocol and configuration: a refusal is that of `trace --json`, and of the run that it
 -- traces the last step is told, with the run's status

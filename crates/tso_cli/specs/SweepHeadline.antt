@@ -1,22 +1,8 @@
 -- What `sweep` prints: how many runs, one for each seed, left which final state. (Primer, chapter 4, for the axioms.)
 use Rattle.std.specs.Prelude.{ℕ, zero, suc, ◌+◌, ◌<◌, ◌≡◌, Bool, true, false, not, if◌then◌else◌, List, ◌++◌, bytes_eq, All, Contains, Option, Some, None, IfSome, is_none}
 use Rattle.std.specs.Map.{keys_of}
-use Rattle.tso_model.specs.Litmus.{Litmus}
-use Rattle.tso_model.specs.Axioms.{IsTsoExecution}
-use Rattle.tso_model.specs.SequentialConsistency.{KeepsAllOrder}
-use Rattle.tso_model.specs.FinalState.{final_words, final_registers}
-use Rattle.tso_model.specs.Condition.{Claim, truth_of}
-use Rattle.tso_model.specs.Runs.{Run, run}
-use Rattle.tso_model.specs.declared.choice.Bus.TheVariants.{Atomic, Split}
-use Rattle.tso_model.specs.declared.choice.Choice.{Choice}
-use Rattle.tso_model.specs.declared.execution.Entry.{Entry}
-use Rattle.protocol_tables.specs.declared.kind.ProtocolKind.{ProtocolKind}
-use Rattle.machine_core.specs.Configuration.{Configuration}
-use Rattle.tso_report.specs.Tally.{RunCounts, runs_in, values_in, Ascend, counted_state_line}
-use Rattle.scheduler.specs.Plan.{Plan}
+use Rattle.tso_cli.specs.Vocabulary.{Ascend, Atomic, Choice, choices_of, Claim, Configuration, counted_state_line, Entry, final_registers, final_words, IsTsoExecution, KeepsAllOrder, Litmus, Plan, ProtocolKind, Run, run, RunCounts, runs_in, Split, sweep_lines, truth_of, values_in}
 use Rattle.tso_cli.specs.SplitRun.{split_run}
-use Rattle.commands.specs.Sweep.{sweep_lines}
-use Rattle.sweeper.specs.Counting.{choices_of}
 
 -- the order that a run commits under the choices of a seed of the plan, where they end the test
 abbrev pub seeded_order : Litmus → (List Choice → Run) → Plan → ℕ → Option (List Entry)

@@ -1,25 +1,12 @@
 -- What `trace` prints: what `run` prints of a run, with what each choice of that very run did. A trace of another run would
 -- explain nothing.
 use Rattle.std.specs.Prelude.{ℕ, ◌≡◌, Bool, true, false, List, ◌++◌, length}
-use Rattle.tso_model.specs.Litmus.{Litmus}
-use Rattle.tso_model.specs.Runs.{Run, run}
-use Rattle.tso_model.specs.declared.choice.Bus.TheVariants.{Atomic, Split}
-use Rattle.tso_model.specs.declared.choice.Choice.{Choice}
-use Rattle.scheduler.specs.Grammar.{SpellsChoices}
-use Rattle.scheduler.specs.Refusals.{IsRefusedAsChoices}
+use Rattle.tso_cli.specs.Vocabulary.{Atomic, Choice, ChoiceFault, choices_refusal, Configuration, FitsForm, head, IsRefusedAsChoices, IsTooLong, json_ended, json_unended, Litmus, most_steps, ProtocolKind, Run, run, SpellsChoices, Split, trace_text, unfinished_run_line}
 use Rattle.scheduler.specs.WordOfChoice.{IsWordOfChoice}
-use Rattle.scheduler.specs.declared.fault.ChoiceFault.{ChoiceFault}
 use Rattle.scheduler.specs.declared.fault.ChoiceFault.TheVariants.{TooMany}
-use Rattle.protocol_tables.specs.declared.kind.ProtocolKind.{ProtocolKind}
-use Rattle.machine_core.specs.Configuration.{Configuration}
-use Rattle.tso_report.specs.Report.{head}
-use Rattle.trace_report.specs.Lines.{trace_text}
 use Rattle.trace_report.specs.Steps.{trace_under}
-use Rattle.trace_json.specs.TracedRun.{most_steps, json_ended, json_unended}
-use Rattle.commands.specs.Lines.{choices_refusal, unfinished_run_line}
 use Rattle.tso_cli.specs.RunHeadline.{PrintsExecution}
 use Rattle.tso_cli.specs.SplitRun.{split_run}
-use Rattle.commands.specs.Trace.{FitsForm, IsTooLong}
 
 -- the trace of the choices stands between the first two lines and a rest: where the run ends, the two lines and the rest are the
 -- report of an execution, as `run` prints it; where it doesn't, the rest is the line that says how far it came

@@ -1,25 +1,13 @@
 -- What `why` prints: why what a test asks is so in no execution of the model, or an execution in which it is, and how to get there.
 -- (Primer, chapter 4, for the axioms of TSO, and chapter 3 for sequential consistency; Herding Cats, section 4, for the refutation.)
 use Rattle.std.specs.Prelude.{ℕ, ◌<◌, ◌≡◌, Bool, true, List, length, Option, Some, None}
-use Rattle.tso_model.specs.Litmus.{Litmus}
-use Rattle.tso_model.specs.Condition.{Condition, truth_of}
-use Rattle.tso_model.specs.FinalState.{final_words, final_registers}
+use Rattle.tso_cli.specs.Vocabulary.{Choice, Condition, Entry, Explanation, final_registers, final_words, HasMoreCases, LeadTo, Litmus, Model, most_cases, printed_choices, refutation_in, run, ShowsExecution, SpellsChoices, truth_of, unfinished_cases_in}
 use Rattle.tso_model.specs.FlatMachine.{registers_in}
-use Rattle.tso_model.specs.Runs.{run}
-use Rattle.tso_model.specs.declared.choice.Choice.{Choice}
-use Rattle.tso_model.specs.declared.execution.Entry.{Entry}
-use Rattle.tso_laws.specs.Along.{LeadTo}
 use Rattle.tso_laws.specs.EndedRuns.{End}
 use Rattle.refutation_laws.specs.Models.{IsExecutionOf, depth_of}
 use Rattle.refutation_laws.specs.Refutations.{Node, asked_claim, refutes}
-use Rattle.refutation_laws.specs.declared.model.Model.{Model}
 use Rattle.refutation_laws.specs.declared.model.Model.TheVariants.{Tso, Sequential}
-use Rattle.reasons.specs.Reasons.{HasMoreCases, most_cases}
-use Rattle.scheduler.specs.Grammar.{SpellsChoices}
-use Rattle.scheduler.specs.Printed.{printed_choices}
 use Rattle.reason_report.specs.ReasonText.{truth_asked}
-use Rattle.reason_report.specs.Printed.{refutation_in, ShowsExecution, unfinished_cases_in}
-use Rattle.command_line.specs.Explanation.{Explanation}
 
 -- what the condition asks is so in this final state: its proposition is true, or of `forall` false; without a condition anything is
 abbrev pub IsSoIn : Option Condition → List (List ℕ) → List ℕ → Type 0

@@ -1,9 +1,6 @@
 -- What one answer says: its bytes and its status, apart from what else the code keeps of it for a hint.
 use Rattle.std.specs.Prelude.{ℕ, ◌≡◌, Bool, List, string_bytes}
-use Rattle.tso_model.specs.Litmus.{Litmus}
-use Rattle.tso_model.specs.declared.choice.Choice.{Choice}
-use Rattle.protocol_tables.specs.declared.kind.ProtocolKind.{ProtocolKind}
-use Rattle.machine_core.specs.Configuration.{Configuration}
+use Rattle.commands.specs.Vocabulary.{Choice, Configuration, Litmus, ProtocolKind}
 use Rattle.commands.specs.declared.answer.Answer.{Answer}
 use Rattle.commands.specs.declared.answer.Status.{Status}
 use Rattle.commands.specs.Answers.{status_under, text_under}

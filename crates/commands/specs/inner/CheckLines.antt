@@ -1,8 +1,5 @@
 -- What a breach needs to be printed: its locations are among the test's, so that each has a name.
-use Rattle.tso_model.specs.Litmus.{Litmus}
-use Rattle.order_builder.specs.PrintedOrder.{HasLocation, IsLocationFor}
-use Rattle.axiom_checker.specs.declared.breach.Breach.{Breach}
-use Rattle.axiom_checker.specs.declared.breach.Breach.TheVariants.{Extra, Twice, Missing, WrongValue, ProgramOrder, NotAdjacent, ReadValue, NoMemory}
+use Rattle.commands.specs.Vocabulary.{Breach, Extra, HasLocation, IsLocationFor, Litmus, Missing, NoMemory, NotAdjacent, ProgramOrder, ReadValue, Twice, WrongValue}
 
 -- the locations of what the breach names are the test's
 abbrev pub CanBeNamed : Litmus → Breach → Type 0

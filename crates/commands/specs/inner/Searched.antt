@@ -1,11 +1,7 @@
 -- What a search must have found, so that its final states are printed as all that there are.
 use Rattle.std.specs.Prelude.{ℕ, List, map, Contains}
-use Rattle.tso_model.specs.Litmus.{Litmus}
-use Rattle.outcome_laws.specs.Outcomes.{IsEnd}
+use Rattle.commands.specs.Vocabulary.{IsEnd, Litmus, Named, outcome_of, shown_values, values_at}
 use Rattle.explorer.specs.declared.final_states.FinalState.{FinalState}
-use Rattle.tso_report.specs.declared.named.Named.{Named}
-use Rattle.shown_values.specs.Shown.{values_at}
-use Rattle.outcome_report.specs.Outcomes.{outcome_of, shown_values}
 
 -- every end of the machine's runs at this depth looks like one of them by the values at these names
 abbrev pub ShowEveryEnd : Litmus → List Named → ℕ → List FinalState → Type 0

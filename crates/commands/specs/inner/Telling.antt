@@ -1,10 +1,8 @@
 -- What becomes of one who writes a line for each choice of a run.
 use Rattle.std.specs.Prelude.{ℕ, ◌≡◌, List, ◌++◌, string_bytes, codes}
-use Rattle.tso_model.specs.declared.choice.Choice.{Choice}
+use Rattle.commands.specs.Vocabulary.{Choice, end_line, trace_step_line, trace_step_of}
 use Rattle.protocol_tables.specs.PrintedTable.{line}
 use Rattle.machine_core.specs.Running.{Running}
-use Rattle.trace_report.specs.Lines.{trace_step_line, end_line}
-use Rattle.trace_report.specs.Steps.{trace_step_of}
 use Rattle.commands.specs.declared.told_run.Teller.{Teller}
 
 -- so many choices were made, and this was written

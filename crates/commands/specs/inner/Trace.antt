@@ -1,12 +1,7 @@
 -- What is taken of a simulation for a trace as JSON: how many choices it used, and the first one that is too many.
 use Rattle.std.specs.Prelude.{ℕ, true, List, length, Option, Some, None}
-use Rattle.tso_model.specs.Litmus.{Litmus}
-use Rattle.tso_model.specs.Runs.{Run}
-use Rattle.scheduler.specs.WordOfChoice.{IsWordOfChoice}
-use Rattle.trace_json.specs.TracedRun.{most_steps}
+use Rattle.commands.specs.Vocabulary.{Ended, Ending, IsWordOfChoice, Litmus, most_steps, Run, Unfinished}
 use Rattle.commands.specs.Trace.{FitsForm, IsTooLong}
-use Rattle.simulator.specs.declared.simulation.Ending.{Ending}
-use Rattle.simulator.specs.declared.simulation.Ending.TheVariants.{Ended, Unfinished}
 
 -- how many choices were used
 abbrev pub used_in : Ending → ℕ

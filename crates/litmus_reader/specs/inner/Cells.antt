@@ -1,11 +1,7 @@
 -- The cells of a row, read from left to right: in this order names get their numbers, and the first fault is found.
 use Rattle.std.specs.Prelude.{ℕ, List, [], Option, Some, None, Result}
-use Rattle.litmus_tokens.specs.Pieces.{Piece}
-use Rattle.litmus_tokens.specs.inner.Pieces.{pieces}
-use Rattle.litmus_tokens.specs.declared.token.Token.{Token}
+use Rattle.litmus_reader.specs.Vocabulary.{CoreInstr, Fault, Piece, pieces, Token}
 use denote.Ref.{Bor}
-use Rattle.litmus_cells.specs.declared.fault.Fault.{Fault}
-use Rattle.litmus_cells.specs.declared.cell.CoreInstr.{CoreInstr}
 use Rattle.litmus_reader.specs.Cells.{cells_in, cells_of}
 
 -- the cells after a bar, if there is one

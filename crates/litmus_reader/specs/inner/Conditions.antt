@@ -1,10 +1,7 @@
 -- The condition, as it is read: by recursion on its units, of which only so many may be open at once; so the reading comes
 -- to an end.
 use Rattle.std.specs.Prelude.{ℕ, List, Option}
-use Rattle.tso_model.specs.Condition.{Claim, AndClaim, Condition}
-use Rattle.litmus_tokens.specs.declared.token.Stop.{Stop}
-use Rattle.litmus_tokens.specs.declared.token.Symbol.TheVariants.{And}
-use Rattle.litmus_tokens.specs.Pieces.{Piece}
+use Rattle.litmus_reader.specs.Vocabulary.{And, AndClaim, Claim, Condition, Piece, Stop}
 use Rattle.litmus_reader.specs.Conditions.{Claimed, Conditioned, Proposition, chain_of, disjunction, unit_at}
 
 abbrev pub claimed : Claim → ℕ → List (List ℕ) → List Piece → Claimed

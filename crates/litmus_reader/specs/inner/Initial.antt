@@ -1,12 +1,7 @@
 -- The initial state, as it is read: its items one after the other, each refused where it gives a second value.
 use Rattle.std.specs.Prelude.{ℕ, ◌≡◌, map, suc, ◌-◌, ◌++◌, replicate, List, [], length, slice_index_or, slice_set, Result}
-use Rattle.tso_model.specs.Thread.{with_value}
+use Rattle.litmus_reader.specs.Vocabulary.{Fault, index_of, Piece, Reg, Stop, with_value}
 use denote.Ref.{Bor}
-use Rattle.tso_model.specs.Registers.{index_of}
-use Rattle.tso_model.specs.declared.register.Reg.{Reg}
-use Rattle.litmus_tokens.specs.declared.token.Stop.{Stop}
-use Rattle.litmus_tokens.specs.Pieces.{Piece}
-use Rattle.litmus_cells.specs.declared.fault.Fault.{Fault}
 use Rattle.litmus_reader.specs.declared.initial.RegisterWord.{RegisterWord}
 use Rattle.litmus_reader.specs.Initial.{Given, Initial, items_within}
 use Rattle.litmus_reader.specs.declared.initial.Initial as code

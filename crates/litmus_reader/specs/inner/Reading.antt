@@ -1,7 +1,6 @@
 -- The reading of a whole text, part by part in the order of the text, and the first refusal.
 use Rattle.std.specs.Prelude.{ℕ, List, Option, Some, None, Result, Ok, Err}
-use Rattle.tso_model.specs.Litmus.{Litmus}
-use Rattle.litmus_cells.specs.declared.fault.Fault.{Fault}
+use Rattle.litmus_reader.specs.Vocabulary.{Fault, Litmus}
 use Rattle.litmus_reader.specs.declared.fault.TextFault.{TextFault}
 use Rattle.litmus_reader.specs.Reading.{refusal, reading_of}
 

@@ -1,13 +1,8 @@
 -- What the functions that read return: what a reading gives, unless memory ran out.
 use Rattle.std.specs.Prelude.{◌≡◌, ◌≢◌, ℕ, Bool, List, map, Option, Result}
 use denote.Ref.{Bor}
-use Rattle.tso_model.specs.Condition.{Condition, claim_of}
-use Rattle.tso_model.specs.declared.condition.Cond.{Cond}
+use Rattle.litmus_reader.specs.Vocabulary.{claim_of, Cond, Condition, Fault, Piece, pieces, Token}
 use Rattle.tso_model.specs.declared.condition.Prop.{Prop}
-use Rattle.litmus_tokens.specs.declared.token.Token.{Token}
-use Rattle.litmus_tokens.specs.Pieces.{Piece}
-use Rattle.litmus_tokens.specs.inner.Pieces.{pieces}
-use Rattle.litmus_cells.specs.declared.fault.Fault.{Fault}
 use Rattle.litmus_cells.specs.declared.fault.ReadError.{ReadError}
 use Rattle.litmus_reader.specs.declared.fault.TextFault.{TextFault}
 use Rattle.litmus_reader.specs.Conditions.{Proposition, Conditioned}

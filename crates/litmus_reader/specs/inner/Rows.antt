@@ -1,9 +1,6 @@
 -- The header row and the rows, as they are read.
 use Rattle.std.specs.Prelude.{ℕ, List, [], length, Result}
-use Rattle.litmus_tokens.specs.declared.token.Stop.{Stop}
-use Rattle.litmus_tokens.specs.Pieces.{Piece}
-use Rattle.litmus_cells.specs.declared.fault.Fault.{Fault}
-use Rattle.litmus_cells.specs.declared.cell.CoreInstr.{CoreInstr}
+use Rattle.litmus_reader.specs.Vocabulary.{CoreInstr, Fault, Piece, Stop}
 use Rattle.litmus_reader.specs.Rows.{Rows, rows_within, Table}
 
 abbrev pub rows : List CoreInstr → List (List ℕ) → List Piece → Rows

@@ -1,17 +1,9 @@
 -- Sections of a text, and the tokens that it has.
 use Rattle.std.specs.Prelude.{◌≡◌, ℕ, Bool, List, [], ◌∷◌, Result}
 use Rattle.std.specs.List.{list_any}
-use Rattle.litmus_tokens.specs.declared.token.Stop.{Stop}
-use Rattle.litmus_tokens.specs.declared.token.Symbol.{Symbol}
-use Rattle.litmus_tokens.specs.declared.token.Symbol.TheVariants.{Semicolon, CloseCurly}
-use Rattle.litmus_tokens.specs.Pieces.{Piece, pieces_of}
-use Rattle.litmus_tokens.specs.Front.{is_symbol, symbol_at}
-use Rattle.litmus_cells.specs.declared.fault.Fault.{Fault}
+use Rattle.litmus_reader.specs.Vocabulary.{BadToken, CloseCurly, Fault, fault, is_symbol, Piece, pieces_of, Semicolon, Stop, Symbol, symbol_at, Why}
 use Rattle.litmus_reader.specs.declared.fault.Part.{Part}
-use Rattle.litmus_cells.specs.declared.fault.Why.{Why}
-use Rattle.litmus_cells.specs.declared.fault.Why.TheVariants.{BadToken}
 use Rattle.litmus_reader.specs.Faults.{or_unfit}
-use Rattle.litmus_cells.specs.Places.{fault}
 use Rattle.litmus_reader.specs.Places.{at_stop}
 use Rattle.litmus_reader.specs.Sections.{Section, section_of}
 

@@ -1,5 +1,5 @@
 -- `c:REG=v`, `x=v` and `[x]=v`, as they stand in the initial state and in conditions.
-use Rattle.decimals.specs.Decimals.{decimal_value}
+use Rattle.litmus_reader.specs.Vocabulary.{decimal_value}
 use Rattle.litmus_reader.specs.declared.setting.SpelledSetting.{SpelledSetting}
 use Rattle.litmus_reader.specs.Written.{Setting, of_register, of_location}
 use Rattle.litmus_reader.specs.declared.setting.SpelledSetting.TheVariants as code

@@ -1,8 +1,7 @@
 -- The stores that a core has pending, in its buffer. No buffer counts as one of depth 0 in which nothing is pending, so
 -- that one definition of a core serves both.
 use Rattle.std.specs.Prelude.{◌<◌, [], Option, None, Some}
-use Rattle.store_buffer.specs.Stores.{Stores}
-use Rattle.store_buffer.specs.inner.Stores.{stores}
+use Rattle.machine_core.specs.Vocabulary.{Stores, stores}
 
 -- what a buffer holds, and its depth; where there is no buffer nothing is ever pending, and the depth is 0
 abbrev pub pending_stores : Option Stores → Stores

@@ -3,7 +3,7 @@
 use Rattle.std.specs.Prelude.{ℕ, ◌/◌, ◌≡◌, ◌≢◌, Some, None}
 use Rattle.tso_model.specs.declared.execution.Entry.{Entry}
 use Rattle.protocol_tables.specs.declared.state.State.TheVariants.{M}
-use Rattle.snoop_bus.specs.Asks.{tag_at}
+use Rattle.machine_core.specs.Vocabulary.{tag_at}
 use Rattle.machine_core.specs.Caches.{Caches}
 
 -- between the two parts of a locked instruction, whose load part this is: its core has the line in M, and no other core has it

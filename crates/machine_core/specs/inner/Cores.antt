@@ -2,16 +2,10 @@
 -- depth of the core's own buffer, with memory as the words that the bus shows.
 use Rattle.std.specs.Prelude.{ℕ, ◌+◌, List, [], ◌∷◌, map, filter, slice_index}
 use Rattle.tso_model.specs.Actions.{action_of}
-use Rattle.tso_model.specs.MemoryAccess.{MemoryAccess, access_by}
-use Rattle.tso_model.specs.ProgramOrder.{writes_to}
+use Rattle.machine_core.specs.Vocabulary.{access_by, BusModel, drain_of, Effect, effect_by, entry, fenced, MemoryAccess, stored, Stores, stores, words_of, writes_to}
 use Rattle.tso_model.specs.Axioms.{last_value}
-use Rattle.tso_model.specs.Thread.{entry}
-use Rattle.tso_model.specs.FlatMachine.{Effect, stored, fenced, effect_by, drain_of}
 use Rattle.basic_laws.specs.Types.{Loc, Instr, Reg, Update, Action, Entry, W, LR, LW}
 use Rattle.tso_model.specs.declared.action.Action.TheVariants.{Load, Lock}
-use Rattle.store_buffer.specs.Stores.{Stores}
-use Rattle.store_buffer.specs.inner.Stores.{stores}
-use Rattle.snoop_bus.specs.Bus.{BusModel, words_of}
 use Rattle.machine_core.specs.declared.processor.Processor.{Processor}
 use Rattle.machine_core.specs.Cores.{core_state, store_of}
 

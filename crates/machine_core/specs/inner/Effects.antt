@@ -1,13 +1,8 @@
 -- When a choice may act at once on the hardware of a machine, and its effect there: where nobody holds the bus, or its access
 -- doesn't need it. An access that acted while another is under way, without a hit, would find caches between two states.
 use Rattle.std.specs.Prelude.{◌≡◌, ◌<◌, ℕ, ◌⊎◌, false, length}
-use Rattle.tso_model.specs.Litmus.{Litmus}
-use Rattle.tso_model.specs.FlatMachine.{Effect, effect_of, chosen}
-use Rattle.tso_model.specs.MemoryAccess.{MemoryAccess, access_of}
-use Rattle.tso_model.specs.SplitMachine.{HeldBy, Attempt, BusEffect, needs_bus}
-use Rattle.tso_model.specs.EitherBus.{effect_on}
+use Rattle.machine_core.specs.Vocabulary.{access_of, Attempt, BusEffect, BusModel, chosen, cores_of, Effect, effect_of, effect_on, HeldBy, IsFree, Litmus, MemoryAccess, needs_bus, words_of}
 use Rattle.basic_laws.specs.Types.{Core, Loc, Choice}
-use Rattle.snoop_bus.specs.Bus.{BusModel, words_of, cores_of, IsFree}
 use Rattle.machine_core.specs.declared.hardware.Hardware.{Hardware}
 use Rattle.machine_core.specs.Caches.{caches_of, hits_by, attempt_of}
 use Rattle.machine_core.specs.Keeping.{core_in, state_in}

@@ -2,14 +2,8 @@
 -- that have made their accesses. So no counter can overflow.
 use Rattle.std.specs.Prelude.{ℕ, ◌≡◌, ◌<◌, ◌≤◌, ◌+◌, ◌-◌, ◌*◌, length, All, Option, None, Some}
 use Rattle.std.specs.List.{sum_by}
-use Rattle.tso_model.specs.Limits.{most_cores, most_instructions}
-use Rattle.tso_model.specs.Litmus.{Litmus, IsTest}
-use Rattle.tso_model.specs.FlatMachine.{CoreState}
-use Rattle.tso_model.specs.MemoryAccess.{MemoryAccess, NoAccess, Reads, Writes, Locks}
-use Rattle.tso_model.specs.SplitMachine.{Holder, Free, HeldBy, HeldBetween}
-use Rattle.tso_model.specs.EitherBus.{BusState}
+use Rattle.machine_core.specs.Vocabulary.{Awaited, BusState, CoreState, Free, HeldBetween, HeldBy, Holder, IsTest, Litmus, Locks, MemoryAccess, most_cores, most_instructions, NoAccess, Reads, Writes}
 use Rattle.tso_model.specs.declared.instruction.Core.{Core}
-use Rattle.snoop_bus.specs.Asks.{Awaited}
 use Rattle.machine_core.specs.declared.hardware.Hardware.{Hardware}
 use Rattle.machine_core.specs.declared.accesses.CacheUse.{CacheUse}
 use Rattle.machine_core.specs.declared.accesses.CacheUse.TheVariants.{Unused, Forwarded, Through}

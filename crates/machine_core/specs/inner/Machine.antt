@@ -1,7 +1,7 @@
 -- A machine from its hardware. It keeps that choices of its test lead to its state: so what the laws say of runs holds of
 -- every machine.
 use Rattle.std.specs.Prelude.{Bool}
-use Rattle.tso_model.specs.Litmus.{Litmus}
+use Rattle.machine_core.specs.Vocabulary.{Litmus}
 use Rattle.split_laws.specs.BusChoices.{IsPossibleOn}
 use Rattle.machine_core.specs.declared.hardware.Hardware.{Hardware}
 use Rattle.machine_core.specs.Running.{Running}

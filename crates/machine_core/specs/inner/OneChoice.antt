@@ -1,14 +1,8 @@
 -- A choice made on the hardware of a machine: what it needs of them, and what it leaves of a locked instruction.
 use Rattle.std.specs.Prelude.{◌≡◌, ◌≢◌, ℕ, [], true, Some}
-use Rattle.tso_model.specs.Litmus.{Litmus}
-use Rattle.tso_model.specs.FlatMachine.{start}
-use Rattle.tso_model.specs.MemoryAccess.{MemoryAccess, Writes}
-use Rattle.tso_model.specs.SplitMachine.{Free, HeldBetween, BusEffect, acts}
-use Rattle.tso_model.specs.EitherBus.{unheld, HitFits}
+use Rattle.machine_core.specs.Vocabulary.{acts, BusEffect, BusModel, Free, HeldBetween, HitFits, holder_of, Litmus, Locked, MemoryAccess, start, unheld, Writes}
 use Rattle.basic_laws.specs.Types.{Loc, Entry, Choice}
-use Rattle.snoop_bus.specs.Bus.{BusModel, holder_of}
 use Rattle.snoop_bus.specs.Held.{holder}
-use Rattle.snoop_bus.specs.declared.holding.Stage.TheVariants.{Locked}
 use Rattle.machine_core.specs.declared.hardware.Hardware.{Hardware}
 use Rattle.machine_core.specs.Caches.{Used, caches_of, hits_by, use_on}
 use Rattle.machine_core.specs.inner.Caches.{HasLineAlone}

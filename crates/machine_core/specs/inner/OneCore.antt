@@ -1,12 +1,9 @@
 -- What an action of one core does to the core, to the bus and to the commits. (This project's profile; what an action does
 -- is the flat machine's.)
 use Rattle.std.specs.Prelude.{◌≡◌, ◌≢◌, ◌++◌, ◌∷◌, [], ℕ, Bool, List, None, Result, IsOk, length, slice_set}
-use Rattle.tso_model.specs.FlatMachine.{Effect, memory_after}
-use Rattle.tso_model.specs.MemoryAccess.{MemoryAccess}
+use Rattle.machine_core.specs.Vocabulary.{BusModel, cores_of, Effect, holder_of, memory_after, MemoryAccess, Pending, words_of}
 use Rattle.basic_laws.specs.Types.{NoMemory, Loc, Entry, Outcome, Committed}
-use Rattle.store_buffer.specs.declared.Pending.{Pending}
 use Rattle.order_builder.specs.inner.Noted.{Noted}
-use Rattle.snoop_bus.specs.Bus.{BusModel, words_of, cores_of, holder_of}
 use Rattle.machine_core.specs.declared.accesses.CacheUse.TheVariants.{Through}
 use Rattle.machine_core.specs.declared.processor.Processor.{Processor}
 use Rattle.machine_core.specs.declared.turn.Way.{Way}

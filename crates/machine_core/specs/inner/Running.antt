@@ -1,7 +1,6 @@
 -- A choice on a machine, and what it leaves where memory is refused: all as it was, and a machine that has failed.
 use Rattle.std.specs.Prelude.{◌≡◌, ◌&&◌, Bool, true, not}
-use Rattle.tso_model.specs.Runs.{has_ended}
-use Rattle.tso_model.specs.SplitMachine.{HeldBetween}
+use Rattle.machine_core.specs.Vocabulary.{has_ended, HeldBetween}
 use Rattle.tso_model.specs.declared.execution.Entry.{Entry}
 use Rattle.machine_core.specs.inner.Caches.{HasLineAlone}
 use Rattle.machine_core.specs.Running.{Running}

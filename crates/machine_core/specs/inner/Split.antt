@@ -1,12 +1,8 @@
 -- A choice made on the hardware of a machine with a split bus: the holder's next one, which completes, or any other, which
 -- asks, waits or acts at once. (Primer, chapter 7; this project's profile.)
 use Rattle.std.specs.Prelude.{◌≡◌, ◌<◌, ℕ, false, List}
-use Rattle.tso_model.specs.Litmus.{Litmus}
-use Rattle.tso_model.specs.MemoryAccess.{MemoryAccess, NoAccess, Reads, Writes, Locks}
-use Rattle.tso_model.specs.SplitMachine.{Holder, Free, HeldBy, HeldBetween, BusEffect, same_choice, begins, writes_last, split_effect}
-use Rattle.tso_model.specs.Thread.{value_in, updated}
+use Rattle.machine_core.specs.Vocabulary.{begins, BusEffect, Free, HeldBetween, HeldBy, Holder, Litmus, Lock, Locks, MemoryAccess, NoAccess, Reads, same_choice, split_effect, updated, value_in, Writes, writes_last}
 use Rattle.basic_laws.specs.Types.{Reg, Action, Entry, Choice, Step}
-use Rattle.tso_model.specs.declared.action.Action.TheVariants.{Lock}
 use Rattle.machine_core.specs.declared.hardware.Hardware.{Hardware}
 use Rattle.machine_core.specs.Keeping.{state_in}
 use Rattle.machine_core.specs.inner.Effects.{attempt_in}

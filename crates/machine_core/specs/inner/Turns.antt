@@ -1,8 +1,7 @@
 -- How a core's access comes to the bus: whole, or as the second half of what the core has asked for.
 use Rattle.std.specs.Prelude.{◌≡◌}
-use Rattle.tso_model.specs.MemoryAccess.{MemoryAccess, NoAccess, Reads, Writes, Locks}
+use Rattle.machine_core.specs.Vocabulary.{BusModel, holder_of, Locks, MemoryAccess, NoAccess, Reads, Writes}
 use Rattle.tso_model.specs.declared.instruction.Core.{Core}
-use Rattle.snoop_bus.specs.Bus.{BusModel, holder_of}
 use Rattle.machine_core.specs.declared.turn.Way.{Way}
 use Rattle.machine_core.specs.declared.turn.Way.TheVariants.{Whole, Asked}
 use Rattle.machine_core.specs.declared.turn.Turn.{Turn}

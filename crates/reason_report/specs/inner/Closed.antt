@@ -1,9 +1,6 @@
 -- The cases of a question that leaves close at once, as the code has them.
 use Rattle.std.specs.Prelude.{◌≡◌, ◌<◌, ◌&&◌, not, Bool, true, false, if◌then◌else◌, List, [], ◌∷◌, map, filter, length}
-use Rattle.tso_model.specs.Litmus.{Litmus}
-use Rattle.refutation_laws.specs.Known.{Known}
-use Rattle.refutation_laws.specs.Refutations.{asked_claim}
-use Rattle.refutations.specs.inner.Trees.{known_of}
+use Rattle.reason_report.specs.Vocabulary.{asked_claim, Known, known_of, Litmus}
 use Rattle.refutations.specs.inner.Facts.{AreFacts}
 use Rattle.reason_report.specs.Places.{suffices}
 use Rattle.reason_report.specs.Steps as spec

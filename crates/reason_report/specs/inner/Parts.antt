@@ -1,12 +1,9 @@
 -- Where the parts of a refutation's nodes stand among the nodes, as the code goes by it.
 use Rattle.std.specs.Prelude.{ℕ, ◌≡◌, ◌<◌, ◌≤◌, All, List, [], ◌∷◌, map, drop, length, slice_index}
-use Rattle.tso_model.specs.Litmus.{Litmus}
-use Rattle.refutation_laws.specs.Known.{Known, events_of}
+use Rattle.reason_report.specs.Vocabulary.{events_of, Known, Litmus, looked_at, Model}
 use Rattle.refutation_laws.specs.Refutations as refutations
-use Rattle.refutation_laws.specs.declared.model.Model.{Model}
 use Rattle.refutations.specs.Trees.{node_of}
 use Rattle.refutations.specs.declared.tree.Node.{Node}
-use Rattle.tso_report.specs.Tally.{looked_at}
 use Rattle.tso_report.specs.inner.Tally.{NameExists}
 use Rattle.reason_report.specs.Steps as spec
 use Rattle.reason_report.specs.declared.replies.Branch.{Branch}

@@ -3,11 +3,8 @@ use Rattle.std.specs.Prelude.{ℕ, List, [], ◌∷◌, map}
 use Rattle.std.specs.Borrow.{Bor}
 use Rattle.std.specs.Fmt.{decimal}
 use Rattle.std.specs.List.{flat_map}
-use Rattle.serde_json.specs.Data.{Data, string, array, object, Members, put}
-use Rattle.serde_json.specs.View.{items_of}
-use Rattle.tso_model.specs.Litmus.{Litmus}
+use Rattle.reason_report.specs.Vocabulary.{array, Data, items_of, Litmus, Members, object, outcomes_verdict_value, put, string, verdict_line}
 use Rattle.tso_report.specs.Json.{count}
-use Rattle.outcome_report.specs.Verdict.{verdict_line, outcomes_verdict_value}
 use Rattle.reason_report.specs.ReasonText.{asked_line, blanks, event_text, source_text, sources_text, cycle_text, place_text}
 use Rattle.reason_report.specs.ReasonJson.{asked_value, event_value, edges_value, place_members}
 use Rattle.reason_report.specs.Views.{place_of}

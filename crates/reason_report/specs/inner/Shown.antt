@@ -1,23 +1,9 @@
 -- An execution as the code shows it: what its reads read from, by its order.
 use Rattle.std.specs.Prelude.{ℕ, ◌+◌, ◌≡◌, true, List, [], ◌∷◌, ◌++◌, map, filter, Option, Some, None, codes}
-use Rattle.serde_json.specs.Data.{Data, string, array, object, Members, no_members, member, put}
-use Rattle.serde_json.specs.View.{items_of}
-use Rattle.tso_model.specs.Litmus.{Litmus}
-use Rattle.tso_model.specs.ProgramOrder.{writes_to}
+use Rattle.reason_report.specs.Vocabulary.{array, Candidate, Choice, Data, Entry, items_of, last_in, line, Litmus, looked_at, member, Members, Model, Named, no_members, object, outcomes_verdict_value, printed_choices, put, string, value_members, writes_to}
 use Rattle.tso_model.specs.Axioms.{counting}
-use Rattle.tso_model.specs.declared.execution.Entry.{Entry}
 use Rattle.relational_model.specs.Events.{IsIn}
-use Rattle.relational_model.specs.Candidates.{Candidate}
-use Rattle.relational_model.specs.CandidatesOfOrders.{last_in}
-use Rattle.refutation_laws.specs.declared.model.Model.{Model}
-use Rattle.tso_model.specs.declared.choice.Choice.{Choice}
-use Rattle.scheduler.specs.Printed.{printed_choices}
-use Rattle.tso_report.specs.Report.{line}
-use Rattle.tso_report.specs.Tally.{looked_at}
-use Rattle.tso_report.specs.declared.named.Named.{Named}
-use Rattle.outcome_report.specs.OutcomesJson.{value_members}
 use Rattle.reason_report.specs.ReasonText.{model_name, event_text, source_text, reads_of, coherence_line, values_left}
-use Rattle.outcome_report.specs.Verdict.{outcomes_verdict_value}
 use Rattle.reason_report.specs.ReasonJson.{asked_value, event_value, with_coherence}
 use Rattle.reason_report.specs.declared.readings.Reading.{Reading}
 use Rattle.reason_report.specs.declared.steps.Event.{Event}

@@ -1,9 +1,7 @@
 -- What is still to be laid out, as the code keeps it: tasks, of which the first stands for the next part.
 use Rattle.std.specs.Prelude.{ℕ, ◌≡◌, ◌+◌, ◌≤◌, Bool, if◌then◌else◌, List, [], ◌∷◌, ◌++◌, Option, Some, None}
 use Rattle.std.specs.List.{flat_map}
-use Rattle.tso_model.specs.Litmus.{Litmus}
-use Rattle.refutation_laws.specs.Known.{Known, nothing}
-use Rattle.refutations.specs.inner.Trees.{known_of}
+use Rattle.reason_report.specs.Vocabulary.{Known, known_of, Litmus, nothing}
 use Rattle.reason_report.specs.Steps as spec
 use Rattle.reason_report.specs.declared.replies.Reply.{Reply}
 use Rattle.reason_report.specs.declared.layout.Wanted.{Wanted}

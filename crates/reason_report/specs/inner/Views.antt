@@ -2,9 +2,7 @@
 use Rattle.std.specs.Prelude.{ℕ, ◌==◌, if◌then◌else◌, ◌++◌, List, [], ◌∷◌, Option, Some, None, codes}
 use Rattle.std.specs.Fmt.{decimal}
 use Rattle.std.specs.List.{list_any}
-use Rattle.tso_model.specs.Litmus.{Litmus}
-use Rattle.tso_model.specs.declared.execution.Kind.{Kind}
-use Rattle.order_builder.specs.PrintedOrder.{printed_access}
+use Rattle.reason_report.specs.Vocabulary.{Kind, Litmus, printed_access}
 use Rattle.reason_report.specs.declared.steps.Closing.{Closing}
 use Rattle.reason_report.specs.ReasonText.{location_text}
 use Rattle.reason_report.specs.Steps as spec

@@ -1,10 +1,7 @@
 -- What the calls of a bus leave, said of its copies, and when a call is refused memory. Beside an action that holds the bus
 -- only a hit may be made, and none at the line that is being written.
 use Rattle.std.specs.Prelude.{◌≡◌, ◌≢◌, ◌⊎◌, ℕ, Bool, false, IsTrue, Option, Some, None, option_map, List, [], slice_get, slice_index_or}
-use Rattle.tso_model.specs.declared.instruction.Core.{Core}
-use Rattle.tso_model.specs.declared.instruction.Loc.{Loc}
-use Rattle.protocol_tables.specs.declared.state.State.{State}
-use Rattle.protocol_tables.specs.declared.state.State.TheVariants.{M}
+use Rattle.snoop_bus.specs.Vocabulary.{Core, is_dirty, Loc, M, State}
 use Rattle.cache_set.specs.Contents.{Contents, contents}
 use Rattle.snoop_bus.specs.declared.access.Access.{Access}
 use Rattle.snoop_bus.specs.declared.access.AccessKind.TheVariants.{Miss}
@@ -17,7 +14,6 @@ use Rattle.snoop_bus.specs.CacheContents.{TagSets, sets_of}
 use Rattle.snoop_bus.specs.inner.CacheContents.{settled}
 use Rattle.snoop_bus.specs.Copies.{cache_of}
 use Rattle.snoop_bus.specs.Bus.{BusModel, words_of, IsFree}
-use Rattle.protocol_tables.specs.Laws.{is_dirty}
 use Rattle.snoop_bus.specs.Asks.{tag_at, or_invalid}
 use Rattle.snoop_bus.specs.Accesses.{contents_of, line_of_location, would_hit, with_words}
 

@@ -1,13 +1,10 @@
 -- The caches of all cores and memory at an access that is made whole: what it rests on, and what it leaves.
 use Rattle.std.specs.Prelude.{◌≡◌, ◌<◌, ◌≤◌, ◌⊎◌, ℕ, Bool, true, false, IsTrue, nat_eq, if◌then◌else◌, List, length, slice_set, slice_index, Option, Some, None, IfSome}
-use Rattle.protocol_tables.specs.declared.state.State.TheVariants.{M}
-use Rattle.protocol_tables.specs.Tables.{Table}
-use Rattle.cache_set.specs.inner.Copy.{copy_with}
+use Rattle.snoop_bus.specs.Vocabulary.{copy_with, M, most_cores, Table}
 use Rattle.snoop_bus.specs.declared.access.Access.{Access}
 use Rattle.snoop_bus.specs.declared.access.Updated.{Updated}
 use Rattle.snoop_bus.specs.declared.hierarchy.Hierarchy.{Hierarchy}
 use Rattle.snoop_bus.specs.declared.holding.HeldBus.{HeldBus}
-use Rattle.tso_model.specs.Limits.{most_cores}
 use Rattle.snoop_bus.specs.Lines.{Words}
 use Rattle.snoop_bus.specs.CacheContents.{TagSets}
 use Rattle.snoop_bus.specs.Copies.{Sets, copy_at, tags_of}

@@ -1,12 +1,7 @@
 -- The transaction that an ask opens on a split bus: what its line awaits, and the words that the bus keeps for it until the
 -- completion. (Primer, chapter 7.)
 use Rattle.std.specs.Prelude.{ℕ, Bool, List, Option, option_map}
-use Rattle.tso_model.specs.declared.instruction.Core.{Core}
-use Rattle.tso_model.specs.declared.instruction.Loc.{Loc}
-use Rattle.protocol_tables.specs.declared.requests.Request.{Request}
-use Rattle.protocol_tables.specs.declared.requests.Transient.{Transient}
-use Rattle.protocol_tables.specs.Tables.{Table}
-use Rattle.cache_set.specs.inner.Copy.{copy_with}
+use Rattle.snoop_bus.specs.Vocabulary.{copy_with, Core, Loc, Request, Table, Transient}
 use Rattle.snoop_bus.specs.declared.holding.Transaction.{Transaction}
 use Rattle.snoop_bus.specs.declared.holding.HeldBus.{HeldBus}
 use Rattle.snoop_bus.specs.Lines.{Words}

@@ -2,7 +2,7 @@
 -- rests on it and leaves it so. (Primer, chapter 2.)
 use Rattle.std.specs.Prelude.{◌≡◌, ◌*◌, ◌≤◌, ◌<◌, ℕ, List, length, replicate, Option, IfSome}
 use Rattle.std.specs.Int.{div_ceil}
-use Rattle.tso_model.specs.Limits.{most_locations, most_cores}
+use Rattle.snoop_bus.specs.Vocabulary.{most_cores, most_locations}
 use Rattle.snoop_bus.specs.Geometry.{Geometry}
 use Rattle.snoop_bus.specs.Lines.{Words, line_of_words}
 use Rattle.snoop_bus.specs.Copies.{Sets}

@@ -1,6 +1,6 @@
 -- The second half of an access, over the caches of all cores and memory: what it begins with, and what it leaves.
 use Rattle.std.specs.Prelude.{◌≡◌, ◌<◌, ℕ, List, length, Option}
-use Rattle.protocol_tables.specs.Tables.{Table}
+use Rattle.snoop_bus.specs.Vocabulary.{Table}
 use Rattle.snoop_bus.specs.declared.access.Access.{Access}
 use Rattle.snoop_bus.specs.declared.holding.Stage.{Stage}
 use Rattle.snoop_bus.specs.declared.hierarchy.Hierarchy.{Hierarchy}

@@ -1,11 +1,8 @@
 -- Where copies of a line are, and what a fill leaves of them: one copy more of the line, and one copy less of the line that
 -- gave way.
 use Rattle.std.specs.Prelude.{◌≡◌, ◌≢◌, ◌<◌, ◌%◌, ℕ, List, [], length, map, slice_index_or, nat_eq, if◌then◌else◌, Option, None, option_map}
-use Rattle.protocol_tables.specs.declared.state.State.{State}
-use Rattle.cache_set.specs.declared.Line.{Line}
-use Rattle.cache_set.specs.declared.Victim.{Victim}
+use Rattle.snoop_bus.specs.Vocabulary.{after_fill, Line, State, Victim}
 use Rattle.cache_set.specs.Contents.{Contents, contents, copy_of}
-use Rattle.cache_set.specs.inner.Contents.{after_fill}
 use Rattle.snoop_bus.specs.Copies.{Sets, cache_of, copy_in}
 
 -- a set once every line has left it

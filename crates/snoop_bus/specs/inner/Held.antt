@@ -1,14 +1,7 @@
 -- What a bus keeps while an action holds it: from the ask on the words that it keeps count as the holder's copy, so that
 -- coherence holds between the two halves of an access too. (Primer, chapter 7.)
 use Rattle.std.specs.Prelude.{◌≡◌, ◌≢◌, ◌<◌, ◌/◌, ◌==◌, ◌⊎◌, if◌then◌else◌, ℕ, List, length, Option, Some, None}
-use Rattle.tso_model.specs.declared.instruction.Core.{Core}
-use Rattle.tso_model.specs.declared.instruction.Loc.{Loc}
-use Rattle.protocol_tables.specs.declared.state.State.TheVariants.{S, O, M}
-use Rattle.protocol_tables.specs.declared.requests.Transient.{Transient}
-use Rattle.protocol_tables.specs.declared.requests.Transient.TheVariants.{IsD, ImD, SmD}
-use Rattle.protocol_tables.specs.Laws.{in_place}
-use Rattle.cache_set.specs.declared.Line.{Line}
-use Rattle.cache_set.specs.inner.Copy.{with_state}
+use Rattle.snoop_bus.specs.Vocabulary.{Core, ImD, in_place, IsD, Line, Loc, M, O, S, SmD, Transient, with_state}
 use Rattle.snoop_bus.specs.Geometry.{Geometry}
 use Rattle.snoop_bus.specs.Lines.{Words}
 use Rattle.snoop_bus.specs.Coherent.{state_of_copy}

@@ -1,14 +1,7 @@
 -- What a request leaves in each cache that sees it: after GetM no other cache has the line, after GetS none may write it in
 -- place. (Primer, chapters 6 and 7.)
 use Rattle.std.specs.Prelude.{◌≡◌, ◌<◌, ◌⊎◌, ℕ, Bool, not, ◌&&◌, nat_eq, nat_lt, if◌then◌else◌, List, length, map, Option, Some, None, unwrap_or}
-use Rattle.protocol_tables.specs.declared.state.State.{State}
-use Rattle.protocol_tables.specs.declared.state.State.TheVariants.{I, S, E, O, M}
-use Rattle.protocol_tables.specs.declared.state.Snoop.{Snoop}
-use Rattle.protocol_tables.specs.Laws.{is_dirty}
-use Rattle.cache_set.specs.declared.Line.{Line}
-use Rattle.cache_set.specs.Contents.{Contents}
-use Rattle.cache_set.specs.inner.Contents.{with_changed, without}
-use Rattle.cache_set.specs.inner.Copy.{copy_with, with_state}
+use Rattle.snoop_bus.specs.Vocabulary.{Contents, copy_with, E, I, is_dirty, Line, M, O, S, Snoop, State, with_changed, with_state, without}
 use Rattle.snoop_bus.specs.Lines.{Words, line_in}
 use Rattle.snoop_bus.specs.Tags.{TagSet, tag_set}
 use Rattle.snoop_bus.specs.inner.Tags.{clean}

@@ -1,25 +1,15 @@
 -- Memory's own words as a trace tells them are those of the bus: along a run, each call of the bus leaves them so.
 use Rattle.std.specs.Prelude.{ℕ, ◌≡◌, ◌<◌, false, List, length}
-use Rattle.tso_model.specs.Litmus.{Litmus, IsTest}
+use Rattle.trace_json.specs.Vocabulary.{Configuration, ImD, is_dirty, IsD, IsTest, line_state, LineState, Litmus, M, machine_after, new_machine, ProtocolKind, Running, SmD, State, table_of}
 use Rattle.tso_model.specs.declared.choice.Choice.{Choice}
-use Rattle.protocol_tables.specs.Laws.{is_dirty}
-use Rattle.protocol_tables.specs.Tables.{table_of}
-use Rattle.protocol_tables.specs.declared.kind.ProtocolKind.{ProtocolKind}
-use Rattle.protocol_tables.specs.declared.requests.Transient.TheVariants.{IsD, ImD, SmD}
-use Rattle.protocol_tables.specs.declared.state.State.{State}
-use Rattle.protocol_tables.specs.declared.state.State.TheVariants.{M}
 use Rattle.snoop_bus.specs.Coherent.{state_of_copy}
 use Rattle.snoop_bus.specs.Copies.{copy_at}
 use Rattle.snoop_bus.specs.Bus.{BusModel, words_of, cores_of, counted_copies, IsSameMachine}
 use Rattle.snoop_bus.specs.inner.Bus.{IsBus}
 use Rattle.snoop_bus.specs.inner.Accesses.{memory_words_of}
-use Rattle.machine_core.specs.Configuration.{Configuration}
 use Rattle.machine_core.specs.Caches.{caches_of}
-use Rattle.machine_core.specs.Running.{Running, new_machine, machine_after}
 use Rattle.bus_laws.specs.inner.Calls.{IsCalled}
 use Rattle.trace_report.specs.StepLaws.{after_choices}
-use Rattle.trace_report.specs.Steps.{line_state}
-use Rattle.trace_report.specs.declared.step.LineState.{LineState}
 use Rattle.trace_report.specs.declared.step.LineState.TheVariants.{Stable, Transient}
 use Rattle.trace_json.specs.OwnWords.{own_words}
 

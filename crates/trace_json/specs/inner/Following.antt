@@ -1,5 +1,5 @@
 -- What one who follows a machine knows of it.
-use Rattle.machine_core.specs.Running.{Running}
+use Rattle.trace_json.specs.Vocabulary.{Running}
 use Rattle.trace_report.specs.Told.{IsTraced, IsTracedInStates}
 use Rattle.trace_json.specs.inner.Looked.{HasMemory}
 use Rattle.trace_json.specs.declared.following.Follower.{Follower}

@@ -1,7 +1,7 @@
 -- What becomes of an observer to which the first choices of a run alone are shown: as many as a trace as JSON may have steps.
 use Rattle.std.specs.Prelude.{ℕ, ◌≡◌, ◌≤◌, Bool, false}
 use Rattle.tso_model.specs.declared.choice.Choice.{Choice}
-use Rattle.machine_core.specs.Running.{Running}
+use Rattle.trace_json.specs.Vocabulary.{Running}
 use Rattle.trace_json.specs.TracedRun.{most_steps}
 
 -- a choice with a number within the limit is shown, unless one beyond it was made before

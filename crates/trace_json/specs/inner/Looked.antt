@@ -1,18 +1,7 @@
 -- A machine that is shown: it has a word for each location that its test names; and the members of its value, as the code puts
 -- them together.
 use Rattle.std.specs.Prelude.{ℕ, ◌≡◌, ◌/◌, length, List, Option, Some, None, option_map, codes}
-use Rattle.tso_model.specs.Litmus.{Litmus}
-use Rattle.tso_model.specs.FlatMachine.{chosen}
-use Rattle.scheduler.specs.Printed.{printed_choice}
-use Rattle.machine_core.specs.Configuration.{Configuration}
-use Rattle.machine_core.specs.Running.{Running, configuration_of}
-use Rattle.serde_json.specs.Data.{Data, string, array, object, Members, no_members, member}
-use Rattle.serde_json.specs.View.{items_of}
-use Rattle.machine_core.specs.Looking.{bus_holder_of}
-use Rattle.machine_core.specs.declared.looking.BusHolder.{BusHolder}
-use Rattle.tso_report.specs.Json.{count, memory_value}
-use Rattle.trace_report.specs.Shown.{shown_step}
-use Rattle.trace_report.specs.Lines.{line_name, transient_name}
+use Rattle.trace_json.specs.Vocabulary.{array, bus_holder_of, BusHolder, chosen, Configuration, configuration_of, count, Data, items_of, line_name, Litmus, member, Members, memory_value, no_members, object, printed_choice, Running, shown_step, string, transient_name}
 use Rattle.trace_json.specs.Values.{array_of_numbers, text_or_null}
 use Rattle.trace_json.specs.MachineJson.{bus_json, cores_json, words_on_bus, words_in_line}
 use Rattle.trace_json.specs.TraceJson.{Sourced, alone, step_to}

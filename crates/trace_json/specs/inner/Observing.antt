@@ -1,10 +1,8 @@
 -- What becomes of the observers that make a trace, and its last step alone.
 use Rattle.std.specs.Prelude.{ℕ, ◌≡◌, [], ◌∷◌, ◌++◌, map, Some, None, IfSome, option_map}
-use Rattle.serde_json.specs.View.{view}
+use Rattle.trace_json.specs.Vocabulary.{machine_after, Running, shown_step, view}
 use Rattle.tso_model.specs.declared.choice.Choice.{Choice}
-use Rattle.machine_core.specs.Running.{Running, machine_after}
 use Rattle.trace_report.specs.Known.{StepNamesExist}
-use Rattle.trace_report.specs.Shown.{shown_step}
 use Rattle.trace_json.specs.MachineJson.{machine_json}
 use Rattle.trace_json.specs.OwnWords.{own_words}
 use Rattle.trace_json.specs.TraceJson.{sourced_by, step_to}

@@ -1,11 +1,6 @@
 -- The members of a step's value, in two parts, as the code puts them together.
 use Rattle.std.specs.Prelude.{ℕ, map, Option, option_map, codes}
-use Rattle.serde_json.specs.Data.{Data, boolean, string, Members, no_members, member, put}
-use Rattle.tso_model.specs.Litmus.{Litmus}
-use Rattle.scheduler.specs.Printed.{printed_choice}
-use Rattle.tso_report.specs.Json.{order_value}
-use Rattle.trace_report.specs.Shown.{ShownStep}
-use Rattle.trace_report.specs.Lines.{access_name, stall_name, line_name, printed_core, printed_move, printed_change, printed_request}
+use Rattle.trace_json.specs.Vocabulary.{access_name, boolean, Data, line_name, Litmus, member, Members, no_members, order_value, printed_change, printed_choice, printed_core, printed_move, printed_request, put, ShownStep, stall_name, string}
 use Rattle.trace_json.specs.Values.{text_or_null, array_of_texts}
 use Rattle.trace_json.specs.StepJson.{outcome_word, stall_in}
 use Rattle.trace_json.specs.Supplied.{supplier_text}

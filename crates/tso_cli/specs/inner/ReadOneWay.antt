@@ -1,16 +1,8 @@
 -- What the crates below say of texts and orders, put together: each is read in one way.
 use Rattle.std.specs.Prelude.{ℕ, ◌≡◌, ◌<◌, ◌≤◌, ◌^◌, List, length}
-use Rattle.tso_model.specs.Litmus.{Litmus, IsTest}
-use Rattle.tso_model.specs.Axioms.{IsTsoExecution}
-use Rattle.tso_model.specs.declared.execution.Entry.{Entry}
+use Rattle.tso_cli.specs.Vocabulary.{Breach, Entry, HasFault, IsDecidedAsChoices, IsFirstBreach, IsTest, IsTsoExecution, Litmus, OrderFault, SpellsOrder, TextFault}
 use Rattle.litmus_reader.specs.Limits.{longest_text}
 use Rattle.litmus_reader.specs.Spelling.{SpellsTest, IsRefused as IsRefusedTest}
-use Rattle.litmus_reader.specs.declared.fault.TextFault.{TextFault}
-use Rattle.scheduler.specs.Refusals.{IsDecidedAsChoices}
-use Rattle.order_builder.specs.Spelling.{SpellsOrder, HasFault}
-use Rattle.order_builder.specs.declared.fault.OrderFault.{OrderFault}
-use Rattle.axiom_checker.specs.FirstBreach.{IsFirstBreach}
-use Rattle.axiom_checker.specs.declared.breach.Breach.{Breach}
 
 pub record AreReadOneWay : Type 0 where
   -- a text spells one test, which is within the limits, or gets one refusal

@@ -1,16 +1,6 @@
 -- The last step of a trace of a test: a refusal is that of the whole trace, and so is the status.
 use Rattle.std.specs.Prelude.{ℕ, true, List, length}
-use Rattle.tso_model.specs.Litmus.{Litmus}
-use Rattle.tso_model.specs.declared.choice.Choice.{Choice}
-use Rattle.scheduler.specs.Grammar.{SpellsChoices}
-use Rattle.protocol_tables.specs.declared.kind.ProtocolKind.{ProtocolKind}
-use Rattle.machine_core.specs.Configuration.{Configuration}
-use Rattle.trace_json.specs.TracedRun.{json_last_step}
-use Rattle.commands.specs.Answers.{status_under}
-use Rattle.simulator.specs.Runs.{run_under, AnswersFit}
-use Rattle.commands.specs.Trace.{FitsForm, IsTraceAnswer}
-use Rattle.commands.specs.declared.answer.Status.{Status}
-use Rattle.commands.specs.declared.answer.Status.TheVariants.{Good, Refused, Unended}
+use Rattle.tso_cli.specs.Vocabulary.{AnswersFit, Choice, Configuration, FitsForm, Good, IsTraceAnswer, json_last_step, Litmus, ProtocolKind, Refused, run_under, SpellsChoices, Status, status_under, Unended}
 use Rattle.simulator.specs.declared.simulation.Ending.{Ending}
 use Rattle.simulator.specs.declared.simulation.Ending.TheVariants.{Ended, Unfinished}
 
