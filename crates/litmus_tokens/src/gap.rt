@@ -13,7 +13,8 @@ use crate::token::Stop;
 fn is_space(byte: u8) -> bool
     ensures { result ≡ gap.is_space byte }
 {
-    matches!(byte, b' ' | b'\t' | b'\n' | b'\r')
+    // Most bytes of a text are greater, and need no second look.
+    byte == b' ' || (byte < b' ' && matches!(byte, b'\t' | b'\n' | b'\r'))
 }
 
 /// What stands after the first `*)`.
