@@ -32,6 +32,7 @@ fn is_one_of(ends: &[Symbol], token: &Token<'_>) -> bool
 /// none of them is there.
 ///
 /// Errors: out of memory only.
+#[inline(always)]
 fn read_section<'a>(
     tokens: &mut Vec<Token<'a>>,
     ends: &[Symbol],
