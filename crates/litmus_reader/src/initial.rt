@@ -138,21 +138,24 @@ fn item_end(tokens: &[Token<'_>]) -> Option<bool>
     None
 }
 
-/// Reads an item, which may be empty, with its end, and answers whether the initial state ends with it.
+/// Reads an item, which may be empty, with its end, and answers whether the initial state ends with it. The state begins at
+/// `remaining`.
 #[tactic(auto, unfolding(crate::specs::Initial::item_in))]
 fn read_item<'a>(
-    part: Part,
+    remaining: usize,
+    stop: Stop,
     state: &mut Initial<'a>,
     names: &mut IndexSet<&'a [u8]>,
     tokens: &[Token<'a>],
 ) -> Result<bool, ReadError>
     requires { KnowsGiven state.old }
     ensures knows { OnOk result (KnowsGiven state.new) }
-    ensures value { GivesItem result names.new.keys state.new (inner.item_in part (so_far names.old.keys state.old) (pieces tokens.now)) }
+    ensures value { GivesItem result names.new.keys state.new (inner.item_in (places.in_initial remaining stop) (so_far names.old.keys state.old) (pieces tokens.now)) }
 {
     if let Some(is_last) = item_end(tokens) {
         return Ok(is_last);
     }
+    let part = in_initial(remaining, stop);
     let (item, rest) = setting_at(part, tokens)?;
     let is_last = part.expect(rest, item_end(rest))?;
     note_item(remaining_of(tokens), state, names, item)?;
@@ -182,8 +185,7 @@ pub fn read_initial<'a>(
     let mut tokens = Vec::new(alloc);
     'items: loop {
         let onward = read_item_tokens(&mut tokens, rest)?;
-        let part = in_initial(remaining, onward.stop);
-        let is_last = read_item(part, &mut state, names, &tokens)?;
+        let is_last = read_item(remaining, onward.stop, &mut state, names, &tokens)?;
         rest = onward.rest;
         if is_last {
             return Ok((state, rest));
