@@ -8,6 +8,7 @@ ghost use Rattle.commands.specs.Answers.{status_under};
 ghost use Rattle.simulator.specs.Runs.{AnswersFit};
 ghost use Rattle.commands.specs.Trace.{traced_in, IsTraceAnswer};
 ghost use Rattle.commands.specs.inner.Answers.{Says};
+ghost use Rattle.commands.specs.inner.Trace.{status_in};
 
 use crate::answer::{Answer, Status};
 use crate::measuring::{refused_trace, word_too_far};
@@ -19,7 +20,7 @@ use protocol_tables::ProtocolKind;
 use scheduler::{read_choices, spelled_cores_exist};
 use simulator::{Ending, Setup};
 use std::alloc::Global;
-use trace_json::{TracedRun, ended_json, simulate_tracing, unended_json};
+use trace_json::{TracedRun, simulate_tracing, traced_json};
 use tso_model::{NoMemory, Test};
 use tso_report::{head_text, write_body};
 
@@ -124,22 +125,21 @@ fn object_answer(
         told,
         stalls,
     } = traced;
+    let status = status_in(&ending);
+    let object = traced_json(alloc, setup, &ending, told)?;
+    Ok(Answer {
+        text: object,
+        status,
+        cause: cause_of(status, setup, text, stalls),
+    })
+}
+
+/// The status of an answer to a run that was left so.
+fn status_in(ending: &Ending) -> Status
+    ensures { result ≡ status_in ending.now }
+{
     match ending {
-        Ending::Ended(run) => {
-            let object = ended_json(alloc, setup, &run, told)?;
-            Ok(Answer {
-                text: object,
-                status: Status::Good,
-                cause: Cause::Nothing,
-            })
-        }
-        Ending::Unfinished { used, stalled } => {
-            let object = unended_json(alloc, setup.test, used, stalled, told)?;
-            Ok(Answer {
-                text: object,
-                status: Status::Unended,
-                cause: cause_of(Status::Unended, setup, text, stalls),
-            })
-        }
+        Ending::Ended(_) => Status::Good,
+        Ending::Unfinished { .. } => Status::Unended,
     }
 }

@@ -1,7 +1,11 @@
 -- What a trace without a float adds to the members of a run has none either, so that the text of the whole is known.
-use Rattle.trace_json.proofs.Vocabulary.{◌≡◌, ◌∙◌, ap, false, map, Option, Some, None, refl, Data, string, Members, put, has_float, members_have_float, Litmus, Condition, text_or_null, instruction_text, program_value, programs_value, with_trace_value}
+use Rattle.trace_json.proofs.Vocabulary.{◌≡◌, false, map, Option, Some, None, refl, Data, string, Members, put, has_float, members_have_float, Litmus, Condition, text_or_null, instruction_text, program_value, programs_value, with_trace_value, ProtocolKind, Configuration}
 use Rattle.std.specs.Prelude.{codes}
-use Rattle.tso_report.proofs.NoFloats.{one_more, each}
+use Rattle.tso_report.proofs.NoFloats.{one_more, each, run_has_no_float}
+use Rattle.tso_report.specs.Shown.{shown_run}
+use Rattle.simulator.specs.declared.simulation.Ending.{Ending}
+use Rattle.simulator.specs.declared.simulation.Ending.TheVariants.{Ended, Unfinished}
+use Rattle.trace_json.specs.TracedRun.{ending_members}
 use Rattle.std.specs.Option.{option_map}
 use Rattle.trace_json.specs.Proposition.{proposition_text, proposition_value}
 
@@ -20,9 +24,7 @@ more_has_no_float t trace ms none h =
     (one_more (codes "proposition") (proposition_value t) traced (proposition t)
     (one_more (codes "trace") trace ms none h))
 
--- the members, put one after the other
-pub members-put : (t : Litmus) (trace asked programs : Data) (ms first second third : Members) → first ≡ put (codes "trace") trace ms → second ≡ put (codes "proposition") asked first → asked ≡ proposition_value t
-    → third ≡ put (codes "programs") programs second → programs ≡ programs_value t → third ≡ with_trace_value t trace ms
-members-put t trace asked programs ms first second third one two asked_is three programs_are =
-    three ∙ (ap (λ d. put (codes "programs") d second) programs_are
-    ∙ ap (put (codes "programs") (programs_value t)) (two ∙ (ap (λ d. put (codes "proposition") d first) asked_is ∙ ap (put (codes "proposition") (proposition_value t)) one)))
+-- nor have those of how the run left its test
+pub ending_has_no_float : (t : Litmus) (kind : ProtocolKind) (c : Configuration) (e : Ending) → members_have_float (ending_members t kind c e) ≡ false
+ending_has_no_float t kind c (Ended run) = run_has_no_float t kind c (shown_run run)
+ending_has_no_float t kind c (Unfinished used stalled) = refl

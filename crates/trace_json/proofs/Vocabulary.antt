@@ -6,7 +6,7 @@ pub use Rattle.std.specs.declared.cmp.Ordering.{Ordering}
 pub use Rattle.std.specs.declared.cmp.Ordering.TheVariants.{Less, Equal, Greater}
 pub use Rattle.std.proofs.lemmas.Bool.{or_parts}
 pub use Rattle.serde_json.specs.Data.{Data, string, Members, no_members, member, put, array, object}
-pub use Rattle.serde_json.specs.View.{items_of, view}
+pub use Rattle.serde_json.specs.View.{items_of, view, members_view}
 pub use Rattle.serde_json.specs.Written.{has_float, items_have_float, members_have_float}
 pub use Rattle.tso_model.specs.Litmus.{Litmus}
 pub use Rattle.tso_model.specs.FlatMachine.{core_of, CoreState, idle, memory_after, chosen}
@@ -47,3 +47,5 @@ pub use Rattle.trace_report.proofs.Whole.{some-word, looked-at}
 pub use Rattle.trace_json.specs.SupplyLaws.{copy_on, SourcesAreTold}
 pub use Rattle.trace_report.specs.Known.{IsLine, StepNamesExist}
 pub use Rattle.serde_json.proofs.Views.{view-Object}
+pub use Rattle.trace_json.specs.inner.Traced.{with_test}
+pub use Rattle.trace_json.specs.inner.Stepped.{with_parts}

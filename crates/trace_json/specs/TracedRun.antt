@@ -1,7 +1,7 @@
 -- What `trace` prints as a JSON value: the members that `run` prints, and with them the programs, the condition's proposition
 -- and the trace. (This project's profile.)
 use Rattle.std.specs.Prelude.{ℕ, List, codes}
-use Rattle.trace_json.specs.Vocabulary.{Configuration, Data, Litmus, Members, object, ProtocolKind, put, run_members, unfinished_members}
+use Rattle.trace_json.specs.Vocabulary.{Configuration, Data, Ended, Ending, Litmus, Members, object, ProtocolKind, put, run_members, shown_run, Unfinished, unfinished_members}
 use Rattle.serde_json.specs.Written.{compact_text}
 use Rattle.tso_model.specs.declared.choice.Choice.{Choice}
 use Rattle.tso_report.specs.Shown.{ShownRun}
@@ -13,6 +13,11 @@ use Rattle.trace_json.specs.TraceJson.{trace_json, last_step_json}
 -- maximum number of steps of a trace as a JSON value
 abbrev pub most_steps : ℕ
 most_steps = 1000
+
+-- the members that `run` prints of how a run left its test
+abbrev pub ending_members : Litmus → ProtocolKind → Configuration → Ending → Members
+ending_members t kind c (Ended run) = run_members t kind c (shown_run run)
+ending_members t kind c (Unfinished used stalled) = unfinished_members used stalled
 
 -- members, and with them what this trace adds
 abbrev pub with_trace_value : Litmus → Data → Members → Members

@@ -18,7 +18,10 @@ pub use Rattle.machine_core.specs.Looking.{bus_holder_of}
 pub use Rattle.machine_core.specs.Running.{configuration_of, machine_after, new_machine, Running}
 pub use Rattle.machine_core.specs.declared.looking.BusHolder.{BusHolder}
 pub use Rattle.tso_report.specs.Json.{count, memory_value, order_value, registers_value, run_members, unfinished_members}
+pub use Rattle.tso_report.specs.Shown.{shown_run}
 pub use Rattle.trace_report.specs.Lines.{access_name, line_name, names_in_line, outcome_name, printed_change, printed_core, printed_move, printed_request, stall_name, state_name, store_text, transient_name}
 pub use Rattle.trace_report.specs.Shown.{shown_step, ShownStep}
 pub use Rattle.trace_report.specs.Steps.{line_state, trace_step_of}
 pub use Rattle.trace_report.specs.declared.step.LineState.{LineState}
+pub use Rattle.simulator.specs.declared.simulation.Ending.{Ending}
+pub use Rattle.simulator.specs.declared.simulation.Ending.TheVariants.{Ended, Unfinished}

@@ -6,3 +6,4 @@ pub mod Observing
 pub mod Brackets
 pub mod Stepped
 pub mod BusMemory
+pub mod Traced

@@ -18,4 +18,4 @@ mod trace;
 mod traced_run;
 
 pub use trace::{TracedRun, simulate_telling_last, simulate_tracing};
-pub use traced_run::{MAX_STEPS, ended_json, unended_json, word_beyond};
+pub use traced_run::{MAX_STEPS, traced_json, word_beyond};

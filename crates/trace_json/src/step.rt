@@ -1,16 +1,17 @@
 //! What a choice did as a value: the members of a step, and `null` for what this choice has nothing of, so that each step
 //! has all of them.
 
-ghost use Rattle.std.specs.Prelude.{◌≡◌, ◌<◌, [], IfOk, OnOk, IfSome, All, map, option_map, string_bytes};
+ghost use Rattle.std.specs.Prelude.{◌≡◌, ◌<◌, IfOk, OnOk, IfSome, All, map, option_map, string_bytes};
+ghost use Rattle.serde_json.specs.Data.{string};
 ghost use Rattle.serde_json.specs.View.{view, members_view};
-ghost use Rattle.order_builder.specs.PrintedOrder.{HasLocation};
+ghost use Rattle.scheduler.specs.Printed.{printed_choice};
 ghost use Rattle.trace_report.specs.Shown.{shown_step};
 ghost use Rattle.trace_report.specs.Known.{IsLine, StepNamesExist};
 ghost use Rattle.trace_report.specs.Lines.{access_name, stall_name, line_name, printed_core, printed_move};
 ghost use Rattle.trace_report.specs.Lines.{printed_change, printed_request};
 ghost use Rattle.trace_json.specs.Values.{text_or_null, array_of_texts};
 ghost use Rattle.trace_json.specs.StepJson.{outcome_word, stall_in, step_json};
-ghost use Rattle.trace_json.specs.inner.Stepped.{done_members, with_left};
+ghost use Rattle.trace_json.specs.inner.Stepped.{part_value, with_parts};
 
 use crate::supplied::{Source, source_value};
 use crate::texts::{choice_text, line_text, name_or_null};
@@ -20,8 +21,62 @@ use std::alloc::Global;
 use trace_report::names::{access_name, stall_name};
 use trace_report::text::{write_change, write_line_request, write_move};
 use trace_report::{LineRequest, Moved, StateChange, Step};
-use tso_model::{Core, NoMemory, Outcome, Test};
+use tso_model::{Choice, Core, NoMemory, Outcome, Test};
 use tso_report::json::order_value;
+
+/// What stands under a key of a step's value.
+#[derive(Clone, Copy)]
+pub(crate) enum StepPart {
+    /// What the access was, of a choice that made one.
+    Access,
+    /// The choice.
+    Choice,
+    /// The entries that it committed.
+    Entries,
+    /// The core whose copy was sent to memory.
+    Flush,
+    /// Whether a load got its value from the core's own pending stores.
+    Forwarded,
+    /// The register that a value was moved to.
+    Moved,
+    /// The outcome's word.
+    Outcome,
+    /// Why the choice stalled.
+    Stall,
+    /// The lines whose state changed.
+    States,
+    /// Where the word is found that was read.
+    Supplied,
+    /// What went on the bus.
+    Transaction,
+    /// The dirty line that left the core's cache.
+    WriteBack,
+}
+
+/// What a step's value has, by its keys; beside these it has the machine after it.
+const STEP_PARTS: [(&str, StepPart); 12] = [
+    ("access", StepPart::Access),
+    ("choice", StepPart::Choice),
+    ("entries", StepPart::Entries),
+    ("flush", StepPart::Flush),
+    ("forwarded", StepPart::Forwarded),
+    ("moved", StepPart::Moved),
+    ("outcome", StepPart::Outcome),
+    ("stall", StepPart::Stall),
+    ("states", StepPart::States),
+    ("supplied", StepPart::Supplied),
+    ("transaction", StepPart::Transaction),
+    ("write_back", StepPart::WriteBack),
+];
+
+/// A step of a test on caches whose lines have so many words, and where the word is found that it read.
+#[derive(Clone, Copy)]
+struct Telling<'a> {
+    test: &'a Test,
+    words: u8,
+    step: &'a Step,
+    supplied: Option<Source>,
+}
 
 /// What a choice did, on caches whose lines have so many words, where the word is found that it read, and this machine
 /// after it.
@@ -39,66 +94,59 @@ pub fn step_value(
     requires known { StepNamesExist test.now words (shown_step step.now) }
     ensures { IfOk result (λ value. view value ≡ step_json test.now words (shown_step step.now) supplied (view after)) }
 {
+    let telling = Telling {
+        test,
+        words,
+        step,
+        supplied,
+    };
     let mut members = Map::new(alloc);
-    put_done(&mut members, alloc, test, step, after)?;
-    put_left(&mut members, alloc, test, words, step, supplied)?;
+    put(&mut members, alloc, "after", after)?;
+    put_parts(&mut members, alloc, &telling, &STEP_PARTS)?;
     Ok(Value::Object(members))
 }
 
-/// Puts what the choice did, to `moved`, and the machine after it.
-fn put_done(
+/// Puts what stands under each of these keys.
+fn put_parts(
     members: &mut Map<String, Value>,
     alloc: Global,
-    test: &Test,
-    step: &Step,
-    after: Value,
+    telling: &Telling<'_>,
+    parts: &[(&str, StepPart)],
 ) -> Result<(), NoMemory>
-    requires known { All (HasLocation test.now) step.now.entries.items }
-    requires empty { members.old.entries ≡ [] }
-    ensures { OnOk result (members_view members.new.entries ≡ done_members test.now (shown_step step.now) (view after)) }
+    requires words { 0 < telling.now.words }
+    requires known { StepNamesExist telling.now.test.now telling.now.words (shown_step telling.now.step.now) }
+    ensures { OnOk result (members_view members.new.entries
+        ≡ with_parts telling.now.test.now telling.now.words (shown_step telling.now.step.now) telling.now.supplied parts.now (members_view members.old.entries)) }
 {
-    let access = access_value(alloc, step.access)?;
-    put(members, alloc, "access", access)?;
-    put(members, alloc, "after", after)?;
-    let choice = choice_text(alloc, step.choice)?;
-    put(members, alloc, "choice", Value::String(choice))?;
-    let entries = order_value(alloc, test, &step.entries)?;
-    put(members, alloc, "entries", entries)?;
-    let flush = flush_value(alloc, step.flushed)?;
-    put(members, alloc, "flush", flush)?;
-    let forwarded = Value::Bool(step.forwarded);
-    put(members, alloc, "forwarded", forwarded)?;
-    let moved = move_value(alloc, step.moved)?;
-    put(members, alloc, "moved", moved)?;
+    for (key, part) in parts {
+        let value = part_value(alloc, telling, *part)?;
+        put(members, alloc, key, value)?;
+    }
     Ok(())
 }
 
-/// Puts the outcome, and what went on the bus and to the lines.
-fn put_left(
-    members: &mut Map<String, Value>,
-    alloc: Global,
-    test: &Test,
-    words: u8,
-    step: &Step,
-    supplied: Option<Source>,
-) -> Result<(), NoMemory>
-    requires words { 0 < words }
-    requires known { StepNamesExist test.now words (shown_step step.now) }
-    ensures { OnOk result (members_view members.new.entries ≡ with_left test.now words (shown_step step.now) supplied (members_view members.old.entries)) }
+fn part_value(alloc: Global, telling: &Telling<'_>, part: StepPart) -> Result<Value, NoMemory>
+    requires words { 0 < telling.now.words }
+    requires known { StepNamesExist telling.now.test.now telling.now.words (shown_step telling.now.step.now) }
+    ensures { IfOk result (λ value. view value ≡ part_value telling.now.test.now telling.now.words (shown_step telling.now.step.now) telling.now.supplied part) }
 {
-    let outcome = Value::try_from_str(alloc, outcome_word(step.outcome))?;
-    put(members, alloc, "outcome", outcome)?;
-    let stall = stall_value(alloc, step.outcome)?;
-    put(members, alloc, "stall", stall)?;
-    let states = changes_value(alloc, test, words, &step.changes)?;
-    put(members, alloc, "states", states)?;
-    let source = source_value(alloc, supplied)?;
-    put(members, alloc, "supplied", source)?;
-    let request = request_value(alloc, test, words, step.request)?;
-    put(members, alloc, "transaction", request)?;
-    let wrote_back = write_back_value(alloc, test, words, step.wrote_back)?;
-    put(members, alloc, "write_back", wrote_back)?;
-    Ok(())
+    let test = telling.test;
+    let words = telling.words;
+    let step = telling.step;
+    match part {
+        StepPart::Access => access_value(alloc, step.access),
+        StepPart::Choice => choice_value(alloc, step.choice),
+        StepPart::Entries => order_value(alloc, test, &step.entries),
+        StepPart::Flush => flush_value(alloc, step.flushed),
+        StepPart::Forwarded => Ok(Value::Bool(step.forwarded)),
+        StepPart::Moved => move_value(alloc, step.moved),
+        StepPart::Outcome => outcome_value(alloc, step.outcome),
+        StepPart::Stall => stall_value(alloc, step.outcome),
+        StepPart::States => changes_value(alloc, test, words, &step.changes),
+        StepPart::Supplied => source_value(alloc, telling.supplied),
+        StepPart::Transaction => request_value(alloc, test, words, step.request),
+        StepPart::WriteBack => write_back_value(alloc, test, words, step.wrote_back),
+    }
 }
 
 fn access_value(alloc: Global, access: Option<AccessKind>) -> Result<Value, NoMemory>
@@ -130,6 +178,18 @@ fn move_value(alloc: Global, moved: Option<Moved>) -> Result<Value, NoMemory>
     let mut text = String::new(alloc);
     write_move(&mut text, moved)?;
     Ok(Value::String(text))
+}
+
+fn choice_value(alloc: Global, choice: Choice) -> Result<Value, NoMemory>
+    ensures { IfOk result (λ value. view value ≡ string (printed_choice choice)) }
+{
+    Ok(Value::String(choice_text(alloc, choice)?))
+}
+
+fn outcome_value(alloc: Global, outcome: Outcome) -> Result<Value, NoMemory>
+    ensures { IfOk result (λ value. view value ≡ string (outcome_word outcome)) }
+{
+    Ok(Value::try_from_str(alloc, outcome_word(outcome))?)
 }
 
 /// The outcome's word.

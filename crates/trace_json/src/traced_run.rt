@@ -1,24 +1,23 @@
 //! A run with its trace as JSON, for programs to read. It is one line, and its objects have their keys in the order of
 //! their bytes.
 
-ghost use Rattle.std.specs.Prelude.{◌≡◌, ◌<◌, ◌≤◌, List, IfOk, IfSome, IsSome, None, false, length, string_bytes};
+ghost use Rattle.std.specs.Prelude.{◌≡◌, ◌<◌, ◌≤◌, List, IfOk, OnOk, IfSome, IsSome, None, false, length, string_bytes};
 ghost use Rattle.serde_json.specs.View.{view, members_view};
-ghost use Rattle.serde_json.specs.Written.{has_float, members_have_float};
+ghost use Rattle.serde_json.specs.Written.{has_float};
 ghost use Rattle.tso_model.specs.declared.choice.Choice.{Choice};
 ghost use Rattle.scheduler.specs.Grammar.{SpellsChoices};
 ghost use Rattle.scheduler.specs.WordOfChoice.{IsWordOfChoice};
-ghost use Rattle.tso_report.specs.Json.{run_members, unfinished_members};
-ghost use Rattle.tso_report.specs.Shown.{shown_run, IsRunOf};
-ghost use Rattle.trace_json.specs.TracedRun.{most_steps, line_with};
+ghost use Rattle.simulator.specs.Simulation.{FitsEnding};
+ghost use Rattle.trace_json.specs.TracedRun.{most_steps, line_with, ending_members};
+ghost use Rattle.trace_json.specs.inner.Traced.{with_test};
 
 use crate::programs::programs_value;
 use crate::proposition::proposition_value;
 use scheduler::word_of_choice;
 use serde_json::{Map, Value, put};
-use simulator::Setup;
+use simulator::{Ending, Setup};
 use std::alloc::Global;
 use tso_model::{NoMemory, Test};
-use tso_report::Run;
 use tso_report::json::{line_of, run_members, unfinished_members};
 
 /// Maximum number of steps of a trace as JSON.
@@ -46,58 +45,49 @@ pub fn word_beyond(cores: u8, used: usize, text: &[u8]) -> Option<usize>
     }
 }
 
-/// A run that ended with its trace as JSON: an object of the members of the run's report, the programs, the
-/// condition's proposition and the trace, printed compact, and a line feed.
+/// How a run left its test, with its trace, as JSON: an object of the members of the run's report, or of how many choices
+/// were used and how many of these stalled, and of the programs, the condition's proposition and the trace; printed
+/// compact, and a line feed.
 ///
 /// Errors: out of memory only.
-pub fn ended_json(
+pub fn traced_json(
     alloc: Global,
     setup: &Setup<'_>,
-    run: &Run,
+    ending: &Ending,
     trace: Value,
 ) -> Result<String, NoMemory>
-    requires run { IsRunOf setup.now.test.now (shown_run run.now) }
+    requires run { FitsEnding setup.now.test.now ending.now }
     requires trace { has_float (view trace) ≡ false }
-    ensures { IfOk result (λ text. string_bytes text ≡ line_with setup.now.test.now (view trace) (run_members setup.now.test.now setup.now.protocol setup.now.config (shown_run run.now))) }
+    ensures { IfOk result (λ text. string_bytes text ≡ line_with setup.now.test.now (view trace) (ending_members setup.now.test.now setup.now.protocol setup.now.config ending.now)) }
 {
-    let members = run_members(alloc, setup.test, setup.protocol, setup.config, run)?;
-    line_with(alloc, setup.test, trace, members)
-}
-
-/// A run that didn't end with its trace as JSON: an object of how many choices were used and how many of these
-/// stalled, the programs, the condition's proposition and the trace, printed compact, and a line feed.
-///
-/// Errors: out of memory only.
-pub fn unended_json(
-    alloc: Global,
-    test: &Test,
-    used: usize,
-    stalled: usize,
-    trace: Value,
-) -> Result<String, NoMemory>
-    requires { has_float (view trace) ≡ false }
-    ensures { IfOk result (λ text. string_bytes text ≡ line_with test.now (view trace) (unfinished_members used stalled)) }
-{
-    let members = unfinished_members(alloc, used, stalled)?;
-    line_with(alloc, test, trace, members)
-}
-
-/// The members of a run, and with them the programs, the condition's proposition and the trace, as one line.
-fn line_with(
-    alloc: Global,
-    test: &Test,
-    trace: Value,
-    members: Map<String, Value>,
-) -> Result<String, NoMemory>
-    requires trace { has_float (view trace) ≡ false }
-    requires members { members_have_float (members_view members.entries) ≡ false }
-    ensures { IfOk result (λ text. string_bytes text ≡ line_with test.now (view trace) (members_view members.entries)) }
-{
-    let mut members = members;
+    let mut members = ending_members(alloc, setup, ending)?;
     put(&mut members, alloc, "trace", trace)?;
-    let proposition = proposition_value(alloc, test)?;
-    put(&mut members, alloc, "proposition", proposition)?;
-    let programs = programs_value(alloc, test)?;
-    put(&mut members, alloc, "programs", programs)?;
+    put_test(&mut members, alloc, setup.test)?;
     line_of(alloc, &Value::Object(members))
+}
+
+/// What the report of a run has, or the line of one that didn't end.
+fn ending_members(
+    alloc: Global,
+    setup: &Setup<'_>,
+    ending: &Ending,
+) -> Result<Map<String, Value>, NoMemory>
+    requires { FitsEnding setup.now.test.now ending.now }
+    ensures { IfOk result (λ members. members_view members.entries ≡ ending_members setup.now.test.now setup.now.protocol setup.now.config ending.now) }
+{
+    match ending {
+        Ending::Ended(run) => run_members(alloc, setup.test, setup.protocol, setup.config, run),
+        Ending::Unfinished { used, stalled } => unfinished_members(alloc, *used, *stalled),
+    }
+}
+
+/// Puts the programs of a test, and its condition's proposition.
+fn put_test(members: &mut Map<String, Value>, alloc: Global, test: &Test) -> Result<(), NoMemory>
+    ensures { OnOk result (members_view members.new.entries ≡ with_test test.now (members_view members.old.entries)) }
+{
+    let proposition = proposition_value(alloc, test)?;
+    put(members, alloc, "proposition", proposition)?;
+    let programs = programs_value(alloc, test)?;
+    put(members, alloc, "programs", programs)?;
+    Ok(())
 }

@@ -1,5 +1,5 @@
-use Rattle.trace_json.proofs.Vocabulary.{◌+◌, ◌<◌, ◌∙◌, [], length, map, drop, ap, arith, drop_more, program_value}
-use Rattle.trace_json.proofs.Listed.{listed}
+use Rattle.trace_json.proofs.Vocabulary.{◌+◌, ◌≤◌, ◌<◌, ◌∙◌, [], length, map, drop, ap, arith, drop_more, drop_all, program_value}
+use Rattle.trace_json.proofs.Listed.{listed, all-listed}
 use Rattle.trace_json.proofs.programs.programs_value.Goals as goal
 
 pub loop-core-preserved : goal.loop-core-preserved
@@ -10,3 +10,11 @@ loop-core-preserved c =
     let within : i < length xs = omega arith in
     listed c.loop-core.programs.items c.push.new.self.items _ _ (map value (drop (i + 1) xs)) (map value (drop i xs)) (map value xs)
     c.in_ok-push.ensures.items (c.in_ok-program_value.ensures ∙ ap value c.program.ensures.value) (ap (map value) (drop_more xs i [] within)) c.loop-core.invariant
+
+pub returns : goal.returns
+returns c =
+    let xs = c.args.test.now.programs in
+    let i = c.loop-core.core in
+    let past : length xs ≤ i = omega arith in
+    all-listed c.loop-core.programs (map (program_value c.args.test.now) (drop i xs)) (map (program_value c.args.test.now) xs)
+    (ap (map (program_value c.args.test.now)) (drop_all i xs past)) c.loop-core.invariant
