@@ -45,4 +45,4 @@ pub use Rattle.std.specs.Iterator.Adapters.{zip_first, zip_second}
 pub use Rattle.std.proofs.lemmas.List.{drop_all}
 pub use Rattle.serde_json.proofs.Views.{view-Array}
 pub use Rattle.serde_json.specs.Data.{array}
-pub use Rattle.tso_report.specs.inner.Json.{numbers_members}
+pub use Rattle.tso_report.specs.inner.Json.{numbers_members, with_run_parts}

@@ -10,7 +10,7 @@ ghost use Rattle.tso_report.specs.Shown.{shown_run, IsRunOf};
 ghost use Rattle.tso_report.specs.Report.{line};
 ghost use Rattle.tso_report.specs.Json.{counts_value, cache_value, choices_value, verdict_value, condition_value, machine_value};
 ghost use Rattle.tso_report.specs.Json.{memory_members, memory_value, order_value, registers_value, cores_value};
-ghost use Rattle.tso_report.specs.inner.Json.{numbers_members};
+ghost use Rattle.tso_report.specs.inner.Json.{numbers_members, run_part_value, with_run_parts};
 ghost use Rattle.tso_report.specs.Json.{run_members, unfinished_members, json_report, json_unfinished};
 
 use crate::report::quantifier_text;
@@ -92,41 +92,95 @@ pub fn run_members(
     requires { IsRunOf test.now (shown_run run.now) }
     ensures { IfOk result (λ members. members_view members.entries ≡ run_members test.now protocol config (shown_run run.now)) }
 {
+    let reported = Reported {
+        test,
+        protocol,
+        config,
+        run,
+    };
     let mut members = Map::new(alloc);
-    put_run(&mut members, alloc, test, protocol, config, run)?;
+    put_run_parts(&mut members, alloc, &reported, &RUN_PARTS)?;
     Ok(members)
 }
 
-fn put_run(
-    members: &mut Map<String, Value>,
-    alloc: Global,
-    test: &Test,
+/// What stands under a key of a run's report.
+#[derive(Clone, Copy)]
+pub(crate) enum RunPart {
+    /// The counts of each core's cache.
+    Cache,
+    /// How many choices were used, stalled and stood after the end.
+    Choices,
+    /// The condition, and whether it is true.
+    Condition,
+    /// How the machine is built.
+    Machine,
+    /// The words of the test's locations.
+    Memory,
+    /// The order in which memory saw the run.
+    Order,
+    /// The registers of each core.
+    Registers,
+    /// The test's name.
+    Test,
+}
+
+/// What a run's report has, by its keys.
+const RUN_PARTS: [(&str, RunPart); 8] = [
+    ("cache", RunPart::Cache),
+    ("choices", RunPart::Choices),
+    ("condition", RunPart::Condition),
+    ("machine", RunPart::Machine),
+    ("memory", RunPart::Memory),
+    ("order", RunPart::Order),
+    ("registers", RunPart::Registers),
+    ("test", RunPart::Test),
+];
+
+/// A run of a test that is reported, and the machine that made it.
+#[derive(Clone, Copy)]
+struct Reported<'a> {
+    test: &'a Test,
     protocol: ProtocolKind,
     config: Config,
-    run: &Run,
+    run: &'a Run,
+}
+
+/// Puts what stands under each of these keys.
+fn put_run_parts(
+    members: &mut Map<String, Value>,
+    alloc: Global,
+    reported: &Reported<'_>,
+    parts: &[(&str, RunPart)],
 ) -> Result<(), NoMemory>
-    requires run { IsRunOf test.now (shown_run run.now) }
-    requires empty { members.old.entries ≡ [] }
-    ensures { OnOk result (members_view members.new.entries ≡ run_members test.now protocol config (shown_run run.now)) }
+    requires run { IsRunOf reported.now.test.now (shown_run reported.now.run.now) }
+    ensures { OnOk result (members_view members.new.entries
+        ≡ with_run_parts reported.now.test.now reported.now.protocol reported.now.config (shown_run reported.now.run.now) parts.now (members_view members.old.entries)) }
 {
-    let left = &run.left;
-    let cache = cache_value(alloc, &left.counts)?;
-    put(members, alloc, "cache", cache)?;
-    let choices = choices_value(alloc, run.used, run.stalled, run.unused)?;
-    put(members, alloc, "choices", choices)?;
-    let condition = condition_value(alloc, test, run.holds)?;
-    put(members, alloc, "condition", condition)?;
-    let machine = machine_value(alloc, protocol, config)?;
-    put(members, alloc, "machine", machine)?;
-    let memory = memory_value(alloc, test, &left.state.memory)?;
-    put(members, alloc, "memory", memory)?;
-    let order = order_value(alloc, test, &left.execution.order)?;
-    put(members, alloc, "order", order)?;
-    let registers = cores_value(alloc, &left.state.registers)?;
-    put(members, alloc, "registers", registers)?;
-    let name = Value::try_from_str(alloc, test.name())?;
-    put(members, alloc, "test", name)?;
+    for (key, part) in parts {
+        let value = run_part_value(alloc, reported, *part)?;
+        put(members, alloc, key, value)?;
+    }
     Ok(())
+}
+
+fn run_part_value(alloc: Global, reported: &Reported<'_>, part: RunPart) -> Result<Value, NoMemory>
+    requires { IsRunOf reported.now.test.now (shown_run reported.now.run.now) }
+    ensures { IfOk result (λ value. view value
+        ≡ run_part_value reported.now.test.now reported.now.protocol reported.now.config (shown_run reported.now.run.now) part) }
+{
+    let test = reported.test;
+    let run = reported.run;
+    let left = &run.left;
+    match part {
+        RunPart::Cache => cache_value(alloc, &left.counts),
+        RunPart::Choices => choices_value(alloc, run.used, run.stalled, run.unused),
+        RunPart::Condition => condition_value(alloc, test, run.holds),
+        RunPart::Machine => machine_value(alloc, reported.protocol, reported.config),
+        RunPart::Memory => memory_value(alloc, test, &left.state.memory),
+        RunPart::Order => order_value(alloc, test, &left.execution.order),
+        RunPart::Registers => cores_value(alloc, &left.state.registers),
+        RunPart::Test => Ok(Value::try_from_str(alloc, test.name())?),
+    }
 }
 
 fn cache_value(alloc: Global, counts: &[Counts]) -> Result<Value, NoMemory>
