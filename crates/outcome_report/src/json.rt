@@ -11,7 +11,7 @@ ghost use Rattle.outcome_report.specs.Outcomes.{outcome_of};
 ghost use Rattle.outcome_report.specs.OutcomesJson.{key_of, value_members, state_value, states_value, observed_value, holds_in};
 ghost use Rattle.outcome_report.specs.OutcomesJson.{observation_value, outcomes_value, unfinished_outcomes_value, outcomes_json, unfinished_outcomes_json};
 ghost use Rattle.outcome_report.specs.inner.Shown.{AreNamesOf, IsOutcomeOf, kept_of, AreShown};
-ghost use Rattle.outcome_report.specs.inner.Written.{put_holds};
+ghost use Rattle.outcome_report.specs.inner.Written.{put_holds, with_found};
 
 use crate::counting::counts_of;
 use crate::outcomes::Outcomes;
@@ -61,16 +61,8 @@ pub fn unfinished_outcomes_json(
 fn unfinished_outcomes_value(alloc: Global, test: &Test, limit: usize) -> Result<Value, NoMemory>
     ensures { IfOk result (λ value. view value ≡ unfinished_outcomes_value test.now limit) }
 {
-    let name = Value::try_from_str(alloc, test.name())?;
-    let mut members = Map::new(alloc);
-    put(&mut members, alloc, "test", name)?;
-    put(
-        &mut members,
-        alloc,
-        "unfinished",
-        json!(in alloc; {"states": limit})?,
-    )?;
-    Ok(Value::Object(members))
+    let name = test.name();
+    Ok(json!(in alloc; {"test": name, "unfinished": {"states": limit}})?)
 }
 
 fn outcomes_value(
@@ -86,31 +78,32 @@ fn outcomes_value(
 {
     let mut members = Map::new(alloc);
     put(&mut members, alloc, "depth", Value::from(depth))?;
-    put(
-        &mut members,
-        alloc,
-        "observation",
-        observation_value(alloc, test, names, outcomes)?,
-    )?;
-    put(
-        &mut members,
-        alloc,
-        "states",
-        states_value(alloc, test, names, outcomes)?,
-    )?;
-    put(
-        &mut members,
-        alloc,
-        "test",
-        Value::try_from_str(alloc, test.name())?,
-    )?;
-    put(
-        &mut members,
-        alloc,
-        "verdict",
-        outcomes_verdict_value(alloc, test, is_met_in(test, names, outcomes))?,
-    )?;
+    put_found(&mut members, alloc, test, names, outcomes)?;
     Ok(Value::Object(members))
+}
+
+/// Puts the observation, the states, the test's name and the verdict.
+fn put_found(
+    members: &mut Map<String, Value>,
+    alloc: Global,
+    test: &Test,
+    names: &[Named],
+    outcomes: &Outcomes,
+) -> Result<(), NoMemory>
+    requires names { AreNamesOf test.now names.now }
+    requires shown { AreShown test.now names.now (kept_of outcomes.now.entries) }
+    ensures { OnOk result (members_view members.new.entries
+        ≡ with_found test.now names.now (values_of (kept_of outcomes.now.entries)) (members_view members.old.entries)) }
+{
+    let observation = observation_value(alloc, test, names, outcomes)?;
+    put(members, alloc, "observation", observation)?;
+    let states = states_value(alloc, test, names, outcomes)?;
+    put(members, alloc, "states", states)?;
+    let name = Value::try_from_str(alloc, test.name())?;
+    put(members, alloc, "test", name)?;
+    let verdict = outcomes_verdict_value(alloc, test, is_met_in(test, names, outcomes))?;
+    put(members, alloc, "verdict", verdict)?;
+    Ok(())
 }
 
 fn observation_value(
@@ -168,16 +161,12 @@ fn state_value(
     ensures { IfOk result (λ value. view value
         ≡ state_value test.now names.now values.now state.now.choices.items (holds_in test.now.condition (outcome_of state.now))) }
 {
-    let choices = Value::String(choices_text(alloc, &state.choices)?);
+    let shown = values_value(alloc, test, names, values)?;
     let mut members = Map::new(alloc);
-    put(
-        &mut members,
-        alloc,
-        "values",
-        values_value(alloc, test, names, values)?,
-    )?;
+    put(&mut members, alloc, "values", shown)?;
     put_holds(&mut members, alloc, test, state)?;
-    put(&mut members, alloc, "choices", choices)?;
+    let choices = choices_text(alloc, &state.choices)?;
+    put(&mut members, alloc, "choices", Value::String(choices))?;
     Ok(Value::Object(members))
 }
 

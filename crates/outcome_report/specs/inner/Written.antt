@@ -1,10 +1,11 @@
 -- What is written of the states that are kept: their values stand beside them, and aren't looked up again.
 use Rattle.std.specs.Prelude.{ℕ, Bool, List, [], ◌∷◌, ◌++◌, map, Option, Some, None, codes}
-use Rattle.serde_json.specs.Data.{Data, boolean, Members, put}
+use Rattle.serde_json.specs.Data.{Data, boolean, string, Members, put}
 use Rattle.tso_model.specs.Litmus.{Litmus}
 use Rattle.tso_report.specs.declared.named.Named.{Named}
-use Rattle.outcome_report.specs.Outcomes.{Outcome, state_line, by_line}
-use Rattle.outcome_report.specs.OutcomesJson.{state_value, holds_in}
+use Rattle.outcome_report.specs.Outcomes.{Outcome, state_line, by_line, is_met_in}
+use Rattle.outcome_report.specs.OutcomesJson.{state_value, holds_in, states_value, observation_value}
+use Rattle.outcome_report.specs.Verdict.{outcomes_verdict_value}
 
 -- both lines of each
 abbrev pub kept_lines : Litmus → List Named → List (List ℕ × Outcome) → List ℕ
@@ -19,3 +20,11 @@ kept_values t names kept = map (λ k. state_value t names k.0 k.1.choices (holds
 abbrev pub put_holds : Option Bool → Members → Members
 put_holds None members = members
 put_holds (Some holds) members = put (codes "holds") (boolean holds) members
+
+-- what was found, put among these members
+abbrev pub with_found : Litmus → List Named → List Outcome → Members → Members
+with_found t names outcomes members =
+    put (codes "verdict") (outcomes_verdict_value t.condition (is_met_in t.condition outcomes))
+    (put (codes "test") (string t.name)
+    (put (codes "states") (states_value t names outcomes)
+    (put (codes "observation") (observation_value t.condition outcomes) members)))
