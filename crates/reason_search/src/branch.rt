@@ -1,69 +1,12 @@
 //! A branch of the search: the answers on it, what follows from them, and a trail by which it is undone.
 
 use crate::edges::fill_rows;
+use crate::facts::{Answer, Edge, Fact, NO_EDGE, NO_FACT};
 use crate::numbers::{NONE, Numbers};
 use crate::problem::{Problem, Relations};
 use crate::rows::Rows;
 use crate::stack::Stack;
 use std::alloc::Global;
-
-/// An answer: what a read reads from, or that one write comes before another one.
-#[derive(Clone, Copy)]
-pub enum Answer {
-    Source(usize, usize),
-    Before(usize, usize),
-}
-
-/// An answer on the branch: how many edges there were before it, and whether it was tried, or follows.
-#[derive(Clone, Copy)]
-pub struct Fact {
-    pub answer: Answer,
-    pub tried: bool,
-    pub edges: usize,
-}
-
-/// What leads from one event to another one: a fact, from which it follows at once or, from a read to a write, by way of its source.
-#[derive(Clone, Copy)]
-pub struct Link {
-    pub from: usize,
-    pub to: usize,
-    pub fact: usize,
-    pub is_from_read: bool,
-}
-
-/// An edge that answers tell; `next` is another one that leaves the same event.
-#[derive(Clone, Copy)]
-pub struct Edge {
-    pub link: Link,
-    pub relations: Relations,
-    pub next: usize,
-}
-
-/// One event, and another one that comes after it.
-#[derive(Clone, Copy)]
-pub struct Order {
-    pub first: usize,
-    pub second: usize,
-}
-
-/// What stands where there is no fact.
-const NO_FACT: Fact = Fact {
-    answer: Answer::Before(NONE, NONE),
-    tried: true,
-    edges: 0,
-};
-
-/// What stands where there is no edge.
-const NO_EDGE: Edge = Edge {
-    link: Link {
-        from: NONE,
-        to: NONE,
-        fact: NONE,
-        is_from_read: false,
-    },
-    relations: Relations::Coherence,
-    next: NONE,
-};
 
 /// Whether a branch is closed, and why.
 #[derive(Clone, Copy)]
@@ -127,6 +70,9 @@ pub struct Branch {
     pub excluded: Stack<(usize, u32)>,
     /// One row: the events that are to be looked at.
     pub dirty: Rows,
+    /// Two rows for the read in hand: writes to its location that are known to come before it, or before its store part, and all
+    /// that are known to come before those.
+    pub earlier: Rows,
     pub claim_is_dirty: bool,
     pub conflict: Conflict,
     /// What closes the branch.
@@ -174,9 +120,11 @@ impl Branch {
         self.rows.word(self.before(relations, a), k)
     }
 
-    /// Where two events have their place in a table.
-    fn cell(&self, a: usize, b: usize) -> usize {
-        a.wrapping_mul(self.problem.size).wrapping_add(b)
+    /// Where an event and a write to its location have their place in a table.
+    fn cell(&self, a: usize, w: usize) -> usize {
+        let places = self.problem.most_writes.wrapping_add(1);
+        a.wrapping_mul(places)
+            .wrapping_add(self.problem.ranks.at(w))
     }
 
     /// The fact that says that one write is before another one.
@@ -221,10 +169,17 @@ impl Branch {
     }
 }
 
+/// How many places a table has for each event and each write to its location.
+fn cells_of(problem: &Problem) -> usize {
+    problem
+        .size
+        .wrapping_mul(problem.most_writes.wrapping_add(1))
+}
+
 /// Whether memory was refused for what a branch looks up.
 pub fn lacks_tables(branch: &Branch) -> bool {
     let size = branch.problem.size;
-    let cells = size.wrapping_mul(size);
+    let cells = cells_of(&branch.problem);
     branch.rows.lack(size.wrapping_mul(7))
         | branch.heads.lacks(size.wrapping_mul(3))
         | branch.source.lacks(size)
@@ -234,6 +189,7 @@ pub fn lacks_tables(branch: &Branch) -> bool {
         | branch.removed_facts.lacks(cells)
         | branch.removed_edges.lacks(cells)
         | branch.dirty.lack(1)
+        | branch.earlier.lack(2)
 }
 
 /// Marks an event as to be looked at.
@@ -257,7 +213,7 @@ pub fn look_at_readers(branch: &mut Branch, loc: usize) {
 /// A branch with no answer.
 pub fn make_branch(alloc: Global, problem: Problem) -> Branch {
     let size = problem.size;
-    let cells = size.wrapping_mul(size);
+    let cells = cells_of(&problem);
     let mut rows = Rows::new(alloc, size.wrapping_mul(7), size);
     fill_rows(&mut rows, &problem);
     let mut branch = Branch {
@@ -275,6 +231,7 @@ pub fn make_branch(alloc: Global, problem: Problem) -> Branch {
         removed_edges: Numbers::new(alloc, cells, NONE),
         excluded: Stack::new(alloc),
         dirty: Rows::new(alloc, 1, size),
+        earlier: Rows::new(alloc, 2, size),
         claim_is_dirty: true,
         conflict: Conflict::Open,
         clash: NONE,

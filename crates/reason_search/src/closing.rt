@@ -1,7 +1,8 @@
 //! The tree of a reason: a leaf, with questions above it where the definition wants answers that only follow.
 
-use crate::branch::{Branch, Order};
+use crate::branch::Branch;
 use crate::evidence::{Closing, reset, use_facts, visit, visit_three};
+use crate::facts::Order;
 use crate::growing::{Growth, add_cycle, add_leaf, add_question, put_branch};
 use crate::numbers::NONE;
 use crate::offers::{Desk, show_order};

@@ -1,8 +1,10 @@
 //! Edges that the program and answers tell, and what is before what by chains of them.
 
 use crate::branch::{
-    Branch, Conflict, Edge, Link, add_order, change_word, close, look_at, look_at_readers, put_head,
+    Branch, Conflict, add_order, change_word, close, look_at, look_at_readers, put_head,
 };
+use crate::facts::{Edge, Link};
+use crate::numbers::NONE;
 use crate::problem::{Problem, Relations};
 use crate::rows::{Rows, bit, lowest, rest};
 
@@ -23,21 +25,18 @@ fn word_of(branch: &Branch, ends: Ends, k: usize) -> u64 {
     branch.rows.word(ends.row, k) | own
 }
 
-/// Adds to a row all of these. Whether any is new.
-fn widen(branch: &mut Branch, row: usize, added: Ends) -> bool {
-    let mut changed = false;
+/// Adds to a row all of these.
+fn widen(branch: &mut Branch, row: usize, added: Ends) {
     for k in 0..branch.problem.width {
         let old = branch.rows.word(row, k);
         let new = old | word_of(branch, added, k);
         if new != old {
             change_word(branch, row, k, new);
-            changed = true;
         }
     }
-    changed
 }
 
-/// Widens the rows of some events, which stand from `first` on.
+/// Widens the rows of some events, which stand from `first` on. A row that has the number has the whole row that belongs to it.
 fn widen_each(branch: &mut Branch, some: Ends, first: usize, added: Ends) {
     for k in 0..branch.problem.width {
         let mut left = word_of(branch, some, k);
@@ -47,7 +46,9 @@ fn widen_each(branch: &mut Branch, some: Ends, first: usize, added: Ends) {
             }
             let x = lowest(k, left);
             left = rest(left);
-            if widen(branch, first.wrapping_add(x), added) {
+            let row = first.wrapping_add(x);
+            if !branch.rows.has(row, added.also) {
+                widen(branch, row, added);
                 look_at(branch, x);
             }
         }
@@ -118,16 +119,25 @@ pub fn put_before(branch: &mut Branch, a: usize, b: usize, tried: bool) -> bool 
 /// Writes to one location stand in coherence as they stand in their program.
 pub fn put_program_order(branch: &mut Branch) {
     for a in branch.problem.locations..branch.problem.size {
-        let event = branch.problem.event(a);
-        let row = branch.problem.row(Relations::OnLocation, a);
-        for b in a..branch.problem.size {
-            if event.writes
-                && branch.problem.is_write_to(event.location, b)
-                && branch.problem.program.has(row, b)
-            {
-                let _open = put_before(branch, a, b, false);
-            }
+        if branch.problem.event(a).writes {
+            put_before_later(branch, a);
         }
+    }
+}
+
+/// A write comes before those to its location that stand later in its program.
+fn put_before_later(branch: &mut Branch, a: usize) {
+    let loc = branch.problem.location(a);
+    let row = branch.problem.row(Relations::OnLocation, a);
+    let mut b = branch.problem.program.next(row, a);
+    for _event in a..branch.problem.size {
+        if b == NONE {
+            break;
+        }
+        if branch.problem.is_write_to(loc, b) {
+            let _open = put_before(branch, a, b, false);
+        }
+        b = branch.problem.program.next(row, b.wrapping_add(1));
     }
 }
 
@@ -137,7 +147,7 @@ pub fn fill_rows(rows: &mut Rows, problem: &Problem) {
     for row in 0..size.wrapping_mul(3) {
         rows.join(row, &problem.program, row);
     }
-    // What the program tells of coherence is closed.
+    // What the program tells of coherence is closed. Edges of the program lead to greater numbers.
     rows.close_over(0, size);
     rows.close_over(size, size);
     for relations in 0..3usize {

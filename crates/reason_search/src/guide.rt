@@ -1,16 +1,16 @@
 //! What a search proposes: nodes of a tree, from the root on, or the order of an execution. Where more cases are open than it
 //! proposed nodes for, each is looked at for itself.
 
-use crate::branch::{Branch, Fact, add_order};
+use crate::branch::{Branch, add_order};
 use crate::choosing::{Ask, choose};
 use crate::edges::put_before;
+use crate::facts::Fact;
 use crate::growing::{Proposal, leaves_of, next_node};
 use crate::hunting::{
     Find, Hunt, hunt_again, hunt_for, is_refused, lacks_memory, make_hunt, start_anew,
 };
 use crate::looking::{deduce, put_source};
 use crate::numbers::NONE;
-use crate::offers::Desk;
 use crate::ordering::make_order;
 use crate::problem::{Problem, make_problem};
 use crate::reasoning::{add_conflict, wrap};
@@ -73,18 +73,35 @@ pub fn make_guide(
     model: Model,
 ) -> Result<Guide, NoMemory> {
     let problem = make_problem(alloc, test, events, model)?;
-    let mut hunt = make_hunt(alloc, problem);
-    let mut proposal = Proposal::none(alloc);
-    let lacks = lacks_memory(&hunt);
-    let is_allowed = !lacks && run(&mut hunt, &mut proposal);
-    if lacks | is_refused(&hunt) | proposal.is_refused() {
-        return Err(NoMemory);
+    let mut guide = bare_guide(alloc, problem);
+    if search(&mut guide) {
+        Ok(guide)
+    } else {
+        Err(NoMemory)
     }
-    Ok(Guide {
-        hunt,
-        is_allowed,
-        proposal,
-    })
+}
+
+/// A guide that hasn't searched.
+fn bare_guide(alloc: Global, problem: Problem) -> Guide {
+    Guide {
+        hunt: make_hunt(alloc, problem),
+        is_allowed: false,
+        proposal: Proposal::none(alloc),
+    }
+}
+
+/// Searches. False where memory was refused.
+fn search(guide: &mut Guide) -> bool {
+    if lacks_memory(&guide.hunt) {
+        return false;
+    }
+    guide.is_allowed = run(&mut guide.hunt, &mut guide.proposal);
+    !is_memory_refused(guide)
+}
+
+/// Whether memory was refused.
+fn is_memory_refused(guide: &Guide) -> bool {
+    is_refused(&guide.hunt) | guide.proposal.is_refused()
 }
 
 /// The order that is proposed, if one is.
@@ -165,27 +182,27 @@ fn go_to_case(hunt: &mut Hunt, answers: &Answers) -> bool {
     put_answers(&mut hunt.branch, answers) && deduce(&mut hunt.branch)
 }
 
-/// The question that is asked next in an open case.
-fn question_of(branch: &Branch, desk: &Desk) -> Option<Node> {
-    match choose(branch, &desk.weights, 0) {
-        Ask::Source(r) => Some(Node::ReadsFrom(branch.problem.event(r).entry)),
+/// The node of a question, if there is one.
+fn question_of(problem: &Problem, ask: Ask) -> Option<Node> {
+    match ask {
+        Ask::Source(r) => Some(Node::ReadsFrom(problem.event(r).entry)),
         Ask::Order(a, b) => {
-            let first = branch.problem.event(a).entry;
-            Some(Node::ComesFirst(first, branch.problem.event(b).entry))
+            let first = problem.event(a).entry;
+            Some(Node::ComesFirst(first, problem.event(b).entry))
         }
         Ask::Nothing => None,
     }
 }
 
 /// The question that is asked next in a case; where the case is closed, a tree is proposed, and there is none.
-fn look_at_case(hunt: &mut Hunt, proposal: &mut Proposal, answers: &Answers) -> Option<Node> {
+fn look_at_case(hunt: &mut Hunt, proposal: &mut Proposal, answers: &Answers) -> Ask {
     if go_to_case(hunt, answers) {
-        return question_of(&hunt.branch, &hunt.desk);
+        return choose(&hunt.branch, &hunt.desk.weights, 0);
     }
     let tree = add_conflict(&hunt.branch, &mut hunt.desk);
     let root = wrap(&hunt.branch, &mut hunt.desk, 0, tree);
     proposal.propose(&mut hunt.desk.trees, root);
-    None
+    Ask::Nothing
 }
 
 /// The node that is proposed for a case, if one is: its nodes stand in the order in which a tree lists them.
@@ -194,20 +211,18 @@ fn look_at_case(hunt: &mut Hunt, proposal: &mut Proposal, answers: &Answers) -> 
 pub fn propose(
     alloc: Global,
     guide: &mut Guide,
-    _test: &Test,
     answers: &Answers,
 ) -> Result<Option<Node>, NoMemory> {
-    let Guide { hunt, proposal, .. } = guide;
-    if proposal.is_taken() {
-        let question = look_at_case(hunt, proposal, answers);
-        if is_refused(hunt) | proposal.is_refused() {
+    if guide.proposal.is_taken() {
+        let ask = look_at_case(&mut guide.hunt, &mut guide.proposal, answers);
+        if is_memory_refused(guide) {
             return Err(NoMemory);
         }
-        if question.is_some() {
-            return Ok(question);
+        if !matches!(ask, Ask::Nothing) {
+            return Ok(question_of(&guide.hunt.branch.problem, ask));
         }
     }
-    next_node(alloc, &hunt.branch.problem, proposal)
+    next_node(alloc, &guide.hunt.branch.problem, &mut guide.proposal)
 }
 
 /// Forgets what was proposed and isn't taken yet.

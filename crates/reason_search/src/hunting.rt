@@ -46,12 +46,9 @@ pub enum Find {
 /// How many facts a branch may have.
 fn most_facts(problem: &Problem) -> usize {
     let mut most = problem.size.wrapping_mul(2);
-    for a in problem.locations..problem.size {
-        for b in a..problem.size {
-            if problem.event(a).writes && problem.is_write_to(problem.location(a), b) {
-                most = most.wrapping_add(1);
-            }
-        }
+    for loc in 0..problem.locations {
+        let writes = problem.writes_to.count(loc);
+        most = most.wrapping_add(writes.wrapping_mul(writes));
     }
     most
 }

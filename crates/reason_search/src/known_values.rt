@@ -45,7 +45,6 @@ pub fn suppose_nothing(known: &mut KnownValues, limit: usize) {
     known.limit = limit;
     known.first = NONE;
     known.supposed.fill(NONE);
-    known.values.fill(NONE);
 }
 
 /// Supposes that a read has a source, or none.
@@ -89,16 +88,22 @@ fn find_value(branch: &Branch, known: &mut KnownValues, r: usize) -> bool {
     found != NONE
 }
 
-/// Finds values read by read. Whether any is new.
+/// Finds values of those reads that matter to what is asked, read by read. Whether any is new.
 fn run_round(branch: &Branch, known: &mut KnownValues) -> bool {
+    let relevant = &branch.problem.relevant;
     let mut changed = false;
-    for r in branch.problem.locations..branch.problem.size {
+    let mut r = relevant.next(0, branch.problem.locations);
+    for _read in 0..branch.problem.size {
+        if r == NONE {
+            break;
+        }
         changed |= find_value(branch, known, r);
+        r = relevant.next(0, r.wrapping_add(1));
     }
     changed
 }
 
-/// Finds the values.
+/// Finds the values of the reads that matter to what is asked: they hang on one another alone.
 pub fn run(branch: &Branch, known: &mut KnownValues) {
     known.values.fill(NONE);
     for _round in 0..branch.problem.size {
@@ -113,11 +118,17 @@ fn overwriting(branch: &Branch, known: &KnownValues, w: usize) -> usize {
     if known.first == w {
         return known.limit;
     }
-    for v in branch.problem.locations..branch.problem.size {
+    let loc = branch.problem.location(w);
+    let mut v = branch.problem.writes_to.next(loc, 0);
+    for _write in 0..branch.problem.size {
+        if v == NONE {
+            return NONE;
+        }
         let fact = branch.pair(w, v);
         if fact < known.limit {
             return fact;
         }
+        v = branch.problem.writes_to.next(loc, v.wrapping_add(1));
     }
     NONE
 }
@@ -134,13 +145,14 @@ fn write_can_be(branch: &Branch, known: &KnownValues, w: usize, demand: Demand) 
 
 /// Whether a location can have such a word at the end.
 fn word_can_be(branch: &Branch, known: &KnownValues, loc: usize, demand: Demand) -> bool {
-    let mut found = false;
-    for w in branch.problem.locations..branch.problem.size {
-        if branch.problem.is_write_to(loc, w) {
-            found |= write_can_be(branch, known, w, demand);
+    let mut w = branch.problem.writes_to.next(loc, 0);
+    for _write in 0..branch.problem.size {
+        if w == NONE || write_can_be(branch, known, w, demand) {
+            return w != NONE;
         }
+        w = branch.problem.writes_to.next(loc, w.wrapping_add(1));
     }
-    found
+    false
 }
 
 /// Whether a part can be so where it is known which of the parts behind it can be.
@@ -238,14 +250,14 @@ fn need_part(
     }
 }
 
-/// Adds the source from which a needed value comes. Whether there is such a one that wasn't added before.
+/// Adds the source from which a needed value comes. Whether there is one that wasn't added before.
 fn need_source(
     branch: &Branch,
     known: &mut KnownValues,
     evidence: &mut Evidence,
     r: usize,
 ) -> bool {
-    if !known.needed.has(0, r) || known.values.at(r) == NONE {
+    if known.values.at(r) == NONE {
         return false;
     }
     // Its value is told once, and forgotten.
@@ -263,8 +275,13 @@ fn need_source(
 /// Adds the sources from which needed values come, read by read. Whether any is new.
 fn need_round(branch: &Branch, known: &mut KnownValues, evidence: &mut Evidence) -> bool {
     let mut changed = false;
-    for r in branch.problem.locations..branch.problem.size {
+    let mut r = known.needed.next(0, 0);
+    for _read in 0..branch.problem.size {
+        if r == NONE {
+            break;
+        }
         changed |= need_source(branch, known, evidence, r);
+        r = known.needed.next(0, r.wrapping_add(1));
     }
     changed
 }

@@ -1,14 +1,15 @@
 //! What follows at a write, at a read and at a location, and all that follows in a branch.
 
 use crate::branch::{
-    Branch, Conflict, Link, add_reader, add_source, change_word, close, look_at, look_at_all,
+    Branch, Conflict, add_reader, add_source, change_word, close, look_at, look_at_all,
     look_at_readers, note_removed,
 };
 use crate::edges::{add_edge, add_edges, put_before};
+use crate::facts::Link;
 use crate::numbers::NONE;
 use crate::problem::Relations;
 use crate::rows::{bit, lowest, rest};
-use crate::wanted::{is_wrong_value, match_values, want_asked};
+use crate::wanted::{is_choosy, is_wrong_value, match_values, want_asked};
 use tso_model::Kind;
 
 /// Whether a read from this write is an edge of the global relations.
@@ -149,21 +150,34 @@ fn look_at_known(branch: &mut Branch, r: usize, s: usize) -> bool {
     match_values(branch, r, s)
 }
 
-/// Whether a write is known to come between a source and a read, or its store part.
-fn is_parted(branch: &Branch, r: usize, s: usize, own: usize) -> bool {
+/// Notes the writes to its location that are known to come before a read, or its store part.
+fn note_earlier(branch: &mut Branch, r: usize) {
     let loc = branch.problem.location(r);
+    let own = branch.problem.partner(r);
     for k in 0..branch.problem.width {
-        let later = branch.word_after(Relations::Coherence, s, k)
-            & branch.problem.writes_to.word(loc, k);
         let mut earlier = word_earlier(branch, r, k);
         if own != NONE {
             earlier |= branch.word_before(Relations::Coherence, own, k);
         }
-        if later & earlier != 0 {
-            return true;
-        }
+        let writes = branch.problem.writes_to.word(loc, k);
+        branch.earlier.put_word(0, k, earlier & writes);
     }
-    false
+}
+
+/// Notes the writes after which another one is known to come before a read, or its store part.
+fn note_parted(branch: &mut Branch, r: usize) {
+    note_earlier(branch, r);
+    branch.earlier.clear(1);
+    for _write in 0..branch.problem.size {
+        let w = branch.earlier.last(0);
+        if w == NONE {
+            break;
+        }
+        let before = branch.before(Relations::Coherence, w);
+        branch.earlier.join(1, &branch.rows, before);
+        branch.earlier.leave_out(0, &branch.rows, before);
+        branch.earlier.remove(0, w);
+    }
 }
 
 /// Whether a read is known to be before a write from which it would read.
@@ -176,13 +190,16 @@ pub fn is_before_source(branch: &Branch, relations: Relations, r: usize, s: usiz
     }
 }
 
-/// Whether a read can't have this source, for what is known of the order.
-fn is_impossible(branch: &Branch, r: usize, s: usize) -> bool {
-    let own = branch.problem.partner(r);
-    is_before_source(branch, Relations::OnLocation, r, s)
-        || is_before_source(branch, Relations::Global, r, s)
-        || is_parted(branch, r, s, own)
-        || own != NONE && is_read_by_another(branch, r, s)
+/// A word of what a read can't read from, since it is known to be before it.
+fn word_too_late(branch: &Branch, r: usize, k: usize) -> u64 {
+    let own = if branch.problem.sequential {
+        0
+    } else {
+        let core = usize::from(branch.problem.core(r));
+        branch.problem.events_of.word(core, k)
+    };
+    branch.word_after(Relations::OnLocation, r, k)
+        | branch.word_after(Relations::Global, r, k) & !own
 }
 
 /// Whether a locked instruction of another core reads from this write.
@@ -191,16 +208,33 @@ pub fn is_read_by_another(branch: &Branch, r: usize, s: usize) -> bool {
     other != NONE && other != r && branch.problem.core(other) != branch.problem.core(r)
 }
 
-/// Takes a source from a read.
-fn take_source(branch: &mut Branch, r: usize, s: usize) {
+/// Takes sources of a word from a read.
+fn take_sources(branch: &mut Branch, r: usize, k: usize, taken: u64) {
     let row = branch.candidates(r);
-    let bits = branch.rows.word(row, s / 64) & !bit(s);
-    change_word(branch, row, s / 64, bits);
-    note_removed(branch, r, s);
+    let bits = branch.rows.word(row, k) & !taken;
+    change_word(branch, row, k, bits);
+    let mut left = taken;
+    for _source in 0..64u8 {
+        if left == 0 {
+            break;
+        }
+        note_removed(branch, r, lowest(k, left));
+        left = rest(left);
+    }
 }
 
-/// Takes from a read those sources of a word that it can't have.
-fn take_sources(branch: &mut Branch, r: usize, k: usize) {
+/// Takes from a read those sources of a word that it can't have, for what is known of the order.
+fn take_by_order(branch: &mut Branch, r: usize, k: usize) {
+    let barred = word_too_late(branch, r, k) | branch.earlier.word(1, k);
+    let taken = branch.rows.word(branch.candidates(r), k) & barred;
+    if taken != 0 {
+        take_sources(branch, r, k, taken);
+    }
+}
+
+/// Takes from a read those sources of a word that it can't have for their values, or since another locked instruction reads them.
+fn take_one_by_one(branch: &mut Branch, r: usize, k: usize) {
+    let is_locked = branch.problem.partner(r) != NONE;
     let mut left = branch.rows.word(branch.candidates(r), k);
     for _source in 0..64u8 {
         if left == 0 {
@@ -208,17 +242,27 @@ fn take_sources(branch: &mut Branch, r: usize, k: usize) {
         }
         let s = lowest(k, left);
         left = rest(left);
-        if is_impossible(branch, r, s) || is_wrong_value(branch, r, s) {
-            take_source(branch, r, s);
+        if is_locked && is_read_by_another(branch, r, s) || is_wrong_value(branch, r, s) {
+            take_sources(branch, r, k, bit(s));
+        }
+    }
+}
+
+/// Takes from a read all sources that it can't have.
+fn take_all(branch: &mut Branch, r: usize) {
+    note_parted(branch, r);
+    let is_told_apart = branch.problem.partner(r) != NONE || is_choosy(branch, r);
+    for k in 0..branch.problem.width {
+        take_by_order(branch, r, k);
+        if is_told_apart {
+            take_one_by_one(branch, r, k);
         }
     }
 }
 
 /// What follows at a read whose source is open.
 fn look_at_open(branch: &mut Branch, r: usize) -> bool {
-    for k in 0..branch.problem.width {
-        take_sources(branch, r, k);
-    }
+    take_all(branch, r);
     let row = branch.candidates(r);
     match branch.rows.count(row) {
         0 => close(branch, Conflict::NoSource, r),
@@ -230,26 +274,32 @@ fn look_at_open(branch: &mut Branch, r: usize) -> bool {
     }
 }
 
-/// Whether a write can be the last one to its location.
-pub fn can_be_last(branch: &Branch, loc: usize, a: usize) -> bool {
-    branch.problem.is_write_to(loc, a)
-        && branch.rows.is_empty(branch.after(Relations::Coherence, a))
-        && !is_wrong_value(branch, loc, a)
+/// Whether a write to a location can be its last one.
+fn can_be_last(branch: &Branch, loc: usize, a: usize) -> bool {
+    branch.rows.is_empty(branch.after(Relations::Coherence, a)) && !is_wrong_value(branch, loc, a)
+}
+
+/// The next write to a location, from a number on, that can be its last one; `NONE` where there is none.
+pub fn next_last(branch: &Branch, loc: usize, from: usize) -> usize {
+    let mut a = branch.problem.writes_to.next(loc, from);
+    for _write in 0..branch.problem.size {
+        if a == NONE || can_be_last(branch, loc, a) {
+            return a;
+        }
+        a = branch.problem.writes_to.next(loc, a.wrapping_add(1));
+    }
+    NONE
 }
 
 /// The only write to a location that can be its last one; `NONE` where there are several or none.
 fn only_last(branch: &mut Branch, loc: usize) -> usize {
-    let mut only = NONE;
-    for a in branch.problem.locations..branch.problem.size {
-        if can_be_last(branch, loc, a) {
-            if only != NONE {
-                return NONE;
-            }
-            only = a;
-        }
-    }
+    let only = next_last(branch, loc, 0);
     if only == NONE {
         let _closed = close(branch, Conflict::False, loc);
+        return NONE;
+    }
+    if next_last(branch, loc, only.wrapping_add(1)) != NONE {
+        return NONE;
     }
     only
 }

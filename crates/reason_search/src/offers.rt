@@ -1,9 +1,10 @@
 //! The best reason for a source that a read can't have, and for an order that follows: of several the one that brings the fewest
 //! answers.
 
-use crate::branch::{Branch, Edge, Order};
+use crate::branch::Branch;
 use crate::evidence;
 use crate::evidence::{Closing, Evidence, make_evidence, need, reset, visit, visit_three, weigh};
+use crate::facts::{Edge, Order};
 use crate::falsity::Asked;
 use crate::growing::{Trees, are_refused, no_trees};
 use crate::known_values::{

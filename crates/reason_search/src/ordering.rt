@@ -6,7 +6,6 @@ use crate::problem::{Event, Relations};
 use crate::rows::{Rows, bit};
 use crate::stack::Stack;
 use crate::wanted::{low, written};
-use refutations::events::is_before;
 use std::alloc::Global;
 use tso_model::{Entry, Kind, NoMemory};
 
@@ -30,9 +29,10 @@ fn find_waits(branch: &Branch, placing: &mut Placing, a: usize) {
     let earlier = branch.before(Relations::Global, a);
     placing.left.add(0, a);
     placing.waits.join(a, &branch.rows, earlier);
-    for b in branch.problem.locations..branch.problem.size {
-        let y = branch.problem.event(b);
-        if (is_fence(&x) || is_fence(&y)) && is_before(&y.entry, &x.entry) {
+    let core = usize::from(x.entry.core.0);
+    // The events of a program stand side by side, in its order.
+    for b in branch.problem.events_of.next(core, 0)..a {
+        if is_fence(&x) || is_fence(&branch.problem.event(b)) {
             placing.waits.add(a, b);
         }
     }
@@ -68,10 +68,13 @@ fn place(branch: &Branch, placing: &mut Placing, a: usize) {
 
 /// Places an event if it waits for none; both parts of a locked instruction side by side.
 fn place_ready(branch: &Branch, placing: &mut Placing, a: usize) {
+    if !placing.left.has(0, a) {
+        return;
+    }
     let width = branch.problem.width;
     let event = branch.problem.event(a);
     let is_second = matches!(event.entry.kind, Kind::LW);
-    if !placing.left.has(0, a) || is_second || is_waiting(placing, width, a, NONE) {
+    if is_second || is_waiting(placing, width, a, NONE) {
         return;
     }
     if event.partner == NONE {

@@ -4,11 +4,12 @@
 ghost use Rattle.std.specs.Prelude.{◌<◌, length};
 
 use crate::claim::{Part, has_choice, mark_relevant, parts_of};
-use crate::numbers::NONE;
+use crate::numbers::{NONE, Numbers};
+use crate::program_order::add_program_order;
 use crate::rows::Rows;
 use crate::stack::Stack;
 use refutation_laws::Model;
-use refutations::events::{is_access, is_before, is_locked, is_read, is_write};
+use refutations::events::{is_read, is_write};
 use std::alloc::Global;
 use tso_model::{Action, Core, Entry, Kind, Loc, NoMemory, Operand, Test, Update};
 
@@ -31,6 +32,9 @@ pub struct Event {
     /// The other part of a locked instruction, which stands beside it; `NONE` for others.
     pub partner: usize,
 }
+
+/// How many cores a test has at most.
+const MOST_CORES: usize = 8;
 
 /// What stands where there is no event.
 const NO_EVENT: Event = Event {
@@ -68,14 +72,22 @@ pub struct Problem {
     terms: Stack<Term>,
     /// The writes to each location but the initial one.
     pub writes_to: Rows,
+    /// The most of them that a location has.
+    pub most_writes: usize,
+    /// For each of them its number among those to its location, from 1 on; 0 for initial ones.
+    pub ranks: Numbers,
     /// The reads of each location, and its initial write.
     pub readers_of: Rows,
+    /// The events of each core.
+    pub events_of: Rows,
     /// The edges of each of the relations that the program alone tells.
     pub program: Rows,
     /// What is asked.
     pub claim: Stack<Part>,
     /// Whether what is asked can be so in more ways than one.
     pub has_choice: bool,
+    /// One row: the reads on whose values hangs what writes write.
+    pub stored: Rows,
     /// One row: the locations of which something is asked, and the reads on whose values what is asked may hang.
     pub relevant: Rows,
 }
@@ -131,7 +143,8 @@ impl Problem {
         (relations as usize).wrapping_mul(self.size).wrapping_add(a)
     }
 
-    fn add_edge(&mut self, relations: Relations, a: usize, b: usize) {
+    /// Adds an edge that the program tells.
+    pub fn add_edge(&mut self, relations: Relations, a: usize, b: usize) {
         let row = self.row(relations, a);
         self.program.add(row, b);
     }
@@ -141,8 +154,11 @@ impl Problem {
             | self.terms.is_refused()
             | self.claim.is_refused()
             | self.writes_to.lack(self.locations)
+            | self.ranks.lacks(self.size)
             | self.readers_of.lack(self.locations)
+            | self.events_of.lack(MOST_CORES)
             | self.program.lack(self.size.wrapping_mul(3))
+            | self.stored.lack(1)
             | self.relevant.lack(1)
     }
 }
@@ -191,44 +207,16 @@ fn add_events(problem: &mut Problem, events: &[Entry]) {
     for entry in events {
         let i = problem.events.len();
         problem.events.push(event_of(i, *entry));
+        problem.events_of.add(usize::from(entry.core.0), i);
     }
 }
 
-fn is_fenced(events: &[Entry], x: &Entry, y: &Entry) -> bool {
-    for f in events {
-        if f.kind == Kind::F && is_before(x, f) && is_before(f, y) {
-            return true;
-        }
-    }
-    false
-}
-
-fn is_kept(events: &[Entry], sequential: bool, x: &Entry, y: &Entry) -> bool {
-    let passes = is_write(x) && is_read(y);
-    sequential || !passes || is_locked(x) || is_locked(y) || is_fenced(events, x, y)
-}
-
-/// Adds the edge between two events that program order tells, if it tells one.
-fn add_pair(problem: &mut Problem, events: &[Entry], a: usize, b: usize) {
-    let x = problem.event(a).entry;
-    let y = problem.event(b).entry;
-    if is_before(&x, &y) && is_access(&x) && is_access(&y) {
-        if x.loc.0 == y.loc.0 {
-            problem.add_edge(Relations::OnLocation, a, b);
-        }
-        if is_kept(events, problem.sequential, &x, &y) {
-            problem.add_edge(Relations::Global, a, b);
-        }
-    }
-}
-
-/// Adds the edges that program order tells.
-fn add_program_order(problem: &mut Problem, events: &[Entry]) {
-    for a in problem.locations..problem.size {
-        for b in problem.locations..problem.size {
-            add_pair(problem, events, a, b);
-        }
-    }
+/// Notes that an event writes to a location.
+fn add_write(problem: &mut Problem, loc: usize, a: usize) {
+    problem.writes_to.add(loc, a);
+    let writes = problem.writes_to.count(loc);
+    problem.ranks.put(a, writes);
+    problem.most_writes = problem.most_writes.max(writes);
 }
 
 /// Notes for each location what writes to it and what reads it. Its initial write is before all others.
@@ -237,7 +225,7 @@ fn add_accesses(problem: &mut Problem) {
         let event = problem.event(a);
         let loc = event.location;
         if event.writes {
-            problem.writes_to.add(loc, a);
+            add_write(problem, loc, a);
             problem.add_edge(Relations::OnLocation, loc, a);
             problem.add_edge(Relations::Global, loc, a);
             problem.add_edge(Relations::Coherence, loc, a);
@@ -321,6 +309,50 @@ fn run_cores(alloc: Global, problem: &mut Problem, test: &Test) -> Stack<Term> {
     finals
 }
 
+/// Notes the reads on whose values hangs what writes write.
+fn note_stored(problem: &mut Problem) {
+    for w in problem.locations..problem.size {
+        if problem.event(w).writes {
+            let term = problem.term(w);
+            problem.stored.add(0, term.first);
+            problem.stored.add(0, term.second);
+        }
+    }
+}
+
+/// A problem of so many locations and events that aren't noted yet.
+fn bare_problem(alloc: Global, locations: usize, events: usize, model: Model) -> Problem {
+    let size = locations.wrapping_add(events);
+    Problem {
+        size,
+        width: size / 64 + 1,
+        locations,
+        sequential: matches!(model, Model::Sequential),
+        events: Stack::new(alloc),
+        terms: Stack::new(alloc),
+        writes_to: Rows::new(alloc, locations, size),
+        most_writes: 0,
+        ranks: Numbers::new(alloc, size, 0),
+        readers_of: Rows::new(alloc, locations, size),
+        events_of: Rows::new(alloc, MOST_CORES, size),
+        program: Rows::new(alloc, size.wrapping_mul(3), size),
+        claim: Stack::new(alloc),
+        has_choice: false,
+        stored: Rows::new(alloc, 1, size),
+        relevant: Rows::new(alloc, 1, size),
+    }
+}
+
+/// Notes what writes write, and what is asked. False where memory was refused, for this or before.
+fn add_claim(alloc: Global, problem: &mut Problem, test: &Test) -> bool {
+    let finals = run_cores(alloc, problem, test);
+    note_stored(problem);
+    problem.claim = parts_of(alloc, problem, &finals, test);
+    problem.has_choice = has_choice(&problem.claim);
+    mark_relevant(problem);
+    !(problem.is_refused() | finals.is_refused())
+}
+
 /// What a search for a reason works on.
 ///
 /// Errors: out of memory only.
@@ -331,30 +363,13 @@ pub fn make_problem(
     model: Model,
 ) -> Result<Problem, NoMemory> {
     let locations = usize::from(test.locations());
-    let size = locations.wrapping_add(events.len());
-    let mut problem = Problem {
-        size,
-        width: size / 64 + 1,
-        locations,
-        sequential: matches!(model, Model::Sequential),
-        events: Stack::new(alloc),
-        terms: Stack::new(alloc),
-        writes_to: Rows::new(alloc, locations, size),
-        readers_of: Rows::new(alloc, locations, size),
-        program: Rows::new(alloc, size.wrapping_mul(3), size),
-        claim: Stack::new(alloc),
-        has_choice: false,
-        relevant: Rows::new(alloc, 1, size),
-    };
+    let mut problem = bare_problem(alloc, locations, events.len(), model);
     add_events(&mut problem, events);
     add_accesses(&mut problem);
-    add_program_order(&mut problem, events);
-    let finals = run_cores(alloc, &mut problem, test);
-    problem.claim = parts_of(alloc, &problem, &finals, test);
-    problem.has_choice = has_choice(&problem.claim);
-    mark_relevant(&mut problem);
-    if problem.is_refused() | finals.is_refused() {
-        return Err(NoMemory);
+    add_program_order(&mut problem);
+    if add_claim(alloc, &mut problem, test) {
+        Ok(problem)
+    } else {
+        Err(NoMemory)
     }
-    Ok(problem)
 }

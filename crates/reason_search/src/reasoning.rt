@@ -1,9 +1,10 @@
 //! Leaves and nodes for what a branch found closed: the shortest reason for each source that a read can't have, and for each order
 //! that follows.
 
-use crate::branch::{Answer, Branch, Conflict, Edge, Fact, Order};
+use crate::branch::{Branch, Conflict};
 use crate::closing::{add_best, add_best_source, ask_order};
 use crate::evidence::{is_found, use_facts};
+use crate::facts::{Answer, Edge, Fact, Order};
 use crate::falsity::add_false_tree;
 use crate::growing::{Growth, add_cycle, add_leaf, add_question, put_branch};
 use crate::known_values::suppose_nothing;

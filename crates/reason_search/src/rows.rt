@@ -15,10 +15,22 @@ pub fn bit(i: usize) -> u64 {
     1u64 << (i % 64)
 }
 
+/// The word of all numbers of its word that are below one.
+pub fn below(i: usize) -> u64 {
+    bit(i).wrapping_sub(1)
+}
+
 /// The lowest number of a word that isn't empty, where the word is the `k`-th of its row.
 pub fn lowest(k: usize, bits: u64) -> usize {
     k.wrapping_mul(64)
         .wrapping_add(bits.trailing_zeros() as usize)
+}
+
+/// The greatest number of a word that isn't empty, where the word is the `k`-th of its row.
+pub fn highest(k: usize, bits: u64) -> usize {
+    k.wrapping_mul(64)
+        .wrapping_add(63)
+        .wrapping_sub(bits.leading_zeros() as usize)
 }
 
 /// The word without its lowest number.
@@ -99,9 +111,35 @@ impl Rows {
         NONE
     }
 
+    /// The lowest number of a row from this one on, and `NONE` where it has none.
+    pub fn next(&self, row: usize, from: usize) -> usize {
+        let start = from / 64;
+        for k in start..self.width {
+            let all = self.word(row, k);
+            let bits = if k == start { all & !below(from) } else { all };
+            if bits != 0 {
+                return lowest(k, bits);
+            }
+        }
+        NONE
+    }
+
+    /// The greatest number of a row, and `NONE` where it has none.
+    pub fn last(&self, row: usize) -> usize {
+        let mut k = self.width;
+        for _word in 0..self.width {
+            k = k.wrapping_sub(1);
+            let bits = self.word(row, k);
+            if bits != 0 {
+                return highest(k, bits);
+            }
+        }
+        NONE
+    }
+
     /// Whether a row has no number.
     pub fn is_empty(&self, row: usize) -> bool {
-        self.count(row) == 0
+        self.first(row) == NONE
     }
 
     /// Makes a row empty.
@@ -118,25 +156,54 @@ impl Rows {
         }
     }
 
-    /// Adds to each of so many rows, from one on, what stands in the rows of its numbers.
+    /// Adds to each of so many rows, from one on, what stands in the rows of its numbers, which are all greater than its own.
     pub fn close_over(&mut self, first: usize, size: usize) {
-        for middle in 0..size {
-            for i in 0..size {
-                if self.has(first.wrapping_add(i), middle) {
-                    self.join_own(first.wrapping_add(i), first.wrapping_add(middle));
-                }
+        let mut i = size;
+        for _row in 0..size {
+            i = i.wrapping_sub(1);
+            self.close_one(first, first.wrapping_add(i));
+        }
+    }
+
+    /// Adds to a row what stands in the rows of its numbers, which have all that stands in the rows of theirs.
+    fn close_one(&mut self, first: usize, row: usize) {
+        let mut joined = NONE;
+        let mut i = self.next(row, 0);
+        for _number in 0..self.width.wrapping_mul(64) {
+            if i == NONE {
+                break;
             }
+            if joined == NONE || !self.has(joined, i) {
+                joined = first.wrapping_add(i);
+                self.join_own(row, joined);
+            }
+            i = self.next(row, i.wrapping_add(1));
         }
     }
 
     /// Adds to each of so many rows, from `into` on, the numbers of the rows from `first` on that have its number.
     pub fn turn_over(&mut self, first: usize, into: usize, size: usize) {
         for i in 0..size {
-            for j in 0..size {
-                if self.has(first.wrapping_add(i), j) {
-                    self.add(into.wrapping_add(j), i);
-                }
+            self.turn_one(first.wrapping_add(i), into, i);
+        }
+    }
+
+    /// Adds a number to each of some rows, from `into` on: those whose numbers stand in this row.
+    fn turn_one(&mut self, row: usize, into: usize, number: usize) {
+        let mut i = self.next(row, 0);
+        for _number in 0..self.width.wrapping_mul(64) {
+            if i == NONE {
+                break;
             }
+            self.add(into.wrapping_add(i), number);
+            i = self.next(row, i.wrapping_add(1));
+        }
+    }
+
+    /// Takes out of a row all of a row of others.
+    pub fn leave_out(&mut self, row: usize, others: &Rows, other: usize) {
+        for k in 0..self.width {
+            self.put_word(row, k, self.word(row, k) & !others.word(other, k));
         }
     }
 

@@ -41,6 +41,9 @@ fn difference(first: u32, second: usize) -> u32 {
 
 /// Marks what may have as its source a write whose value hangs on a read.
 fn look_at_dependents(branch: &mut Branch, r: usize) {
+    if !branch.problem.stored.has(0, r) {
+        return;
+    }
     for w in branch.problem.locations..branch.problem.size {
         let term = branch.problem.term(w);
         let event = branch.problem.event(w);
@@ -189,8 +192,16 @@ fn is_wrong(branch: &Branch, r: usize, value: usize) -> bool {
     branch.problem.has_choice && !parts_that_can_be(branch, r, value).has(0)
 }
 
+/// Whether there may be values that a read, or a location at the end, mustn't have.
+pub fn is_choosy(branch: &Branch, r: usize) -> bool {
+    branch.values.at(r) != NONE || branch.problem.has_choice || branch.excluded.len() != 0
+}
+
 /// Whether a write has a value that a read, or a location at the end, mustn't have.
 pub fn is_unlikely(branch: &Branch, r: usize, w: usize) -> bool {
+    if !is_choosy(branch, r) {
+        return false;
+    }
     let value = written(branch, w);
     value != NONE && is_wrong(branch, r, value)
 }

@@ -1,0 +1,62 @@
+//! What stands on a branch of the search: answers, and the edges that they tell.
+
+use crate::numbers::NONE;
+use crate::problem::Relations;
+
+/// An answer: what a read reads from, or that one write comes before another one.
+#[derive(Clone, Copy)]
+pub enum Answer {
+    Source(usize, usize),
+    Before(usize, usize),
+}
+
+/// An answer on the branch: how many edges there were before it, and whether it was tried, or follows.
+#[derive(Clone, Copy)]
+pub struct Fact {
+    pub answer: Answer,
+    pub tried: bool,
+    pub edges: usize,
+}
+
+/// What leads from one event to another one: a fact, from which it follows at once or, from a read to a write, by way of its source.
+#[derive(Clone, Copy)]
+pub struct Link {
+    pub from: usize,
+    pub to: usize,
+    pub fact: usize,
+    pub is_from_read: bool,
+}
+
+/// An edge that answers tell; `next` is another one that leaves the same event.
+#[derive(Clone, Copy)]
+pub struct Edge {
+    pub link: Link,
+    pub relations: Relations,
+    pub next: usize,
+}
+
+/// One event, and another one that comes after it.
+#[derive(Clone, Copy)]
+pub struct Order {
+    pub first: usize,
+    pub second: usize,
+}
+
+/// What stands where there is no fact.
+pub const NO_FACT: Fact = Fact {
+    answer: Answer::Before(NONE, NONE),
+    tried: true,
+    edges: 0,
+};
+
+/// What stands where there is no edge.
+pub const NO_EDGE: Edge = Edge {
+    link: Link {
+        from: NONE,
+        to: NONE,
+        fact: NONE,
+        is_from_read: false,
+    },
+    relations: Relations::Coherence,
+    next: NONE,
+};
