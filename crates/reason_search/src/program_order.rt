@@ -4,7 +4,7 @@ use crate::problem::{Problem, Relations};
 use refutations::events::{is_access, is_locked, is_read, is_write};
 use tso_model::Entry;
 
-/// Whether a store may not pass a load by itself, or one of the two is a part of a locked instruction.
+/// Whether the order of two accesses is kept with no fence between them: of all but a plain store and a later plain load.
 fn is_kept(x: &Entry, y: &Entry) -> bool {
     let passes = is_write(x) && is_read(y);
     !passes || is_locked(x) || is_locked(y)

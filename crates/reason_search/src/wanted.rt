@@ -135,6 +135,36 @@ fn parts_that_can_be(branch: &Branch, r: usize, value: usize) -> Parts {
     parts
 }
 
+/// The part beside the first one, either of which makes a part so; `NONE` for other parts.
+fn second_choice(branch: &Branch, i: usize) -> usize {
+    match branch.problem.part(i) {
+        Part::Either(second) => second,
+        _ => NONE,
+    }
+}
+
+/// Whether what is asked can be so, where a read, or a location at the end, is supposed to have a value. Where what is asked is one
+/// choice after the other, mostly one of the last of them tells it.
+fn can_be_asked(branch: &Branch, r: usize, value: usize) -> bool {
+    let mut parts = Parts::none();
+    let mut choice = 0usize;
+    let mut second = second_choice(branch, choice);
+    let mut i = branch.problem.claim.len();
+    for _part in 0..branch.problem.claim.len() {
+        i = i.wrapping_sub(1);
+        let can = part_can_be(branch, &parts, i, r, value);
+        if can && i == second {
+            return true;
+        }
+        if i == second {
+            choice = choice.wrapping_add(1);
+            second = second_choice(branch, choice);
+        }
+        parts.add(i, can);
+    }
+    parts.has(0)
+}
+
 /// A read, or a location at the end, has to be as demanded.
 fn want_demand(branch: &mut Branch, r: usize, demand: Demand) -> bool {
     if demand.truth {
@@ -189,7 +219,7 @@ fn is_wrong(branch: &Branch, r: usize, value: usize) -> bool {
     if known != NONE && known != value || is_excluded(branch, r, value) {
         return true;
     }
-    branch.problem.has_choice && !parts_that_can_be(branch, r, value).has(0)
+    branch.problem.has_choice && !can_be_asked(branch, r, value)
 }
 
 /// Whether there may be values that a read, or a location at the end, mustn't have.
