@@ -1,5 +1,5 @@
 -- States in which the test has ended, and choices that lead there.
-use Rattle.explorer.proofs.Vocabulary.{◌≡◌, ◌<◌, ℕ, ◌+◌, zero, suc, Bool, true, false, ◌==◌, List, [], ◌∷◌, length, map, drop, slice_index_or, if◌then◌else◌, arith, ap, sym, ◌∙◌, refl, length-set, nat_tests, slice_get-get_or, drop-at, and-left, and-right, Litmus, CoreState, State, idle, is_none_pending, program_of, core_of, step_of, drain_of, effect_of, chosen, after_choice, start, registers_in, is_done, all_done, has_ended, stall_count, resting, then_run, run_from, Instr, Entry, Choice, Step, Drain, LeadToEnd, core_of_processor, state_of_snapshot, LeadsBy, Processor, Snapshot, beyond}
+use Rattle.explorer.proofs.Vocabulary.{◌≡◌, ◌<◌, ℕ, ◌+◌, zero, suc, Bool, true, false, ◌==◌, List, [], ◌∷◌, length, map, drop, slice_index_or, if◌then◌else◌, arith, ap, sym, ◌∙◌, refl, length-set, nat_tests, slice_get-get_or, drop-at, and-left, and-right, Litmus, CoreState, State, idle, is_none_pending, program_of, core_of, step_of, drain_of, effect_of, chosen, after_choice, start, registers_in, is_done, all_done, has_ended, stall_count, resting, then_run, run_from, Instr, Entry, Choice, Step, Drain, LeadToEnd, core_of_processor, LeadsBy, Processor, beyond}
 use Rattle.explorer.proofs.Exchanging.{start-cores}
 use Rattle.explorer.proofs.Linking.{leads-cores}
 
@@ -96,11 +96,11 @@ pub length-map : (xs : List Processor) → length (map core_of_processor xs) ≡
 length-map [] = refl
 length-map (x ∷ xs) = ap suc (length-map xs)
 
-pub ended-same : (t : Litmus) (a b : Snapshot) → length a.cores.items ≡ length t.programs → length b.cores.items ≡ length t.programs → has_ended t (state_of_snapshot a) ≡ true → has_ended t (state_of_snapshot b) ≡ true
-    → registers_in (state_of_snapshot a) ≡ registers_in (state_of_snapshot b) → a.memory.items ≡ b.memory.items → state_of_snapshot a ≡ state_of_snapshot b
+pub ended-same : (t : Litmus) (a b : State) → length a.cores ≡ length t.programs → length b.cores ≡ length t.programs → has_ended t a ≡ true → has_ended t b ≡ true
+    → registers_in a ≡ registers_in b → a.memory ≡ b.memory → a ≡ b
 ended-same t a b n m p q r w =
-    let c = cores-same t.programs (state_of_snapshot a).cores (state_of_snapshot b).cores (length-map a.cores.items ∙ n) (length-map b.cores.items ∙ m) p q r in
-    ap (λ z. record { memory = z; cores = (state_of_snapshot a).cores }) w ∙ ap (λ z. record { memory = b.memory.items; cores = z }) c
+    let c = cores-same t.programs a.cores b.cores n m p q r in
+    ap (λ z. record { memory = z; cores = a.cores }) w ∙ ap (λ z. record { memory = b.memory; cores = z }) c
 
 -- the registers of the cores of a snapshot
 pub registers-map : (xs : List Processor) → map (λ c. c.registers) xs ≡ map (λ s. s.registers) (map core_of_processor xs)

@@ -7,6 +7,7 @@ pub mod Linking
 pub mod Mapping
 pub mod Planning
 pub mod Forgets
+pub mod ReadBack
 pub mod Searching
 pub mod Counting
 pub mod Ending

@@ -1,5 +1,5 @@
--- Links lead to their snapshots.
-use Rattle.explorer.proofs.Vocabulary.{◌≡◌, ◌<◌, ◌≤◌, ℕ, ◌+◌, zero, suc, Bool, true, false, List, [], ◌∷◌, ◌++◌, length, Some, slice_get, slice_index_or, if◌then◌else◌, inl, inr, arith, ap, sym, ◌∙◌, subst, refl, length-append, get_or, take, map, append_assoc, not, slice_get-get_or, map-append, take_more, list_any, insert_key, lt-or, Litmus, State, after_choice, start, effect_of, chosen, CoresExist, stall_count, Choice, state_after, state_of_snapshot, LeadsEagerly, forgotten, AreAlike, DeadRegistersChangeNothing, exchanged_by, AreOf, AreAllAlike, AlikeCoresAreExchangeable, LeadsBy, LeadsToForgotten, IsSettled, LeadByTurns, IsReachedByChoice, IsLinked, AreLinked, IsPath, GoBack, played, IsArranged, Turn, IsReachable, Snapshot, Link}
+-- Links lead to their states.
+use Rattle.explorer.proofs.Vocabulary.{◌≡◌, ◌<◌, ◌≤◌, ℕ, ◌+◌, zero, suc, Bool, true, false, List, [], ◌∷◌, ◌++◌, length, Some, slice_get, slice_index_or, if◌then◌else◌, inl, inr, arith, ap, sym, ◌∙◌, subst, refl, length-append, get_or, take, map, append_assoc, not, slice_get-get_or, map-append, take_more, list_any, insert_key, lt-or, Litmus, State, after_choice, start, effect_of, chosen, CoresExist, stall_count, Choice, state_after, state_of_packed, LeadsEagerly, forgotten, AreAlike, DeadRegistersChangeNothing, exchanged_by, AreOf, AreAllAlike, AlikeCoresAreExchangeable, LeadsBy, LeadsToForgotten, IsSettled, LeadByTurns, IsReachedByChoice, IsLinked, IsKeptState, HaveCores, AreLinked, IsPath, GoBack, played, IsArranged, Turn, IsReachable, Packed, Link}
 use Rattle.explorer.proofs.Exchanging.{leads-exchanged, of-alike, played-is}
 
 -- ---- places of a list
@@ -30,10 +30,13 @@ get-some [] i l = absurd (let z : ⊥ = omega (arith, l) in z)
 get-some (y ∷ xs) zero l = (y, refl)
 get-some (y ∷ xs) (suc i) l = get-some xs i (omega (arith, l))
 
-pub get-or : (xs : List Snapshot) (i : ℕ) (x d : Snapshot) → slice_get xs i ≡ Some x → slice_index_or xs i d ≡ x
+pub get-or : (xs : List Packed) (i : ℕ) (x d : Packed) → slice_get xs i ≡ Some x → slice_index_or xs i d ≡ x
 get-or [] i x d q = absurd (let z : ⊥ = cc in z)
 get-or (y ∷ xs) zero x d q = let z : y ≡ x = cc in z
 get-or (y ∷ xs) (suc i) x d q = get-or xs i x d q
+
+pub kept-at : (t : Litmus) (xs : List Packed) (i : ℕ) (x : Packed) → HaveCores t xs → slice_get xs i ≡ Some x → IsKeptState t x
+kept-at t xs i x h q = subst (λ z. IsKeptState t z) (get-or xs i x x q) (h i x (get-within xs i x q))
 
 pub get-one : {A : Type 0} (xs : List A) (i : ℕ) (x y : A) → slice_get xs i ≡ Some x → slice_get xs i ≡ Some y → x ≡ y
 get-one xs i x y p q = let z : x ≡ y = cc in z
@@ -81,13 +84,13 @@ leads-first all d t hidden more turns k =
 
 -- ---- links
 
-linked-grown : (d : ℕ) (t : Litmus) (hidden : List (List Bool)) (xs ys : List Snapshot) (i : ℕ) (s : Snapshot) (link : Link) → IsLinked d t hidden xs i s link → IsLinked d t hidden (xs ++ ys) i s link
+linked-grown : (d : ℕ) (t : Litmus) (hidden : List (List Bool)) (xs ys : List Packed) (i : ℕ) (s : Packed) (link : Link) → IsLinked d t hidden xs i s link → IsLinked d t hidden (xs ++ ys) i s link
 linked-grown d t hidden xs ys zero s link h = h
 linked-grown d t hidden xs ys (suc i) s link h = (h.0, h.1, get-left xs ys link.from h.0 h.2, h.3)
 
--- one snapshot more, reached from one that is there
-pub linked-more : (d : ℕ) (t : Litmus) (hidden : List (List Bool)) (xs : List Snapshot) (links : List Link) (r x : Snapshot) (link : Link) → AreLinked d t hidden xs links
-    → slice_get xs link.from ≡ Some r → LeadByTurns d t hidden (state_of_snapshot r) link.turns.items (state_of_snapshot x) → AreLinked d t hidden (xs ++ x ∷ []) (links ++ link ∷ [])
+-- one state more, reached from one that is there
+pub linked-more : (d : ℕ) (t : Litmus) (hidden : List (List Bool)) (xs : List Packed) (links : List Link) (r x : Packed) (link : Link) → AreLinked d t hidden xs links
+    → slice_get xs link.from ≡ Some r → LeadByTurns d t hidden (state_of_packed r) link.turns.items (state_of_packed x) → AreLinked d t hidden (xs ++ x ∷ []) (links ++ link ∷ [])
 linked-more d t hidden xs links r x link h at leads = record {
   count = let a = length-append xs (x ∷ []) in let b = length-append links (link ∷ []) in let n = h.count in omega (arith, a, b, n);
   each = λ i s l p q. elim (lt-or (length xs) i) [
@@ -106,7 +109,7 @@ linked-more d t hidden xs links r x link h at leads = record {
     new zero e = absurd (let l = within in let z : ⊥ = omega (arith, e, l) in z)
     new (suc i) e = (r, (let l = within in omega (arith, e, l)), get-left xs (x ∷ []) link.from r at, leads)
 
-    last : (i : ℕ) (s : Snapshot) (l : Link) → i ≡ length xs → x ≡ s → link ≡ l → IsLinked d t hidden (xs ++ x ∷ []) i s l
+    last : (i : ℕ) (s : Packed) (l : Link) → i ≡ length xs → x ≡ s → link ≡ l → IsLinked d t hidden (xs ++ x ∷ []) i s l
     last i s l e p q = subst (λ z. IsLinked d t hidden (xs ++ x ∷ []) i z l) p (subst (λ z. IsLinked d t hidden (xs ++ x ∷ []) i x z) q (new i e))
 
 not-true : (b : Bool) → not b ≡ true → b ≡ false
@@ -141,11 +144,11 @@ reached-is d t hidden pairs s acted settled forgot kept c before after none exch
       kept_is = is;
     }
 
-module _ (eq : Snapshot → Snapshot → Bool) (d : ℕ) (t : Litmus) (hidden : List (List Bool)) (old new : List Snapshot) (x : Snapshot) (links : List Link) (added : Bool)
+module _ (eq : Packed → Packed → Bool) (d : ℕ) (t : Litmus) (hidden : List (List Bool)) (old new : List Packed) (x : Packed) (links : List Link) (added : Bool)
     (keys : new ≡ insert_key eq old x) (is : added ≡ not (list_any (eq x) old)) (h : AreLinked d t hidden old links) where
   -- it was new
-  pub linked-new : (r : Snapshot) (link : Link) (more : List Link) → added ≡ true → more ≡ links ++ link ∷ [] → slice_get old link.from ≡ Some r
-      → LeadByTurns d t hidden (state_of_snapshot r) link.turns.items (state_of_snapshot x) → AreLinked d t hidden new more
+  pub linked-new : (r : Packed) (link : Link) (more : List Link) → added ≡ true → more ≡ links ++ link ∷ [] → slice_get old link.from ≡ Some r
+      → LeadByTurns d t hidden (state_of_packed r) link.turns.items (state_of_packed x) → AreLinked d t hidden new more
   linked-new r link more q m at leads =
       let last : new ≡ old ++ x ∷ [] = keys ∙ ap (λ b. if b then old else old ++ x ∷ []) (not-true (list_any (eq x) old) (sym is ∙ q)) in
       subst (λ z. AreLinked d t hidden z more) (sym last) (subst (λ z. AreLinked d t hidden (old ++ x ∷ []) z) (sym m) (linked-more d t hidden old links r x link h at leads))
@@ -157,19 +160,19 @@ module _ (eq : Snapshot → Snapshot → Bool) (d : ℕ) (t : Litmus) (hidden : 
       subst (λ z. AreLinked d t hidden z links) (sym same) h
 
 -- the first alone
-pub linked-first : (d : ℕ) (t : Litmus) (hidden : List (List Bool)) (x : Snapshot) (link : Link) → LeadByTurns d t hidden (start t) link.turns.items (state_of_snapshot x)
+pub linked-first : (d : ℕ) (t : Litmus) (hidden : List (List Bool)) (x : Packed) (link : Link) → LeadByTurns d t hidden (start t) link.turns.items (state_of_packed x)
     → AreLinked d t hidden (x ∷ []) (link ∷ [])
 linked-first d t hidden x link leads = record { count = refl; each = each }
   where
-    each : (i : ℕ) (s : Snapshot) (l : Link) → slice_get (x ∷ []) i ≡ Some s → slice_get (link ∷ []) i ≡ Some l → IsLinked d t hidden (x ∷ []) i s l
+    each : (i : ℕ) (s : Packed) (l : Link) → slice_get (x ∷ []) i ≡ Some s → slice_get (link ∷ []) i ≡ Some l → IsLinked d t hidden (x ∷ []) i s l
     each zero s l p q = let a : x ≡ s = cc in let b : link ≡ l = cc in
-        subst (λ z. LeadByTurns d t hidden (start t) z.turns.items (state_of_snapshot s)) b
-        (subst (λ z. LeadByTurns d t hidden (start t) link.turns.items (state_of_snapshot z)) a leads)
+        subst (λ z. LeadByTurns d t hidden (start t) z.turns.items (state_of_packed s)) b
+        (subst (λ z. LeadByTurns d t hidden (start t) link.turns.items (state_of_packed z)) a leads)
     each (suc i) s l p q = absurd (let z : ⊥ = cc in z)
 
 -- ---- paths
 
-pub goes-back : (d : ℕ) (t : Litmus) (hidden : List (List Bool)) (xs : List Snapshot) (links : List Link) → AreLinked d t hidden xs links → GoBack links
+pub goes-back : (d : ℕ) (t : Litmus) (hidden : List (List Bool)) (xs : List Packed) (links : List Link) → AreLinked d t hidden xs links → GoBack links
 goes-back d t hidden xs links h i link q =
     let n = h.count in
     let m = get-within links (suc i) link q in
@@ -184,8 +187,8 @@ pub path-first : AlikeCoresAreExchangeable → (links : List Link) (at : ℕ) (d
     → cs ≡ played (slice_index_or links at d).turns.items was → was ≡ [] → IsPath links at cs
 path-first all links zero d cs was p l e w = λ depth t hidden xs s h q.
     let link : Link = slice_index_or links 0 d in
-    subst (λ z. LeadsToForgotten depth t hidden (start t) z (state_of_snapshot s)) (sym (e ∙ ap (played link.turns.items) w))
-    (leads-first all depth t hidden (state_of_snapshot s) link.turns.items (h.each 0 s link q (slice_get-get_or links 0 d l)))
+    subst (λ z. LeadsToForgotten depth t hidden (start t) z (state_of_packed s)) (sym (e ∙ ap (played link.turns.items) w))
+    (leads-first all depth t hidden (state_of_packed s) link.turns.items (h.each 0 s link q (slice_get-get_or links 0 d l)))
 path-first all links (suc i) d cs was p l e w = absurd (let z : ⊥ = omega (arith, p) in z)
 
 pub path-on : DeadRegistersChangeNothing → AlikeCoresAreExchangeable → (links : List Link) (at : ℕ) (c d : Link) (cs was before : List Choice) → 0 < at → at < length links
@@ -197,28 +200,28 @@ path-on law all links (suc i) c d cs was before p l h e w = λ depth t hidden xs
     let r = linked.each (suc i) s link q g in
     let same : link ≡ slice_index_or links (suc i) d = get-one links (suc i) _ _ g (slice_get-get_or links (suc i) d l) in
     let is : cs ≡ played link.turns.items before = e ∙ ap (λ z. played z.turns.items was) (sym same) ∙ ap (played link.turns.items) w in
-    subst (λ z. LeadsToForgotten depth t hidden (start t) z (state_of_snapshot s)) (sym is)
-    (leads-join law all depth t hidden (state_of_snapshot r.0) (state_of_snapshot s) before link.turns.items (h depth t hidden xs r.0 linked r.2) r.3)
+    subst (λ z. LeadsToForgotten depth t hidden (start t) z (state_of_packed s)) (sym is)
+    (leads-join law all depth t hidden (state_of_packed r.0) (state_of_packed s) before link.turns.items (h depth t hidden xs r.0 linked r.2) r.3)
 
--- each snapshot can be reached, but for its dead registers
-pub linked-leads : DeadRegistersChangeNothing → AlikeCoresAreExchangeable → (d : ℕ) (t : Litmus) (hidden : List (List Bool)) (xs : List Snapshot) (links : List Link) → AreLinked d t hidden xs links
-    → (n i : ℕ) (s : Snapshot) → i < n → slice_get xs i ≡ Some s → (cs : List Choice) × LeadsToForgotten d t hidden (start t) cs (state_of_snapshot s)
+-- each kept state can be reached, but for its dead registers
+pub linked-leads : DeadRegistersChangeNothing → AlikeCoresAreExchangeable → (d : ℕ) (t : Litmus) (hidden : List (List Bool)) (xs : List Packed) (links : List Link) → AreLinked d t hidden xs links
+    → (n i : ℕ) (s : Packed) → i < n → slice_get xs i ≡ Some s → (cs : List Choice) × LeadsToForgotten d t hidden (start t) cs (state_of_packed s)
 linked-leads law all d t hidden xs links h zero i s l at = absurd (let z : ⊥ = omega (arith, l) in z)
 linked-leads law all d t hidden xs links h (suc n) zero s l at =
     let m = get-within xs 0 s at in let k = h.count in
     let r = get-some links 0 (omega (arith, m, k)) in
-    (played r.0.turns.items [], leads-first all d t hidden (state_of_snapshot s) r.0.turns.items (h.each 0 s r.0 at r.1))
+    (played r.0.turns.items [], leads-first all d t hidden (state_of_packed s) r.0.turns.items (h.each 0 s r.0 at r.1))
 linked-leads law all d t hidden xs links h (suc n) (suc i) s l at =
     let m = get-within xs (suc i) s at in let k = h.count in
     let r = get-some links (suc i) (omega (arith, m, k)) in
     let w = h.each (suc i) s r.0 at r.1 in
     let before = w.1 in
     let p = linked-leads law all d t hidden xs links h n r.0.from w.0 (omega (arith, l, before)) w.2 in
-    (played r.0.turns.items p.0, leads-join law all d t hidden (state_of_snapshot w.0) (state_of_snapshot s) p.0 r.0.turns.items p.1 w.3)
+    (played r.0.turns.items p.0, leads-join law all d t hidden (state_of_packed w.0) (state_of_packed s) p.0 r.0.turns.items p.1 w.3)
 
 -- a kept state has its dead registers forgotten
-pub linked-forgotten : DeadRegistersChangeNothing → AlikeCoresAreExchangeable → (d : ℕ) (t : Litmus) (hidden : List (List Bool)) (xs : List Snapshot) (links : List Link) → AreLinked d t hidden xs links
-    → (i : ℕ) (s : Snapshot) → slice_get xs i ≡ Some s → forgotten t hidden (state_of_snapshot s) ≡ state_of_snapshot s
+pub linked-forgotten : DeadRegistersChangeNothing → AlikeCoresAreExchangeable → (d : ℕ) (t : Litmus) (hidden : List (List Bool)) (xs : List Packed) (links : List Link) → AreLinked d t hidden xs links
+    → (i : ℕ) (s : Packed) → slice_get xs i ≡ Some s → forgotten t hidden (state_of_packed s) ≡ state_of_packed s
 linked-forgotten law all d t hidden xs links h i s at =
     let w = linked-leads law all d t hidden xs links h (suc i) i s (omega arith) at in
     ap (forgotten t hidden) (sym w.1.kept_is) ∙ law.twice t hidden w.1.last ∙ w.1.kept_is

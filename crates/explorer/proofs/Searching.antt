@@ -1,7 +1,7 @@
 -- What the search keeps, step by step.
-use Rattle.explorer.proofs.Vocabulary.{◌≡◌, ◌<◌, ◌≤◌, ℕ, ◌+◌, zero, suc, Bool, true, false, List, [], ◌∷◌, ◌++◌, length, map, Some, slice_get, slice_index_or, if◌then◌else◌, inl, inr, arith, ap, sym, ◌∙◌, subst, refl, append_assoc, length-append, drop, ◌==◌, ◌||◌, list_any, insert_key, lt-or, append-nil, Litmus, State, after_choice, effect_of, start, chosen, step, drain, Entry, Choice, Step, Drain, stall_count, IsEager, LeadsEagerly, IsAmongStates, IsCovered, IsExpanded, IsExpandedEnough, ArePartlyClosed, ChoiceSet, has_choice, IsStubborn, ArePicksVisited, forgotten, exchanged_by, state_of_snapshot, LeadsBy, IsSettled, Grows, HaveCores, IsFirstKept, IsReachedByChoice, IsVisited, AreVisited, AreLinked, Snapshot, Link, Made, Exchanged}
+use Rattle.explorer.proofs.Vocabulary.{◌≡◌, ◌<◌, ◌≤◌, ℕ, ◌+◌, zero, suc, Bool, true, false, List, [], ◌∷◌, ◌++◌, length, map, Some, slice_get, slice_index_or, if◌then◌else◌, inl, inr, arith, ap, sym, ◌∙◌, subst, refl, append_assoc, length-append, drop, ◌==◌, ◌||◌, list_any, insert_key, lt-or, append-nil, Litmus, State, after_choice, effect_of, start, chosen, step, drain, Entry, Choice, Step, Drain, stall_count, IsEager, LeadsEagerly, IsAmongStates, IsCovered, IsExpanded, IsExpandedEnough, ArePartlyClosed, ChoiceSet, has_choice, IsStubborn, ArePicksVisited, forgotten, exchanged_by, state_bytes, state_of_bytes, state_of_packed, state_of_snapshot, core_of_processor, length-map, LeadsBy, IsSettled, Grows, IsKeptState, HaveCores, IsCurrent, IsFirstKept, IsReachedByChoice, IsVisited, AreVisited, AreLinked, Snapshot, Packed, Link, Made, Exchanged}
 use Rattle.explorer.proofs.Exchanging.{none-alike}
-use Rattle.explorer.proofs.Linking.{get-left, get-back, leads-append, linked-first}
+use Rattle.explorer.proofs.Linking.{get-left, get-back, get-within, get-one, kept-at, leads-append, linked-first}
 
 -- ---- eager choices, one more
 
@@ -21,32 +21,32 @@ settled-more d t old now new before after more c h e l k n m = record {
 pub settled-none : (d : ℕ) (t : Litmus) (s : State) (cs : List Choice) → IsSettled d t s s cs cs
 settled-none d t s cs = record { made = []; eager = refl; leads = refl; appended = sym (append-nil cs) }
 
--- ---- snapshots that grow
+-- ---- states that grow
 
-pub grows-none : (xs : List Snapshot) → Grows xs xs
+pub grows-none : (xs : List Packed) → Grows xs xs
 grows-none xs = ([], sym (append-nil xs))
 
-pub grows-on : (xs ys zs : List Snapshot) → Grows xs ys → Grows ys zs → Grows xs zs
+pub grows-on : (xs ys zs : List Packed) → Grows xs ys → Grows ys zs → Grows xs zs
 grows-on xs ys zs g h = (g.0 ++ h.0, h.1 ∙ ap (λ z. z ++ h.0) g.1 ∙ append_assoc xs g.0 h.0)
 
-pub grows-insert : (eq : Snapshot → Snapshot → Bool) (xs : List Snapshot) (x : Snapshot) → Grows xs (insert_key eq xs x)
+pub grows-insert : (eq : Packed → Packed → Bool) (xs : List Packed) (x : Packed) → Grows xs (insert_key eq xs x)
 grows-insert eq xs x = go (list_any (eq x) xs)
   where
     go : (b : Bool) → Grows xs (if b then xs else xs ++ x ∷ [])
     go true = grows-none xs
     go false = (x ∷ [], refl)
 
-map-append : (xs ys : List Snapshot) → map state_of_snapshot (xs ++ ys) ≡ map state_of_snapshot xs ++ map state_of_snapshot ys
+map-append : (xs ys : List Packed) → map state_of_packed (xs ++ ys) ≡ map state_of_packed xs ++ map state_of_packed ys
 map-append [] ys = refl
-map-append (x ∷ xs) ys = ap (λ z. state_of_snapshot x ∷ z) (map-append xs ys)
+map-append (x ∷ xs) ys = ap (λ z. state_of_packed x ∷ z) (map-append xs ys)
 
-pub get-grown : (xs ys : List Snapshot) (i : ℕ) (x : Snapshot) → Grows xs ys → slice_get xs i ≡ Some x → slice_get ys i ≡ Some x
+pub get-grown : (xs ys : List Packed) (i : ℕ) (x : Packed) → Grows xs ys → slice_get xs i ≡ Some x → slice_get ys i ≡ Some x
 get-grown xs ys i x g q = subst (λ z. slice_get z i ≡ Some x) (sym g.1) (get-left xs g.0 i x q)
 
-pub in-grown : (xs ys : List Snapshot) (s : State) → Grows xs ys → IsAmongStates (map state_of_snapshot xs) s → IsAmongStates (map state_of_snapshot ys) s
-in-grown xs ys s g m = (m.0, subst (λ z. slice_get z m.0 ≡ Some s) (sym (ap (map state_of_snapshot) g.1 ∙ map-append xs g.0)) (get-left (map state_of_snapshot xs) (map state_of_snapshot g.0) m.0 s m.1))
+pub in-grown : (xs ys : List Packed) (s : State) → Grows xs ys → IsAmongStates (map state_of_packed xs) s → IsAmongStates (map state_of_packed ys) s
+in-grown xs ys s g m = (m.0, subst (λ z. slice_get z m.0 ≡ Some s) (sym (ap (map state_of_packed) g.1 ∙ map-append xs g.0)) (get-left (map state_of_packed xs) (map state_of_packed g.0) m.0 s m.1))
 
-pub covered-grown : (d : ℕ) (t : Litmus) (hidden : List (List Bool)) (pairs : List (ℕ × ℕ)) (xs ys : List Snapshot) (s : State) → Grows xs ys → IsCovered d t hidden pairs (map state_of_snapshot xs) s → IsCovered d t hidden pairs (map state_of_snapshot ys) s
+pub covered-grown : (d : ℕ) (t : Litmus) (hidden : List (List Bool)) (pairs : List (ℕ × ℕ)) (xs ys : List Packed) (s : State) → Grows xs ys → IsCovered d t hidden pairs (map state_of_packed xs) s → IsCovered d t hidden pairs (map state_of_packed ys) s
 covered-grown d t hidden pairs xs ys s g h = record {
   eager = h.eager;
   last = h.last;
@@ -56,37 +56,37 @@ covered-grown d t hidden pairs xs ys s g h = record {
   among = in-grown xs ys (exchanged_by h.exchanges (forgotten t hidden h.last)) g h.among;
 }
 
-pub visited-grown : (d : ℕ) (t : Litmus) (hidden : List (List Bool)) (pairs : List (ℕ × ℕ)) (xs ys : List Snapshot) (s : State) (c : Choice) → Grows xs ys → IsVisited d t hidden pairs xs s c → IsVisited d t hidden pairs ys s c
+pub visited-grown : (d : ℕ) (t : Litmus) (hidden : List (List Bool)) (pairs : List (ℕ × ℕ)) (xs ys : List Packed) (s : State) (c : Choice) → Grows xs ys → IsVisited d t hidden pairs xs s c → IsVisited d t hidden pairs ys s c
 visited-grown d t hidden pairs xs ys s c g (inl q) = inl q
 visited-grown d t hidden pairs xs ys s c g (inr h) = inr (covered-grown d t hidden pairs xs ys (after_choice t d s c) g h)
 
-pub expanded-grown : (d : ℕ) (t : Litmus) (hidden : List (List Bool)) (pairs : List (ℕ × ℕ)) (xs ys : List Snapshot) (s : State) → Grows xs ys → IsExpandedEnough d t hidden pairs (map state_of_snapshot xs) s → IsExpandedEnough d t hidden pairs (map state_of_snapshot ys) s
+pub expanded-grown : (d : ℕ) (t : Litmus) (hidden : List (List Bool)) (pairs : List (ℕ × ℕ)) (xs ys : List Packed) (s : State) → Grows xs ys → IsExpandedEnough d t hidden pairs (map state_of_packed xs) s → IsExpandedEnough d t hidden pairs (map state_of_packed ys) s
 expanded-grown d t hidden pairs xs ys s g (inl h) = inl (λ c l. visited-grown d t hidden pairs xs ys s c g (h c l))
 expanded-grown d t hidden pairs xs ys s g (inr h) =
     inr (record { set = h.set; stubborn = h.stubborn; each = λ c q l. visited-grown d t hidden pairs xs ys s c g (h.each c q l) })
 
--- ---- the place of a snapshot
+-- ---- the place of a state
 
-map-get : (xs : List Snapshot) (i : ℕ) (x : Snapshot) → slice_get xs i ≡ Some x → slice_get (map state_of_snapshot xs) i ≡ Some (state_of_snapshot x)
+map-get : (xs : List Packed) (i : ℕ) (x : Packed) → slice_get xs i ≡ Some x → slice_get (map state_of_packed xs) i ≡ Some (state_of_packed x)
 map-get [] i x q = absurd (let z : ⊥ = cc in z)
-map-get (y ∷ xs) zero x q = let z : y ≡ x = cc in ap (λ w. Some (state_of_snapshot w)) z
+map-get (y ∷ xs) zero x q = let z : y ≡ x = cc in ap (λ w. Some (state_of_packed w)) z
 map-get (y ∷ xs) (suc i) x q = map-get xs i x q
 
-pub in-list : (xs : List Snapshot) (i : ℕ) (x : Snapshot) → slice_get xs i ≡ Some x → IsAmongStates (map state_of_snapshot xs) (state_of_snapshot x)
+pub in-list : (xs : List Packed) (i : ℕ) (x : Packed) → slice_get xs i ≡ Some x → IsAmongStates (map state_of_packed xs) (state_of_packed x)
 in-list xs i x q = (i, map-get xs i x q)
 
-pub from-list : (xs : List Snapshot) (i : ℕ) (s : State) → slice_get (map state_of_snapshot xs) i ≡ Some s → (x : Snapshot) × (slice_get xs i ≡ Some x) × (state_of_snapshot x ≡ s) × (i < length xs)
+pub from-list : (xs : List Packed) (i : ℕ) (s : State) → slice_get (map state_of_packed xs) i ≡ Some s → (x : Packed) × (slice_get xs i ≡ Some x) × (state_of_packed x ≡ s) × (i < length xs)
 from-list [] i s q = absurd (let z : ⊥ = cc in z)
-from-list (y ∷ xs) zero s q = (y, refl, (let z : state_of_snapshot y ≡ s = cc in z), omega arith)
+from-list (y ∷ xs) zero s q = (y, refl, (let z : state_of_packed y ≡ s = cc in z), omega arith)
 from-list (y ∷ xs) (suc i) s q = let r = from-list xs i s q in (r.0, r.1, r.2, let l = r.3 in omega (arith, l))
 
 -- ---- cores
 
-pub cores-insert : (eq : Snapshot → Snapshot → Bool) (t : Litmus) (xs : List Snapshot) (x : Snapshot) → HaveCores t xs → length x.cores.items ≡ length t.programs → HaveCores t (insert_key eq xs x)
+pub cores-insert : (eq : Packed → Packed → Bool) (t : Litmus) (xs : List Packed) (x : Packed) → HaveCores t xs → IsKeptState t x → HaveCores t (insert_key eq xs x)
 cores-insert eq t xs x h q = go (list_any (eq x) xs)
   where
-    last : (xs : List Snapshot) → ((k : ℕ) (d : Snapshot) → k < length xs → length (slice_index_or xs k d).cores.items ≡ length t.programs)
-        → (k : ℕ) (d : Snapshot) → k < length (xs ++ x ∷ []) → length (slice_index_or (xs ++ x ∷ []) k d).cores.items ≡ length t.programs
+    last : (xs : List Packed) → ((k : ℕ) (d : Packed) → k < length xs → IsKeptState t (slice_index_or xs k d))
+        → (k : ℕ) (d : Packed) → k < length (xs ++ x ∷ []) → IsKeptState t (slice_index_or (xs ++ x ∷ []) k d)
     last [] h zero d l = q
     last [] h (suc k) d l = absurd (let z : ⊥ = omega (arith, l) in z)
     last (y ∷ xs) h zero d l = h zero d (omega arith)
@@ -96,87 +96,115 @@ cores-insert eq t xs x h q = go (list_any (eq x) xs)
     go true = h
     go false = last xs h
 
+-- what was packed is kept
+pub packed-is : (x room : Packed) (s : Snapshot) → x.bytes.items ≡ room.bytes.items → state_of_packed room ≡ state_of_snapshot s → state_of_packed x ≡ state_of_snapshot s
+packed-is x room s e q = ap state_of_bytes e ∙ q
+
+pub packed-kept : (t : Litmus) (x room : Packed) (s : Snapshot) → x.bytes.items ≡ room.bytes.items → room.bytes.items ≡ state_bytes (state_of_snapshot s) → state_of_packed room ≡ state_of_snapshot s
+    → length s.cores.items ≡ length t.programs → IsKeptState t x
+packed-kept t x room s e b q n = record {
+  cores = ap (λ z. length z.cores) (packed-is x room s e q) ∙ length-map s.cores.items core_of_processor ∙ n;
+  packed = e ∙ b ∙ ap state_bytes (sym (packed-is x room s e q));
+}
+
+-- ---- the state that is gone through
+
+pub current-within : (xs : List Packed) (at : ℕ) (s : Snapshot) → IsCurrent xs at s → at < length xs
+current-within xs at s c = get-within xs at c.kept c.stands
+
+pub current-cores : (t : Litmus) (xs : List Packed) (at : ℕ) (s : Snapshot) → HaveCores t xs → IsCurrent xs at s → length s.cores.items ≡ length t.programs
+current-cores t xs at s h c = sym (length-map s.cores.items core_of_processor) ∙ ap (λ z. length z.cores) (sym c.state_is) ∙ (kept-at t xs at c.kept h c.stands).cores
+
+pub current-grown : (xs ys : List Packed) (at : ℕ) (s u : Snapshot) → Grows xs ys → u ≡ s → IsCurrent xs at s → IsCurrent ys at u
+current-grown xs ys at s u g e c = record { kept = c.kept; stands = get-grown xs ys at c.kept g c.stands; state_is = c.state_is ∙ ap state_of_snapshot (sym e) }
+
+pub current-here : (xs : List Packed) (at : ℕ) (x : Packed) (s : Snapshot) → slice_get xs at ≡ Some x → state_of_snapshot s ≡ state_of_packed x → IsCurrent xs at s
+current-here xs at x s q e = record { kept = x; stands = q; state_is = sym e }
+
+pub current-is : (xs : List Packed) (at : ℕ) (s : Snapshot) (x : Packed) → IsCurrent xs at s → slice_get xs at ≡ Some x → state_of_snapshot s ≡ state_of_packed x
+current-is xs at s x c q = sym c.state_is ∙ ap state_of_packed (get-one xs at c.kept x c.stands q)
+
 -- ---- all choices of a state
 
-pub expands : (d : ℕ) (t : Litmus) (hidden : List (List Bool)) (pairs : List (ℕ × ℕ)) (xs : List Snapshot) (s : State) → ((k : ℕ) → k < length t.programs → AreVisited d t hidden pairs xs s k) → IsExpanded d t hidden pairs (map state_of_snapshot xs) s
+pub expands : (d : ℕ) (t : Litmus) (hidden : List (List Bool)) (pairs : List (ℕ × ℕ)) (xs : List Packed) (s : State) → ((k : ℕ) → k < length t.programs → AreVisited d t hidden pairs xs s k) → IsExpanded d t hidden pairs (map state_of_packed xs) s
 expands d t hidden pairs xs s h (Step k) l = (h k.0 l).0
 expands d t hidden pairs xs s h (Drain k) l = (h k.0 l).1
 
 -- and those of a stubborn set
-pub expands-partly : (d : ℕ) (t : Litmus) (hidden : List (List Bool)) (pairs : List (ℕ × ℕ)) (xs : List Snapshot) (s : State) (set : ChoiceSet) → IsStubborn d t set s
-    → ((k : ℕ) → k < length t.programs → ArePicksVisited d t hidden pairs xs s set k) → IsExpandedEnough d t hidden pairs (map state_of_snapshot xs) s
+pub expands-partly : (d : ℕ) (t : Litmus) (hidden : List (List Bool)) (pairs : List (ℕ × ℕ)) (xs : List Packed) (s : State) (set : ChoiceSet) → IsStubborn d t set s
+    → ((k : ℕ) → k < length t.programs → ArePicksVisited d t hidden pairs xs s set k) → IsExpandedEnough d t hidden pairs (map state_of_packed xs) s
 expands-partly d t hidden pairs xs s set st h = inr (record { set = set; stubborn = st; each = each })
   where
     each : (c : Choice) → has_choice set c ≡ true → chosen c < length t.programs → IsVisited d t hidden pairs xs s c
     each (Step k) q l = (h k.0 l).0 q
     each (Drain k) q l = (h k.0 l).1 q
 
-pub picks-grown : (d : ℕ) (t : Litmus) (hidden : List (List Bool)) (pairs : List (ℕ × ℕ)) (xs ys : List Snapshot) (s : State) (set : ChoiceSet) (k : ℕ) → Grows xs ys
+pub picks-grown : (d : ℕ) (t : Litmus) (hidden : List (List Bool)) (pairs : List (ℕ × ℕ)) (xs ys : List Packed) (s : State) (set : ChoiceSet) (k : ℕ) → Grows xs ys
     → ArePicksVisited d t hidden pairs xs s set k → ArePicksVisited d t hidden pairs ys s set k
 picks-grown d t hidden pairs xs ys s set k g h =
     (λ q. visited-grown d t hidden pairs xs ys s (step k) g (h.0 q), λ q. visited-grown d t hidden pairs xs ys s (drain k) g (h.1 q))
 
-pub picks-more : (d : ℕ) (t : Litmus) (hidden : List (List Bool)) (pairs : List (ℕ × ℕ)) (xs ys : List Snapshot) (s : State) (set : ChoiceSet) (n : ℕ) → Grows xs ys
+pub picks-more : (d : ℕ) (t : Litmus) (hidden : List (List Bool)) (pairs : List (ℕ × ℕ)) (xs ys : List Packed) (s : State) (set : ChoiceSet) (n : ℕ) → Grows xs ys
     → ((k : ℕ) → k < n → ArePicksVisited d t hidden pairs xs s set k) → ArePicksVisited d t hidden pairs ys s set n → (k : ℕ) → k < n + 1 → ArePicksVisited d t hidden pairs ys s set k
 picks-more d t hidden pairs xs ys s set n g before now k l = elim (lt-or n k) [
   | inl m ↦ picks-grown d t hidden pairs xs ys s set k g (before k m)
   | inr m ↦ let q : n ≡ k = omega (arith, l, m) in subst (λ z. ArePicksVisited d t hidden pairs ys s set z) q now
 ]
 
-pub closes : (d : ℕ) (t : Litmus) (hidden : List (List Bool)) (pairs : List (ℕ × ℕ)) (xs : List Snapshot) (n : ℕ) → length xs ≤ n → IsCovered d t hidden pairs (map state_of_snapshot xs) (start t)
-    → ((i : ℕ) (x : Snapshot) → i < n → slice_get xs i ≡ Some x → IsExpandedEnough d t hidden pairs (map state_of_snapshot xs) (state_of_snapshot x)) → ArePartlyClosed d t hidden pairs (map state_of_snapshot xs)
+pub closes : (d : ℕ) (t : Litmus) (hidden : List (List Bool)) (pairs : List (ℕ × ℕ)) (xs : List Packed) (n : ℕ) → length xs ≤ n → IsCovered d t hidden pairs (map state_of_packed xs) (start t)
+    → ((i : ℕ) (x : Packed) → i < n → slice_get xs i ≡ Some x → IsExpandedEnough d t hidden pairs (map state_of_packed xs) (state_of_packed x)) → ArePartlyClosed d t hidden pairs (map state_of_packed xs)
 closes d t hidden pairs xs n l first each = record {
   first = first;
   each = λ s m.
       let r = from-list xs m.0 s m.1 in
       let k = r.3 in
-      subst (λ z. IsExpandedEnough d t hidden pairs (map state_of_snapshot xs) z) r.2 (each m.0 r.0 (omega (arith, l, k)) r.1);
+      subst (λ z. IsExpandedEnough d t hidden pairs (map state_of_packed xs) z) r.2 (each m.0 r.0 (omega (arith, l, k)) r.1);
 }
 
-pub grown-within : (xs ys : List Snapshot) (i : ℕ) → Grows xs ys → i < length xs → i < length ys
+pub grown-within : (xs ys : List Packed) (i : ℕ) → Grows xs ys → i < length xs → i < length ys
 grown-within xs ys i g l = let q = ap length g.1 in let n = length-append xs g.0 in omega (arith, q, n, l)
 
 -- one core more is visited
-pub visited-more : (d : ℕ) (t : Litmus) (hidden : List (List Bool)) (pairs : List (ℕ × ℕ)) (xs ys : List Snapshot) (s : State) (n : ℕ) → Grows xs ys
+pub visited-more : (d : ℕ) (t : Litmus) (hidden : List (List Bool)) (pairs : List (ℕ × ℕ)) (xs ys : List Packed) (s : State) (n : ℕ) → Grows xs ys
     → ((k : ℕ) → k < n → AreVisited d t hidden pairs xs s k) → AreVisited d t hidden pairs ys s n → (k : ℕ) → k < n + 1 → AreVisited d t hidden pairs ys s k
 visited-more d t hidden pairs xs ys s n g before now k l = elim (lt-or n k) [
   | inl m ↦ let r = before k m in (visited-grown d t hidden pairs xs ys s (step k) g r.0, visited-grown d t hidden pairs xs ys s (drain k) g r.1)
   | inr m ↦ let q : n ≡ k = omega (arith, l, m) in subst (λ z. AreVisited d t hidden pairs ys s z) q now
 ]
 
--- one snapshot more is expanded
-pub expanded-more : (d : ℕ) (t : Litmus) (hidden : List (List Bool)) (pairs : List (ℕ × ℕ)) (xs ys : List Snapshot) (n : ℕ) → n < length xs → Grows xs ys
-    → ((i : ℕ) (x : Snapshot) → i < n → slice_get xs i ≡ Some x → IsExpandedEnough d t hidden pairs (map state_of_snapshot xs) (state_of_snapshot x))
-    → ((x : Snapshot) → slice_get xs n ≡ Some x → IsExpandedEnough d t hidden pairs (map state_of_snapshot ys) (state_of_snapshot x))
-    → (i : ℕ) (x : Snapshot) → i < n + 1 → slice_get ys i ≡ Some x → IsExpandedEnough d t hidden pairs (map state_of_snapshot ys) (state_of_snapshot x)
+-- one state more is expanded
+pub expanded-more : (d : ℕ) (t : Litmus) (hidden : List (List Bool)) (pairs : List (ℕ × ℕ)) (xs ys : List Packed) (n : ℕ) → n < length xs → Grows xs ys
+    → ((i : ℕ) (x : Packed) → i < n → slice_get xs i ≡ Some x → IsExpandedEnough d t hidden pairs (map state_of_packed xs) (state_of_packed x))
+    → ((x : Packed) → slice_get xs n ≡ Some x → IsExpandedEnough d t hidden pairs (map state_of_packed ys) (state_of_packed x))
+    → (i : ℕ) (x : Packed) → i < n + 1 → slice_get ys i ≡ Some x → IsExpandedEnough d t hidden pairs (map state_of_packed ys) (state_of_packed x)
 expanded-more d t hidden pairs xs ys n within g before now i x l q =
     let m : i < length xs = omega (arith, l, within) in
     let old : slice_get xs i ≡ Some x = get-back xs g.0 i x m (subst (λ z. slice_get z i ≡ Some x) g.1 q) in
     elim (lt-or n i) [
-      | inl k ↦ expanded-grown d t hidden pairs xs ys (state_of_snapshot x) g (before i x k old)
+      | inl k ↦ expanded-grown d t hidden pairs xs ys (state_of_packed x) g (before i x k old)
       | inr k ↦ let e : i ≡ n = omega (arith, l, k) in now x (subst (λ z. slice_get xs z ≡ Some x) e old)
     ]
 
--- a set that has an equal snapshot has the state
-pub among : (eq : Snapshot → Snapshot → Bool) → ((a b : Snapshot) → eq a b ≡ true → state_of_snapshot a ≡ state_of_snapshot b)
-    → (xs : List Snapshot) (x : Snapshot) → list_any (eq x) xs ≡ true → IsAmongStates (map state_of_snapshot xs) (state_of_snapshot x)
+-- a set that has an equal one has the state
+pub among : (eq : Packed → Packed → Bool) → ((a b : Packed) → eq a b ≡ true → state_of_packed a ≡ state_of_packed b)
+    → (xs : List Packed) (x : Packed) → list_any (eq x) xs ≡ true → IsAmongStates (map state_of_packed xs) (state_of_packed x)
 among eq sound [] x q = absurd (let z : ⊥ = cc in z)
 among eq sound (y ∷ ys) x q = go (eq x y) refl (λ r. among eq sound ys x r) q
   where
-    go : (b : Bool) → eq x y ≡ b → (list_any (eq x) ys ≡ true → IsAmongStates (map state_of_snapshot ys) (state_of_snapshot x)) → (b || list_any (eq x) ys) ≡ true → IsAmongStates (map state_of_snapshot (y ∷ ys)) (state_of_snapshot x)
+    go : (b : Bool) → eq x y ≡ b → (list_any (eq x) ys ≡ true → IsAmongStates (map state_of_packed ys) (state_of_packed x)) → (b || list_any (eq x) ys) ≡ true → IsAmongStates (map state_of_packed (y ∷ ys)) (state_of_packed x)
     go true e later r = (0, ap Some (sym (sound x y e)))
     go false e later r = let m = later r in (suc m.0, m.1)
 
 -- what a choice leads to is covered where it is in the set
-pub visits : (d : ℕ) (t : Litmus) (hidden : List (List Bool)) (pairs : List (ℕ × ℕ)) (keys : List Snapshot) (s kept : State) (c : Choice) (choices : List Choice) (exchanges : List (ℕ × ℕ))
-    → IsReachedByChoice d t hidden pairs s c choices exchanges kept → IsAmongStates (map state_of_snapshot keys) kept → IsVisited d t hidden pairs keys s c
+pub visits : (d : ℕ) (t : Litmus) (hidden : List (List Bool)) (pairs : List (ℕ × ℕ)) (keys : List Packed) (s kept : State) (c : Choice) (choices : List Choice) (exchanges : List (ℕ × ℕ))
+    → IsReachedByChoice d t hidden pairs s c choices exchanges kept → IsAmongStates (map state_of_packed keys) kept → IsVisited d t hidden pairs keys s c
 visits d t hidden pairs keys s kept c choices exchanges h m = inr (record {
   eager = h.later;
   last = h.last;
   leads = h.eager;
   exchanges = exchanges;
   of_pairs = h.of_pairs;
-  among = subst (IsAmongStates (map state_of_snapshot keys)) (sym h.kept_is) m;
+  among = subst (IsAmongStates (map state_of_packed keys)) (sym h.kept_is) m;
 })
 
 -- the first of a list
@@ -184,15 +212,12 @@ pub first-is : (xs : List Entry) (x : Entry) → (length xs == 0) ≡ false → 
 first-is [] x q e = absurd (let z : ⊥ = cc in z)
 first-is (y ∷ xs) x q e = ap (λ z. z ∷ xs) (sym e)
 
-pub same-some : (x y : Snapshot) → Some x ≡ Some y → x ≡ y
-same-some x y q = let z : x ≡ y = cc in z
-
--- the first snapshot alone
-module _ (d : ℕ) (t : Litmus) (hidden : List (List Bool)) (x : Snapshot) (choices : List Choice) (es : List (ℕ × ℕ)) (h : IsFirstKept d t hidden choices es (state_of_snapshot x)) where
+-- the first state alone
+module _ (d : ℕ) (t : Litmus) (hidden : List (List Bool)) (x : Packed) (choices : List Choice) (es : List (ℕ × ℕ)) (h : IsFirstKept d t hidden choices es (state_of_packed x)) where
   leads-first : LeadsBy d t (start t) choices h.last
   leads-first = subst (λ z. LeadsBy d t (start t) z h.last) (sym h.settled.appended) h.settled.leads
 
-  pub first-linked : (new : List Snapshot) → new ≡ x ∷ [] → (links : List Link) (link : Link) → link.turns.items ≡ map Made choices ++ map Exchanged es → links ≡ link ∷ [] → AreLinked d t hidden new links
+  pub first-linked : (new : List Packed) → new ≡ x ∷ [] → (links : List Link) (link : Link) → link.turns.items ≡ map Made choices ++ map Exchanged es → links ≡ link ∷ [] → AreLinked d t hidden new links
   first-linked new alone links link a m =
       subst (λ z. AreLinked d t hidden z links) (sym alone)
       (subst (λ z. AreLinked d t hidden (x ∷ []) z) (sym m) (linked-first d t hidden x link (record {
@@ -207,19 +232,19 @@ module _ (d : ℕ) (t : Litmus) (hidden : List (List Bool)) (x : Snapshot) (choi
         };
       })))
 
-  pub first-covered : (pairs : List (ℕ × ℕ)) (new : List Snapshot) → new ≡ x ∷ [] → IsCovered d t hidden pairs (map state_of_snapshot new) (start t)
+  pub first-covered : (pairs : List (ℕ × ℕ)) (new : List Packed) → new ≡ x ∷ [] → IsCovered d t hidden pairs (map state_of_packed new) (start t)
   first-covered pairs new alone = record {
     eager = h.settled.made;
     last = h.last;
     leads = h.settled.eager;
     exchanges = [];
     of_pairs = tt;
-    among = subst (λ z. IsAmongStates (map state_of_snapshot z) (forgotten t hidden h.last)) (sym alone) (0, ap Some h.kept_is);
+    among = subst (λ z. IsAmongStates (map state_of_packed z) (forgotten t hidden h.last)) (sym alone) (0, ap Some h.kept_is);
   }
 
-pub first-cores : (t : Litmus) (x : Snapshot) (new : List Snapshot) → new ≡ x ∷ [] → length x.cores.items ≡ length t.programs → HaveCores t new
+pub first-cores : (t : Litmus) (x : Packed) (new : List Packed) → new ≡ x ∷ [] → IsKeptState t x → HaveCores t new
 first-cores t x new alone q = subst (λ z. HaveCores t z) (sym alone) only
   where
-    only : (k : ℕ) (d : Snapshot) → k < length (x ∷ []) → length (slice_index_or (x ∷ []) k d).cores.items ≡ length t.programs
+    only : (k : ℕ) (d : Packed) → k < length (x ∷ []) → IsKeptState t (slice_index_or (x ∷ []) k d)
     only zero d l = q
     only (suc k) d l = absurd (let z : ⊥ = omega (arith, l) in z)

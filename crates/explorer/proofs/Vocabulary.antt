@@ -25,8 +25,10 @@ pub use Rattle.tso_model.specs.Runs.{stall_count, CoresExist, is_done, all_done,
 pub use Rattle.eager_laws.specs.Eager.{IsEager, Avoids, meets}
 pub use Rattle.eager_laws.specs.Closed.{LeadsEagerly, IsAmongStates, IsCovered, IsExpanded, IsExpandedEnough, ArePartlyClosed, PartlyClosedStatesMissNone}
 pub use Rattle.explorer.specs.Settled.{LeadsBy, IsSettled, LeadsToForgotten}
-pub use Rattle.explorer.specs.inner.Settled.{Grows, HaveCores, IsFirstKept, IsReachedByChoice, IsVisited, AreVisited, ArePicksVisited, AreLinked, LeadByTurns, IsLinked, IsPath, GoBack, LeadToExchanged}
+pub use Rattle.explorer.specs.inner.Settled.{Grows, IsKeptState, HaveCores, IsCurrent, IsFirstKept, IsReachedByChoice, IsVisited, AreVisited, ArePicksVisited, AreLinked, LeadByTurns, IsLinked, IsPath, GoBack, LeadToExchanged}
 pub use Rattle.flat_machine.specs.declared.snapshot.Snapshot.{Snapshot}
+pub use Rattle.explorer.specs.declared.packed.Packed.{Packed}
+pub use Rattle.explorer.specs.inner.Packed.{state_bytes, state_of_bytes, state_of_packed, IsPacked}
 pub use Rattle.explorer.specs.declared.link.Link.{Link}
 pub use Rattle.explorer.specs.declared.link.Turn.TheVariants.{Made, Exchanged}
 pub use Rattle.std.proofs.lemmas.Map.Keys.{IsDistinct-head, IsDistinct-tail, IsDistinct-cons}

@@ -3,4 +3,5 @@ pub mod Arranged
 pub mod Collected
 pub mod Settled
 pub mod Planned
+pub mod Packed
 pub mod Picked

@@ -5,22 +5,25 @@ ghost use Rattle.tso_model.specs.Runs.{has_ended};
 ghost use Rattle.eager_laws.specs.Closed.{IsAmongStates};
 ghost use Rattle.eager_laws.specs.Exchanged.{exchanged, IsOneOf};
 ghost use Rattle.flat_machine.specs.State.{state_of_snapshot};
-ghost use Rattle.explorer.specs.inner.Settled.{Grows, HaveCores, AreLinked};
+ghost use Rattle.explorer.specs.inner.Packed.{state_of_packed};
+ghost use Rattle.explorer.specs.inner.Settled.{Grows, HaveCores, IsCurrent, AreLinked};
 ghost use Rattle.explorer.specs.inner.Arranged.{HasExchanged, AreExchanged};
 ghost use Rattle.explorer.specs.inner.Planned.{IsPlan};
-ghost use Rattle.flat_machine.specs.declared.snapshot.Snapshot.{Snapshot};
+ghost use Rattle.explorer.specs.declared.packed.Packed.{Packed};
 ghost use Rattle.explorer.specs.declared.search.Extent.{Extent};
 
 use crate::exchange::exchange;
+use crate::found::{Found, keep};
 use crate::plan::Plan;
 use crate::reached::{Reached, nowhere};
-use crate::search::{Extent, Found, keep};
+use crate::search::Extent;
+use crate::unpacking::unpack;
 use eager_laws::{alike_cores_are_exchangeable, dead_registers_change_nothing};
 use flat_machine::{has_ended, overwrite};
 use std::alloc::Global;
 use tso_model::NoMemory;
 
-/// Adds what one exchange makes of a snapshot, if it isn't there yet.
+/// Adds what one exchange makes of the state that is gone through, if it isn't there yet.
 ///
 /// Errors: out of memory only.
 fn add_exchanged(
@@ -32,21 +35,21 @@ fn add_exchanged(
     pair: (u8, u8),
 ) -> Result<(), NoMemory>
     requires plan { IsPlan plan.now }
-    requires from { from < length found.old.snapshots.keys }
-    requires cores { HaveCores plan.now.test.now found.old.snapshots.keys }
-    requires linked { AreLinked plan.now.depth plan.now.test.now plan.now.hidden.now found.old.snapshots.keys found.old.links.items }
+    requires current { IsCurrent found.old.states.keys from found.old.current }
+    requires cores { HaveCores plan.now.test.now found.old.states.keys }
+    requires linked { AreLinked plan.now.depth plan.now.test.now plan.now.hidden.now found.old.states.keys found.old.links.items }
     requires room { length reached.old.state.cores.items ≡ length plan.now.test.now.programs }
     requires pair { IsOneOf plan.now.alike.items pair }
-    ensures grows { OnOk result (Grows found.old.snapshots.keys found.new.snapshots.keys) }
-    ensures cores { OnOk result (HaveCores plan.now.test.now found.new.snapshots.keys) }
-    ensures linked { OnOk result (AreLinked plan.now.depth plan.now.test.now plan.now.hidden.now found.new.snapshots.keys found.new.links.items) }
+    ensures grows { OnOk result (Grows found.old.states.keys found.new.states.keys) }
+    ensures cores { OnOk result (HaveCores plan.now.test.now found.new.states.keys) }
+    ensures linked { OnOk result (AreLinked plan.now.depth plan.now.test.now plan.now.hidden.now found.new.states.keys found.new.links.items) }
     ensures room { OnOk result (length reached.new.state.cores.items ≡ length plan.now.test.now.programs) }
-    ensures among { OnOk result ((s : Snapshot) → slice_get found.old.snapshots.keys from ≡ Some s
-        → IsAmongStates (map state_of_snapshot found.new.snapshots.keys) (exchanged pair (state_of_snapshot s))) }
+    ensures current { OnOk result (found.new.current ≡ found.old.current) }
+    ensures among { OnOk result (IsAmongStates (map state_of_packed found.new.states.keys) (exchanged pair (state_of_snapshot found.old.current))) }
 {
     alike_cores_are_exchangeable();
     dead_registers_change_nothing();
-    overwrite(&mut reached.state, &found.snapshots[from])?;
+    overwrite(&mut reached.state, &found.current)?;
     exchange(&mut reached.state, pair);
     reached.choices.clear();
     reached.exchanges.clear();
@@ -54,7 +57,7 @@ fn add_exchanged(
     keep(alloc, found, reached, from)
 }
 
-/// Adds what each exchange of two alike cores makes of a snapshot, if the test has ended in it.
+/// Adds what each exchange of two alike cores makes of a state, if the test has ended in it.
 ///
 /// Errors: out of memory only.
 fn add_all_exchanged(
@@ -65,18 +68,21 @@ fn add_all_exchanged(
     from: usize,
 ) -> Result<(), NoMemory>
     requires plan { IsPlan plan.now }
-    requires from { from < length found.old.snapshots.keys }
-    requires cores { HaveCores plan.now.test.now found.old.snapshots.keys }
-    requires linked { AreLinked plan.now.depth plan.now.test.now plan.now.hidden.now found.old.snapshots.keys found.old.links.items }
+    requires from { from < length found.old.states.keys }
+    requires cores { HaveCores plan.now.test.now found.old.states.keys }
+    requires linked { AreLinked plan.now.depth plan.now.test.now plan.now.hidden.now found.old.states.keys found.old.links.items }
+    requires current { length found.old.current.cores.items ≡ length plan.now.test.now.programs }
     requires room { length reached.old.state.cores.items ≡ length plan.now.test.now.programs }
-    ensures grows { OnOk result (Grows found.old.snapshots.keys found.new.snapshots.keys) }
-    ensures cores { OnOk result (HaveCores plan.now.test.now found.new.snapshots.keys) }
-    ensures linked { OnOk result (AreLinked plan.now.depth plan.now.test.now plan.now.hidden.now found.new.snapshots.keys found.new.links.items) }
+    ensures grows { OnOk result (Grows found.old.states.keys found.new.states.keys) }
+    ensures cores { OnOk result (HaveCores plan.now.test.now found.new.states.keys) }
+    ensures linked { OnOk result (AreLinked plan.now.depth plan.now.test.now plan.now.hidden.now found.new.states.keys found.new.links.items) }
+    ensures current { OnOk result (length found.new.current.cores.items ≡ length plan.now.test.now.programs) }
     ensures room { OnOk result (length reached.new.state.cores.items ≡ length plan.now.test.now.programs) }
-    ensures exchanged { OnOk result ((s : Snapshot) → slice_get found.old.snapshots.keys from ≡ Some s
-        → has_ended plan.now.test.now (state_of_snapshot s) ≡ true → HasExchanged plan.now.alike.items found.new.snapshots.keys (state_of_snapshot s)) }
+    ensures exchanged { OnOk result ((s : Packed) → slice_get found.old.states.keys from ≡ Some s
+        → has_ended plan.now.test.now (state_of_packed s) ≡ true → HasExchanged plan.now.alike.items found.new.states.keys (state_of_packed s)) }
 {
-    if !has_ended(plan.test, &found.snapshots[from]) {
+    unpack(&found.states[from], &mut found.current)?;
+    if !has_ended(plan.test, &found.current) {
         return Ok(());
     }
     for at in 0..plan.alike.len() {
@@ -85,7 +91,7 @@ fn add_all_exchanged(
     Ok(())
 }
 
-/// Adds what exchanges of alike cores make of the snapshots in which the test has ended, until
+/// Adds what exchanges of alike cores make of the states in which the test has ended, until
 /// nothing is new, as long as no more than `limit` are kept. Where they are more, it ends there.
 ///
 /// Errors: out of memory only.
@@ -96,27 +102,28 @@ pub fn close(
     limit: usize,
 ) -> Result<Extent, NoMemory>
     requires plan { IsPlan plan.now }
-    requires cores { HaveCores plan.now.test.now found.old.snapshots.keys }
-    requires linked { AreLinked plan.now.depth plan.now.test.now plan.now.hidden.now found.old.snapshots.keys found.old.links.items }
-    requires within { length found.old.snapshots.keys ≤ limit }
-    ensures grows { OnOk result (Grows found.old.snapshots.keys found.new.snapshots.keys) }
-    ensures cores { OnOk result (HaveCores plan.now.test.now found.new.snapshots.keys) }
-    ensures linked { OnOk result (AreLinked plan.now.depth plan.now.test.now plan.now.hidden.now found.new.snapshots.keys found.new.links.items) }
+    requires cores { HaveCores plan.now.test.now found.old.states.keys }
+    requires linked { AreLinked plan.now.depth plan.now.test.now plan.now.hidden.now found.old.states.keys found.old.links.items }
+    requires current { length found.old.current.cores.items ≡ length plan.now.test.now.programs }
+    requires within { length found.old.states.keys ≤ limit }
+    ensures grows { OnOk result (Grows found.old.states.keys found.new.states.keys) }
+    ensures cores { OnOk result (HaveCores plan.now.test.now found.new.states.keys) }
+    ensures linked { OnOk result (AreLinked plan.now.depth plan.now.test.now plan.now.hidden.now found.new.states.keys found.new.links.items) }
     ensures exchanged { IfOk result (λ extent. extent ≡ Extent.Whole → AreExchanged plan.now.test.now plan.now.alike.items
-        found.new.snapshots.keys (length found.new.snapshots.keys)) }
-    ensures within { IfOk result (λ extent. extent ≡ Extent.Whole → length found.new.snapshots.keys ≤ limit) }
-    ensures more { IfOk result (λ extent. extent ≡ Extent.Cut → limit < length found.new.snapshots.keys) }
+        found.new.states.keys (length found.new.states.keys)) }
+    ensures within { IfOk result (λ extent. extent ≡ Extent.Whole → length found.new.states.keys ≤ limit) }
+    ensures more { IfOk result (λ extent. extent ≡ Extent.Cut → limit < length found.new.states.keys) }
 {
     if plan.alike.is_empty() {
         return Ok(Extent::Whole);
     }
     let mut reached = nowhere(alloc, plan.test)?;
     for at in 0..limit {
-        if at >= found.snapshots.len() {
+        if at >= found.states.len() {
             break;
         }
         add_all_exchanged(alloc, plan, found, &mut reached, at)?;
-        if found.snapshots.len() > limit {
+        if found.states.len() > limit {
             return Ok(Extent::Cut);
         }
     }

@@ -8,19 +8,22 @@ ghost use Rattle.tso_laws.specs.Choices.{state_after};
 ghost use Rattle.flat_machine.specs.State.{state_of_snapshot};
 ghost use Rattle.eager_laws.specs.Closed.{IsCovered};
 ghost use Rattle.explorer.specs.inner.Planned.{IsPlan};
+ghost use Rattle.explorer.specs.inner.Packed.{state_of_packed};
 ghost use Rattle.explorer.specs.inner.Settled.{HaveCores, AreLinked};
 ghost use Rattle.explorer.specs.inner.Collected.{IsFinalOf, AreFinalsOf, MissesNoEnd};
 ghost use Rattle.explorer.specs.FinalStates.{AreReached, HaveEveryEnd, AreDistinct, HasMoreStates};
 ghost use Rattle.explorer.specs.FinalStates.{AreWhatTsoAllows, AreWhatSequentialConsistencyAllows};
-ghost use Rattle.flat_machine.specs.declared.snapshot.Snapshot.{Snapshot};
+ghost use Rattle.explorer.specs.declared.packed.Packed.{Packed};
 ghost use Rattle.explorer.specs.declared.fault.ExploreFault.{ExploreFault};
 ghost use Rattle.explorer.specs.declared.search.Extent.{Extent};
 
 use crate::closing::close;
 use crate::fault::ExploreFault;
+use crate::found::{Found, beginning};
 use crate::link::path;
 use crate::plan::{Plan, plan_of};
-use crate::search::{Extent, Found, beginning, expand_all};
+use crate::search::{Extent, expand_all};
+use crate::unpacking::unpack;
 use crate::watching::{Unwatched, Watcher};
 use eager_laws::{
     alike_cores_are_exchangeable, dead_registers_change_nothing, partly_closed_states_miss_none,
@@ -68,14 +71,14 @@ fn state_after(
     Ok(state)
 }
 
-/// The final state of a snapshot, with the choices that lead there.
+/// The final state of a kept state, with the choices that lead there.
 ///
 /// Errors: out of memory only.
 fn final_state(alloc: Global, plan: &Plan, found: &Found, at: usize) -> Result<FinalState, NoMemory>
-    requires at { at < length found.now.snapshots.keys }
-    requires linked { AreLinked plan.now.depth plan.now.test.now plan.now.hidden.now found.now.snapshots.keys found.now.links.items }
-    ensures { IfOk result (λ f. (s : Snapshot) → slice_get found.now.snapshots.keys at ≡ Some s
-        → IsFinalOf plan.now.depth plan.now.test.now plan.now.hidden.now (state_of_snapshot s) f) }
+    requires at { at < length found.now.states.keys }
+    requires linked { AreLinked plan.now.depth plan.now.test.now plan.now.hidden.now found.now.states.keys found.now.links.items }
+    ensures { IfOk result (λ f. (s : Packed) → slice_get found.now.states.keys at ≡ Some s
+        → IsFinalOf plan.now.depth plan.now.test.now plan.now.hidden.now (state_of_packed s) f) }
 {
     let choices = path(alloc, &found.links, at)?;
     let last = state_after(alloc, plan.test, plan.depth, &choices)?;
@@ -87,19 +90,21 @@ fn final_state(alloc: Global, plan: &Plan, found: &Found, at: usize) -> Result<F
     })
 }
 
-/// The final states among the snapshots.
+/// The final states among those that are kept.
 ///
 /// Errors: out of memory only.
 fn final_states(alloc: Global, plan: &Plan, found: &Found) -> Result<Vec<FinalState>, NoMemory>
-    requires cores { HaveCores plan.now.test.now found.now.snapshots.keys }
-    requires linked { AreLinked plan.now.depth plan.now.test.now plan.now.hidden.now found.now.snapshots.keys found.now.links.items }
-    ensures { IfOk result (λ fs. AreFinalsOf plan.now.depth plan.now.test.now plan.now.hidden.now found.now.snapshots.keys
-        (length found.now.snapshots.keys) fs.items) }
+    requires cores { HaveCores plan.now.test.now found.now.states.keys }
+    requires linked { AreLinked plan.now.depth plan.now.test.now plan.now.hidden.now found.now.states.keys found.now.links.items }
+    ensures { IfOk result (λ fs. AreFinalsOf plan.now.depth plan.now.test.now plan.now.hidden.now found.now.states.keys
+        (length found.now.states.keys) fs.items) }
 {
     dead_registers_change_nothing();
     let mut final_states = Vec::new(alloc);
-    for at in 0..found.snapshots.len() {
-        if has_ended(plan.test, &found.snapshots[at]) {
+    let mut state = start(alloc, plan.test)?;
+    for at in 0..found.states.len() {
+        unpack(&found.states[at], &mut state)?;
+        if has_ended(plan.test, &state) {
             final_states.push(final_state(alloc, plan, found, at)?)?;
         }
     }
@@ -118,17 +123,18 @@ fn search_all<W: Watcher>(
     watcher: &mut W,
 ) -> Result<Extent, NoMemory>
     requires plan { IsPlan plan.now }
-    requires cores { HaveCores plan.now.test.now found.old.snapshots.keys }
-    requires linked { AreLinked plan.now.depth plan.now.test.now plan.now.hidden.now found.old.snapshots.keys found.old.links.items }
+    requires cores { HaveCores plan.now.test.now found.old.states.keys }
+    requires linked { AreLinked plan.now.depth plan.now.test.now plan.now.hidden.now found.old.states.keys found.old.links.items }
     requires covered { IsCovered plan.now.depth plan.now.test.now plan.now.hidden.now plan.now.alike.items
-        (map state_of_snapshot found.old.snapshots.keys) (start plan.now.test.now) }
-    requires one { length found.old.snapshots.keys ≡ 1 }
-    ensures cores { OnOk result (HaveCores plan.now.test.now found.new.snapshots.keys) }
-    ensures linked { OnOk result (AreLinked plan.now.depth plan.now.test.now plan.now.hidden.now found.new.snapshots.keys found.new.links.items) }
+        (map state_of_packed found.old.states.keys) (start plan.now.test.now) }
+    requires current { length found.old.current.cores.items ≡ length plan.now.test.now.programs }
+    requires one { length found.old.states.keys ≡ 1 }
+    ensures cores { OnOk result (HaveCores plan.now.test.now found.new.states.keys) }
+    ensures linked { OnOk result (AreLinked plan.now.depth plan.now.test.now plan.now.hidden.now found.new.states.keys found.new.links.items) }
     ensures whole { IfOk result (λ extent. extent ≡ Extent.Whole
-        → MissesNoEnd plan.now.depth plan.now.test.now plan.now.hidden.now plan.now.alike.items found.new.snapshots.keys) }
-    ensures within { IfOk result (λ extent. extent ≡ Extent.Whole → length found.new.snapshots.keys ≤ limit) }
-    ensures more { IfOk result (λ extent. extent ≡ Extent.Cut → limit < length found.new.snapshots.keys) }
+        → MissesNoEnd plan.now.depth plan.now.test.now plan.now.hidden.now plan.now.alike.items found.new.states.keys) }
+    ensures within { IfOk result (λ extent. extent ≡ Extent.Whole → length found.new.states.keys ≤ limit) }
+    ensures more { IfOk result (λ extent. extent ≡ Extent.Cut → limit < length found.new.states.keys) }
 {
     if limit == 0 {
         return Ok(Extent::Cut);
@@ -183,7 +189,7 @@ pub fn explore_watched<W: Watcher>(
     let plan = plan_of(alloc, test, depth, hidden)?;
     let mut found = beginning(alloc, &plan)?;
     let searched = search_all(alloc, &plan, &mut found, limit, watcher);
-    let kept = found.snapshots.len();
+    let kept = found.states.len();
     watcher.is_over(kept);
     let extent = searched?;
     let final_states = final_states(alloc, &plan, &found)?;

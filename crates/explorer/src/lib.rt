@@ -1,7 +1,7 @@
 //! All final states of a test that the flat machine can reach at a depth of its store buffers, each
 //! with choices that lead there.
 //!
-//! A search keeps the machine's states in one set, in the order in which they were found, and in each
+//! A search keeps the machine's states in one set, each packed into a string of bytes, in the order in which they were found, and in each
 //! of them in turn makes the choices of a stubborn set, or every choice. Choices that need not wait are made at once, as
 //! `eager_laws` allows, so the states on their way aren't kept. States that differ in dead registers
 //! alone are kept as one: those that nothing reads any more, and that nobody looks at in the end. So
@@ -18,12 +18,16 @@ mod exchange;
 pub mod fault;
 pub mod final_states;
 mod forgetting;
+pub mod found;
 pub mod link;
+pub mod packed;
+mod packing;
 mod picking;
 pub mod plan;
 pub mod reached;
 pub mod search;
 pub mod stubborn;
+mod unpacking;
 pub mod watching;
 
 pub use fault::ExploreFault;

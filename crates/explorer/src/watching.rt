@@ -1,11 +1,13 @@
 //! Who looks at a search while it goes on. What is told of it is no part of its answer: a search says the same whoever looks,
 //! or nobody.
-ghost use Rattle.std.specs.Prelude.{◌≡◌, length};
+ghost use Rattle.std.specs.Prelude.{◌≡◌, OnOk, length};
 ghost use Rattle.explorer.specs.inner.Settled.{HaveCores};
 
+use crate::found::Found;
 use crate::plan::Plan;
-use crate::search::Found;
-use flat_machine::has_ended;
+use crate::unpacking::unpack;
+use flat_machine::{Snapshot, has_ended};
+use tso_model::NoMemory;
 
 /// How many more states are kept before a search is told of again.
 pub const STRIDE: usize = 250_000;
@@ -51,30 +53,51 @@ impl ToldSoFar {
     }
 }
 
-/// Tells a watcher of a search, where so many states are kept that it is time.
-pub(crate) fn tell<W: Watcher>(plan: &Plan, found: &Found, told: &mut ToldSoFar, watcher: &mut W)
-    requires { HaveCores plan.now.test.now found.now.snapshots.keys }
+/// Tells a watcher of a search, where so many states are kept that it is time. The room is for one of them, unpacked.
+///
+/// Errors: out of memory only.
+pub(crate) fn tell<W: Watcher>(
+    plan: &Plan,
+    found: &Found,
+    room: &mut Snapshot,
+    told: &mut ToldSoFar,
+    watcher: &mut W,
+) -> Result<(), NoMemory>
+    requires cores { HaveCores plan.now.test.now found.now.states.keys }
+    requires room { length room.old.cores.items ≡ length plan.now.test.now.programs }
+    ensures room { OnOk result (length room.new.cores.items ≡ length plan.now.test.now.programs) }
 {
-    let kept = found.snapshots.len();
+    let kept = found.states.len();
     if kept < told.next {
-        return;
+        return Ok(());
     }
-    let finals = count_ended(plan, found, told.counted);
+    let finals = count_ended(plan, found, room, told.counted)?;
     told.finals = told.finals.saturating_add(finals);
     told.counted = kept;
     told.next = told.next.saturating_add(STRIDE);
     watcher.goes_on(kept, told.finals);
+    Ok(())
 }
 
 /// In how many of the states from this one on the test has ended.
-fn count_ended(plan: &Plan, found: &Found, from: usize) -> usize
-    requires { HaveCores plan.now.test.now found.now.snapshots.keys }
+///
+/// Errors: out of memory only.
+fn count_ended(
+    plan: &Plan,
+    found: &Found,
+    room: &mut Snapshot,
+    from: usize,
+) -> Result<usize, NoMemory>
+    requires cores { HaveCores plan.now.test.now found.now.states.keys }
+    requires room { length room.old.cores.items ≡ length plan.now.test.now.programs }
+    ensures room { OnOk result (length room.new.cores.items ≡ length plan.now.test.now.programs) }
 {
     let mut count = 0usize;
-    for at in from..found.snapshots.len() {
-        if has_ended(plan.test, &found.snapshots[at]) {
+    for at in from..found.states.len() {
+        unpack(&found.states[at], room)?;
+        if has_ended(plan.test, room) {
             count = count.saturating_add(1);
         }
     }
-    count
+    Ok(count)
 }

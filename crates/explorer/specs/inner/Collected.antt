@@ -6,12 +6,12 @@ use Rattle.tso_model.specs.FlatMachine.{State, start, registers_in}
 use Rattle.tso_model.specs.Runs.{has_ended}
 use Rattle.eager_laws.specs.Closed.{ArePartlyClosed}
 use Rattle.eager_laws.specs.Dead.{forgotten}
-use Rattle.flat_machine.specs.State.{state_of_snapshot}
+use Rattle.explorer.specs.inner.Packed.{state_of_packed}
 use Rattle.explorer.specs.Settled.{LeadsBy}
 use Rattle.explorer.specs.inner.Settled.{Grows}
 use Rattle.explorer.specs.inner.Arranged.{AreExchanged}
 use Rattle.explorer.specs.FinalStates.{Have, AreDistinct}
-use Rattle.flat_machine.specs.declared.snapshot.Snapshot.{Snapshot}
+use Rattle.explorer.specs.declared.packed.Packed.{Packed}
 use Rattle.explorer.specs.declared.final_states.FinalState.{FinalState}
 
 -- the final state is what its choices lead to, and once dead registers are forgotten that is this state
@@ -22,25 +22,25 @@ pub record IsFinalOf (depth : ℕ) (t : Litmus) (hidden : List (List Bool)) (kep
   pub registers_are : registers_in last ≡ f.registers.items
   pub memory_is : last.memory ≡ f.memory.items
 
--- a final state that was made of one of the first so many snapshots: one that has ended
-pub record IsMadeOf (depth : ℕ) (t : Litmus) (hidden : List (List Bool)) (snapshots : List Snapshot) (count : ℕ) (f : FinalState) : Type 0 where
+-- a final state that was made of one of the first so many states: one that has ended
+pub record IsMadeOf (depth : ℕ) (t : Litmus) (hidden : List (List Bool)) (states : List Packed) (count : ℕ) (f : FinalState) : Type 0 where
   pub at : ℕ
-  pub snapshot : Snapshot
+  pub kept : Packed
   pub within : at < count
-  pub stands : slice_get snapshots at ≡ Some snapshot
-  pub ended : has_ended t (state_of_snapshot snapshot) ≡ true
-  pub made : IsFinalOf depth t hidden (state_of_snapshot snapshot) f
+  pub stands : slice_get states at ≡ Some kept
+  pub ended : has_ended t (state_of_packed kept) ≡ true
+  pub made : IsFinalOf depth t hidden (state_of_packed kept) f
 
--- those of the first so many snapshots that have ended, each once
-pub record AreFinalsOf (depth : ℕ) (t : Litmus) (hidden : List (List Bool)) (snapshots : List Snapshot) (count : ℕ) (finals : List FinalState) : Type 0 where
-  pub each : (i : ℕ) (f : FinalState) → slice_get finals i ≡ Some f → IsMadeOf depth t hidden snapshots count f
-  pub all : (i : ℕ) (s : Snapshot) → i < count → slice_get snapshots i ≡ Some s → has_ended t (state_of_snapshot s) ≡ true
-      → Have hidden finals (registers_in (state_of_snapshot s)) s.memory.items
+-- those of the first so many states that have ended, each once
+pub record AreFinalsOf (depth : ℕ) (t : Litmus) (hidden : List (List Bool)) (states : List Packed) (count : ℕ) (finals : List FinalState) : Type 0 where
+  pub each : (i : ℕ) (f : FinalState) → slice_get finals i ≡ Some f → IsMadeOf depth t hidden states count f
+  pub all : (i : ℕ) (s : Packed) → i < count → slice_get states i ≡ Some s → has_ended t (state_of_packed s) ≡ true
+      → Have hidden finals (registers_in (state_of_packed s)) (state_of_packed s).memory
   pub once : AreDistinct hidden finals
 
--- the snapshots miss no end of a run: they grew from closed ones, and have what exchanges make of those that have ended
-pub record MissesNoEnd (depth : ℕ) (t : Litmus) (hidden : List (List Bool)) (pairs : List (ℕ × ℕ)) (snapshots : List Snapshot) : Type 0 where
-  pub earlier : List Snapshot
-  pub closed : ArePartlyClosed depth t hidden pairs (map state_of_snapshot earlier)
-  pub grows : Grows earlier snapshots
-  pub exchanged : AreExchanged t pairs snapshots (length snapshots)
+-- the states miss no end of a run: they grew from closed ones, and have what exchanges make of those that have ended
+pub record MissesNoEnd (depth : ℕ) (t : Litmus) (hidden : List (List Bool)) (pairs : List (ℕ × ℕ)) (states : List Packed) : Type 0 where
+  pub earlier : List Packed
+  pub closed : ArePartlyClosed depth t hidden pairs (map state_of_packed earlier)
+  pub grows : Grows earlier states
+  pub exchanged : AreExchanged t pairs states (length states)

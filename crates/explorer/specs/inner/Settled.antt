@@ -9,19 +9,32 @@ use Rattle.eager_laws.specs.Stubborn.{ChoiceSet, has_step, has_drain}
 use Rattle.eager_laws.specs.Dead.{forgotten}
 use Rattle.eager_laws.specs.Exchanged.{exchanged_by, AreOf, AreAllAlike}
 use Rattle.flat_machine.specs.State.{state_of_snapshot}
+use Rattle.explorer.specs.inner.Packed.{state_of_packed, IsPacked}
 use Rattle.flat_machine.specs.declared.snapshot.Snapshot.{Snapshot}
+use Rattle.explorer.specs.declared.packed.Packed.{Packed}
 use Rattle.explorer.specs.declared.link.Turn.{Turn}
 use Rattle.explorer.specs.declared.link.Turn.TheVariants.{Made, Exchanged}
 use Rattle.explorer.specs.declared.link.Link.{Link}
 use Rattle.explorer.specs.Settled.{LeadsBy, LeadsToForgotten, IsSettled}
 
--- no snapshot was taken away, and those that are new came last
-abbrev pub Grows : List Snapshot → List Snapshot → Type 0
-Grows old new = (more : List Snapshot) × (new ≡ old ++ more)
+-- no state was taken away, and those that are new came last
+abbrev pub Grows : List Packed → List Packed → Type 0
+Grows old new = (more : List Packed) × (new ≡ old ++ more)
 
--- each has a core for each program
-abbrev pub HaveCores : Litmus → List Snapshot → Type 0
-HaveCores t snapshots = All (λ s. length s.cores.items ≡ length t.programs) snapshots
+-- a state with a core for each program, as it is packed
+pub record IsKeptState (t : Litmus) (kept : Packed) : Type 0 where
+  pub cores : length (state_of_packed kept).cores ≡ length t.programs
+  pub packed : IsPacked kept
+
+-- each is one
+abbrev pub HaveCores : Litmus → List Packed → Type 0
+HaveCores t states = All (IsKeptState t) states
+
+-- the state of this number is the one that was unpacked
+pub record IsCurrent (states : List Packed) (at : ℕ) (current : Snapshot) : Type 0 where
+  pub kept : Packed
+  pub stands : slice_get states at ≡ Some kept
+  pub state_is : state_of_packed kept ≡ state_of_snapshot current
 
 -- choices that need not wait lead from the beginning of the test to a state that is the kept one once its dead registers are
 -- forgotten; nothing was exchanged
@@ -55,40 +68,40 @@ pub record IsReachedByChoice (depth : ℕ) (t : Litmus) (hidden : List (List Boo
   pub kept_is : exchanged_by exchanges (forgotten t hidden last) ≡ kept
 
 -- the choice stalls in the state, or what it leads to is covered
-abbrev pub IsVisited : ℕ → Litmus → List (List Bool) → List (ℕ × ℕ) → List Snapshot → State → Choice → Type 0
-IsVisited depth t hidden pairs snapshots state c =
-    (after_choice t depth state c ≡ state) ⊎ IsCovered depth t hidden pairs (map state_of_snapshot snapshots) (after_choice t depth state c)
+abbrev pub IsVisited : ℕ → Litmus → List (List Bool) → List (ℕ × ℕ) → List Packed → State → Choice → Type 0
+IsVisited depth t hidden pairs states state c =
+    (after_choice t depth state c ≡ state) ⊎ IsCovered depth t hidden pairs (map state_of_packed states) (after_choice t depth state c)
 
 -- both choices of a core
-abbrev pub AreVisited : ℕ → Litmus → List (List Bool) → List (ℕ × ℕ) → List Snapshot → State → ℕ → Type 0
-AreVisited depth t hidden pairs snapshots state core =
-    IsVisited depth t hidden pairs snapshots state (step core) × IsVisited depth t hidden pairs snapshots state (drain core)
+abbrev pub AreVisited : ℕ → Litmus → List (List Bool) → List (ℕ × ℕ) → List Packed → State → ℕ → Type 0
+AreVisited depth t hidden pairs states state core =
+    IsVisited depth t hidden pairs states state (step core) × IsVisited depth t hidden pairs states state (drain core)
 
 -- those of a core's choices that are in the set
-abbrev pub ArePicksVisited : ℕ → Litmus → List (List Bool) → List (ℕ × ℕ) → List Snapshot → State → ChoiceSet → ℕ → Type 0
-ArePicksVisited depth t hidden pairs snapshots state set core =
-    (has_step set core ≡ true → IsVisited depth t hidden pairs snapshots state (step core))
-    × (has_drain set core ≡ true → IsVisited depth t hidden pairs snapshots state (drain core))
+abbrev pub ArePicksVisited : ℕ → Litmus → List (List Bool) → List (ℕ × ℕ) → List Packed → State → ChoiceSet → ℕ → Type 0
+ArePicksVisited depth t hidden pairs states state set core =
+    (has_step set core ≡ true → IsVisited depth t hidden pairs states state (step core))
+    × (has_drain set core ≡ true → IsVisited depth t hidden pairs states state (drain core))
 
 -- a link's turns lead to its snapshot: those of the first from the beginning of the test, those of each other from the
 -- snapshot that the link names, which stands before it
-abbrev pub IsLinked : ℕ → Litmus → List (List Bool) → List Snapshot → ℕ → Snapshot → Link → Type 0
-IsLinked depth t hidden snapshots zero s link = LeadByTurns depth t hidden (start t) link.turns.items (state_of_snapshot s)
-IsLinked depth t hidden snapshots (suc i) s link =
-    (r : Snapshot) × (link.from ≤ i) × (slice_get snapshots link.from ≡ Some r)
-    × LeadByTurns depth t hidden (state_of_snapshot r) link.turns.items (state_of_snapshot s)
+abbrev pub IsLinked : ℕ → Litmus → List (List Bool) → List Packed → ℕ → Packed → Link → Type 0
+IsLinked depth t hidden states zero s link = LeadByTurns depth t hidden (start t) link.turns.items (state_of_packed s)
+IsLinked depth t hidden states (suc i) s link =
+    (r : Packed) × (link.from ≤ i) × (slice_get states link.from ≡ Some r)
+    × LeadByTurns depth t hidden (state_of_packed r) link.turns.items (state_of_packed s)
 
 -- each snapshot has its link
-pub record AreLinked (depth : ℕ) (t : Litmus) (hidden : List (List Bool)) (snapshots : List Snapshot) (links : List Link) : Type 0 where
-  pub count : length links ≡ length snapshots
-  pub each : (i : ℕ) (s : Snapshot) (link : Link)
-      → slice_get snapshots i ≡ Some s → slice_get links i ≡ Some link → IsLinked depth t hidden snapshots i s link
+pub record AreLinked (depth : ℕ) (t : Litmus) (hidden : List (List Bool)) (states : List Packed) (links : List Link) : Type 0 where
+  pub count : length links ≡ length states
+  pub each : (i : ℕ) (s : Packed) (link : Link)
+      → slice_get states i ≡ Some s → slice_get links i ≡ Some link → IsLinked depth t hidden states i s link
 
--- these choices lead from the beginning to the snapshot of this number, wherever the links are those of the snapshots
+-- these choices lead from the beginning to the snapshot of this number, wherever the links are those of the states
 abbrev pub IsPath : List Link → ℕ → List Choice → Type 0
 IsPath links at choices =
-    (depth : ℕ) (t : Litmus) (hidden : List (List Bool)) (snapshots : List Snapshot) (s : Snapshot)
-    → AreLinked depth t hidden snapshots links → slice_get snapshots at ≡ Some s → LeadsToForgotten depth t hidden (start t) choices (state_of_snapshot s)
+    (depth : ℕ) (t : Litmus) (hidden : List (List Bool)) (states : List Packed) (s : Packed)
+    → AreLinked depth t hidden states links → slice_get states at ≡ Some s → LeadsToForgotten depth t hidden (start t) choices (state_of_packed s)
 
 -- each link but the first names a snapshot before its own
 abbrev pub GoBack : List Link → Type 0

@@ -1,9 +1,14 @@
-use Rattle.explorer.proofs.Vocabulary.{◌≡◌, ◌<◌, length, map, slice_get, Some, slice_index_or, arith, subst, ap, sym, ◌∙◌, slice_get-get_or, both_ways, has_ended, IsAmongStates, exchanged, state_of_snapshot}
+use Rattle.explorer.proofs.Vocabulary.{◌≡◌, ◌<◌, refl, length, map, slice_get, Some, slice_index_or, arith, subst, ap, sym, ◌∙◌, slice_get-get_or, both_ways, has_ended, IsAmongStates, exchanged, state_of_packed, state_of_snapshot}
 use Rattle.explorer.proofs.Completing.{exchanged-none, exchanged-more}
-use Rattle.explorer.proofs.Finals.{cores-at}
-use Rattle.explorer.proofs.Linking.{get-within, get-one}
-use Rattle.explorer.proofs.Searching.{grows-none, grows-on, grown-within, get-grown}
+use Rattle.explorer.proofs.Linking.{get-within, kept-at}
+use Rattle.explorer.proofs.Searching.{grows-none, grows-on, current-here, current-is, current-grown}
 use Rattle.explorer.proofs.closing.add_all_exchanged.Goals as goal
+
+pub unpack-requires : goal.unpack-requires
+unpack-requires c = c.requires.current ∙ sym (kept-at c.args.plan.now.test.now _ c.args.from c.index.result.now c.requires.cores c.index.ensures).cores
+
+pub has_ended-requires : goal.has_ended-requires
+has_ended-requires c = c.in_ok-unpack.ensures.cores ∙ c.requires.current
 
 pub loop-at-preserved : goal.loop-at-preserved
 loop-at-preserved c =
@@ -13,28 +18,33 @@ loop-at-preserved c =
       cores = c.in_ok-add_exchanged.ensures.cores;
       linked = c.in_ok-add_exchanged.ensures.linked;
       room = c.in_ok-add_exchanged.ensures.room;
-      exchanged = λ s at.
-          exchanged-more c.args.plan.now.alike.items _ _ (state_of_snapshot s) c.loop-at.at (slice_index_or c.args.plan.now.alike.items c.loop-at.at c.index-in-loop-at.result.now) c.in_ok-add_exchanged.ensures.grows
-          (slice_get-get_or c.args.plan.now.alike.items c.loop-at.at c.index-in-loop-at.result.now l) (c.loop-at.invariant.exchanged s at)
-          (subst (λ z. IsAmongStates (map state_of_snapshot c.add_exchanged.new.found.snapshots.keys) (exchanged z (state_of_snapshot s))) c.index-in-loop-at.ensures
-          (c.in_ok-add_exchanged.ensures.among s (get-grown _ _ _ s c.loop-at.invariant.grows at)));
+      current = c.in_ok-add_exchanged.ensures.current ∙ c.loop-at.invariant.current;
+      exchanged = exchanged-more c.args.plan.now.alike.items _ _ (state_of_snapshot c.unpack.new.state) c.loop-at.at (slice_index_or c.args.plan.now.alike.items c.loop-at.at c.index-in-loop-at.result.now) c.in_ok-add_exchanged.ensures.grows
+          (slice_get-get_or c.args.plan.now.alike.items c.loop-at.at c.index-in-loop-at.result.now l) c.loop-at.invariant.exchanged
+          (subst (λ z. IsAmongStates (map state_of_packed c.add_exchanged.new.found.states.keys) (exchanged z (state_of_snapshot c.unpack.new.state))) c.index-in-loop-at.ensures
+          (subst (λ z. IsAmongStates (map state_of_packed c.add_exchanged.new.found.states.keys) (exchanged c.index-in-loop-at.result.now (state_of_snapshot z))) c.loop-at.invariant.current c.in_ok-add_exchanged.ensures.among));
     }
 
 pub returns-clause-exchanged : goal.returns-clause-exchanged
 returns-clause-exchanged c = λ s at ended pair m.
     let l = get-within c.args.plan.now.alike.items m.0 pair m.1 in
-    c.loop-at.invariant.exchanged s at m.0 pair (let a = c.loop-at-test.false in let b = c.loop-at.auto.at-end in let d = c.len-at-end.ensures in omega (arith, l, a, b, d)) m.1
+    let here = current-here c.args.found.now.states.keys c.args.from c.index.result.now c.unpack.new.state c.index.ensures c.in_ok-unpack.ensures.value in
+    subst (λ z. IsAmongStates (map state_of_packed c.loop-at.found.states.keys) (exchanged pair z)) (current-is _ _ _ s here at)
+    (c.loop-at.invariant.exchanged m.0 pair (let a = c.loop-at-test.false in let b = c.loop-at.auto.at-end in let d = c.len-at-end.ensures in omega (arith, l, a, b, d)) m.1)
 
-pub has_ended-requires : goal.has_ended-requires
-has_ended-requires c = cores-at c.args.plan.now.test.now c.args.found.now.snapshots.keys c.args.from c.index.result.now c.requires.cores c.index.ensures
+pub returns-clause-current : goal.returns-clause-current
+returns-clause-current c = ap (λ z. length z.cores.items) c.loop-at.invariant.current ∙ c.in_ok-unpack.ensures.cores ∙ c.requires.current
 
 pub returns-then-not-has_ended-clause-exchanged : goal.returns-then-not-has_ended-clause-exchanged
 returns-then-not-has_ended-clause-exchanged c = λ s at ended.
-    let same : s ≡ c.index.result.now = get-one c.args.found.now.snapshots.keys c.args.from s c.index.result.now at c.index.ensures in
-    absurd (both_ways _ (ap (λ z. has_ended c.args.plan.now.test.now (state_of_snapshot z)) same ∙ sym c.has_ended.ensures ∙ c.if-not-has_ended.true) ended)
+    let here = current-here c.args.found.now.states.keys c.args.from c.index.result.now c.unpack.new.state c.index.ensures c.in_ok-unpack.ensures.value in
+    absurd (both_ways _ (ap (has_ended c.args.plan.now.test.now) (sym (current-is _ _ _ s here at)) ∙ sym c.has_ended.ensures ∙ c.if-not-has_ended.true) ended)
 
 pub returns-then-not-has_ended-clause-grows : goal.returns-then-not-has_ended-clause-grows
 returns-then-not-has_ended-clause-grows c = grows-none _
+
+pub returns-then-not-has_ended-clause-current : goal.returns-then-not-has_ended-clause-current
+returns-then-not-has_ended-clause-current c = c.in_ok-unpack.ensures.cores ∙ c.requires.current
 
 pub loop-at-init : goal.loop-at-init
 loop-at-init c = record {
@@ -42,11 +52,14 @@ loop-at-init c = record {
   cores = c.requires.cores;
   linked = c.requires.linked;
   room = c.requires.room;
-  exchanged = λ s at. exchanged-none c.args.plan.now.alike.items c.args.found.now.snapshots.keys (state_of_snapshot s);
+  current = refl;
+  exchanged = exchanged-none c.args.plan.now.alike.items c.args.found.now.states.keys (state_of_snapshot c.unpack.new.state);
 }
 
-pub add_exchanged-requires-clause-from : goal.add_exchanged-requires-clause-from
-add_exchanged-requires-clause-from c = grown-within _ _ c.args.from c.loop-at.invariant.grows c.requires.from
+pub add_exchanged-requires-clause-current : goal.add_exchanged-requires-clause-current
+add_exchanged-requires-clause-current c =
+    current-grown _ _ _ _ _ c.loop-at.invariant.grows c.loop-at.invariant.current
+    (current-here c.args.found.now.states.keys c.args.from c.index.result.now c.unpack.new.state c.index.ensures c.in_ok-unpack.ensures.value)
 
 pub add_exchanged-requires-clause-pair : goal.add_exchanged-requires-clause-pair
 add_exchanged-requires-clause-pair c =

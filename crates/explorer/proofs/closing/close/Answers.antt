@@ -6,12 +6,13 @@ use Rattle.explorer.proofs.closing.close.Goals.{else-loop-at-test, then-loop-at-
 
 pub loop-at-preserved : goal.loop-at-preserved
 loop-at-preserved c =
-    let within : c.loop-at.at < length c.loop-at.found.snapshots.keys = let l = c.if-at-len.false in let n = c.len.ensures.len in omega (arith, l, n) in
+    let within : c.loop-at.at < length c.loop-at.found.states.keys = let l = c.if-at-len.false in let n = c.len.ensures.len in omega (arith, l, n) in
     record {
       grows = grows-on _ _ _ c.loop-at.invariant.grows c.in_ok-add_all_exchanged.ensures.grows;
       cores = c.in_ok-add_all_exchanged.ensures.cores;
       linked = c.in_ok-add_all_exchanged.ensures.linked;
       room = c.in_ok-add_all_exchanged.ensures.room;
+      current = c.in_ok-add_all_exchanged.ensures.current;
       exchanged = all-exchanged-more c.args.plan.now.test.now c.args.plan.now.alike.items _ _ c.loop-at.at within c.in_ok-add_all_exchanged.ensures.grows c.loop-at.invariant.exchanged
           c.in_ok-add_all_exchanged.ensures.exchanged;
       within = let l = c.if-len-limit.false in let n = c.len-in-loop-at.ensures.len in omega (arith, l, n);
@@ -19,11 +20,11 @@ loop-at-preserved c =
 
 pub returns-clause-exchanged : goal.returns-clause-exchanged
 returns-clause-exchanged c = λ whole.
-    let all : length c.loop-at.found.snapshots.keys ≤ c.loop-at.at = elim c.loop-at-test.branch [
+    let all : length c.loop-at.found.states.keys ≤ c.loop-at.at = elim c.loop-at-test.branch [
       | else-loop-at-test w ↦ let l = w.loop-at-test.false in let n = c.loop-at.invariant.within in omega (arith, l, n)
       | then-loop-at-test+then-at-len w ↦ let l = w.if-at-len.true in let n = w.len.ensures.len in omega (arith, l, n)
     ] in
-    all-exchanged c.args.plan.now.test.now c.args.plan.now.alike.items c.loop-at.found.snapshots.keys c.loop-at.at all c.loop-at.invariant.exchanged
+    all-exchanged c.args.plan.now.test.now c.args.plan.now.alike.items c.loop-at.found.states.keys c.loop-at.at all c.loop-at.invariant.exchanged
 
 pub loop-at-init : goal.loop-at-init
 loop-at-init c = record {
@@ -31,6 +32,7 @@ loop-at-init c = record {
   cores = c.requires.cores;
   linked = c.requires.linked;
   room = c.in_ok-reached.ensures.cores;
-  exchanged = all-exchanged-none c.args.plan.now.test.now c.args.plan.now.alike.items c.args.found.now.snapshots.keys;
+  current = c.requires.current;
+  exchanged = all-exchanged-none c.args.plan.now.test.now c.args.plan.now.alike.items c.args.found.now.states.keys;
   within = c.requires.within;
 }

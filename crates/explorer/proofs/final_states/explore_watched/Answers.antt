@@ -5,18 +5,18 @@ use Rattle.explorer.proofs.final_states.explore_watched.Goals as goal
 
 pub returns-clause-reached : goal.returns-clause-reached
 returns-clause-reached g c =
-    (met c.dead_registers_change_nothing.ensures _ c.args.depth _ c.args.test.now _ c.args.hidden.now c.search_all-searched.new.found.snapshots.keys c.in_ok-final_states.final_states.items
+    (met c.dead_registers_change_nothing.ensures _ c.args.depth _ c.args.test.now _ c.args.hidden.now c.search_all-searched.new.found.states.keys c.in_ok-final_states.final_states.items
     c.in_ok-plan.ensures.depth c.in_ok-plan.ensures.test c.in_ok-plan.ensures.hidden c.in_ok-final_states.ensures).reached
 
 pub returns-clause-once : goal.returns-clause-once
 returns-clause-once g c =
-    (met c.dead_registers_change_nothing.ensures _ c.args.depth _ c.args.test.now _ c.args.hidden.now c.search_all-searched.new.found.snapshots.keys c.in_ok-final_states.final_states.items
+    (met c.dead_registers_change_nothing.ensures _ c.args.depth _ c.args.test.now _ c.args.hidden.now c.search_all-searched.new.found.states.keys c.in_ok-final_states.final_states.items
     c.in_ok-plan.ensures.depth c.in_ok-plan.ensures.test c.in_ok-plan.ensures.hidden c.in_ok-final_states.ensures).once
 
 pub returns-clause-complete : goal.returns-clause-complete
 returns-clause-complete g c = λ whole.
     all-met c.dead_registers_change_nothing.ensures c.alike_cores_are_exchangeable.ensures c.partly_closed_states_miss_none.ensures c.runs_stop_where_they_end.ensures _ c.args.depth _ c.args.test.now _ c.args.hidden.now
-    c.in_ok-plan.plan.alike.items c.search_all-searched.new.found.snapshots.keys c.in_ok-final_states.final_states.items
+    c.in_ok-plan.plan.alike.items c.search_all-searched.new.found.states.keys c.in_ok-final_states.final_states.items
     c.in_ok-plan.ensures.depth c.in_ok-plan.ensures.test c.in_ok-plan.ensures.hidden c.know_limits.ensures (record {
       alike = c.in_ok-plan.ensures.plan.alike;
       cores = c.in_ok-extent.ensures.cores;
@@ -35,4 +35,4 @@ returns-clause-kept g c = λ fewer l.
     went-by (λ (d : ℕ) (t : Litmus) (hidden : List (List Bool)). HasMoreStates t d fewer) _ c.args.depth _ c.args.test.now _ c.args.hidden.now
     c.in_ok-plan.ensures.depth c.in_ok-plan.ensures.test c.in_ok-plan.ensures.hidden
     (more-states c.dead_registers_change_nothing.ensures c.alike_cores_are_exchangeable.ensures c.in_ok-plan.plan.depth c.in_ok-plan.plan.test.now c.in_ok-plan.plan.hidden.now
-    c.search_all-searched.new.found.snapshots.keys c.search_all-searched.new.found.links.items fewer c.len-kept.ensures.unique c.in_ok-extent.ensures.linked (omega (arith, n, l)))
+    c.search_all-searched.new.found.states.keys c.search_all-searched.new.found.links.items fewer c.len-kept.ensures.unique c.in_ok-extent.ensures.cores c.in_ok-extent.ensures.linked (omega (arith, n, l)))

@@ -1,13 +1,14 @@
-use Rattle.explorer.proofs.Vocabulary.{◌≡◌, ◌<◌, ◌≤◌, ℕ, Some, slice_get, map, length, start, IsCovered, IsExpandedEnough, state_of_snapshot, HaveCores, AreLinked, Snapshot}
+use Rattle.explorer.proofs.Vocabulary.{◌≡◌, ◌<◌, ◌≤◌, ℕ, Some, slice_get, map, length, start, IsCovered, IsExpandedEnough, state_of_packed, HaveCores, AreLinked, Packed}
 use Rattle.explorer.proofs.search.expand_all.Given as goal
 
 abbrev pub invariant-loop-at : goal.invariant-loop-at
 invariant-loop-at g l = record {
-  cores : HaveCores l.plan.test.now l.found.snapshots.keys;
-  linked : AreLinked l.plan.depth l.plan.test.now l.plan.hidden.now l.found.snapshots.keys l.found.links.items;
-  first : IsCovered l.plan.depth l.plan.test.now l.plan.hidden.now l.plan.alike.items (map state_of_snapshot l.found.snapshots.keys) (start l.plan.test.now);
-  each : (i : ℕ) (x : Snapshot) → i < l.at → slice_get l.found.snapshots.keys i ≡ Some x
-      → IsExpandedEnough l.plan.depth l.plan.test.now l.plan.hidden.now l.plan.alike.items (map state_of_snapshot l.found.snapshots.keys) (state_of_snapshot x);
+  cores : HaveCores l.plan.test.now l.found.states.keys;
+  linked : AreLinked l.plan.depth l.plan.test.now l.plan.hidden.now l.found.states.keys l.found.links.items;
+  first : IsCovered l.plan.depth l.plan.test.now l.plan.hidden.now l.plan.alike.items (map state_of_packed l.found.states.keys) (start l.plan.test.now);
+  each : (i : ℕ) (x : Packed) → i < l.at → slice_get l.found.states.keys i ≡ Some x
+      → IsExpandedEnough l.plan.depth l.plan.test.now l.plan.hidden.now l.plan.alike.items (map state_of_packed l.found.states.keys) (state_of_packed x);
   room : length l.reached.state.cores.items ≡ length l.plan.test.now.programs;
-  within : length l.found.snapshots.keys ≤ l.limit;
+  current : length l.found.current.cores.items ≡ length l.plan.test.now.programs;
+  within : length l.found.states.keys ≤ l.limit;
 }
