@@ -9,7 +9,7 @@ use std::alloc::{AllocError, Global};
 /// The program with all its commands.
 pub fn command_line<'a>(alloc: Global) -> Result<Command<'a>, AllocError> {
     let mut program = Command::new(alloc, "tso")
-        .version("1.0.0")
+        .version("1.1.0")
         .about("Runs x86 litmus tests on a simulated multiprocessor under total store order (TSO)")
         .after_help(help::TSO)
         .subcommand_required(true);
