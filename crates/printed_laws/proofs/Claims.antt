@@ -1,5 +1,5 @@
 -- What a verdict means, that both commands print one, and that the status says the same.
-use Rattle.printed_laws.proofs.Vocabulary.{◌≡◌, ℕ, ◌<◌, Bool, true, false, List, [], refl, sym, ap, subst, ◌∙◌, arith, Some, ◌==◌, not, Contains, eqb-true, Litmus, IsTest, Condition, Claim, truth_of, Entry, names_shown, Outcome, shown_values, held_in, failed_in, is_met_in, verdict_word, is_well, is_met, is_as_claimed, PrintsVerdict, IsAsClaimed, IsNotAsClaimed, VerdictMeans, VerdictsAgree, StatusTells, IsSoEverywhere, IsSoSomewhere, Model, truth_asked, final_words, final_registers, EndsAreWhatTsoAllows, SpellsTest, TruthIsShown, parts_of, made-of, Search, shown_after, PrintsAllOutcomes, HeadlineOfOutcomes, all, AreExactly, Tso, Sequential, Quantifier, Exists, NotExists, Forall}
+use Rattle.printed_laws.proofs.Vocabulary.{◌≡◌, ℕ, ◌<◌, Bool, true, false, List, [], refl, sym, ap, subst, ◌∙◌, arith, Some, ◌==◌, not, Contains, eqb-true, Litmus, IsTest, Condition, Claim, truth_of, Entry, names_shown, Outcome, shown_values, held_in, failed_in, is_met_in, verdict_word, is_well, is_met, is_as_claimed, PrintsVerdict, IsAsClaimed, IsNotAsClaimed, VerdictMeans, VerdictsAgree, StatusTells, IsSoEverywhere, IsSoSomewhere, Model, truth_asked, final_words, final_registers, EndsAreWhatTsoAllows, SpellsTest, TruthIsShown, parts_of, made-of, Search, shown_after, PrintsAllOutcomes, HeadlineOfOutcomes, all, AreExactly, Tso, Sequential, Quantifier, Exists, NotExists, Forall, too_many}
 use Rattle.refutation_laws.specs.Models.{IsExecutionOf, depth_of}
 use Rattle.litmus_reader.specs.Spelling.{IsRefused as IsRefusedTest}
 use Rattle.litmus_reader.specs.declared.fault.TextFault.{TextFault}
@@ -11,7 +11,6 @@ use Rattle.commands.specs.Why.{IsWhyAnswer, never, allowed, too_many}
 use Rattle.commands.specs.declared.answer.Status.{Status}
 use Rattle.commands.specs.declared.answer.Status.TheVariants.{Good}
 use Rattle.tso_cli.specs.Answers.{too_large, refused, answered}
-use Rattle.tso_cli.specs.OutcomesHeadline.{too_many}
 use Rattle.tso_cli.specs.WhyHeadline.{IsSoIn, HeadlineOfReasons, never, allowed, too_many}
 use Rattle.printed_laws.proofs.Endings.{EndsIn, verdict_tail, ends-so, one-verdict}
 use Rattle.printed_laws.proofs.LastLines as outcomes

@@ -1,7 +1,6 @@
 -- The steps of two traces of a test are the same where their choices are, and the JSON value of a trace tells its steps.
-use Rattle.printed_laws.proofs.Vocabulary.{◌≡◌, ◌∙◌, ℕ, Bool, true, false, if◌then◌else◌, List, [], ◌∷◌, map, length, refl, sym, ap, subst, arith, Data, items_of, outline, items_outline, Litmus, IsTest, has_ended, CoresExist, Choice, table_of, ProtocolKind, Configuration, IsConfigurationWithinLimits, Running, new_machine, machine_after, trace_step_of, steps_from, trace_under, IsTraced, traced-first, traced-next, words_per_line, machine_json, step_json, own_words, Sourced, sourced_by, step_to, steps_json, trace_json, told_by_object, TraceStepFits}
+use Rattle.printed_laws.proofs.Vocabulary.{◌≡◌, ◌∙◌, ℕ, Bool, true, false, if◌then◌else◌, List, [], ◌∷◌, map, length, refl, sym, ap, subst, arith, Data, items_of, outline, items_outline, Litmus, IsTest, has_ended, CoresExist, Choice, table_of, ProtocolKind, Configuration, IsConfigurationWithinLimits, Running, new_machine, machine_after, trace_step_of, steps_from, trace_under, IsTraced, traced-first, traced-next, words_per_line, machine_json, step_json, own_words, Sourced, sourced_by, step_to, steps_json, trace_json, told_by_object, TraceStepFits, ShownStep}
 use Rattle.json.specs.Json as json
-use Rattle.trace_report.specs.Shown.{ShownStep}
 use Rattle.printed_laws.proofs.JsonTexts.{value_at, items_in, first_item, more_items, has_item, uneven}
 use Rattle.printed_laws.proofs.StepsFit.{MachineFits, fits-first, fits-next, step-fits}
 use Rattle.printed_laws.proofs.TraceObjects.{step-told}

@@ -135,3 +135,4 @@ pub use Rattle.reason_report.specs.declared.replies.Reply.TheVariants.{Reads, Fi
 pub use Rattle.basic_laws.proofs.Lists.{Each, each-map, each-append, each-left, each-right}
 pub use Rattle.refutation_laws.proofs.Soundness.{itself, bare-same}
 pub use Rattle.printed_laws.specs.ReadBack.{entry_of_event, replies_in, ReadCase, same_source, same_reply, source_in, leaf_in, ReadPart, Closed, Cases, nodes_with, nodes_of, cases_with, parts_before, parts_in, question_answered, tree_of, StepsOfRefutationsRefute, LinesTellTheirTree, PrintedTreesRefute, ValuesTellTheirTree, PrintedValuesRefute}
+pub use Rattle.trace_report.specs.Shown.{ShownStep}

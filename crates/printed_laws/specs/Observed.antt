@@ -2,24 +2,14 @@
 -- (Primer, chapter 4, for the axioms, and chapter 3 for sequential consistency.)
 use Rattle.std.specs.Prelude.{ℕ, ◌≡◌, ◌<◌, ◌≤◌, Bool, true, false, List, ◌++◌, length, Some, codes}
 use Rattle.std.specs.Fmt.{decimal}
-use Rattle.tso_model.specs.Litmus.{Litmus}
-use Rattle.tso_model.specs.Condition.{Claim, Condition, truth_of}
+use Rattle.printed_laws.specs.Vocabulary.{Claim, Condition, InputHeadline, line, Litmus, longest_input, parts_of, printed_numbers, registers_in, Search, SpellsTest, truth_of, verdict_word}
 use Rattle.tso_model.specs.Axioms.{IsTsoExecution}
 use Rattle.tso_model.specs.FinalState.{final_words, final_registers}
-use Rattle.tso_model.specs.FlatMachine.{registers_in}
 use Rattle.tso_model.specs.Runs.{run, CoresExist}
 use Rattle.basic_laws.specs.Types.{Choice, Entry}
 use Rattle.tso_laws.specs.Depth.{needed}
 use Rattle.outcome_laws.specs.Outcomes.{IsSequentiallyConsistent}
-use Rattle.litmus_reader.specs.Spelling.{SpellsTest}
-use Rattle.tso_report.specs.Report.{line}
-use Rattle.outcome_report.specs.Verdict.{verdict_word}
-use Rattle.outcome_report.specs.Outcomes.{printed_numbers}
-use Rattle.tso_io.specs.Limits.{longest_input}
-use Rattle.command_line.specs.Search.{Search}
 use Rattle.command_line.specs.declared.settings.Settings.TheVariants as settings
-use Rattle.commands.specs.Dividing.{parts_of}
-use Rattle.tso_cli.specs.Headline.{InputHeadline}
 
 -- ---- where the word stands
 

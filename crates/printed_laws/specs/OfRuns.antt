@@ -1,13 +1,8 @@
 -- The runs of a machine, and what is printed of them: where the same is printed of two, the same is shown of both.
 use Rattle.std.specs.Prelude.{◌≡◌, ◌≤◌, Bool, true, false, List, length}
-use Rattle.tso_model.specs.Litmus.{Litmus, IsTest}
+use Rattle.printed_laws.specs.Vocabulary.{AnswersFit, Configuration, IsConfigurationWithinLimits, IsTest, Litmus, most_choices, ProtocolKind, run_under, shown_under}
 use Rattle.tso_model.specs.declared.choice.Choice.{Choice}
-use Rattle.scheduler.specs.Limits.{most_choices}
-use Rattle.protocol_tables.specs.declared.kind.ProtocolKind.{ProtocolKind}
-use Rattle.machine_core.specs.Configuration.{Configuration, IsConfigurationWithinLimits}
 use Rattle.commands.specs.Answers.{text_under}
-use Rattle.tso_cli.specs.Fitting.{shown_under}
-use Rattle.simulator.specs.Runs.{run_under, AnswersFit}
 
 -- two runs leave the same to be printed: both ended, and the same is shown of them, or neither did, and both used as many
 -- choices, of which as many stalled

@@ -1,15 +1,11 @@
 -- What `outcomes` prints tells what it shows: of one test, what is shown alike is the same.
 use Rattle.std.specs.Prelude.{ℕ, ◌≡◌, ◌<◌, ◌^◌, Bool, List, map, length, All}
-use Rattle.tso_model.specs.Litmus.{Litmus, IsTest}
+use Rattle.printed_laws.specs.Vocabulary.{IsStateAt, IsTest, Litmus, Named, names_shown, Outcome, shown_values}
 use Rattle.scheduler.specs.Printed.{printed_choices}
-use Rattle.tso_report.specs.declared.named.Named.{Named}
-use Rattle.shown_values.specs.Shown.{names_shown}
 use Rattle.shown_values.specs.declared.show.Show.{Show}
-use Rattle.outcome_report.specs.Outcomes.{Outcome, shown_values}
 use Rattle.outcome_report.specs.Printed.{outcomes_in}
 use Rattle.outcome_report.specs.Laws.{OutcomesAreAlike}
 use Rattle.commands.specs.Outcomes.{AreAllOutcomes}
-use Rattle.tso_cli.specs.Fitting.{IsStateAt}
 
 -- final states, fewer than 2^64: each has a word for each register and location that is shown, which have these names
 pub record OutcomesFit (names : List Named) (outcomes : List Outcome) : Type 0 where

@@ -3,18 +3,10 @@
 use Rattle.std.specs.Prelude.{◌≡◌, ◌&&◌, Bool, true, false, if◌then◌else◌, All, List, [], ◌∷◌, ◌++◌, map, Option, Some, None}
 use Rattle.std.specs.List.{flat_map}
 use Rattle.std.specs.Option.{option_map}
-use Rattle.tso_model.specs.Litmus.{Litmus, IsTest}
-use Rattle.tso_model.specs.Condition.{Claim}
+use Rattle.printed_laws.specs.Vocabulary.{Amid, Answer, asked_claim, bare, Before, Between, Case, Claim, Closing, ComesFirst, Cycle, Edge, Endcases, Event, False, FalseClaim, From, Globally, IsTest, Leaf, Litmus, Model, never_lines, never_text, Node, OnLocation, ReadsFrom, ReasonStep, refutes, replies, same_event, So, steps_of, Uniproc}
 use Rattle.tso_model.specs.declared.execution.Entry.{Entry}
-use Rattle.refutation_laws.specs.Known.{bare, same_event}
-use Rattle.refutation_laws.specs.Refutations.{Node, ReadsFrom, ComesFirst, OnLocation, Globally, Between, FalseClaim, asked_claim, refutes}
-use Rattle.refutation_laws.specs.declared.model.Model.{Model}
 use Rattle.reason_report.specs.declared.replies.Reply.{Reply}
 use Rattle.reason_report.specs.declared.replies.Reply.TheVariants.{Reads, First}
-use Rattle.reason_report.specs.declared.steps.Event.{Event}
-use Rattle.reason_report.specs.declared.steps.Edge.{Edge}
-use Rattle.reason_report.specs.Steps.{Answer, From, Before, Closing, Uniproc, Cycle, Amid, False, ReasonStep, Case, So, Leaf, Endcases, replies, steps_of}
-use Rattle.reason_report.specs.ReasonText.{never_lines, never_text}
 use Rattle.reason_report.specs.ReasonJson as json
 use Rattle.printed_laws.specs.Reasons.{ReasonStepFits, AreCounted}
 

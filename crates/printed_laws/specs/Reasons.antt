@@ -1,22 +1,11 @@
 -- What `why` prints of a refutation tells its steps: of one test, steps that are told alike are the same.
 use Rattle.std.specs.Prelude.{ℕ, ◌≡◌, ◌<◌, ◌^◌, true, List, [], ◌∷◌, map, length, All, Option, Some, None, IfSome, ◌⊎◌}
 use Rattle.std.specs.Option.{option_map}
-use Rattle.tso_model.specs.Litmus.{Litmus, IsTest}
-use Rattle.tso_model.specs.Registers.{IsWord}
-use Rattle.basic_laws.specs.Types.{Kind, F}
-use Rattle.order_builder.specs.Spelling.{IsEntryFor}
-use Rattle.tso_report.specs.declared.named.Named.{Named}
+use Rattle.printed_laws.specs.Vocabulary.{Amid, Answer, asked_claim, bare, Before, Case, Closing, Cycle, Edge, Endcases, Event, F, False, From, IsEntryFor, IsTest, IsWord, Kind, Leaf, leaves_in, Litmus, Model, Named, never_lines, never_text, Node, ReasonStep, refutes, So, steps_of, Uniproc}
 use Rattle.tso_report.specs.declared.named.Named.TheVariants.{Register, Location}
-use Rattle.refutation_laws.specs.Known.{bare}
 use Rattle.refutation_laws.specs.Edges.{on_location, global_in}
-use Rattle.refutation_laws.specs.Refutations.{Node, asked_claim, refutes}
-use Rattle.refutation_laws.specs.declared.model.Model.{Model}
 use Rattle.refutation_laws.specs.declared.model.Relation.{Relation}
 use Rattle.reason_report.specs.Places.{Place}
-use Rattle.reason_report.specs.declared.steps.Event.{Event}
-use Rattle.reason_report.specs.declared.steps.Edge.{Edge}
-use Rattle.reason_report.specs.Steps.{Answer, From, Before, Closing, Uniproc, Cycle, Amid, False, ReasonStep, Case, So, Leaf, Endcases, leaves_in, steps_of}
-use Rattle.reason_report.specs.ReasonText.{never_text, never_lines}
 use Rattle.reason_report.specs.ReasonJson as json
 
 -- ---- what is told of a step

@@ -1,15 +1,12 @@
 -- What is printed tells what it shows: of one test on machines of one protocol and configuration, what is shown alike is the
 -- same. Each law is the contract of a function of this crate.
 use Rattle.std.specs.Prelude.{ℕ, ◌≡◌, ◌<◌, ◌^◌, Bool}
-use Rattle.tso_model.specs.Litmus.{Litmus, IsTest}
-use Rattle.protocol_tables.specs.declared.kind.ProtocolKind.{ProtocolKind}
-use Rattle.machine_core.specs.Configuration.{Configuration, IsConfigurationWithinLimits}
+use Rattle.printed_laws.specs.Vocabulary.{Configuration, CountsFitTest, IsConfigurationWithinLimits, IsTest, Litmus, ProtocolKind, RunFitsTest}
 use Rattle.tso_report.specs.Shown.{ShownRun}
 use Rattle.tso_report.specs.Tally.{RunCounts, runs_in}
 use Rattle.scheduler.specs.Plan.{Plan, IsPlanWithinLimits as IsPlan}
 use Rattle.commands.specs.RunTexts.{report_in, unfinished_in}
 use Rattle.commands.specs.Sweep.{sweep_lines}
-use Rattle.tso_cli.specs.Fitting.{RunFitsTest, CountsFitTest}
 
 -- of runs that ended: the order, the registers, the memory, the verdict, and all counts
 abbrev pub ReportsTellTheirRuns : Bool → Type 0

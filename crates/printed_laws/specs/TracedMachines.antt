@@ -2,24 +2,16 @@
 use Rattle.std.specs.Prelude.{ℕ, zero, suc, ◌+◌, ◌/◌, ◌≡◌, ◌<◌, List, [], ◌∷◌, map, length, take, All, Option}
 use Rattle.std.specs.Fmt.{decimal}
 use Rattle.std.specs.Option.{option_map}
-use Rattle.serde_json.specs.Written.{compact_text}
-use Rattle.tso_model.specs.Litmus.{Litmus, IsTest}
-use Rattle.tso_model.specs.FlatMachine.{core_of}
-use Rattle.tso_model.specs.Registers.{IsWord}
-use Rattle.tso_model.specs.Runs.{CoresExist}
+use Rattle.printed_laws.specs.Vocabulary.{compact_text, Configuration, core_of, CoresExist, IsTest, IsWord, line_name, line_state, Litmus, names_in_line, ProtocolKind}
 use Rattle.tso_model.specs.Thread.{value_in}
 use Rattle.basic_laws.specs.Types.{Choice, Reg}
 use Rattle.protocol_tables.specs.Tables.{table_of}
-use Rattle.protocol_tables.specs.declared.kind.ProtocolKind.{ProtocolKind}
 use Rattle.protocol_tables.specs.declared.requests.Transient.{Transient}
 use Rattle.snoop_bus.specs.declared.looking.CachedLine.{CachedLine}
-use Rattle.machine_core.specs.Configuration.{Configuration}
 use Rattle.machine_core.specs.Looking.{bus_holder_of}
 use Rattle.machine_core.specs.Running.{Running, new_machine}
 use Rattle.machine_core.specs.declared.looking.BusHolder.{BusHolder}
-use Rattle.trace_report.specs.Lines.{names_in_line, line_name}
 use Rattle.trace_report.specs.StepLaws.{after_choices}
-use Rattle.trace_report.specs.Steps.{line_state}
 use Rattle.trace_report.specs.declared.step.LineState.{LineState}
 use Rattle.trace_json.specs.MachineJson.{words_per_line, cached_lines_in, words_in_line, words_on_bus, machine_json}
 use Rattle.printed_laws.specs.Traces.{bare_store}

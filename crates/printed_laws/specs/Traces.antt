@@ -3,27 +3,16 @@ use Rattle.std.specs.Prelude.{ℕ, ◌≡◌, ◌<◌, ◌≤◌, Bool, true, Li
 use Rattle.std.specs.Option.{option_map}
 use Rattle.json.specs.Tree.{depth, HasNumbers}
 use Rattle.serde_json.specs.Data.{Data}
-use Rattle.serde_json.specs.Written.{outline, compact_text}
-use Rattle.tso_model.specs.Litmus.{Litmus, IsTest}
-use Rattle.tso_model.specs.Registers.{IsWord}
-use Rattle.tso_model.specs.FlatMachine.{chosen}
-use Rattle.tso_model.specs.Runs.{CoresExist}
+use Rattle.printed_laws.specs.Vocabulary.{AnswersFit, chosen, compact_text, Configuration, CoresExist, IsConfigurationWithinLimits, IsOrderFor, IsTest, IsWord, Litmus, most_choices, outline, ProtocolKind, run_under, trace_text, trace_under}
 use Rattle.basic_laws.specs.Types.{Choice, Entry, W}
-use Rattle.scheduler.specs.Limits.{most_choices}
 use Rattle.order_builder.specs.PrintedOrder.{HasWord}
-use Rattle.order_builder.specs.Spelling.{IsOrderFor}
-use Rattle.protocol_tables.specs.declared.kind.ProtocolKind.{ProtocolKind}
-use Rattle.machine_core.specs.Configuration.{Configuration, IsConfigurationWithinLimits}
 use Rattle.trace_report.specs.Known.{StepNamesExist}
-use Rattle.trace_report.specs.Lines.{trace_text}
 use Rattle.trace_report.specs.Shown.{ShownStep}
-use Rattle.trace_report.specs.Steps.{trace_under}
 use Rattle.trace_json.specs.StepJson.{step_json}
 use Rattle.trace_json.specs.TraceJson.{trace_json}
 use Rattle.trace_json.specs.declared.supplied.Source.{Source}
 use Rattle.trace_json.specs.declared.supplied.Source.TheVariants.{Buffer, Cache, Other, Bus, Memory}
 use Rattle.commands.specs.Trace.{traced_in}
-use Rattle.simulator.specs.Runs.{run_under, AnswersFit}
 use Rattle.printed_laws.specs.OfRuns.{RunsLeaveTheSame}
 use Rattle.printed_laws.specs.Telling.{NameTheSame}
 

@@ -1,26 +1,14 @@
 -- Whether a condition is as it claims: what `Verdict` and `True` mean, for the machine's runs at that depth and for what TSO allows; and
 -- that the status says the same where that is asserted. (Primer, chapter 4, for the axioms, and chapter 3 for sequential consistency.)
 use Rattle.std.specs.Prelude.{ℕ, ◌+◌, ◌≡◌, ◌<◌, ◌≤◌, ◌↔◌, Bool, true, false, List, ◌++◌, length, Some, Contains, slice_get, codes}
-use Rattle.tso_model.specs.Litmus.{Litmus, IsTest}
-use Rattle.tso_model.specs.Condition.{Claim, Condition, truth_of}
-use Rattle.basic_laws.specs.Types.{Quantifier, Exists, NotExists, Forall}
+use Rattle.printed_laws.specs.Vocabulary.{Claim, Condition, Exists, Forall, InputHeadline, IsTest, line, Litmus, longest_input, Named, names_shown, NotExists, Outcome, parts_of, printed_numbers, Quantifier, Search, shown_values, SpellsTest, truth_of, values_at, verdict_word}
 use Rattle.refutation_laws.specs.Models.{depth_of}
-use Rattle.litmus_reader.specs.Spelling.{SpellsTest}
-use Rattle.tso_report.specs.Report.{line}
-use Rattle.tso_report.specs.declared.named.Named.{Named}
-use Rattle.shown_values.specs.Shown.{names_shown, values_at}
-use Rattle.outcome_report.specs.Verdict.{verdict_word}
-use Rattle.outcome_report.specs.Outcomes.{Outcome, shown_values, printed_numbers}
 use Rattle.outcome_report.specs.OutcomesJson.{holds_in}
-use Rattle.tso_io.specs.Limits.{longest_input}
 use Rattle.command_line.specs.Explanation.{Explanation}
-use Rattle.command_line.specs.Search.{Search}
 use Rattle.command_line.specs.declared.settings.Settings.{Settings}
 use Rattle.command_line.specs.declared.settings.Settings.TheVariants as settings
-use Rattle.commands.specs.Dividing.{parts_of}
 use Rattle.commands.specs.declared.answer.Status.{Status}
 use Rattle.tso_cli.specs.Answers.{IsAnswer}
-use Rattle.tso_cli.specs.Headline.{InputHeadline}
 use Rattle.tso_cli.specs.OutcomesHeadline.{PrintsAllOutcomes}
 use Rattle.printed_laws.specs.Observed.{IsSoEverywhere, IsSoSomewhere}
 

@@ -13,7 +13,7 @@
 --               | XCHG [x],EAX      ;
 --               | LOCK XADD [y],EDI ;
 use Rattle.std.specs.Prelude.{ℕ, List, [], ◌∷◌, None, codes}
-use Rattle.tso_model.specs.Litmus.{Litmus}
+use Rattle.worked_examples.specs.Vocabulary.{Litmus}
 use Rattle.basic_laws.specs.Types.{Eax, Ebx, Ecx, Edx, Esi, Edi, Instr, StoreImm, StoreReg, Load, SetImm, SetReg, Fence, Xchg, Xadd, Entry, R, W, F, LR, LW}
 use Rattle.worked_examples.specs.Written.{loc_x, loc_y, loc_z, six, memory_action}
 

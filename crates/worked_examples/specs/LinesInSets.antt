@@ -1,11 +1,7 @@
 -- Where locations and lines lie, and lines in the order of their use, in caches small enough to be followed by eye.
 use Rattle.std.specs.Prelude.{ℕ, Bool, List, [], ◌∷◌, Option}
-use Rattle.tso_model.specs.declared.instruction.Core.{Core}
-use Rattle.protocol_tables.specs.declared.state.State.{State}
-use Rattle.protocol_tables.specs.declared.state.State.TheVariants.{S, M}
+use Rattle.worked_examples.specs.Vocabulary.{Accessed, Core, M, S, State, TagSet, TagSets}
 use Rattle.snoop_bus.specs.declared.access.AccessKind.{AccessKind}
-use Rattle.snoop_bus.specs.Tags.{TagSet}
-use Rattle.snoop_bus.specs.CacheContents.{TagSets, Accessed}
 
 -- a set with room for so many lines, and these lines with their states, the most recently used first
 abbrev pub set_for : ℕ → List (ℕ × State) → TagSet

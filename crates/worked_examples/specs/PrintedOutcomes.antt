@@ -5,8 +5,7 @@
 --    MOV [x],$1  | MOV [y],$1  ;
 --    MOV EAX,[y] | MOV EAX,[x] ;
 use Rattle.std.specs.Prelude.{ℕ, List, [], ◌∷◌, ◌++◌, Some, None, codes}
-use Rattle.tso_model.specs.Litmus.{Litmus}
-use Rattle.tso_model.specs.Condition.{Claim, RegClaim, AndClaim, NotClaim}
+use Rattle.worked_examples.specs.Vocabulary.{AndClaim, Claim, Litmus, NotClaim, RegClaim}
 use Rattle.basic_laws.specs.Types.{Quantifier, Exists, Reg, Eax, Ebx, Ecx, Edx, Esi, StoreImm, StoreReg, Load, SetImm, SetReg, Fence, Xchg, Xadd}
 use Rattle.tso_report.specs.Report.{line}
 use Rattle.tso_report.specs.Tally.{named_register}

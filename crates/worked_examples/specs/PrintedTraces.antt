@@ -1,8 +1,7 @@
 -- What `trace` prints of two runs, written out line by line. (docs/TRACE.md.)
 use Rattle.std.specs.Prelude.{ℕ, List, [], ◌∷◌, ◌++◌, codes}
-use Rattle.tso_model.specs.Litmus.{Litmus}
+use Rattle.worked_examples.specs.Vocabulary.{geometry, Litmus}
 use Rattle.basic_laws.specs.Types.{Eax, Ebx, Ecx, StoreImm, Load, SetImm, Fence, Xchg, Atomic, Split, Choice}
-use Rattle.snoop_bus.specs.Geometry.{geometry}
 use Rattle.machine_core.specs.Configuration.{Configuration}
 use Rattle.worked_examples.specs.Written.{loc_x, loc_y, step, drain}
 use Rattle.worked_examples.specs.SharedBus.{shared}

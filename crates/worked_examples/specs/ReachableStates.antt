@@ -1,6 +1,6 @@
 -- Two cores that store to a location each.
 use Rattle.std.specs.Prelude.{[], ◌∷◌}
-use Rattle.tso_model.specs.Litmus.{Litmus}
+use Rattle.worked_examples.specs.Vocabulary.{Litmus}
 use Rattle.tso_model.specs.declared.instruction.Instr.TheVariants.{StoreImm}
 use Rattle.worked_examples.specs.Written.{loc_x, loc_y}
 use Rattle.worked_examples.specs.SharedBus.{shared}

@@ -7,9 +7,8 @@
 --    P0 | P1 ;
 --    .. | .. ;
 use Rattle.std.specs.Prelude.{true, false, List, [], ◌∷◌, None, codes}
-use Rattle.tso_model.specs.SplitMachine.{Attempt}
+use Rattle.worked_examples.specs.Vocabulary.{Attempt, Litmus}
 use Rattle.basic_laws.specs.Types.{Choice, Instr}
-use Rattle.tso_model.specs.Litmus.{Litmus}
 use Rattle.worked_examples.specs.Written.{six}
 
 -- a choice whose access misses, and one whose access hits

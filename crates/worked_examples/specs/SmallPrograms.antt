@@ -4,9 +4,7 @@
 --    P0  ;
 --    ..  ;
 use Rattle.std.specs.Prelude.{ℕ, List, [], ◌∷◌, None, codes}
-use Rattle.tso_model.specs.Litmus.{Litmus}
-use Rattle.tso_model.specs.FlatMachine.{CoreState, Effect, effect_of}
-use Rattle.tso_model.specs.Runs.{run}
+use Rattle.worked_examples.specs.Vocabulary.{CoreState, Effect, effect_of, Litmus, run}
 use Rattle.basic_laws.specs.Types.{Eax, Ebx, Ecx, Edx, Instr, StoreImm, StoreReg, SetImm, SetReg, Fence, Xchg, Xadd, Entry, W, Choice}
 use Rattle.worked_examples.specs.Written.{loc_x, loc_y, step, drain, six, memory_action, core_at}
 

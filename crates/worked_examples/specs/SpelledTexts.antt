@@ -1,7 +1,6 @@
 -- Texts and the tests that they spell.
 use Rattle.std.specs.Prelude.{ℕ, true, List, [], ◌∷◌, ◌++◌, codes, Some, None}
-use Rattle.tso_model.specs.Litmus.{Litmus}
-use Rattle.tso_model.specs.Condition.{TruthClaim, RegClaim, LocClaim, NotClaim, AndClaim, OrClaim}
+use Rattle.worked_examples.specs.Vocabulary.{AndClaim, Litmus, LocClaim, NotClaim, OrClaim, RegClaim, TruthClaim}
 use Rattle.basic_laws.specs.Types.{Exists, StoreImm, Load, Fence, Xadd, Eax, Ebx}
 use Rattle.worked_examples.specs.Written.{loc_x, loc_y, loc_z, six}
 

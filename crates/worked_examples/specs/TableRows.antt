@@ -1,9 +1,8 @@
 -- The rows of the protocols' tables, as they are printed: what another core's GetS and GetM make of a copy, what a write in place
 -- makes of it, and whether it is dirty when it is replaced.
 use Rattle.std.specs.Prelude.{Bool, true, false, Option}
-use Rattle.protocol_tables.specs.declared.state.State.{State}
+use Rattle.worked_examples.specs.Vocabulary.{State, Table}
 use Rattle.protocol_tables.specs.declared.state.Snoop.{Snoop}
-use Rattle.protocol_tables.specs.Tables.{Table}
 
 pub record Row : Type 0 where
   pub on_get_s : Snoop

@@ -1,12 +1,8 @@
 -- Writes on the split bus to a line that their core has: where it may be written in place, they are committed at once.
 -- (Primer, chapters 6 and 7: a silent write in M or E.)
 use Rattle.std.specs.Prelude.{ℕ, List, [], ◌∷◌, None, codes}
-use Rattle.tso_model.specs.Litmus.{Litmus}
-use Rattle.tso_model.specs.SplitMachine.{Attempt}
-use Rattle.tso_model.specs.EitherBus.{BusState, unheld, effect_on, after_on}
-use Rattle.tso_model.specs.FlatMachine.{start}
+use Rattle.worked_examples.specs.Vocabulary.{after_on, Attempt, BusState, effect_on, Geometry, Litmus, start, unheld}
 use Rattle.basic_laws.specs.Types.{Bus, Eax, StoreImm, Load, Entry, R, W, Choice, Outcome, Committed, Buffered, Asked}
-use Rattle.snoop_bus.specs.Geometry.{Geometry}
 use Rattle.machine_core.specs.declared.counts.Counts.{Counts}
 use Rattle.worked_examples.specs.Written.{loc_x, loc_y, step, drain, six, memory_action}
 use Rattle.worked_examples.specs.SharedBus.{missing, hitting}

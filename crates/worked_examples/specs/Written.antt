@@ -1,6 +1,6 @@
 -- What worked examples come to, written out by constructors and numerals alone: nothing here is of the definitions that are worked.
 use Rattle.std.specs.Prelude.{ℕ, List, [], ◌∷◌}
-use Rattle.tso_model.specs.FlatMachine.{CoreState, Effect}
+use Rattle.worked_examples.specs.Vocabulary.{CoreState, Effect}
 use Rattle.basic_laws.specs.Types.{Loc, Entry, Kind, Choice, Step, Drain, Outcome}
 
 -- three locations, in the order of their numbers

@@ -3,7 +3,7 @@
 --   Registers P1 EAX=21 EBX=22 ECX=23 EDX=24 ESI=25 EDI=26
 --   Memory x=3 y=4
 use Rattle.std.specs.Prelude.{Bool, true, false, [], ◌∷◌}
-use Rattle.tso_model.specs.Condition.{Claim, TruthClaim, RegClaim, LocClaim, NotClaim, AndClaim, OrClaim, truth_of}
+use Rattle.worked_examples.specs.Vocabulary.{AndClaim, Claim, LocClaim, NotClaim, OrClaim, RegClaim, truth_of, TruthClaim}
 use Rattle.tso_model.specs.declared.register.Reg.TheVariants.{Ecx, Esi}
 use Rattle.worked_examples.specs.Written.{six}
 

@@ -1,20 +1,14 @@
 -- Shapes, copies and caches of the examples, by constructors alone.
 use Rattle.std.specs.Prelude.{ℕ, List, [], ◌∷◌, Option, Some, None}
-use Rattle.tso_model.specs.declared.instruction.Core.{Core}
-use Rattle.protocol_tables.specs.declared.state.State.{State}
-use Rattle.protocol_tables.specs.declared.state.State.TheVariants.{I, S, E, O, M}
+use Rattle.worked_examples.specs.Vocabulary.{Core, E, Geometry, I, M, msi, O, S, State, Table, TagSet, TagSets}
 use Rattle.protocol_tables.specs.declared.requests.Transient.{Transient}
 use Rattle.protocol_tables.specs.declared.requests.Transient.TheVariants.{ImD}
-use Rattle.protocol_tables.specs.Tables.{Table, msi}
 use Rattle.cache_set.specs.declared.Line.{Line}
 use Rattle.cache_set.specs.declared.Victim.{Victim}
 use Rattle.cache_set.specs.Contents.{Contents}
 use Rattle.snoop_bus.specs.declared.holding.Stage.TheVariants.{Write}
 use Rattle.snoop_bus.specs.declared.holding.HeldBus.{HeldBus}
-use Rattle.snoop_bus.specs.Geometry.{Geometry}
 use Rattle.snoop_bus.specs.Lines.{Words}
-use Rattle.snoop_bus.specs.Tags.{TagSet}
-use Rattle.snoop_bus.specs.CacheContents.{TagSets}
 use Rattle.snoop_bus.specs.Copies.{Sets}
 use Rattle.snoop_bus.specs.Bus.{BusModel, bus_with}
 use Rattle.snoop_bus.specs.Accesses.{new_bus}

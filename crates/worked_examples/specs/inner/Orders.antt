@@ -1,7 +1,6 @@
 -- Entries before and after a read, and the two parts of locked instructions with others between them.
 use Rattle.std.specs.Prelude.{List, [], ◌∷◌, None, codes}
-use Rattle.tso_model.specs.Litmus.{Litmus}
-use Rattle.basic_laws.specs.Types.{Entry, R, W, LR, LW}
+use Rattle.worked_examples.specs.Vocabulary.{Entry, Litmus, LR, LW, R, W}
 use Rattle.worked_examples.specs.Written.{loc_x, loc_y, memory_action}
 
 --   { x=3; y=4; }, whatever the programs

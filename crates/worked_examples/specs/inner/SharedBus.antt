@@ -1,8 +1,6 @@
 -- States and choices of the examples on a split bus.
 use Rattle.std.specs.Prelude.{ℕ, List, [], ◌∷◌}
-use Rattle.tso_model.specs.Litmus.{Litmus}
-use Rattle.tso_model.specs.SplitMachine.{Attempt, BusEffect}
-use Rattle.tso_model.specs.EitherBus.{BusState, BusRun, effect_on, run_on}
+use Rattle.worked_examples.specs.Vocabulary.{Attempt, BusEffect, BusRun, BusState, effect_on, Litmus, run_on}
 use Rattle.basic_laws.specs.Types.{Split, Eax, Instr, StoreImm, Load, Xchg, Entry, W, LR}
 use Rattle.worked_examples.specs.Written.{loc_x, loc_y, step, drain, six, memory_action}
 use Rattle.worked_examples.specs.SharedBus.{missing, shared}

@@ -1,7 +1,6 @@
 -- What a choice on a split bus comes to, written out by constructors and numerals alone.
 use Rattle.std.specs.Prelude.{List}
-use Rattle.tso_model.specs.FlatMachine.{CoreState}
-use Rattle.tso_model.specs.SplitMachine.{Holder, BusEffect}
+use Rattle.worked_examples.specs.Vocabulary.{BusEffect, CoreState, Holder}
 use Rattle.basic_laws.specs.Types.{Entry, Outcome}
 use Rattle.worked_examples.specs.Written.{comes}
 

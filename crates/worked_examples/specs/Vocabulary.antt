@@ -1,0 +1,15 @@
+-- The words of the crates below that the definitions of this crate use, in one place: each file takes its own from here.
+pub use Rattle.tso_model.specs.Condition.{AndClaim, Claim, LocClaim, NotClaim, OrClaim, RegClaim, truth_of, TruthClaim}
+pub use Rattle.tso_model.specs.EitherBus.{after_on, BusRun, BusState, effect_on, run_on, unheld}
+pub use Rattle.tso_model.specs.FlatMachine.{CoreState, Effect, effect_of, start}
+pub use Rattle.tso_model.specs.Litmus.{Litmus}
+pub use Rattle.tso_model.specs.Runs.{run}
+pub use Rattle.tso_model.specs.SplitMachine.{Attempt, BusEffect, Holder}
+pub use Rattle.tso_model.specs.declared.instruction.Core.{Core}
+pub use Rattle.basic_laws.specs.Types.{Entry, LR, LW, R, W}
+pub use Rattle.protocol_tables.specs.Tables.{msi, Table}
+pub use Rattle.protocol_tables.specs.declared.state.State.{State}
+pub use Rattle.protocol_tables.specs.declared.state.State.TheVariants.{E, I, M, O, S}
+pub use Rattle.snoop_bus.specs.CacheContents.{Accessed, TagSets}
+pub use Rattle.snoop_bus.specs.Geometry.{Geometry, geometry}
+pub use Rattle.snoop_bus.specs.Tags.{TagSet}
