@@ -6,14 +6,23 @@ use clap::builder::ValueParser;
 use clap::{Arg, ArgAction, Command};
 use std::alloc::{AllocError, Global};
 
-/// The program with all its commands.
-pub fn command_line<'a>(alloc: Global) -> Result<Command<'a>, AllocError> {
+/// The program for a command line of these words, whose first is its name. Where the second names a command, that command
+/// stands alone: no other can follow it, and nothing that is printed of it shows the others. Else all of them are there.
+pub fn command_line<'a>(alloc: Global, words: &[&str]) -> Result<Command<'a>, AllocError> {
+    match words.get(1).and_then(|word| Subcommand::named(word)) {
+        Some(called) => program_of(alloc, &[called]),
+        None => program_of(alloc, &SUBCOMMANDS),
+    }
+}
+
+/// The program with these commands.
+fn program_of<'a>(alloc: Global, commands: &[Subcommand]) -> Result<Command<'a>, AllocError> {
     let mut program = Command::new(alloc, "tso")
         .version("1.1.0")
         .about("Runs x86 litmus tests on a simulated multiprocessor under total store order (TSO)")
         .after_help(help::TSO)
         .subcommand_required(true);
-    for declared in &SUBCOMMANDS {
+    for declared in commands {
         program = program.subcommand(command_of(alloc, *declared)?)?;
     }
     Ok(program)

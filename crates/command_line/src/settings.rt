@@ -115,7 +115,7 @@ pub fn settings_of(alloc: Global, words: &[&str]) -> Result<Settings, LineFault>
 
 /// What the words say, where they are a command with its options.
 fn matches_of<'a>(alloc: Global, words: &'a [&'a str]) -> Result<ArgMatches<'a>, clap::Error> {
-    let command = command_line(alloc)?;
+    let command = command_line(alloc, words)?;
     command.try_get_matches_from(words)
 }
 
