@@ -4,6 +4,7 @@ use crate::characters::says_foreign;
 use crate::hinting::NOTHING_KNOWN;
 use crate::line::Line;
 use crate::quotes::{after_byte, first_word, is_all_digits, is_choice, up_to};
+use crate::tables::is_exactly_one_of;
 use crate::unused::location_named;
 use litmus_tokens::word as word_value;
 use order_builder::OrderFault;
@@ -149,8 +150,7 @@ fn bad_count(line: &mut Line, text: &[u8]) {
         number = number.saturating_add(1);
         let entry = without_return(whole);
         if start == 0 {
-            // A comparison of slices costs more than the word's five bytes, and there may be many lines.
-            if matches!(entry, [b'O', b'r', b'd', b'e', b'r']) {
+            if is_exactly_one_of(&["Order"], entry) {
                 start = number;
             }
         } else if entry.starts_with(b"Endorder ") {
