@@ -13,7 +13,7 @@ pub enum Request {
 /// The state of a line between its core's request and the words' coming in.
 ///
 /// (Primer on Memory Consistency and Cache Coherence, chapter 7.)
-#[derive(Clone, Copy, PartialEq, Eq)]
+#[derive(Clone, Copy)]
 pub enum Transient {
     /// There was no copy, and GetS was asked for.
     IsD,

@@ -21,7 +21,7 @@ use protocol_tables::{Protocol, State, Transient};
 use tso_model::{Core, Loc};
 
 /// A line in a cache: its number, its state, and its words. Those past the line's size are 0.
-#[derive(Clone, Copy, PartialEq, Eq)]
+#[derive(Clone, Copy)]
 pub struct CachedLine {
     pub line: u8,
     pub state: State,

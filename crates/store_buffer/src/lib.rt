@@ -14,7 +14,7 @@ use tso_model::{Loc, NoMemory};
 
 /// A store that was issued and is not in memory yet: the number of its instruction in its program,
 /// its location and the value that it writes.
-#[derive(Clone, Copy, PartialEq, Eq)]
+#[derive(Clone, Copy)]
 pub struct Pending {
     pub place: u8,
     pub loc: Loc,

@@ -4,7 +4,7 @@
 use crate::instruction::{Core, Loc};
 
 /// The kind of a memory action.
-#[derive(Clone, Copy, Debug, PartialEq, Eq, Hash)]
+#[derive(Clone, Copy, PartialEq, Eq)]
 pub enum Kind {
     /// A plain load.
     R,
@@ -21,7 +21,7 @@ pub enum Kind {
 /// A memory action: of which core, of which instruction of its program (counted from 0, register
 /// moves too), of which kind, at which location, and the value that was read or written. A fence
 /// of a program has location 0 and value 0.
-#[derive(Clone, Copy, Debug, PartialEq, Eq, Hash)]
+#[derive(Clone, Copy, PartialEq, Eq)]
 pub struct Entry {
     pub core: Core,
     pub place: u8,

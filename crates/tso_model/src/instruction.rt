@@ -4,11 +4,11 @@
 use crate::register::Reg;
 
 /// A core, by its number from 0.
-#[derive(Clone, Copy, Debug, PartialEq, Eq, Hash)]
+#[derive(Clone, Copy, PartialEq, Eq)]
 pub struct Core(pub u8);
 
 /// A location in memory, a word of 32 bits, by its number from 0 in the order of first appearance.
-#[derive(Clone, Copy, Debug, PartialEq, Eq, Hash)]
+#[derive(Clone, Copy, PartialEq, Eq)]
 pub struct Loc(pub u8);
 
 /// An instruction of a core's straight-line program.
