@@ -14,7 +14,7 @@ use tso_model::Core;
 
 /// What the accesses of one core's cache were, counted over a run. A load that the core's own pending
 /// stores answer is no access; a locked instruction is one write access.
-#[derive(Clone, Copy, PartialEq, Eq)]
+#[derive(Clone, Copy)]
 pub struct Counts {
     /// Accesses that the core's own copy served, with nothing asked of the bus.
     pub hits: u32,
