@@ -10,7 +10,7 @@ use std::error::Error;
 use std::fmt;
 
 /// Why a text wasn't read as choices. Words are numbered from 1.
-#[derive(Clone, Copy, Debug, PartialEq, Eq)]
+#[derive(Clone, Copy)]
 pub enum ChoiceFault {
     /// This word is of no form of a choice text, or isn't the number that `seed` needs here.
     BadWord(usize),
@@ -34,6 +34,12 @@ impl fmt::Display for ChoiceFault {
     }
 }
 
+impl fmt::Debug for ChoiceFault {
+    fn fmt<W: fmt::Write>(&self, f: &mut fmt::Formatter<W>) -> fmt::Result {
+        fmt::Display::fmt(self, f)
+    }
+}
+
 impl Error for ChoiceFault {}
 
 impl From<tso_model::NoMemory> for ChoiceFault {
@@ -53,7 +59,7 @@ impl<T: Drop> From<AllocFailed<T>> for ChoiceFault {
 }
 
 /// Why no choices are made that reach an order.
-#[derive(Clone, Copy, Debug, PartialEq, Eq)]
+#[derive(Clone, Copy)]
 pub enum WitnessFault {
     /// The order needs store buffers of this depth, which is greater than the one asked for.
     Depth(u8),
@@ -67,6 +73,12 @@ impl fmt::Display for WitnessFault {
             WitnessFault::Depth(needed) => write!(f, "the order needs a depth of {needed}"),
             WitnessFault::NoMemory => f.write_str("out of memory"),
         }
+    }
+}
+
+impl fmt::Debug for WitnessFault {
+    fn fmt<W: fmt::Write>(&self, f: &mut fmt::Formatter<W>) -> fmt::Result {
+        fmt::Display::fmt(self, f)
     }
 }
 
