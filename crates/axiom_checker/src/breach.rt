@@ -8,7 +8,7 @@ use tso_model::{Core, Entry, Kind, Loc, NoMemory};
 
 /// Why an order is no TSO execution of a test: the first of its breaches, in the order of the
 /// variants.
-#[derive(Clone, Copy, Debug, PartialEq, Eq)]
+#[derive(Clone, Copy)]
 pub enum Breach {
     /// No program has this core, place, kind and location, or it is a fence with a location or
     /// value other than 0.
@@ -43,6 +43,12 @@ impl fmt::Display for Breach {
             Breach::ReadValue(..) => "a read of another value than is due",
             Breach::NoMemory => "out of memory",
         })
+    }
+}
+
+impl fmt::Debug for Breach {
+    fn fmt<W: fmt::Write>(&self, f: &mut fmt::Formatter<W>) -> fmt::Result {
+        fmt::Display::fmt(self, f)
     }
 }
 

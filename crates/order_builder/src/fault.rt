@@ -8,7 +8,7 @@ use std::error::Error;
 use std::fmt;
 
 /// Why a text spells no order of a test. The first fault in the order of its lines is named.
-#[derive(Clone, Copy, Debug, PartialEq, Eq)]
+#[derive(Clone, Copy)]
 pub enum OrderFault {
     /// No line is `Order`.
     NoOrder,
@@ -36,6 +36,12 @@ impl fmt::Display for OrderFault {
             ),
             OrderFault::NoMemory => f.write_str("out of memory"),
         }
+    }
+}
+
+impl fmt::Debug for OrderFault {
+    fn fmt<W: fmt::Write>(&self, f: &mut fmt::Formatter<W>) -> fmt::Result {
+        fmt::Display::fmt(self, f)
     }
 }
 
