@@ -119,15 +119,14 @@ impl<'a, P: Protocol> Runner for MachineRunner<'a, P> {
     fn count_run<C: Choices>(
         &mut self,
         test: &Test,
-        choices: C,
+        choices: &mut C,
         tally: &mut Tally<'_>,
     ) -> Result<bool, NoMemory> {
         attempts_lead_from_state_to_state();
         atomic_runs_are_flat_runs();
         runs_on_either_bus_stop_where_they_end();
         test.know_limits();
-        let mut choices = choices;
-        drive_machine(&mut self.machine, &mut Stalling::nothing(), &mut choices)?;
+        drive_machine(&mut self.machine, &mut Stalling::nothing(), choices)?;
         if !self.machine.is_ended() {
             self.machine.restart();
             tally.add_unfinished();

@@ -66,13 +66,12 @@ impl Runner for FlatRunner {
     fn count_run<C: Choices>(
         &mut self,
         test: &Test,
-        choices: C,
+        choices: &mut C,
         tally: &mut Tally<'_>,
     ) -> Result<bool, NoMemory> {
         test.know_limits();
-        let mut choices = choices;
         overwrite(&mut self.state, &self.first)?;
-        let ended = drive(&mut self.state, test, self.depth, &mut choices)?;
+        let ended = drive(&mut self.state, test, self.depth, choices)?;
         if !ended {
             tally.add_unfinished();
             return Ok(false);

@@ -35,16 +35,16 @@ pub(crate) trait Runner: Drop {
     fn count_run<C: Choices>(
         &mut self,
         test: &Test,
-        choices: C,
+        choices: &mut C,
         tally: &mut Tally<'_>,
     ) -> Result<bool, NoMemory>
         requires runs { runs self.old test.now }
-        requires cores { CoresExist (length test.now.programs) (C.coming choices) }
+        requires cores { CoresExist (length test.now.programs) (C.coming choices.old) }
         requires tally { tally.old.test ≡ test.now }
         requires room { runs_in tally.old.counts < 2 ^ 32 - 1 }
-        ensures ended { IfOk result (λ b. b ≡ (run_of self.old test.now (C.coming choices)).ended) }
-        ensures counts { OnOk result (tally.new.counts ≡ with_one_run test.now (run_of self.old test.now (C.coming choices)) tally.old.counts) }
-        ensures answers { OnOk result (fits self.old (C.coming choices)) }
+        ensures ended { IfOk result (λ b. b ≡ (run_of self.old test.now (C.coming choices.old)).ended) }
+        ensures counts { OnOk result (tally.new.counts ≡ with_one_run test.now (run_of self.old test.now (C.coming choices.old)) tally.old.counts) }
+        ensures answers { OnOk result (fits self.old (C.coming choices.old)) }
         ensures test { tally.new.test ≡ tally.old.test }
 
         // It can make the same runs again.
@@ -76,8 +76,8 @@ pub(crate) fn count_runs<R: Runner>(
     let mut all_ended = true;
     let length = plan.length() as usize;
     for at in 0..plan.seeds() {
-        let choices = Seeded::new(test.cores(), plan.seed(at), length);
-        let ended = runner.count_run(test, choices, tally)?;
+        let mut choices = Seeded::new(test.cores(), plan.seed(at), length);
+        let ended = runner.count_run(test, &mut choices, tally)?;
         all_ended = all_ended && ended;
     }
     Ok(all_ended)

@@ -17,13 +17,13 @@ returns-then-not-is_ended-clause-ended g c =
     let m = c.args.self.now.machine in
     let laws : RunLaws = record { atomic = c.atomic_runs_are_flat_runs.ensures; stops = c.runs_on_either_bus_stop_where_they_end.ensures } in
     let drives = c.in_ok-drive_machine.ensures.drives in
-    sym (unfinished-is (table_in m) (configuration_of m) m.test m _ (g.C.Choices.coming c.args.choices) _ _ laws (c.requires.runs.0, drives)
+    sym (unfinished-is (table_in m) (configuration_of m) m.test m _ (g.C.Choices.coming c.args.choices.now) _ _ laws (c.requires.runs.0, drives)
     (sym c.is_ended.ensures ∙ c.if-not-is_ended.true)).0
 
 pub returns-then-not-is_ended-clause-counts : goal.returns-then-not-is_ended-clause-counts
 returns-then-not-is_ended-clause-counts g c =
     c.add_unfinished.ensures.counts
-    ∙ counted-unfinished c.args.test.now (machine_run c.args.self.now.machine (g.C.Choices.coming c.args.choices)) c.args.tally.now.counts (sym (returns-then-not-is_ended-clause-ended g c))
+    ∙ counted-unfinished c.args.test.now (machine_run c.args.self.now.machine (g.C.Choices.coming c.args.choices.now)) c.args.tally.now.counts (sym (returns-then-not-is_ended-clause-ended g c))
 
 pub returns-then-not-is_ended-clause-again : goal.returns-then-not-is_ended-clause-again
 returns-then-not-is_ended-clause-again g c =
@@ -41,7 +41,7 @@ returns-clause-ended g c =
     let left = c.in_ok-state.state in
     let laws : RunLaws = record { atomic = c.atomic_runs_are_flat_runs.ensures; stops = c.runs_on_either_bus_stop_where_they_end.ensures } in
     let drives = c.in_ok-drive_machine.ensures.drives in
-    sym (counted-ended (table_in m) (configuration_of m) m.test m _ (g.C.Choices.coming c.args.choices) _ _ left.registers.items left.memory.items _ c.args.tally.now.counts laws
+    sym (counted-ended (table_in m) (configuration_of m) m.test m _ (g.C.Choices.coming c.args.choices.now) _ _ left.registers.items left.memory.items _ c.args.tally.now.counts laws
     (c.requires.runs.0, drives) (sym c.is_ended.ensures ∙ c.if-not-is_ended.false)
     c.in_ok-state.ensures.registers c.in_ok-state.ensures.memory refl).0
 
@@ -50,7 +50,7 @@ returns-clause-counts g c =
     let m = c.args.self.now.machine in
     let t = c.args.test.now in
     let left = c.in_ok-state.state in
-    let cs = g.C.Choices.coming c.args.choices in
+    let cs = g.C.Choices.coming c.args.choices.now in
     let laws : RunLaws = record { atomic = c.atomic_runs_are_flat_runs.ensures; stops = c.runs_on_either_bus_stop_where_they_end.ensures } in
     let drives = c.in_ok-drive_machine.ensures.drives in
     let counted = counted-ended (table_in m) (configuration_of m) m.test m _ cs _ _ left.registers.items left.memory.items (verdict m.test left.registers.items left.memory.items) c.args.tally.now.counts laws

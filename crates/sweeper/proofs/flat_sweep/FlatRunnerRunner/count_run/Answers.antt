@@ -6,22 +6,22 @@ use Rattle.sweeper.proofs.flat_sweep.FlatRunnerRunner.count_run.Goals as goal
 pub returns-then-not-ended-clause-ended : goal.returns-then-not-ended-clause-ended
 returns-then-not-ended-clause-ended g c =
     sym c.if-not-ended.true ∙ c.in_ok-ended.ensures.ended
-    ∙ ap (λ (s : State). (run_from c.args.test.now c.args.self.now.depth s (g.C.Choices.coming c.args.choices)).ended) (c.in_ok-overwrite.ensures.value ∙ c.requires.runs.0)
+    ∙ ap (λ (s : State). (run_from c.args.test.now c.args.self.now.depth s (g.C.Choices.coming c.args.choices.now)).ended) (c.in_ok-overwrite.ensures.value ∙ c.requires.runs.0)
 
 pub returns-then-not-ended-clause-counts : goal.returns-then-not-ended-clause-counts
 returns-then-not-ended-clause-counts g c =
     c.add_unfinished.ensures.counts
-    ∙ counted-unfinished c.args.test.now (run c.args.test.now c.args.self.now.depth (g.C.Choices.coming c.args.choices)) c.args.tally.now.counts (sym (returns-then-not-ended-clause-ended g c))
+    ∙ counted-unfinished c.args.test.now (run c.args.test.now c.args.self.now.depth (g.C.Choices.coming c.args.choices.now)) c.args.tally.now.counts (sym (returns-then-not-ended-clause-ended g c))
 
 pub returns-clause-ended : goal.returns-clause-ended
 returns-clause-ended g c =
     sym c.if-not-ended.false ∙ c.in_ok-ended.ensures.ended
-    ∙ ap (λ (s : State). (run_from c.args.test.now c.args.self.now.depth s (g.C.Choices.coming c.args.choices)).ended) (c.in_ok-overwrite.ensures.value ∙ c.requires.runs.0)
+    ∙ ap (λ (s : State). (run_from c.args.test.now c.args.self.now.depth s (g.C.Choices.coming c.args.choices.now)).ended) (c.in_ok-overwrite.ensures.value ∙ c.requires.runs.0)
 
 pub returns-clause-counts : goal.returns-clause-counts
 returns-clause-counts g c =
     let t = c.args.test.now in
-    let cs = g.C.Choices.coming c.args.choices in
+    let cs = g.C.Choices.coming c.args.choices.now in
     let r : Run = run t c.args.self.now.depth cs in
     let left = c.drive.new.state in
     let registers : List (List ℕ) = c.write_registers.new.registers.items in
