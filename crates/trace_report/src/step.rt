@@ -49,7 +49,7 @@ pub struct LineRequest {
 /// What a core's line is in.
 ///
 /// (Primer on Memory Consistency and Cache Coherence, chapters 6 and 7.)
-#[derive(Clone, Copy, PartialEq, Eq)]
+#[derive(Clone, Copy)]
 pub enum LineState {
     /// A stable state; I where the core has no copy.
     Stable(State),
