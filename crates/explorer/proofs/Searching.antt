@@ -1,5 +1,5 @@
 -- What the search keeps, step by step.
-use Rattle.explorer.proofs.Vocabulary.{◌≡◌, ◌<◌, ◌≤◌, ℕ, ◌+◌, zero, suc, Bool, true, false, List, [], ◌∷◌, ◌++◌, length, map, Some, slice_get, slice_index_or, if◌then◌else◌, inl, inr, arith, ap, sym, ◌∙◌, subst, refl, append_assoc, length-append, drop, ◌==◌, ◌||◌, list_any, insert_key, lt-or, append-nil, Litmus, State, after_choice, effect_of, start, chosen, step, drain, Entry, Choice, Step, Drain, stall_count, IsEager, LeadsEagerly, IsAmongStates, IsCovered, IsExpanded, IsExpandedEnough, ArePartlyClosed, ChoiceSet, has_choice, IsStubborn, ArePicksVisited, forgotten, exchanged_by, state_bytes, state_of_bytes, state_of_packed, state_of_snapshot, core_of_processor, length-map, LeadsBy, IsSettled, Grows, IsKeptState, HaveCores, IsCurrent, IsFirstKept, IsReachedByChoice, IsVisited, AreVisited, AreLinked, Snapshot, Packed, Link, Made, Exchanged}
+use Rattle.explorer.proofs.Vocabulary.{◌≡◌, ◌<◌, ◌≤◌, ℕ, ◌+◌, zero, suc, Bool, true, false, List, [], ◌∷◌, ◌++◌, length, map, Some, slice_get, slice_index_or, if◌then◌else◌, ◌⊎◌, inl, inr, arith, ap, sym, ◌∙◌, subst, refl, append_assoc, length-append, drop, ◌==◌, ◌||◌, list_any, insert_key, lt-or, append-nil, Litmus, State, after_choice, effect_of, start, chosen, step, drain, Entry, Choice, Step, Drain, stall_count, IsEager, LeadsEagerly, IsAmongStates, IsCovered, IsExpandedEnough, ArePartlyClosed, ChoiceSet, has_choice, IsStubborn, HasEvery, ArePicksVisited, forgotten, exchanged_by, state_bytes, state_of_bytes, state_of_packed, state_of_snapshot, core_of_processor, length-map, LeadsBy, IsSettled, Grows, IsKeptState, HaveCores, IsCurrent, IsFirstKept, IsReachedByChoice, IsVisited, AreLinked, Snapshot, Packed, Link, Made, Exchanged}
 use Rattle.explorer.proofs.Exchanging.{none-alike}
 use Rattle.explorer.proofs.Linking.{get-left, get-back, get-within, get-one, kept-at, leads-append, linked-first}
 
@@ -124,20 +124,20 @@ current-here xs at x s q e = record { kept = x; stands = q; state_is = sym e }
 pub current-is : (xs : List Packed) (at : ℕ) (s : Snapshot) (x : Packed) → IsCurrent xs at s → slice_get xs at ≡ Some x → state_of_snapshot s ≡ state_of_packed x
 current-is xs at s x c q = sym c.state_is ∙ ap state_of_packed (get-one xs at c.kept x c.stands q)
 
--- ---- all choices of a state
+-- ---- the choices of a stubborn set, or all
 
-pub expands : (d : ℕ) (t : Litmus) (hidden : List (List Bool)) (pairs : List (ℕ × ℕ)) (xs : List Packed) (s : State) → ((k : ℕ) → k < length t.programs → AreVisited d t hidden pairs xs s k) → IsExpanded d t hidden pairs (map state_of_packed xs) s
-expands d t hidden pairs xs s h (Step k) l = (h k.0 l).0
-expands d t hidden pairs xs s h (Drain k) l = (h k.0 l).1
-
--- and those of a stubborn set
-pub expands-partly : (d : ℕ) (t : Litmus) (hidden : List (List Bool)) (pairs : List (ℕ × ℕ)) (xs : List Packed) (s : State) (set : ChoiceSet) → IsStubborn d t set s
+pub expands-enough : (d : ℕ) (t : Litmus) (hidden : List (List Bool)) (pairs : List (ℕ × ℕ)) (xs : List Packed) (s : State) (set : ChoiceSet) → IsStubborn d t set s ⊎ HasEvery set (length t.programs)
     → ((k : ℕ) → k < length t.programs → ArePicksVisited d t hidden pairs xs s set k) → IsExpandedEnough d t hidden pairs (map state_of_packed xs) s
-expands-partly d t hidden pairs xs s set st h = inr (record { set = set; stubborn = st; each = each })
+expands-enough d t hidden pairs xs s set (inl st) h = inr (record { set = set; stubborn = st; each = each })
   where
     each : (c : Choice) → has_choice set c ≡ true → chosen c < length t.programs → IsVisited d t hidden pairs xs s c
     each (Step k) q l = (h k.0 l).0 q
     each (Drain k) q l = (h k.0 l).1 q
+expands-enough d t hidden pairs xs s set (inr every) h = inl each
+  where
+    each : (c : Choice) → chosen c < length t.programs → IsVisited d t hidden pairs xs s c
+    each (Step k) l = (h k.0 l).0 (every k.0 l).0
+    each (Drain k) l = (h k.0 l).1 (every k.0 l).1
 
 pub picks-grown : (d : ℕ) (t : Litmus) (hidden : List (List Bool)) (pairs : List (ℕ × ℕ)) (xs ys : List Packed) (s : State) (set : ChoiceSet) (k : ℕ) → Grows xs ys
     → ArePicksVisited d t hidden pairs xs s set k → ArePicksVisited d t hidden pairs ys s set k
@@ -163,14 +163,6 @@ closes d t hidden pairs xs n l first each = record {
 
 pub grown-within : (xs ys : List Packed) (i : ℕ) → Grows xs ys → i < length xs → i < length ys
 grown-within xs ys i g l = let q = ap length g.1 in let n = length-append xs g.0 in omega (arith, q, n, l)
-
--- one core more is visited
-pub visited-more : (d : ℕ) (t : Litmus) (hidden : List (List Bool)) (pairs : List (ℕ × ℕ)) (xs ys : List Packed) (s : State) (n : ℕ) → Grows xs ys
-    → ((k : ℕ) → k < n → AreVisited d t hidden pairs xs s k) → AreVisited d t hidden pairs ys s n → (k : ℕ) → k < n + 1 → AreVisited d t hidden pairs ys s k
-visited-more d t hidden pairs xs ys s n g before now k l = elim (lt-or n k) [
-  | inl m ↦ let r = before k m in (visited-grown d t hidden pairs xs ys s (step k) g r.0, visited-grown d t hidden pairs xs ys s (drain k) g r.1)
-  | inr m ↦ let q : n ≡ k = omega (arith, l, m) in subst (λ z. AreVisited d t hidden pairs ys s z) q now
-]
 
 -- one state more is expanded
 pub expanded-more : (d : ℕ) (t : Litmus) (hidden : List (List Bool)) (pairs : List (ℕ × ℕ)) (xs ys : List Packed) (n : ℕ) → n < length xs → Grows xs ys

@@ -16,7 +16,7 @@ use crate::exchange::exchange;
 use crate::found::{Found, keep};
 use crate::plan::Plan;
 use crate::reached::{Reached, nowhere};
-use crate::search::Extent;
+use crate::search::{Extent, extent_within};
 use crate::unpacking::unpack;
 use eager_laws::{alike_cores_are_exchangeable, dead_registers_change_nothing};
 use flat_machine::{has_ended, overwrite};
@@ -119,13 +119,10 @@ pub fn close(
     }
     let mut reached = nowhere(alloc, plan.test)?;
     for at in 0..limit {
-        if at >= found.states.len() {
+        if at >= found.states.len() || found.states.len() > limit {
             break;
         }
         add_all_exchanged(alloc, plan, found, &mut reached, at)?;
-        if found.states.len() > limit {
-            return Ok(Extent::Cut);
-        }
     }
-    Ok(Extent::Whole)
+    Ok(extent_within(limit, found.states.len()))
 }

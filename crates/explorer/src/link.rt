@@ -18,7 +18,7 @@ pub enum Turn {
     Exchanged((u8, u8)),
 }
 
-/// How a snapshot was reached: from which one, by its number, and by which choices and exchanges. The
+/// How a state was reached: from which one, by its number, and by which choices and exchanges. The
 /// first was reached from the beginning of the test, and its `from` says nothing.
 #[derive(Drop)]
 pub struct Link {
@@ -72,7 +72,7 @@ fn play(choices: &mut Vec<Choice>, turns: &[Turn]) -> Result<(), NoMemory>
     Ok(())
 }
 
-/// The choices that lead from the beginning of the test to the snapshot of this number.
+/// The choices that lead from the beginning of the test to the state of this number.
 ///
 /// Errors: out of memory only.
 pub fn path(alloc: Global, links: &[Link], at: usize) -> Result<Vec<Choice>, NoMemory>

@@ -1,10 +1,10 @@
 //! Which choices a search makes in a state: those of the smallest stubborn set that it finds, where it begins with each choice
 //! in turn and adds what the choices of the set need. That the set is stubborn is tested afterwards: how it was found loses no
 //! final state.
-ghost use Rattle.std.specs.Prelude.{◌≡◌, ◌<◌, length, IfSome};
+ghost use Rattle.std.specs.Prelude.{◌≡◌, ◌<◌, ◌⊎◌, length};
 ghost use Rattle.eager_laws.specs.Stubborn.{IsStubborn};
 ghost use Rattle.flat_machine.specs.State.{state_of_snapshot};
-ghost use Rattle.explorer.specs.inner.Picked.{set_of};
+ghost use Rattle.explorer.specs.inner.Picked.{set_of, HasEvery};
 
 use crate::eager::avoids;
 use crate::stubborn::{Picked, has_none_pending, is_stubborn};
@@ -191,16 +191,27 @@ fn picked_of(set: u16) -> Picked {
     picked
 }
 
-/// A stubborn set of choices that has fewer than all of those that don't stall, if one is found.
-pub fn pick(state: &Snapshot, test: &Test, depth: u8) -> Option<Picked>
+/// Every choice of each core of a test.
+fn every_choice(test: &Test) -> Picked
+    ensures { HasEvery (set_of result) (length test.now.programs) }
+{
+    test.know_limits();
+    Picked {
+        steps: [true; 8],
+        drains: [true; 8],
+    }
+}
+
+/// A stubborn set of choices that has fewer than all of those that don't stall, if one is found, and else every choice.
+pub fn pick(state: &Snapshot, test: &Test, depth: u8) -> Picked
     requires { length state.now.cores.items ≡ length test.now.programs }
-    ensures { IfSome result (λ picked. IsStubborn depth test.now (set_of picked) (state_of_snapshot state.now)) }
+    ensures { IsStubborn depth test.now (set_of result) (state_of_snapshot state.now) ⊎ HasEvery (set_of result) (length test.now.programs) }
 {
     let needs = needs_of(state, test, depth);
     let set = smallest(&needs);
     let picked = picked_of(set);
     if set == EVERY || !is_stubborn(state, test, depth, &picked) {
-        return None;
+        return every_choice(test);
     }
-    Some(picked)
+    picked
 }

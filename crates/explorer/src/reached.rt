@@ -15,7 +15,7 @@ use std::alloc::Global;
 use tso_laws::stalls_change_nothing;
 use tso_model::{Choice, NoMemory, Test};
 
-/// A state that was reached from a snapshot, and the choices that lead there. A search has one of
+/// A state that was reached from another one, and the choices that lead there. A search has one of
 /// these and reaches each state in it, so that a state that is there already takes no memory.
 #[derive(Drop)]
 pub struct Reached {

@@ -2,9 +2,9 @@
 //! through, and where there are more than may be kept the search says so and ends there.
 ghost use Rattle.std.specs.Prelude.{◌≡◌, ℕ, ◌<◌, ◌≤◌, true, IfOk, OnOk, map, length, slice_get, Some};
 ghost use Rattle.tso_model.specs.FlatMachine.{chosen, start};
-ghost use Rattle.eager_laws.specs.Closed.{IsCovered, IsExpanded, IsExpandedEnough, ArePartlyClosed};
+ghost use Rattle.eager_laws.specs.Closed.{IsCovered, IsExpandedEnough, ArePartlyClosed};
 ghost use Rattle.flat_machine.specs.State.{state_of_snapshot};
-ghost use Rattle.explorer.specs.inner.Settled.{Grows, HaveCores, IsCurrent, IsVisited, AreVisited, ArePicksVisited, AreLinked};
+ghost use Rattle.explorer.specs.inner.Settled.{Grows, HaveCores, IsCurrent, IsVisited, ArePicksVisited, AreLinked};
 ghost use Rattle.explorer.specs.inner.Planned.{IsPlan};
 ghost use Rattle.explorer.specs.inner.Packed.{state_of_packed};
 ghost use Rattle.explorer.specs.inner.Picked.{set_of};
@@ -48,64 +48,6 @@ pub fn visit(
 {
     if reach(reached, &found.current, plan, choice)? {
         keep(alloc, found, reached, from)?;
-    }
-    Ok(())
-}
-
-/// Makes both choices of a core in one of the states.
-///
-/// Errors: out of memory only.
-fn visit_core(
-    alloc: Global,
-    found: &mut Found,
-    reached: &mut Reached,
-    plan: &Plan,
-    from: usize,
-    core: u8,
-) -> Result<(), NoMemory>
-    requires plan { IsPlan plan.now }
-    requires current { IsCurrent found.old.states.keys from found.old.current }
-    requires cores { HaveCores plan.now.test.now found.old.states.keys }
-    requires linked { AreLinked plan.now.depth plan.now.test.now plan.now.hidden.now found.old.states.keys found.old.links.items }
-    requires room { length reached.old.state.cores.items ≡ length plan.now.test.now.programs }
-    requires core { core < length plan.now.test.now.programs }
-    ensures grows { OnOk result (Grows found.old.states.keys found.new.states.keys) }
-    ensures cores { OnOk result (HaveCores plan.now.test.now found.new.states.keys) }
-    ensures linked { OnOk result (AreLinked plan.now.depth plan.now.test.now plan.now.hidden.now found.new.states.keys found.new.links.items) }
-    ensures room { OnOk result (length reached.new.state.cores.items ≡ length plan.now.test.now.programs) }
-    ensures current { OnOk result (found.new.current ≡ found.old.current) }
-    ensures visited { OnOk result (AreVisited plan.now.depth plan.now.test.now plan.now.hidden.now plan.now.alike.items found.new.states.keys (state_of_snapshot found.old.current) core) }
-{
-    let step = Choice::Step(Core(core));
-    visit(alloc, found, reached, plan, from, step)?;
-    let drain = Choice::Drain(Core(core));
-    visit(alloc, found, reached, plan, from, drain)
-}
-
-/// Makes every choice in one of the states.
-///
-/// Errors: out of memory only.
-fn expand_whole(
-    alloc: Global,
-    found: &mut Found,
-    reached: &mut Reached,
-    plan: &Plan,
-    from: usize,
-) -> Result<(), NoMemory>
-    requires plan { IsPlan plan.now }
-    requires current { IsCurrent found.old.states.keys from found.old.current }
-    requires cores { HaveCores plan.now.test.now found.old.states.keys }
-    requires linked { AreLinked plan.now.depth plan.now.test.now plan.now.hidden.now found.old.states.keys found.old.links.items }
-    requires room { length reached.old.state.cores.items ≡ length plan.now.test.now.programs }
-    ensures grows { OnOk result (Grows found.old.states.keys found.new.states.keys) }
-    ensures cores { OnOk result (HaveCores plan.now.test.now found.new.states.keys) }
-    ensures linked { OnOk result (AreLinked plan.now.depth plan.now.test.now plan.now.hidden.now found.new.states.keys found.new.links.items) }
-    ensures room { OnOk result (length reached.new.state.cores.items ≡ length plan.now.test.now.programs) }
-    ensures current { OnOk result (found.new.current ≡ found.old.current) }
-    ensures expanded { OnOk result (IsExpanded plan.now.depth plan.now.test.now plan.now.hidden.now plan.now.alike.items (map state_of_packed found.new.states.keys) (state_of_snapshot found.old.current)) }
-{
-    for core in 0..plan.test.cores() {
-        visit_core(alloc, found, reached, plan, from, core)?;
     }
     Ok(())
 }
@@ -237,10 +179,8 @@ pub fn expand(
         → IsExpandedEnough plan.now.depth plan.now.test.now plan.now.hidden.now plan.now.alike.items (map state_of_packed found.new.states.keys) (state_of_packed s)) }
 {
     unpack(&found.states[from], &mut found.current)?;
-    match pick(&found.current, plan.test, plan.depth) {
-        Some(picked) => expand_picked(alloc, found, reached, plan, from, &picked),
-        None => expand_whole(alloc, found, reached, plan, from),
-    }
+    let picked = pick(&found.current, plan.test, plan.depth);
+    expand_picked(alloc, found, reached, plan, from, &picked)
 }
 
 /// How far a search came.
@@ -250,6 +190,18 @@ pub enum Extent {
     Whole,
     /// To its limit: it kept more states than it was to keep.
     Cut,
+}
+
+/// How far a search came that keeps so many states.
+pub(crate) fn extent_within(limit: usize, kept: usize) -> Extent
+    ensures within { result ≡ Extent.Whole → kept ≤ limit }
+    ensures more { result ≡ Extent.Cut → limit < kept }
+{
+    if kept > limit {
+        Extent::Cut
+    } else {
+        Extent::Whole
+    }
 }
 
 /// Expands each state in turn, those that are added on the way too, as long as no more than `limit` are kept. Where

@@ -1,5 +1,4 @@
-//! A state of the flat machine, as the search keeps it: memory, and each core's place, registers and pending stores. Two
-//! snapshots are one only where nothing in them differs.
+//! A state of the flat machine: memory, and each core's place, registers and pending stores.
 ghost use Rattle.std.specs.Prelude.{◌≡◌, IfOk, OnOk, length};
 ghost use Rattle.tso_model.specs.FlatMachine.{start};
 ghost use Rattle.flat_machine.specs.State.{state_of_snapshot, core_of_processor};
@@ -8,7 +7,7 @@ use std::alloc::Global;
 use tso_model::{Core, Entry, NoMemory, Test};
 
 /// A core: the place in its program, its registers, and its pending stores, oldest first.
-#[derive(Drop, PartialEq, Eq, Hash)]
+#[derive(Drop)]
 pub struct Processor {
     pub place: u8,
     pub registers: [u32; 6],
@@ -16,7 +15,7 @@ pub struct Processor {
 }
 
 /// Memory, and each core.
-#[derive(PartialEq, Eq, Hash, Drop)]
+#[derive(Drop)]
 pub struct Snapshot {
     pub memory: Vec<u32>,
     pub cores: Vec<Processor>,

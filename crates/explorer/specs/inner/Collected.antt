@@ -1,4 +1,4 @@
--- The final states that are collected from the snapshots of a search, as far as it has come: each once, with what it was
+-- The final states that are collected from the packed states of a search, as far as it has come: each once, with what it was
 -- made of.
 use Rattle.std.specs.Prelude.{ℕ, ◌≡◌, ◌<◌, true, Bool, List, Some, length, map, slice_get}
 use Rattle.tso_model.specs.Litmus.{Litmus}

@@ -72,37 +72,32 @@ abbrev pub IsVisited : ℕ → Litmus → List (List Bool) → List (ℕ × ℕ)
 IsVisited depth t hidden pairs states state c =
     (after_choice t depth state c ≡ state) ⊎ IsCovered depth t hidden pairs (map state_of_packed states) (after_choice t depth state c)
 
--- both choices of a core
-abbrev pub AreVisited : ℕ → Litmus → List (List Bool) → List (ℕ × ℕ) → List Packed → State → ℕ → Type 0
-AreVisited depth t hidden pairs states state core =
-    IsVisited depth t hidden pairs states state (step core) × IsVisited depth t hidden pairs states state (drain core)
-
 -- those of a core's choices that are in the set
 abbrev pub ArePicksVisited : ℕ → Litmus → List (List Bool) → List (ℕ × ℕ) → List Packed → State → ChoiceSet → ℕ → Type 0
 ArePicksVisited depth t hidden pairs states state set core =
     (has_step set core ≡ true → IsVisited depth t hidden pairs states state (step core))
     × (has_drain set core ≡ true → IsVisited depth t hidden pairs states state (drain core))
 
--- a link's turns lead to its snapshot: those of the first from the beginning of the test, those of each other from the
--- snapshot that the link names, which stands before it
+-- a link's turns lead to its packed state: those of the first from the beginning of the test, those of each other from the
+-- one that the link names, which stands before it
 abbrev pub IsLinked : ℕ → Litmus → List (List Bool) → List Packed → ℕ → Packed → Link → Type 0
 IsLinked depth t hidden states zero s link = LeadByTurns depth t hidden (start t) link.turns.items (state_of_packed s)
 IsLinked depth t hidden states (suc i) s link =
     (r : Packed) × (link.from ≤ i) × (slice_get states link.from ≡ Some r)
     × LeadByTurns depth t hidden (state_of_packed r) link.turns.items (state_of_packed s)
 
--- each snapshot has its link
+-- each packed state has its link
 pub record AreLinked (depth : ℕ) (t : Litmus) (hidden : List (List Bool)) (states : List Packed) (links : List Link) : Type 0 where
   pub count : length links ≡ length states
   pub each : (i : ℕ) (s : Packed) (link : Link)
       → slice_get states i ≡ Some s → slice_get links i ≡ Some link → IsLinked depth t hidden states i s link
 
--- these choices lead from the beginning to the snapshot of this number, wherever the links are those of the states
+-- these choices lead from the beginning to the packed state of this number, wherever the links are those of the states
 abbrev pub IsPath : List Link → ℕ → List Choice → Type 0
 IsPath links at choices =
     (depth : ℕ) (t : Litmus) (hidden : List (List Bool)) (states : List Packed) (s : Packed)
     → AreLinked depth t hidden states links → slice_get states at ≡ Some s → LeadsToForgotten depth t hidden (start t) choices (state_of_packed s)
 
--- each link but the first names a snapshot before its own
+-- each link but the first names a packed state before its own
 abbrev pub GoBack : List Link → Type 0
 GoBack links = (i : ℕ) (link : Link) → slice_get links (suc i) ≡ Some link → link.from ≤ i

@@ -1,4 +1,4 @@
-use Rattle.explorer.proofs.Vocabulary.{◌≡◌, ◌≤◌, length, AreExchanged, Grows, HaveCores, AreLinked}
+use Rattle.explorer.proofs.Vocabulary.{◌≡◌, length, AreExchanged, Grows, HaveCores, AreLinked}
 use Rattle.explorer.proofs.closing.close.Given as goal
 
 abbrev pub invariant-loop-at : goal.invariant-loop-at
@@ -9,5 +9,4 @@ invariant-loop-at l = record {
   room : length l.reached.state.cores.items ≡ length l.plan.test.now.programs;
   current : length l.found.current.cores.items ≡ length l.plan.test.now.programs;
   exchanged : AreExchanged l.plan.test.now l.plan.alike.items l.found.states.keys l.at;
-  within : length l.found.states.keys ≤ l.limit;
 }
