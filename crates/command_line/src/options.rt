@@ -39,10 +39,9 @@ fn command_of<'a>(alloc: Global, declared: Subcommand) -> Result<Command<'a>, Al
 /// The command with more options.
 fn with_options<'a>(
     alloc: Global,
-    command: Command<'a>,
+    mut command: Command<'a>,
     options: &'static [DeclaredOption],
 ) -> Result<Command<'a>, AllocError> {
-    let mut command = command;
     for declared in options {
         command = command.arg(option_of(alloc, declared))?;
     }
