@@ -74,15 +74,15 @@ impl Line {
 
     /// Writes a sentence, whose gaps `{}` the pieces fill in their order. A piece without a gap isn't written.
     pub fn say_with(&mut self, sentence: &str, pieces: &[Piece<'_>]) {
-        let mut pieces = pieces.iter();
-        let mut is_after_gap = false;
-        for part in sentence.split("{}") {
-            if is_after_gap && let Some(piece) = pieces.next() {
+        let mut rest = sentence;
+        for piece in pieces {
+            if let Some((before, after)) = rest.split_once("{}") {
+                self.push(before.as_bytes());
                 self.push_piece(*piece);
+                rest = after;
             }
-            self.push(part.as_bytes());
-            is_after_gap = true;
         }
+        self.push(rest.as_bytes());
     }
 
     fn push_piece(&mut self, piece: Piece<'_>) {

@@ -7,6 +7,7 @@ ghost use Rattle.hints.specs.Hint.{IsHint};
 use crate::line::{Line, Piece};
 use crate::printing::printed;
 use crate::quotes::up_to;
+use crate::tables::is_exactly_one_of;
 use command_line::{SUBCOMMANDS, Subcommand, Value};
 use std::alloc::Global;
 use tso_model::NoMemory;
@@ -61,23 +62,25 @@ fn no_command(line: &mut Line, word: &[u8]) {
 
 /// Of the first word after a command that it hasn't, or of a value that no option lets pass.
 fn say_words(line: &mut Line, command: Subcommand, words: &[&str]) {
-    let mut option = "";
+    let mut option: &[u8] = b"";
     for word in words {
-        let word = *word;
-        if word == "--words=3" || (option == "--words" && word == "3") {
+        let word = word.as_bytes();
+        if are_three_words(option, word) {
             line.say("--words is 1, 2 or 4");
         } else if option.is_empty() {
-            say_word(line, command, word.as_bytes());
+            say_word(line, command, word);
         }
         if !line.is_empty() {
             return;
         }
-        option = if takes_value(word.as_bytes()) {
-            word
-        } else {
-            ""
-        };
+        option = if takes_value(word) { word } else { b"" };
     }
+}
+
+/// Whether three words are asked for, by a word or by the option before it.
+fn are_three_words(option: &[u8], word: &[u8]) -> bool {
+    is_exactly_one_of(&["--words=3"], word)
+        || (is_exactly_one_of(&["--words"], option) && is_exactly_one_of(&["3"], word))
 }
 
 /// Of a word after a command that is no option's value.
