@@ -162,7 +162,20 @@ fn read_item<'a>(
     Ok(is_last)
 }
 
-/// Reads the initial state with which a text begins, and answers what it gives and what stands after it.
+/// What the initial state gives before its first item.
+pub fn nothing_given<'a>(alloc: Global) -> Initial<'a>
+    ensures words { result.words.items ≡ [] }
+    ensures registers { result.registers.items ≡ [] }
+    ensures knows { KnowsGiven result }
+{
+    Initial {
+        words: Vec::new(alloc),
+        registers: Vec::new(alloc),
+        given: IndexSet::new(alloc),
+    }
+}
+
+/// Reads the initial state with which a text begins, puts what it gives where nothing is yet, and answers what stands after it.
 /// There are no names of locations before it.
 ///
 /// `BadInit` at a token that doesn't fit, `Unclosed` at its `{` where the text ends; as an item's
@@ -170,25 +183,24 @@ fn read_item<'a>(
 /// many, and `TwiceInit`.
 pub fn read_initial<'a>(
     alloc: Global,
+    state: &mut Initial<'a>,
     names: &mut IndexSet<&'a [u8]>,
     text: &'a [u8],
-) -> Result<(Initial<'a>, &'a [u8]), ReadError>
-    ensures value { GivesInitial result names.new.keys (inner.initial_at (stop_of text.now) (texts names.old.keys) (tokens_in text.now)) }
-    ensures stop { IfOk result (λ x. stop_of x.1.now ≡ stop_of text.now) }
+) -> Result<&'a [u8], ReadError>
+    requires words { state.old.words.items ≡ [] }
+    requires registers { state.old.registers.items ≡ [] }
+    requires knows { KnowsGiven state.old }
+    ensures value { GivesInitial result names.new.keys state.new (inner.initial_at (stop_of text.now) (texts names.old.keys) (tokens_in text.now)) }
+    ensures stop { IfOk result (λ x. stop_of x.now ≡ stop_of text.now) }
 {
     let (remaining, mut rest) = after_opening(Symbol::OpenCurly, Why::Unclosed, text)?;
-    let mut state = Initial {
-        words: Vec::new(alloc),
-        registers: Vec::new(alloc),
-        given: IndexSet::new(alloc),
-    };
     let mut tokens = Vec::new(alloc);
     'items: loop {
         let onward = read_item_tokens(&mut tokens, rest)?;
-        let is_last = read_item(remaining, onward.stop, &mut state, names, &tokens)?;
+        let is_last = read_item(remaining, onward.stop, state, names, &tokens)?;
         rest = onward.rest;
         if is_last {
-            return Ok((state, rest));
+            return Ok(rest);
         }
     }
 }

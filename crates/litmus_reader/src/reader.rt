@@ -18,6 +18,7 @@ ghost use Rattle.litmus_reader.specs.inner.Reading as spec;
 ghost use Rattle.litmus_reader.specs.Reading as inner;
 ghost use Rattle.litmus_reader.specs.Reading.{refusal};
 ghost use Rattle.litmus_reader.specs.inner.Sections.{tokens_in, stop_of};
+ghost use Rattle.litmus_reader.specs.inner.Initial.{KnowsGiven};
 ghost use Rattle.litmus_reader.specs.inner.Returned.{GivesEnding, IsUnlessMemory};
 ghost use Rattle.litmus_reader.specs.Spelling.{SpellsTest, IsFault, IsRefused};
 
@@ -26,13 +27,14 @@ use crate::condition::condition_at;
 use crate::fault::TextFault;
 use crate::header::{header_at, sized};
 use crate::information::braces_at;
-use crate::initial::read_initial;
+use crate::initial::{Initial, nothing_given, read_initial};
 use crate::observed::after_observed;
 use crate::row::read_table;
 use indexmap::IndexSet;
 use litmus_cells::{Fault, ReadError, Why};
 use litmus_tokens::{Stop, Token, line_of, tokens_of};
 use std::alloc::Global;
+use std::mem::replace;
 use tso_model::{Cond, NoMemory, Test, TestParts};
 
 /// The end of the text has to follow.
@@ -85,15 +87,20 @@ fn body_with<'a>(
     name: &[u8],
     text: &'a [u8],
     names: &mut IndexSet<&'a [u8]>,
+    initial: &mut Initial<'a>,
 ) -> Result<TestParts, ReadError>
     requires name { IsUtf8 name.now }
     requires names { texts names.old.keys ≡ [] }
+    requires words { initial.old.words.items ≡ [] }
+    requires registers { initial.old.registers.items ≡ [] }
+    requires knows { KnowsGiven initial.old }
     ensures { Gives (λ parts. litmus_of parts) result (inner.body_of name.now text.now (stop_of text.now) (tokens_in text.now)) }
 {
-    let (initial, rest) = read_initial(alloc, names, text)?;
+    let rest = read_initial(alloc, initial, names, text)?;
     let (table, rest) = read_table(alloc, &initial.registers, names, rest)?;
     let cond = tail_at(alloc, text, table.cores, names, rest)?;
-    let parts = parts_of(alloc, name, names.as_slice(), initial.words, table, cond)?;
+    let words = replace(&mut initial.words, Vec::new(alloc));
+    let parts = parts_of(alloc, name, names.as_slice(), words, table, cond)?;
     Ok(parts)
 }
 
@@ -103,7 +110,8 @@ fn body_of(alloc: Global, name: &[u8], text: &[u8]) -> Result<TestParts, ReadErr
     ensures { Gives (λ parts. litmus_of parts) result (inner.body_of name.now text.now (stop_of text.now) (tokens_in text.now)) }
 {
     let mut names = IndexSet::new(alloc);
-    body_with(alloc, name, text, &mut names)
+    let mut initial = nothing_given(alloc);
+    body_with(alloc, name, text, &mut names, &mut initial)
 }
 
 /// The parts of the test that the text spells.

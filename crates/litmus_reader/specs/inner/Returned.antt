@@ -50,9 +50,9 @@ abbrev pub GivesItem : Result Bool ReadError → List (Bor (List ℕ)) → state
 GivesItem result names i read = Gives (λ is_last. (so_far names i, is_last)) result read
 
 -- the whole initial state, and what stands after it
-abbrev pub GivesInitial : Result (state.Initial × Bor (List ℕ)) ReadError → List (Bor (List ℕ))
+abbrev pub GivesInitial : Result (Bor (List ℕ)) ReadError → List (Bor (List ℕ)) → state.Initial
     → Result (Initial × List Piece) Fault → Type 0
-GivesInitial result names read = Gives (λ x. (so_far names x.0, tokens_in x.1.now)) result read
+GivesInitial result names i read = Gives (λ x. (so_far names i, tokens_in x.now)) result read
 
 -- the header row and all rows, the names of locations, and what stands after the rows
 abbrev pub table_read : code.Table → List (Bor (List ℕ)) → List ℕ → Table

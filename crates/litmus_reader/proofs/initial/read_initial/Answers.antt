@@ -1,12 +1,12 @@
-use Rattle.litmus_reader.proofs.Vocabulary.{◌∙◌, sym, refl, arith, length-map, err_from_is_err_and, piece_of, pieces, texts, section, in_initial, tokens_in, stop_of}
+use Rattle.litmus_reader.proofs.Vocabulary.{◌∙◌, sym, arith, length-map, err_from_is_err_and, piece_of, pieces, texts, section, in_initial, tokens_in, stop_of}
 use Rattle.litmus_reader.specs.inner.Returned.{so_far}
 use Rattle.litmus_reader.proofs.ItemSteps.{items_start, item_some, items_done, items_further, items_fail, initial_is, never_opened}
 use Rattle.litmus_reader.proofs.initial.read_initial.Goals as goal
 
 pub items-init : goal.items-init
 items-init c = record {
-  items = rw (c.new.ensures.items, c.new-2.ensures.items) (items_start c.in_ok-remaining.remaining (stop_of c.args.text.now) (texts c.args.names.now.keys) (tokens_in c.in_ok-remaining.rest.now));
-  knows = rw (c.new-3.ensures.empty, c.new-2.ensures.items) refl;
+  items = rw (c.requires.words, c.requires.registers) (items_start c.in_ok-remaining.remaining (stop_of c.args.text.now) (texts c.args.names.now.keys) (tokens_in c.in_ok-remaining.rest.now));
+  knows = c.requires.knows;
   stop_kept = c.in_ok-remaining.ensures.stop;
 }
 
