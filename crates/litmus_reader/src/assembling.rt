@@ -1,6 +1,6 @@
 //! The parts of a test, made of what was read: only here are names copied; while reading they are slices of the text.
 
-ghost use Rattle.std.specs.Prelude.{◌≡◌, IfOk, All, map, replicate, string_bytes};
+ghost use Rattle.std.specs.Prelude.{◌≡◌, IfOk, OnOk, All, map, replicate, string_bytes};
 ghost use Rattle.std.specs.Str.{IsUtf8};
 ghost use Rattle.std.specs.List.{range_with_len};
 ghost use Rattle.tso_model.specs.Names as names;
@@ -12,6 +12,7 @@ ghost use Rattle.litmus_reader.specs.Returned.{AreParts, asked_of};
 use crate::row::Table;
 use litmus_cells::CoreInstr;
 use std::alloc::{AllocError, Global};
+use std::mem::replace;
 use tso_model::{Cond, Instr, NoMemory, TestParts};
 
 fn string_of(alloc: Global, bytes: &[u8]) -> Result<String, AllocError>
@@ -39,13 +40,12 @@ fn zeros(alloc: Global, count: usize) -> Result<Vec<u32>, AllocError>
     vec![in alloc; 0; count]
 }
 
-/// The words with zeros after them, so many in all.
-fn words_of(alloc: Global, mut words: Vec<u32>, count: usize) -> Result<Vec<u32>, AllocError>
-    ensures { IfOk result (λ v. v.items ≡ initial.words_of count words.items) }
+/// Puts zeros after the words, so that they are so many in all.
+fn fill_words(alloc: Global, words: &mut Vec<u32>, count: usize) -> Result<(), AllocError>
+    ensures { OnOk result (words.new.items ≡ initial.words_of count words.old.items) }
 {
     let mut rest = zeros(alloc, count.saturating_sub(words.len()))?;
-    words.append(&mut rest)?;
-    Ok(words)
+    words.append(&mut rest)
 }
 
 #[tactic(auto, using(crate::proofs::PartsAssembled::program_more, crate::proofs::PartsAssembled::program_same))]
@@ -76,7 +76,7 @@ fn programs_of(
     Ok(programs)
 }
 
-/// The parts of a test from what was read: the words of locations that the initial state doesn't
+/// The parts of a test, taken from what was read: the words of locations that the initial state doesn't
 /// name are 0.
 ///
 /// Errors: out of memory only.
@@ -84,21 +84,22 @@ pub fn parts_of(
     alloc: Global,
     name: &[u8],
     names: &[&[u8]],
-    words: Vec<u32>,
-    table: Table,
+    words: &mut Vec<u32>,
+    table: &mut Table,
     cond: Option<Cond>,
 ) -> Result<TestParts, NoMemory>
     requires name { IsUtf8 name.now }
     requires names { All (λ name. IsUtf8 name) (texts names.now) }
-    ensures { AreParts result (spec.test_of name.now (texts names.now) words.items table.registers.items table.instrs.items (asked_of cond)) }
+    ensures { AreParts result (spec.test_of name.now (texts names.now) words.old.items table.old.registers.items table.old.instrs.items (asked_of cond)) }
 {
     let cores = table.registers.len();
+    fill_words(alloc, words, names.len())?;
     Ok(TestParts {
         name: string_of(alloc, name)?,
         locations: strings_of(alloc, names)?,
-        words: words_of(alloc, words, names.len())?,
         programs: programs_of(alloc, &table.instrs, cores)?,
-        registers: table.registers,
+        words: replace(words, Vec::new(alloc)),
+        registers: replace(&mut table.registers, Vec::new(alloc)),
         cond,
     })
 }

@@ -34,7 +34,6 @@ use indexmap::IndexSet;
 use litmus_cells::{Fault, ReadError, Why};
 use litmus_tokens::{Stop, Token, line_of, tokens_of};
 use std::alloc::Global;
-use std::mem::replace;
 use tso_model::{Cond, NoMemory, Test, TestParts};
 
 /// The end of the text has to follow.
@@ -97,10 +96,10 @@ fn body_with<'a>(
     ensures { Gives (λ parts. litmus_of parts) result (inner.body_of name.now text.now (stop_of text.now) (tokens_in text.now)) }
 {
     let rest = read_initial(alloc, initial, names, text)?;
-    let (table, rest) = read_table(alloc, &initial.registers, names, rest)?;
+    let (mut table, rest) = read_table(alloc, &initial.registers, names, rest)?;
     let cond = tail_at(alloc, text, table.cores, names, rest)?;
-    let words = replace(&mut initial.words, Vec::new(alloc));
-    let parts = parts_of(alloc, name, names.as_slice(), words, table, cond)?;
+    let words = &mut initial.words;
+    let parts = parts_of(alloc, name, names.as_slice(), words, &mut table, cond)?;
     Ok(parts)
 }
 
