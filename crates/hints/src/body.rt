@@ -20,38 +20,40 @@ pub fn body_of(text: &[u8]) -> &[u8] {
 /// none; `tokens` are those of the body. They end before it only where they stop in `locations [..]`, in which
 /// any bytes may stand: then what stands after these brackets.
 pub fn ending_of<'a>(body: &'a [u8], tokens: &Tokens<'a>) -> &'a [u8] {
-    let ending = match tokens.stop {
+    match tokens.stop {
         Stop::BadToken(remaining) => after_square(last_bytes(body, remaining)),
-        Stop::End | Stop::Unclosed(_) => from_last_quantifier(body, &tokens.items),
-    };
-    ending.unwrap_or(b"")
+        Stop::End | Stop::Unclosed(_) => match last_quantifier(&tokens.items) {
+            Some(remaining) => last_bytes(body, remaining),
+            None => &[],
+        },
+    }
 }
 
-/// What stands from the last quantifier on.
-fn from_last_quantifier<'a>(body: &'a [u8], tokens: &[Token<'_>]) -> Option<&'a [u8]> {
+/// How many bytes stand from the last quantifier on.
+fn last_quantifier(tokens: &[Token<'_>]) -> Option<usize> {
     let mut last = None;
     for token in tokens {
         if is_name(token, b"exists") || is_name(token, b"forall") {
-            last = Some(last_bytes(body, token.remaining));
+            last = Some(token.remaining);
         }
     }
     last
 }
 
 /// What stands after the next `]`, comments passed over.
-fn after_square(bytes: &[u8]) -> Option<&[u8]> {
+fn after_square(bytes: &[u8]) -> &[u8] {
     let mut rest = bytes;
     for _ in 0..bytes.len() {
         let Ok(at) = after_gap(rest) else {
-            return None;
+            return &[];
         };
-        let (first, after) = at.split_first()?;
-        if *first == b']' {
-            return Some(after);
+        match at.split_first() {
+            Some((b']', after)) => return after,
+            Some((_, after)) => rest = after,
+            None => return &[],
         }
-        rest = after;
     }
-    None
+    &[]
 }
 
 /// Whether a token is this name.
