@@ -4,7 +4,6 @@ use crate::characters::says_foreign;
 use crate::hinting::NOTHING_KNOWN;
 use crate::line::Line;
 use crate::quotes::{after_byte, first_word, is_all_digits, is_choice, up_to};
-use crate::tables::is_exactly_one_of;
 use crate::unused::location_named;
 use litmus_tokens::word as word_value;
 use order_builder::OrderFault;
@@ -67,14 +66,19 @@ pub fn from_line_at_fault(text: &[u8], fault: OrderFault) -> &[u8] {
 
 /// What stands from the line of this number on, from 1.
 fn from_line(text: &[u8], number: usize) -> &[u8] {
-    let mut rest = text;
-    for _ in 1..number {
-        match after_byte(rest, b'\n') {
-            Some(after) => rest = after,
-            None => return &[],
+    if number <= 1 {
+        return text;
+    }
+    let mut line = 1usize;
+    for at in 0..text.len() {
+        if text[at] == b'\n' {
+            line = line.saturating_add(1);
+            if line == number {
+                return &text[at + 1..];
+            }
         }
     }
-    rest
+    &[]
 }
 
 fn bad_line(line: &mut Line, unknown_location: bool, entry: &[u8]) {
@@ -146,16 +150,15 @@ pub fn names_no_location(test: &Test, text: &[u8]) -> bool {
 fn bad_count(line: &mut Line, text: &[u8]) {
     let mut number = 0usize;
     let mut start = 0usize;
-    for whole in text.split(|byte| *byte == b'\n') {
+    for entry in text.split(|byte| *byte == b'\n') {
         number = number.saturating_add(1);
-        let entry = without_return(whole);
         if start == 0 {
-            if is_exactly_one_of(&["Order"], entry) {
+            if without_return(entry) == b"Order".as_slice() {
                 start = number;
             }
         } else if entry.starts_with(b"Endorder ") {
             let entries = number.saturating_sub(start).saturating_sub(1);
-            return counted(line, number, entry, entries);
+            return counted(line, number, without_return(entry), entries);
         }
     }
     line.say("no line Endorder n ends the order, where n is the number of its entries");
