@@ -1,10 +1,11 @@
 //! Why a proposition is false by the values that are known: the registers and locations that suffice to tell it.
 
-ghost use Rattle.std.specs.Prelude.{◌≡◌, ◌==◌, IfOk, OnOk, length, map, true, is_some};
+ghost use Rattle.std.specs.Prelude.{◌≡◌, ◌==◌, ◌||◌, IfOk, OnOk, length, map, true, is_some};
 ghost use Rattle.std.specs.List.{list_all, list_any};
 ghost use Rattle.tso_model.specs.Condition.{NamesExist, claim_of, RegClaim, LocClaim};
 ghost use Rattle.refutation_laws.specs.Known.{events_of};
 ghost use Rattle.refutation_laws.specs.Refutations.{asked_claim};
+ghost use Rattle.refutation_laws.specs.Values as values;
 ghost use Rattle.refutations.specs.inner.Trees.{known_of};
 ghost use Rattle.refutations.specs.inner.Facts.{AreFacts};
 ghost use Rattle.tso_report.specs.inner.Tally.{NameExists};
@@ -39,8 +40,27 @@ fn is_location(loc: Loc, value: u32, place: Named) -> bool
     }
 }
 
-/// Of a proposition that can't have this truth, whether the place tells it.
-fn tells(
+/// Whether a proposition can have a truth, as far as the answers tell it, and where it can't, whether a place tells that.
+#[derive(Clone, Copy)]
+struct Judged {
+    is_allowed: bool,
+    is_told: bool,
+}
+
+/// Judges two parts of which one must have the truth.
+fn either(first: Judged, second: Judged) -> Judged
+    ensures allowed { result.is_allowed ≡ (first.is_allowed || second.is_allowed) }
+    ensures told { result.is_told ≡ (first.is_told || second.is_told) }
+{
+    Judged {
+        is_allowed: first.is_allowed || second.is_allowed,
+        is_told: first.is_told || second.is_told,
+    }
+}
+
+/// Judges a proposition, and each of its parts once: which part of a `/\` tells that it is false depends on whether those before it
+/// can be true.
+fn judge(
     test: &Test,
     events: &[Entry],
     answers: &Answers,
@@ -48,38 +68,42 @@ fn tells(
     prop: &Prop,
     truth: bool,
     place: Named,
-) -> bool
+) -> Judged
     requires events { events.now ≡ events_of test.now }
     requires facts { AreFacts test.now (known_of answers.now) facts.now }
     requires names { NamesExist (length test.now.programs) (length test.now.words) (claim_of prop.now) }
-    ensures { result ≡ spec.tells test.now (known_of answers.now) (claim_of prop.now) truth place }
+    ensures allowed { result.is_allowed ≡ values.allows test.now (known_of answers.now) (claim_of prop.now) truth }
+    ensures told { result.is_told ≡ spec.tells test.now (known_of answers.now) (claim_of prop.now) truth place }
 {
     match prop {
-        Prop::Truth(_) => false,
-        Prop::RegIs(core, reg, value) => is_register(*core, *reg, *value, place),
-        Prop::LocIs(loc, value) => is_location(*loc, *value, place),
-        Prop::Not(inner) => tells(test, events, answers, facts, inner, !truth, place),
+        Prop::Truth(value) => Judged {
+            is_allowed: *value == truth,
+            is_told: false,
+        },
+        Prop::RegIs(core, reg, value) => Judged {
+            is_allowed: allows(test, events, answers, facts, prop, truth),
+            is_told: is_register(*core, *reg, *value, place),
+        },
+        Prop::LocIs(loc, value) => Judged {
+            is_allowed: allows(test, events, answers, facts, prop, truth),
+            is_told: is_location(*loc, *value, place),
+        },
+        Prop::Not(inner) => judge(test, events, answers, facts, inner, !truth, place),
         Prop::And(left, right) => {
-            if truth {
-                if allows(test, events, answers, facts, left, true) {
-                    tells(test, events, answers, facts, right, true, place)
-                } else {
-                    tells(test, events, answers, facts, left, true, place)
-                }
-            } else {
-                tells(test, events, answers, facts, left, false, place)
-                    || tells(test, events, answers, facts, right, false, place)
+            let first = judge(test, events, answers, facts, left, truth, place);
+            if truth && !first.is_allowed {
+                return first;
             }
+            let second = judge(test, events, answers, facts, right, truth, place);
+            if truth { second } else { either(first, second) }
         }
         Prop::Or(left, right) => {
-            if truth {
-                tells(test, events, answers, facts, left, true, place)
-                    || tells(test, events, answers, facts, right, true, place)
-            } else if allows(test, events, answers, facts, left, false) {
-                tells(test, events, answers, facts, right, false, place)
-            } else {
-                tells(test, events, answers, facts, left, false, place)
+            let first = judge(test, events, answers, facts, left, truth, place);
+            if !truth && !first.is_allowed {
+                return first;
             }
+            let second = judge(test, events, answers, facts, right, truth, place);
+            if truth { either(first, second) } else { second }
         }
     }
 }
@@ -100,9 +124,11 @@ fn tells_asked(
         return false;
     };
     match cond.quantifier {
-        Quantifier::Exists => tells(test, events, answers, facts, &cond.prop, true, place),
-        Quantifier::NotExists => tells(test, events, answers, facts, &cond.prop, true, place),
-        Quantifier::Forall => tells(test, events, answers, facts, &cond.prop, false, place),
+        Quantifier::Exists => judge(test, events, answers, facts, &cond.prop, true, place).is_told,
+        Quantifier::NotExists => judge(
+            test, events, answers, facts, &cond.prop, true, place,
+        ).is_told,
+        Quantifier::Forall => judge(test, events, answers, facts, &cond.prop, false, place).is_told,
     }
 }
 
