@@ -123,13 +123,11 @@ fn tells_asked(
     let Some(cond) = test.cond() else {
         return false;
     };
-    match cond.quantifier {
-        Quantifier::Exists => judge(test, events, answers, facts, &cond.prop, true, place).is_told,
-        Quantifier::NotExists => judge(
-            test, events, answers, facts, &cond.prop, true, place,
-        ).is_told,
-        Quantifier::Forall => judge(test, events, answers, facts, &cond.prop, false, place).is_told,
-    }
+    let truth = match cond.quantifier {
+        Quantifier::Exists | Quantifier::NotExists => true,
+        Quantifier::Forall => false,
+    };
+    judge(test, events, answers, facts, &cond.prop, truth, place).is_told
 }
 
 /// What a register holds at the end, or the words that a location may have; none of what isn't known.

@@ -3,11 +3,3 @@ use Rattle.reason_report.proofs.places.tells_asked.Goals as goal
 
 pub judge-requires-clause-names : goal.judge-requires-clause-names
 judge-requires-clause-names c = condition-names c.args.test.now c.in-Some.cond.now c.in-Some.ensures.test c.in-Some.ensures.value
-
-pub judge-requires-in-NotExists-clause-names : goal.judge-requires-in-NotExists-clause-names
-judge-requires-in-NotExists-clause-names c =
-    condition-names c.args.test.now c.in-Some.cond.now c.in-Some.ensures.test c.in-Some.ensures.value
-
-pub judge-requires-in-Forall-clause-names : goal.judge-requires-in-Forall-clause-names
-judge-requires-in-Forall-clause-names c =
-    condition-names c.args.test.now c.in-Some.cond.now c.in-Some.ensures.test c.in-Some.ensures.value
