@@ -19,10 +19,24 @@ pub ended_line : (old front text first second all : List ℕ) → first ≡ old 
 ended_line old front text first second all is_first is_second is =
     is ∙ (rest-after text (10 ∷ []) first second is_second ∙ rest-after front (text ++ 10 ∷ []) old first is_first)
 
-pub sweep_nested : (from runs length rest : List ℕ)
-    → (codes "Sweep from=" ++ (from ++ (codes " seeds=" ++ (runs ++ (codes " length=" ++ length))))) ++ rest
-    ≡ codes "Sweep from=" ++ (from ++ (codes " seeds=" ++ (runs ++ (codes " length=" ++ (length ++ rest)))))
-sweep_nested from runs length rest = simp append_assoc
+-- lines whose last words have a text of their own
+
+pub sweep_nested : (from runs length ended unfinished : List ℕ)
+    → codes "Sweep from=" ++ (from ++ (codes " seeds=" ++ (runs ++ (codes " length=" ++ (length ++ (codes " ended=" ++ (ended ++ (codes " unfinished=" ++ (unfinished ++ 10 ∷ [])))))))))
+    ≡ codes "Sweep from=" ++ (from ++ (codes " seeds=" ++ (runs ++ (codes " length=" ++ (length ++ ((codes " ended=" ++ (ended ++ (codes " unfinished=" ++ unfinished))) ++ 10 ∷ []))))))
+sweep_nested from runs length ended unfinished = simp append_assoc
+
+pub observed_nested : (name word held failed : List ℕ)
+    → codes "Observation " ++ (name ++ (codes " " ++ (word ++ (codes " " ++ (held ++ (codes " " ++ (failed ++ 10 ∷ [])))))))
+    ≡ codes "Observation " ++ (name ++ ((codes " " ++ (word ++ (codes " " ++ (held ++ (codes " " ++ failed))))) ++ 10 ∷ []))
+observed_nested name word held failed = simp append_assoc
+
+pub cache_nested : (core hits misses upgrades forwards backs flushes : List ℕ)
+    → codes "Cache P" ++ (core ++ (codes " hits=" ++ (hits ++ (codes " misses=" ++ (misses ++ (codes " upgrades=" ++ (upgrades
+    ++ (codes " forwards=" ++ (forwards ++ (codes " write_backs=" ++ (backs ++ (codes " flushes=" ++ (flushes ++ 10 ∷ [])))))))))))))
+    ≡ codes "Cache P" ++ (core ++ (codes " hits=" ++ (hits ++ (codes " misses=" ++ (misses ++ (codes " upgrades=" ++ (upgrades
+    ++ ((codes " forwards=" ++ (forwards ++ (codes " write_backs=" ++ (backs ++ (codes " flushes=" ++ flushes))))) ++ 10 ∷ []))))))))
+cache_nested core hits misses upgrades forwards backs flushes = simp append_assoc
 
 -- ---- values beside what they are of
 

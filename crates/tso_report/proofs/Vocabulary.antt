@@ -45,4 +45,8 @@ pub use Rattle.std.specs.Iterator.Adapters.{zip_first, zip_second}
 pub use Rattle.std.proofs.lemmas.List.{drop_all}
 pub use Rattle.serde_json.proofs.Views.{view-Array}
 pub use Rattle.serde_json.specs.Data.{array}
-pub use Rattle.tso_report.specs.inner.Json.{numbers_members, with_run_parts}
+pub use Rattle.tso_report.specs.inner.Json.{with_run_parts}
+pub use Rattle.tso_report.specs.inner.Pieces.{line_piece}
+pub use Rattle.tso_report.specs.inner.Members.{with_data}
+pub use Rattle.std.specs.List.{flat_map}
+pub use Rattle.std.proofs.lemmas.Result.{on_ok_weaker}

@@ -2,4 +2,6 @@
 pub mod Counted
 pub mod Json
 pub mod JsonFrame
+pub mod Members
+pub mod Pieces
 pub mod Tally

@@ -1,24 +1,25 @@
 //! The report of a run as JSON, for programs to read. It is one line, and its objects have their keys in the order of
 //! their bytes.
 
-ghost use Rattle.std.specs.Prelude.{◌≡◌, ◌++◌, ◌∷◌, [], false, IfOk, OnOk, All, string_bytes, length, map};
-ghost use Rattle.serde_json.specs.Data.{Data, boolean, string, object, put as with_member};
+ghost use Rattle.std.specs.Prelude.{◌≡◌, ◌++◌, ◌∷◌, [], false, IfOk, OnOk, All, string_bytes, length};
+ghost use Rattle.serde_json.specs.Data.{Data, string};
 ghost use Rattle.serde_json.specs.Written.{compact_text, has_float};
 ghost use Rattle.serde_json.specs.View.{view, members_view};
 ghost use Rattle.order_builder.specs.PrintedOrder.{HasLocation};
 ghost use Rattle.tso_report.specs.Shown.{shown_run, IsRunOf};
 ghost use Rattle.tso_report.specs.Report.{line};
-ghost use Rattle.tso_report.specs.Json.{counts_value, cache_value, choices_value, verdict_value, condition_value, machine_value};
+ghost use Rattle.tso_report.specs.Json.{counts_value, cache_value, choices_value, condition_value, machine_value};
 ghost use Rattle.tso_report.specs.Json.{memory_members, memory_value, order_value, registers_value, cores_value};
-ghost use Rattle.tso_report.specs.inner.Json.{numbers_members, run_part_value, with_run_parts};
+ghost use Rattle.tso_report.specs.inner.Json.{run_part_value, unfinished_search_value, with_run_parts};
 ghost use Rattle.tso_report.specs.Json.{run_members, unfinished_members, json_report, json_unfinished};
 
+use crate::members::{Datum, object_of, put_object};
 use crate::report::quantifier_text;
 use crate::run::Run;
 use machine_core::{Bus, Config, Counts};
 use order_builder::entry_text;
 use protocol_tables::ProtocolKind;
-use serde_json::{Map, Value, json, put};
+use serde_json::{Map, Value, put};
 use std::alloc::Global;
 use tso_model::{Entry, Loc, NoMemory, Reg, Test};
 
@@ -62,6 +63,29 @@ pub fn line_of(alloc: Global, value: &Value) -> Result<String, NoMemory>
     Ok(text)
 }
 
+/// The value of a search that met its limit: the test, and under this key how many of them it was.
+///
+/// Errors: out of memory only.
+pub fn unfinished_search_value(
+    alloc: Global,
+    test: &Test,
+    key: &str,
+    limit: u64,
+) -> Result<Value, NoMemory>
+    ensures { IfOk result (λ value. view value ≡ unfinished_search_value test.now key.now limit) }
+{
+    let mut members = Map::new(alloc);
+    put_object(
+        &mut members,
+        alloc,
+        "unfinished",
+        &[(key, Datum::Number(limit))],
+    )?;
+    let name = Value::try_from_str(alloc, test.name())?;
+    put(&mut members, alloc, "test", name)?;
+    Ok(Value::Object(members))
+}
+
 /// The members of a run that didn't end: how many choices were used, and how many of these stalled.
 ///
 /// Errors: out of memory only.
@@ -72,9 +96,12 @@ pub fn unfinished_members(
 ) -> Result<Map<String, Value>, NoMemory>
     ensures { IfOk result (λ members. members_view members.entries ≡ unfinished_members used stalled) }
 {
-    let counts = [("stalled", stalled as u64), ("used", used as u64)];
+    let counts = [
+        ("stalled", Datum::Number(stalled as u64)),
+        ("used", Datum::Number(used as u64)),
+    ];
     let mut members = Map::new(alloc);
-    put_numbers(&mut members, alloc, "unfinished", &counts)?;
+    put_object(&mut members, alloc, "unfinished", &counts)?;
     Ok(members)
 }
 
@@ -197,14 +224,14 @@ fn counts_value(alloc: Global, counts: Counts) -> Result<Value, NoMemory>
     ensures { IfOk result (λ value. view value ≡ counts_value counts) }
 {
     let numbers = [
-        ("flushes", counts.flushes as u64),
-        ("forwards", counts.forwards as u64),
-        ("hits", counts.hits as u64),
-        ("misses", counts.misses as u64),
-        ("upgrades", counts.upgrades as u64),
-        ("write_backs", counts.write_backs as u64),
+        ("flushes", Datum::Number(counts.flushes as u64)),
+        ("forwards", Datum::Number(counts.forwards as u64)),
+        ("hits", Datum::Number(counts.hits as u64)),
+        ("misses", Datum::Number(counts.misses as u64)),
+        ("upgrades", Datum::Number(counts.upgrades as u64)),
+        ("write_backs", Datum::Number(counts.write_backs as u64)),
     ];
-    numbers_value(alloc, &numbers)
+    object_of(alloc, &numbers)
 }
 
 fn choices_value(
@@ -216,49 +243,42 @@ fn choices_value(
     ensures { IfOk result (λ value. view value ≡ choices_value used stalled unused) }
 {
     let numbers = [
-        ("stalled", stalled as u64),
-        ("unused", unused as u64),
-        ("used", used as u64),
+        ("stalled", Datum::Number(stalled as u64)),
+        ("unused", Datum::Number(unused as u64)),
+        ("used", Datum::Number(used as u64)),
     ];
-    numbers_value(alloc, &numbers)
+    object_of(alloc, &numbers)
 }
 
 fn condition_value(alloc: Global, test: &Test, holds: Option<bool>) -> Result<Value, NoMemory>
     ensures { IfOk result (λ value. view value ≡ condition_value test.now.condition holds) }
 {
     match (test.cond(), holds) {
-        (Some(cond), Some(holds)) => verdict_value(alloc, quantifier_text(cond.quantifier), holds),
+        (Some(cond), Some(holds)) => {
+            let fields = [
+                ("holds", Datum::Truth(holds)),
+                ("kind", Datum::Text(quantifier_text(cond.quantifier))),
+            ];
+            object_of(alloc, &fields)
+        }
         _ => Ok(Value::Null),
     }
-}
-
-fn verdict_value(alloc: Global, kind: &str, holds: bool) -> Result<Value, NoMemory>
-    ensures { IfOk result (λ value. view value ≡ verdict_value kind.now holds) }
-{
-    Ok(json!(in alloc; {"holds": holds, "kind": kind})?)
 }
 
 fn machine_value(alloc: Global, protocol: ProtocolKind, config: Config) -> Result<Value, NoMemory>
     ensures { IfOk result (λ value. view value ≡ machine_value protocol config) }
 {
-    let mut members = Map::new(alloc);
-    put(&mut members, alloc, "depth", Value::from(config.depth()))?;
-    put(
-        &mut members,
-        alloc,
-        "protocol",
-        Value::try_from_str(alloc, protocol.name())?,
-    )?;
-    put(&mut members, alloc, "sets", Value::from(config.sets()))?;
-    put(&mut members, alloc, "ways", Value::from(config.ways()))?;
-    put(&mut members, alloc, "words", Value::from(config.words()))?;
+    let fields = [
+        ("bus", Datum::Text("split")),
+        ("depth", Datum::Number(config.depth() as u64)),
+        ("protocol", Datum::Text(protocol.name())),
+        ("sets", Datum::Number(config.sets() as u64)),
+        ("ways", Datum::Number(config.ways() as u64)),
+        ("words", Datum::Number(config.words() as u64)),
+    ];
     match config.bus() {
-        Bus::Atomic => Ok(Value::Object(members)),
-        Bus::Split => {
-            let bus = Value::try_from_str(alloc, "split")?;
-            put(&mut members, alloc, "bus", bus)?;
-            Ok(Value::Object(members))
-        }
+        Bus::Atomic => object_of(alloc, &fields[1..]),
+        Bus::Split => object_of(alloc, &fields),
     }
 }
 
@@ -310,39 +330,12 @@ pub fn registers_value(alloc: Global, registers: &[u32; 6]) -> Result<Value, NoM
 {
     let [eax, ebx, ecx, edx, esi, edi] = *registers;
     let numbers = [
-        ("EAX", eax as u64),
-        ("EBX", ebx as u64),
-        ("ECX", ecx as u64),
-        ("EDI", edi as u64),
-        ("EDX", edx as u64),
-        ("ESI", esi as u64),
+        ("EAX", Datum::Number(eax as u64)),
+        ("EBX", Datum::Number(ebx as u64)),
+        ("ECX", Datum::Number(ecx as u64)),
+        ("EDI", Datum::Number(edi as u64)),
+        ("EDX", Datum::Number(edx as u64)),
+        ("ESI", Datum::Number(esi as u64)),
     ];
-    numbers_value(alloc, &numbers)
-}
-
-/// An object of numbers under their names.
-///
-/// Errors: out of memory only.
-pub fn numbers_value(alloc: Global, numbers: &[(&str, u64)]) -> Result<Value, NoMemory>
-    ensures { IfOk result (λ value. view value ≡ object (numbers_members (map (λ it. (it.0.now, it.1)) numbers.now))) }
-{
-    let mut members = Map::new(alloc);
-    for at in (0..numbers.len()).rev() {
-        let (name, number) = numbers[at];
-        put(&mut members, alloc, name, Value::from(number))?;
-    }
-    Ok(Value::Object(members))
-}
-
-fn put_numbers(
-    members: &mut Map<String, Value>,
-    alloc: Global,
-    name: &str,
-    numbers: &[(&str, u64)],
-) -> Result<(), NoMemory>
-    ensures { OnOk result (members_view members.new.entries ≡ with_member name.now (object (numbers_members (map (λ it. (it.0.now, it.1)) numbers.now))) (members_view members.old.entries)) }
-{
-    let value = numbers_value(alloc, numbers)?;
-    put(members, alloc, name, value)?;
-    Ok(())
+    object_of(alloc, &numbers)
 }

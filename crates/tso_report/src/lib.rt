@@ -4,8 +4,10 @@
 
 mod counters;
 pub mod json;
+pub mod members;
 pub mod named;
 pub mod observation;
+pub mod pieces;
 pub mod printed_values;
 pub mod report;
 pub mod report_texts;

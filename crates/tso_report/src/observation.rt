@@ -2,34 +2,35 @@
 //! litmus7.
 
 ghost use Rattle.std.specs.Prelude.{◌≡◌, ◌++◌, OnOk, string_bytes};
-ghost use Rattle.tso_report.specs.Tally.{frequency, frequency_text, observed_line};
+ghost use Rattle.tso_report.specs.Tally.{frequency, observed_line};
 
+use crate::pieces::{Piece, write_pieces};
 use tso_model::NoMemory;
 
 /// `Observation NAME Sometimes P Q`, the line of a test of this name whose proposition was true in
 /// `held` of them and false in `failed`.
 ///
 /// Errors: out of memory only.
-pub fn write_observed(
+pub fn write_observed<'a>(
     text: &mut String,
-    name: &str,
+    name: &'a str,
     held: usize,
     failed: usize,
 ) -> Result<(), NoMemory>
     ensures { OnOk result (string_bytes text.new ≡ string_bytes text.old ++ observed_line name.now held failed) }
 {
-    write!(text, "Observation {name}")?;
-    write_frequency(text, held, failed)?;
-    text.push('\n')?;
-    Ok(())
-}
-
-fn write_frequency(text: &mut String, held: usize, failed: usize) -> Result<(), NoMemory>
-    ensures { OnOk result (string_bytes text.new ≡ string_bytes text.old ++ frequency_text held failed) }
-{
-    let word = frequency(held, failed);
-    write!(text, " {word} {held} {failed}")?;
-    Ok(())
+    let pieces = [
+        Piece::Text("Observation "),
+        Piece::Text(name),
+        Piece::Text(" "),
+        Piece::Text(frequency(held, failed)),
+        Piece::Text(" "),
+        Piece::Number(held as u64),
+        Piece::Text(" "),
+        Piece::Number(failed as u64),
+        Piece::Text("\n"),
+    ];
+    write_pieces(text, &pieces)
 }
 
 /// In which of them the proposition was true: in none, in all, or in some.

@@ -6,6 +6,7 @@ ghost use Rattle.tso_report.specs.Tally.{printed_value, printed_values};
 ghost use Rattle.tso_report.specs.inner.Tally.{NameExists};
 
 use crate::named::Named;
+use crate::pieces::{Piece, write_pieces};
 use tso_model::{NoMemory, Test};
 
 /// ` 0:EAX=v x=v ..`: for each of the names its value; a name or a value that stands alone is left out.
@@ -33,13 +34,24 @@ fn write_value(text: &mut String, test: &Test, named: Named, value: u32) -> Resu
 {
     match named {
         Named::Register(core, reg) => {
-            let (core, name) = (core.0, reg.name());
-            write!(text, " {core}:{name}={value}")?;
+            let pieces = [
+                Piece::Text(" "),
+                Piece::Number(core.0 as u64),
+                Piece::Text(":"),
+                Piece::Text(reg.name()),
+                Piece::Text("="),
+                Piece::Number(value as u64),
+            ];
+            write_pieces(text, &pieces)
         }
         Named::Location(loc) => {
-            let name = test.location_name(loc);
-            write!(text, " {name}={value}")?;
+            let pieces = [
+                Piece::Text(" "),
+                Piece::Text(test.location_name(loc)),
+                Piece::Text("="),
+                Piece::Number(value as u64),
+            ];
+            write_pieces(text, &pieces)
         }
     }
-    Ok(())
 }

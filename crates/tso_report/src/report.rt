@@ -4,11 +4,12 @@
 ghost use Rattle.std.specs.Prelude.{◌≡◌, ◌++◌, ◌∷◌, [], IfOk, OnOk, string_bytes, length, slice_index_or, Option, is_some, All};
 ghost use Rattle.order_builder.specs.PrintedOrder.{printed_order, HasWord};
 ghost use Rattle.tso_report.specs.Shown.{shown_run, IsRunOf};
-ghost use Rattle.tso_report.specs.Report.{report, head, body, line, test_line, machine_line, shape_text, bus_text};
+ghost use Rattle.tso_report.specs.Report.{report, head, body, line, test_line, machine_line, bus_text};
 ghost use Rattle.tso_report.specs.Report.{printed_register, printed_registers, all_registers, register_line, register_lines};
 ghost use Rattle.tso_report.specs.Report.{printed_words, memory_line, printed_verdict, condition_line, choices_line};
-ghost use Rattle.tso_report.specs.Report.{printed_quantifier, printed_truth, traffic_text, cache_line, cache_lines};
+ghost use Rattle.tso_report.specs.Report.{printed_quantifier, printed_truth, cache_line, cache_lines};
 
+use crate::pieces::{Piece, write_pieces};
 use crate::run::Run;
 use machine_core::{Bus, Config, Counts};
 use order_builder::write_order;
@@ -79,31 +80,32 @@ pub fn head_text(
 pub fn write_test(text: &mut String, test: &Test) -> Result<(), NoMemory>
     ensures { OnOk result (string_bytes text.new ≡ string_bytes text.old ++ test_line test.now) }
 {
-    let name = test.name();
-    write!(text, "Test {name}\n")?;
-    Ok(())
+    let pieces = [
+        Piece::Text("Test "),
+        Piece::Text(test.name()),
+        Piece::Text("\n"),
+    ];
+    write_pieces(text, &pieces)
 }
 
 fn write_machine(text: &mut String, protocol: ProtocolKind, config: Config) -> Result<(), NoMemory>
     ensures { OnOk result (string_bytes text.new ≡ string_bytes text.old ++ machine_line protocol config) }
 {
-    let name = protocol.name();
-    let depth = config.depth();
-    write!(text, "Machine {name} depth={depth}")?;
-    write_shape(text, config)?;
-    text.push_str(bus_text(config.bus()))?;
-    text.push('\n')?;
-    Ok(())
-}
-
-fn write_shape(text: &mut String, config: Config) -> Result<(), NoMemory>
-    ensures { OnOk result (string_bytes text.new ≡ string_bytes text.old ++ shape_text config.shape) }
-{
-    let sets = config.sets();
-    let ways = config.ways();
-    let words = config.words();
-    write!(text, " sets={sets} ways={ways} words={words}")?;
-    Ok(())
+    let pieces = [
+        Piece::Text("Machine "),
+        Piece::Text(protocol.name()),
+        Piece::Text(" depth="),
+        Piece::Number(config.depth() as u64),
+        Piece::Text(" sets="),
+        Piece::Number(config.sets() as u64),
+        Piece::Text(" ways="),
+        Piece::Number(config.ways() as u64),
+        Piece::Text(" words="),
+        Piece::Number(config.words() as u64),
+        Piece::Text(bus_text(config.bus())),
+        Piece::Text("\n"),
+    ];
+    write_pieces(text, &pieces)
 }
 
 /// ` bus=split`; the atomic bus isn't named.
@@ -128,17 +130,12 @@ fn write_registers(text: &mut String, registers: &[[u32; 6]]) -> Result<(), NoMe
 fn write_core(text: &mut String, core: usize, values: &[u32; 6]) -> Result<(), NoMemory>
     ensures { OnOk result (string_bytes text.new ≡ string_bytes text.old ++ register_line core values.now) }
 {
-    write!(text, "Registers P{core}")?;
-    write_value_line(text, values)?;
-    Ok(())
-}
-
-fn write_value_line(text: &mut String, values: &[u32; 6]) -> Result<(), NoMemory>
-    ensures { OnOk result (string_bytes text.new ≡ string_bytes text.old ++ line (printed_registers values.now all_registers)) }
-{
+    write_pieces(
+        text,
+        &[Piece::Text("Registers P"), Piece::Number(core as u64)],
+    )?;
     write_all_values(text, values)?;
-    text.push('\n')?;
-    Ok(())
+    Ok(text.push('\n')?)
 }
 
 #[tactic(auto, unfolding(crate::specs::Report::all_registers))]
@@ -176,16 +173,19 @@ fn write_memory(text: &mut String, test: &Test, memory: &[u32]) -> Result<(), No
 fn write_condition(text: &mut String, test: &Test, holds: Option<bool>) -> Result<(), NoMemory>
     ensures { OnOk result (string_bytes text.new ≡ string_bytes text.old ++ condition_line test.now holds) }
 {
-    text.push_str("Condition ")?;
     match (test.cond(), holds) {
         (Some(cond), Some(holds)) => {
-            let quantifier = quantifier_text(cond.quantifier);
-            let truth = if holds { "true" } else { "false" };
-            write!(text, "{quantifier} {truth}\n")?;
+            let pieces = [
+                Piece::Text("Condition "),
+                Piece::Text(quantifier_text(cond.quantifier)),
+                Piece::Text(" "),
+                Piece::Truth(holds),
+                Piece::Text("\n"),
+            ];
+            write_pieces(text, &pieces)
         }
-        _ => text.push_str("none\n")?,
+        _ => Ok(text.push_str("Condition none\n")?),
     }
-    Ok(())
 }
 
 /// The word that a quantifier is written with.
@@ -202,12 +202,16 @@ pub fn quantifier_text(quantifier: Quantifier) -> &'static str
 fn write_choices(text: &mut String, run: &Run) -> Result<(), NoMemory>
     ensures { OnOk result (string_bytes text.new ≡ string_bytes text.old ++ choices_line run.now.used run.now.stalled run.now.unused) }
 {
-    let (used, stalled, unused) = (run.used, run.stalled, run.unused);
-    write!(
-        text,
-        "Choices used={used} stalled={stalled} unused={unused}\n"
-    )?;
-    Ok(())
+    let pieces = [
+        Piece::Text("Choices used="),
+        Piece::Number(run.used as u64),
+        Piece::Text(" stalled="),
+        Piece::Number(run.stalled as u64),
+        Piece::Text(" unused="),
+        Piece::Number(run.unused as u64),
+        Piece::Text("\n"),
+    ];
+    write_pieces(text, &pieces)
 }
 
 fn write_caches(text: &mut String, counts: &[Counts]) -> Result<(), NoMemory>
@@ -222,23 +226,22 @@ fn write_caches(text: &mut String, counts: &[Counts]) -> Result<(), NoMemory>
 fn write_cache(text: &mut String, core: usize, counts: Counts) -> Result<(), NoMemory>
     ensures { OnOk result (string_bytes text.new ≡ string_bytes text.old ++ cache_line core counts) }
 {
-    let (hits, misses, upgrades) = (counts.hits, counts.misses, counts.upgrades);
-    write!(
-        text,
-        "Cache P{core} hits={hits} misses={misses} upgrades={upgrades}"
-    )?;
-    write_traffic(text, counts)?;
-    text.push('\n')?;
-    Ok(())
-}
-
-fn write_traffic(text: &mut String, counts: Counts) -> Result<(), NoMemory>
-    ensures { OnOk result (string_bytes text.new ≡ string_bytes text.old ++ traffic_text counts) }
-{
-    let (forwards, write_backs, flushes) = (counts.forwards, counts.write_backs, counts.flushes);
-    write!(
-        text,
-        " forwards={forwards} write_backs={write_backs} flushes={flushes}"
-    )?;
-    Ok(())
+    let pieces = [
+        Piece::Text("Cache P"),
+        Piece::Number(core as u64),
+        Piece::Text(" hits="),
+        Piece::Number(counts.hits as u64),
+        Piece::Text(" misses="),
+        Piece::Number(counts.misses as u64),
+        Piece::Text(" upgrades="),
+        Piece::Number(counts.upgrades as u64),
+        Piece::Text(" forwards="),
+        Piece::Number(counts.forwards as u64),
+        Piece::Text(" write_backs="),
+        Piece::Number(counts.write_backs as u64),
+        Piece::Text(" flushes="),
+        Piece::Number(counts.flushes as u64),
+        Piece::Text("\n"),
+    ];
+    write_pieces(text, &pieces)
 }

@@ -2,12 +2,13 @@
 //! which order the runs were counted has no part in it.
 
 ghost use Rattle.std.specs.Prelude.{◌≡◌, ◌+◌, ◌<◌, ◌^◌, ◌++◌, OnOk, string_bytes};
-ghost use Rattle.tso_report.specs.Tally.{looked_at, counted_state_line, counted_state_lines, ends_text, sweep_line, observation};
+ghost use Rattle.tso_report.specs.Tally.{looked_at, counted_state_line, counted_state_lines, sweep_line, observation};
 ghost use Rattle.tso_report.specs.inner.Counted.{counted_states};
 
 use crate::counters::Counters;
 use crate::named::Named;
 use crate::observation::write_observed;
+use crate::pieces::{Piece, write_pieces};
 use crate::printed_values::write_values;
 use tso_model::{NoMemory, Test};
 
@@ -23,17 +24,20 @@ pub fn write_sweep(
     ensures { OnOk result (string_bytes text.new ≡ string_bytes text.old ++ sweep_line ended unfinished from length) }
 {
     let runs = ended + unfinished;
-    write!(text, "Sweep from={from} seeds={runs} length={length}")?;
-    write_ends(text, ended, unfinished)?;
-    text.push('\n')?;
-    Ok(())
-}
-
-fn write_ends(text: &mut String, ended: u32, unfinished: u32) -> Result<(), NoMemory>
-    ensures { OnOk result (string_bytes text.new ≡ string_bytes text.old ++ ends_text ended unfinished) }
-{
-    write!(text, " ended={ended} unfinished={unfinished}")?;
-    Ok(())
+    let pieces = [
+        Piece::Text("Sweep from="),
+        Piece::Number(from as u64),
+        Piece::Text(" seeds="),
+        Piece::Number(runs as u64),
+        Piece::Text(" length="),
+        Piece::Number(length as u64),
+        Piece::Text(" ended="),
+        Piece::Number(ended as u64),
+        Piece::Text(" unfinished="),
+        Piece::Number(unfinished as u64),
+        Piece::Text("\n"),
+    ];
+    write_pieces(text, &pieces)
 }
 
 /// A line for each list of values. Errors: out of memory only.
@@ -63,7 +67,7 @@ fn write_state(
     requires { names.now ≡ looked_at test.now }
     ensures { OnOk result (string_bytes text.new ≡ string_bytes text.old ++ counted_state_line test.now (values.now, count)) }
 {
-    write!(text, "State {count}")?;
+    write_pieces(text, &[Piece::Text("State "), Piece::Number(count as u64)])?;
     write_values(text, test, names, values)?;
     text.push('\n')?;
     Ok(())

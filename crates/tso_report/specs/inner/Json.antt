@@ -1,7 +1,7 @@
--- Objects as the code puts them together: those of numbers, and the report of a run.
-use Rattle.std.specs.Prelude.{ℕ, List, [], ◌∷◌}
+-- The report of a run as the code puts it together, and what is printed of searches.
+use Rattle.std.specs.Prelude.{ℕ, List, [], ◌∷◌, codes}
 use Rattle.std.specs.Borrow.{Bor}
-use Rattle.serde_json.specs.Data.{Data, string, Members, no_members, put}
+use Rattle.serde_json.specs.Data.{Data, member, Members, no_members, object, put, string}
 use Rattle.tso_model.specs.Litmus.{Litmus}
 use Rattle.protocol_tables.specs.declared.kind.ProtocolKind.{ProtocolKind}
 use Rattle.machine_core.specs.Configuration.{Configuration}
@@ -9,11 +9,6 @@ use Rattle.tso_report.specs.Shown.{ShownRun}
 use Rattle.tso_report.specs.Json.{count, cache_value, choices_value, condition_value, machine_value, memory_value, order_value, cores_value}
 use Rattle.tso_report.specs.declared.json.RunPart.{RunPart}
 use Rattle.tso_report.specs.declared.json.RunPart.TheVariants as parts
-
--- numbers under their names, each where the bytes of its name belong
-abbrev pub numbers_members : List (List ℕ × ℕ) → Members
-numbers_members [] = no_members
-numbers_members ((name, n) ∷ more) = put name (count n) (numbers_members more)
 
 abbrev pub run_part_value : Litmus → ProtocolKind → Configuration → ShownRun → RunPart → Data
 run_part_value t kind c s parts.Cache = cache_value s.counts
@@ -29,3 +24,9 @@ run_part_value t kind c s parts.Test = string t.name
 abbrev pub with_run_parts : Litmus → ProtocolKind → Configuration → ShownRun → List (Bor (List ℕ) × RunPart) → Members → Members
 with_run_parts t kind c s [] members = members
 with_run_parts t kind c s (p ∷ ps) members = with_run_parts t kind c s ps (put p.0.now (run_part_value t kind c s p.1) members)
+
+-- a search that met its limit: the test, and under this key how many of them it was
+abbrev pub unfinished_search_value : Litmus → List ℕ → ℕ → Data
+unfinished_search_value t key limit =
+    object (member (codes "test") (string t.name)
+    (member (codes "unfinished") (object (member key (count limit) no_members)) no_members))
