@@ -8,8 +8,8 @@ ghost use Rattle.serde_json.specs.View.{view, members_view};
 ghost use Rattle.explorer.specs.declared.final_states.FinalState.{FinalState};
 ghost use Rattle.tso_report.specs.inner.Tally.{NameExists};
 ghost use Rattle.outcome_report.specs.Outcomes.{outcome_of};
-ghost use Rattle.outcome_report.specs.OutcomesJson.{key_of, value_members, state_value, states_value, observed_value, holds_in};
-ghost use Rattle.outcome_report.specs.OutcomesJson.{observation_value, outcomes_value, unfinished_outcomes_value, outcomes_json, unfinished_outcomes_json};
+ghost use Rattle.outcome_report.specs.OutcomesJson.{key_of, value_members, state_value, states_value, holds_in};
+ghost use Rattle.outcome_report.specs.OutcomesJson.{observation_value, outcomes_value, outcomes_json, unfinished_outcomes_json};
 ghost use Rattle.outcome_report.specs.inner.Shown.{AreNamesOf, IsOutcomeOf, kept_of, AreShown};
 ghost use Rattle.outcome_report.specs.inner.Written.{put_holds, with_found};
 
@@ -18,10 +18,11 @@ use crate::outcomes::Outcomes;
 use crate::verdict::{is_met_in, outcomes_verdict_value};
 use explorer::FinalState;
 use scheduler::choices_text;
-use serde_json::{Map, Value, json, put};
+use serde_json::{Map, Value, put};
 use std::alloc::Global;
 use tso_model::{NoMemory, Test, cond_holds};
-use tso_report::json::line_of;
+use tso_report::json::{line_of, unfinished_search_value};
+use tso_report::members::{Datum, object_of};
 use tso_report::named::Named;
 use tso_report::observation::frequency;
 
@@ -54,15 +55,8 @@ pub fn unfinished_outcomes_json(
 ) -> Result<String, NoMemory>
     ensures { IfOk result (λ text. string_bytes text ≡ unfinished_outcomes_json test.now limit) }
 {
-    let value = unfinished_outcomes_value(alloc, test, limit)?;
+    let value = unfinished_search_value(alloc, test, "states", limit as u64)?;
     line_of(alloc, &value)
-}
-
-fn unfinished_outcomes_value(alloc: Global, test: &Test, limit: usize) -> Result<Value, NoMemory>
-    ensures { IfOk result (λ value. view value ≡ unfinished_outcomes_value test.now limit) }
-{
-    let name = test.name();
-    Ok(json!(in alloc; {"test": name, "unfinished": {"states": limit}})?)
 }
 
 fn outcomes_value(
@@ -119,16 +113,14 @@ fn observation_value(
         None => Ok(Value::Null),
         Some(cond) => {
             let (held, failed) = counts_of(cond, outcomes);
-            observed_value(alloc, held, failed)
+            let fields = [
+                ("false", Datum::Number(failed as u64)),
+                ("true", Datum::Number(held as u64)),
+                ("word", Datum::Text(frequency(held, failed))),
+            ];
+            object_of(alloc, &fields)
         }
     }
-}
-
-fn observed_value(alloc: Global, held: usize, failed: usize) -> Result<Value, NoMemory>
-    ensures { IfOk result (λ value. view value ≡ observed_value held failed) }
-{
-    let word = frequency(held, failed);
-    Ok(json!(in alloc; {"false": failed, "true": held, "word": word})?)
 }
 
 fn states_value(

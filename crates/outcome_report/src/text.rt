@@ -19,6 +19,7 @@ use std::alloc::Global;
 use tso_model::{Choice, Cond, NoMemory, Test, cond_holds};
 use tso_report::named::Named;
 use tso_report::observation::write_observed;
+use tso_report::pieces::{Piece, write_pieces};
 use tso_report::printed_values::write_values;
 use tso_report::report::write_test;
 
@@ -61,8 +62,14 @@ pub fn unfinished_text(alloc: Global, limit: usize) -> Result<String, NoMemory>
 fn write_outcomes(text: &mut String, depth: u8, states: usize) -> Result<(), NoMemory>
     ensures { OnOk result (string_bytes text.new ≡ string_bytes text.old ++ outcomes_line depth states) }
 {
-    write!(text, "Outcomes depth={depth} states={states}\n")?;
-    Ok(())
+    let pieces = [
+        Piece::Text("Outcomes depth="),
+        Piece::Number(depth as u64),
+        Piece::Text(" states="),
+        Piece::Number(states as u64),
+        Piece::Text("\n"),
+    ];
+    write_pieces(text, &pieces)
 }
 
 /// Two lines for each state.
