@@ -152,22 +152,21 @@ value-with model t choices d m v =
     (member (codes "values") (object (value_members t (looked_at t) v))
     (member (codes "verdict") (outcomes_verdict_value t.condition true) no_members)))))))))
 
-joined : (a b p c d e f g h : List ℕ) → a ++ (b ++ p) ++ c ++ d ++ e ++ f ++ g ++ h ≡ a ++ (b ++ (p ++ (c ++ (d ++ (e ++ (f ++ (g ++ h)))))))
-joined a b p c d e f g h = simp append_assoc
+joined : (z a b p c d e f g h : List ℕ) → ((((z ++ (a ++ ((b ++ p) ++ c))) ++ d) ++ e) ++ (f ++ g)) ++ h ≡ z ++ (a ++ (b ++ (p ++ (c ++ (d ++ (e ++ (f ++ (g ++ h))))))))
+joined z a b p c d e f g h = simp append_assoc
 
 module _ (model : Model) (t : Litmus) (order : List Entry) (xs : List Reading) (vs : List ℕ) (choices : List Choice) (c : Candidate)
     (shown : IsShown t order xs vs c) where
-  pub text-is : (e1 e2 e3 e4 e5 e6 e7 e8 : List ℕ) → e1 ≡ test_line t → e2 ≡ e1 ++ inner.allowed_line model → e3 ≡ e2 ++ asked_line t.condition
-      → e4 ≡ e3 ++ flat_map (reading_line t) xs → e5 ≡ e4 ++ coherence_by t order 0 t.locations → e6 ≡ e5 ++ by_line choices
-      → e7 ≡ e6 ++ state_line t (looked_at t) vs → e8 ≡ e7 ++ verdict_line t.condition true → e8 ≡ allowed_text model t c choices
-  text-is e1 e2 e3 e4 e5 e6 e7 e8 h1 h2 h3 h4 h5 h6 h7 h8 =
-      h8
-      ∙ (ap (λ z. z ++ verdict_line t.condition true) (h7 ∙ ap (λ z. z ++ state_line t (looked_at t) vs) (h6 ∙ ap (λ z. z ++ by_line choices)
-      (h5 ∙ ap (λ z. z ++ coherence_by t order 0 t.locations) (h4 ∙ ap (λ z. z ++ flat_map (reading_line t) xs) (h3 ∙ ap (λ z. z ++ asked_line t.condition)
-      (h2 ∙ ap (λ z. z ++ inner.allowed_line model) h1))))))
-      ∙ (joined (test_line t) (codes "Allowed ") (line (model_name model)) (asked_line t.condition) (flat_map (reading_line t) xs)
+  pub text-is : (e0 e1 e2 e3 e4 e5 : List ℕ) → e1 ≡ e0 ++ (test_line t ++ (inner.allowed_line model ++ asked_line t.condition))
+      → e2 ≡ e1 ++ flat_map (reading_line t) xs → e3 ≡ e2 ++ coherence_by t order 0 t.locations
+      → e4 ≡ e3 ++ (by_line choices ++ state_line t (looked_at t) vs) → e5 ≡ e4 ++ verdict_line t.condition true → e5 ≡ e0 ++ allowed_text model t c choices
+  text-is e0 e1 e2 e3 e4 e5 h1 h2 h3 h4 h5 =
+      h5
+      ∙ (ap (λ z. z ++ verdict_line t.condition true) (h4 ∙ ap (λ z. z ++ (by_line choices ++ state_line t (looked_at t) vs))
+      (h3 ∙ ap (λ z. z ++ coherence_by t order 0 t.locations) (h2 ∙ ap (λ z. z ++ flat_map (reading_line t) xs) h1)))
+      ∙ (joined e0 (test_line t) (codes "Allowed ") (line (model_name model)) (asked_line t.condition) (flat_map (reading_line t) xs)
       (coherence_by t order 0 t.locations) (by_line choices) (state_line t (looked_at t) vs) (verdict_line t.condition true)
-      ∙ (ap (λ r. lines-with model t choices r (coherence_by t order 0 t.locations) vs) (ap (flat_map (reading_line t)) shown.readings ∙ reads-lines t order c shown.coherence (reads_of t c))
+      ∙ ap (λ z. e0 ++ z) (ap (λ r. lines-with model t choices r (coherence_by t order 0 t.locations) vs) (ap (flat_map (reading_line t)) shown.readings ∙ reads-lines t order c shown.coherence (reads_of t c))
       ∙ (ap (λ q. lines-with model t choices (flat_map (from_line t c) (reads_of t c)) q vs) (locations-lines t order c shown.coherence t.locations 0)
       ∙ ap (λ v. lines-with model t choices (flat_map (from_line t c) (reads_of t c)) (coherence_lines t c 0 t.locations) v) shown.values))))
 
@@ -271,15 +270,12 @@ known-moved a b cores locations ns names ea eb en h =
     (subst (λ (y : ℕ). All (NameExists a y) names) (sym eb) (subst (All (NameExists a b)) (sym en) h))
 
 pub shows : (json : Bool) (model : Model) (t : Litmus) (order : List Entry) (choices : List Choice) (c : Candidate) → IsCandidateOf t order c → LeaveTheSame t order c
-    → (entries : List Entry) → entries ≡ made t order → (xs ys : List Reading) → AreReadings order (filter is_read entries) xs → ys ≡ xs
-    → (rs : List (List ℕ)) → rs ≡ final_registers t order → (ms : List ℕ) → ms ≡ final_words t order → (ns : List Named) → ns ≡ looked_at t
-    → (vs us : List ℕ) → vs ≡ map (shown_value rs ms) ns → us ≡ vs
+    → (xs ys : List Reading) → AreReadings order (filter is_read (made t order)) xs → ys ≡ xs → (ns : List Named) → ns ≡ looked_at t
+    → (vs us : List ℕ) → vs ≡ map (shown_value (final_registers t order) (final_words t order)) ns → us ≡ vs
     → (out : List ℕ) → ((d : Candidate) → IsShown t order ys us d → out ≡ allowed_in json model t d choices) → ShowsExecution json model t order choices out
-shows json model t order choices c of same entries es xs ys are ye rs re ms me ns ne vs us ve ue out f = record {
+shows json model t order choices c of same xs ys are ye ns ne vs us ve ue out f = record {
   candidate = c;
   of_order = of;
-  printed = f c (shown-is t order c of same ys
-      (subst (AreReadings order (filter is_read (made t order))) (sym ye) (subst (λ (zs : List Entry). AreReadings order (filter is_read zs) xs) es are)) us
-      (ue ∙ (ve ∙ (ap (λ r. map (shown_value r ms) ns) re ∙ (ap (λ m. map (shown_value (final_registers t order) m) ns) me
-      ∙ ap (map (shown_value (final_registers t order) (final_words t order))) ne)))));
+  printed = f c (shown-is t order c of same ys (subst (AreReadings order (filter is_read (made t order))) (sym ye) are) us
+      (ue ∙ (ve ∙ ap (map (shown_value (final_registers t order) (final_words t order))) ne)));
 }

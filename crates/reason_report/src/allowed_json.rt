@@ -15,7 +15,7 @@ ghost use Rattle.reason_report.specs.inner.Shown.{with_answer, with_execution};
 use crate::allowed_text::has_write;
 use crate::asked::model_name;
 use crate::pieces::Piece;
-use crate::pieces_json::{event_value, object_of, put_fields};
+use crate::pieces_json::{object_of, put_fields, text_value};
 use crate::readings::{Reading, event_of};
 use outcome_report::json::values_value;
 use refutation_laws::Model;
@@ -152,7 +152,8 @@ fn writes_value(alloc: Global, test: &Test, order: &[Entry], loc: Loc) -> Result
     let mut values = Vec::new(alloc);
     for entry in order {
         if writes_to(loc.0, entry) {
-            values.push(event_value(alloc, test, &event_of(entry))?)?;
+            let write = event_of(entry);
+            values.push(text_value(alloc, test, Piece::Event(&write))?)?;
         }
     }
     Ok(Value::Array(values))

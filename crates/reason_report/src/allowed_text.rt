@@ -8,11 +8,12 @@ ghost use Rattle.relational_model.specs.Candidates.{Candidate};
 ghost use Rattle.order_builder.specs.PrintedOrder.{printed_entry};
 ghost use Rattle.tso_report.specs.inner.Tally.{NameExists};
 ghost use Rattle.tso_report.specs.Tally.{looked_at};
+ghost use Rattle.tso_report.specs.Report.{test_line};
 ghost use Rattle.outcome_report.specs.Outcomes.{by_line, state_line};
 ghost use Rattle.reason_report.specs.ReasonText as spec;
 ghost use Rattle.reason_report.specs.inner.Shown.{IsShown, allowed_line, reading_line, coherence_by};
 
-use crate::asked::{model_name, write_asked};
+use crate::asked::model_name;
 use crate::pieces::Piece;
 use crate::pieces_text::{write_event, write_pieces};
 use crate::readings::{Reading, event_of};
@@ -24,7 +25,6 @@ use std::alloc::Global;
 use tso_model::{Choice, Entry, Loc, NoMemory, Test};
 use tso_report::named::Named;
 use tso_report::printed_values::write_values;
-use tso_report::report::write_test;
 
 /// An execution in which what the test asks is so, as lines of text: the test; that it is allowed; what is asked; what each read
 /// reads from; the writes to each location in their order; choices that lead there; the values that are looked at; and herd's
@@ -47,25 +47,46 @@ pub fn allowed_text(
         → string_bytes text ≡ spec.allowed_text model test.now c choices.now) }
 {
     let mut text = String::new(alloc);
-    write_test(&mut text, test)?;
-    write_allowed(&mut text, test, model)?;
-    write_asked(&mut text, test)?;
-    write_readings(&mut text, test, readings)?;
-    write_coherence(&mut text, test, order)?;
-    write_by(&mut text, choices)?;
-    write_state(&mut text, test, names, values)?;
-    write_verdict(&mut text, test, true)?;
+    write_execution(
+        &mut text, test, model, order, readings, names, values, choices,
+    )?;
     Ok(text)
 }
 
-/// `Allowed tso`.
+fn write_execution(
+    text: &mut String,
+    test: &Test,
+    model: Model,
+    order: &[Entry],
+    readings: &[Reading],
+    names: &[Named],
+    values: &[u32],
+    choices: &[Choice],
+) -> Result<(), NoMemory>
+    requires known { All (NameExists (length test.now.programs) (length test.now.locations)) names.now }
+    requires names { names.now ≡ looked_at test.now }
+    ensures { OnOk result ((c : Candidate) → IsShown test.now order.now readings.now values.now c
+        → string_bytes text.new ≡ string_bytes text.old ++ spec.allowed_text model test.now c choices.now) }
+{
+    write_allowed(text, test, model)?;
+    write_readings(text, test, readings)?;
+    write_coherence(text, test, order)?;
+    write_left(text, test, names, values, choices)?;
+    write_verdict(text, test, true)
+}
+
+/// `Test sb`, `Allowed tso`, and what is asked.
 fn write_allowed(text: &mut String, test: &Test, model: Model) -> Result<(), NoMemory>
-    ensures { OnOk result (string_bytes text.new ≡ string_bytes text.old ++ allowed_line model) }
+    ensures { OnOk result (string_bytes text.new
+        ≡ string_bytes text.old ++ (test_line test.now ++ (allowed_line model ++ spec.asked_line test.now.condition))) }
 {
     let pieces = [
-        Piece::Text("Allowed "),
+        Piece::Text("Test "),
+        Piece::Text(test.name()),
+        Piece::Text("\nAllowed "),
         Piece::Text(model_name(model)),
         Piece::Text("\n"),
+        Piece::Asked,
     ];
     write_pieces(text, test, &pieces)
 }
@@ -143,29 +164,22 @@ fn write_writes(text: &mut String, test: &Test, order: &[Entry], loc: Loc) -> Re
     Ok(())
 }
 
-/// `By 0s 1s 0d ..`.
-fn write_by(text: &mut String, choices: &[Choice]) -> Result<(), NoMemory>
-    ensures { OnOk result (string_bytes text.new ≡ string_bytes text.old ++ by_line choices.now) }
-{
-    text.push_str("By")?;
-    write_after(text, choices)?;
-    text.push('\n')?;
-    Ok(())
-}
-
-/// `State 0:EAX=v x=v ..`.
-fn write_state(
+/// `By 0s 1s 0d ..` and `State 0:EAX=v x=v ..`.
+fn write_left(
     text: &mut String,
     test: &Test,
     names: &[Named],
     values: &[u32],
+    choices: &[Choice],
 ) -> Result<(), NoMemory>
     requires known { All (NameExists (length test.now.programs) (length test.now.locations)) names.now }
     requires names { names.now ≡ looked_at test.now }
-    ensures { OnOk result (string_bytes text.new ≡ string_bytes text.old ++ state_line test.now (looked_at test.now) values.now) }
+    ensures { OnOk result (string_bytes text.new
+        ≡ string_bytes text.old ++ (by_line choices.now ++ state_line test.now (looked_at test.now) values.now)) }
 {
-    text.push_str("State")?;
+    text.push_str("By")?;
+    write_after(text, choices)?;
+    text.push_str("\nState")?;
     write_values(text, test, names, values)?;
-    text.push('\n')?;
-    Ok(())
+    Ok(text.push('\n')?)
 }

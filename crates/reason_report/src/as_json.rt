@@ -12,10 +12,10 @@ use crate::pieces::Piece;
 use crate::pieces_json::{object_of, put_fields};
 use crate::steps::{Answer, Closing, Step, leaves_in};
 use refutation_laws::Model;
-use serde_json::{Map, Value, json, put};
+use serde_json::{Map, Value, put};
 use std::alloc::Global;
 use tso_model::{NoMemory, Test};
-use tso_report::json::line_of;
+use tso_report::json::{line_of, unfinished_search_value};
 
 /// A refutation of what the test asks, as JSON: one line.
 ///
@@ -38,15 +38,8 @@ pub fn never_json(
 pub fn unfinished_reason_json(alloc: Global, test: &Test, limit: u32) -> Result<String, NoMemory>
     ensures { IfOk result (λ line. string_bytes line ≡ spec.unfinished_reason_json test.now limit) }
 {
-    let value = unfinished_reason_value(alloc, test, limit)?;
+    let value = unfinished_search_value(alloc, test, "cases", limit as u64)?;
     line_of(alloc, &value)
-}
-
-fn unfinished_reason_value(alloc: Global, test: &Test, limit: u32) -> Result<Value, NoMemory>
-    ensures { IfOk result (λ value. view value ≡ spec.unfinished_reason_value test.now limit) }
-{
-    let name = test.name();
-    Ok(json!(in alloc; {"test": name, "unfinished": {"cases": limit}})?)
 }
 
 fn never_value(alloc: Global, test: &Test, model: Model, steps: &[Step]) -> Result<Value, NoMemory>

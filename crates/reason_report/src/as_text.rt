@@ -2,6 +2,7 @@
 
 ghost use Rattle.std.specs.Prelude.{◌≡◌, ◌++◌, ◌∷◌, OnOk, IfOk, string_bytes, map, []};
 ghost use Rattle.std.specs.List.{flat_map};
+ghost use Rattle.tso_report.specs.Report.{test_line};
 ghost use Rattle.reason_report.specs.ReasonText as spec;
 ghost use Rattle.reason_report.specs.Views.{answer_of, closing_of, reason_step_of};
 
@@ -13,7 +14,6 @@ use outcome_report::verdict::write_verdict;
 use refutation_laws::Model;
 use std::alloc::Global;
 use tso_model::{NoMemory, Test};
-use tso_report::report::write_test;
 
 /// A refutation of what the test asks, as lines of text: the test; that it is refuted, and in how many leaves; what is asked; the
 /// steps; and herd's verdict.
@@ -28,7 +28,6 @@ pub fn never_text(
     ensures { IfOk result (λ text. string_bytes text ≡ spec.never_lines model test.now (map reason_step_of steps.now)) }
 {
     let mut text = String::new(alloc);
-    write_test(&mut text, test)?;
     write_never(&mut text, test, model, leaves_in(steps))?;
     write_steps(&mut text, test, steps)?;
     write_verdict(&mut text, test, false)?;
@@ -46,12 +45,15 @@ pub fn unfinished_text(alloc: Global, limit: u32) -> Result<String, NoMemory>
     Ok(text)
 }
 
-/// `Never tso leaves=3`, and what is asked.
+/// `Test sb`, `Never tso leaves=3`, and what is asked.
 fn write_never(text: &mut String, test: &Test, model: Model, leaves: usize) -> Result<(), NoMemory>
-    ensures { OnOk result (string_bytes text.new ≡ string_bytes text.old ++ (spec.never_line model leaves ++ spec.asked_line test.now.condition)) }
+    ensures { OnOk result (string_bytes text.new
+        ≡ string_bytes text.old ++ (test_line test.now ++ (spec.never_line model leaves ++ spec.asked_line test.now.condition))) }
 {
     let pieces = [
-        Piece::Text("Never "),
+        Piece::Text("Test "),
+        Piece::Text(test.name()),
+        Piece::Text("\nNever "),
         Piece::Text(model_name(model)),
         Piece::Text(" leaves="),
         Piece::Number(leaves),

@@ -6,9 +6,11 @@ ghost use Rattle.reason_report.specs.ReasonText as spec;
 ghost use Rattle.reason_report.specs.ReasonJson as values;
 
 use refutation_laws::Model;
-use serde_json::{Value, json};
+use serde_json::Value;
 use std::alloc::Global;
 use tso_model::{NoMemory, Quantifier, Test};
+use tso_report::members::{Datum, object_of};
+use tso_report::pieces::{Piece, write_pieces};
 use tso_report::report::quantifier_text;
 
 /// The name of a model.
@@ -35,16 +37,19 @@ pub fn truth_asked(quantifier: Quantifier) -> bool
 pub fn write_asked(text: &mut String, test: &Test) -> Result<(), NoMemory>
     ensures { OnOk result (string_bytes text.new ≡ string_bytes text.old ++ spec.asked_line test.now.condition) }
 {
-    if let Some(cond) = test.cond() {
-        let quantifier = quantifier_text(cond.quantifier);
-        let truth = if truth_asked(cond.quantifier) {
-            "true"
-        } else {
-            "false"
-        };
-        write!(text, "Asked {quantifier} {truth}\n")?;
+    match test.cond() {
+        None => Ok(()),
+        Some(cond) => {
+            let pieces = [
+                Piece::Text("Asked "),
+                Piece::Text(quantifier_text(cond.quantifier)),
+                Piece::Text(" "),
+                Piece::Truth(truth_asked(cond.quantifier)),
+                Piece::Text("\n"),
+            ];
+            write_pieces(text, &pieces)
+        }
     }
-    Ok(())
 }
 
 /// The quantifier of the condition and the truth that it asks for, or `null`.
@@ -56,9 +61,11 @@ pub fn asked_value(alloc: Global, test: &Test) -> Result<Value, NoMemory>
     match test.cond() {
         None => Ok(Value::Null),
         Some(cond) => {
-            let kind = quantifier_text(cond.quantifier);
-            let truth = truth_asked(cond.quantifier);
-            Ok(json!(in alloc; {"kind": kind, "truth": truth})?)
+            let fields = [
+                ("kind", Datum::Text(quantifier_text(cond.quantifier))),
+                ("truth", Datum::Truth(truth_asked(cond.quantifier))),
+            ];
+            object_of(alloc, &fields)
         }
     }
 }

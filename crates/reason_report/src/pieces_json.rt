@@ -13,7 +13,7 @@ ghost use Rattle.reason_report.specs.Views.{place_of};
 
 use crate::asked::asked_value;
 use crate::pieces::Piece;
-use crate::pieces_text::{key_text, relation_text, write_event, write_source};
+use crate::pieces_text::{key_text, relation_text, write_piece};
 use crate::steps::{Edge, Event, Place};
 use outcome_report::verdict::outcomes_verdict_value;
 use serde_json::{Map, Value, put};
@@ -58,13 +58,11 @@ fn piece_value(alloc: Global, test: &Test, piece: Piece<'_>) -> Result<Value, No
     ensures { IfOk result (λ value. view value ≡ pieces.piece_value test.now piece.entry) }
 {
     match piece {
-        Piece::Text(characters) => Ok(Value::try_from_str(alloc, characters)?),
+        Piece::Text(_) | Piece::Event(_) | Piece::Source(_) => text_value(alloc, test, piece),
         Piece::Number(number) => Ok(Value::from(number)),
         Piece::Depth(depth) => Ok(Value::from(depth)),
         Piece::Asked => asked_value(alloc, test),
         Piece::Verdict(allowed) => outcomes_verdict_value(alloc, test, allowed),
-        Piece::Event(event) => event_value(alloc, test, event),
-        Piece::Source(write) => source_value(alloc, test, write),
         Piece::Sources(writes) => sources_value(alloc, test, writes),
         Piece::Cycle(edges) => edges_value(alloc, test, edges),
         Piece::Places(places) => places_value(alloc, test, places),
@@ -76,57 +74,35 @@ fn sources_value(alloc: Global, test: &Test, writes: &[Option<Event>]) -> Result
 {
     let mut values = Vec::new(alloc);
     for write in writes {
-        values.push(source_value(alloc, test, write)?)?;
+        values.push(text_value(alloc, test, Piece::Source(write))?)?;
     }
     Ok(Value::Array(values))
 }
 
-fn source_value(alloc: Global, test: &Test, write: &Option<Event>) -> Result<Value, NoMemory>
-    ensures { IfOk result (λ value. view value ≡ string (text.source_text test.now write.now)) }
+/// A piece as it stands in a line, as a string.
+///
+/// Errors: out of memory only.
+pub fn text_value(alloc: Global, test: &Test, piece: Piece<'_>) -> Result<Value, NoMemory>
+    ensures { IfOk result (λ value. view value ≡ string (pieces.piece_text test.now piece.entry)) }
 {
     let mut text = String::new(alloc);
-    write_source(&mut text, test, write)?;
+    write_piece(&mut text, test, piece)?;
     Ok(Value::String(text))
 }
 
 fn put_text(
     members: &mut Map<String, Value>,
     alloc: Global,
-    key: &str,
-    text: &str,
-) -> Result<(), NoMemory>
-    ensures { OnOk result (members_view members.new.entries
-        ≡ values.put key.now (string text.now) (members_view members.old.entries)) }
-{
-    let value = Value::try_from_str(alloc, text)?;
-    put(members, alloc, key, value)?;
-    Ok(())
-}
-
-fn put_event(
-    members: &mut Map<String, Value>,
-    alloc: Global,
     test: &Test,
     key: &str,
-    event: &Event,
+    piece: Piece<'_>,
 ) -> Result<(), NoMemory>
     ensures { OnOk result (members_view members.new.entries
-        ≡ values.put key.now (spec.event_value test.now event.now) (members_view members.old.entries)) }
+        ≡ values.put key.now (string (pieces.piece_text test.now piece.entry)) (members_view members.old.entries)) }
 {
-    let value = event_value(alloc, test, event)?;
+    let value = text_value(alloc, test, piece)?;
     put(members, alloc, key, value)?;
     Ok(())
-}
-
-/// An event as a string.
-///
-/// Errors: out of memory only.
-pub fn event_value(alloc: Global, test: &Test, event: &Event) -> Result<Value, NoMemory>
-    ensures { IfOk result (λ value. view value ≡ spec.event_value test.now event.now) }
-{
-    let mut text = String::new(alloc);
-    write_event(&mut text, test, event)?;
-    Ok(Value::String(text))
 }
 
 fn edges_value(alloc: Global, test: &Test, edges: &[Edge]) -> Result<Value, NoMemory>
@@ -156,9 +132,10 @@ fn put_edge(
     requires { members.old.entries ≡ [] }
     ensures { OnOk result (object (members_view members.new.entries) ≡ spec.edge_value test.now edge.now) }
 {
-    put_event(members, alloc, test, "from", &edge.source)?;
-    put_text(members, alloc, "relation", relation_text(edge.relation))?;
-    put_event(members, alloc, test, "to", &edge.target)
+    let relation = relation_text(edge.relation);
+    put_text(members, alloc, test, "from", Piece::Event(&edge.source))?;
+    put_text(members, alloc, test, "relation", Piece::Text(relation))?;
+    put_text(members, alloc, test, "to", Piece::Event(&edge.target))
 }
 
 fn places_value(alloc: Global, test: &Test, places: &[Place]) -> Result<Value, NoMemory>

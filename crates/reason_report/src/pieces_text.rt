@@ -31,7 +31,10 @@ pub fn write_pieces(text: &mut String, test: &Test, pieces: &[Piece<'_>]) -> Res
     Ok(())
 }
 
-fn write_piece(text: &mut String, test: &Test, piece: Piece<'_>) -> Result<(), NoMemory>
+/// Adds a piece to a line.
+///
+/// Errors: out of memory only; the text may have grown then.
+pub fn write_piece(text: &mut String, test: &Test, piece: Piece<'_>) -> Result<(), NoMemory>
     ensures { OnOk result (string_bytes text.new ≡ string_bytes text.old ++ piece_text test.now piece.entry) }
 {
     match piece {
@@ -78,7 +81,7 @@ fn write_further(text: &mut String, test: &Test, writes: &[Option<Event>]) -> Re
 }
 
 /// A write, or `initial`.
-pub fn write_source(text: &mut String, test: &Test, write: &Option<Event>) -> Result<(), NoMemory>
+fn write_source(text: &mut String, test: &Test, write: &Option<Event>) -> Result<(), NoMemory>
     ensures { OnOk result (string_bytes text.new ≡ string_bytes text.old ++ spec.source_text test.now write.now) }
 {
     match write {
