@@ -31,7 +31,7 @@ use split_laws::accesses_wait;
 use tso_model::{Action, Choice, Core, Instr, Loc, NoMemory, Outcome, Stall, Test};
 
 /// Makes a choice on a split bus, and answers its outcome and what it had to do with the caches.
-#[inline(always)]
+// It stays a call of its own: a choice that held it too would be too large to be inlined on the atomic bus.
 pub fn act_on_split<P: Protocol>(
     hardware: &mut Hardware<P>,
     test: &Test,
