@@ -4,7 +4,6 @@ ghost use Rattle.std.specs.Prelude.{◌≡◌, [], IfOk, OnOk, map};
 ghost use Rattle.serde_json.specs.Data as values;
 ghost use Rattle.serde_json.specs.Data.{object, array, string, no_members};
 ghost use Rattle.serde_json.specs.View.{view, members_view, items_of};
-ghost use Rattle.tso_report.specs.Json.{count};
 ghost use Rattle.reason_report.specs.ReasonText as text;
 ghost use Rattle.reason_report.specs.ReasonJson as spec;
 ghost use Rattle.reason_report.specs.inner.Pieces as pieces;
@@ -19,6 +18,7 @@ use outcome_report::verdict::outcomes_verdict_value;
 use serde_json::{Map, Value, put};
 use std::alloc::Global;
 use tso_model::{NoMemory, Test};
+use tso_report::members::numbers_value;
 
 /// An object with what stands under each of these keys.
 ///
@@ -145,28 +145,8 @@ fn places_value(alloc: Global, test: &Test, places: &[Place]) -> Result<Value, N
     for at in (0..places.len()).rev() {
         let place = &places[at];
         let key = key_text(alloc, test, place.named)?;
-        put(
-            &mut members,
-            alloc,
-            &key,
-            words_value(alloc, &place.values)?,
-        )?;
+        let words = numbers_value(alloc, &place.values)?;
+        put(&mut members, alloc, &key, words)?;
     }
     Ok(Value::Object(members))
-}
-
-fn words_value(alloc: Global, words: &[u32]) -> Result<Value, NoMemory>
-    ensures { IfOk result (λ value. view value ≡ array (items_of (map count words.now))) }
-{
-    let mut values = Vec::new(alloc);
-    for word in words {
-        values.push(word_value(*word))?;
-    }
-    Ok(Value::Array(values))
-}
-
-fn word_value(word: u32) -> Value
-    ensures { view result ≡ count word }
-{
-    Value::from(word)
 }

@@ -19,10 +19,6 @@ pub enum Datum<'a> {
     Number(u64),
     /// A truth.
     Truth(bool),
-    /// A string, or `null` where there is none.
-    Name(Option<&'a str>),
-    /// A list of numbers.
-    Numbers(&'a [u32]),
 }
 
 /// An object with what stands under each of these keys.
@@ -74,13 +70,13 @@ fn datum_value(alloc: Global, datum: Datum<'_>) -> Result<Value, NoMemory>
         Datum::Text(characters) => Ok(Value::try_from_str(alloc, characters)?),
         Datum::Number(number) => Ok(Value::from(number)),
         Datum::Truth(truth) => Ok(Value::Bool(truth)),
-        Datum::Name(None) => Ok(Value::Null),
-        Datum::Name(Some(name)) => Ok(Value::try_from_str(alloc, name)?),
-        Datum::Numbers(numbers) => numbers_value(alloc, numbers),
     }
 }
 
-fn numbers_value(alloc: Global, numbers: &[u32]) -> Result<Value, NoMemory>
+/// A list of numbers.
+///
+/// Errors: out of memory only.
+pub fn numbers_value(alloc: Global, numbers: &[u32]) -> Result<Value, NoMemory>
     ensures { IfOk result (λ value. view value ≡ array (items_of (map count numbers.now))) }
 {
     let mut values = Vec::new(alloc);

@@ -1,8 +1,7 @@
 -- What stands under a key, as a JSON value.
-use Rattle.std.specs.Prelude.{ℕ, List, [], ◌∷◌, map, Some, None}
+use Rattle.std.specs.Prelude.{ℕ, List, [], ◌∷◌}
 use Rattle.std.specs.Borrow.{Bor}
-use Rattle.serde_json.specs.Data.{array, boolean, Data, Members, null, put, string}
-use Rattle.serde_json.specs.View.{items_of}
+use Rattle.serde_json.specs.Data.{boolean, Data, Members, put, string}
 use Rattle.tso_report.specs.Json.{count}
 use Rattle.tso_report.specs.declared.members.Datum.{Datum}
 use Rattle.tso_report.specs.declared.members.Datum.TheVariants as datum
@@ -11,9 +10,6 @@ abbrev pub datum_value : Datum → Data
 datum_value (datum.Text text) = string text.now
 datum_value (datum.Number n) = count n
 datum_value (datum.Truth truth) = boolean truth
-datum_value (datum.Name None) = null
-datum_value (datum.Name (Some name)) = string name.now
-datum_value (datum.Numbers numbers) = array (items_of (map count numbers.now))
 
 -- these members, and one for each of these keys
 abbrev pub with_data : List (Bor (List ℕ) × Datum) → Members → Members
