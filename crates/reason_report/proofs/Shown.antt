@@ -270,12 +270,15 @@ known-moved a b cores locations ns names ea eb en h =
     (subst (λ (y : ℕ). All (NameExists a y) names) (sym eb) (subst (All (NameExists a b)) (sym en) h))
 
 pub shows : (json : Bool) (model : Model) (t : Litmus) (order : List Entry) (choices : List Choice) (c : Candidate) → IsCandidateOf t order c → LeaveTheSame t order c
-    → (xs ys : List Reading) → AreReadings order (filter is_read (made t order)) xs → ys ≡ xs → (ns : List Named) → ns ≡ looked_at t
-    → (vs us : List ℕ) → vs ≡ map (shown_value (final_registers t order) (final_words t order)) ns → us ≡ vs
+    → (entries : List Entry) → entries ≡ made t order → (xs ys : List Reading) → AreReadings order (filter is_read entries) xs → ys ≡ xs
+    → (rs : List (List ℕ)) → rs ≡ final_registers t order → (ms : List ℕ) → ms ≡ final_words t order → (ns : List Named) → ns ≡ looked_at t
+    → (vs us : List ℕ) → vs ≡ map (shown_value rs ms) ns → us ≡ vs
     → (out : List ℕ) → ((d : Candidate) → IsShown t order ys us d → out ≡ allowed_in json model t d choices) → ShowsExecution json model t order choices out
-shows json model t order choices c of same xs ys are ye ns ne vs us ve ue out f = record {
+shows json model t order choices c of same entries es xs ys are ye rs re ms me ns ne vs us ve ue out f = record {
   candidate = c;
   of_order = of;
-  printed = f c (shown-is t order c of same ys (subst (AreReadings order (filter is_read (made t order))) (sym ye) are) us
-      (ue ∙ (ve ∙ ap (map (shown_value (final_registers t order) (final_words t order))) ne)));
+  printed = f c (shown-is t order c of same ys
+      (subst (AreReadings order (filter is_read (made t order))) (sym ye) (subst (λ (zs : List Entry). AreReadings order (filter is_read zs) xs) es are)) us
+      (ue ∙ (ve ∙ (ap (λ r. map (shown_value r ms) ns) re ∙ (ap (λ m. map (shown_value (final_registers t order) m) ns) me
+      ∙ ap (map (shown_value (final_registers t order) (final_words t order))) ne)))));
 }

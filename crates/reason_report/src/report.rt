@@ -1,14 +1,8 @@
 //! What is printed of a refutation, of an execution, or of a search that met its limit: lines of text, or a JSON value on one line.
 
-ghost use Rattle.std.specs.Prelude.{◌≡◌, All, IfOk, filter, length, map, string_bytes};
-ghost use Rattle.tso_model.specs.FinalState.{final_registers, final_words};
-ghost use Rattle.tso_model.specs.ProgramEntries.{made};
-ghost use Rattle.tso_model.specs.ProgramOrder.{is_read};
+ghost use Rattle.std.specs.Prelude.{◌≡◌, IfOk, map, string_bytes};
 ghost use Rattle.refutation_laws.specs.Models.{IsExecutionOf};
 ghost use Rattle.refutations.specs.Trees.{node_of};
-ghost use Rattle.tso_report.specs.Tally.{shown_value};
-ghost use Rattle.tso_report.specs.inner.Tally.{NameExists};
-ghost use Rattle.reason_report.specs.inner.Shown.{AreIn, AreReadings};
 ghost use Rattle.reason_report.specs.Printed.{refutation_in, unfinished_cases_in, ShowsExecution};
 
 use crate::allowed_json::allowed_json;
@@ -16,14 +10,14 @@ use crate::allowed_text::allowed_text;
 use crate::as_json::{never_json, unfinished_reason_json};
 use crate::as_text::{never_text, unfinished_text};
 use crate::layout::steps_of;
-use crate::readings::{Reading, readings};
+use crate::readings::readings;
 use execution_check::final_state::{entries_made, registers_left, words_left};
 use refutation_laws::Model;
 use refutations::Node;
 use relational_model::{candidates_of_executions_are_allowed, executions_have_candidates};
 use std::alloc::Global;
-use tso_model::{Choice, Entry, Execution, NoMemory, Test};
-use tso_report::named::{Named, looked_at, values_at};
+use tso_model::{Choice, Execution, NoMemory, Test};
+use tso_report::named::{looked_at, values_at};
 
 /// What is printed of a refutation of what the test asks, as lines of text or with `json` as a JSON value: its cases, step by step,
 /// and what closes each.
@@ -64,10 +58,14 @@ pub fn allowed_report(
 {
     executions_have_candidates();
     candidates_of_executions_are_allowed();
+    test.know_limits();
     let order = execution.order.as_slice();
-    let readings = readings_made(alloc, test, order)?;
+    let entries = entries_made(alloc, test, order)?;
+    let readings = readings(alloc, order, &entries)?;
+    let registers = registers_left(alloc, test, order)?;
+    let words = words_left(alloc, test, order)?;
     let names = looked_at(alloc, test)?;
-    let values = values_left(alloc, test, order, &names)?;
+    let values = values_at(alloc, &names, &registers, &words)?;
     if json {
         allowed_json(
             alloc, test, model, order, &readings, &names, &values, choices,
@@ -77,32 +75,6 @@ pub fn allowed_report(
             alloc, test, model, order, &readings, &names, &values, choices,
         )
     }
-}
-
-/// What the reads of an order read from.
-fn readings_made(alloc: Global, test: &Test, order: &[Entry]) -> Result<Vec<Reading>, NoMemory>
-    requires { AreIn order.now (made test.now order.now) }
-    ensures { IfOk result (λ all. AreReadings order.now (filter is_read (made test.now order.now)) all.items) }
-{
-    let entries = entries_made(alloc, test, order)?;
-    readings(alloc, order, &entries)
-}
-
-/// The values that an order leaves at these.
-fn values_left(
-    alloc: Global,
-    test: &Test,
-    order: &[Entry],
-    names: &[Named],
-) -> Result<Vec<u32>, NoMemory>
-    requires { All (NameExists (length test.now.programs) (length test.now.locations)) names.now }
-    ensures { IfOk result (λ values. values.items
-        ≡ map (shown_value (final_registers test.now order.now) (final_words test.now order.now)) names.now) }
-{
-    test.know_limits();
-    let registers = registers_left(alloc, test, order)?;
-    let words = words_left(alloc, test, order)?;
-    values_at(alloc, names, &registers, &words)
 }
 
 /// What is printed where the search met its limit, of so many cases: one line with that number, as text or with `json` as a JSON
