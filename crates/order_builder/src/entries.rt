@@ -47,7 +47,7 @@ fn place_in(text: &[u8]) -> Option<(u8, u8)>
 fn action_in(test: &Test, core: u8, place: u8, text: &[u8]) -> Option<Entry>
     ensures { result ≡ action_in test.now (core, place) text.now }
 {
-    if text == b"F".as_slice() {
+    if let [b'F'] = text {
         return Some(Entry {
             core: Core(core),
             place,
@@ -72,16 +72,12 @@ fn action_in(test: &Test, core: u8, place: u8, text: &[u8]) -> Option<Entry>
 fn kind_of(letters: &[u8]) -> Option<Kind>
     ensures { result ≡ kind_of letters.now }
 {
-    if letters == b"R".as_slice() {
-        Some(Kind::R)
-    } else if letters == b"W".as_slice() {
-        Some(Kind::W)
-    } else if letters == b"LR".as_slice() {
-        Some(Kind::LR)
-    } else if letters == b"LW".as_slice() {
-        Some(Kind::LW)
-    } else {
-        None
+    match letters {
+        [b'R'] => Some(Kind::R),
+        [b'W'] => Some(Kind::W),
+        [b'L', b'R'] => Some(Kind::LR),
+        [b'L', b'W'] => Some(Kind::LW),
+        _ => None,
     }
 }
 
