@@ -55,8 +55,7 @@ pub fn write_order(text: &mut String, test: &Test, execution: &Execution) -> Res
     let order = execution.order.as_slice();
     text.push_str("Order\n")?;
     write_entries(text, test, order)?;
-    write_end(text, order.len())?;
-    Ok(())
+    write_end(text, order.len())
 }
 
 fn write_entries(text: &mut String, test: &Test, order: &[Entry]) -> Result<(), NoMemory>
