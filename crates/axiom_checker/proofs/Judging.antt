@@ -1,5 +1,5 @@
 -- The breach that is named of what the passes met is the first.
-use Rattle.axiom_checker.proofs.Vocabulary.{◌≡◌, ◌≤◌, ℕ, true, inl, List, [], ◌++◌, length, Option, Some, None, IfSome, IsNone, refl, sym, ap, ◌∙◌, subst, arith, Litmus, IsTest, is_write_kind, made, IsTsoExecution, IsWhole, Entry, IsFirst, IsEarliest, IsNowhere, IsExtra, IsStray, IsWrongWrite, made_reading, reads_that_came, IsIndex, HasCome, HasNotCome, NamesStray, Overtakes, IsLate, IsSeparated, IsWrongRead, IsMatched, HasMet, AreOfPrograms, IsFirstWrongRead, IsFirstBreach, TellsFirstBreach, Met, Breach, Extra, Twice, Missing, ProgramOrder, NotAdjacent, ReadValue}
+use Rattle.axiom_checker.proofs.Vocabulary.{◌≡◌, ◌≤◌, ℕ, true, inl, List, length, Option, Some, None, IfSome, IsNone, refl, sym, subst, arith, Litmus, IsTest, is_write_kind, made, IsTsoExecution, IsWhole, Entry, IsFirst, IsEarliest, IsNowhere, IsExtra, IsStray, IsWrongWrite, made_reading, reads_that_came, IsIndex, HasCome, HasNotCome, NamesStray, Overtakes, IsLate, IsSeparated, IsWrongRead, IsMatched, HasMet, AreOfPrograms, IsFirstWrongRead, IsFirstBreach, TellsFirstBreach, Met, Breach, Extra, Twice, Missing, ProgramOrder, NotAdjacent, ReadValue}
 use Rattle.axiom_checker.proofs.Firsts.{none_at_all}
 use Rattle.axiom_checker.proofs.Whole.{made-of, whole-from}
 use Rattle.axiom_checker.proofs.Made.{made-within}
@@ -111,7 +111,3 @@ pub tells-met : (t : Litmus) (order now : List Entry) (met : Met) (breach : Opti
 tells-met t order now met breach same matched all found none =
     subst (λ o. TellsFirstBreach t o breach) same
     (let m = subst (λ o. IsMatched t o) (sym same) matched in let a = subst (λ o. HasMet t o (length o) met) (sym same) all in record { found = found m a; none = none m a })
-
--- the words that the last pass begins with
-pub words-are : (now items begun first words : List ℕ) → now ≡ items → items ≡ begun ++ first → begun ≡ [] → first ≡ words → now ≡ words
-words-are now items begun first words a b c d = a ∙ b ∙ ap (λ xs. xs ++ first) c ∙ d

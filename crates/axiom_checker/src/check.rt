@@ -145,8 +145,7 @@ fn breach_of_all<L: Ledger>(
     };
     let mut reached = [0u32; MAX_CORES];
     let mut settled = [0u32; MAX_CORES];
-    let mut words = Vec::new(alloc);
-    words.extend_from_slice(test.initial_words())?;
+    let mut words = Vec::from_slice(alloc, test.initial_words())?;
     let met = pass(programs, &mut reached, &mut settled, &mut words, order);
     Ok(first_met(met, order))
 }

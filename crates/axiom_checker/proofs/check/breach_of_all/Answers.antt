@@ -1,6 +1,6 @@
-use Rattle.axiom_checker.proofs.Vocabulary.{length, ap, sym, ◌∙◌, subst, refl, Ascends, EntriesAreWithin, TellsSources}
+use Rattle.axiom_checker.proofs.Vocabulary.{length, ap, sym, ◌∙◌, subst, Ascends, EntriesAreWithin, TellsSources}
 use Rattle.axiom_checker.proofs.Made.{made-ascends, made-within}
-use Rattle.axiom_checker.proofs.Judging.{of-programs, tells-met, words-are}
+use Rattle.axiom_checker.proofs.Judging.{of-programs, tells-met}
 use Rattle.axiom_checker.proofs.Coming.{zeros-are}
 use Rattle.axiom_checker.proofs.check.breach_of_all.Goals as goal
 
@@ -18,7 +18,7 @@ own_writes-requires-clause-within g c =
 pub pass-met-requires-clause-of_programs : goal.pass-met-requires-clause-of_programs
 pass-met-requires-clause-of_programs g c =
     of-programs c.args.test.now c.args.order.now.order c.args.made.now _ _ c.requires.test c.requires.matched c.requires.made c.requires.test.cores
-    (ap length (words-are c.deref_mut.result.now _ c.new-words.result.items c.initial_words.result.now _ c.deref_mut.ensures.value c.in_ok-extend_from_slice.ensures.items c.new-words.ensures.items refl) ∙ c.initial_words.ensures.each)
+    (ap length (c.deref_mut.ensures.value ∙ c.in_ok-words.ensures.items) ∙ c.initial_words.ensures.each)
 
 pub pass-met-requires-clause-sources : goal.pass-met-requires-clause-sources
 pass-met-requires-clause-sources g c = subst (λ s. TellsSources c.args.made.now s) (sym c.deref.ensures.value) c.in_ok-sources.ensures
@@ -29,6 +29,6 @@ pass-met-requires-clause-none_yet g c k = (zeros-are 8 k, zeros-are 8 k)
 pub returns-clause-breach : goal.returns-clause-breach
 returns-clause-breach g c =
     let t = c.args.test.now in
-    let words = words-are c.deref_mut.result.now _ c.new-words.result.items c.initial_words.result.now t.words c.deref_mut.ensures.value c.in_ok-extend_from_slice.ensures.items c.new-words.ensures.items c.initial_words.ensures.value in
+    let words = c.deref_mut.ensures.value ∙ c.in_ok-words.ensures.items ∙ c.initial_words.ensures.value in
     tells-met t c.args.order.now.order c.pass-met.new.order.order c.pass-met.result c.first_met.result c.pass-met.ensures.same c.requires.matched (c.pass-met.ensures.met t (sym words) c.requires.made)
     (c.first_met.ensures.found t) (c.first_met.ensures.none t)
