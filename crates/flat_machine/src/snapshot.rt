@@ -49,9 +49,7 @@ pub fn start(alloc: Global, test: &Test) -> Result<Snapshot, NoMemory>
 pub fn exact<T: Copy>(alloc: Global, items: &[T]) -> Result<Vec<T>, NoMemory>
     ensures { IfOk result (λ v. v.items ≡ items.now) }
 {
-    let mut same = Vec::with_capacity(alloc, items.len())?;
-    same.extend_from_slice(items)?;
-    Ok(same)
+    Ok(Vec::from_slice(alloc, items)?)
 }
 
 /// The same core once more.
