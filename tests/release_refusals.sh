@@ -4,7 +4,8 @@
 #
 #   tests/release_refusals.sh PROGRAM
 #
-# PROGRAM is of the sources that stand. The last line is 'N passed, M failed'.
+# PROGRAM is of the sources that stand. The repository has the files of this checkout but for most crates and rows. The last line is 'N
+# passed, M failed'.
 set -u
 export LC_ALL=C
 top=$(cd "$(dirname "$0")/.." && pwd)
@@ -37,15 +38,23 @@ accepts() { "$@" > "$room/said" 2>&1 < /dev/null; }
 git_in() { git -C "$room/clone" -c user.name=test -c user.email=test@localhost -c commit.gpgsign=false "$@"; }
 commit() { git_in add -A && git_in commit -qm "$1"; }
 
-# The files of this checkout, where it has a history or not, each ended by a zero byte.
+# The crates and the files of rows that the repository has: some on which the program stands, and the page's; what has a word that one of the
+# programs here says otherwise.
+crates=(tso_model decimals scheduler command_line tso page_exports)
+rows=(outcomes sweep)
+
+# Those of its files that are as they are in this checkout, where that has a history or not, each ended by a zero byte.
 files() {
-  find . \( -name out -o -path ./release -o -path ./.git \) -prune -o -type f -print0
+  find . \( -name out -o -path ./release -o -path ./.git -o -path ./crates -o -path ./crates.txt -o -path ./tests/data \) -prune -o -type f -print0
+  find "${crates[@]/#/./crates/}" -name out -prune -o -type f -print0
+  printf './tests/data/rows/%s.rows\0' "${rows[@]}"
 }
 
 # A checkout whose last commit is the release of PROGRAM.
 make_checkout() {
   mkdir -p "$room/clone"
   (cd "$top" && files | tar -cf - --null -T -) | tar -x -C "$room/clone"
+  grep -E "^($(IFS='|' && echo "${crates[*]}"))[ :]" "$top/crates.txt" > "$room/clone/crates.txt"
   git_in init -q
   commit "the sources" && mkdir -p "$room/built/crates"
   cp -r "$room/clone/." "$room/built/"
