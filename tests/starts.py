@@ -55,7 +55,8 @@ class Starter:
         self.files = [os.memfd_create(name) for name in ("input", "output", "errors", "notes")]
         taken, output, errors, notes = self.files
         self.socket, other = socket.socketpair(socket.AF_UNIX, socket.SOCK_SEQPACKET)
-        told = {"LD_PRELOAD": ":".join(libraries), "STARTS": str(other.fileno()), "FAIL_NOTES": str(notes)}
+        # What the program calls is looked up once, at the load, and not at each start.
+        told = {"LD_PRELOAD": ":".join(libraries), "LD_BIND_NOW": "1", "STARTS": str(other.fileno()), "FAIL_NOTES": str(notes)}
         with other:
             self.process = subprocess.Popen([program], stdin=taken, stdout=output, stderr=errors, env=dict(os.environ, **told),
                                             pass_fds=(other.fileno(), notes))
