@@ -69,7 +69,7 @@ class Starter:
         for file in self.files:
             os.lseek(file, 0, os.SEEK_SET)
         texts = ["%s=%s" % pair for pair in told.items()] + ["", NAME] + words
-        message = b"".join(os.fsencode(text) + b"\0" for text in texts)
+        message = os.fsencode("\0".join(texts) + "\0")
         if len(message) >= LONGEST:
             raise ValueError("a command line of %d bytes" % len(message))
         self.socket.send(message)
