@@ -29,7 +29,6 @@ enum Change {
     Head(usize, usize),
     Source(usize),
     Reader(usize),
-    Value(usize),
     Pair(usize),
     Removed(usize),
 }
@@ -40,8 +39,6 @@ pub struct Mark {
     trail: usize,
     facts: usize,
     edges: usize,
-    excluded: usize,
-    next: usize,
 }
 
 /// A branch.
@@ -59,15 +56,13 @@ pub struct Branch {
     pub source: Numbers,
     /// The locked read that reads a write.
     pub reader: Numbers,
-    /// The values that reads return, and locations have at the end, wherever what is asked is so; `NONE` where none is known.
+    /// The values that reads return, `NONE` where none is told.
     pub values: Numbers,
     /// The fact that says that one write is before another.
     pairs: Numbers,
     /// How many facts and edges there were when a source was taken from a read.
     removed_facts: Numbers,
     removed_edges: Numbers,
-    /// Values that a read must not return.
-    pub excluded: Stack<(usize, u32)>,
     /// One row: the events that are to be looked at.
     pub dirty: Rows,
     /// Two rows for the read in hand: writes to its location that are known to come before it, or before its store part, and all
@@ -77,8 +72,6 @@ pub struct Branch {
     pub conflict: Conflict,
     /// What closes the branch.
     pub clash: usize,
-    /// A read that is asked next, since values that hang on it can't be; `NONE` where there is none. A source makes all be looked at again.
-    pub next: usize,
 }
 
 impl Branch {
@@ -165,7 +158,6 @@ impl Branch {
         self.trail.is_refused()
             | self.facts.is_refused()
             | self.edges.is_refused()
-            | self.excluded.is_refused()
     }
 }
 
@@ -229,13 +221,11 @@ pub fn make_branch(alloc: Global, problem: Problem) -> Branch {
         pairs: Numbers::new(alloc, cells, NONE),
         removed_facts: Numbers::new(alloc, cells, NONE),
         removed_edges: Numbers::new(alloc, cells, NONE),
-        excluded: Stack::new(alloc),
         dirty: Rows::new(alloc, 1, size),
         earlier: Rows::new(alloc, 2, size),
         claim_is_dirty: true,
         conflict: Conflict::Open,
         clash: NONE,
-        next: NONE,
     };
     look_at_all(&mut branch);
     branch
@@ -254,8 +244,6 @@ pub fn mark_here(branch: &Branch) -> Mark {
         trail: branch.trail.len(),
         facts: branch.facts.len(),
         edges: branch.edges.len(),
-        excluded: branch.excluded.len(),
-        next: branch.next,
     }
 }
 
@@ -265,7 +253,6 @@ fn undo_one(branch: &mut Branch, change: Change) {
         Change::Head(place, edge) => branch.heads.put(place, edge),
         Change::Source(r) => branch.source.put(r, NONE),
         Change::Reader(w) => branch.reader.put(w, NONE),
-        Change::Value(r) => branch.values.put(r, NONE),
         Change::Pair(place) => branch.pairs.put(place, NONE),
         Change::Removed(place) => branch.removed_facts.put(place, NONE),
     }
@@ -279,11 +266,9 @@ pub fn undo(branch: &mut Branch, mark: &Mark) {
     }
     branch.facts.cut(mark.facts);
     branch.edges.cut(mark.edges);
-    branch.excluded.cut(mark.excluded);
     branch.dirty.clear(0);
-    branch.claim_is_dirty = false;
+    branch.claim_is_dirty = true;
     branch.conflict = Conflict::Open;
-    branch.next = mark.next;
 }
 
 /// Writes a word of a row.
@@ -345,10 +330,3 @@ pub fn note_removed(branch: &mut Branch, r: usize, s: usize) {
     branch.removed_edges.put(place, branch.edges.len());
 }
 
-/// Notes what a read returns, or a location has at the end.
-pub fn note_value(branch: &mut Branch, r: usize, value: usize) {
-    branch.trail.push(Change::Value(r));
-    branch.values.put(r, value);
-    look_at(branch, r);
-    branch.claim_is_dirty = true;
-}

@@ -144,16 +144,6 @@ pub fn parts_of(
     parts
 }
 
-/// Whether what is asked can be so in more ways than one.
-pub fn has_choice(claim: &Stack<Part>) -> bool {
-    for i in 0..claim.len() {
-        if matches!(claim.at(i, Part::Fixed(true)), Part::Either(_)) {
-            return true;
-        }
-    }
-    false
-}
-
 fn is_location_relevant(problem: &Problem, loc: usize) -> bool {
     for a in 0..problem.size {
         if problem.relevant.has(0, a) && problem.location(a) == loc {
@@ -180,6 +170,7 @@ fn mark_written(problem: &mut Problem, loc: usize) -> bool {
 pub fn mark_relevant(problem: &mut Problem) {
     for i in 0..problem.claim.len() {
         if let Part::Value(r, _) = problem.part(i) {
+            problem.asked.add(0, r);
             problem.relevant.add(0, r);
         }
     }

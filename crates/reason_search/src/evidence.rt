@@ -22,6 +22,8 @@ pub struct Evidence {
     pub cycle: List,
     pub facts: List,
     pub cost: usize,
+    /// One row: the reads whose values are needed.
+    pub needed: Rows,
 }
 
 /// No leaf yet.
@@ -32,6 +34,7 @@ pub fn make_evidence(alloc: Global, size: usize) -> Evidence {
         cycle: List::new(alloc, most),
         facts: List::new(alloc, most),
         cost: NONE,
+        needed: Rows::new(alloc, 1, size),
     }
 }
 

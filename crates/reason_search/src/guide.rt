@@ -14,6 +14,7 @@ use crate::numbers::NONE;
 use crate::ordering::make_order;
 use crate::problem::{Problem, make_problem};
 use crate::reasoning::{add_conflict, wrap};
+use crate::values::{find_values, known_facts};
 use refutation_laws::{Model, Source};
 use refutations::events::same_event;
 use refutations::{Answers, Node};
@@ -60,7 +61,12 @@ fn run(hunt: &mut Hunt, proposal: &mut Proposal) -> bool {
         proposal.propose(&mut hunt.desk.trees, root);
         look_for_smaller(hunt, proposal, leaves);
     }
-    matches!(found, Find::Allowed)
+    if !matches!(found, Find::Allowed) {
+        return false;
+    }
+    let known = known_facts(hunt.branch.facts.len());
+    find_values(&mut hunt.branch, known);
+    true
 }
 
 /// Searches: a tree, or a branch that is open to the end, or neither.
@@ -199,8 +205,8 @@ fn look_at_case(hunt: &mut Hunt, proposal: &mut Proposal, answers: &Answers) -> 
     if go_to_case(hunt, answers) {
         return choose(&hunt.branch, &hunt.desk.weights, 0);
     }
-    let tree = add_conflict(&hunt.branch, &mut hunt.desk);
-    let root = wrap(&hunt.branch, &mut hunt.desk, 0, tree);
+    let tree = add_conflict(&mut hunt.branch, &mut hunt.desk);
+    let root = wrap(&mut hunt.branch, &mut hunt.desk, 0, tree);
     proposal.propose(&mut hunt.desk.trees, root);
     Ask::Nothing
 }

@@ -14,7 +14,6 @@ use crate::offers::{Desk, lacks_room, make_desk};
 use crate::problem::Problem;
 use crate::questions::{Frame, Questions, begin, no_frame};
 use crate::reasoning::{add_conflict, add_source_question, add_tried_order, wrap};
-use crate::wanted::want_asked;
 use std::alloc::Global;
 
 /// A search.
@@ -117,7 +116,7 @@ fn try_next(branch: &mut Branch, questions: &mut Questions, frame: &Frame) -> Ne
 }
 
 /// The tree of a question all of whose answers are closed.
-fn finish(branch: &Branch, desk: &mut Desk, questions: &mut Questions, frame: &Frame) -> usize {
+fn finish(branch: &mut Branch, desk: &mut Desk, questions: &mut Questions, frame: &Frame) -> usize {
     desk.used.clear(0);
     questions.use_again(frame, &mut desk.used);
     questions.put_trees(frame, &mut desk.branches);
@@ -237,10 +236,6 @@ pub fn hunt_for(hunt: &mut Hunt, most: usize) -> Find {
 
 /// Looks at one event after the other in an order of chance, with all that follows. False where that closes the branch.
 fn look_by_chance(branch: &mut Branch, chance: &mut Chance) -> bool {
-    if !want_asked(branch) {
-        return false;
-    }
-    branch.claim_is_dirty = false;
     branch.dirty.clear(0);
     for _event in 0..branch.problem.size {
         look_at(branch, chance.below(branch.problem.size));

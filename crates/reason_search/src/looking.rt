@@ -9,12 +9,23 @@ use crate::facts::Link;
 use crate::numbers::NONE;
 use crate::problem::Relations;
 use crate::rows::{bit, lowest, rest};
-use crate::wanted::{is_choosy, is_wrong_value, match_values, want_asked};
+use crate::values::{find_values, is_false, is_wrong_value, known_facts};
 use tso_model::Kind;
 
 /// Whether a read from this write is an edge of the global relations.
 pub fn is_global_source(branch: &Branch, w: usize, r: usize) -> bool {
     branch.problem.sequential || branch.problem.core(w) != branch.problem.core(r)
+}
+
+/// Marks what may have as its source a write whose value hangs on a read.
+fn look_at_dependents(branch: &mut Branch, r: usize) {
+    for w in branch.problem.locations..branch.problem.size {
+        let term = branch.problem.term(w);
+        let event = branch.problem.event(w);
+        if event.writes && (term.first == r || term.second == r) {
+            look_at_readers(branch, event.location);
+        }
+    }
 }
 
 /// A read has this source. False where that closes a cycle.
@@ -26,9 +37,11 @@ pub fn put_source(branch: &mut Branch, r: usize, w: usize, tried: bool) -> bool 
         is_from_read: false,
     };
     look_at(branch, r);
-    if branch.next != NONE {
-        branch.next = NONE;
-        look_at_all(branch);
+    if branch.problem.relevant.has(0, r) {
+        branch.claim_is_dirty = true;
+    }
+    if branch.problem.stored.has(0, r) {
+        look_at_dependents(branch, r);
     }
     let event = branch.problem.event(r);
     if matches!(event.entry.kind, Kind::LR) {
@@ -147,7 +160,7 @@ fn look_at_known(branch: &mut Branch, r: usize, s: usize) -> bool {
             return false;
         }
     }
-    match_values(branch, r, s)
+    true
 }
 
 /// Notes the writes to its location that are known to come before a read, or its store part.
@@ -251,7 +264,7 @@ fn take_one_by_one(branch: &mut Branch, r: usize, k: usize) {
 /// Takes from a read all sources that it can't have.
 fn take_all(branch: &mut Branch, r: usize) {
     note_parted(branch, r);
-    let is_told_apart = branch.problem.partner(r) != NONE || is_choosy(branch, r);
+    let is_told_apart = branch.problem.partner(r) != NONE || branch.problem.asked.has(0, r);
     for k in 0..branch.problem.width {
         take_by_order(branch, r, k);
         if is_told_apart {
@@ -294,11 +307,7 @@ pub fn next_last(branch: &Branch, loc: usize, from: usize) -> usize {
 /// The only write to a location that can be its last one; `NONE` where there are several or none.
 fn only_last(branch: &mut Branch, loc: usize) -> usize {
     let only = next_last(branch, loc, 0);
-    if only == NONE {
-        let _closed = close(branch, Conflict::False, loc);
-        return NONE;
-    }
-    if next_last(branch, loc, only.wrapping_add(1)) != NONE {
+    if only == NONE || next_last(branch, loc, only.wrapping_add(1)) != NONE {
         return NONE;
     }
     only
@@ -307,8 +316,9 @@ fn only_last(branch: &mut Branch, loc: usize) -> usize {
 /// What follows at a location of which something is asked.
 fn look_at_last(branch: &mut Branch, loc: usize) -> bool {
     let only = only_last(branch, loc);
+    branch.claim_is_dirty = true;
     if only == NONE {
-        return matches!(branch.conflict, Conflict::Open);
+        return true;
     }
     for k in 0..branch.problem.width {
         let known = branch.word_before(Relations::Coherence, only, k);
@@ -317,7 +327,7 @@ fn look_at_last(branch: &mut Branch, loc: usize) -> bool {
             return false;
         }
     }
-    match_values(branch, loc, only)
+    true
 }
 
 fn look_at_one(branch: &mut Branch, a: usize) -> bool {
@@ -355,8 +365,10 @@ pub fn deduce(branch: &mut Branch) -> bool {
         }
         if branch.claim_is_dirty {
             branch.claim_is_dirty = false;
-            if !want_asked(branch) {
-                return false;
+            let known = known_facts(branch.facts.len());
+            find_values(branch, known);
+            if is_false(branch, known) {
+                return close(branch, Conflict::False, NONE);
             }
             continue;
         }

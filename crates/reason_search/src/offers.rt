@@ -5,11 +5,7 @@ use crate::branch::Branch;
 use crate::evidence;
 use crate::evidence::{Closing, Evidence, make_evidence, need, reset, visit, visit_three, weigh};
 use crate::facts::{Edge, Order};
-use crate::falsity::Asked;
 use crate::growing::{Trees, are_refused, no_trees};
-use crate::known_values::{
-    KnownValues, is_false, lack_room, make_values, need_falsity, run, suppose, suppose_nothing,
-};
 use crate::looking::{is_before_source, is_read_by_another};
 use crate::numbers::{NONE, Numbers};
 use crate::paths::{
@@ -17,7 +13,7 @@ use crate::paths::{
 };
 use crate::problem::Relations;
 use crate::rows::Rows;
-use crate::stack::Stack;
+use crate::values::{Known, find_values, is_false, known_facts, need_falsity};
 use crate::weights::Weights;
 use std::alloc::Global;
 use std::mem::swap;
@@ -29,10 +25,7 @@ pub struct Desk {
     pub inner: Paths,
     pub best: Evidence,
     pub trial: Evidence,
-    pub values: KnownValues,
     pub trees: Trees,
-    /// Questions in hand.
-    pub asked: Stack<Asked>,
     /// One row: the facts that the tree in hand uses.
     pub used: Rows,
     /// How many facts stand above the tree in hand, if it uses them.
@@ -45,7 +38,7 @@ pub struct Desk {
 impl Desk {
     /// Whether memory was refused.
     pub fn is_refused(&self) -> bool {
-        are_refused(&self.trees) | self.asked.is_refused()
+        are_refused(&self.trees)
     }
 }
 
@@ -56,9 +49,7 @@ pub fn make_desk(alloc: Global, size: usize, facts: usize) -> Desk {
         inner: make_paths(alloc, size),
         best: make_evidence(alloc, size),
         trial: make_evidence(alloc, size),
-        values: make_values(alloc, size),
         trees: no_trees(alloc),
-        asked: Stack::new(alloc),
         used: Rows::new(alloc, 1, facts),
         above: 0,
         branches: Numbers::new(alloc, size, NONE),
@@ -72,7 +63,6 @@ pub fn lacks_room(desk: &Desk, size: usize) -> bool {
         | lack_tables(&desk.inner, size)
         | evidence::lacks_room(&desk.best, size)
         | evidence::lacks_room(&desk.trial, size)
-        | lack_room(&desk.values, size)
         | desk.used.lack(1)
         | desk.branches.lacks(size)
         | desk.weights.lacks_room()
@@ -270,29 +260,32 @@ fn offer_between(branch: &Branch, desk: &mut Desk, r: usize, s: usize, limit: us
 }
 
 /// Takes in hand that what is asked is false by the values that answers tell. False where it isn't.
-pub fn take_false(branch: &Branch, desk: &mut Desk) -> bool {
-    run(branch, &mut desk.values);
-    if !is_false(branch, &mut desk.values) {
+pub fn take_false(branch: &mut Branch, desk: &mut Desk, known: Known) -> bool {
+    find_values(branch, known);
+    if !is_false(branch, known) {
         return false;
     }
     reset(&mut desk.trial, Closing::False);
-    need_falsity(branch, &mut desk.values, &mut desk.trial);
+    need_falsity(branch, known, &mut desk.trial);
     true
 }
 
 /// Offers that what is asked is false by the values that are set.
-fn offer_false(branch: &Branch, desk: &mut Desk) {
-    if take_false(branch, desk) {
+fn offer_false(branch: &mut Branch, desk: &mut Desk, known: Known) {
+    if take_false(branch, desk, known) {
         offer(desk, 0);
     }
 }
 
 /// Finds the best reason why a read can't have a source.
-pub fn find_why_not(branch: &Branch, desk: &mut Desk, r: usize, s: usize) {
+pub fn find_why_not(branch: &mut Branch, desk: &mut Desk, r: usize, s: usize) {
     reset(&mut desk.best, Closing::None);
-    suppose_nothing(&mut desk.values, branch.removed_at(r, s));
-    suppose(&mut desk.values, r, s);
-    offer_false(branch, desk);
+    let known = Known {
+        read: r,
+        source: s,
+        ..known_facts(branch.removed_at(r, s))
+    };
+    offer_false(branch, desk, known);
     offer_orders(branch, desk, r, s);
 }
 
@@ -322,14 +315,22 @@ fn offer_twice(branch: &Branch, desk: &mut Desk, r: usize, s: usize) {
 }
 
 /// Finds the best reason why an order that a fact tells can't be turned.
-pub fn find_why_before(branch: &Branch, desk: &mut Desk, order: Order, fact: usize, limit: usize) {
+pub fn find_why_before(
+    branch: &mut Branch,
+    desk: &mut Desk,
+    order: Order,
+    fact: usize,
+    limit: usize,
+) {
     let loc = branch.problem.location(order.first);
     reset(&mut desk.best, Closing::None);
     offer_paths(branch, desk, order, limit, NONE);
-    suppose_nothing(&mut desk.values, fact);
-    desk.values.first = order.second;
     if branch.problem.relevant.has(0, loc) {
-        offer_false(branch, desk);
+        let known = Known {
+            first: order.second,
+            ..known_facts(fact)
+        };
+        offer_false(branch, desk, known);
     }
     for r in branch.problem.locations..branch.problem.size {
         if branch.source.at(r) < fact && branch.problem.location(r) == loc {

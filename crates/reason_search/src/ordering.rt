@@ -5,7 +5,7 @@ use crate::numbers::NONE;
 use crate::problem::{Event, Relations};
 use crate::rows::{Rows, bit};
 use crate::stack::Stack;
-use crate::wanted::{low, written};
+use crate::values::written;
 use std::alloc::Global;
 use tso_model::{Entry, Kind, NoMemory};
 
@@ -55,7 +55,11 @@ fn event_value(branch: &Branch, a: usize) -> u32 {
     } else {
         written(branch, a)
     };
-    if value == NONE { 0 } else { low(value) }
+    if value == NONE {
+        0
+    } else {
+        (value % 4_294_967_296) as u32
+    }
 }
 
 fn place(branch: &Branch, placing: &mut Placing, a: usize) {

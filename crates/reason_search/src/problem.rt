@@ -3,7 +3,7 @@
 
 ghost use Rattle.std.specs.Prelude.{◌<◌, length};
 
-use crate::claim::{Part, has_choice, mark_relevant, parts_of};
+use crate::claim::{Part, mark_relevant, parts_of};
 use crate::numbers::{NONE, Numbers};
 use crate::program_order::add_program_order;
 use crate::rows::Rows;
@@ -84,8 +84,8 @@ pub struct Problem {
     pub program: Rows,
     /// What is asked.
     pub claim: Stack<Part>,
-    /// Whether what is asked can be so in more ways than one.
-    pub has_choice: bool,
+    /// One row: the reads and locations of which something is asked.
+    pub asked: Rows,
     /// One row: the reads on whose values hangs what writes write.
     pub stored: Rows,
     /// One row: the locations of which something is asked, and the reads on whose values what is asked may hang.
@@ -160,6 +160,7 @@ impl Problem {
             | self.program.lack(self.size.wrapping_mul(3))
             | self.stored.lack(1)
             | self.relevant.lack(1)
+            | self.asked.lack(1)
     }
 }
 
@@ -337,7 +338,7 @@ fn bare_problem(alloc: Global, locations: usize, events: usize, model: Model) ->
         events_of: Rows::new(alloc, MOST_CORES, size),
         program: Rows::new(alloc, size.wrapping_mul(3), size),
         claim: Stack::new(alloc),
-        has_choice: false,
+        asked: Rows::new(alloc, 1, size),
         stored: Rows::new(alloc, 1, size),
         relevant: Rows::new(alloc, 1, size),
     }
@@ -348,7 +349,6 @@ fn add_claim(alloc: Global, problem: &mut Problem, test: &Test) -> bool {
     let finals = run_cores(alloc, problem, test);
     note_stored(problem);
     problem.claim = parts_of(alloc, problem, &finals, test);
-    problem.has_choice = has_choice(&problem.claim);
     mark_relevant(problem);
     !(problem.is_refused() | finals.is_refused())
 }

@@ -5,14 +5,21 @@ use crate::branch::{Branch, Conflict};
 use crate::closing::{add_best, add_best_source, ask_order};
 use crate::evidence::{is_found, use_facts};
 use crate::facts::{Answer, Edge, Fact, Order};
-use crate::falsity::add_false_tree;
 use crate::growing::{Growth, add_cycle, add_leaf, add_question, put_branch};
-use crate::known_values::suppose_nothing;
+use crate::values::known_facts;
 use crate::numbers::NONE;
-use crate::offers::{Desk, close_cycle, find_why_before, find_why_not};
+use crate::offers::{Desk, close_cycle, find_why_before, find_why_not, take_false};
+
+/// A leaf where no reason was found: all answers are used.
+fn add_false(desk: &mut Desk) -> usize {
+    for fact in 0..desk.above {
+        desk.used.add(0, fact);
+    }
+    add_leaf(&mut desk.trees, Growth::False)
+}
 
 /// Makes a tree for a source, where there is none, since the read can't have it.
-fn close_source(branch: &Branch, desk: &mut Desk, r: usize, s: usize) {
+fn close_source(branch: &mut Branch, desk: &mut Desk, r: usize, s: usize) {
     if desk.branches.at(s) != NONE {
         return;
     }
@@ -20,7 +27,7 @@ fn close_source(branch: &Branch, desk: &mut Desk, r: usize, s: usize) {
     let tree = if is_found(&desk.best) {
         add_best_source(branch, desk, r, s)
     } else {
-        add_false_tree(branch, desk, r)
+        add_false(desk)
     };
     desk.branches.put(s, tree);
 }
@@ -39,7 +46,7 @@ fn put_branches(desk: &mut Desk, question: usize, size: usize) {
 }
 
 /// The question what a read reads from: some sources have their trees in `branches`, the others are closed.
-pub fn add_source_question(branch: &Branch, desk: &mut Desk, r: usize) -> usize {
+pub fn add_source_question(branch: &mut Branch, desk: &mut Desk, r: usize) -> usize {
     let loc = branch.problem.location(r);
     for s in branch.problem.locations..branch.problem.size {
         if branch.problem.is_write_to(loc, s) {
@@ -70,18 +77,18 @@ pub fn add_tried_order(desk: &mut Desk, a: usize, b: usize) -> usize {
 }
 
 /// The tree where this order, which a fact tells, is turned.
-fn add_other(branch: &Branch, desk: &mut Desk, order: Order, fact: usize, edges: usize) -> usize {
+fn add_other(branch: &mut Branch, desk: &mut Desk, order: Order, fact: usize, edges: usize) -> usize {
     find_why_before(branch, desk, order, fact, edges);
     if is_found(&desk.best) {
         let s = branch.source_of(desk.best.cycle.at(0));
         add_best(branch, desk, edges, s, order)
     } else {
-        add_false_tree(branch, desk, branch.problem.location(order.first))
+        add_false(desk)
     }
 }
 
 /// The tree where an order follows and an answer says the other one: why that can't be. `NONE` where no answer does.
-fn add_turned(branch: &Branch, desk: &mut Desk, number: usize) -> usize {
+fn add_turned(branch: &mut Branch, desk: &mut Desk, number: usize) -> usize {
     let fact = branch.fact(number);
     let Answer::Before(a, b) = fact.answer else {
         return NONE;
@@ -100,7 +107,7 @@ fn add_turned(branch: &Branch, desk: &mut Desk, number: usize) -> usize {
 }
 
 /// The tree where an edge closes a cycle.
-fn add_closed_cycle(branch: &Branch, desk: &mut Desk, edge: Edge) -> usize {
+fn add_closed_cycle(branch: &mut Branch, desk: &mut Desk, edge: Edge) -> usize {
     let tree = add_turned(branch, desk, edge.link.fact);
     if tree != NONE {
         return tree;
@@ -111,7 +118,7 @@ fn add_closed_cycle(branch: &Branch, desk: &mut Desk, edge: Edge) -> usize {
 }
 
 /// The tree of a branch that is closed. What it uses is used then, and nothing else.
-pub fn add_conflict(branch: &Branch, desk: &mut Desk) -> usize {
+pub fn add_conflict(branch: &mut Branch, desk: &mut Desk) -> usize {
     desk.used.clear(0);
     desk.weights.move_on();
     desk.above = branch.facts.len();
@@ -119,15 +126,20 @@ pub fn add_conflict(branch: &Branch, desk: &mut Desk) -> usize {
         Conflict::Cycle => add_closed_cycle(branch, desk, branch.edge(branch.clash)),
         Conflict::NoSource => add_source_question(branch, desk, branch.clash),
         Conflict::False => {
-            suppose_nothing(&mut desk.values, branch.facts.len());
-            add_false_tree(branch, desk, branch.clash)
+            let known = known_facts(branch.facts.len());
+            if take_false(branch, desk, known) {
+                use_facts(&desk.trial, &mut desk.used);
+                add_leaf(&mut desk.trees, Growth::False)
+            } else {
+                add_false(desk)
+            }
         }
         Conflict::Open => add_leaf(&mut desk.trees, Growth::False),
     }
 }
 
 /// Puts a fact above a tree that uses it.
-fn wrap_one(branch: &Branch, desk: &mut Desk, number: usize, fact: Fact, tree: usize) -> usize {
+fn wrap_one(branch: &mut Branch, desk: &mut Desk, number: usize, fact: Fact, tree: usize) -> usize {
     desk.above = number;
     desk.used.remove(0, number);
     match fact.answer {
@@ -147,7 +159,7 @@ fn wrap_one(branch: &Branch, desk: &mut Desk, number: usize, fact: Fact, tree: u
 }
 
 /// Puts the facts that the tree uses, and that followed since this one, above it.
-pub fn wrap(branch: &Branch, desk: &mut Desk, from: usize, tree: usize) -> usize {
+pub fn wrap(branch: &mut Branch, desk: &mut Desk, from: usize, tree: usize) -> usize {
     let mut whole = tree;
     let mut number = branch.facts.len();
     for _fact in from..branch.facts.len() {

@@ -1,0 +1,254 @@
+//! Values that answers tell, read by read: and whether what is asked is false by them, with the answers by which it is.
+
+use crate::branch::Branch;
+use crate::claim::{Demand, Part, Parts, can_be, can_be_made};
+use crate::evidence::{Evidence, need};
+use crate::numbers::NONE;
+use crate::problem::Term;
+use crate::rows::Rows;
+
+/// What is taken as known: the first so many facts, and what is supposed, that a read has a source, or that a write comes before
+/// another one. `NONE` is no such read or write.
+#[derive(Clone, Copy)]
+pub struct Known {
+    pub limit: usize,
+    pub read: usize,
+    pub source: usize,
+    pub first: usize,
+}
+
+/// The first so many facts, with nothing supposed.
+pub fn known_facts(limit: usize) -> Known {
+    Known {
+        limit,
+        read: NONE,
+        source: NONE,
+        first: NONE,
+    }
+}
+
+/// The sum of two values, as far as they are known.
+fn sum(first: usize, second: usize) -> usize {
+    if first == NONE || second == NONE {
+        NONE
+    } else {
+        first.wrapping_add(second) % 4_294_967_296
+    }
+}
+
+/// What a read returns, as far as it is known; no read adds nothing.
+fn returned(branch: &Branch, r: usize) -> usize {
+    if r == NONE { 0 } else { branch.values.at(r) }
+}
+
+/// What an event writes, as far as it is known.
+pub fn written(branch: &Branch, w: usize) -> usize {
+    let term = branch.problem.term(w);
+    let read = sum(returned(branch, term.first), returned(branch, term.second));
+    sum(term.number as usize, read)
+}
+
+/// The source that a read is known to have.
+fn source(branch: &Branch, known: Known, r: usize) -> usize {
+    if r == known.read {
+        known.source
+    } else if branch.source.at(r) < known.limit {
+        branch.source_of(r)
+    } else {
+        NONE
+    }
+}
+
+/// Notes the values that hang on those that are noted. Whether any is new.
+fn find_more_values(branch: &mut Branch, known: Known) -> bool {
+    let mut changed = false;
+    for r in branch.problem.locations..branch.problem.size {
+        let s = source(branch, known, r);
+        if s != NONE && branch.values.at(r) == NONE {
+            let value = written(branch, s);
+            branch.values.put(r, value);
+            changed |= value != NONE;
+        }
+    }
+    changed
+}
+
+/// Notes what each read returns, by what is known.
+pub fn find_values(branch: &mut Branch, known: Known) {
+    branch.values.fill(NONE);
+    for _round in 0..branch.problem.size {
+        if !find_more_values(branch, known) {
+            break;
+        }
+    }
+}
+
+/// The fact that a write comes before another one, `limit` where it is supposed, and `NONE` where there is none.
+fn overwriting(branch: &Branch, known: Known, w: usize) -> usize {
+    if known.first == w {
+        return known.limit;
+    }
+    let loc = branch.problem.location(w);
+    for v in branch.problem.locations..branch.problem.size {
+        if branch.problem.is_write_to(loc, v) && branch.pair(w, v) < known.limit {
+            return branch.pair(w, v);
+        }
+    }
+    NONE
+}
+
+/// Whether a location can have such a word at the end.
+fn word_can_be(branch: &Branch, known: Known, loc: usize, demand: Demand) -> bool {
+    for w in branch.problem.locations..branch.problem.size {
+        if branch.problem.is_write_to(loc, w)
+            && can_be(demand, written(branch, w))
+            && overwriting(branch, known, w) == NONE
+        {
+            return true;
+        }
+    }
+    false
+}
+
+/// A read, or a location at the end, and the value that it is supposed to have.
+#[derive(Clone, Copy)]
+struct Supposed {
+    place: usize,
+    value: usize,
+}
+
+const NOTHING: Supposed = Supposed {
+    place: NONE,
+    value: NONE,
+};
+
+/// Whether a part can be so where it is known which of the parts behind it can be.
+fn part_can_be(branch: &Branch, known: Known, supposed: Supposed, parts: &Parts, i: usize) -> bool {
+    match branch.problem.part(i) {
+        Part::Value(r, demand) => {
+            if r == supposed.place {
+                can_be(demand, supposed.value)
+            } else if branch.problem.is_initial(r) {
+                word_can_be(branch, known, r, demand)
+            } else {
+                can_be(demand, branch.values.at(r))
+            }
+        }
+        part => can_be_made(part, i, parts),
+    }
+}
+
+/// The parts of what is asked that can be so.
+fn parts_that_can_be(branch: &Branch, known: Known, supposed: Supposed) -> Parts {
+    let mut parts = Parts::none();
+    let mut i = branch.problem.claim.len();
+    for _part in 0..branch.problem.claim.len() {
+        i = i.wrapping_sub(1);
+        let can = part_can_be(branch, known, supposed, &parts, i);
+        parts.add(i, can);
+    }
+    parts
+}
+
+/// Whether what is asked is false by the values that are noted.
+pub fn is_false(branch: &Branch, known: Known) -> bool {
+    branch.problem.claim.len() != 0 && !parts_that_can_be(branch, known, NOTHING).has(0)
+}
+
+/// Whether what is asked is false where a read, or a location at the end, has the value of this write.
+pub fn is_wrong_value(branch: &Branch, place: usize, w: usize) -> bool {
+    if !branch.problem.asked.has(0, place) {
+        return false;
+    }
+    let value = written(branch, w);
+    let known = known_facts(branch.facts.len());
+    value != NONE && !parts_that_can_be(branch, known, Supposed { place, value }).has(0)
+}
+
+/// Adds the reads on which the value of a term hangs.
+fn need_term(needed: &mut Rows, term: Term) {
+    needed.add(0, term.first);
+    needed.add(0, term.second);
+}
+
+/// Notes by what a location doesn't have such a word at the end.
+fn need_word(branch: &Branch, known: Known, evidence: &mut Evidence, loc: usize, demand: Demand) {
+    for w in branch.problem.locations..branch.problem.size {
+        if branch.problem.is_write_to(loc, w) {
+            if can_be(demand, written(branch, w)) {
+                let fact = overwriting(branch, known, w);
+                if fact < known.limit {
+                    need(evidence, fact);
+                }
+            } else {
+                need_term(&mut evidence.needed, branch.problem.term(w));
+            }
+        }
+    }
+}
+
+/// Notes by what a part is false, and adds to those that are false on which this hangs.
+fn need_part(
+    branch: &Branch,
+    known: Known,
+    evidence: &mut Evidence,
+    i: usize,
+    can: &Parts,
+    wrong: &mut Parts,
+) {
+    let first = i.wrapping_add(1);
+    match branch.problem.part(i) {
+        Part::Value(r, demand) => {
+            if branch.problem.is_initial(r) {
+                need_word(branch, known, evidence, r, demand);
+            } else {
+                evidence.needed.add(0, r);
+            }
+        }
+        Part::Both(second) => {
+            let is_second = !can.has(second);
+            wrong.add(second, is_second);
+            wrong.add(first, !is_second);
+        }
+        Part::Either(second) => {
+            wrong.add(first, true);
+            wrong.add(second, true);
+        }
+        Part::Fixed(_) => {}
+    }
+}
+
+/// Adds the sources from which needed values come, each once: its value is forgotten. Whether any is new.
+fn need_more_sources(branch: &mut Branch, known: Known, evidence: &mut Evidence) -> bool {
+    let mut changed = false;
+    for r in branch.problem.locations..branch.problem.size {
+        if evidence.needed.has(0, r) && branch.values.at(r) != NONE {
+            changed = true;
+            branch.values.put(r, NONE);
+            if r != known.read {
+                need(evidence, branch.source.at(r));
+            }
+            let s = source(branch, known, r);
+            need_term(&mut evidence.needed, branch.problem.term(s));
+        }
+    }
+    changed
+}
+
+/// Adds the facts by which what is asked is false by the values that are noted.
+pub fn need_falsity(branch: &mut Branch, known: Known, evidence: &mut Evidence) {
+    evidence.needed.clear(0);
+    let can = parts_that_can_be(branch, known, NOTHING);
+    let mut wrong = Parts::none();
+    wrong.add(0, true);
+    for i in 0..branch.problem.claim.len() {
+        if wrong.has(i) {
+            need_part(branch, known, evidence, i, &can, &mut wrong);
+        }
+    }
+    for _round in 0..branch.problem.size {
+        if !need_more_sources(branch, known, evidence) {
+            break;
+        }
+    }
+}
