@@ -9,7 +9,7 @@ use crate::facts::Link;
 use crate::numbers::NONE;
 use crate::problem::Relations;
 use crate::rows::{bit, lowest, rest};
-use crate::values::{find_values, is_false, is_wrong_value, known_facts};
+use crate::values::{find_values, is_false, is_wrong_source, is_wrong_value, known_facts};
 use tso_model::Kind;
 
 /// Whether a read from this write is an edge of the global relations.
@@ -28,6 +28,14 @@ fn look_at_dependents(branch: &mut Branch, r: usize) {
     }
 }
 
+fn look_at_open_relevant(branch: &mut Branch) {
+    for q in branch.problem.locations..branch.problem.size {
+        if branch.problem.relevant.has(0, q) && branch.source.at(q) == NONE {
+            look_at(branch, q);
+        }
+    }
+}
+
 /// A read has this source. False where that closes a cycle.
 pub fn put_source(branch: &mut Branch, r: usize, w: usize, tried: bool) -> bool {
     let link = Link {
@@ -42,6 +50,10 @@ pub fn put_source(branch: &mut Branch, r: usize, w: usize, tried: bool) -> bool 
     }
     if branch.problem.stored.has(0, r) {
         look_at_dependents(branch, r);
+    }
+    let term = branch.problem.term(w);
+    if branch.problem.relevant.has(0, r) && term.first != NONE {
+        look_at_open_relevant(branch);
     }
     let event = branch.problem.event(r);
     if matches!(event.entry.kind, Kind::LR) {
@@ -255,7 +267,7 @@ fn take_one_by_one(branch: &mut Branch, r: usize, k: usize) {
         }
         let s = lowest(k, left);
         left = rest(left);
-        if is_locked && is_read_by_another(branch, r, s) || is_wrong_value(branch, r, s) {
+        if is_locked && is_read_by_another(branch, r, s) || is_wrong_source(branch, r, s) {
             take_sources(branch, r, k, bit(s));
         }
     }
@@ -264,7 +276,7 @@ fn take_one_by_one(branch: &mut Branch, r: usize, k: usize) {
 /// Takes from a read all sources that it can't have.
 fn take_all(branch: &mut Branch, r: usize) {
     note_parted(branch, r);
-    let is_told_apart = branch.problem.partner(r) != NONE || branch.problem.asked.has(0, r);
+    let is_told_apart = branch.problem.partner(r) != NONE || branch.problem.relevant.has(0, r);
     for k in 0..branch.problem.width {
         take_by_order(branch, r, k);
         if is_told_apart {

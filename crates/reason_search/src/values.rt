@@ -155,6 +155,21 @@ pub fn is_false(branch: &Branch, known: Known) -> bool {
     branch.problem.claim.len() != 0 && !parts_that_can_be(branch, known, NOTHING).has(0)
 }
 
+/// Whether what is asked is false where a read has this source.
+pub fn is_wrong_source(branch: &mut Branch, r: usize, s: usize) -> bool {
+    if is_wrong_value(branch, r, s) {
+        return true;
+    }
+    if !branch.problem.stored.has(0, r) || written(branch, s) == NONE {
+        return false;
+    }
+    let facts = known_facts(branch.facts.len());
+    find_values(branch, Known { read: r, source: s, ..facts });
+    let is_wrong = is_false(branch, facts);
+    find_values(branch, facts);
+    is_wrong
+}
+
 /// Whether what is asked is false where a read, or a location at the end, has the value of this write.
 pub fn is_wrong_value(branch: &Branch, place: usize, w: usize) -> bool {
     if !branch.problem.asked.has(0, place) {
