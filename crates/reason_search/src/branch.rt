@@ -28,7 +28,6 @@ enum Change {
     /// The last edge that leaves here was this one.
     Head(usize, usize),
     Source(usize),
-    Reader(usize),
     Pair(usize),
     Removed(usize),
 }
@@ -54,8 +53,6 @@ pub struct Branch {
     pub heads: Numbers,
     /// The fact that says what a read reads from.
     pub source: Numbers,
-    /// The locked read that reads a write.
-    pub reader: Numbers,
     /// The values that reads return, `NONE` where none is told.
     pub values: Numbers,
     /// The fact that says that one write is before another.
@@ -175,7 +172,6 @@ pub fn lacks_tables(branch: &Branch) -> bool {
     branch.rows.lack(size.wrapping_mul(7))
         | branch.heads.lacks(size.wrapping_mul(3))
         | branch.source.lacks(size)
-        | branch.reader.lacks(size)
         | branch.values.lacks(size)
         | branch.pairs.lacks(cells)
         | branch.removed_facts.lacks(cells)
@@ -216,7 +212,6 @@ pub fn make_branch(alloc: Global, problem: Problem) -> Branch {
         edges: Stack::new(alloc),
         heads: Numbers::new(alloc, size.wrapping_mul(3), NONE),
         source: Numbers::new(alloc, size, NONE),
-        reader: Numbers::new(alloc, size, NONE),
         values: Numbers::new(alloc, size, NONE),
         pairs: Numbers::new(alloc, cells, NONE),
         removed_facts: Numbers::new(alloc, cells, NONE),
@@ -252,7 +247,6 @@ fn undo_one(branch: &mut Branch, change: Change) {
         Change::Word(place, bits) => branch.rows.put_at(place, bits),
         Change::Head(place, edge) => branch.heads.put(place, edge),
         Change::Source(r) => branch.source.put(r, NONE),
-        Change::Reader(w) => branch.reader.put(w, NONE),
         Change::Pair(place) => branch.pairs.put(place, NONE),
         Change::Removed(place) => branch.removed_facts.put(place, NONE),
     }
@@ -312,14 +306,6 @@ pub fn add_order(branch: &mut Branch, a: usize, b: usize, tried: bool) -> usize 
     branch.trail.push(Change::Pair(place));
     branch.pairs.put(place, fact);
     fact
-}
-
-/// Notes the first locked read that reads a write.
-pub fn add_reader(branch: &mut Branch, w: usize, r: usize) {
-    if branch.reader.at(w) == NONE {
-        branch.trail.push(Change::Reader(w));
-        branch.reader.put(w, r);
-    }
 }
 
 /// Notes that a read can't have this source.

@@ -1,7 +1,7 @@
 //! The tree of a reason: a leaf, with questions above it where the definition wants answers that only follow.
 
 use crate::branch::Branch;
-use crate::evidence::{Closing, reset, use_facts, visit, visit_three};
+use crate::evidence::{Closing, reset, use_facts, visit};
 use crate::facts::Order;
 use crate::growing::{Growth, add_cycle, add_leaf, add_question, put_branch};
 use crate::numbers::NONE;
@@ -80,38 +80,6 @@ fn add_between_tree(
     tree
 }
 
-/// A leaf, or one below the question which of a read's source and its store part comes first; `q` is the other read of the source.
-fn add_one_read(branch: &Branch, desk: &mut Desk, r: usize, s: usize, q: usize) -> usize {
-    let own = branch.problem.partner(r);
-    let between = branch.problem.partner(q);
-    reset(&mut desk.trial, Closing::OnLocation);
-    visit_three(&mut desk.trial, s, r, own);
-    if is_used(branch, desk, own, s) {
-        return add_trial(desk);
-    }
-    let leaf = add_leaf(&mut desk.trees, Growth::Between(q, own, between));
-    if is_used(branch, desk, s, own) {
-        return leaf;
-    }
-    let cycle = add_trial(desk);
-    ask_order(desk, s, own, cycle, leaf)
-}
-
-/// The tree of two locked instructions that read one write: one store part comes first, and then between the other's parts.
-fn add_twice_tree(branch: &Branch, desk: &mut Desk, r: usize, q: usize, s: usize) -> usize {
-    let first = branch.problem.partner(r);
-    let second = branch.problem.partner(q);
-    if is_used(branch, desk, first, second) {
-        return add_one_read(branch, desk, r, s, q);
-    }
-    if is_used(branch, desk, second, first) {
-        return add_one_read(branch, desk, q, s, r);
-    }
-    let second_tree = add_one_read(branch, desk, q, s, r);
-    let first_tree = add_one_read(branch, desk, r, s, q);
-    ask_order(desk, first, second, second_tree, first_tree)
-}
-
 /// The tree of the best reason, for a read of `s`, or where this order is supposed to be turned; what it uses is used then.
 pub fn add_best(branch: &Branch, desk: &mut Desk, limit: usize, s: usize, turned: Order) -> usize {
     use_facts(&desk.best, &mut desk.used);
@@ -119,12 +87,6 @@ pub fn add_best(branch: &Branch, desk: &mut Desk, limit: usize, s: usize, turned
         Closing::None | Closing::False => add_leaf(&mut desk.trees, Growth::False),
         Closing::OnLocation | Closing::Global => add_cycle(&mut desk.trees, &desk.best),
         Closing::Between => add_between_tree(branch, desk, s, limit, turned),
-        Closing::Twice => {
-            let r = desk.best.cycle.at(0);
-            let q = desk.best.cycle.at(1);
-            let both = desk.best.cycle.at(2);
-            add_twice_tree(branch, desk, r, q, both)
-        }
     }
 }
 

@@ -11,11 +11,10 @@ pub enum Closing {
     OnLocation,
     Global,
     Between,
-    Twice,
     False,
 }
 
-/// A leaf: its cycle, or the three events of a write between, or the two that read one write; and the facts that it uses.
+/// A leaf: its cycle, or the three events of a write between; and the facts that it uses.
 #[derive(Drop)]
 pub struct Evidence {
     pub closing: Closing,

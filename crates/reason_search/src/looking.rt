@@ -1,7 +1,7 @@
 //! What follows at a write, at a read and at a location, and all that follows in a branch.
 
 use crate::branch::{
-    Branch, Conflict, add_reader, add_source, change_word, close, look_at, look_at_all,
+    Branch, Conflict, add_source, change_word, close, look_at, look_at_all,
     look_at_readers, note_removed,
 };
 use crate::edges::{add_edge, add_edges, put_before};
@@ -10,7 +10,6 @@ use crate::numbers::NONE;
 use crate::problem::Relations;
 use crate::rows::{bit, lowest, rest};
 use crate::values::{find_values, is_false, is_wrong_source, is_wrong_value, known_facts};
-use tso_model::Kind;
 
 /// Whether a read from this write is an edge of the global relations.
 pub fn is_global_source(branch: &Branch, w: usize, r: usize) -> bool {
@@ -54,11 +53,6 @@ pub fn put_source(branch: &mut Branch, r: usize, w: usize, tried: bool) -> bool 
     let term = branch.problem.term(w);
     if branch.problem.relevant.has(0, r) && term.first != NONE {
         look_at_open_relevant(branch);
-    }
-    let event = branch.problem.event(r);
-    if matches!(event.entry.kind, Kind::LR) {
-        add_reader(branch, w, r);
-        look_at_readers(branch, event.location);
     }
     add_edge(branch, Relations::OnLocation, link)
         && (!is_global_source(branch, w, r) || add_edge(branch, Relations::Global, link))
@@ -227,12 +221,6 @@ fn word_too_late(branch: &Branch, r: usize, k: usize) -> u64 {
         | branch.word_after(Relations::Global, r, k) & !own
 }
 
-/// Whether a locked instruction of another core reads from this write.
-pub fn is_read_by_another(branch: &Branch, r: usize, s: usize) -> bool {
-    let other = branch.reader.at(s);
-    other != NONE && other != r && branch.problem.core(other) != branch.problem.core(r)
-}
-
 /// Takes sources of a word from a read.
 fn take_sources(branch: &mut Branch, r: usize, k: usize, taken: u64) {
     let row = branch.candidates(r);
@@ -257,9 +245,8 @@ fn take_by_order(branch: &mut Branch, r: usize, k: usize) {
     }
 }
 
-/// Takes from a read those sources of a word that it can't have for their values, or since another locked instruction reads them.
-fn take_one_by_one(branch: &mut Branch, r: usize, k: usize) {
-    let is_locked = branch.problem.partner(r) != NONE;
+/// Takes from a read those sources of a word that it can't have for their values.
+fn take_by_value(branch: &mut Branch, r: usize, k: usize) {
     let mut left = branch.rows.word(branch.candidates(r), k);
     for _source in 0..64u8 {
         if left == 0 {
@@ -267,7 +254,7 @@ fn take_one_by_one(branch: &mut Branch, r: usize, k: usize) {
         }
         let s = lowest(k, left);
         left = rest(left);
-        if is_locked && is_read_by_another(branch, r, s) || is_wrong_source(branch, r, s) {
+        if is_wrong_source(branch, r, s) {
             take_sources(branch, r, k, bit(s));
         }
     }
@@ -276,11 +263,10 @@ fn take_one_by_one(branch: &mut Branch, r: usize, k: usize) {
 /// Takes from a read all sources that it can't have.
 fn take_all(branch: &mut Branch, r: usize) {
     note_parted(branch, r);
-    let is_told_apart = branch.problem.partner(r) != NONE || branch.problem.relevant.has(0, r);
     for k in 0..branch.problem.width {
         take_by_order(branch, r, k);
-        if is_told_apart {
-            take_one_by_one(branch, r, k);
+        if branch.problem.relevant.has(0, r) {
+            take_by_value(branch, r, k);
         }
     }
 }

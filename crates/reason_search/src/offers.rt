@@ -6,7 +6,7 @@ use crate::evidence;
 use crate::evidence::{Closing, Evidence, make_evidence, need, reset, visit, visit_three, weigh};
 use crate::facts::{Edge, Order};
 use crate::growing::{Trees, are_refused, no_trees};
-use crate::looking::{is_before_source, is_read_by_another};
+use crate::looking::is_before_source;
 use crate::numbers::{NONE, Numbers};
 use crate::paths::{
     Edges, Paths, begin, find, lack_tables, make_paths, start_from, start_from_later,
@@ -298,19 +298,6 @@ pub fn offer_orders(branch: &Branch, desk: &mut Desk, r: usize, s: usize) {
     offer_from_reads(branch, desk, global(limit), r, s);
     if branch.problem.partner(r) != NONE {
         offer_between(branch, desk, r, s, limit);
-        offer_twice(branch, desk, r, s);
-    }
-}
-
-/// Offers that another locked instruction reads the same write.
-fn offer_twice(branch: &Branch, desk: &mut Desk, r: usize, s: usize) {
-    let other = branch.reader.at(s);
-    let source = branch.source.at(other);
-    if source < branch.removed_at(r, s) && is_read_by_another(branch, r, s) {
-        reset(&mut desk.trial, Closing::Twice);
-        need(&mut desk.trial, source);
-        visit_three(&mut desk.trial, other, r, s);
-        offer(desk, 16);
     }
 }
 
