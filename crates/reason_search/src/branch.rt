@@ -2,10 +2,9 @@
 
 use crate::edges::fill_rows;
 use crate::facts::{Answer, Edge, Fact, NO_EDGE, NO_FACT};
-use crate::numbers::{NONE, Numbers};
+use crate::lists::{List, NONE};
 use crate::problem::{Problem, Relations};
 use crate::rows::Rows;
-use crate::stack::Stack;
 use std::alloc::Global;
 
 /// Whether a branch is closed, and why.
@@ -46,20 +45,20 @@ pub struct Branch {
     pub problem: Problem,
     /// What is after each event in each of the relations, what is before it, and the sources that each read may still have.
     pub rows: Rows,
-    trail: Stack<Change>,
-    pub facts: Stack<Fact>,
-    pub edges: Stack<Edge>,
+    trail: List<Change>,
+    pub facts: List<Fact>,
+    pub edges: List<Edge>,
     /// The last edge that leaves an event, in each of the relations.
-    pub heads: Numbers,
+    pub heads: List<usize>,
     /// The fact that says what a read reads from.
-    pub source: Numbers,
+    pub source: List<usize>,
     /// The values that reads return, `NONE` where none is told.
-    pub values: Numbers,
+    pub values: List<usize>,
     /// The fact that says that one write is before another.
-    pairs: Numbers,
+    pairs: List<usize>,
     /// How many facts and edges there were when a source was taken from a read.
-    removed_facts: Numbers,
-    removed_edges: Numbers,
+    removed_facts: List<usize>,
+    removed_edges: List<usize>,
     /// One row: the events that are to be looked at.
     pub dirty: Rows,
     /// Two rows for the read in hand: writes to its location that are known to come before it, or before its store part, and all
@@ -95,11 +94,6 @@ impl Branch {
         self.rows.has(self.after(relations, a), b)
     }
 
-    /// Whether the read may still have the source.
-    pub fn is_candidate(&self, r: usize, s: usize) -> bool {
-        self.rows.has(self.candidates(r), s)
-    }
-
     /// A word of what is after an event.
     pub fn word_after(&self, relations: Relations, a: usize, k: usize) -> u64 {
         self.rows.word(self.after(relations, a), k)
@@ -132,19 +126,9 @@ impl Branch {
         self.removed_edges.at(self.cell(r, s))
     }
 
-    /// A fact by its number.
-    pub fn fact(&self, number: usize) -> Fact {
-        self.facts.at(number, NO_FACT)
-    }
-
-    /// An edge by its number.
-    pub fn edge(&self, number: usize) -> Edge {
-        self.edges.at(number, NO_EDGE)
-    }
-
     /// The write that a read is known to read from.
     pub fn source_of(&self, r: usize) -> usize {
-        match self.fact(self.source.at(r)).answer {
+        match self.facts.at(self.source.at(r)).answer {
             Answer::Source(_, s) => s,
             Answer::Before(..) => NONE,
         }
@@ -152,9 +136,19 @@ impl Branch {
 
     /// Whether memory was refused.
     pub fn is_refused(&self) -> bool {
-        self.trail.is_refused()
-            | self.facts.is_refused()
-            | self.edges.is_refused()
+        self.problem.is_refused()
+            | self.rows.is_refused
+            | self.trail.is_refused
+            | self.facts.is_refused
+            | self.edges.is_refused
+            | self.heads.is_refused
+            | self.source.is_refused
+            | self.values.is_refused
+            | self.pairs.is_refused
+            | self.removed_facts.is_refused
+            | self.removed_edges.is_refused
+            | self.dirty.is_refused
+            | self.earlier.is_refused
     }
 }
 
@@ -163,21 +157,6 @@ fn cells_of(problem: &Problem) -> usize {
     problem
         .size
         .wrapping_mul(problem.most_writes.wrapping_add(1))
-}
-
-/// Whether memory was refused for what a branch looks up.
-pub fn lacks_tables(branch: &Branch) -> bool {
-    let size = branch.problem.size;
-    let cells = cells_of(&branch.problem);
-    branch.rows.lack(size.wrapping_mul(7))
-        | branch.heads.lacks(size.wrapping_mul(3))
-        | branch.source.lacks(size)
-        | branch.values.lacks(size)
-        | branch.pairs.lacks(cells)
-        | branch.removed_facts.lacks(cells)
-        | branch.removed_edges.lacks(cells)
-        | branch.dirty.lack(1)
-        | branch.earlier.lack(2)
 }
 
 /// Marks an event as to be looked at.
@@ -207,15 +186,15 @@ pub fn make_branch(alloc: Global, problem: Problem) -> Branch {
     let mut branch = Branch {
         problem,
         rows,
-        trail: Stack::new(alloc),
-        facts: Stack::new(alloc),
-        edges: Stack::new(alloc),
-        heads: Numbers::new(alloc, size.wrapping_mul(3), NONE),
-        source: Numbers::new(alloc, size, NONE),
-        values: Numbers::new(alloc, size, NONE),
-        pairs: Numbers::new(alloc, cells, NONE),
-        removed_facts: Numbers::new(alloc, cells, NONE),
-        removed_edges: Numbers::new(alloc, cells, NONE),
+        trail: List::new(alloc, Change::Removed(NONE)),
+        facts: List::new(alloc, NO_FACT),
+        edges: List::new(alloc, NO_EDGE),
+        heads: List::filled(alloc, size.wrapping_mul(3), NONE),
+        source: List::filled(alloc, size, NONE),
+        values: List::filled(alloc, size, NONE),
+        pairs: List::filled(alloc, cells, NONE),
+        removed_facts: List::filled(alloc, cells, NONE),
+        removed_edges: List::filled(alloc, cells, NONE),
         dirty: Rows::new(alloc, 1, size),
         earlier: Rows::new(alloc, 2, size),
         claim_is_dirty: true,
@@ -255,7 +234,7 @@ fn undo_one(branch: &mut Branch, change: Change) {
 /// Goes back to where the branch stood.
 pub fn undo(branch: &mut Branch, mark: &Mark) {
     for _change in mark.trail..branch.trail.len() {
-        let change = branch.trail.pop(Change::Removed(NONE));
+        let change = branch.trail.pop();
         undo_one(branch, change);
     }
     branch.facts.cut(mark.facts);
@@ -315,4 +294,3 @@ pub fn note_removed(branch: &mut Branch, r: usize, s: usize) {
     branch.removed_facts.put(place, branch.facts.len());
     branch.removed_edges.put(place, branch.edges.len());
 }
-

@@ -1,9 +1,8 @@
 //! What is asked of the final state, as a list of parts. A part that is made of two stands before them, the first one right behind it.
 
-use crate::numbers::NONE;
+use crate::lists::{List, NONE};
 use crate::problem::{Problem, Term, bare_number};
 use crate::rows::bit;
-use crate::stack::Stack;
 use std::alloc::Global;
 use tso_model::{Loc, Prop, Quantifier, Test};
 
@@ -88,15 +87,15 @@ fn word_part(problem: &Problem, loc: Loc, number: u32, truth: bool) -> Part {
     if problem.is_written(x) {
         Part::Value(x, Demand { number, truth })
     } else {
-        term_part(problem.term(x), number, truth)
+        term_part(problem.terms.at(x), number, truth)
     }
 }
 
 /// Adds the parts of what says that a proposition has this truth.
 fn add_parts(
-    parts: &mut Stack<Part>,
+    parts: &mut List<Part>,
     problem: &Problem,
-    finals: &Stack<Term>,
+    finals: &List<Term>,
     prop: &Prop,
     truth: bool,
 ) {
@@ -106,7 +105,7 @@ fn add_parts(
             let place = usize::from(core.0)
                 .wrapping_mul(6)
                 .wrapping_add(reg.index());
-            parts.push(term_part(finals.at(place, bare_number(0)), *number, truth));
+            parts.push(term_part(finals.at(place), *number, truth));
         }
         Prop::LocIs(loc, number) => parts.push(word_part(problem, *loc, *number, truth)),
         Prop::Not(inner) => add_parts(parts, problem, finals, inner, !truth),
@@ -130,13 +129,8 @@ fn add_parts(
 }
 
 /// The parts of what a test asks.
-pub fn parts_of(
-    alloc: Global,
-    problem: &Problem,
-    finals: &Stack<Term>,
-    test: &Test,
-) -> Stack<Part> {
-    let mut parts = Stack::new(alloc);
+pub fn parts_of(alloc: Global, problem: &Problem, finals: &List<Term>, test: &Test) -> List<Part> {
+    let mut parts = List::new(alloc, Part::Fixed(true));
     if let Some(cond) = test.cond() {
         let truth = !matches!(cond.quantifier, Quantifier::Forall);
         add_parts(&mut parts, problem, finals, &cond.prop, truth);
@@ -158,7 +152,7 @@ fn mark_written(problem: &mut Problem, loc: usize) -> bool {
     let before = problem.relevant.count(0);
     for w in 0..problem.size {
         if problem.is_write_to(loc, w) {
-            let term = problem.term(w);
+            let term = problem.terms.at(w);
             problem.relevant.add(0, term.first);
             problem.relevant.add(0, term.second);
         }
@@ -169,7 +163,7 @@ fn mark_written(problem: &mut Problem, loc: usize) -> bool {
 /// Marks the locations and reads that what is asked names, and the reads on whose values those hang that they may have.
 pub fn mark_relevant(problem: &mut Problem) {
     for i in 0..problem.claim.len() {
-        if let Part::Value(r, _) = problem.part(i) {
+        if let Part::Value(r, _) = problem.claim.at(i) {
             problem.asked.add(0, r);
             problem.relevant.add(0, r);
         }

@@ -4,7 +4,7 @@ use crate::branch::Branch;
 use crate::evidence::{Closing, reset, use_facts, visit};
 use crate::facts::Order;
 use crate::growing::{Growth, add_cycle, add_leaf, add_question, put_branch};
-use crate::numbers::NONE;
+use crate::lists::NONE;
 use crate::offers::{Desk, show_order};
 
 /// The question which of two writes comes first, with the tree of the other order and of this one.

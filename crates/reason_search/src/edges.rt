@@ -4,7 +4,7 @@ use crate::branch::{
     Branch, Conflict, add_order, change_word, close, look_at, look_at_readers, put_head,
 };
 use crate::facts::{Edge, Link};
-use crate::numbers::NONE;
+use crate::lists::NONE;
 use crate::problem::{Problem, Relations};
 use crate::rows::{Rows, bit, lowest, rest};
 
@@ -119,7 +119,7 @@ pub fn put_before(branch: &mut Branch, a: usize, b: usize, tried: bool) -> bool 
 /// Writes to one location stand in coherence as they stand in their program.
 pub fn put_program_order(branch: &mut Branch) {
     for a in branch.problem.locations..branch.problem.size {
-        if branch.problem.event(a).writes {
+        if branch.problem.events.at(a).writes {
             put_before_later(branch, a);
         }
     }
@@ -155,7 +155,7 @@ pub fn fill_rows(rows: &mut Rows, problem: &Problem) {
         rows.turn_over(first, size.wrapping_mul(3).wrapping_add(first), size);
     }
     for r in problem.locations..size {
-        let event = problem.event(r);
+        let event = problem.events.at(r);
         if event.reads {
             let row = size.wrapping_mul(6).wrapping_add(r);
             rows.join(row, &problem.writes_to, event.location);

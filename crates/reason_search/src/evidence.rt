@@ -1,6 +1,6 @@
 //! Why a case is closed: a leaf, and the answers that it uses.
 
-use crate::numbers::{List, NONE};
+use crate::lists::{List, NONE};
 use crate::rows::Rows;
 use std::alloc::Global;
 
@@ -18,8 +18,8 @@ pub enum Closing {
 #[derive(Drop)]
 pub struct Evidence {
     pub closing: Closing,
-    pub cycle: List,
-    pub facts: List,
+    pub cycle: List<usize>,
+    pub facts: List<usize>,
     pub cost: usize,
     /// One row: the reads whose values are needed.
     pub needed: Rows,
@@ -27,32 +27,25 @@ pub struct Evidence {
 
 /// No leaf yet.
 pub fn make_evidence(alloc: Global, size: usize) -> Evidence {
-    let most = most_events(size);
     Evidence {
         closing: Closing::None,
-        cycle: List::new(alloc, most),
-        facts: List::new(alloc, most),
+        cycle: List::new(alloc, NONE),
+        facts: List::new(alloc, NONE),
         cost: NONE,
         needed: Rows::new(alloc, 1, size),
     }
 }
 
-/// How many events a cycle, and how many facts a leaf has room for.
-fn most_events(size: usize) -> usize {
-    size.wrapping_mul(4).wrapping_add(64)
-}
-
 /// Whether memory was refused for a leaf.
-pub fn lacks_room(evidence: &Evidence, size: usize) -> bool {
-    let most = most_events(size);
-    evidence.cycle.lacks(most) | evidence.facts.lacks(most)
+pub fn lacks_memory(evidence: &Evidence) -> bool {
+    evidence.cycle.is_refused | evidence.facts.is_refused | evidence.needed.is_refused
 }
 
 /// Begins a leaf anew.
 pub fn reset(evidence: &mut Evidence, closing: Closing) {
     evidence.closing = closing;
-    evidence.cycle.clear();
-    evidence.facts.clear();
+    evidence.cycle.cut(0);
+    evidence.facts.cut(0);
     evidence.cost = NONE;
 }
 

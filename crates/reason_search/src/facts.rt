@@ -1,6 +1,6 @@
 //! What stands on a branch of the search: answers, and the edges that they tell.
 
-use crate::numbers::NONE;
+use crate::lists::NONE;
 use crate::problem::Relations;
 
 /// An answer: what a read reads from, or that one write comes before another one.

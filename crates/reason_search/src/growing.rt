@@ -1,9 +1,8 @@
 //! The tree of a refutation while it grows: each node with its first branch, and with the node of the next branch beside it.
 
 use crate::evidence::{Closing, Evidence};
-use crate::numbers::{List, NONE};
-use crate::problem::Problem;
-use crate::stack::Stack;
+use crate::lists::{List, NONE};
+use crate::problem::{NO_EVENT, Problem};
 use refutations::Node;
 use std::alloc::Global;
 use std::mem::swap;
@@ -38,15 +37,15 @@ pub struct Twig {
 /// Nodes, and the events of their cycles.
 #[derive(Drop)]
 pub struct Trees {
-    twigs: Stack<Twig>,
-    events: Stack<usize>,
+    twigs: List<Twig>,
+    events: List<usize>,
 }
 
 /// No nodes.
 pub fn no_trees(alloc: Global) -> Trees {
     Trees {
-        twigs: Stack::new(alloc),
-        events: Stack::new(alloc),
+        twigs: List::new(alloc, NO_TWIG),
+        events: List::new(alloc, NONE),
     }
 }
 
@@ -58,7 +57,7 @@ pub fn clear_trees(trees: &mut Trees) {
 
 /// Whether memory was refused.
 pub fn are_refused(trees: &Trees) -> bool {
-    trees.twigs.is_refused() | trees.events.is_refused()
+    trees.twigs.is_refused | trees.events.is_refused
 }
 
 fn add_twig(trees: &mut Trees, growth: Growth, leaves: usize) -> usize {
@@ -69,7 +68,7 @@ fn add_twig(trees: &mut Trees, growth: Growth, leaves: usize) -> usize {
         beside: NONE,
         leaves,
     });
-    if trees.twigs.is_refused() {
+    if trees.twigs.is_refused {
         // A number that the next twig will have must not be handed out: trees would grow into themselves.
         return NONE;
     }
@@ -86,7 +85,7 @@ pub fn add_leaf(trees: &mut Trees, growth: Growth) -> usize {
     add_twig(trees, growth, 1)
 }
 
-fn add_events(events: &mut Stack<usize>, cycle: &List) {
+fn add_events(events: &mut List<usize>, cycle: &List<usize>) {
     for i in 0..cycle.len() {
         events.push(cycle.at(i));
     }
@@ -114,13 +113,13 @@ const NO_TWIG: Twig = Twig {
 
 /// How many leaves a tree has.
 pub fn leaves_of(trees: &Trees, number: usize) -> usize {
-    trees.twigs.at(number, NO_TWIG).leaves
+    trees.twigs.at(number).leaves
 }
 
 /// Puts a branch before the branches of a question.
 pub fn put_branch(trees: &mut Trees, question: usize, branch: usize) {
-    let above = trees.twigs.at(question, NO_TWIG);
-    let below = trees.twigs.at(branch, NO_TWIG);
+    let above = trees.twigs.at(question);
+    let below = trees.twigs.at(branch);
     trees.twigs.put(
         branch,
         Twig {
@@ -142,14 +141,14 @@ pub fn put_branch(trees: &mut Trees, question: usize, branch: usize) {
 fn cycle_of(
     alloc: Global,
     problem: &Problem,
-    events: &Stack<usize>,
+    events: &List<usize>,
     start: usize,
     length: usize,
 ) -> Result<Vec<Entry>, NoMemory> {
-    let mut cycle = Stack::new(alloc);
+    let mut cycle = List::new(alloc, NO_EVENT.entry);
     for i in 0..length {
-        let a = events.at(start.wrapping_add(i), NONE);
-        cycle.push(problem.event(a).entry);
+        let a = events.at(start.wrapping_add(i));
+        cycle.push(problem.events.at(a).entry);
     }
     cycle.into_items()
 }
@@ -161,7 +160,7 @@ fn node_of(
     trees: &Trees,
     growth: Growth,
 ) -> Result<Node, NoMemory> {
-    let entry = |a: usize| problem.event(a).entry;
+    let entry = |a: usize| problem.events.at(a).entry;
     Ok(match growth {
         Growth::ReadsFrom(r) => Node::ReadsFrom(entry(r)),
         Growth::ComesFirst(a, b) => Node::ComesFirst(entry(a), entry(b)),
@@ -180,7 +179,7 @@ fn node_of(
 #[derive(Drop)]
 pub struct Proposal {
     trees: Trees,
-    open: Stack<usize>,
+    open: List<usize>,
 }
 
 impl Proposal {
@@ -188,13 +187,13 @@ impl Proposal {
     pub fn none(alloc: Global) -> Proposal {
         Proposal {
             trees: no_trees(alloc),
-            open: Stack::new(alloc),
+            open: List::new(alloc, NONE),
         }
     }
 
     /// Whether memory was refused.
     pub fn is_refused(&self) -> bool {
-        are_refused(&self.trees) | self.open.is_refused()
+        are_refused(&self.trees) | self.open.is_refused
     }
 
     /// Whether all nodes are taken.
@@ -216,8 +215,8 @@ impl Proposal {
 
     /// Takes a node, and opens those that stand behind it.
     fn take(&mut self) -> Growth {
-        let number = self.open.pop(NONE);
-        let twig = self.trees.twigs.at(number, NO_TWIG);
+        let number = self.open.pop();
+        let twig = self.trees.twigs.at(number);
         if twig.beside != NONE {
             self.open.push(twig.beside);
         }

@@ -1,20 +1,21 @@
 //! The search: questions are asked, what follows is noted, and where a branch is closed its tree is made and the next answer tried.
 //! An answer that its tree doesn't use is no question: the tree stands in its place.
 
-use crate::branch::{
-    Branch, Mark, lacks_tables, look_at, look_at_all, make_branch, mark_here, undo,
-};
+use crate::branch::{Branch, Mark, look_at, look_at_all, make_branch, mark_here, undo};
 use crate::chance::{Chance, first_chance};
 use crate::choosing::{Ask, choose};
 use crate::edges::{put_before, put_program_order};
 use crate::growing::clear_trees;
+use crate::lists::NONE;
 use crate::looking::{deduce, put_source};
-use crate::numbers::NONE;
-use crate::offers::{Desk, lacks_room, make_desk};
-use crate::problem::Problem;
-use crate::questions::{Frame, Questions, begin, no_frame};
+use crate::offers::{Desk, make_desk};
+use crate::problem::{Problem, make_problem};
+use crate::questions::{Frame, Questions, begin};
 use crate::reasoning::{add_conflict, add_source_question, add_tried_order, wrap};
+use crate::values::{find_values, known_facts};
+use refutation_laws::Model;
 use std::alloc::Global;
+use tso_model::{Entry, Test};
 
 /// A search.
 #[derive(Drop)]
@@ -53,26 +54,23 @@ fn most_facts(problem: &Problem) -> usize {
 }
 
 /// A search that hasn't begun.
-pub fn make_hunt(alloc: Global, problem: Problem) -> Hunt {
+pub fn make_hunt(alloc: Global, test: &Test, events: &[Entry], model: Model) -> Hunt {
+    let problem = make_problem(alloc, test, events, model);
     let most = most_facts(&problem);
     let desk = make_desk(alloc, problem.size, most);
     let mut branch = make_branch(alloc, problem);
     put_program_order(&mut branch);
+    let start = mark_here(&branch);
     Hunt {
-        start: mark_here(&branch),
+        start,
         branch,
         desk,
-        questions: Questions::none(alloc),
+        questions: Questions::none(alloc, start),
         cases: 0,
         pause: 0,
         round: 0,
         chance: first_chance(),
     }
-}
-
-/// Whether memory was refused for what the search looks up: then it must not begin.
-pub fn lacks_memory(hunt: &Hunt) -> bool {
-    lacks_tables(&hunt.branch) | lacks_room(&hunt.desk, hunt.branch.problem.size)
 }
 
 /// Whether memory was refused.
@@ -161,7 +159,7 @@ fn go_back(branch: &mut Branch, desk: &mut Desk, questions: &mut Questions) -> u
         if questions.is_empty() {
             return wrap(branch, desk, 0, tree);
         }
-        let frame = questions.last(no_frame(mark_here(branch)));
+        let frame = questions.last();
         tree = wrap(branch, desk, frame.fact.wrapping_add(1), tree);
         tree = go_back_one(branch, desk, questions, &frame, tree);
         if tree == NONE {
@@ -198,7 +196,11 @@ fn search(hunt: &mut Hunt) -> Find {
         if deduce(&mut hunt.branch) {
             match ask_next(hunt) {
                 Next::Open => continue,
-                Next::None => return Find::Allowed,
+                Next::None => {
+                    let known = known_facts(hunt.branch.facts.len());
+                    find_values(&mut hunt.branch, known);
+                    return Find::Allowed;
+                }
                 Next::Closed => {}
             }
         }

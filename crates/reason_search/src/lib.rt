@@ -13,8 +13,8 @@ pub mod facts;
 pub mod growing;
 pub mod guide;
 pub mod hunting;
+pub mod lists;
 pub mod looking;
-pub mod numbers;
 pub mod offers;
 pub mod ordering;
 pub mod paths;
@@ -23,7 +23,6 @@ pub mod program_order;
 pub mod questions;
 pub mod reasoning;
 pub mod rows;
-pub mod stack;
 pub mod values;
 pub mod weights;
 

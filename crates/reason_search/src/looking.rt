@@ -1,12 +1,12 @@
 //! What follows at a write, at a read and at a location, and all that follows in a branch.
 
 use crate::branch::{
-    Branch, Conflict, add_source, change_word, close, look_at, look_at_all,
-    look_at_readers, note_removed,
+    Branch, Conflict, add_source, change_word, close, look_at, look_at_all, look_at_readers,
+    note_removed,
 };
 use crate::edges::{add_edge, add_edges, put_before};
 use crate::facts::Link;
-use crate::numbers::NONE;
+use crate::lists::NONE;
 use crate::problem::Relations;
 use crate::rows::{bit, lowest, rest};
 use crate::values::{find_values, is_false, is_wrong_source, is_wrong_value, known_facts};
@@ -19,8 +19,8 @@ pub fn is_global_source(branch: &Branch, w: usize, r: usize) -> bool {
 /// Marks what may have as its source a write whose value hangs on a read.
 fn look_at_dependents(branch: &mut Branch, r: usize) {
     for w in branch.problem.locations..branch.problem.size {
-        let term = branch.problem.term(w);
-        let event = branch.problem.event(w);
+        let term = branch.problem.terms.at(w);
+        let event = branch.problem.events.at(w);
         if event.writes && (term.first == r || term.second == r) {
             look_at_readers(branch, event.location);
         }
@@ -50,7 +50,7 @@ pub fn put_source(branch: &mut Branch, r: usize, w: usize, tried: bool) -> bool 
     if branch.problem.stored.has(0, r) {
         look_at_dependents(branch, r);
     }
-    let term = branch.problem.term(w);
+    let term = branch.problem.terms.at(w);
     if branch.problem.relevant.has(0, r) && term.first != NONE {
         look_at_open_relevant(branch);
     }
@@ -332,7 +332,7 @@ fn look_at_one(branch: &mut Branch, a: usize) -> bool {
     if branch.problem.is_initial(a) {
         return !branch.problem.relevant.has(0, a) || look_at_last(branch, a);
     }
-    let event = branch.problem.event(a);
+    let event = branch.problem.events.at(a);
     if event.writes {
         return look_at_write(branch, a);
     }

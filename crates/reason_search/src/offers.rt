@@ -2,14 +2,15 @@
 //! answers.
 
 use crate::branch::Branch;
-use crate::evidence;
-use crate::evidence::{Closing, Evidence, make_evidence, need, reset, visit, visit_three, weigh};
+use crate::evidence::{
+    Closing, Evidence, lacks_memory, make_evidence, need, reset, visit, visit_three, weigh,
+};
 use crate::facts::{Edge, Order};
 use crate::growing::{Trees, are_refused, no_trees};
+use crate::lists::{List, NONE};
 use crate::looking::is_before_source;
-use crate::numbers::{NONE, Numbers};
 use crate::paths::{
-    Edges, Paths, begin, find, lack_tables, make_paths, start_from, start_from_later,
+    Edges, Paths, begin, find, lack_memory, make_paths, start_from, start_from_later,
 };
 use crate::problem::Relations;
 use crate::rows::Rows;
@@ -31,7 +32,7 @@ pub struct Desk {
     /// How many facts stand above the tree in hand, if it uses them.
     pub above: usize,
     /// For each source its tree, while a question's branches are put together.
-    pub branches: Numbers,
+    pub branches: List<usize>,
     pub weights: Weights,
 }
 
@@ -39,6 +40,13 @@ impl Desk {
     /// Whether memory was refused.
     pub fn is_refused(&self) -> bool {
         are_refused(&self.trees)
+            | lack_memory(&self.paths)
+            | lack_memory(&self.inner)
+            | lacks_memory(&self.best)
+            | lacks_memory(&self.trial)
+            | self.used.is_refused
+            | self.branches.is_refused
+            | self.weights.is_refused()
     }
 }
 
@@ -52,20 +60,9 @@ pub fn make_desk(alloc: Global, size: usize, facts: usize) -> Desk {
         trees: no_trees(alloc),
         used: Rows::new(alloc, 1, facts),
         above: 0,
-        branches: Numbers::new(alloc, size, NONE),
+        branches: List::filled(alloc, size, NONE),
         weights: Weights::new(alloc, size),
     }
-}
-
-/// Whether memory was refused for what reasons are made with.
-pub fn lacks_room(desk: &Desk, size: usize) -> bool {
-    lack_tables(&desk.paths, size)
-        | lack_tables(&desk.inner, size)
-        | evidence::lacks_room(&desk.best, size)
-        | evidence::lacks_room(&desk.trial, size)
-        | desk.used.lack(1)
-        | desk.branches.lacks(size)
-        | desk.weights.lacks_room()
 }
 
 /// Adds to the leaf in hand the facts that one write comes before another one.
@@ -78,7 +75,7 @@ fn need_order(branch: &Branch, desk: &mut Desk, a: usize, b: usize, limit: usize
     };
     if find(branch, &mut desk.inner, edges, b) {
         for i in 0..desk.inner.events.len() {
-            let edge = branch.edge(desk.inner.edges.at(i));
+            let edge = branch.edges.at(desk.inner.edges.at(i));
             need(&mut desk.trial, edge.link.fact);
         }
     }
@@ -107,7 +104,7 @@ fn follow(branch: &Branch, desk: &mut Desk) {
         visit(&mut desk.trial, desk.paths.events.from_end(i));
         let limit = desk.paths.edges.from_end(i);
         if limit != NONE {
-            need_edge(branch, desk, branch.edge(limit), limit);
+            need_edge(branch, desk, branch.edges.at(limit), limit);
         }
     }
 }
@@ -172,7 +169,7 @@ fn take_path(branch: &Branch, desk: &mut Desk, edges: Edges, from: usize, to: us
 /// Makes the leaf in hand one of a write between two parts, and offers it.
 fn offer_write_between(desk: &mut Desk, r: usize, v: usize, own: usize) {
     desk.trial.closing = Closing::Between;
-    desk.trial.cycle.clear();
+    desk.trial.cycle.cut(0);
     visit_three(&mut desk.trial, r, v, own);
     offer(desk, 6);
 }

@@ -1,10 +1,9 @@
 //! The order of an execution, from a branch on which each question has an answer.
 
 use crate::branch::Branch;
-use crate::numbers::NONE;
-use crate::problem::{Event, Relations};
+use crate::lists::{List, NONE};
+use crate::problem::{Event, NO_EVENT, Relations};
 use crate::rows::{Rows, bit};
-use crate::stack::Stack;
 use crate::values::written;
 use std::alloc::Global;
 use tso_model::{Entry, Kind, NoMemory};
@@ -20,19 +19,19 @@ struct Placing {
     waits: Rows,
     /// One row: the events that are still to come.
     left: Rows,
-    order: Stack<Entry>,
+    order: List<Entry>,
 }
 
 /// Notes what an event must wait for.
 fn find_waits(branch: &Branch, placing: &mut Placing, a: usize) {
-    let x = branch.problem.event(a);
+    let x = branch.problem.events.at(a);
     let earlier = branch.before(Relations::Global, a);
     placing.left.add(0, a);
     placing.waits.join(a, &branch.rows, earlier);
     let core = usize::from(x.entry.core.0);
     // The events of a program stand side by side, in its order.
     for b in branch.problem.events_of.next(core, 0)..a {
-        if is_fence(&x) || is_fence(&branch.problem.event(b)) {
+        if is_fence(&x) || is_fence(&branch.problem.events.at(b)) {
             placing.waits.add(a, b);
         }
     }
@@ -50,7 +49,7 @@ fn is_waiting(placing: &Placing, width: usize, a: usize, but: usize) -> bool {
 
 /// The value of an event. A fence has 0.
 fn event_value(branch: &Branch, a: usize) -> u32 {
-    let value = if branch.problem.event(a).reads {
+    let value = if branch.problem.events.at(a).reads {
         branch.values.at(a)
     } else {
         written(branch, a)
@@ -66,7 +65,7 @@ fn place(branch: &Branch, placing: &mut Placing, a: usize) {
     placing.left.remove(0, a);
     placing.order.push(Entry {
         value: event_value(branch, a),
-        ..branch.problem.event(a).entry
+        ..branch.problem.events.at(a).entry
     });
 }
 
@@ -76,7 +75,7 @@ fn place_ready(branch: &Branch, placing: &mut Placing, a: usize) {
         return;
     }
     let width = branch.problem.width;
-    let event = branch.problem.event(a);
+    let event = branch.problem.events.at(a);
     let is_second = matches!(event.entry.kind, Kind::LW);
     if is_second || is_waiting(placing, width, a, NONE) {
         return;
@@ -110,9 +109,9 @@ pub fn make_order(alloc: Global, branch: &Branch) -> Result<Vec<Entry>, NoMemory
     let mut placing = Placing {
         waits: Rows::new(alloc, size, size),
         left: Rows::new(alloc, 1, size),
-        order: Stack::new(alloc),
+        order: List::new(alloc, NO_EVENT.entry),
     };
-    if placing.waits.lack(size) | placing.left.lack(1) {
+    if placing.waits.is_refused | placing.left.is_refused {
         return Err(NoMemory);
     }
     for a in branch.problem.locations..size {

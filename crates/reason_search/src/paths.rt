@@ -1,7 +1,7 @@
 //! Shortest paths of edges that a branch knows.
 
 use crate::branch::Branch;
-use crate::numbers::{List, NONE, Numbers};
+use crate::lists::{List, NONE};
 use crate::problem::Relations;
 use crate::rows::{Rows, lowest, rest};
 use std::alloc::Global;
@@ -16,9 +16,9 @@ pub struct Edges {
 /// A search for paths: by which event and which edge each event was reached, and the path that was found.
 #[derive(Drop)]
 pub struct Paths {
-    back: Numbers,
-    by: Numbers,
-    queue: List,
+    back: List<usize>,
+    by: List<usize>,
+    queue: List<usize>,
     /// Where in the queue the next event stands.
     next: usize,
     /// One row: the events that were reached.
@@ -26,44 +26,44 @@ pub struct Paths {
     /// One row: the events from which paths begin.
     pub starts: Rows,
     /// The events of the path that was found, backwards and without its end.
-    pub events: List,
+    pub events: List<usize>,
     /// For each of them the number of the edge that leaves it, if answers tell it.
-    pub edges: List,
+    pub edges: List<usize>,
 }
 
 /// Paths over the events of a problem.
 pub fn make_paths(alloc: Global, size: usize) -> Paths {
     Paths {
-        back: Numbers::new(alloc, size, NONE),
-        by: Numbers::new(alloc, size, NONE),
-        queue: List::new(alloc, size.wrapping_add(1)),
+        back: List::filled(alloc, size, NONE),
+        by: List::filled(alloc, size, NONE),
+        queue: List::new(alloc, NONE),
         next: 0,
         seen: Rows::new(alloc, 1, size),
         starts: Rows::new(alloc, 1, size),
-        events: List::new(alloc, size),
-        edges: List::new(alloc, size),
+        events: List::new(alloc, NONE),
+        edges: List::new(alloc, NONE),
     }
 }
 
 /// Whether memory was refused for a search for paths.
-pub fn lack_tables(paths: &Paths, size: usize) -> bool {
-    paths.back.lacks(size)
-        | paths.by.lacks(size)
-        | paths.queue.lacks(size.wrapping_add(1))
-        | paths.seen.lack(1)
-        | paths.starts.lack(1)
-        | paths.events.lacks(size)
-        | paths.edges.lacks(size)
+pub fn lack_memory(paths: &Paths) -> bool {
+    paths.back.is_refused
+        | paths.by.is_refused
+        | paths.queue.is_refused
+        | paths.seen.is_refused
+        | paths.starts.is_refused
+        | paths.events.is_refused
+        | paths.edges.is_refused
 }
 
 /// Begins a search for paths with no start.
 pub fn begin(paths: &mut Paths) {
     paths.starts.clear(0);
     paths.seen.clear(0);
-    paths.queue.clear();
+    paths.queue.cut(0);
     paths.next = 0;
-    paths.events.clear();
-    paths.edges.clear();
+    paths.events.cut(0);
+    paths.edges.cut(0);
 }
 
 /// Adds an event from which paths begin.
@@ -104,7 +104,7 @@ fn reach_by_answers(branch: &Branch, paths: &mut Paths, edges: Edges, a: usize) 
         if number == NONE {
             break;
         }
-        let edge = branch.edge(number);
+        let edge = branch.edges.at(number);
         if number < edges.limit {
             reach(paths, a, number, edge.link.to);
         }
@@ -131,8 +131,8 @@ fn reach_all(branch: &Branch, paths: &mut Paths, edges: Edges, to: usize) -> boo
 
 /// Notes the path to an event that was reached.
 fn trace(paths: &mut Paths, size: usize, to: usize) {
-    paths.events.clear();
-    paths.edges.clear();
+    paths.events.cut(0);
+    paths.edges.cut(0);
     let mut a = to;
     for _event in 0..size {
         paths.edges.push(paths.by.at(a));

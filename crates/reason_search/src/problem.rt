@@ -4,14 +4,13 @@
 ghost use Rattle.std.specs.Prelude.{◌<◌, length};
 
 use crate::claim::{Part, mark_relevant, parts_of};
-use crate::numbers::{NONE, Numbers};
+use crate::lists::{List, NONE};
 use crate::program_order::add_program_order;
 use crate::rows::Rows;
-use crate::stack::Stack;
 use refutation_laws::Model;
 use refutations::events::{is_read, is_write};
 use std::alloc::Global;
-use tso_model::{Action, Core, Entry, Kind, Loc, NoMemory, Operand, Test, Update};
+use tso_model::{Action, Core, Entry, Kind, Loc, Operand, Test, Update};
 
 /// A value: a number and what up to two reads return, added up. `NONE` is no read.
 #[derive(Clone, Copy)]
@@ -37,7 +36,7 @@ pub struct Event {
 const MOST_CORES: usize = 8;
 
 /// What stands where there is no event.
-const NO_EVENT: Event = Event {
+pub const NO_EVENT: Event = Event {
     entry: Entry {
         core: Core(255),
         place: 0,
@@ -68,14 +67,14 @@ pub struct Problem {
     pub width: usize,
     pub locations: usize,
     pub sequential: bool,
-    events: Stack<Event>,
-    terms: Stack<Term>,
+    pub events: List<Event>,
+    pub terms: List<Term>,
     /// The writes to each location but the initial one.
     pub writes_to: Rows,
     /// The most of them that a location has.
     pub most_writes: usize,
     /// For each of them its number among those to its location, from 1 on; 0 for initial ones.
-    pub ranks: Numbers,
+    pub ranks: List<usize>,
     /// The reads of each location, and its initial write.
     pub readers_of: Rows,
     /// The events of each core.
@@ -83,7 +82,7 @@ pub struct Problem {
     /// The edges of each of the relations that the program alone tells.
     pub program: Rows,
     /// What is asked.
-    pub claim: Stack<Part>,
+    pub claim: List<Part>,
     /// One row: the reads and locations of which something is asked.
     pub asked: Rows,
     /// One row: the reads on whose values hangs what writes write.
@@ -93,24 +92,19 @@ pub struct Problem {
 }
 
 impl Problem {
-    /// An event by its number.
-    pub fn event(&self, i: usize) -> Event {
-        self.events.at(i, NO_EVENT)
-    }
-
     /// The location of an event.
     pub fn location(&self, i: usize) -> usize {
-        self.event(i).location
+        self.events.at(i).location
     }
 
     /// The other part of a locked instruction.
     pub fn partner(&self, i: usize) -> usize {
-        self.event(i).partner
+        self.events.at(i).partner
     }
 
     /// The core of an event.
     pub fn core(&self, i: usize) -> u8 {
-        self.event(i).entry.core.0
+        self.events.at(i).entry.core.0
     }
 
     /// Whether this is the initial write of a location.
@@ -128,16 +122,6 @@ impl Problem {
         !self.writes_to.is_empty(loc)
     }
 
-    /// What an event writes or returns.
-    pub fn term(&self, i: usize) -> Term {
-        self.terms.at(i, bare_number(0))
-    }
-
-    /// A part of what is asked.
-    pub fn part(&self, i: usize) -> Part {
-        self.claim.at(i, Part::Fixed(true))
-    }
-
     /// The row of what is after an event by the program alone.
     pub fn row(&self, relations: Relations, a: usize) -> usize {
         (relations as usize).wrapping_mul(self.size).wrapping_add(a)
@@ -149,18 +133,19 @@ impl Problem {
         self.program.add(row, b);
     }
 
-    fn is_refused(&self) -> bool {
-        self.events.is_refused()
-            | self.terms.is_refused()
-            | self.claim.is_refused()
-            | self.writes_to.lack(self.locations)
-            | self.ranks.lacks(self.size)
-            | self.readers_of.lack(self.locations)
-            | self.events_of.lack(MOST_CORES)
-            | self.program.lack(self.size.wrapping_mul(3))
-            | self.stored.lack(1)
-            | self.relevant.lack(1)
-            | self.asked.lack(1)
+    /// Whether memory was refused.
+    pub fn is_refused(&self) -> bool {
+        self.events.is_refused
+            | self.terms.is_refused
+            | self.claim.is_refused
+            | self.writes_to.is_refused
+            | self.ranks.is_refused
+            | self.readers_of.is_refused
+            | self.events_of.is_refused
+            | self.program.is_refused
+            | self.stored.is_refused
+            | self.relevant.is_refused
+            | self.asked.is_refused
     }
 }
 
@@ -223,7 +208,7 @@ fn add_write(problem: &mut Problem, loc: usize, a: usize) {
 /// Notes for each location what writes to it and what reads it. Its initial write is before all others.
 fn add_accesses(problem: &mut Problem) {
     for a in 0..problem.size {
-        let event = problem.event(a);
+        let event = problem.events.at(a);
         let loc = event.location;
         if event.writes {
             add_write(problem, loc, a);
@@ -259,7 +244,7 @@ fn updated(update: Update, read: usize, held: Term) -> Term {
 }
 
 /// The terms of what an action does.
-fn add_terms(terms: &mut Stack<Term>, registers: &mut [Term; 6], action: Action) {
+fn add_terms(terms: &mut List<Term>, registers: &mut [Term; 6], action: Action) {
     let next = returned(terms.len());
     match action {
         Action::Store(_, operand) => terms.push(held(registers, operand)),
@@ -278,7 +263,7 @@ fn add_terms(terms: &mut Stack<Term>, registers: &mut [Term; 6], action: Action)
 }
 
 /// The terms of a core's events; adds what its registers hold at the end.
-fn run_core(terms: &mut Stack<Term>, finals: &mut Stack<Term>, test: &Test, core: Core)
+fn run_core(terms: &mut List<Term>, finals: &mut List<Term>, test: &Test, core: Core)
     requires { core.0 < length test.now.programs }
 {
     let first = test.initial_registers(core);
@@ -299,8 +284,8 @@ fn run_core(terms: &mut Stack<Term>, finals: &mut Stack<Term>, test: &Test, core
 }
 
 /// The terms of all events. What is returned are those of all registers at the end, six to a core.
-fn run_cores(alloc: Global, problem: &mut Problem, test: &Test) -> Stack<Term> {
-    let mut finals = Stack::new(alloc);
+fn run_cores(alloc: Global, problem: &mut Problem, test: &Test) -> List<Term> {
+    let mut finals = List::new(alloc, bare_number(0));
     for word in test.initial_words() {
         problem.terms.push(bare_number(*word));
     }
@@ -313,8 +298,8 @@ fn run_cores(alloc: Global, problem: &mut Problem, test: &Test) -> Stack<Term> {
 /// Notes the reads on whose values hangs what writes write.
 fn note_stored(problem: &mut Problem) {
     for w in problem.locations..problem.size {
-        if problem.event(w).writes {
-            let term = problem.term(w);
+        if problem.events.at(w).writes {
+            let term = problem.terms.at(w);
             problem.stored.add(0, term.first);
             problem.stored.add(0, term.second);
         }
@@ -329,47 +314,31 @@ fn bare_problem(alloc: Global, locations: usize, events: usize, model: Model) ->
         width: size / 64 + 1,
         locations,
         sequential: matches!(model, Model::Sequential),
-        events: Stack::new(alloc),
-        terms: Stack::new(alloc),
+        events: List::new(alloc, NO_EVENT),
+        terms: List::new(alloc, bare_number(0)),
         writes_to: Rows::new(alloc, locations, size),
         most_writes: 0,
-        ranks: Numbers::new(alloc, size, 0),
+        ranks: List::filled(alloc, size, 0),
         readers_of: Rows::new(alloc, locations, size),
         events_of: Rows::new(alloc, MOST_CORES, size),
         program: Rows::new(alloc, size.wrapping_mul(3), size),
-        claim: Stack::new(alloc),
+        claim: List::new(alloc, Part::Fixed(true)),
         asked: Rows::new(alloc, 1, size),
         stored: Rows::new(alloc, 1, size),
         relevant: Rows::new(alloc, 1, size),
     }
 }
 
-/// Notes what writes write, and what is asked. False where memory was refused, for this or before.
-fn add_claim(alloc: Global, problem: &mut Problem, test: &Test) -> bool {
-    let finals = run_cores(alloc, problem, test);
-    note_stored(problem);
-    problem.claim = parts_of(alloc, problem, &finals, test);
-    mark_relevant(problem);
-    !(problem.is_refused() | finals.is_refused())
-}
-
 /// What a search for a reason works on.
-///
-/// Errors: out of memory only.
-pub fn make_problem(
-    alloc: Global,
-    test: &Test,
-    events: &[Entry],
-    model: Model,
-) -> Result<Problem, NoMemory> {
+pub fn make_problem(alloc: Global, test: &Test, events: &[Entry], model: Model) -> Problem {
     let locations = usize::from(test.locations());
     let mut problem = bare_problem(alloc, locations, events.len(), model);
     add_events(&mut problem, events);
     add_accesses(&mut problem);
     add_program_order(&mut problem);
-    if add_claim(alloc, &mut problem, test) {
-        Ok(problem)
-    } else {
-        Err(NoMemory)
-    }
+    let finals = run_cores(alloc, &mut problem, test);
+    note_stored(&mut problem);
+    problem.claim = parts_of(alloc, &problem, &finals, test);
+    mark_relevant(&mut problem);
+    problem
 }

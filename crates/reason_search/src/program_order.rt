@@ -12,8 +12,8 @@ fn is_kept(x: &Entry, y: &Entry) -> bool {
 
 /// Adds the edges between two accesses of one program that program order tells.
 fn add_pair(problem: &mut Problem, a: usize, b: usize, is_fenced: bool) {
-    let x = problem.event(a).entry;
-    let y = problem.event(b).entry;
+    let x = problem.events.at(a).entry;
+    let y = problem.events.at(b).entry;
     if x.loc.0 == y.loc.0 {
         problem.add_edge(Relations::OnLocation, a, b);
     }
@@ -30,7 +30,7 @@ fn add_later(problem: &mut Problem, a: usize) {
         if problem.core(b) != core {
             break;
         }
-        if is_access(&problem.event(b).entry) {
+        if is_access(&problem.events.at(b).entry) {
             add_pair(problem, a, b, is_fenced);
         } else {
             is_fenced = true;
@@ -41,7 +41,7 @@ fn add_later(problem: &mut Problem, a: usize) {
 /// Adds the edges that program order tells.
 pub fn add_program_order(problem: &mut Problem) {
     for a in problem.locations..problem.size {
-        if is_access(&problem.event(a).entry) {
+        if is_access(&problem.events.at(a).entry) {
             add_later(problem, a);
         }
     }

@@ -6,9 +6,9 @@ use crate::closing::{add_best, add_best_source, ask_order};
 use crate::evidence::{is_found, use_facts};
 use crate::facts::{Answer, Edge, Fact, Order};
 use crate::growing::{Growth, add_cycle, add_leaf, add_question, put_branch};
-use crate::values::known_facts;
-use crate::numbers::NONE;
+use crate::lists::NONE;
 use crate::offers::{Desk, close_cycle, find_why_before, find_why_not, take_false};
+use crate::values::known_facts;
 
 /// A leaf where no reason was found: all answers are used.
 fn add_false(desk: &mut Desk) -> usize {
@@ -77,7 +77,13 @@ pub fn add_tried_order(desk: &mut Desk, a: usize, b: usize) -> usize {
 }
 
 /// The tree where this order, which a fact tells, is turned.
-fn add_other(branch: &mut Branch, desk: &mut Desk, order: Order, fact: usize, edges: usize) -> usize {
+fn add_other(
+    branch: &mut Branch,
+    desk: &mut Desk,
+    order: Order,
+    fact: usize,
+    edges: usize,
+) -> usize {
     find_why_before(branch, desk, order, fact, edges);
     if is_found(&desk.best) {
         let s = branch.source_of(desk.best.cycle.at(0));
@@ -89,7 +95,7 @@ fn add_other(branch: &mut Branch, desk: &mut Desk, order: Order, fact: usize, ed
 
 /// The tree where an order follows and an answer says the other one: why that can't be. `NONE` where no answer does.
 fn add_turned(branch: &mut Branch, desk: &mut Desk, number: usize) -> usize {
-    let fact = branch.fact(number);
+    let fact = branch.facts.at(number);
     let Answer::Before(a, b) = fact.answer else {
         return NONE;
     };
@@ -123,7 +129,7 @@ pub fn add_conflict(branch: &mut Branch, desk: &mut Desk) -> usize {
     desk.weights.move_on();
     desk.above = branch.facts.len();
     match branch.conflict {
-        Conflict::Cycle => add_closed_cycle(branch, desk, branch.edge(branch.clash)),
+        Conflict::Cycle => add_closed_cycle(branch, desk, branch.edges.at(branch.clash)),
         Conflict::NoSource => add_source_question(branch, desk, branch.clash),
         Conflict::False => {
             let known = known_facts(branch.facts.len());
@@ -164,7 +170,7 @@ pub fn wrap(branch: &mut Branch, desk: &mut Desk, from: usize, tree: usize) -> u
     let mut number = branch.facts.len();
     for _fact in from..branch.facts.len() {
         number = number.wrapping_sub(1);
-        let fact = branch.fact(number);
+        let fact = branch.facts.at(number);
         if desk.used.has(0, number) && !fact.tried {
             whole = wrap_one(branch, desk, number, fact, whole);
         }

@@ -1,13 +1,15 @@
 //! Rows of bits: each row is a set of small numbers.
 
-use crate::numbers::NONE;
+use crate::lists::{List, NONE};
 use std::alloc::Global;
 
 /// Rows of bits, all of so many words.
 #[derive(Drop)]
 pub struct Rows {
-    words: Vec<u64>,
+    words: List<u64>,
     width: usize,
+    /// Whether memory was refused.
+    pub is_refused: bool,
 }
 
 /// The word in which a number's bit stands alone.
@@ -42,16 +44,12 @@ impl Rows {
     /// So many empty rows for numbers below `most`, and none where memory is refused.
     pub fn new(alloc: Global, count: usize, most: usize) -> Rows {
         let width = most / 64 + 1;
-        let words = vec![in alloc; 0u64; count.wrapping_mul(width)];
+        let words = List::filled(alloc, count.wrapping_mul(width), 0);
         Rows {
-            words: words.unwrap_or(Vec::new(alloc)),
+            is_refused: words.is_refused,
+            words,
             width,
         }
-    }
-
-    /// Whether there aren't so many.
-    pub fn lack(&self, count: usize) -> bool {
-        self.words.len() != count.wrapping_mul(self.width)
     }
 
     /// Where a word of a row stands among all words.
@@ -61,14 +59,12 @@ impl Rows {
 
     /// Writes the word at a place.
     pub fn put_at(&mut self, place: usize, bits: u64) {
-        if let Some(word) = self.words.get_mut(place) {
-            *word = bits;
-        }
+        self.words.put(place, bits);
     }
 
     /// A word of a row, and no bits where there is no such row.
     pub fn word(&self, row: usize, k: usize) -> u64 {
-        self.words.get(self.place(row, k)).copied().unwrap_or(0)
+        self.words.at(self.place(row, k))
     }
 
     /// Writes a word of a row.

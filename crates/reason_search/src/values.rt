@@ -3,7 +3,7 @@
 use crate::branch::Branch;
 use crate::claim::{Demand, Part, Parts, can_be, can_be_made};
 use crate::evidence::{Evidence, need};
-use crate::numbers::NONE;
+use crate::lists::NONE;
 use crate::problem::Term;
 use crate::rows::Rows;
 
@@ -43,7 +43,7 @@ fn returned(branch: &Branch, r: usize) -> usize {
 
 /// What an event writes, as far as it is known.
 pub fn written(branch: &Branch, w: usize) -> usize {
-    let term = branch.problem.term(w);
+    let term = branch.problem.terms.at(w);
     let read = sum(returned(branch, term.first), returned(branch, term.second));
     sum(term.number as usize, read)
 }
@@ -75,7 +75,7 @@ fn find_more_values(branch: &mut Branch, known: Known) -> bool {
 
 /// Notes what each read returns, by what is known.
 pub fn find_values(branch: &mut Branch, known: Known) {
-    branch.values.fill(NONE);
+    branch.values.blank();
     for _round in 0..branch.problem.size {
         if !find_more_values(branch, known) {
             break;
@@ -124,7 +124,7 @@ const NOTHING: Supposed = Supposed {
 
 /// Whether a part can be so where it is known which of the parts behind it can be.
 fn part_can_be(branch: &Branch, known: Known, supposed: Supposed, parts: &Parts, i: usize) -> bool {
-    match branch.problem.part(i) {
+    match branch.problem.claim.at(i) {
         Part::Value(r, demand) => {
             if r == supposed.place {
                 can_be(demand, supposed.value)
@@ -164,7 +164,14 @@ pub fn is_wrong_source(branch: &mut Branch, r: usize, s: usize) -> bool {
         return false;
     }
     let facts = known_facts(branch.facts.len());
-    find_values(branch, Known { read: r, source: s, ..facts });
+    find_values(
+        branch,
+        Known {
+            read: r,
+            source: s,
+            ..facts
+        },
+    );
     let is_wrong = is_false(branch, facts);
     find_values(branch, facts);
     is_wrong
@@ -196,7 +203,7 @@ fn need_word(branch: &Branch, known: Known, evidence: &mut Evidence, loc: usize,
                     need(evidence, fact);
                 }
             } else {
-                need_term(&mut evidence.needed, branch.problem.term(w));
+                need_term(&mut evidence.needed, branch.problem.terms.at(w));
             }
         }
     }
@@ -212,7 +219,7 @@ fn need_part(
     wrong: &mut Parts,
 ) {
     let first = i.wrapping_add(1);
-    match branch.problem.part(i) {
+    match branch.problem.claim.at(i) {
         Part::Value(r, demand) => {
             if branch.problem.is_initial(r) {
                 need_word(branch, known, evidence, r, demand);
@@ -244,7 +251,7 @@ fn need_more_sources(branch: &mut Branch, known: Known, evidence: &mut Evidence)
                 need(evidence, branch.source.at(r));
             }
             let s = source(branch, known, r);
-            need_term(&mut evidence.needed, branch.problem.term(s));
+            need_term(&mut evidence.needed, branch.problem.terms.at(s));
         }
     }
     changed

@@ -1,12 +1,12 @@
 //! How often each event stood in a question that was needed.
 
-use crate::numbers::Numbers;
+use crate::lists::List;
 use std::alloc::Global;
 
 /// How often each event stood in a question that was needed, of late more.
 #[derive(Drop)]
 pub struct Weights {
-    weights: Numbers,
+    weights: List<usize>,
     size: usize,
     step: usize,
 }
@@ -19,15 +19,15 @@ impl Weights {
     /// No event stood in one.
     pub fn new(alloc: Global, size: usize) -> Weights {
         Weights {
-            weights: Numbers::new(alloc, size, 0),
+            weights: List::filled(alloc, size, 0),
             size,
             step: 1024,
         }
     }
 
     /// Whether memory was refused.
-    pub fn lacks_room(&self) -> bool {
-        self.weights.lacks(self.size)
+    pub fn is_refused(&self) -> bool {
+        self.weights.is_refused
     }
 
     /// The weight of an event.

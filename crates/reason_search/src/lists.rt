@@ -1,0 +1,91 @@
+//! Lists that can be asked at any place.
+
+use std::alloc::Global;
+use tso_model::NoMemory;
+
+/// No number.
+pub const NONE: usize = usize::MAX;
+
+/// A list that has `none` wherever it has no item. Where memory is refused it notes that, and stays as it is.
+#[derive(Drop)]
+pub struct List<T: Copy> {
+    items: Vec<T>,
+    none: T,
+    /// Whether memory was refused.
+    pub is_refused: bool,
+}
+
+impl<T: Copy> List<T> {
+    /// An empty list.
+    pub fn new(alloc: Global, none: T) -> List<T> {
+        List {
+            items: Vec::new(alloc),
+            none,
+            is_refused: false,
+        }
+    }
+
+    /// So many times `none`.
+    pub fn filled(alloc: Global, count: usize, none: T) -> List<T> {
+        let items = vec![in alloc; none; count].unwrap_or(Vec::new(alloc));
+        List {
+            is_refused: items.len() != count,
+            items,
+            none,
+        }
+    }
+
+    /// How many items there are.
+    pub fn len(&self) -> usize {
+        self.items.len()
+    }
+
+    /// The item at a place.
+    pub fn at(&self, i: usize) -> T {
+        self.items.get(i).copied().unwrap_or(self.none)
+    }
+
+    /// The item at a place, counted from the end.
+    pub fn from_end(&self, i: usize) -> T {
+        self.at(self.items.len().wrapping_sub(1).wrapping_sub(i))
+    }
+
+    /// Adds an item.
+    pub fn push(&mut self, item: T) {
+        self.is_refused |= self.items.push(item).is_err();
+    }
+
+    /// Takes the last item away.
+    pub fn pop(&mut self) -> T {
+        self.items.pop().unwrap_or(self.none)
+    }
+
+    /// Writes an item at a place that there is.
+    pub fn put(&mut self, i: usize, item: T) {
+        if let Some(place) = self.items.get_mut(i) {
+            *place = item;
+        }
+    }
+
+    /// Writes `none` at each place.
+    pub fn blank(&mut self) {
+        for place in &mut self.items {
+            *place = self.none;
+        }
+    }
+
+    /// Takes away all items from a place on.
+    pub fn cut(&mut self, length: usize) {
+        self.items.truncate(length);
+    }
+
+    /// All items.
+    ///
+    /// Errors: out of memory only.
+    pub fn into_items(self) -> Result<Vec<T>, NoMemory> {
+        if self.is_refused {
+            return Err(NoMemory);
+        }
+        Ok(self.items)
+    }
+}
