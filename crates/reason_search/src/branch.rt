@@ -1,6 +1,5 @@
 //! A branch of the search: the answers on it, what follows from them, and a trail by which it is undone.
 
-use crate::edges::fill_rows;
 use crate::facts::{Answer, Edge, Fact, NO_EDGE, NO_FACT};
 use crate::lists::{List, NONE};
 use crate::problem::{Problem, Relations};
@@ -181,11 +180,9 @@ pub fn look_at_readers(branch: &mut Branch, loc: usize) {
 pub fn make_branch(alloc: Global, problem: Problem) -> Branch {
     let size = problem.size;
     let cells = cells_of(&problem);
-    let mut rows = Rows::new(alloc, size.wrapping_mul(7), size);
-    fill_rows(&mut rows, &problem);
     let mut branch = Branch {
+        rows: Rows::new(alloc, size.wrapping_mul(7), size),
         problem,
-        rows,
         trail: List::new(alloc, Change::Removed(NONE)),
         facts: List::new(alloc, NO_FACT),
         edges: List::new(alloc, NO_EDGE),

@@ -5,8 +5,8 @@ use crate::branch::{
 };
 use crate::facts::{Edge, Link};
 use crate::lists::NONE;
-use crate::problem::{Problem, Relations};
-use crate::rows::{Rows, bit, lowest, rest};
+use crate::problem::Relations;
+use crate::rows::{bit, lowest, rest};
 
 /// A row, and a number that belongs to it as well.
 #[derive(Clone, Copy)]
@@ -116,11 +116,16 @@ pub fn put_before(branch: &mut Branch, a: usize, b: usize, tried: bool) -> bool 
     add_edge(branch, Relations::Coherence, link) && add_edges(branch, link)
 }
 
-/// Writes to one location stand in coherence as they stand in their program.
-pub fn put_program_order(branch: &mut Branch) {
-    for a in branch.problem.locations..branch.problem.size {
-        if branch.problem.events.at(a).writes {
-            put_before_later(branch, a);
+/// What the program alone tells of a relation, from the last event on: what is after a later one is known then.
+fn spread_program(branch: &mut Branch, relations: Relations) {
+    let mut a = branch.problem.size;
+    for _event in 0..branch.problem.size {
+        a = a.wrapping_sub(1);
+        let row = branch.problem.row(relations, a);
+        for b in a..branch.problem.size {
+            if branch.problem.program.has(row, b) && !branch.is_known(relations, a, b) {
+                spread(branch, relations, a, b);
+            }
         }
     }
 }
@@ -129,37 +134,29 @@ pub fn put_program_order(branch: &mut Branch) {
 fn put_before_later(branch: &mut Branch, a: usize) {
     let loc = branch.problem.location(a);
     let row = branch.problem.row(Relations::OnLocation, a);
-    let mut b = branch.problem.program.next(row, a);
-    for _event in a..branch.problem.size {
-        if b == NONE {
-            break;
-        }
-        if branch.problem.is_write_to(loc, b) {
+    for b in a..branch.problem.size {
+        if branch.problem.program.has(row, b) && branch.problem.is_write_to(loc, b) {
             let _open = put_before(branch, a, b, false);
         }
-        b = branch.problem.program.next(row, b.wrapping_add(1));
     }
 }
 
-/// Fills the rows with what the program alone tells.
-pub fn fill_rows(rows: &mut Rows, problem: &Problem) {
-    let size = problem.size;
-    for row in 0..size.wrapping_mul(3) {
-        rows.join(row, &problem.program, row);
-    }
-    // What the program tells of coherence is closed. Edges of the program lead to greater numbers.
-    rows.close_over(0, size);
-    rows.close_over(size, size);
-    for relations in 0..3usize {
-        let first = relations.wrapping_mul(size);
-        rows.turn_over(first, size.wrapping_mul(3).wrapping_add(first), size);
-    }
-    for r in problem.locations..size {
-        let event = problem.events.at(r);
+/// Puts what the program alone tells on a branch that has nothing yet.
+pub fn put_program(branch: &mut Branch) {
+    spread_program(branch, Relations::OnLocation);
+    spread_program(branch, Relations::Global);
+    spread_program(branch, Relations::Coherence);
+    for a in branch.problem.locations..branch.problem.size {
+        let event = branch.problem.events.at(a);
+        if event.writes {
+            put_before_later(branch, a);
+        }
         if event.reads {
-            let row = size.wrapping_mul(6).wrapping_add(r);
-            rows.join(row, &problem.writes_to, event.location);
-            rows.add(row, event.location);
+            let row = branch.candidates(a);
+            branch
+                .rows
+                .join(row, &branch.problem.writes_to, event.location);
+            branch.rows.add(row, event.location);
         }
     }
 }

@@ -4,7 +4,7 @@
 use crate::branch::{Branch, Mark, look_at, look_at_all, make_branch, mark_here, undo};
 use crate::chance::{Chance, first_chance};
 use crate::choosing::{Ask, choose};
-use crate::edges::{put_before, put_program_order};
+use crate::edges::{put_before, put_program};
 use crate::growing::clear_trees;
 use crate::lists::NONE;
 use crate::looking::{deduce, put_source};
@@ -59,7 +59,7 @@ pub fn make_hunt(alloc: Global, test: &Test, events: &[Entry], model: Model) -> 
     let most = most_facts(&problem);
     let desk = make_desk(alloc, problem.size, most);
     let mut branch = make_branch(alloc, problem);
-    put_program_order(&mut branch);
+    put_program(&mut branch);
     let start = mark_here(&branch);
     Hunt {
         start,

@@ -187,15 +187,14 @@ fn note_earlier(branch: &mut Branch, r: usize) {
 fn note_parted(branch: &mut Branch, r: usize) {
     note_earlier(branch, r);
     branch.earlier.clear(1);
+    let mut w = branch.earlier.next(0, 0);
     for _write in 0..branch.problem.size {
-        let w = branch.earlier.last(0);
         if w == NONE {
             break;
         }
         let before = branch.before(Relations::Coherence, w);
         branch.earlier.join(1, &branch.rows, before);
-        branch.earlier.leave_out(0, &branch.rows, before);
-        branch.earlier.remove(0, w);
+        w = branch.earlier.next(0, w.wrapping_add(1));
     }
 }
 
@@ -278,7 +277,7 @@ fn look_at_open(branch: &mut Branch, r: usize) -> bool {
     match branch.rows.count(row) {
         0 => close(branch, Conflict::NoSource, r),
         1 => {
-            let only = branch.rows.first(row);
+            let only = branch.rows.next(row, 0);
             put_source(branch, r, only, false)
         }
         _ => true,
@@ -349,7 +348,7 @@ fn look_at_one(branch: &mut Branch, a: usize) -> bool {
 
 /// The next event that is to be looked at.
 fn take_dirty(branch: &mut Branch) -> usize {
-    let next = branch.dirty.first(0);
+    let next = branch.dirty.next(0, 0);
     branch.dirty.remove(0, next);
     next
 }

@@ -28,13 +28,6 @@ pub fn lowest(k: usize, bits: u64) -> usize {
         .wrapping_add(bits.trailing_zeros() as usize)
 }
 
-/// The greatest number of a word that isn't empty, where the word is the `k`-th of its row.
-pub fn highest(k: usize, bits: u64) -> usize {
-    k.wrapping_mul(64)
-        .wrapping_add(63)
-        .wrapping_sub(bits.leading_zeros() as usize)
-}
-
 /// The word without its lowest number.
 pub fn rest(bits: u64) -> u64 {
     bits & bits.wrapping_sub(1)
@@ -96,17 +89,6 @@ impl Rows {
         sum
     }
 
-    /// The lowest number of a row, and `NONE` where it has none.
-    pub fn first(&self, row: usize) -> usize {
-        for k in 0..self.width {
-            let bits = self.word(row, k);
-            if bits != 0 {
-                return lowest(k, bits);
-            }
-        }
-        NONE
-    }
-
     /// The lowest number of a row from this one on, and `NONE` where it has none.
     pub fn next(&self, row: usize, from: usize) -> usize {
         let start = from / 64;
@@ -120,22 +102,9 @@ impl Rows {
         NONE
     }
 
-    /// The greatest number of a row, and `NONE` where it has none.
-    pub fn last(&self, row: usize) -> usize {
-        let mut k = self.width;
-        for _word in 0..self.width {
-            k = k.wrapping_sub(1);
-            let bits = self.word(row, k);
-            if bits != 0 {
-                return highest(k, bits);
-            }
-        }
-        NONE
-    }
-
     /// Whether a row has no number.
     pub fn is_empty(&self, row: usize) -> bool {
-        self.first(row) == NONE
+        self.next(row, 0) == NONE
     }
 
     /// Makes a row empty.
@@ -149,64 +118,6 @@ impl Rows {
     pub fn join(&mut self, row: usize, others: &Rows, other: usize) {
         for k in 0..self.width {
             self.put_word(row, k, self.word(row, k) | others.word(other, k));
-        }
-    }
-
-    /// Adds to each of so many rows, from one on, what stands in the rows of its numbers, which are all greater than its own.
-    pub fn close_over(&mut self, first: usize, size: usize) {
-        let mut i = size;
-        for _row in 0..size {
-            i = i.wrapping_sub(1);
-            self.close_one(first, first.wrapping_add(i));
-        }
-    }
-
-    /// Adds to a row what stands in the rows of its numbers, which have all that stands in the rows of theirs.
-    fn close_one(&mut self, first: usize, row: usize) {
-        let mut joined = NONE;
-        let mut i = self.next(row, 0);
-        for _number in 0..self.width.wrapping_mul(64) {
-            if i == NONE {
-                break;
-            }
-            if joined == NONE || !self.has(joined, i) {
-                joined = first.wrapping_add(i);
-                self.join_own(row, joined);
-            }
-            i = self.next(row, i.wrapping_add(1));
-        }
-    }
-
-    /// Adds to each of so many rows, from `into` on, the numbers of the rows from `first` on that have its number.
-    pub fn turn_over(&mut self, first: usize, into: usize, size: usize) {
-        for i in 0..size {
-            self.turn_one(first.wrapping_add(i), into, i);
-        }
-    }
-
-    /// Adds a number to each of some rows, from `into` on: those whose numbers stand in this row.
-    fn turn_one(&mut self, row: usize, into: usize, number: usize) {
-        let mut i = self.next(row, 0);
-        for _number in 0..self.width.wrapping_mul(64) {
-            if i == NONE {
-                break;
-            }
-            self.add(into.wrapping_add(i), number);
-            i = self.next(row, i.wrapping_add(1));
-        }
-    }
-
-    /// Takes out of a row all of a row of others.
-    pub fn leave_out(&mut self, row: usize, others: &Rows, other: usize) {
-        for k in 0..self.width {
-            self.put_word(row, k, self.word(row, k) & !others.word(other, k));
-        }
-    }
-
-    /// Adds to a row all of another one.
-    pub fn join_own(&mut self, row: usize, other: usize) {
-        for k in 0..self.width {
-            self.put_word(row, k, self.word(row, k) | self.word(other, k));
         }
     }
 }

@@ -114,7 +114,7 @@ fn guided_step(
     requires sound { IsSound test.now (known_of answers.now) }
     ensures { IfOk result (IsSearchStep model test.now (known_of answers.now)) }
 {
-    if let Some(node) = propose(alloc, guide, answers)? {
+    if let Some(node) = propose(alloc, guide)? {
         if let Some(step) = take_proposal(alloc, test, events, model, answers, node)? {
             return Ok(step);
         }
