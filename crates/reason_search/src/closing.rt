@@ -1,10 +1,9 @@
 //! The tree of a reason: a leaf, with questions above it where the definition wants answers that only follow.
 
 use crate::branch::Branch;
-use crate::evidence::{Closing, reset, use_facts, visit};
-use crate::facts::Order;
+use crate::evidence::{Closing, reset, use_facts};
+use crate::facts::Turned;
 use crate::growing::{Growth, add_cycle, add_leaf, add_question, put_branch};
-use crate::lists::NONE;
 use crate::offers::{Desk, show_order};
 
 /// The question which of two writes comes first, with the tree of the other order and of this one.
@@ -15,26 +14,10 @@ pub fn ask_order(desk: &mut Desk, a: usize, b: usize, other: usize, tree: usize)
     question
 }
 
-/// The leaf of the cycle in hand.
-fn add_trial(desk: &mut Desk) -> usize {
+/// The leaf in hand, a cycle.
+pub fn add_trial(desk: &mut Desk) -> usize {
     use_facts(&desk.trial, &mut desk.used);
     add_cycle(&mut desk.trees, &desk.trial)
-}
-
-/// A question for a pair that follows from a chain, above a tree: the other order is a cycle.
-fn add_pair_above(
-    branch: &Branch,
-    desk: &mut Desk,
-    order: Order,
-    limit: usize,
-    tree: usize,
-) -> usize {
-    reset(&mut desk.trial, Closing::OnLocation);
-    visit(&mut desk.trial, order.first);
-    show_order(branch, desk, order.first, order.second, limit);
-    visit(&mut desk.trial, order.second);
-    let cycle = add_trial(desk);
-    ask_order(desk, order.first, order.second, cycle, tree)
 }
 
 /// Whether an answer above says that one write is before another one; it is used then.
@@ -50,52 +33,53 @@ fn is_used(branch: &Branch, desk: &mut Desk, a: usize, b: usize) -> bool {
     true
 }
 
-/// The tree of a write between two parts, with the pairs that only follow from chains. That this order is turned is supposed.
-fn add_between_tree(
+/// A tree that goes by an order. Where no answer says it, and it isn't the one that is turned, it follows from a chain: then the
+/// question stands above the tree, and the other order is a cycle.
+fn add_pair_above(
     branch: &Branch,
     desk: &mut Desk,
-    s: usize,
-    limit: usize,
-    turned: Order,
+    turned: Turned,
+    a: usize,
+    b: usize,
+    tree: usize,
 ) -> usize {
+    if a == turned.second && b == turned.first || is_used(branch, desk, a, b) {
+        return tree;
+    }
+    reset(&mut desk.trial, Closing::OnLocation);
+    desk.trial.cycle.push(a);
+    show_order(branch, desk, a, b, turned.edges);
+    desk.trial.cycle.push(b);
+    let cycle = add_trial(desk);
+    ask_order(desk, a, b, cycle, tree)
+}
+
+/// The tree of a write between two parts, the first of which reads from `s`, with the pairs that only follow from chains.
+fn add_between_tree(branch: &Branch, desk: &mut Desk, s: usize, turned: Turned) -> usize {
     let r = desk.best.cycle.at(0);
     let v = desk.best.cycle.at(1);
     let own = desk.best.cycle.at(2);
-    let mut tree = add_leaf(&mut desk.trees, Growth::Between(r, v, own));
-    let (first, second) = (turned.first, turned.second);
-    if !(v == second && own == first || is_used(branch, desk, v, own)) {
-        let below = Order {
-            first: v,
-            second: own,
-        };
-        tree = add_pair_above(branch, desk, below, limit, tree);
-    }
-    if !(s == second && v == first || is_used(branch, desk, s, v)) {
-        let above = Order {
-            first: s,
-            second: v,
-        };
-        tree = add_pair_above(branch, desk, above, limit, tree);
-    }
-    tree
+    let leaf = add_leaf(&mut desk.trees, Growth::Between(r, v, own));
+    let tree = add_pair_above(branch, desk, turned, v, own, leaf);
+    add_pair_above(branch, desk, turned, s, v, tree)
 }
 
-/// The tree of the best reason, for a read of `s`, or where this order is supposed to be turned; what it uses is used then.
-pub fn add_best(branch: &Branch, desk: &mut Desk, limit: usize, s: usize, turned: Order) -> usize {
+/// The tree of the best reason, for a read of `s`, or where this order is supposed to be turned; what it uses is used then. Where
+/// there is no reason, all answers are used.
+pub fn add_best(branch: &Branch, desk: &mut Desk, s: usize, turned: Turned) -> usize {
     use_facts(&desk.best, &mut desk.used);
     match desk.best.closing {
-        Closing::None | Closing::False => add_leaf(&mut desk.trees, Growth::False),
         Closing::OnLocation | Closing::Global => add_cycle(&mut desk.trees, &desk.best),
-        Closing::Between => add_between_tree(branch, desk, s, limit, turned),
+        Closing::Between => add_between_tree(branch, desk, s, turned),
+        Closing::False => add_leaf(&mut desk.trees, Growth::False),
+        Closing::None => add_false(desk),
     }
 }
 
-/// The tree of the best reason why a read can't have a source.
-pub fn add_best_source(branch: &Branch, desk: &mut Desk, r: usize, s: usize) -> usize {
-    let limit = branch.edges_at(r, s);
-    let none = Order {
-        first: NONE,
-        second: NONE,
-    };
-    add_best(branch, desk, limit, s, none)
+/// A leaf where no reason is found: all answers above are used.
+pub fn add_false(desk: &mut Desk) -> usize {
+    for fact in 0..desk.above {
+        desk.used.add(0, fact);
+    }
+    add_leaf(&mut desk.trees, Growth::False)
 }

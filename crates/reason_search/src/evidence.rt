@@ -49,23 +49,6 @@ pub fn reset(evidence: &mut Evidence, closing: Closing) {
     evidence.cost = NONE;
 }
 
-/// Whether there is a leaf.
-pub fn is_found(evidence: &Evidence) -> bool {
-    !matches!(evidence.closing, Closing::None)
-}
-
-/// Adds an event to the cycle.
-pub fn visit(evidence: &mut Evidence, a: usize) {
-    evidence.cycle.push(a);
-}
-
-/// Adds three events to the cycle.
-pub fn visit_three(evidence: &mut Evidence, a: usize, b: usize, c: usize) {
-    evidence.cycle.push(a);
-    evidence.cycle.push(b);
-    evidence.cycle.push(c);
-}
-
 /// Adds a fact that the leaf uses.
 pub fn need(evidence: &mut Evidence, fact: usize) {
     if fact != NONE {

@@ -35,11 +35,13 @@ pub struct Edge {
     pub next: usize,
 }
 
-/// One event, and another one that comes after it.
+/// An order of two writes, with the number of the fact that tells it, and of the edges before that: why can't it be the other one?
 #[derive(Clone, Copy)]
-pub struct Order {
+pub struct Turned {
     pub first: usize,
     pub second: usize,
+    pub fact: usize,
+    pub edges: usize,
 }
 
 /// What stands where there is no fact.

@@ -2,15 +2,13 @@
 //! answers.
 
 use crate::branch::Branch;
-use crate::evidence::{
-    Closing, Evidence, lacks_memory, make_evidence, need, reset, visit, visit_three, weigh,
-};
-use crate::facts::{Edge, Order};
+use crate::evidence::{Closing, Evidence, lacks_memory, make_evidence, need, reset, weigh};
+use crate::facts::{Edge, Link, Turned};
 use crate::growing::{Trees, are_refused, no_trees};
 use crate::lists::{List, NONE};
 use crate::looking::is_before_source;
 use crate::paths::{
-    Edges, Paths, begin, find, lack_memory, make_paths, start_from, start_from_later,
+    Edges, Paths, begin, find, first_edges, lack_memory, make_paths, start_from, start_from_later,
 };
 use crate::problem::Relations;
 use crate::rows::Rows;
@@ -69,11 +67,12 @@ pub fn make_desk(alloc: Global, size: usize, facts: usize) -> Desk {
 fn need_order(branch: &Branch, desk: &mut Desk, a: usize, b: usize, limit: usize) {
     begin(&mut desk.inner);
     start_from(&mut desk.inner, a);
-    let edges = Edges {
-        relations: Relations::Coherence,
-        limit,
-    };
-    if find(branch, &mut desk.inner, edges, b) {
+    if find(
+        branch,
+        &mut desk.inner,
+        first_edges(Relations::Coherence, limit),
+        b,
+    ) {
         for i in 0..desk.inner.events.len() {
             let edge = branch.edges.at(desk.inner.edges.at(i));
             need(&mut desk.trial, edge.link.fact);
@@ -85,7 +84,7 @@ fn need_order(branch: &Branch, desk: &mut Desk, a: usize, b: usize, limit: usize
 pub fn show_order(branch: &Branch, desk: &mut Desk, a: usize, b: usize, limit: usize) {
     need_order(branch, desk, a, b, limit);
     for i in 1..desk.inner.events.len() {
-        visit(&mut desk.trial, desk.inner.events.from_end(i));
+        desk.trial.cycle.push(desk.inner.events.from_end(i));
     }
 }
 
@@ -98,15 +97,16 @@ fn need_edge(branch: &Branch, desk: &mut Desk, edge: Edge, limit: usize) {
     }
 }
 
-/// Adds the path that was found, without its end.
-fn follow(branch: &Branch, desk: &mut Desk) {
+/// Adds the path that was found.
+fn follow(branch: &Branch, desk: &mut Desk, to: usize) {
     for i in 0..desk.paths.events.len() {
-        visit(&mut desk.trial, desk.paths.events.from_end(i));
+        desk.trial.cycle.push(desk.paths.events.from_end(i));
         let limit = desk.paths.edges.from_end(i);
         if limit != NONE {
             need_edge(branch, desk, branch.edges.at(limit), limit);
         }
     }
+    desk.trial.cycle.push(to);
 }
 
 /// What kind of leaf a cycle of these relations is.
@@ -120,18 +120,15 @@ fn closing_of(relations: Relations) -> Closing {
 /// Takes in hand the leaf of a cycle that an edge closes.
 pub fn close_cycle(branch: &Branch, desk: &mut Desk, edge: Edge) {
     let limit = branch.edges.len();
-    let edges = Edges {
-        relations: edge.relations,
-        limit,
-    };
-    reset(&mut desk.trial, closing_of(edge.relations));
-    begin(&mut desk.paths);
-    start_from(&mut desk.paths, edge.link.to);
-    if edge.link.to == edge.link.from || find(branch, &mut desk.paths, edges, edge.link.from) {
-        follow(branch, desk);
-        visit(&mut desk.trial, edge.link.from);
-        need_edge(branch, desk, edge, limit);
+    let edges = first_edges(edge.relations, limit);
+    let Link { from, to, .. } = edge.link;
+    if to == from {
+        reset(&mut desk.trial, closing_of(edge.relations));
+        desk.trial.cycle.push(from);
+    } else if !take_path(branch, desk, edges, to, from) {
+        return;
     }
+    need_edge(branch, desk, edge, limit);
 }
 
 /// Offers the leaf in hand, which counts as so long: the better one is the best then.
@@ -154,8 +151,7 @@ fn take_cycle(branch: &Branch, desk: &mut Desk, edges: Edges, to: usize) -> bool
         return false;
     }
     reset(&mut desk.trial, closing_of(edges.relations));
-    follow(branch, desk);
-    visit(&mut desk.trial, to);
+    follow(branch, desk, to);
     true
 }
 
@@ -170,58 +166,26 @@ fn take_path(branch: &Branch, desk: &mut Desk, edges: Edges, from: usize, to: us
 fn offer_write_between(desk: &mut Desk, r: usize, v: usize, own: usize) {
     desk.trial.closing = Closing::Between;
     desk.trial.cycle.cut(0);
-    visit_three(&mut desk.trial, r, v, own);
+    desk.trial.cycle.push(r);
+    desk.trial.cycle.push(v);
+    desk.trial.cycle.push(own);
     offer(desk, 6);
 }
 
-/// Offers a cycle: the path from one end to the other, and the edge back, which follows from a fact or from what is supposed.
-fn offer_path(branch: &Branch, desk: &mut Desk, edges: Edges, ends: Order, fact: usize) {
-    if take_path(branch, desk, edges, ends.first, ends.second) {
+/// Offers the cycle of a path between two events, and of the edge back, which a fact tells, or which is supposed.
+fn offer_path(branch: &Branch, desk: &mut Desk, edges: Edges, from: usize, to: usize, fact: usize) {
+    if take_path(branch, desk, edges, from, to) {
         need(&mut desk.trial, fact);
         offer_cycle(desk);
     }
 }
 
-/// The same of both relations.
-fn offer_paths(branch: &Branch, desk: &mut Desk, ends: Order, limit: usize, fact: usize) {
-    offer_path(branch, desk, on_location(limit), ends, fact);
-    offer_path(branch, desk, global(limit), ends, fact);
-}
-
-fn on_location(limit: usize) -> Edges {
-    Edges {
-        relations: Relations::OnLocation,
-        limit,
-    }
-}
-
-fn global(limit: usize) -> Edges {
-    Edges {
-        relations: Relations::Global,
-        limit,
-    }
-}
-
-fn coherence(limit: usize) -> Edges {
-    Edges {
-        relations: Relations::Coherence,
-        limit,
-    }
-}
-
-/// Offers a cycle where the read is before the source.
-fn offer_back(branch: &Branch, desk: &mut Desk, edges: Edges, r: usize, s: usize) {
+/// Offers the reasons by the order of one relation why a read can't have a source: it is before the source, or after a write that is
+/// after the source.
+fn offer_orders(branch: &Branch, desk: &mut Desk, edges: Edges, r: usize, s: usize) {
     if is_before_source(branch, edges.relations, r, s) {
-        let ends = Order {
-            first: r,
-            second: s,
-        };
-        offer_path(branch, desk, edges, ends, NONE);
+        offer_path(branch, desk, edges, r, s, NONE);
     }
-}
-
-/// Offers a cycle by from-reads: from a write after the source to the read, and back.
-fn offer_from_reads(branch: &Branch, desk: &mut Desk, edges: Edges, r: usize, s: usize) {
     start_from_later(branch, &mut desk.paths, s, edges.limit);
     if take_cycle(branch, desk, edges, r) {
         let first = desk.trial.cycle.at(0);
@@ -230,8 +194,8 @@ fn offer_from_reads(branch: &Branch, desk: &mut Desk, edges: Edges, r: usize, s:
     }
 }
 
-/// Begins with the writes of other cores after a source that are known to be before the read's store part.
-fn start_between(branch: &Branch, desk: &mut Desk, r: usize, s: usize, limit: usize) {
+/// Offers a write of another core between the source of a load part and its store part.
+fn offer_between(branch: &Branch, desk: &mut Desk, r: usize, s: usize, limit: usize) {
     let own = branch.problem.partner(r);
     start_from_later(branch, &mut desk.inner, s, limit);
     begin(&mut desk.paths);
@@ -243,20 +207,14 @@ fn start_between(branch: &Branch, desk: &mut Desk, r: usize, s: usize, limit: us
             start_from(&mut desk.paths, x);
         }
     }
-}
-
-/// Offers a write between the source of a load part and its store part.
-fn offer_between(branch: &Branch, desk: &mut Desk, r: usize, s: usize, limit: usize) {
-    let own = branch.problem.partner(r);
-    start_between(branch, desk, r, s, limit);
-    if take_cycle(branch, desk, coherence(limit), own) {
+    if take_cycle(branch, desk, first_edges(Relations::Coherence, limit), own) {
         let x = desk.trial.cycle.at(0);
         need_order(branch, desk, s, x, limit);
         offer_write_between(desk, r, x, own);
     }
 }
 
-/// Takes in hand that what is asked is false by the values that answers tell. False where it isn't.
+/// Takes in hand that what is asked is false by the values that are known. False where it isn't.
 pub fn take_false(branch: &mut Branch, desk: &mut Desk, known: Known) -> bool {
     find_values(branch, known);
     if !is_false(branch, known) {
@@ -267,7 +225,7 @@ pub fn take_false(branch: &mut Branch, desk: &mut Desk, known: Known) -> bool {
     true
 }
 
-/// Offers that what is asked is false by the values that are set.
+/// Offers that what is asked is false by the values that are known.
 fn offer_false(branch: &mut Branch, desk: &mut Desk, known: Known) {
     if take_false(branch, desk, known) {
         offer(desk, 0);
@@ -276,98 +234,99 @@ fn offer_false(branch: &mut Branch, desk: &mut Desk, known: Known) {
 
 /// Finds the best reason why a read can't have a source.
 pub fn find_why_not(branch: &mut Branch, desk: &mut Desk, r: usize, s: usize) {
-    reset(&mut desk.best, Closing::None);
+    let limit = branch.edges_at(r, s);
     let known = Known {
         read: r,
         source: s,
         ..known_facts(branch.removed_at(r, s))
     };
+    reset(&mut desk.best, Closing::None);
     offer_false(branch, desk, known);
-    offer_orders(branch, desk, r, s);
-}
-
-/// Offers the reasons by order why a read can't have a source.
-pub fn offer_orders(branch: &Branch, desk: &mut Desk, r: usize, s: usize) {
-    let limit = branch.edges_at(r, s);
-    offer_back(branch, desk, on_location(limit), r, s);
-    offer_back(branch, desk, global(limit), r, s);
-    offer_from_reads(branch, desk, on_location(limit), r, s);
-    offer_from_reads(branch, desk, global(limit), r, s);
+    offer_orders(
+        branch,
+        desk,
+        first_edges(Relations::OnLocation, limit),
+        r,
+        s,
+    );
+    offer_orders(branch, desk, first_edges(Relations::Global, limit), r, s);
     if branch.problem.partner(r) != NONE {
         offer_between(branch, desk, r, s, limit);
     }
 }
 
+/// Offers a cycle of each relation: the path from one event to another one, and the edge back.
+fn offer_paths(branch: &Branch, desk: &mut Desk, turned: Turned, to: usize, fact: usize) {
+    let from = turned.first;
+    offer_path(
+        branch,
+        desk,
+        first_edges(Relations::OnLocation, turned.edges),
+        from,
+        to,
+        fact,
+    );
+    offer_path(
+        branch,
+        desk,
+        first_edges(Relations::Global, turned.edges),
+        from,
+        to,
+        fact,
+    );
+}
+
 /// Finds the best reason why an order that a fact tells can't be turned.
-pub fn find_why_before(
-    branch: &mut Branch,
-    desk: &mut Desk,
-    order: Order,
-    fact: usize,
-    limit: usize,
-) {
-    let loc = branch.problem.location(order.first);
+pub fn find_why_before(branch: &mut Branch, desk: &mut Desk, turned: Turned) {
+    let loc = branch.problem.location(turned.first);
     reset(&mut desk.best, Closing::None);
-    offer_paths(branch, desk, order, limit, NONE);
+    offer_paths(branch, desk, turned, turned.second, NONE);
     if branch.problem.relevant.has(0, loc) {
         let known = Known {
-            first: order.second,
-            ..known_facts(fact)
+            first: turned.second,
+            ..known_facts(turned.fact)
         };
         offer_false(branch, desk, known);
     }
     for r in branch.problem.locations..branch.problem.size {
-        if branch.source.at(r) < fact && branch.problem.location(r) == loc {
-            offer_read(branch, desk, order, r, limit);
+        if branch.source.at(r) < turned.fact && branch.problem.location(r) == loc {
+            offer_read(branch, desk, turned, r);
         }
     }
 }
 
 /// Offers the reasons by a read of their location why an order can't be turned.
-fn offer_read(branch: &Branch, desk: &mut Desk, order: Order, r: usize, limit: usize) {
-    let (a, b) = (order.first, order.second);
+fn offer_read(branch: &Branch, desk: &mut Desk, turned: Turned, r: usize) {
+    let (a, b) = (turned.first, turned.second);
     let own = branch.problem.partner(r);
     let s = branch.source_of(r);
     if s == b {
         // b before a: r is before a
-        let ends = Order {
-            first: a,
-            second: r,
-        };
-        offer_paths(branch, desk, ends, limit, branch.source.at(r));
-    }
-    if own == NONE {
-        return;
-    }
-    if s == b && a != own {
-        let ends = Order {
-            first: a,
-            second: own,
-        };
-        offer_parts(branch, desk, ends, r, limit);
-    } else if own == a && s != b {
-        let ends = Order {
-            first: s,
-            second: b,
-        };
-        offer_parts(branch, desk, ends, r, limit);
+        offer_paths(branch, desk, turned, r, branch.source.at(r));
+        if own != NONE && own != a {
+            offer_parts(branch, desk, turned, r, a, a, own);
+        }
+    } else if own == a {
+        offer_parts(branch, desk, turned, r, b, s, b);
     }
 }
 
-/// Offers a write of another core between the parts of a locked instruction, where one write is known to be before another one. It is
-/// the one of these two that isn't the store part; where neither is, the second.
-fn offer_parts(branch: &Branch, desk: &mut Desk, ends: Order, r: usize, limit: usize) {
-    let own = branch.problem.partner(r);
-    let between = if ends.second == own {
-        ends.first
-    } else {
-        ends.second
-    };
-    if branch.is_known(Relations::Coherence, ends.first, ends.second)
+/// Offers a write of another core between the parts of a locked instruction, where one write is known to be before another one.
+fn offer_parts(
+    branch: &Branch,
+    desk: &mut Desk,
+    turned: Turned,
+    r: usize,
+    between: usize,
+    from: usize,
+    to: usize,
+) {
+    let edges = first_edges(Relations::Coherence, turned.edges);
+    if branch.is_known(Relations::Coherence, from, to)
         && branch.problem.core(between) != branch.problem.core(r)
-        && take_path(branch, desk, coherence(limit), ends.first, ends.second)
+        && take_path(branch, desk, edges, from, to)
     {
         need(&mut desk.trial, branch.source.at(r));
-        offer_write_between(desk, r, between, own);
+        offer_write_between(desk, r, between, branch.problem.partner(r));
     }
 }

@@ -13,6 +13,11 @@ pub struct Edges {
     pub limit: usize,
 }
 
+/// The edges of a relation, of those that answers tell the first so many.
+pub fn first_edges(relations: Relations, limit: usize) -> Edges {
+    Edges { relations, limit }
+}
+
 /// A search for paths: by which event and which edge each event was reached, and the path that was found.
 #[derive(Drop)]
 pub struct Paths {
@@ -157,10 +162,7 @@ pub fn find(branch: &Branch, paths: &mut Paths, edges: Edges, to: usize) -> bool
 pub fn start_from_later(branch: &Branch, paths: &mut Paths, s: usize, limit: usize) {
     begin(paths);
     paths.queue.push(s);
-    let edges = Edges {
-        relations: Relations::Coherence,
-        limit,
-    };
+    let edges = first_edges(Relations::Coherence, limit);
     let _all = reach_all(branch, paths, edges, NONE);
     paths.starts.join(0, &paths.seen, 0);
     paths.next = 1;

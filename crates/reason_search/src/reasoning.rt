@@ -2,34 +2,27 @@
 //! that follows.
 
 use crate::branch::{Branch, Conflict};
-use crate::closing::{add_best, add_best_source, ask_order};
-use crate::evidence::{is_found, use_facts};
-use crate::facts::{Answer, Edge, Fact, Order};
-use crate::growing::{Growth, add_cycle, add_leaf, add_question, put_branch};
+use crate::closing::{add_best, add_false, add_trial, ask_order};
+use crate::evidence::use_facts;
+use crate::facts::{Answer, Edge, Fact, Turned};
+use crate::growing::{Growth, add_leaf, add_question, put_branch};
 use crate::lists::NONE;
 use crate::offers::{Desk, close_cycle, find_why_before, find_why_not, take_false};
 use crate::values::known_facts;
 
-/// A leaf where no reason was found: all answers are used.
-fn add_false(desk: &mut Desk) -> usize {
-    for fact in 0..desk.above {
-        desk.used.add(0, fact);
-    }
-    add_leaf(&mut desk.trees, Growth::False)
-}
-
 /// Makes a tree for a source, where there is none, since the read can't have it.
 fn close_source(branch: &mut Branch, desk: &mut Desk, r: usize, s: usize) {
-    if desk.branches.at(s) != NONE {
-        return;
+    if desk.branches.at(s) == NONE {
+        find_why_not(branch, desk, r, s);
+        let nothing = Turned {
+            first: NONE,
+            second: NONE,
+            fact: NONE,
+            edges: branch.edges_at(r, s),
+        };
+        let tree = add_best(branch, desk, s, nothing);
+        desk.branches.put(s, tree);
     }
-    find_why_not(branch, desk, r, s);
-    let tree = if is_found(&desk.best) {
-        add_best_source(branch, desk, r, s)
-    } else {
-        add_false(desk)
-    };
-    desk.branches.put(s, tree);
 }
 
 /// Puts the trees of all sources below a question.
@@ -76,51 +69,43 @@ pub fn add_tried_order(desk: &mut Desk, a: usize, b: usize) -> usize {
     add_order_question(desk, a, b, first, second)
 }
 
-/// The tree where this order, which a fact tells, is turned.
-fn add_other(
-    branch: &mut Branch,
-    desk: &mut Desk,
-    order: Order,
-    fact: usize,
-    edges: usize,
-) -> usize {
-    find_why_before(branch, desk, order, fact, edges);
-    if is_found(&desk.best) {
-        let s = branch.source_of(desk.best.cycle.at(0));
-        add_best(branch, desk, edges, s, order)
-    } else {
-        add_false(desk)
-    }
+/// The tree where the order that a fact tells is turned.
+fn add_other(branch: &mut Branch, desk: &mut Desk, turned: Turned) -> usize {
+    find_why_before(branch, desk, turned);
+    let s = branch.source_of(desk.best.cycle.at(0));
+    add_best(branch, desk, s, turned)
 }
 
-/// The tree where an order follows and an answer says the other one: why that can't be. `NONE` where no answer does.
-fn add_turned(branch: &mut Branch, desk: &mut Desk, number: usize) -> usize {
-    let fact = branch.facts.at(number);
-    let Answer::Before(a, b) = fact.answer else {
-        return NONE;
-    };
-    let known = branch.pair(b, a);
-    if known == NONE || fact.tried {
-        return NONE;
-    }
-    let order = Order {
-        first: a,
-        second: b,
-    };
-    let tree = add_other(branch, desk, order, number, fact.edges);
-    desk.used.add(0, known);
-    tree
-}
-
-/// The tree where an edge closes a cycle.
+/// The tree where an edge closes a cycle. Where its order follows, and an answer says the other one: why that can't be.
 fn add_closed_cycle(branch: &mut Branch, desk: &mut Desk, edge: Edge) -> usize {
-    let tree = add_turned(branch, desk, edge.link.fact);
-    if tree != NONE {
-        return tree;
+    let number = edge.link.fact;
+    let fact = branch.facts.at(number);
+    if let Answer::Before(first, second) = fact.answer {
+        let known = branch.pair(second, first);
+        if known != NONE && !fact.tried {
+            let turned = Turned {
+                first,
+                second,
+                fact: number,
+                edges: fact.edges,
+            };
+            let tree = add_other(branch, desk, turned);
+            desk.used.add(0, known);
+            return tree;
+        }
     }
     close_cycle(branch, desk, edge);
+    add_trial(desk)
+}
+
+/// The leaf where what is asked is false by the values that answers tell.
+fn add_falsity(branch: &mut Branch, desk: &mut Desk) -> usize {
+    let known = known_facts(branch.facts.len());
+    if !take_false(branch, desk, known) {
+        return add_false(desk);
+    }
     use_facts(&desk.trial, &mut desk.used);
-    add_cycle(&mut desk.trees, &desk.trial)
+    add_leaf(&mut desk.trees, Growth::False)
 }
 
 /// The tree of a branch that is closed. What it uses is used then, and nothing else.
@@ -131,16 +116,8 @@ pub fn add_conflict(branch: &mut Branch, desk: &mut Desk) -> usize {
     match branch.conflict {
         Conflict::Cycle => add_closed_cycle(branch, desk, branch.edges.at(branch.clash)),
         Conflict::NoSource => add_source_question(branch, desk, branch.clash),
-        Conflict::False => {
-            let known = known_facts(branch.facts.len());
-            if take_false(branch, desk, known) {
-                use_facts(&desk.trial, &mut desk.used);
-                add_leaf(&mut desk.trees, Growth::False)
-            } else {
-                add_false(desk)
-            }
-        }
-        Conflict::Open => add_leaf(&mut desk.trees, Growth::False),
+        Conflict::False => add_falsity(branch, desk),
+        Conflict::Open => add_false(desk),
     }
 }
 
@@ -153,13 +130,15 @@ fn wrap_one(branch: &mut Branch, desk: &mut Desk, number: usize, fact: Fact, tre
             desk.branches.put(s, tree);
             add_source_question(branch, desk, r)
         }
-        Answer::Before(a, b) => {
-            let order = Order {
-                first: a,
-                second: b,
+        Answer::Before(first, second) => {
+            let turned = Turned {
+                first,
+                second,
+                fact: number,
+                edges: fact.edges,
             };
-            let other = add_other(branch, desk, order, number, fact.edges);
-            add_order_question(desk, a, b, tree, other)
+            let other = add_other(branch, desk, turned);
+            add_order_question(desk, first, second, tree, other)
         }
     }
 }
