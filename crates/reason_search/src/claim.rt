@@ -138,21 +138,16 @@ pub fn parts_of(alloc: Global, problem: &Problem, finals: &List<Term>, test: &Te
     parts
 }
 
-fn is_location_relevant(problem: &Problem, loc: usize) -> bool {
-    for a in 0..problem.size {
-        if problem.relevant.has(0, a) && problem.location(a) == loc {
-            return true;
-        }
-    }
-    false
-}
-
-/// Marks the reads on which the values hang that a location may get. Whether any is new.
-fn mark_written(problem: &mut Problem, loc: usize) -> bool {
+/// Marks the locations of what is marked, and the reads on which the values hang that those may get. Whether any is new.
+fn mark_more(problem: &mut Problem) -> bool {
     let before = problem.relevant.count(0);
-    for w in 0..problem.size {
-        if problem.is_write_to(loc, w) {
-            let term = problem.terms.at(w);
+    for a in 0..problem.size {
+        let loc = problem.location(a);
+        if problem.relevant.has(0, a) {
+            problem.relevant.add(0, loc);
+        }
+        if problem.relevant.has(0, loc) && problem.is_write_to(loc, a) {
+            let term = problem.terms.at(a);
             problem.relevant.add(0, term.first);
             problem.relevant.add(0, term.second);
         }
@@ -160,7 +155,7 @@ fn mark_written(problem: &mut Problem, loc: usize) -> bool {
     problem.relevant.count(0) != before
 }
 
-/// Marks the locations and reads that what is asked names, and the reads on whose values those hang that they may have.
+/// Marks the locations and reads that what is asked names, and those on whose values theirs may hang.
 pub fn mark_relevant(problem: &mut Problem) {
     for i in 0..problem.claim.len() {
         if let Part::Value(r, _) = problem.claim.at(i) {
@@ -169,13 +164,7 @@ pub fn mark_relevant(problem: &mut Problem) {
         }
     }
     for _round in 0..problem.size {
-        let mut changed = false;
-        for loc in 0..problem.locations {
-            if is_location_relevant(problem, loc) && mark_written(problem, loc) {
-                changed = true;
-            }
-        }
-        if !changed {
+        if !mark_more(problem) {
             break;
         }
     }

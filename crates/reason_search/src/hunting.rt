@@ -175,14 +175,7 @@ fn ask_next(hunt: &mut Hunt) -> Next {
     if matches!(ask, Ask::Nothing) {
         return Next::None;
     }
-    let by_chance = hunt.round != 0;
-    let frame = begin(
-        &hunt.branch,
-        &mut hunt.questions,
-        &mut hunt.chance,
-        ask,
-        by_chance,
-    );
+    let frame = begin(&hunt.branch, &mut hunt.questions, ask);
     try_next(&mut hunt.branch, &mut hunt.questions, &frame)
 }
 

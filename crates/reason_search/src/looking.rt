@@ -329,7 +329,7 @@ fn look_at_last(branch: &mut Branch, loc: usize) -> bool {
 
 fn look_at_one(branch: &mut Branch, a: usize) -> bool {
     if branch.problem.is_initial(a) {
-        return !branch.problem.relevant.has(0, a) || look_at_last(branch, a);
+        return !branch.problem.asked.has(0, a) || look_at_last(branch, a);
     }
     let event = branch.problem.events.at(a);
     if event.writes {

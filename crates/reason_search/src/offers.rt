@@ -281,7 +281,7 @@ pub fn find_why_before(branch: &mut Branch, desk: &mut Desk, turned: Turned) {
     let loc = branch.problem.location(turned.first);
     reset(&mut desk.best, Closing::None);
     offer_paths(branch, desk, turned, turned.second, NONE);
-    if branch.problem.relevant.has(0, loc) {
+    if branch.problem.asked.has(0, loc) {
         let known = Known {
             first: turned.second,
             ..known_facts(turned.fact)

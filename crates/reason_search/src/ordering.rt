@@ -3,7 +3,7 @@
 use crate::branch::Branch;
 use crate::lists::{List, NONE};
 use crate::problem::{Event, NO_EVENT, Relations};
-use crate::rows::{Rows, bit};
+use crate::rows::Rows;
 use crate::values::written;
 use std::alloc::Global;
 use tso_model::{Entry, Kind, NoMemory};
@@ -15,36 +15,28 @@ fn is_fence(event: &Event) -> bool {
 /// An order while events are placed.
 #[derive(Drop)]
 struct Placing {
-    /// For each event those that must stand before it.
-    waits: Rows,
     /// One row: the events that are still to come.
     left: Rows,
     order: List<Entry>,
 }
 
-/// Notes what an event must wait for.
-fn find_waits(branch: &Branch, placing: &mut Placing, a: usize) {
+/// Whether one event must stand before another one: in the global order, or as they stand in their program if one is a fence.
+fn must_precede(branch: &Branch, b: usize, a: usize) -> bool {
     let x = branch.problem.events.at(a);
-    let earlier = branch.before(Relations::Global, a);
-    placing.left.add(0, a);
-    placing.waits.join(a, &branch.rows, earlier);
-    let core = usize::from(x.entry.core.0);
-    // The events of a program stand side by side, in its order.
-    for b in branch.problem.events_of.next(core, 0)..a {
-        if is_fence(&x) || is_fence(&branch.problem.events.at(b)) {
-            placing.waits.add(a, b);
-        }
-    }
+    let y = branch.problem.events.at(b);
+    branch.is_known(Relations::Global, b, a)
+        || b < a && y.entry.core.0 == x.entry.core.0 && (is_fence(&x) || is_fence(&y))
 }
 
-/// Whether an event waits for one that is still to come, other than this one.
-fn is_waiting(placing: &Placing, width: usize, a: usize, but: usize) -> bool {
-    let mut waits = 0u64;
-    for k in 0..width {
-        let own = if but / 64 == k { bit(but) } else { 0 };
-        waits |= placing.waits.word(a, k) & placing.left.word(0, k) & !own;
+/// Whether an event waits for one that is still to come, other than its other part.
+fn is_waiting(branch: &Branch, placing: &Placing, a: usize) -> bool {
+    let partner = branch.problem.partner(a);
+    for b in branch.problem.locations..branch.problem.size {
+        if placing.left.has(0, b) && b != partner && must_precede(branch, b, a) {
+            return true;
+        }
     }
-    waits != 0
+    false
 }
 
 /// The value of an event. A fence has 0.
@@ -74,15 +66,14 @@ fn place_ready(branch: &Branch, placing: &mut Placing, a: usize) {
     if !placing.left.has(0, a) {
         return;
     }
-    let width = branch.problem.width;
     let event = branch.problem.events.at(a);
     let is_second = matches!(event.entry.kind, Kind::LW);
-    if is_second || is_waiting(placing, width, a, NONE) {
+    if is_second || is_waiting(branch, placing, a) {
         return;
     }
     if event.partner == NONE {
         place(branch, placing, a);
-    } else if !is_waiting(placing, width, event.partner, a) {
+    } else if !is_waiting(branch, placing, event.partner) {
         place(branch, placing, a);
         place(branch, placing, event.partner);
     }
@@ -107,15 +98,14 @@ fn place_all(branch: &Branch, placing: &mut Placing) {
 pub fn make_order(alloc: Global, branch: &Branch) -> Result<Vec<Entry>, NoMemory> {
     let size = branch.problem.size;
     let mut placing = Placing {
-        waits: Rows::new(alloc, size, size),
         left: Rows::new(alloc, 1, size),
         order: List::new(alloc, NO_EVENT.entry),
     };
-    if placing.waits.is_refused | placing.left.is_refused {
+    if placing.left.is_refused {
         return Err(NoMemory);
     }
     for a in branch.problem.locations..size {
-        find_waits(branch, &mut placing, a);
+        placing.left.add(0, a);
     }
     place_all(branch, &mut placing);
     placing.order.into_items()

@@ -87,7 +87,7 @@ pub struct Problem {
     pub asked: Rows,
     /// One row: the reads on whose values hangs what writes write.
     pub stored: Rows,
-    /// One row: the locations of which something is asked, and the reads on whose values what is asked may hang.
+    /// One row: the reads on whose values what is asked may hang, and their locations.
     pub relevant: Rows,
 }
 
