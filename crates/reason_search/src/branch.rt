@@ -103,11 +103,9 @@ impl Branch {
         self.rows.word(self.before(relations, a), k)
     }
 
-    /// Where an event and a write to its location have their place in a table.
-    fn cell(&self, a: usize, w: usize) -> usize {
-        let places = self.problem.most_writes.wrapping_add(1);
-        a.wrapping_mul(places)
-            .wrapping_add(self.problem.ranks.at(w))
+    /// Where two events have their place in a table.
+    fn cell(&self, a: usize, b: usize) -> usize {
+        a.wrapping_mul(self.problem.size).wrapping_add(b)
     }
 
     /// The fact that says that one write is before another one.
@@ -151,13 +149,6 @@ impl Branch {
     }
 }
 
-/// How many places a table has for each event and each write to its location.
-fn cells_of(problem: &Problem) -> usize {
-    problem
-        .size
-        .wrapping_mul(problem.most_writes.wrapping_add(1))
-}
-
 /// Marks an event as to be looked at.
 pub fn look_at(branch: &mut Branch, a: usize) {
     branch.dirty.add(0, a);
@@ -179,7 +170,7 @@ pub fn look_at_readers(branch: &mut Branch, loc: usize) {
 /// A branch with no answer.
 pub fn make_branch(alloc: Global, problem: Problem) -> Branch {
     let size = problem.size;
-    let cells = cells_of(&problem);
+    let cells = size.wrapping_mul(size);
     let mut branch = Branch {
         rows: Rows::new(alloc, size.wrapping_mul(7), size),
         problem,

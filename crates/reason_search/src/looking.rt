@@ -27,10 +27,24 @@ fn look_at_dependents(branch: &mut Branch, r: usize) {
     }
 }
 
-fn look_at_open_relevant(branch: &mut Branch) {
-    for q in branch.problem.locations..branch.problem.size {
-        if branch.problem.relevant.has(0, q) && branch.source.at(q) == NONE {
-            look_at(branch, q);
+/// Marks the reads with no source on whose values what is asked may hang as to be looked at.
+fn look_at_relevant(branch: &mut Branch) {
+    for r in branch.problem.locations..branch.problem.size {
+        if branch.problem.relevant.has(0, r) && branch.source.at(r) == NONE {
+            look_at(branch, r);
+        }
+    }
+}
+
+/// Marks what the value of a read may change, which has this source now.
+fn look_at_value(branch: &mut Branch, r: usize, w: usize) {
+    if branch.problem.stored.has(0, r) {
+        look_at_dependents(branch, r);
+    }
+    if branch.problem.relevant.has(0, r) {
+        branch.claim_is_dirty = true;
+        if branch.problem.terms.at(w).first != NONE {
+            look_at_relevant(branch);
         }
     }
 }
@@ -44,16 +58,7 @@ pub fn put_source(branch: &mut Branch, r: usize, w: usize, tried: bool) -> bool 
         is_from_read: false,
     };
     look_at(branch, r);
-    if branch.problem.relevant.has(0, r) {
-        branch.claim_is_dirty = true;
-    }
-    if branch.problem.stored.has(0, r) {
-        look_at_dependents(branch, r);
-    }
-    let term = branch.problem.terms.at(w);
-    if branch.problem.relevant.has(0, r) && term.first != NONE {
-        look_at_open_relevant(branch);
-    }
+    look_at_value(branch, r, w);
     add_edge(branch, Relations::OnLocation, link)
         && (!is_global_source(branch, w, r) || add_edge(branch, Relations::Global, link))
 }

@@ -71,10 +71,6 @@ pub struct Problem {
     pub terms: List<Term>,
     /// The writes to each location but the initial one.
     pub writes_to: Rows,
-    /// The most of them that a location has.
-    pub most_writes: usize,
-    /// For each of them its number among those to its location, from 1 on; 0 for initial ones.
-    pub ranks: List<usize>,
     /// The reads of each location, and its initial write.
     pub readers_of: Rows,
     /// The events of each core.
@@ -139,7 +135,6 @@ impl Problem {
             | self.terms.is_refused
             | self.claim.is_refused
             | self.writes_to.is_refused
-            | self.ranks.is_refused
             | self.readers_of.is_refused
             | self.events_of.is_refused
             | self.program.is_refused
@@ -197,21 +192,13 @@ fn add_events(problem: &mut Problem, events: &[Entry]) {
     }
 }
 
-/// Notes that an event writes to a location.
-fn add_write(problem: &mut Problem, loc: usize, a: usize) {
-    problem.writes_to.add(loc, a);
-    let writes = problem.writes_to.count(loc);
-    problem.ranks.put(a, writes);
-    problem.most_writes = problem.most_writes.max(writes);
-}
-
 /// Notes for each location what writes to it and what reads it. Its initial write is before all others.
 fn add_accesses(problem: &mut Problem) {
     for a in 0..problem.size {
         let event = problem.events.at(a);
         let loc = event.location;
         if event.writes {
-            add_write(problem, loc, a);
+            problem.writes_to.add(loc, a);
             problem.add_edge(Relations::OnLocation, loc, a);
             problem.add_edge(Relations::Global, loc, a);
             problem.add_edge(Relations::Coherence, loc, a);
@@ -317,8 +304,6 @@ fn bare_problem(alloc: Global, locations: usize, events: usize, model: Model) ->
         events: List::new(alloc, NO_EVENT),
         terms: List::new(alloc, bare_number(0)),
         writes_to: Rows::new(alloc, locations, size),
-        most_writes: 0,
-        ranks: List::filled(alloc, size, 0),
         readers_of: Rows::new(alloc, locations, size),
         events_of: Rows::new(alloc, MOST_CORES, size),
         program: Rows::new(alloc, size.wrapping_mul(3), size),
