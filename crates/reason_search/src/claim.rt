@@ -1,7 +1,7 @@
 //! What is asked of the final state, as a list of parts. A part that is made of two stands before them, the first one right behind it.
 
 use crate::lists::{List, NONE};
-use crate::problem::{Problem, Term, bare_number};
+use crate::problem::{Problem, Term};
 use crate::rows::bit;
 use std::alloc::Global;
 use tso_model::{Loc, Prop, Quantifier, Test};

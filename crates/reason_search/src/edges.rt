@@ -4,7 +4,6 @@ use crate::branch::{
     Branch, Conflict, add_order, change_word, close, look_at, look_at_readers, put_head,
 };
 use crate::facts::{Edge, Link};
-use crate::lists::NONE;
 use crate::problem::Relations;
 use crate::rows::{bit, lowest, rest};
 

@@ -175,7 +175,14 @@ fn ask_next(hunt: &mut Hunt) -> Next {
     if matches!(ask, Ask::Nothing) {
         return Next::None;
     }
-    let frame = begin(&hunt.branch, &mut hunt.questions, ask);
+    let by_chance = hunt.round != 0;
+    let frame = begin(
+        &hunt.branch,
+        &mut hunt.questions,
+        &mut hunt.chance,
+        ask,
+        by_chance,
+    );
     try_next(&mut hunt.branch, &mut hunt.questions, &frame)
 }
 

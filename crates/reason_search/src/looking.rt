@@ -1,8 +1,7 @@
 //! What follows at a write, at a read and at a location, and all that follows in a branch.
 
 use crate::branch::{
-    Branch, Conflict, add_source, change_word, close, look_at, look_at_all, look_at_readers,
-    note_removed,
+    Branch, Conflict, add_source, change_word, close, look_at, look_at_readers, note_removed,
 };
 use crate::edges::{add_edge, add_edges, put_before};
 use crate::facts::Link;
