@@ -58,7 +58,7 @@ pub struct Branch {
     /// How many facts and edges there were when a source was taken from a read.
     removed_facts: List<usize>,
     removed_edges: List<usize>,
-    /// One row: the events that are to be looked at.
+    /// Two rows: the events that are to be looked at, and the reads whose sources are to be tested for their values then.
     pub dirty: Rows,
     /// Two rows for the read in hand: writes to its location that are known to come before it, or before its store part, and all
     /// that are known to come before those.
@@ -183,7 +183,7 @@ pub fn make_branch(alloc: Global, problem: Problem) -> Branch {
         pairs: List::filled(alloc, cells, NONE),
         removed_facts: List::filled(alloc, cells, NONE),
         removed_edges: List::filled(alloc, cells, NONE),
-        dirty: Rows::new(alloc, 1, size),
+        dirty: Rows::new(alloc, 2, size),
         earlier: Rows::new(alloc, 2, size),
         claim_is_dirty: true,
         conflict: Conflict::Open,

@@ -157,12 +157,18 @@ fn mark_more(problem: &mut Problem) -> bool {
 
 /// Marks the locations and reads that what is asked names, and those on whose values theirs may hang.
 pub fn mark_relevant(problem: &mut Problem) {
+    let mut has_choice = false;
     for i in 0..problem.claim.len() {
-        if let Part::Value(r, _) = problem.claim.at(i) {
-            problem.asked.add(0, r);
-            problem.relevant.add(0, r);
+        match problem.claim.at(i) {
+            Part::Value(r, _) => problem.asked.add(0, r),
+            Part::Either(_) => has_choice = true,
+            Part::Both(_) | Part::Fixed(_) => {}
         }
     }
+    if has_choice {
+        problem.stored.join(0, &problem.asked, 0);
+    }
+    problem.relevant.join(0, &problem.asked, 0);
     for _round in 0..problem.size {
         if !mark_more(problem) {
             break;

@@ -4,6 +4,7 @@ use crate::branch::{
     Branch, Conflict, add_order, change_word, close, look_at, look_at_readers, put_head,
 };
 use crate::facts::{Edge, Link};
+use crate::lists::NONE;
 use crate::problem::Relations;
 use crate::rows::{bit, lowest, rest};
 
@@ -121,10 +122,15 @@ fn spread_program(branch: &mut Branch, relations: Relations) {
     for _event in 0..branch.problem.size {
         a = a.wrapping_sub(1);
         let row = branch.problem.row(relations, a);
-        for b in a..branch.problem.size {
-            if branch.problem.program.has(row, b) && !branch.is_known(relations, a, b) {
+        let mut b = branch.problem.program.next(row, a);
+        for _later in a..branch.problem.size {
+            if b == NONE {
+                break;
+            }
+            if !branch.is_known(relations, a, b) {
                 spread(branch, relations, a, b);
             }
+            b = branch.problem.program.next(row, b.wrapping_add(1));
         }
     }
 }

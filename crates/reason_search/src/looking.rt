@@ -40,12 +40,12 @@ fn look_at_value(branch: &mut Branch, r: usize, w: usize) {
     if branch.problem.stored.has(0, r) {
         look_at_dependents(branch, r);
     }
-    if branch.problem.relevant.has(0, r) {
-        branch.claim_is_dirty = true;
-        if branch.problem.terms.at(w).first != NONE {
-            look_at_relevant(branch);
-        }
+    let hangs = branch.problem.terms.at(w).first != NONE;
+    if hangs && branch.problem.relevant.has(0, r) {
+        look_at_relevant(branch);
     }
+    // What no other value hangs on was tested as a source.
+    branch.claim_is_dirty |= hangs || branch.problem.stored.has(0, r);
 }
 
 /// A read has this source. False where that closes a cycle.
@@ -266,12 +266,14 @@ fn take_by_value(branch: &mut Branch, r: usize, k: usize) {
 /// Takes from a read all sources that it can't have.
 fn take_all(branch: &mut Branch, r: usize) {
     note_parted(branch, r);
+    let is_tested = !branch.dirty.has(1, r);
     for k in 0..branch.problem.width {
         take_by_order(branch, r, k);
-        if branch.problem.relevant.has(0, r) {
+        if !is_tested {
             take_by_value(branch, r, k);
         }
     }
+    branch.dirty.remove(1, r);
 }
 
 /// What follows at a read whose source is open.
@@ -368,6 +370,7 @@ pub fn deduce(branch: &mut Branch) -> bool {
             branch.claim_is_dirty = false;
             let known = known_facts(branch.facts.len());
             find_values(branch, known);
+            branch.dirty.join(1, &branch.problem.relevant, 0);
             if is_false(branch, known) {
                 return close(branch, Conflict::False, NONE);
             }

@@ -20,12 +20,16 @@ struct Placing {
     order: List<Entry>,
 }
 
-/// Whether one event must stand before another one: in the global order, or as they stand in their program if one is a fence.
-fn must_precede(branch: &Branch, b: usize, a: usize) -> bool {
+/// Whether two events are of one core, and one of them is a fence.
+fn is_fenced(branch: &Branch, a: usize, b: usize) -> bool {
     let x = branch.problem.events.at(a);
     let y = branch.problem.events.at(b);
-    branch.is_known(Relations::Global, b, a)
-        || b < a && y.entry.core.0 == x.entry.core.0 && (is_fence(&x) || is_fence(&y))
+    x.entry.core.0 == y.entry.core.0 && (is_fence(&x) || is_fence(&y))
+}
+
+/// Whether one event must stand before another one: in the global order, or as they stand in their program if one is a fence.
+fn must_precede(branch: &Branch, b: usize, a: usize) -> bool {
+    branch.is_known(Relations::Global, b, a) || b < a && is_fenced(branch, a, b)
 }
 
 /// Whether an event waits for one that is still to come, other than its other part.

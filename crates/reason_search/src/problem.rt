@@ -81,7 +81,7 @@ pub struct Problem {
     pub claim: List<Part>,
     /// One row: the reads and locations of which something is asked.
     pub asked: Rows,
-    /// One row: the reads on whose values hangs what writes write.
+    /// One row: the reads on whose values hangs what writes write, or which other values may be asked of others.
     pub stored: Rows,
     /// One row: the reads on whose values what is asked may hang, and their locations.
     pub relevant: Rows,

@@ -183,8 +183,23 @@ pub fn is_wrong_value(branch: &Branch, place: usize, w: usize) -> bool {
         return false;
     }
     let value = written(branch, w);
+    if !branch.problem.stored.has(0, place) {
+        return is_barred(branch, place, value);
+    }
     let known = known_facts(branch.facts.len());
     value != NONE && !parts_that_can_be(branch, known, Supposed { place, value }).has(0)
+}
+
+/// Whether a part of what is asked bars a value, as far as it is known.
+fn is_barred(branch: &Branch, place: usize, value: usize) -> bool {
+    for i in 0..branch.problem.claim.len() {
+        if let Part::Value(r, demand) = branch.problem.claim.at(i) {
+            if r == place && !can_be(demand, value) {
+                return true;
+            }
+        }
+    }
+    false
 }
 
 /// Adds the reads on which the value of a term hangs.

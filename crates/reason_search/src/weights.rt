@@ -35,6 +35,15 @@ impl Weights {
         self.weights.at(a)
     }
 
+    /// The greatest weight of all.
+    pub fn most(&self) -> usize {
+        let mut most = 0;
+        for a in 0..self.size {
+            most = most.max(self.weights.at(a));
+        }
+        most
+    }
+
     /// An event stood in a question that was needed.
     pub fn heed(&mut self, a: usize) {
         let weight = self.weights.at(a).wrapping_add(self.step);
