@@ -4,7 +4,7 @@
 use crate::branch::{Branch, Conflict};
 use crate::closing::{add_best, add_false, add_trial, ask_order};
 use crate::evidence::use_facts;
-use crate::facts::{Answer, Edge, Fact, Turned};
+use crate::facts::{Answer, Fact, Turned};
 use crate::growing::{Growth, add_leaf, add_question, put_branch};
 use crate::lists::NONE;
 use crate::offers::{Desk, close_cycle, find_why_before, find_why_not, take_false};
@@ -77,7 +77,8 @@ fn add_other(branch: &mut Branch, desk: &mut Desk, turned: Turned) -> usize {
 }
 
 /// The tree where an edge closes a cycle. Where its order follows, and an answer says the other one: why that can't be.
-fn add_closed_cycle(branch: &mut Branch, desk: &mut Desk, edge: Edge) -> usize {
+fn add_closed_cycle(branch: &mut Branch, desk: &mut Desk, clash: usize) -> usize {
+    let edge = branch.edges.at(clash);
     let number = edge.link.fact;
     let fact = branch.facts.at(number);
     if let Answer::Before(first, second) = fact.answer {
@@ -113,9 +114,10 @@ pub fn add_conflict(branch: &mut Branch, desk: &mut Desk) -> usize {
     desk.used.clear(0);
     desk.weights.move_on();
     desk.above = branch.facts.len();
+    let clash = branch.clash;
     match branch.conflict {
-        Conflict::Cycle => add_closed_cycle(branch, desk, branch.edges.at(branch.clash)),
-        Conflict::NoSource => add_source_question(branch, desk, branch.clash),
+        Conflict::Cycle => add_closed_cycle(branch, desk, clash),
+        Conflict::NoSource => add_source_question(branch, desk, clash),
         Conflict::False => add_falsity(branch, desk),
         Conflict::Open => add_false(desk),
     }
