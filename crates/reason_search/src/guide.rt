@@ -59,6 +59,15 @@ fn run(hunt: &mut Hunt, proposal: &mut Proposal) -> bool {
     }
 }
 
+/// Searches. False where memory was refused, for this or before.
+fn search(guide: &mut Guide) -> bool {
+    if is_memory_refused(guide) {
+        return false;
+    }
+    guide.is_allowed = run(&mut guide.hunt, &mut guide.proposal);
+    !is_memory_refused(guide)
+}
+
 /// Searches: a tree, or a branch that is open to the end, or neither.
 ///
 /// Errors: out of memory only.
@@ -73,14 +82,11 @@ pub fn make_guide(
         is_allowed: false,
         proposal: Proposal::none(alloc),
     };
-    if is_refused(&guide.hunt) {
-        return Err(NoMemory);
+    if search(&mut guide) {
+        Ok(guide)
+    } else {
+        Err(NoMemory)
     }
-    guide.is_allowed = run(&mut guide.hunt, &mut guide.proposal);
-    if is_memory_refused(&guide) {
-        return Err(NoMemory);
-    }
-    Ok(guide)
 }
 
 /// The order that is proposed, if one is.
