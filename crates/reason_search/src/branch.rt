@@ -26,9 +26,21 @@ enum Change {
     /// The last edge that leaves here was this one.
     Head(usize, usize),
     Source(usize),
-    Pair(usize),
-    Removed(usize),
+    Moment(usize),
 }
+
+/// How many facts and edges there were.
+#[derive(Clone, Copy)]
+pub struct Moment {
+    pub facts: usize,
+    pub edges: usize,
+}
+
+/// No moment.
+const NEVER: Moment = Moment {
+    facts: NONE,
+    edges: NONE,
+};
 
 /// Where a branch stood.
 #[derive(Clone, Copy)]
@@ -53,11 +65,8 @@ pub struct Branch {
     pub source: List<usize>,
     /// The values that reads return, `NONE` where none is told.
     pub values: List<usize>,
-    /// The fact that says that one write is before another.
-    pairs: List<usize>,
-    /// How many facts and edges there were when a source was taken from a read.
-    removed_facts: List<usize>,
-    removed_edges: List<usize>,
+    /// When it was told that the first one of two writes is before the other one, or a source was taken from a read.
+    moments: List<Moment>,
     /// Two rows: the events that are to be looked at, and the reads whose sources are to be tested for their values then.
     pub dirty: Rows,
     /// Two rows for the read in hand: writes to its location that are known to come before it, or before its store part, and all
@@ -103,24 +112,21 @@ impl Branch {
         self.rows.word(self.before(relations, a), k)
     }
 
-    /// Where two events have their place in a table.
-    fn cell(&self, a: usize, b: usize) -> usize {
-        a.wrapping_mul(self.problem.size).wrapping_add(b)
+    /// Where an event and a write to its location have their place in a table.
+    fn cell(&self, a: usize, w: usize) -> usize {
+        let places = self.problem.most_writes.wrapping_add(1);
+        a.wrapping_mul(places)
+            .wrapping_add(self.problem.ranks.at(w))
     }
 
     /// The fact that says that one write is before another one.
     pub fn pair(&self, a: usize, b: usize) -> usize {
-        self.pairs.at(self.cell(a, b))
+        self.moments.at(self.cell(a, b)).facts
     }
 
-    /// How many facts there were when the source was taken from the read; `NONE` where it wasn't.
-    pub fn removed_at(&self, r: usize, s: usize) -> usize {
-        self.removed_facts.at(self.cell(r, s))
-    }
-
-    /// How many edges there were then.
-    pub fn edges_at(&self, r: usize, s: usize) -> usize {
-        self.removed_edges.at(self.cell(r, s))
+    /// When the source was taken from the read; `NEVER` where it wasn't.
+    pub fn removed_at(&self, r: usize, s: usize) -> Moment {
+        self.moments.at(self.cell(r, s))
     }
 
     /// The write that a read is known to read from.
@@ -141,9 +147,7 @@ impl Branch {
             | self.heads.is_refused
             | self.source.is_refused
             | self.values.is_refused
-            | self.pairs.is_refused
-            | self.removed_facts.is_refused
-            | self.removed_edges.is_refused
+            | self.moments.is_refused
             | self.dirty.is_refused
             | self.earlier.is_refused
     }
@@ -170,19 +174,17 @@ pub fn look_at_readers(branch: &mut Branch, loc: usize) {
 /// A branch with no answer.
 pub fn make_branch(alloc: Global, problem: Problem) -> Branch {
     let size = problem.size;
-    let cells = size.wrapping_mul(size);
+    let cells = size.wrapping_mul(problem.most_writes.wrapping_add(1));
     let mut branch = Branch {
         rows: Rows::new(alloc, size.wrapping_mul(7), size),
         problem,
-        trail: List::new(alloc, Change::Removed(NONE)),
+        trail: List::new(alloc, Change::Moment(NONE)),
         facts: List::new(alloc, NO_FACT),
         edges: List::new(alloc, NO_EDGE),
         heads: List::filled(alloc, size.wrapping_mul(3), NONE),
         source: List::filled(alloc, size, NONE),
         values: List::filled(alloc, size, NONE),
-        pairs: List::filled(alloc, cells, NONE),
-        removed_facts: List::filled(alloc, cells, NONE),
-        removed_edges: List::filled(alloc, cells, NONE),
+        moments: List::filled(alloc, cells, NEVER),
         dirty: Rows::new(alloc, 2, size),
         earlier: Rows::new(alloc, 2, size),
         claim_is_dirty: true,
@@ -214,8 +216,7 @@ fn undo_one(branch: &mut Branch, change: Change) {
         Change::Word(place, bits) => branch.rows.put_at(place, bits),
         Change::Head(place, edge) => branch.heads.put(place, edge),
         Change::Source(r) => branch.source.put(r, NONE),
-        Change::Pair(place) => branch.pairs.put(place, NONE),
-        Change::Removed(place) => branch.removed_facts.put(place, NONE),
+        Change::Moment(place) => branch.moments.put(place, NEVER),
     }
 }
 
@@ -266,19 +267,23 @@ pub fn add_source(branch: &mut Branch, r: usize, w: usize, tried: bool) -> usize
     fact
 }
 
+/// Notes for an event and a write that so many facts stand on the branch.
+fn put_moment(branch: &mut Branch, a: usize, w: usize, facts: usize) {
+    let place = branch.cell(a, w);
+    let edges = branch.edges.len();
+    branch.trail.push(Change::Moment(place));
+    branch.moments.put(place, Moment { facts, edges });
+}
+
 /// Adds the fact that one write is before another one, and gives its number.
 pub fn add_order(branch: &mut Branch, a: usize, b: usize, tried: bool) -> usize {
     let fact = add_fact(branch, Answer::Before(a, b), tried);
-    let place = branch.cell(a, b);
-    branch.trail.push(Change::Pair(place));
-    branch.pairs.put(place, fact);
+    put_moment(branch, a, b, fact);
     fact
 }
 
 /// Notes that a read can't have this source.
 pub fn note_removed(branch: &mut Branch, r: usize, s: usize) {
-    let place = branch.cell(r, s);
-    branch.trail.push(Change::Removed(place));
-    branch.removed_facts.put(place, branch.facts.len());
-    branch.removed_edges.put(place, branch.edges.len());
+    let facts = branch.facts.len();
+    put_moment(branch, r, s, facts);
 }

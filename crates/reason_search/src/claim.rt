@@ -159,16 +159,21 @@ fn mark_more(problem: &mut Problem) -> bool {
 pub fn mark_relevant(problem: &mut Problem) {
     let mut has_choice = false;
     for i in 0..problem.claim.len() {
+        let mut other = NONE;
         match problem.claim.at(i) {
-            Part::Value(r, _) => problem.asked.add(0, r),
+            Part::Value(r, _) => {
+                other = problem.parts_on.at(r);
+                problem.parts_on.put(r, i);
+                problem.relevant.add(0, r);
+            }
             Part::Either(_) => has_choice = true,
             Part::Both(_) | Part::Fixed(_) => {}
         }
+        problem.other_parts.push(other);
     }
     if has_choice {
-        problem.stored.join(0, &problem.asked, 0);
+        problem.stored.join(0, &problem.relevant, 0);
     }
-    problem.relevant.join(0, &problem.asked, 0);
     for _round in 0..problem.size {
         if !mark_more(problem) {
             break;

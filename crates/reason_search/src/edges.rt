@@ -116,22 +116,32 @@ pub fn put_before(branch: &mut Branch, a: usize, b: usize, tried: bool) -> bool 
     add_edge(branch, Relations::Coherence, link) && add_edges(branch, link)
 }
 
-/// What the program alone tells of a relation, from the last event on: what is after a later one is known then.
+/// Notes what is after an event in its program, where what is after those is known.
+fn add_program(branch: &mut Branch, relations: Relations, a: usize) {
+    let row = branch.after(relations, a);
+    branch.rows.join(row, &branch.problem.program, row);
+    let mut b = branch.rows.next(row, a);
+    for _later in a..branch.problem.size {
+        if b == NONE {
+            break;
+        }
+        let before = branch.before(relations, b);
+        branch.rows.add(before, a);
+        for k in b / 64..branch.problem.width {
+            let later = branch.word_after(relations, b, k);
+            let bits = branch.rows.word(row, k) | later;
+            branch.rows.put_word(row, k, bits);
+        }
+        b = branch.rows.next(row, b.wrapping_add(1));
+    }
+}
+
+/// What the program alone tells of a relation, from the last event on.
 fn spread_program(branch: &mut Branch, relations: Relations) {
     let mut a = branch.problem.size;
     for _event in 0..branch.problem.size {
         a = a.wrapping_sub(1);
-        let row = branch.problem.row(relations, a);
-        let mut b = branch.problem.program.next(row, a);
-        for _later in a..branch.problem.size {
-            if b == NONE {
-                break;
-            }
-            if !branch.is_known(relations, a, b) {
-                spread(branch, relations, a, b);
-            }
-            b = branch.problem.program.next(row, b.wrapping_add(1));
-        }
+        add_program(branch, relations, a);
     }
 }
 
@@ -139,9 +149,14 @@ fn spread_program(branch: &mut Branch, relations: Relations) {
 fn put_before_later(branch: &mut Branch, a: usize) {
     let loc = branch.problem.location(a);
     let row = branch.problem.row(Relations::OnLocation, a);
-    for b in a..branch.problem.size {
-        if branch.problem.program.has(row, b) && branch.problem.is_write_to(loc, b) {
+    let mut b = branch.problem.program.next(row, a);
+    for _later in a..branch.problem.size {
+        if branch.problem.is_write_to(loc, b) {
             let _open = put_before(branch, a, b, false);
+        }
+        b = branch.problem.program.next(row, b.wrapping_add(1));
+        if b == NONE {
+            break;
         }
     }
 }

@@ -43,14 +43,11 @@ pub enum Find {
     Paused,
 }
 
-/// How many facts a branch may have.
+/// How many facts a branch may have at most: a read has one source, and a write is before others.
 fn most_facts(problem: &Problem) -> usize {
-    let mut most = problem.size.wrapping_mul(2);
-    for loc in 0..problem.locations {
-        let writes = problem.writes_to.count(loc);
-        most = most.wrapping_add(writes.wrapping_mul(writes));
-    }
-    most
+    problem
+        .size
+        .wrapping_mul(problem.most_writes.wrapping_add(2))
 }
 
 /// A search that hasn't begun.
@@ -186,6 +183,18 @@ fn ask_next(hunt: &mut Hunt) -> Next {
     try_next(&mut hunt.branch, &mut hunt.questions, &frame)
 }
 
+/// Notes what every read returns, as the order of an execution has it.
+fn find_all_values(branch: &mut Branch) {
+    for loc in 0..branch.problem.locations {
+        branch
+            .problem
+            .relevant
+            .join(0, &branch.problem.readers_of, loc);
+    }
+    let known = known_facts(branch.facts.len());
+    find_values(branch, known);
+}
+
 /// Searches until all is closed, or a branch is open to the end, or it pauses.
 fn search(hunt: &mut Hunt) -> Find {
     for _case in 0..u64::MAX {
@@ -197,8 +206,7 @@ fn search(hunt: &mut Hunt) -> Find {
             match ask_next(hunt) {
                 Next::Open => continue,
                 Next::None => {
-                    let known = known_facts(hunt.branch.facts.len());
-                    find_values(&mut hunt.branch, known);
+                    find_all_values(&mut hunt.branch);
                     return Find::Allowed;
                 }
                 Next::Closed => {}

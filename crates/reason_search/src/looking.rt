@@ -335,7 +335,7 @@ fn look_at_last(branch: &mut Branch, loc: usize) -> bool {
 
 fn look_at_one(branch: &mut Branch, a: usize) -> bool {
     if branch.problem.is_initial(a) {
-        return !branch.problem.asked.has(0, a) || look_at_last(branch, a);
+        return !branch.problem.is_asked(a) || look_at_last(branch, a);
     }
     let event = branch.problem.events.at(a);
     if event.writes {
@@ -362,7 +362,7 @@ fn take_dirty(branch: &mut Branch) -> usize {
 /// Notes all that follows. False where the branch is closed.
 pub fn deduce(branch: &mut Branch) -> bool {
     for _step in 0..u64::MAX {
-        if branch.is_refused() {
+        if branch.facts.is_refused {
             // What follows can't be noted any more, so it would follow again and again.
             return true;
         }

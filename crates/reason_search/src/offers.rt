@@ -12,7 +12,7 @@ use crate::paths::{
 };
 use crate::problem::Relations;
 use crate::rows::Rows;
-use crate::values::{Known, find_values, is_false, known_facts, need_falsity};
+use crate::values::{Known, known_facts, need_falsity};
 use crate::weights::Weights;
 use std::alloc::Global;
 use std::mem::swap;
@@ -214,31 +214,21 @@ fn offer_between(branch: &Branch, desk: &mut Desk, r: usize, s: usize, limit: us
     }
 }
 
-/// Takes in hand that what is asked is false by the values that are known. False where it isn't.
-pub fn take_false(branch: &mut Branch, desk: &mut Desk, known: Known) -> bool {
-    find_values(branch, known);
-    if !is_false(branch, known) {
-        return false;
-    }
-    reset(&mut desk.trial, Closing::False);
-    need_falsity(branch, known, &mut desk.trial);
-    true
-}
-
 /// Offers that what is asked is false by the values that are known.
 fn offer_false(branch: &mut Branch, desk: &mut Desk, known: Known) {
-    if take_false(branch, desk, known) {
+    if need_falsity(branch, known, &mut desk.trial) {
         offer(desk, 0);
     }
 }
 
 /// Finds the best reason why a read can't have a source.
 pub fn find_why_not(branch: &mut Branch, desk: &mut Desk, r: usize, s: usize) {
-    let limit = branch.edges_at(r, s);
+    let removed = branch.removed_at(r, s);
+    let limit = removed.edges;
     let known = Known {
         read: r,
         source: s,
-        ..known_facts(branch.removed_at(r, s))
+        ..known_facts(removed.facts)
     };
     reset(&mut desk.best, Closing::None);
     offer_false(branch, desk, known);
@@ -281,7 +271,7 @@ pub fn find_why_before(branch: &mut Branch, desk: &mut Desk, turned: Turned) {
     let loc = branch.problem.location(turned.first);
     reset(&mut desk.best, Closing::None);
     offer_paths(branch, desk, turned, turned.second, NONE);
-    if branch.problem.asked.has(0, loc) {
+    if branch.problem.is_asked(loc) {
         let known = Known {
             first: turned.second,
             ..known_facts(turned.fact)

@@ -2,14 +2,14 @@
 
 use crate::branch::Branch;
 use crate::lists::{List, NONE};
-use crate::problem::{Event, NO_EVENT, Relations};
-use crate::rows::Rows;
+use crate::problem::{NO_EVENT, Relations};
+use crate::rows::{Rows, lowest, rest};
 use crate::values::written;
 use std::alloc::Global;
 use tso_model::{Entry, Kind, NoMemory};
 
-fn is_fence(event: &Event) -> bool {
-    matches!(event.entry.kind, Kind::F)
+fn is_fence(branch: &Branch, a: usize) -> bool {
+    matches!(branch.problem.events.at(a).entry.kind, Kind::F)
 }
 
 /// An order while events are placed.
@@ -20,27 +20,33 @@ struct Placing {
     order: List<Entry>,
 }
 
-/// Whether two events are of one core, and one of them is a fence.
-fn is_fenced(branch: &Branch, a: usize, b: usize) -> bool {
-    let x = branch.problem.events.at(a);
-    let y = branch.problem.events.at(b);
-    x.entry.core.0 == y.entry.core.0 && (is_fence(&x) || is_fence(&y))
-}
-
-/// Whether one event must stand before another one: in the global order, or as they stand in their program if one is a fence.
-fn must_precede(branch: &Branch, b: usize, a: usize) -> bool {
-    branch.is_known(Relations::Global, b, a) || b < a && is_fenced(branch, a, b)
+/// Whether a fence stands between an event and one that stands before it in its program and is still to come, or is one of them.
+fn is_fenced(branch: &Branch, placing: &Placing, a: usize) -> bool {
+    let mut is_fenced = is_fence(branch, a);
+    let mut b = a;
+    for _event in 0..a {
+        b = b.wrapping_sub(1);
+        if branch.problem.core(b) != branch.problem.core(a) {
+            break;
+        }
+        is_fenced |= is_fence(branch, b);
+        if is_fenced && placing.left.has(0, b) {
+            return true;
+        }
+    }
+    false
 }
 
 /// Whether an event waits for one that is still to come, other than its other part.
 fn is_waiting(branch: &Branch, placing: &Placing, a: usize) -> bool {
     let partner = branch.problem.partner(a);
-    for b in branch.problem.locations..branch.problem.size {
-        if placing.left.has(0, b) && b != partner && must_precede(branch, b, a) {
+    for k in 0..branch.problem.width {
+        let left = branch.word_before(Relations::Global, a, k) & placing.left.word(0, k);
+        if left != 0 && (rest(left) != 0 || lowest(k, left) != partner) {
             return true;
         }
     }
-    false
+    is_fenced(branch, placing, a)
 }
 
 /// The value of an event. A fence has 0.

@@ -71,6 +71,9 @@ pub struct Problem {
     pub terms: List<Term>,
     /// The writes to each location but the initial one.
     pub writes_to: Rows,
+    /// For each event how many writes to its location stand before it, and it if it is one; and the most of all.
+    pub ranks: List<usize>,
+    pub most_writes: usize,
     /// The reads of each location, and its initial write.
     pub readers_of: Rows,
     /// The events of each core.
@@ -79,8 +82,9 @@ pub struct Problem {
     pub program: Rows,
     /// What is asked.
     pub claim: List<Part>,
-    /// One row: the reads and locations of which something is asked.
-    pub asked: Rows,
+    /// The last part that asks something of a read or location, and for each part another one that asks of the same.
+    pub parts_on: List<usize>,
+    pub other_parts: List<usize>,
     /// One row: the reads on whose values hangs what writes write, or which other values may be asked of others.
     pub stored: Rows,
     /// One row: the reads on whose values what is asked may hang, and their locations.
@@ -106,6 +110,11 @@ impl Problem {
     /// Whether this is the initial write of a location.
     pub fn is_initial(&self, i: usize) -> bool {
         i < self.locations
+    }
+
+    /// Whether something is asked of a read or location.
+    pub fn is_asked(&self, i: usize) -> bool {
+        self.parts_on.at(i) != NONE
     }
 
     /// Whether this is a write to the location, and not the initial one.
@@ -134,13 +143,15 @@ impl Problem {
         self.events.is_refused
             | self.terms.is_refused
             | self.claim.is_refused
+            | self.ranks.is_refused
             | self.writes_to.is_refused
             | self.readers_of.is_refused
             | self.events_of.is_refused
             | self.program.is_refused
             | self.stored.is_refused
             | self.relevant.is_refused
-            | self.asked.is_refused
+            | self.parts_on.is_refused
+            | self.other_parts.is_refused
     }
 }
 
@@ -206,6 +217,9 @@ fn add_accesses(problem: &mut Problem) {
         if event.reads || problem.is_initial(a) {
             problem.readers_of.add(loc, a);
         }
+        let rank = problem.writes_to.count(loc);
+        problem.ranks.push(rank);
+        problem.most_writes = problem.most_writes.max(rank);
     }
 }
 
@@ -304,11 +318,14 @@ fn bare_problem(alloc: Global, locations: usize, events: usize, model: Model) ->
         events: List::new(alloc, NO_EVENT),
         terms: List::new(alloc, bare_number(0)),
         writes_to: Rows::new(alloc, locations, size),
+        ranks: List::new(alloc, 0),
+        most_writes: 0,
         readers_of: Rows::new(alloc, locations, size),
         events_of: Rows::new(alloc, MOST_CORES, size),
         program: Rows::new(alloc, size.wrapping_mul(3), size),
         claim: List::new(alloc, Part::Fixed(true)),
-        asked: Rows::new(alloc, 1, size),
+        parts_on: List::filled(alloc, size, NONE),
+        other_parts: List::new(alloc, NONE),
         stored: Rows::new(alloc, 1, size),
         relevant: Rows::new(alloc, 1, size),
     }

@@ -7,8 +7,8 @@ use crate::evidence::use_facts;
 use crate::facts::{Answer, Fact, Turned};
 use crate::growing::{Growth, add_leaf, add_question, put_branch};
 use crate::lists::NONE;
-use crate::offers::{Desk, close_cycle, find_why_before, find_why_not, take_false};
-use crate::values::known_facts;
+use crate::offers::{Desk, close_cycle, find_why_before, find_why_not};
+use crate::values::{known_facts, need_falsity};
 
 /// Makes a tree for a source, where there is none, since the read can't have it.
 fn close_source(branch: &mut Branch, desk: &mut Desk, r: usize, s: usize) {
@@ -18,7 +18,7 @@ fn close_source(branch: &mut Branch, desk: &mut Desk, r: usize, s: usize) {
             first: NONE,
             second: NONE,
             fact: NONE,
-            edges: branch.edges_at(r, s),
+            edges: branch.removed_at(r, s).edges,
         };
         let tree = add_best(branch, desk, s, nothing);
         desk.branches.put(s, tree);
@@ -102,7 +102,7 @@ fn add_closed_cycle(branch: &mut Branch, desk: &mut Desk, clash: usize) -> usize
 /// The leaf where what is asked is false by the values that answers tell.
 fn add_falsity(branch: &mut Branch, desk: &mut Desk) -> usize {
     let known = known_facts(branch.facts.len());
-    if !take_false(branch, desk, known) {
+    if !need_falsity(branch, known, &mut desk.trial) {
         return add_false(desk);
     }
     use_facts(&desk.trial, &mut desk.used);

@@ -2,7 +2,7 @@
 
 use crate::branch::Branch;
 use crate::claim::{Demand, Part, Parts, can_be, can_be_made};
-use crate::evidence::{Evidence, need};
+use crate::evidence::{Closing, Evidence, need, reset};
 use crate::lists::NONE;
 use crate::problem::Term;
 use crate::rows::Rows;
@@ -59,21 +59,26 @@ fn source(branch: &Branch, known: Known, r: usize) -> usize {
     }
 }
 
-/// Notes the values that hang on those that are noted. Whether any is new.
+/// Notes the values that hang on those that are noted. Whether others may hang on a new one.
 fn find_more_values(branch: &mut Branch, known: Known) -> bool {
     let mut changed = false;
-    for r in branch.problem.locations..branch.problem.size {
+    let mut r = branch.problem.relevant.next(0, branch.problem.locations);
+    for _read in 0..branch.problem.size {
+        if r == NONE {
+            break;
+        }
         let s = source(branch, known, r);
         if s != NONE && branch.values.at(r) == NONE {
             let value = written(branch, s);
             branch.values.put(r, value);
-            changed |= value != NONE;
+            changed |= value != NONE && branch.problem.stored.has(0, r);
         }
+        r = branch.problem.relevant.next(0, r.wrapping_add(1));
     }
     changed
 }
 
-/// Notes what each read returns, by what is known.
+/// Notes what each read returns that matters to what is asked, by what is known: they hang on one another alone.
 pub fn find_values(branch: &mut Branch, known: Known) {
     branch.values.blank();
     for _round in 0..branch.problem.size {
@@ -179,7 +184,7 @@ pub fn is_wrong_source(branch: &mut Branch, r: usize, s: usize) -> bool {
 
 /// Whether what is asked is false where a read, or a location at the end, has the value of this write.
 pub fn is_wrong_value(branch: &Branch, place: usize, w: usize) -> bool {
-    if !branch.problem.asked.has(0, place) {
+    if !branch.problem.is_asked(place) {
         return false;
     }
     let value = written(branch, w);
@@ -192,11 +197,16 @@ pub fn is_wrong_value(branch: &Branch, place: usize, w: usize) -> bool {
 
 /// Whether a part of what is asked bars a value, as far as it is known.
 fn is_barred(branch: &Branch, place: usize, value: usize) -> bool {
-    for i in 0..branch.problem.claim.len() {
-        if let Part::Value(r, demand) = branch.problem.claim.at(i) {
-            if r == place && !can_be(demand, value) {
+    let mut i = branch.problem.parts_on.at(place);
+    for _part in 0..branch.problem.claim.len() {
+        if let Part::Value(_, demand) = branch.problem.claim.at(i) {
+            if !can_be(demand, value) {
                 return true;
             }
+        }
+        i = branch.problem.other_parts.at(i);
+        if i == NONE {
+            break;
         }
     }
     false
@@ -255,27 +265,37 @@ fn need_part(
     }
 }
 
-/// Adds the sources from which needed values come, each once: its value is forgotten. Whether any is new.
+/// Adds the sources from which needed values come, each once: its value is forgotten. Whether any hangs on another one.
 fn need_more_sources(branch: &mut Branch, known: Known, evidence: &mut Evidence) -> bool {
     let mut changed = false;
-    for r in branch.problem.locations..branch.problem.size {
-        if evidence.needed.has(0, r) && branch.values.at(r) != NONE {
-            changed = true;
+    let mut r = evidence.needed.next(0, 0);
+    for _read in 0..branch.problem.size {
+        if r == NONE {
+            break;
+        }
+        if branch.values.at(r) != NONE {
             branch.values.put(r, NONE);
             if r != known.read {
                 need(evidence, branch.source.at(r));
             }
-            let s = source(branch, known, r);
-            need_term(&mut evidence.needed, branch.problem.terms.at(s));
+            let term = branch.problem.terms.at(source(branch, known, r));
+            need_term(&mut evidence.needed, term);
+            changed |= term.first != NONE;
         }
+        r = evidence.needed.next(0, r.wrapping_add(1));
     }
     changed
 }
 
-/// Adds the facts by which what is asked is false by the values that are noted.
-pub fn need_falsity(branch: &mut Branch, known: Known, evidence: &mut Evidence) {
-    evidence.needed.clear(0);
+/// Whether what is asked is false by what is known. Adds the facts by which it is.
+pub fn need_falsity(branch: &mut Branch, known: Known, evidence: &mut Evidence) -> bool {
+    find_values(branch, known);
     let can = parts_that_can_be(branch, known, NOTHING);
+    if branch.problem.claim.len() == 0 || can.has(0) {
+        return false;
+    }
+    reset(evidence, Closing::False);
+    evidence.needed.clear(0);
     let mut wrong = Parts::none();
     wrong.add(0, true);
     for i in 0..branch.problem.claim.len() {
@@ -288,4 +308,5 @@ pub fn need_falsity(branch: &mut Branch, known: Known, evidence: &mut Evidence) 
             break;
         }
     }
+    true
 }
