@@ -281,7 +281,7 @@ def topic(module):
         return "choices and orders as texts"
     if crate in ("snoop_bus", "cache_set", "machine_core", "protocol_tables"):
         return "caches"
-    if crate in ("tso_cli", "commands", "simulator", "sweeper", "tso_io", "command_line", "page_exports"):
+    if crate in ("tso_cli", "simulator", "sweeper", "tso_io", "command_line", "page_exports"):
         return "commands"
     if crate in ("tso_report", "outcome_report", "reason_report"):
         return "printed text"

@@ -16,7 +16,7 @@ use Rattle.tso_cli.specs.Headline.{Headline}
 use Rattle.tso_cli.specs.Answers.{IsAnswer}
 use Rattle.tso_cli.specs.Step.{IsStepAnswer}
 use Rattle.tso_cli.specs.Hints.{IsTold}
-use Rattle.commands.specs.declared.answer.Status.{Status}
+use Rattle.tso_cli.specs.declared.answer.Status.{Status}
 use Rattle.page_exports.specs.declared.question.Numbers.{Numbers}
 use Rattle.page_exports.specs.declared.question.Question.{Question}
 use Rattle.page_exports.specs.declared.AnswerLengths.{AnswerLengths}
@@ -26,7 +26,7 @@ use Rattle.refutation_laws.specs.declared.model.Model.TheVariants as models
 use Rattle.shown_values.specs.declared.show.Show.{Show}
 use Rattle.shown_values.specs.declared.show.Show.TheVariants as shows
 use Rattle.command_line.specs.declared.settings.Settings.TheVariants as settings
-use Rattle.commands.specs.declared.answer.Status.TheVariants as statuses
+use Rattle.tso_cli.specs.declared.answer.Status.TheVariants as statuses
 use Rattle.page_exports.specs.declared.question.Question.TheVariants as questions
 
 abbrev pub kind_number : ProtocolKind → ℕ

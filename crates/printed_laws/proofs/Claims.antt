@@ -5,11 +5,11 @@ use Rattle.litmus_reader.specs.Spelling.{IsRefused as IsRefusedTest}
 use Rattle.litmus_reader.specs.declared.fault.TextFault.{TextFault}
 use Rattle.command_line.specs.Explanation.{Explanation}
 use Rattle.command_line.specs.declared.settings.Settings.TheVariants as settings
-use Rattle.commands.specs.Outcomes.{IsOutcomesAnswer, found, too_many}
-use Rattle.commands.specs.Verdicts.{status_of_verdict}
-use Rattle.commands.specs.Why.{IsWhyAnswer, never, allowed, too_many}
-use Rattle.commands.specs.declared.answer.Status.{Status}
-use Rattle.commands.specs.declared.answer.Status.TheVariants.{Good}
+use Rattle.tso_cli.specs.Outcomes.{IsOutcomesAnswer, found, too_many}
+use Rattle.tso_cli.specs.Verdicts.{status_of_verdict}
+use Rattle.tso_cli.specs.Why.{IsWhyAnswer, never, allowed, too_many}
+use Rattle.tso_cli.specs.declared.answer.Status.{Status}
+use Rattle.tso_cli.specs.declared.answer.Status.TheVariants.{Good}
 use Rattle.tso_cli.specs.Answers.{too_large, refused, answered}
 use Rattle.tso_cli.specs.WhyHeadline.{IsSoIn, HeadlineOfReasons, never, allowed, too_many}
 use Rattle.printed_laws.proofs.Endings.{EndsIn, verdict_tail, ends-so, one-verdict}

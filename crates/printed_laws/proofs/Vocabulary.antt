@@ -50,7 +50,7 @@ pub use Rattle.std.proofs.lemmas.Slice.Eq.{bytes_eq-Decides}
 pub use Rattle.json.specs.Print.{escape, print, quoted, IsNumber}
 unfoldable pub use Rattle.json.specs.Print.{escape_byte}
 pub use Rattle.tso_model.specs.Runs.{Run, run, has_ended, CoresExist}
-pub use Rattle.commands.specs.RunTexts.{report_in, unfinished_in}
+pub use Rattle.tso_cli.specs.RunTexts.{report_in, unfinished_in}
 pub use Rattle.simulator.specs.Runs.{run_under, counts_under}
 pub use Rattle.printed_laws.specs.OfRuns.{PrintedRunsAreTold}
 pub use Rattle.std.proofs.lemmas.Bool.Decides.{nat_tests}
@@ -77,8 +77,8 @@ pub use Rattle.tso_model.specs.FlatMachine.{registers_in, chosen, CoreState, Sta
 pub use Rattle.outcome_laws.specs.Outcomes.{IsEnd, EndsAreWhatTsoAllows}
 pub use Rattle.litmus_reader.specs.Spelling.{SpellsTest}
 pub use Rattle.outcome_report.specs.Laws.{TruthIsShown}
-pub use Rattle.commands.specs.Dividing.{parts_of}
-pub use Rattle.commands.proofs.FoundOutcomes.{Leads, made-of}
+pub use Rattle.tso_cli.specs.Dividing.{parts_of}
+pub use Rattle.tso_cli.proofs.FoundOutcomes.{Leads, made-of}
 pub use Rattle.command_line.specs.Search.{Search}
 pub use Rattle.tso_cli.specs.OutcomesHeadline.{shown_after, PrintsAllOutcomes, HeadlineOfOutcomes, all, too_many, AreExactly}
 pub use Rattle.refutation_laws.specs.declared.model.Model.TheVariants.{Tso, Sequential}

@@ -2,7 +2,7 @@
 use Rattle.std.specs.Prelude.{◌≡◌, ◌≤◌, Bool, true, false, List, length}
 use Rattle.printed_laws.specs.Vocabulary.{AnswersFit, Configuration, IsConfigurationWithinLimits, IsTest, Litmus, most_choices, ProtocolKind, run_under, shown_under}
 use Rattle.tso_model.specs.declared.choice.Choice.{Choice}
-use Rattle.commands.specs.Answers.{text_under}
+use Rattle.tso_cli.specs.CommandAnswers.{text_under}
 
 -- two runs leave the same to be printed: both ended, and the same is shown of them, or neither did, and both used as many
 -- choices, of which as many stalled

@@ -5,7 +5,7 @@ use Rattle.scheduler.specs.Printed.{printed_choices}
 use Rattle.shown_values.specs.declared.show.Show.{Show}
 use Rattle.outcome_report.specs.Printed.{outcomes_in}
 use Rattle.outcome_report.specs.Laws.{OutcomesAreAlike}
-use Rattle.commands.specs.Outcomes.{AreAllOutcomes}
+use Rattle.tso_cli.specs.Outcomes.{AreAllOutcomes}
 
 -- final states, fewer than 2^64: each has a word for each register and location that is shown, which have these names
 pub record OutcomesFit (names : List Named) (outcomes : List Outcome) : Type 0 where

@@ -5,8 +5,8 @@ use Rattle.printed_laws.specs.Vocabulary.{Configuration, CountsFitTest, IsConfig
 use Rattle.tso_report.specs.Shown.{ShownRun}
 use Rattle.tso_report.specs.Tally.{RunCounts, runs_in}
 use Rattle.scheduler.specs.Plan.{Plan, IsPlanWithinLimits as IsPlan}
-use Rattle.commands.specs.RunTexts.{report_in, unfinished_in}
-use Rattle.commands.specs.Sweep.{sweep_lines}
+use Rattle.tso_cli.specs.RunTexts.{report_in, unfinished_in}
+use Rattle.tso_cli.specs.Sweep.{sweep_lines}
 
 -- of runs that ended: the order, the registers, the memory, the verdict, and all counts
 abbrev pub ReportsTellTheirRuns : Bool → Type 0

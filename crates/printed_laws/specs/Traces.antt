@@ -12,7 +12,7 @@ use Rattle.trace_json.specs.StepJson.{step_json}
 use Rattle.trace_json.specs.TraceJson.{trace_json}
 use Rattle.trace_json.specs.declared.supplied.Source.{Source}
 use Rattle.trace_json.specs.declared.supplied.Source.TheVariants.{Buffer, Cache, Other, Bus, Memory}
-use Rattle.commands.specs.Trace.{traced_in}
+use Rattle.tso_cli.specs.Trace.{traced_in}
 use Rattle.printed_laws.specs.OfRuns.{RunsLeaveTheSame}
 use Rattle.printed_laws.specs.Telling.{NameTheSame}
 

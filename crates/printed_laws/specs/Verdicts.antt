@@ -7,7 +7,7 @@ use Rattle.outcome_report.specs.OutcomesJson.{holds_in}
 use Rattle.command_line.specs.Explanation.{Explanation}
 use Rattle.command_line.specs.declared.settings.Settings.{Settings}
 use Rattle.command_line.specs.declared.settings.Settings.TheVariants as settings
-use Rattle.commands.specs.declared.answer.Status.{Status}
+use Rattle.tso_cli.specs.declared.answer.Status.{Status}
 use Rattle.tso_cli.specs.Answers.{IsAnswer}
 use Rattle.tso_cli.specs.OutcomesHeadline.{PrintsAllOutcomes}
 use Rattle.printed_laws.specs.Observed.{IsSoEverywhere, IsSoSomewhere}

@@ -9,7 +9,7 @@ ghost use Rattle.printed_laws.specs.Verdicts.{TrueNamesTrueStates, HoldsTellsTru
 ghost use Rattle.command_line.specs.Explanation.{Explanation};
 ghost use Rattle.command_line.specs.Search.{Search};
 ghost use Rattle.command_line.specs.declared.settings.Settings.{Settings};
-ghost use Rattle.commands.specs.declared.answer.Status.TheVariants.{Good, NotAsClaimed};
+ghost use Rattle.tso_cli.specs.declared.answer.Status.TheVariants.{Good, NotAsClaimed};
 
 use litmus_reader::test_texts::test_is_spelled_once;
 use outcome_laws::ends_are_what_tso_allows;

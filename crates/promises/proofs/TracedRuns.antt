@@ -6,10 +6,10 @@ use Rattle.scheduler.specs.WordOfChoice.{IsWordOfChoice}
 use Rattle.scheduler.specs.declared.fault.ChoiceFault.TheVariants.{TooMany}
 use Rattle.command_line.specs.declared.settings.Settings.TheVariants as settings
 use Rattle.tso_cli.specs.Headline.{Headline}
-use Rattle.commands.specs.Lines.{choices_refusal}
+use Rattle.tso_cli.specs.Lines.{choices_refusal}
 use Rattle.tso_cli.specs.SplitRun.{split_run}
 use Rattle.tso_cli.specs.TraceHeadline.{PrintsTrace, PrintsTracedObject, PrintsEachTrace}
-use Rattle.commands.specs.declared.answer.Answer.{Answer}
+use Rattle.tso_cli.specs.declared.answer.Answer.{Answer}
 
 -- of every test and list of choices that the input spells
 abbrev pub OfEach : List ℕ → (Litmus → List Choice → Type 0) → Type 0

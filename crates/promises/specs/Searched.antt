@@ -12,10 +12,10 @@ use Rattle.shown_values.specs.Shown.{names_shown, values_at}
 use Rattle.shown_values.specs.declared.show.Show.{Show}
 use Rattle.outcome_report.specs.Outcomes.{Outcome, state_line, outcomes_text}
 use Rattle.command_line.specs.declared.settings.Settings.TheVariants as settings
-use Rattle.commands.specs.Dividing.{joined_parts}
-use Rattle.commands.specs.RunTexts.{report_in}
-use Rattle.commands.specs.declared.answer.Status.{Status}
-use Rattle.commands.specs.declared.answer.Status.TheVariants.{Good}
+use Rattle.tso_cli.specs.Dividing.{joined_parts}
+use Rattle.tso_cli.specs.RunTexts.{report_in}
+use Rattle.tso_cli.specs.declared.answer.Status.{Status}
+use Rattle.tso_cli.specs.declared.answer.Status.TheVariants.{Good}
 use Rattle.tso_cli.specs.Answers.{IsAnswer}
 use Rattle.tso_cli.specs.SweepHeadline.{HasPart}
 

@@ -1,8 +1,8 @@
 //! What printed texts tell, field by field.
 
 ghost use Rattle.std.specs.Prelude.{◌≡◌, ◌≤◌, Bool, List, false, length, true};
-ghost use Rattle.commands.specs.Answers.{text_under};
-ghost use Rattle.commands.specs.RunTexts.{report_in};
+ghost use Rattle.tso_cli.specs.CommandAnswers.{text_under};
+ghost use Rattle.tso_cli.specs.RunTexts.{report_in};
 ghost use Rattle.machine_core.specs.Configuration.{Configuration, IsConfigurationWithinLimits};
 ghost use Rattle.protocol_tables.specs.declared.kind.ProtocolKind.{ProtocolKind};
 ghost use Rattle.scheduler.specs.Limits.{most_choices};

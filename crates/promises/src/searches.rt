@@ -21,9 +21,9 @@ ghost use Rattle.command_line.specs.Search.{Search};
 ghost use Rattle.command_line.specs.declared.settings.Settings.{Settings};
 ghost use Rattle.tso_cli.specs.Answers.{IsAnswer, IsPrinted};
 ghost use Rattle.tso_cli.specs.OneText.{ShowTheSameStates};
-ghost use Rattle.commands.specs.Dividing.{parts_of, IsJoinable};
+ghost use Rattle.tso_cli.specs.Dividing.{parts_of, IsJoinable};
 ghost use Rattle.tso_cli.specs.Revisited.{AreRevisited};
-ghost use Rattle.commands.specs.declared.answer.Status.{Status};
+ghost use Rattle.tso_cli.specs.declared.answer.Status.{Status};
 ghost use Rattle.shown_values.specs.Shown.{names_shown};
 ghost use Rattle.shown_values.specs.declared.show.Show.{Show};
 

@@ -5,9 +5,9 @@ ghost use Rattle.std.specs.Prelude.{◌+◌, ◌<◌, ◌≡◌, ◌≤◌, ◌�
 ghost use Rattle.command_line.specs.Explanation.{Explanation};
 ghost use Rattle.command_line.specs.Search.{Search};
 ghost use Rattle.command_line.specs.declared.settings.Settings.{Settings};
-ghost use Rattle.commands.specs.Dividing.{parts_of};
-ghost use Rattle.commands.specs.declared.answer.Status.{Status};
-ghost use Rattle.commands.specs.declared.answer.Status.TheVariants.{Good, NotAsClaimed};
+ghost use Rattle.tso_cli.specs.Dividing.{parts_of};
+ghost use Rattle.tso_cli.specs.declared.answer.Status.{Status};
+ghost use Rattle.tso_cli.specs.declared.answer.Status.TheVariants.{Good, NotAsClaimed};
 ghost use Rattle.litmus_reader.specs.Spelling.{SpellsTest};
 ghost use Rattle.outcome_laws.specs.Outcomes.{IsSequentiallyConsistent};
 ghost use Rattle.outcome_report.specs.Outcomes.{Outcome, printed_numbers, shown_values};

@@ -3,7 +3,7 @@ use Rattle.tso_cli.proofs.Vocabulary.{◌≡◌, ◌≢◌, ℕ, false, ◌<◌,
 use Rattle.tso_model.specs.declared.execution.Kind.{Kind}
 use Rattle.tso_model.specs.declared.execution.Kind.TheVariants.{F}
 use Rattle.snoop_bus.specs.Geometry.{IsShapeWithinLimits}
-use Rattle.commands.specs.Answers.{refused, judged, invalid}
+use Rattle.tso_cli.specs.CommandAnswers.{refused, judged, invalid}
 
 -- ---- what an answer means
 

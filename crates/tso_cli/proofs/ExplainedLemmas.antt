@@ -1,7 +1,7 @@
 -- What `run` answers to the choices that `why` prints.
 use Rattle.tso_cli.proofs.Vocabulary.{◌≡◌, ℕ, Bool, List, length, refl, sym, subst, arith, Litmus, run, Atomic, Choice, Entry, LeadTo, SpellsTest, depth_of, SpellsChoices, printed_choices, ProtocolKind, Configuration, counts_under, shown_of, Explanation, parts_of, joined_parts, IsWhyAnswer, Status, IsInputAnswer, too_large, refused, answered, IsPrinted, AreReadOneWay}
 use Rattle.command_line.specs.declared.settings.Settings.TheVariants as settings
-use Rattle.commands.specs.Why.{never, allowed, too_many}
+use Rattle.tso_cli.specs.Why.{never, allowed, too_many}
 use Rattle.tso_cli.specs.Explained.{AreRunAgain, IsExplained, never, allowed}
 use Rattle.tso_cli.proofs.PrintedLemmas.{refused-is-none, unended-is-none}
 use Rattle.tso_cli.proofs.Replayed.{choices-short, replayed-joined}

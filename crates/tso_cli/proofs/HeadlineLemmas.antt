@@ -1,10 +1,10 @@
 -- The headline holds of each answer.
-use Rattle.tso_cli.proofs.Vocabulary.{◌≡◌, ◌<◌, ◌^◌, ℕ, Bool, List, ◌++◌, length, true, false, Option, Some, None, IfSome, subst, refl, arith, Litmus, IsTest, IsWhole, StandsIn, KeepsAllOrder, Bus, Atomic, Choice, Entry, FitsTest, IsExecution, IsDecidedAsChoices, IsOrderFor, SpellsOrder, Table, table_of, ProtocolKind, Configuration, IsConfigurationWithinLimits, head, report, ShownRun, IsAnswerTo, IsInputAnswer, IsAnswer, too_large, answered, run_text, IsRunAnswer, ran, IsWithinLimits, parts_of, Plan, PrintsExecution, PrintsEachRun, HeadlineOfRuns, ending_text, traced_in, IsTooLong, IsTraceAnswer, too_long, traced, PrintsTraceIn, PrintsEachTrace, HeadlineOfTraces, PrintsSweep, HeadlineOfSweeps, HeadlineOf, InputHeadline, Headline, run_by, run_under, AnswersFitBy, AnswersFit, counts_under, unfinished_run_line, report_in, unfinished_in, shown_of, Settings, Status, AreReadOneWay, never-both}
+use Rattle.tso_cli.proofs.Vocabulary.{◌≡◌, ◌<◌, ◌^◌, ℕ, Bool, List, ◌++◌, length, true, false, Option, Some, None, IfSome, subst, refl, arith, Litmus, IsTest, IsWhole, StandsIn, KeepsAllOrder, Bus, Atomic, Choice, Entry, FitsTest, IsExecution, IsDecidedAsChoices, IsOrderFor, SpellsOrder, Table, table_of, ProtocolKind, Configuration, IsConfigurationWithinLimits, head, report, ShownRun, IsAnswerTo, IsInputAnswer, IsAnswer, too_large, answered, run_text, IsRunAnswer, ran, IsWithinLimits, parts_of, Plan, PrintsExecution, PrintsEachRun, HeadlineOfRuns, ending_text, traced_in, IsTooLong, IsTraceAnswer, too_long, traced, PrintsTraceIn, PrintsEachTrace, HeadlineOfTraces, PrintsSweep, HeadlineOfSweeps, HeadlineOf, InputHeadline, Headline, run_by, run_under, AnswersFitBy, AnswersFit, counts_under, unfinished_run_line, report_in, unfinished_in, shown_of, Settings, Status, AreReadOneWay}
 use Rattle.tso_laws.specs.Words.{HoldsWords}
 use Rattle.snoop_bus.specs.Geometry.{IsShapeWithinLimits as IsShape}
 use Rattle.tso_cli.specs.Answers.{refused}
-use Rattle.commands.specs.Answers.{refused}
-use Rattle.commands.specs.Trace.{refused}
+use Rattle.tso_cli.specs.CommandAnswers.{refused}
+use Rattle.tso_cli.specs.Trace.{refused}
 use Rattle.command_line.specs.declared.settings.Settings.TheVariants as settings
 use Rattle.tso_cli.proofs.CheckLemmas.{check-means, run-spells}
 use Rattle.tso_cli.proofs.OneAnswer.{short_rest}
@@ -12,6 +12,7 @@ use Rattle.tso_cli.proofs.OutcomesLemmas.{Searches, outcomes-mean}
 use Rattle.tso_cli.proofs.WhyLemmas.{Refuting, reasons-mean}
 use Rattle.tso_cli.proofs.SweepLemmas.{sweep-means}
 use Rattle.tso_cli.proofs.WitnessLemmas.{Reaching, witness-means}
+use Rattle.tso_cli.proofs.TraceLengths.{never-both}
 
 -- the order spells itself in what is written
 abbrev Spells : Litmus → ProtocolKind → Configuration → Bool → List Choice → List ℕ → Type 0

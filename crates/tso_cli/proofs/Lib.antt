@@ -1,4 +1,14 @@
 pub mod Vocabulary
+pub mod AnswerLemmas
+pub mod DividingLemmas
+pub mod Lines
+pub mod TraceLemmas
+pub mod ToldLines
+pub mod TraceLengths
+pub mod NamedBreaches
+pub mod FoundOutcomes
+pub mod Sighted
+pub mod SweptText
 pub mod SweepLemmas
 pub mod OneAnswer
 pub mod WitnessLemmas

@@ -1,12 +1,13 @@
 -- There is one answer to an input.
-use Rattle.tso_cli.proofs.Vocabulary.{◌≡◌, ◌≤◌, ◌<◌, ◌^◌, ℕ, Bool, List, length, Some, refl, sym, ◌∙◌, ap, subst, arith, Litmus, IsTest, Entry, IsDecidedAsChoices, TooMany, ProtocolKind, Configuration, parts_of, run_under, counts_under, test_refusal, input_refusal, Refused, choices_refusal, order_refusal, invalid_line, IsAnswerTo, IsInputAnswer, IsAnswer, too_large, answered, run_text, run_status, IsRunAnswer, IsJudgement, IsCheckAnswer, ran, valid, traced_in, IsTooLong, IsTraceAnswer, too_long, traced, IsWitness, IsWitnessAnswer, reached, too_small, Settings, Status, GivesOneAnswer, AreReadOneWay, one-word, never-both}
+use Rattle.tso_cli.proofs.Vocabulary.{◌≡◌, ◌≤◌, ◌<◌, ◌^◌, ℕ, Bool, List, length, Some, refl, sym, ◌∙◌, ap, subst, arith, Litmus, IsTest, Entry, IsDecidedAsChoices, TooMany, ProtocolKind, Configuration, parts_of, run_under, counts_under, test_refusal, input_refusal, Refused, choices_refusal, order_refusal, invalid_line, IsAnswerTo, IsInputAnswer, IsAnswer, too_large, answered, run_text, run_status, IsRunAnswer, IsJudgement, IsCheckAnswer, ran, valid, traced_in, IsTooLong, IsTraceAnswer, too_long, traced, IsWitness, IsWitnessAnswer, reached, too_small, Settings, Status, GivesOneAnswer, AreReadOneWay}
 use Rattle.tso_cli.specs.Answers.{refused}
-use Rattle.commands.specs.Answers.{refused, judged, invalid}
-use Rattle.commands.specs.Trace.{refused}
-use Rattle.commands.specs.Witness.{invalid, refused, judged}
+use Rattle.tso_cli.specs.CommandAnswers.{refused, judged, invalid}
+use Rattle.tso_cli.specs.Trace.{refused}
+use Rattle.tso_cli.specs.Witness.{invalid, refused, judged}
 use Rattle.command_line.specs.declared.settings.Settings.TheVariants as settings
 use Rattle.tso_cli.proofs.CheckLemmas.{IsReal, IsOne}
-use Rattle.commands.proofs.DividingLemmas.{rest_within}
+use Rattle.tso_cli.proofs.DividingLemmas.{rest_within}
+use Rattle.tso_cli.proofs.TraceLengths.{one-word, never-both}
 
 abbrev pub Same : List ℕ → List ℕ → Status → Status → Type 0
 Same out other status again = (out ≡ other) × (status ≡ again)

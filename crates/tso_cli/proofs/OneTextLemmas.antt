@@ -1,5 +1,5 @@
 -- What the headline decides by itself.
-use Rattle.tso_cli.proofs.Vocabulary.{◌≡◌, ◌<◌, ◌≤◌, ◌^◌, ◌+◌, ◌⊎◌, inl, inr, ℕ, zero, suc, Bool, true, false, cond, List, ◌++◌, length, Option, Some, None, IfSome, Contains, refl, sym, ap, subst, ◌∙◌, arith, keys_of, bytes_eq-Decides, Litmus, IsTest, Condition, IsTsoExecution, final_words, final_registers, Run, run, Bus, Atomic, Split, Choice, Entry, SpellsTest, TextFault, SpellsChoices, IsRefusedAsChoices, IsDecidedAsChoices, TooMany, SpellsOrder, HasFault, OrderFault, IsFirstBreach, Breach, ProtocolKind, Configuration, head, observation, counted_state_lines, sweep_line, ended_in, run_counts, Plan, longest_input, Parts, parts_of, test_refusal, choices_refusal, order_refusal, invalid_line, verdict, sweep_lines, PrintsExecution, PrintsEachRun, HeadlineOfRuns, seeded_order, final_values, has_values, has_truth, seeds_from, seeds_with, PrintsSweep, HeadlineOfSweeps, JudgesOrder, JudgesEachOrder, WitnessesOrder, WitnessesEachOrder, unreached, broken, HeadlineOf, PartsHeadline, InputHeadline, ShowOneExecution, AreOneRun, AreOneTrace, AreOneWitness, PrintsEachTrace, HeadlineOfTraces, PrintsTrace, PrintsTracedObject, PrintsTraceIn, trace_text, trace_under, FitsForm, IsTooLong, AreReadOneWay, Settings, too-long-or-not, one-word}
+use Rattle.tso_cli.proofs.Vocabulary.{◌≡◌, ◌<◌, ◌≤◌, ◌^◌, ◌+◌, ◌⊎◌, inl, inr, ℕ, zero, suc, Bool, true, false, cond, List, ◌++◌, length, Option, Some, None, IfSome, Contains, refl, sym, ap, subst, ◌∙◌, arith, keys_of, bytes_eq-Decides, Litmus, IsTest, Condition, IsTsoExecution, final_words, final_registers, Run, run, Bus, Atomic, Split, Choice, Entry, SpellsTest, TextFault, SpellsChoices, IsRefusedAsChoices, IsDecidedAsChoices, TooMany, SpellsOrder, HasFault, OrderFault, IsFirstBreach, Breach, ProtocolKind, Configuration, head, observation, counted_state_lines, sweep_line, ended_in, run_counts, Plan, longest_input, Parts, parts_of, test_refusal, choices_refusal, order_refusal, invalid_line, verdict, sweep_lines, PrintsExecution, PrintsEachRun, HeadlineOfRuns, seeded_order, final_values, has_values, has_truth, seeds_from, seeds_with, PrintsSweep, HeadlineOfSweeps, JudgesOrder, JudgesEachOrder, WitnessesOrder, WitnessesEachOrder, unreached, broken, HeadlineOf, PartsHeadline, InputHeadline, ShowOneExecution, AreOneRun, AreOneTrace, AreOneWitness, PrintsEachTrace, HeadlineOfTraces, PrintsTrace, PrintsTracedObject, PrintsTraceIn, trace_text, trace_under, FitsForm, IsTooLong, AreReadOneWay, Settings}
 use Rattle.litmus_reader.specs.Spelling.{IsRefused as IsRefusedTest, IsDecided as IsDecidedTest}
 use Rattle.scheduler.specs.declared.fault.ChoiceFault.{ChoiceFault}
 use Rattle.tso_cli.specs.SplitRun.{split_run}
@@ -7,6 +7,7 @@ use Rattle.tso_cli.specs.Judgement.{reached}
 use Rattle.command_line.specs.declared.settings.Settings.TheVariants as settings
 use Rattle.tso_cli.proofs.OneAnswer.{short_rest}
 use Rattle.tso_cli.proofs.SameStates.{one-list}
+use Rattle.tso_cli.proofs.TraceLengths.{too-long-or-not, one-word}
 
 -- each text and each order is one or the other
 pub record AreDecided : Type 0 where

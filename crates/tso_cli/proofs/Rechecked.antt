@@ -8,7 +8,7 @@ use Rattle.tso_model.specs.declared.choice.Outcome.TheVariants.{Committed}
 use Rattle.litmus_reader.specs.Spelling.{IsRefused as IsRefusedTest}
 use Rattle.tso_report.specs.Limits.{longest_report, IsSmall}
 use Rattle.tso_cli.specs.Answers.{refused}
-use Rattle.commands.specs.Answers.{refused}
+use Rattle.tso_cli.specs.CommandAnswers.{refused}
 use Rattle.command_line.specs.declared.settings.Settings.TheVariants as settings
 use Rattle.tso_cli.proofs.CheckLemmas.{order-for, valid-answer}
 use Rattle.tso_cli.proofs.HeadlineLemmas.{Runs, report-spells}

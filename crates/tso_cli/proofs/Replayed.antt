@@ -3,9 +3,9 @@ use Rattle.tso_cli.proofs.Vocabulary.{◌≡◌, ◌*◌, ◌≤◌, ◌<◌, �
 use Rattle.std.proofs.lemmas.Fmt.{length-decimal-le}
 use Rattle.tso_model.specs.declared.choice.Choice.TheVariants.{Step, Drain}
 use Rattle.litmus_reader.specs.Spelling.{IsRefused as IsRefusedTest}
-use Rattle.commands.specs.Witness.{ReportsOrder, refused}
+use Rattle.tso_cli.specs.Witness.{ReportsOrder, refused}
 use Rattle.tso_cli.specs.Answers.{refused}
-use Rattle.commands.specs.Answers.{refused}
+use Rattle.tso_cli.specs.CommandAnswers.{refused}
 use Rattle.command_line.specs.declared.settings.Settings.TheVariants as settings
 use Rattle.tso_cli.proofs.WitnessLemmas.{Reaching, choices-few, line-spells}
 

@@ -1,12 +1,13 @@
 -- What `outcomes` prints, once more; and what `run` answers to its choices.
-use Rattle.tso_cli.proofs.Vocabulary.{◌≡◌, ◌∙◌, ℕ, Bool, List, map, length, Contains, Option, Some, None, refl, sym, ap, subst, arith, ForSome, All-weaker, All-contains, Litmus, Condition, run, Atomic, SpellsTest, printed_choices, ProtocolKind, Configuration, Named, names_shown, values_at, Outcome, shown_values, held_in, failed_in, is_met_in, outcomes_in, OutcomesAreAlike, OutcomesOfTheSameValuesAreAlike, Search, IsInputAnswer, too_large, refused, answered, IsPrinted, ShowTheSameStates, AreAllOutcomes, IsOutcomesAnswer, is_claimed_of, found, too_many, parts_of, joined_parts, counts_under, shown_of, Status, AreReadOneWay, Leads, made-of}
-use Rattle.commands.specs.Verdicts.{status_of_verdict}
+use Rattle.tso_cli.proofs.Vocabulary.{◌≡◌, ◌∙◌, ℕ, Bool, List, map, length, Contains, Option, Some, None, refl, sym, ap, subst, arith, ForSome, All-weaker, All-contains, Litmus, Condition, run, Atomic, SpellsTest, printed_choices, ProtocolKind, Configuration, Named, names_shown, values_at, Outcome, shown_values, held_in, failed_in, is_met_in, outcomes_in, OutcomesAreAlike, OutcomesOfTheSameValuesAreAlike, Search, IsInputAnswer, too_large, refused, answered, IsPrinted, ShowTheSameStates, AreAllOutcomes, IsOutcomesAnswer, is_claimed_of, found, too_many, parts_of, joined_parts, counts_under, shown_of, Status, AreReadOneWay}
+use Rattle.tso_cli.specs.Verdicts.{status_of_verdict}
 use Rattle.tso_cli.specs.Revisited.{IsRevisited, AreRevisited}
 use Rattle.command_line.specs.declared.settings.Settings.TheVariants as settings
 use Rattle.tso_cli.proofs.PrintedLemmas.{refused-is-none, unended-is-none}
 use Rattle.tso_cli.proofs.OutcomesLemmas.{Searches, end-of, few-to-end, choices-spell}
 use Rattle.tso_cli.proofs.Replayed.{choices-short, replayed-joined}
 use Rattle.tso_cli.proofs.WitnessLemmas.{Reaching}
+use Rattle.tso_cli.proofs.FoundOutcomes.{Leads, made-of}
 
 -- ---- where `outcomes` finds all states
 

@@ -1,13 +1,13 @@
 -- The names that the proofs of this crate bring in from definitions and from crates below; each file takes its own from here.
-pub use Rattle.std.proofs.Common.{◌≡◌, ◌<◌, ◌≤◌, ◌⊎◌, inl, inr, ◌+◌, ℕ, zero, suc, Bool, true, false, not, cond, List, Option, Some, None, IfSome, is_none, All, Contains, refl, sym, ap, subst, ◌∙◌, arith, ◌^◌, length, ◌≢◌, ◌*◌, IsTrue, [], ◌∷◌, ◌++◌, map, get_or, slice_get, slice_index_or, take, length-take, ◌==◌, nat_eq, codes, drop, replicate, ◌-◌, slice_index, length-append, append_assoc, is_some, Ordering, Less, Equal, Greater, string_bytes, Ok}
+pub use Rattle.std.proofs.Common.{◌≡◌, ◌<◌, ◌≤◌, ◌⊎◌, inl, inr, ◌+◌, ℕ, zero, suc, Bool, true, false, not, cond, List, Option, Some, None, IfSome, is_none, All, Contains, refl, sym, ap, subst, ◌∙◌, arith, ◌^◌, length, ◌≢◌, ◌*◌, IsTrue, [], ◌∷◌, ◌++◌, map, get_or, slice_get, slice_index_or, take, length-take, ◌==◌, nat_eq, codes, drop, replicate, ◌-◌, slice_index, length-append, append_assoc, append-nil, is_some, Ordering, Less, Equal, Greater, string_bytes, Ok, Result, Err, IfOk, OnOk, length-drop, drop-cons, add-one, rules}
 pub use Rattle.std.proofs.lemmas.Slice.Eq.{bytes_eq-Decides, starts_is}
 pub use Rattle.std.specs.Option.{option_map, ForSome, unwrap_or}
 pub use Rattle.std.specs.Map.{keys_of, lookup}
 pub use Rattle.tso_model.specs.FlatMachine.{registers_in, program_of, start, chosen}
-pub use Rattle.tso_model.specs.Litmus.{Litmus, IsTest, IsProgram}
+pub use Rattle.tso_model.specs.Litmus.{Litmus, IsTest, IsProgram, IsCondition}
 pub use Rattle.tso_model.specs.Axioms.{IsTsoExecution, IsWhole}
 pub use Rattle.tso_model.specs.SequentialConsistency.{KeepsAllOrder}
-pub use Rattle.tso_model.specs.Condition.{Condition, truth_of, Claim, NamesExist}
+pub use Rattle.tso_model.specs.Condition.{Condition, truth_of, Claim, NamesExist, claim_of, condition_of}
 pub use Rattle.tso_model.specs.FinalState.{final_words, final_registers, registers_from, words_from}
 pub use Rattle.tso_model.specs.Runs.{Run, run, CoresExist, has_ended, stall_count}
 pub use Rattle.tso_model.specs.declared.choice.Bus.TheVariants.{Atomic, Split}
@@ -19,26 +19,25 @@ pub use Rattle.machine_core.specs.Configuration.{Configuration, IsConfigurationW
 pub use Rattle.tso_report.specs.Tally.{RunCounts, with_state_counted, with_verdict, values_in, count_of_runs, runs_in, counted_state_line, tally_text, counted_state_lines, sweep_line, ended_in, observation, run_counts, looked_at, shown_value}
 pub use Rattle.scheduler.specs.Plan.{Plan}
 pub use Rattle.simulator.specs.Runs.{run_under, AnswersFit, counts_under, run_by, AnswersFitBy}
-pub use Rattle.simulator.specs.Simulation.{verdict, IsEndingOf, drains, shown_of}
-pub use Rattle.commands.specs.Sweep.{IsSweepAnswer, sweep_status, sweep_lines}
+pub use Rattle.simulator.specs.Simulation.{verdict, IsEndingOf, drains, shown_of, HasCounts}
+pub use Rattle.tso_cli.specs.Sweep.{IsSweepAnswer, sweep_status, sweep_lines}
 pub use Rattle.sweeper.specs.Counting.{choices_of, seeded_run, with_one_run, counts_from, sweep_counts}
 pub use Rattle.tso_cli.specs.SweepHeadline.{final_values, has_values, has_truth, seeds_from, HasPart, PrintsSweep, HeadlineOfSweeps, seeded_order, seeds_with}
-pub use Rattle.commands.specs.declared.answer.Status.{Status}
+pub use Rattle.tso_cli.specs.declared.answer.Status.{Status}
 pub use Rattle.sweeper.proofs.StateLemmas.{States, Ascend, EachGiven, count-with, ascend-none, each-counted, counted-there, all-map, same-values, sum-with}
 pub use Rattle.sweeper.proofs.RunsCounted.{values-left, one, states-judged, unfinished-judged, held-judged, failed-judged, ascend-run, given-run, runs-with}
 pub use Rattle.scheduler.specs.Refusals.{IsDecidedAsChoices, IsRefusedAsChoices}
 pub use Rattle.scheduler.specs.declared.fault.ChoiceFault.TheVariants.{TooMany}
-pub use Rattle.commands.specs.Dividing.{parts_of, joined_parts, after_feed, after_end, after_divider, parts_at, with_byte, parts_from, HasNoDivider, EndsInFeed, Parts}
-pub use Rattle.commands.specs.Lines.{test_refusal, choices_refusal, unfinished_run_line, input_refusal}
-pub use Rattle.commands.specs.CheckLines.{order_refusal, invalid_line, valid_line}
+pub use Rattle.tso_cli.specs.Dividing.{parts_of, joined_parts, after_feed, after_end, after_divider, parts_at, with_byte, parts_from, HasNoDivider, EndsInFeed, Parts}
+pub use Rattle.tso_cli.specs.Lines.{test_refusal, choices_refusal, unfinished_run_line, input_refusal, depth_line}
+pub use Rattle.tso_cli.specs.CheckLines.{order_refusal, invalid_line, valid_line}
 pub use Rattle.tso_cli.specs.Answers.{IsAnswerTo, IsInputAnswer, IsAnswer, too_large, answered, IsPrinted, refused, most_read}
-pub use Rattle.commands.specs.Answers.{run_text, run_status, IsRunAnswer, IsJudgement, IsCheckAnswer, ran, valid, status_under}
-pub use Rattle.commands.specs.Trace.{traced_in, IsTooLong, IsTraceAnswer, too_long, traced, ending_text, FitsForm}
-pub use Rattle.commands.specs.Witness.{IsWitness, IsWitnessAnswer, reached, too_small, witness_line, invalid, judged}
+pub use Rattle.tso_cli.specs.CommandAnswers.{run_text, run_status, IsRunAnswer, IsJudgement, IsCheckAnswer, ran, valid, status_under}
+pub use Rattle.tso_cli.specs.Trace.{traced_in, IsTooLong, IsTraceAnswer, too_long, traced, ending_text, FitsForm}
+pub use Rattle.tso_cli.specs.Witness.{IsWitness, IsWitnessAnswer, reached, too_small, witness_line, invalid, judged}
 pub use Rattle.command_line.specs.declared.settings.Settings.{Settings}
 pub use Rattle.tso_cli.specs.OneText.{GivesOneAnswer, ShowTheSameStates, ShowOneExecution, AreOneRun, AreOneTrace, AreOneWitness}
 pub use Rattle.tso_cli.specs.inner.ReadOneWay.{AreReadOneWay}
-pub use Rattle.commands.proofs.TraceLengths.{one-word, never-both, too-long-or-not}
 pub use Rattle.std.specs.List.{list_all, starts_with, AllByRecursion}
 pub use Rattle.std.proofs.lemmas.List.Elements.{All-head, All-tail, All-weaker, All-contains, All-map, All-cons, All-nil}
 pub use Rattle.tso_model.specs.Limits.{most_depth}
@@ -52,22 +51,21 @@ pub use Rattle.tso_cli.specs.Judgement.{WitnessesOrder, WitnessesEachOrder, unre
 pub use Rattle.command_line.specs.Limits.{IsDepth, IsWithinLimits}
 pub use Rattle.simulator.specs.declared.simulation.Ending.{Ending}
 pub use Rattle.simulator.specs.declared.simulation.Ending.TheVariants.{Ended, Unfinished}
-pub use Rattle.commands.specs.declared.answer.Status.TheVariants.{Good, Refused, Unended}
-pub use Rattle.std.proofs.lemmas.List.{append-nil, length-map}
+pub use Rattle.tso_cli.specs.declared.answer.Status.TheVariants.{Good, Refused, Unended, Invalid}
+pub use Rattle.std.proofs.lemmas.List.{length-map, drop-drop, nil_from_length}
 pub use Rattle.tso_report.specs.declared.named.Named.{Named}
 pub use Rattle.shown_values.specs.Shown.{names_shown, values_at}
 pub use Rattle.outcome_report.specs.Outcomes.{Outcome, shown_values, held_in, failed_in, is_met_in, true_in, outcomes_line, state_line, by_line, outcome_lines, observation_line, true_line, condition_lines}
 pub use Rattle.command_line.specs.Search.{Search}
-pub use Rattle.commands.specs.Outcomes.{AreAllOutcomes, IsOutcomesAnswer, found, is_claimed_of, too_many}
+pub use Rattle.tso_cli.specs.Outcomes.{AreAllOutcomes, IsOutcomesAnswer, found, is_claimed_of, too_many}
 pub use Rattle.tso_cli.specs.OutcomesHeadline.{HeadlineOfOutcomes, all}
-pub use Rattle.commands.proofs.FoundOutcomes.{Leads, made-of}
 pub use Rattle.refutation_laws.specs.Models.{IsExecutionOf, depth_of}
 pub use Rattle.command_line.specs.Explanation.{Explanation}
-pub use Rattle.commands.specs.Why.{IsWhyAnswer}
+pub use Rattle.tso_cli.specs.Why.{IsWhyAnswer, allowed, never}
 pub use Rattle.tso_cli.specs.WhyHeadline.{PrintsRefutation, PrintsExecutionOf, HeadlineOfReasons}
 pub use Rattle.litmus_reader.specs.Spelling.{SpellsTest}
-pub use Rattle.outcome_report.specs.Verdict.{is_met, verdict_line, outcomes_verdict_value}
-pub use Rattle.outcome_report.specs.Printed.{outcomes_in}
+pub use Rattle.outcome_report.specs.Verdict.{verdict_line, outcomes_verdict_value}
+pub use Rattle.outcome_report.specs.Printed.{outcomes_in, PrintsOutcomes, unfinished_search_in}
 pub use Rattle.outcome_report.specs.Laws.{OutcomesAreAlike, OutcomesOfTheSameValuesAreAlike}
 pub use Rattle.tso_model.specs.Standing.{StandsIn}
 pub use Rattle.tso_model.specs.declared.choice.Bus.{Bus}
@@ -79,7 +77,7 @@ pub use Rattle.tso_report.specs.Shown.{ShownRun}
 pub use Rattle.tso_cli.specs.RunHeadline.{PrintsExecution, PrintsEachRun, HeadlineOfRuns}
 pub use Rattle.tso_cli.specs.TraceHeadline.{PrintsTraceIn, PrintsEachTrace, HeadlineOfTraces, PrintsTrace, PrintsTracedObject}
 pub use Rattle.tso_cli.specs.Headline.{HeadlineOf, InputHeadline, Headline, PartsHeadline}
-pub use Rattle.commands.specs.RunTexts.{report_in, unfinished_in}
+pub use Rattle.tso_cli.specs.RunTexts.{report_in, unfinished_in}
 pub use Rattle.std.proofs.lemmas.Option.{slice_get-get_or, get_or_from_slice_get, slice_get_within}
 pub use Rattle.order_builder.specs.PrintedOrder.{HasWord, printed_order, HasLocation}
 pub use Rattle.order_builder.specs.declared.fault.OrderFault.{OrderFault}
@@ -92,8 +90,8 @@ pub use Rattle.simulator.proofs.BusLemmas.{attempts_in, length-in, run-is, atomi
 pub use Rattle.simulator.proofs.SimulationLemmas.{RunLaws, choices-counted}
 pub use Rattle.simulator.proofs.CountLemmas.{counts-each, counts-few}
 pub use Rattle.std.specs.Fmt.{decimal}
-pub use Rattle.trace_report.specs.Lines.{trace_text}
-pub use Rattle.trace_report.specs.Steps.{trace_under}
+pub use Rattle.trace_report.specs.Lines.{trace_text, trace_step_line, step_lines, end_line}
+pub use Rattle.trace_report.specs.Steps.{trace_under, trace_step_of, steps_from, trace_of}
 pub use Rattle.trace_json.specs.TracedRun.{json_ended, json_unended, json_last_step}
 unfoldable pub use Rattle.std.specs.List.Sorted.{IsStrictlySortedBy}
 pub use Rattle.std.specs.Ordering.{is_eq, nat_cmp, ordering_reverse, match_ordering}
@@ -103,5 +101,12 @@ pub use Rattle.litmus_reader.specs.declared.fault.TextFault.{TextFault}
 pub use Rattle.tso_cli.specs.Fitting.{EndedRunsFit, ChoicesAreCounted, IsStateAt, IsStateOf, SweptCountsFit}
 pub use Rattle.tso_cli.specs.Step.{IsStepAnswer}
 pub use Rattle.tso_cli.specs.inner.Step.{IsLastStep, told}
-pub use Rattle.commands.proofs.AnswerLemmas.{answer-means, answer-is, refusal-is}
 pub use Rattle.litmus_reader.specs.Reading.{refusal}
+pub use Rattle.machine_core.specs.declared.counts.Counts.{Counts}
+pub use Rattle.machine_core.specs.Running.{Running, new_machine, machine_after}
+pub use Rattle.trace_report.specs.Shown.{ShownStep, shown_step}
+pub use Rattle.trace_report.specs.inner.ToldSteps.{told_step}
+pub use Rattle.explorer.specs.FinalStates.{AreReached, HaveEveryEnd, HasMoreStates}
+pub use Rattle.explorer.specs.declared.final_states.FinalState.{FinalState}
+pub use Rattle.tso_cli.specs.Verdicts.{status_of_verdict}
+pub use Rattle.reason_report.specs.Printed.{ShowsExecution, refutation_in, unfinished_cases_in}

@@ -7,7 +7,7 @@ use Rattle.refutation_laws.specs.declared.model.Model.{Model}
 use Rattle.refutation_laws.specs.declared.model.Model.TheVariants.{Tso, Sequential}
 use Rattle.reason_report.specs.ReasonText.{truth_asked}
 use Rattle.reason_report.specs.Printed.{refutation_in}
-use Rattle.commands.specs.Why.{IsAllowedAnswer, never, allowed, too_many}
+use Rattle.tso_cli.specs.Why.{IsAllowedAnswer, never, allowed, too_many}
 use Rattle.tso_cli.specs.WhyHeadline.{IsSoIn, IsDepthOf, never, allowed, too_many}
 use Rattle.tso_cli.proofs.WitnessLemmas.{Reaching, choices-few}
 

@@ -4,7 +4,7 @@ use Rattle.tso_laws.specs.Counting.{is_plain_store, stores_in, instructions, sto
 use Rattle.scheduler.specs.Limits.{most_choices}
 use Rattle.scheduler.specs.Words.{is_space}
 use Rattle.tso_cli.specs.Judgement.{reached}
-use Rattle.commands.specs.Witness.{HasEndedWith, reached, refused}
+use Rattle.tso_cli.specs.Witness.{HasEndedWith, reached, refused}
 use Rattle.tso_cli.proofs.CheckLemmas.{IsReal}
 
 -- what the crates below say of choices that reach an order

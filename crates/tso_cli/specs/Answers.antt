@@ -1,10 +1,18 @@
 -- The answer to an input: what is written, and the status. Everything that the program promises is said of this; that each
 -- answer meets the headline is a law of it.
 use Rattle.std.specs.Prelude.{ℕ, ◌+◌, ◌<◌, ◌≤◌, ◌≡◌, ◌⊎◌, List, length, Option, IfSome}
-use Rattle.tso_cli.specs.Vocabulary.{Good, input_refusal, IsCheckAnswer, IsOutcomesAnswer, IsRunAnswer, IsSweepAnswer, IsTraceAnswer, Litmus, longest_input, NotAsClaimed, parts_of, printed_table, protocol_name, ProtocolKind, Refused, Settings, Status, table_of, test_refusal, TextFault}
+use Rattle.tso_cli.specs.Vocabulary.{Litmus, longest_input, printed_table, protocol_name, ProtocolKind, Settings, table_of, TextFault}
 use Rattle.litmus_reader.specs.Spelling.{SpellsTest, IsRefused as IsRefusedTest}
-use Rattle.commands.specs.Why.{IsWhyAnswer}
-use Rattle.commands.specs.Witness.{IsWitnessAnswer}
+use Rattle.tso_cli.specs.Why.{IsWhyAnswer}
+use Rattle.tso_cli.specs.Witness.{IsWitnessAnswer}
+use Rattle.tso_cli.specs.CommandAnswers.{IsCheckAnswer, IsRunAnswer}
+use Rattle.tso_cli.specs.Dividing.{parts_of}
+use Rattle.tso_cli.specs.Lines.{input_refusal, test_refusal}
+use Rattle.tso_cli.specs.Outcomes.{IsOutcomesAnswer}
+use Rattle.tso_cli.specs.Sweep.{IsSweepAnswer}
+use Rattle.tso_cli.specs.Trace.{IsTraceAnswer}
+use Rattle.tso_cli.specs.declared.answer.Status.{Status}
+use Rattle.tso_cli.specs.declared.answer.Status.TheVariants.{Good, NotAsClaimed, Refused}
 use Rattle.command_line.specs.declared.settings.Settings.TheVariants as settings
 
 -- the answer of `tables`

@@ -1,9 +1,13 @@
 -- The choices that `why` prints, handed to `run`: they end with the order of the execution that was printed, so it can be seen to come up.
 use Rattle.std.specs.Prelude.{◌≡◌, ℕ, Bool, List, Some}
-use Rattle.tso_cli.specs.Vocabulary.{Choice, Configuration, Entry, Good, joined_parts, Litmus, Model, printed_choices, ProtocolKind, report_in, ShownRun, SpellsTest, Status}
+use Rattle.tso_cli.specs.Vocabulary.{Choice, Configuration, Entry, Litmus, Model, printed_choices, ProtocolKind, ShownRun, SpellsTest}
 use Rattle.command_line.specs.declared.settings.Settings.TheVariants as settings
 use Rattle.tso_cli.specs.Answers.{IsAnswer}
 use Rattle.tso_cli.specs.WhyHeadline.{PrintsRefutation, PrintsExecutionOf}
+use Rattle.tso_cli.specs.Dividing.{joined_parts}
+use Rattle.tso_cli.specs.RunTexts.{report_in}
+use Rattle.tso_cli.specs.declared.answer.Status.{Status}
+use Rattle.tso_cli.specs.declared.answer.Status.TheVariants.{Good}
 
 -- what is written is the report of a run that ended with this very order; none of its choices stalled, and none was left over
 pub record ReportsExecution (t : Litmus) (kind : ProtocolKind) (c : Configuration) (json : Bool) (order : List Entry) (out : List ℕ) : Type 0 where

@@ -1,6 +1,6 @@
 -- The headline: what each command prints of every input; every text that spells no test is refused with its line.
 use Rattle.std.specs.Prelude.{ℕ, ◌<◌, ◌≤◌, ◌≡◌, List, length, Option, IfSome}
-use Rattle.tso_cli.specs.Vocabulary.{input_refusal, Litmus, longest_input, Parts, parts_of, printed_table, protocol_name, ProtocolKind, Settings, table_of, test_refusal, TextFault}
+use Rattle.tso_cli.specs.Vocabulary.{Litmus, longest_input, printed_table, protocol_name, ProtocolKind, Settings, table_of, TextFault}
 use Rattle.litmus_reader.specs.Spelling.{SpellsTest, IsRefused as IsRefusedTest}
 use Rattle.command_line.specs.declared.settings.Settings.TheVariants as settings
 use Rattle.tso_cli.specs.RunHeadline.{HeadlineOfRuns}
@@ -9,6 +9,8 @@ use Rattle.tso_cli.specs.SweepHeadline.{HeadlineOfSweeps}
 use Rattle.tso_cli.specs.OutcomesHeadline.{HeadlineOfOutcomes}
 use Rattle.tso_cli.specs.WhyHeadline.{HeadlineOfReasons}
 use Rattle.tso_cli.specs.Judgement.{JudgesEachOrder, WitnessesEachOrder}
+use Rattle.tso_cli.specs.Dividing.{Parts, parts_of}
+use Rattle.tso_cli.specs.Lines.{input_refusal, test_refusal}
 
 -- the protocol's table is printed
 abbrev pub PrintsTable : ProtocolKind → List ℕ → Type 0

@@ -2,7 +2,9 @@
 -- second line. It is no part of the answer, and promises no more than its form.
 use Rattle.std.specs.Prelude.{◌≡◌, ◌⊎◌, ◌++◌, Bool, true, false, not, ℕ, List, []}
 use Rattle.hints.specs.Hint.{IsHint, IsRunsLine}
-use Rattle.tso_cli.specs.Vocabulary.{Good, Invalid, NotAsClaimed, Refused, Settings, Status, Unended}
+use Rattle.tso_cli.specs.Vocabulary.{Settings}
+use Rattle.tso_cli.specs.declared.answer.Status.{Status}
+use Rattle.tso_cli.specs.declared.answer.Status.TheVariants.{Good, Invalid, NotAsClaimed, Refused, Unended}
 use Rattle.command_line.specs.declared.settings.Settings.TheVariants as settings
 
 -- whether an answer that was printed may mislead: final states in lines that people read may; JSON, a verdict and choices don't

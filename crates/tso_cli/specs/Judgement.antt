@@ -1,9 +1,10 @@
 -- What `check` and `witness` print of an order: that it is valid exactly where it is a TSO execution, and else its first
 -- breach; a witness choices that reach it, or the depth that it needs. (Primer, chapter 4, for the axioms.)
 use Rattle.std.specs.Prelude.{ℕ, ◌≡◌, ◌≢◌, ◌↔◌, List, length}
-use Rattle.tso_cli.specs.Vocabulary.{Breach, Choice, depth_line, Entry, HasFault, IsFirstBreach, IsTsoExecution, LeadTo, Litmus, OrderFault, run, SpellsChoices, SpellsOrder}
+use Rattle.tso_cli.specs.Vocabulary.{Breach, Choice, Entry, HasFault, IsFirstBreach, IsTsoExecution, LeadTo, Litmus, OrderFault, run, SpellsChoices, SpellsOrder}
 use Rattle.tso_laws.specs.Depth.{needed}
-use Rattle.commands.specs.CheckLines.{order_refusal, valid_line, invalid_line}
+use Rattle.tso_cli.specs.CheckLines.{order_refusal, valid_line, invalid_line}
+use Rattle.tso_cli.specs.Lines.{depth_line}
 
 -- what is written of an order is `Check valid` exactly where it is a TSO execution of the test, else its first breach
 pub record JudgesOrder (t : Litmus) (order : List Entry) (out : List ℕ) : Type 0 where

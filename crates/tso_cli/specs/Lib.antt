@@ -1,4 +1,15 @@
 pub mod Vocabulary
+pub mod Lines
+pub mod RunTexts
+pub mod CheckLines
+pub mod Dividing
+pub mod Trace
+pub mod Sweep
+pub mod Verdicts
+pub mod Outcomes
+pub mod Why
+pub mod Witness
+pub mod CommandAnswers
 pub mod Streams
 pub mod Fitting
 pub mod Answers

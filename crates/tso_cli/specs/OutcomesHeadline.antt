@@ -2,7 +2,8 @@
 -- (Primer, chapter 4, for the axioms, and chapter 3 for sequential consistency.)
 use Rattle.std.specs.Prelude.{ℕ, ◌≡◌, ◌↔◌, Bool, List, length, map, All, Contains}
 use Rattle.tso_model.specs.Limits.{most_depth}
-use Rattle.tso_cli.specs.Vocabulary.{AreAllOutcomes, Entry, final_registers, final_words, HasMoreStates, IsTsoExecution, Litmus, Named, names_shown, Outcome, outcomes_in, printed_choices, Search, shown_values, SpellsChoices, unfinished_search_in, values_at}
+use Rattle.tso_cli.specs.Vocabulary.{Entry, final_registers, final_words, HasMoreStates, IsTsoExecution, Litmus, Named, names_shown, Outcome, outcomes_in, printed_choices, Search, shown_values, SpellsChoices, unfinished_search_in, values_at}
+use Rattle.tso_cli.specs.Outcomes.{AreAllOutcomes}
 use Rattle.outcome_laws.specs.Outcomes.{IsSequentiallyConsistent}
 
 -- the values that the final state of an order has at these names

@@ -1,10 +1,14 @@
 -- The choices that `outcomes` prints, handed to `run`: they end in the state that was printed, so every state can be seen
 -- to come up.
 use Rattle.std.specs.Prelude.{◌≡◌, ℕ, Bool, List, All, Some}
-use Rattle.tso_cli.specs.Vocabulary.{Configuration, Good, joined_parts, Litmus, Named, names_shown, Outcome, outcomes_in, printed_choices, ProtocolKind, report_in, shown_values, ShownRun, SpellsTest, Status, values_at}
+use Rattle.tso_cli.specs.Vocabulary.{Configuration, Litmus, Named, names_shown, Outcome, outcomes_in, printed_choices, ProtocolKind, shown_values, ShownRun, SpellsTest, values_at}
 use Rattle.shown_values.specs.declared.show.Show.{Show}
 use Rattle.command_line.specs.declared.settings.Settings.TheVariants as settings
 use Rattle.tso_cli.specs.Answers.{IsAnswer}
+use Rattle.tso_cli.specs.Dividing.{joined_parts}
+use Rattle.tso_cli.specs.RunTexts.{report_in}
+use Rattle.tso_cli.specs.declared.answer.Status.{Status}
+use Rattle.tso_cli.specs.declared.answer.Status.TheVariants.{Good}
 
 -- what is written is the report of a run that ended with these values at these names; none of its choices stalled, and none was left
 -- over

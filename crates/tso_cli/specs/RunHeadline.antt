@@ -1,8 +1,10 @@
 -- What `run` prints: a TSO execution of the test, with what it leaves.
 -- (Primer, chapter 4, for the axioms; x86-TSO, section 3, for fences and locked instructions.)
 use Rattle.std.specs.Prelude.{ℕ, ◌≡◌, Bool, true, false, List, length}
-use Rattle.tso_cli.specs.Vocabulary.{Atomic, Choice, ChoiceFault, choices_refusal, Configuration, final_registers, final_words, IsRefusedAsChoices, IsTsoExecution, KeepsAllOrder, Litmus, ProtocolKind, report_in, Run, run, ShownRun, SpellsChoices, SpellsOrder, Split, unfinished_in, verdict}
+use Rattle.tso_cli.specs.Vocabulary.{Atomic, Choice, ChoiceFault, Configuration, final_registers, final_words, IsRefusedAsChoices, IsTsoExecution, KeepsAllOrder, Litmus, ProtocolKind, Run, run, ShownRun, SpellsChoices, SpellsOrder, Split, verdict}
 use Rattle.tso_cli.specs.SplitRun.{split_run}
+use Rattle.tso_cli.specs.Lines.{choices_refusal}
+use Rattle.tso_cli.specs.RunTexts.{report_in, unfinished_in}
 
 -- what was printed is the report of a run, plain or as JSON: its order is a TSO execution of the test, and at depth 0, where no
 -- core has a store buffer, it keeps program order without exception; its registers and memory are what the programs and that

@@ -1,8 +1,13 @@
 -- The answer of `step`, which the page asks for after each choice: of the trace that `trace --json` prints, the last step alone.
 use Rattle.std.specs.Prelude.{ℕ, ◌≤◌, true, List, length}
-use Rattle.tso_cli.specs.Vocabulary.{AnswersFit, Choice, Configuration, FitsForm, json_last_step, Litmus, longest_input, parts_of, ProtocolKind, Refused, run_under, SpellsChoices, SpellsTest, Status, status_under}
+use Rattle.tso_cli.specs.Vocabulary.{AnswersFit, Choice, Configuration, json_last_step, Litmus, longest_input, ProtocolKind, run_under, SpellsChoices, SpellsTest}
 use Rattle.command_line.specs.declared.settings.Settings.TheVariants as settings
 use Rattle.tso_cli.specs.Answers.{IsInputAnswer}
+use Rattle.tso_cli.specs.CommandAnswers.{status_under}
+use Rattle.tso_cli.specs.Dividing.{parts_of}
+use Rattle.tso_cli.specs.Trace.{FitsForm}
+use Rattle.tso_cli.specs.declared.answer.Status.{Status}
+use Rattle.tso_cli.specs.declared.answer.Status.TheVariants.{Refused}
 
 -- the answer to an input on a machine of this protocol and configuration: a refusal is that of `trace --json`, and of the run that it
 -- traces the last step is told, with the run's status

@@ -2,7 +2,7 @@
 -- beginning of the answer, and never something else.
 use Rattle.std.specs.Prelude.{ℕ, List, Option}
 use Rattle.std.specs.Io.KnownBytes.{Appends}
-use Rattle.tso_cli.specs.Vocabulary.{Status}
+use Rattle.tso_cli.specs.declared.answer.Status.{Status}
 use Rattle.tso_io.specs.Streams.{AppendsBeginning}
 
 -- bytes of which this holds were appended to the writer's contents

@@ -1,12 +1,14 @@
 -- What `trace` prints: what `run` prints of a run, with what each choice of that very run did. A trace of another run would
 -- explain nothing.
 use Rattle.std.specs.Prelude.{ℕ, ◌≡◌, Bool, true, false, List, ◌++◌, length}
-use Rattle.tso_cli.specs.Vocabulary.{Atomic, Choice, ChoiceFault, choices_refusal, Configuration, FitsForm, head, IsRefusedAsChoices, IsTooLong, json_ended, json_unended, Litmus, most_steps, ProtocolKind, Run, run, SpellsChoices, Split, trace_text, unfinished_run_line}
+use Rattle.tso_cli.specs.Vocabulary.{Atomic, Choice, ChoiceFault, Configuration, head, IsRefusedAsChoices, json_ended, json_unended, Litmus, most_steps, ProtocolKind, Run, run, SpellsChoices, Split, trace_text}
 use Rattle.scheduler.specs.WordOfChoice.{IsWordOfChoice}
 use Rattle.scheduler.specs.declared.fault.ChoiceFault.TheVariants.{TooMany}
 use Rattle.trace_report.specs.Steps.{trace_under}
 use Rattle.tso_cli.specs.RunHeadline.{PrintsExecution}
 use Rattle.tso_cli.specs.SplitRun.{split_run}
+use Rattle.tso_cli.specs.Lines.{choices_refusal, unfinished_run_line}
+use Rattle.tso_cli.specs.Trace.{FitsForm, IsTooLong}
 
 -- the trace of the choices stands between the first two lines and a rest: where the run ends, the two lines and the rest are the
 -- report of an execution, as `run` prints it; where it doesn't, the rest is the line that says how far it came

@@ -6,14 +6,19 @@ ghost use Rattle.tso_cli.specs.Answers.{IsTableAnswer, IsAnswerTo, IsInputAnswer
 ghost use Rattle.tso_cli.specs.Headline.{Headline};
 ghost use Rattle.command_line.specs.Limits.{HasDepth};
 
+use crate::answer::{Answer, Status, refused_input, refused_test};
 use crate::answers::answers_meet_the_headline;
+use crate::checking::check_answer;
+use crate::dividing::parts_of;
+use crate::explaining::why_answer;
 use crate::hinting::may_mislead;
 use crate::listing::left_out;
+use crate::outcomes::outcomes_answer;
+use crate::running::run_answer;
+use crate::sweeping::sweep_answer;
+use crate::tracing::trace_answer;
+use crate::witnessing::witness_answer;
 use command_line::Settings;
-use commands::{
-    Answer, Status, check_answer, outcomes_answer, parts_of, refused_input, refused_test,
-    run_answer, sweep_answer, trace_answer, why_answer, witness_answer,
-};
 use explorer::{Unwatched, Watcher};
 use hints::{Cause, Reader};
 use litmus_reader::{ReadError, test_or_fault};

@@ -10,7 +10,7 @@ ghost use Rattle.tso_cli.specs.inner.ReadOneWay.{AreReadOneWay};
 ghost use Rattle.command_line.specs.Limits.{IsWithinLimits};
 ghost use Rattle.tso_cli.specs.OneText.{GivesOneAnswer, ShowTheSameStates};
 ghost use Rattle.command_line.specs.Search.{Search};
-ghost use Rattle.commands.specs.declared.answer.Status.{Status};
+ghost use Rattle.tso_cli.specs.declared.answer.Status.{Status};
 ghost use Rattle.command_line.specs.declared.settings.Settings.{Settings};
 
 use axiom_checker::first_breaches::{first_breach_is_one, first_breach_is_real};

@@ -10,9 +10,9 @@ ghost use Rattle.tso_cli.specs.Answers.{IsAnswer, most_read};
 ghost use Rattle.tso_cli.specs.Headline.{Headline};
 ghost use Rattle.command_line.specs.Limits.{HasDepth};
 
+use crate::answer::{Answer, Status};
 use crate::answering::answer_watched;
 use command_line::Settings;
-use commands::{Answer, Status};
 use explorer::{Unwatched, Watcher};
 use std::alloc::Global;
 use std::io::{Read, Write};

@@ -6,7 +6,7 @@ ghost use Rattle.machine_core.specs.Configuration.{Configuration};
 ghost use Rattle.command_line.specs.Explanation.{Explanation};
 ghost use Rattle.scheduler.specs.Plan.{Plan};
 ghost use Rattle.command_line.specs.Search.{Search};
-ghost use Rattle.commands.specs.Dividing.{parts_of};
+ghost use Rattle.tso_cli.specs.Dividing.{parts_of};
 ghost use Rattle.tso_cli.specs.Headline.{InputHeadline};
 ghost use Rattle.tso_cli.specs.OneReason.{AreOneReason};
 ghost use Rattle.tso_cli.specs.OneSearch.{AreOneSearch};

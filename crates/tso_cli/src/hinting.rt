@@ -5,8 +5,8 @@ ghost use Rattle.std.specs.Prelude.{◌≡◌, IfOk, string_bytes};
 ghost use Rattle.hints.specs.Hint.{IsHint};
 ghost use Rattle.tso_cli.specs.Hints.{IsTold, IsToldOfGood, IsToldOfUnended, IsHintOrNothing, IsHintWithRuns, may_mislead, is_searched};
 
+use crate::answer::{Answer, Status};
 use command_line::Settings;
-use commands::{Answer, Status};
 use hints::{Cause, hint_of, runs_line};
 use std::alloc::Global;
 use tso_model::NoMemory;

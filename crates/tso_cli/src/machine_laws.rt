@@ -8,7 +8,7 @@ ghost use Rattle.scheduler.specs.Plan.{Plan};
 ghost use Rattle.command_line.specs.declared.settings.Settings.{Settings};
 ghost use Rattle.tso_cli.specs.Answers.{IsAnswer};
 ghost use Rattle.tso_cli.specs.Machines.{AreAtomicAtOneDepth, RunsAnswerAlike, TracesAnswerAlike, SweepsAnswerAlike};
-ghost use Rattle.commands.specs.declared.answer.Status.{Status};
+ghost use Rattle.tso_cli.specs.declared.answer.Status.{Status};
 
 use crate::answers::texts_are_read_one_way;
 

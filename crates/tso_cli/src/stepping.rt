@@ -7,10 +7,10 @@ ghost use Rattle.scheduler.specs.Grammar.{SpellsChoices};
 ghost use Rattle.tso_cli.specs.Step.{IsStepAnswer};
 ghost use Rattle.tso_cli.specs.inner.Step.{IsLastStep, status_after};
 
-use commands::{
-    Answer, Status, cause_of, parts_of, refused_choices, refused_input, refused_test,
-    refused_trace, word_too_far,
-};
+use crate::answer::{Answer, Status, refused_input, refused_test};
+use crate::dividing::parts_of;
+use crate::measuring::{refused_trace, word_too_far};
+use crate::running::{cause_of, refused_choices};
 use hints::Reader;
 use litmus_reader::{ReadError, test_or_fault};
 use machine_core::{Choice, Config};

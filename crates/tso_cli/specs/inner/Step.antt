@@ -1,6 +1,10 @@
 -- The last step of a trace of a test: a refusal is that of the whole trace, and so is the status.
 use Rattle.std.specs.Prelude.{ℕ, true, List, length}
-use Rattle.tso_cli.specs.Vocabulary.{AnswersFit, Choice, Configuration, FitsForm, Good, IsTraceAnswer, json_last_step, Litmus, ProtocolKind, Refused, run_under, SpellsChoices, Status, status_under, Unended}
+use Rattle.tso_cli.specs.Vocabulary.{AnswersFit, Choice, Configuration, json_last_step, Litmus, ProtocolKind, run_under, SpellsChoices}
+use Rattle.tso_cli.specs.CommandAnswers.{status_under}
+use Rattle.tso_cli.specs.Trace.{FitsForm, IsTraceAnswer}
+use Rattle.tso_cli.specs.declared.answer.Status.{Status}
+use Rattle.tso_cli.specs.declared.answer.Status.TheVariants.{Good, Refused, Unended}
 use Rattle.simulator.specs.declared.simulation.Ending.{Ending}
 use Rattle.simulator.specs.declared.simulation.Ending.TheVariants.{Ended, Unfinished}
 

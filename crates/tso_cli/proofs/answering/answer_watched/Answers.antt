@@ -1,6 +1,7 @@
 use Rattle.std.specs.Prelude.{Some}
-use Rattle.tso_cli.proofs.Vocabulary.{IsAnswer, Headline, answer-means}
+use Rattle.tso_cli.proofs.Vocabulary.{IsAnswer, Headline}
 use Rattle.tso_cli.proofs.answering.answer_watched.Goals as goal
+use Rattle.tso_cli.proofs.AnswerLemmas.{answer-means}
 
 pub returns-clause-headline : goal.returns-clause-headline
 returns-clause-headline g c =

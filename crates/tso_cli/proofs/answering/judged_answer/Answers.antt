@@ -1,5 +1,6 @@
-use Rattle.tso_cli.proofs.Vocabulary.{arith, ◌≤◌, length, refl, refusal, Refused, longest_input, IsInputAnswer, IsAnswerTo, too_large, refused, answered, input_refusal, test_refusal, parts_of, answer-is, answer-means}
+use Rattle.tso_cli.proofs.Vocabulary.{arith, ◌≤◌, length, refl, refusal, Refused, longest_input, IsInputAnswer, IsAnswerTo, too_large, refused, answered, input_refusal, test_refusal, parts_of}
 use Rattle.tso_cli.proofs.answering.judged_answer.Goals as goal
+use Rattle.tso_cli.proofs.AnswerLemmas.{answer-is, answer-means}
 
 pub returns-then-input-gt-MAX_INPUT : goal.returns-then-input-gt-MAX_INPUT
 returns-then-input-gt-MAX_INPUT g c =

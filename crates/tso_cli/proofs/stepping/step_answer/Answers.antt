@@ -1,7 +1,8 @@
-use Rattle.tso_cli.proofs.Vocabulary.{arith, ◌≤◌, length, refl, refusal, Refused, too_large, refused, longest_input, input_refusal, test_refusal, parts_of, IsStepAnswer, IsLastStep, answer-is, answer-means}
+use Rattle.tso_cli.proofs.Vocabulary.{arith, ◌≤◌, length, refl, refusal, Refused, too_large, refused, longest_input, input_refusal, test_refusal, parts_of, IsStepAnswer, IsLastStep}
 use Rattle.tso_cli.specs.Step as step
 use Rattle.tso_cli.proofs.StepLemmas.{step-of-test}
 use Rattle.tso_cli.proofs.stepping.step_answer.Goals as goal
+use Rattle.tso_cli.proofs.AnswerLemmas.{answer-is, answer-means}
 
 pub returns-then-input-gt-MAX_INPUT : goal.returns-then-input-gt-MAX_INPUT
 returns-then-input-gt-MAX_INPUT c =

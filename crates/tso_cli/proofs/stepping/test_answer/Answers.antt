@@ -1,8 +1,9 @@
-use Rattle.tso_cli.proofs.Vocabulary.{◌≢◌, Refused, choices_refusal, IsLastStep, refusal-is}
+use Rattle.tso_cli.proofs.Vocabulary.{◌≢◌, Refused, choices_refusal, IsLastStep}
 use Rattle.scheduler.specs.declared.fault.ChoiceFault.TheVariants as faults
-use Rattle.commands.specs.Trace as trace
+use Rattle.tso_cli.specs.Trace as trace
 use Rattle.tso_cli.specs.inner.Step.{refused}
 use Rattle.tso_cli.proofs.stepping.test_answer.Goals as goal
+use Rattle.tso_cli.proofs.AnswerLemmas.{refusal-is}
 
 pub returns-in-Err : goal.returns-in-Err
 returns-in-Err c =

@@ -1,7 +1,0 @@
--- Words of contracts inside the project.
-pub mod Answers
-pub mod CheckLines
-pub mod Dividing
-pub mod Searched
-pub mod Telling
-pub mod Trace

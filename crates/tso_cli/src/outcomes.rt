@@ -1,0 +1,89 @@
+//! The answer of `outcomes`: every final state that the flat machine can reach, or that it can reach more states than may
+//! be kept. A list with a gap must never look like a whole one.
+
+ghost use Rattle.std.specs.Prelude.{Bool, IfOk, string_bytes};
+ghost use Rattle.explorer.specs.FinalStates.{AreReached, HasMoreStates};
+ghost use Rattle.shown_values.specs.Shown.{names_shown};
+ghost use Rattle.tso_cli.specs.Outcomes.{IsOutcomesAnswer};
+ghost use Rattle.tso_cli.specs.inner.Searched.{ShowEveryEnd};
+
+use crate::answer::{Answer, Status};
+use crate::unfinished::cause_of_end;
+use command_line::SearchPlan;
+use explorer::{Extent, FinalState, Watcher, explore_watched};
+use hints::Cause;
+use outcome_report::{hidden_registers, outcomes_report, unfinished_report};
+use std::alloc::Global;
+use tso_model::{NoMemory, Test};
+
+/// The answer of `outcomes` to a test: every final state that the machine can reach at the depth of
+/// the search, with choices that lead there; or that it can reach more states than may be kept. The
+/// search doesn't tell states apart by registers that aren't shown. With `assert` the status says where
+/// the test's condition isn't as it claims. The watcher is told of the search while it goes on, which
+/// changes no answer.
+///
+/// Errors: out of memory only.
+pub fn outcomes_answer<W: Watcher>(
+    alloc: Global,
+    test: &Test,
+    search: SearchPlan,
+    json: bool,
+    assert: bool,
+    watcher: &mut W,
+) -> Result<Answer, NoMemory>
+    ensures { IfOk result (λ a. IsOutcomesAnswer test.now search json assert (string_bytes a.text) a.status) }
+{
+    let hidden = hidden_registers(alloc, test, search.show())?;
+    let met = explore_watched(
+        alloc,
+        test,
+        search.depth(),
+        search.states() as usize,
+        &hidden,
+        watcher,
+    )?;
+    match met.extent {
+        Extent::Whole => found_answer(alloc, test, search, json, assert, &met.final_states),
+        Extent::Cut => unfinished_answer(alloc, test, search, json, &met.final_states),
+    }
+}
+
+fn found_answer(
+    alloc: Global,
+    test: &Test,
+    search: SearchPlan,
+    json: bool,
+    assert: bool,
+    finals: &[FinalState],
+) -> Result<Answer, NoMemory>
+    requires reached { AreReached test.now search.depth finals.now }
+    requires complete { ShowEveryEnd test.now (names_shown search.show test.now) search.depth finals.now }
+    ensures { IfOk result (λ a. IsOutcomesAnswer test.now search json assert (string_bytes a.text) a.status) }
+{
+    let printed = outcomes_report(alloc, test, search.depth(), finals, search.show(), json)?;
+    Ok(Answer {
+        text: printed.text,
+        status: Status::of_verdict(assert, printed.is_as_claimed),
+        cause: Cause::Nothing,
+    })
+}
+
+fn unfinished_answer(
+    alloc: Global,
+    test: &Test,
+    search: SearchPlan,
+    json: bool,
+    finals: &[FinalState],
+) -> Result<Answer, NoMemory>
+    requires more { HasMoreStates test.now search.depth search.states }
+    requires reached { AreReached test.now search.depth finals.now }
+    ensures { IfOk result (λ a. (assert : Bool) → IsOutcomesAnswer test.now search json assert (string_bytes a.text) a.status) }
+{
+    let text = unfinished_report(alloc, test, search.states() as usize, json)?;
+    let cause = cause_of_end(alloc, test, search, finals)?;
+    Ok(Answer {
+        text,
+        status: Status::Unended,
+        cause,
+    })
+}
