@@ -339,6 +339,8 @@ pub fn make_problem(alloc: Global, test: &Test, events: &[Entry], model: Model) 
     add_accesses(&mut problem);
     add_program_order(&mut problem);
     let finals = run_cores(alloc, &mut problem, test);
+    // What is asked hangs on both lists, and this one ends here.
+    problem.terms.is_refused |= finals.is_refused;
     note_stored(&mut problem);
     problem.claim = parts_of(alloc, &problem, &finals, test);
     mark_relevant(&mut problem);
