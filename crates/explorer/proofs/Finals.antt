@@ -125,7 +125,7 @@ module _ (law : DeadRegistersChangeNothing) (d : ℕ) (t : Litmus) (hidden : Lis
 
 -- ---- what a search answers
 
-finals-reached : DeadRegistersChangeNothing → (d : ℕ) (t : Litmus) (hidden : List (List Bool)) (xs : List Packed) (n : ℕ) (fs : List FinalState) → AreFinalsOf d t hidden xs n fs → AreReached t d fs
+pub finals-reached : DeadRegistersChangeNothing → (d : ℕ) (t : Litmus) (hidden : List (List Bool)) (xs : List Packed) (n : ℕ) (fs : List FinalState) → AreFinalsOf d t hidden xs n fs → AreReached t d fs
 finals-reached law d t hidden xs n fs h i f q =
     let m = h.each i f q in
     leads-to-end d t f.choices.items m.made.last f.registers.items f.memory.items m.made.leads (last-ended law d t hidden m.kept f m.made m.ended) m.made.registers_are m.made.memory_is
@@ -136,7 +136,7 @@ pub record AreAll (d : ℕ) (t : Litmus) (hidden : List (List Bool)) (pairs : Li
   pub cores : HaveCores t xs
   pub whole : MissesNoEnd d t hidden pairs xs
 
-finals-complete : DeadRegistersChangeNothing → AlikeCoresAreExchangeable → PartlyClosedStatesMissNone → RunsStopWhereTheyEnd → (d : ℕ) (t : Litmus) (hidden : List (List Bool)) (pairs : List (ℕ × ℕ))
+pub finals-complete : DeadRegistersChangeNothing → AlikeCoresAreExchangeable → PartlyClosedStatesMissNone → RunsStopWhereTheyEnd → (d : ℕ) (t : Litmus) (hidden : List (List Bool)) (pairs : List (ℕ × ℕ))
     (xs : List Packed) (fs : List FinalState) → IsTest t → AreAll d t hidden pairs xs → AreFinalsOf d t hidden xs (length xs) fs → HaveEveryEnd t d hidden fs
 finals-complete law all closed stop d t hidden pairs xs fs test w h registers memory e =
     let m = closed d t hidden pairs (map state_of_packed w.whole.earlier) e.choices test w.alike w.whole.closed e.ended in
@@ -157,21 +157,3 @@ finals-complete law all closed stop d t hidden pairs xs fs test w h registers me
 -- what goes by one depth, test and list of hidden registers goes by the same ones
 pub went-by : (P : ℕ → Litmus → List (List Bool) → Type 0) → (d e : ℕ) (t u : Litmus) (hidden other : List (List Bool)) → d ≡ e → t ≡ u → hidden ≡ other → P d t hidden → P e u other
 went-by P d e t u hidden other p q r h = subst (λ z. P z u other) p (subst (λ z. P d z other) q (subst (λ z. P d t z) r h))
-
--- what is met, where the search went by the same test, depth and hidden registers
-pub record AreMet (d : ℕ) (t : Litmus) (hidden : List (List Bool)) (fs : List FinalState) : Type 0 where
-  pub reached : AreReached t d fs
-  pub once : AreDistinct hidden fs
-
-pub met : DeadRegistersChangeNothing → (d e : ℕ) (t u : Litmus) (hidden other : List (List Bool)) (xs : List Packed) (fs : List FinalState) → d ≡ e → t ≡ u → hidden ≡ other
-    → AreFinalsOf d t hidden xs (length xs) fs → AreMet e u other fs
-met law d e t u hidden other xs fs p q r h =
-    let same = went-by (λ a b c. AreFinalsOf a b c xs (length xs) fs) d e t u hidden other p q r h in
-    record { reached = finals-reached law e u other xs (length xs) fs same; once = same.once }
-
--- that is every end, where the search came to its own
-pub all-met : DeadRegistersChangeNothing → AlikeCoresAreExchangeable → PartlyClosedStatesMissNone → RunsStopWhereTheyEnd → (d e : ℕ) (t u : Litmus) (hidden other : List (List Bool)) (pairs : List (ℕ × ℕ))
-    (xs : List Packed) (fs : List FinalState) → d ≡ e → t ≡ u → hidden ≡ other → IsTest u → AreAll d t hidden pairs xs → AreFinalsOf d t hidden xs (length xs) fs → HaveEveryEnd u e other fs
-all-met law all closed stop d e t u hidden other pairs xs fs p q r test w h =
-    finals-complete law all closed stop e u other pairs xs fs test (went-by (λ a b c. AreAll a b c pairs xs) d e t u hidden other p q r w)
-    (went-by (λ a b c. AreFinalsOf a b c xs (length xs) fs) d e t u hidden other p q r h)

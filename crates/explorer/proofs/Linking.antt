@@ -1,5 +1,5 @@
 -- Links lead to their states.
-use Rattle.explorer.proofs.Vocabulary.{◌≡◌, ◌<◌, ◌≤◌, ℕ, ◌+◌, zero, suc, Bool, true, false, List, [], ◌∷◌, ◌++◌, length, Some, slice_get, slice_index_or, if◌then◌else◌, inl, inr, arith, ap, sym, ◌∙◌, subst, refl, length-append, get_or, take, map, append_assoc, not, slice_get-get_or, map-append, take_more, list_any, insert_key, lt-or, Litmus, State, after_choice, start, effect_of, chosen, CoresExist, stall_count, Choice, state_after, state_of_packed, LeadsEagerly, forgotten, AreAlike, DeadRegistersChangeNothing, exchanged_by, AreOf, AreAllAlike, AlikeCoresAreExchangeable, LeadsBy, LeadsToForgotten, IsSettled, LeadByTurns, IsReachedByChoice, IsLinked, IsKeptState, HaveCores, AreLinked, IsPath, GoBack, played, IsArranged, Turn, IsReachable, Packed, Link}
+use Rattle.explorer.proofs.Vocabulary.{◌≡◌, ◌<◌, ◌≤◌, ℕ, ◌+◌, zero, suc, Bool, List, [], ◌∷◌, ◌++◌, length, Some, slice_get, slice_index_or, inl, inr, arith, ap, sym, ◌∙◌, subst, refl, length-append, get_or, take, map, append_assoc, slice_get-get_or, map-append, take_more, lt-or, Litmus, State, after_choice, start, effect_of, chosen, CoresExist, stall_count, Choice, state_after, state_of_packed, LeadsEagerly, forgotten, AreAlike, DeadRegistersChangeNothing, exchanged_by, AreOf, AreAllAlike, AlikeCoresAreExchangeable, LeadsBy, LeadsToForgotten, IsSettled, LeadByTurns, IsReachedByChoice, IsLinked, IsKeptState, HaveCores, AreLinked, IsPath, GoBack, played, IsArranged, Turn, IsReachable, Packed, Link, LeadOn, Made, Exchanged}
 use Rattle.explorer.proofs.Exchanging.{leads-exchanged, of-alike, played-is}
 
 -- ---- places of a list
@@ -112,14 +112,6 @@ linked-more d t hidden xs links r x link h at leads = record {
     last : (i : ℕ) (s : Packed) (l : Link) → i ≡ length xs → x ≡ s → link ≡ l → IsLinked d t hidden (xs ++ x ∷ []) i s l
     last i s l e p q = subst (λ z. IsLinked d t hidden (xs ++ x ∷ []) i z l) p (subst (λ z. IsLinked d t hidden (xs ++ x ∷ []) i x z) q (new i e))
 
-not-true : (b : Bool) → not b ≡ true → b ≡ false
-not-true true q = absurd (let z : ⊥ = cc in z)
-not-true false q = refl
-
-not-false : (b : Bool) → not b ≡ false → b ≡ true
-not-false true q = refl
-not-false false q = absurd (let z : ⊥ = cc in z)
-
 -- what a choice leads to, with the eager ones after it
 pub leads-settled : (d : ℕ) (t : Litmus) (s acted settled : State) (c : Choice) (after : List Choice) → chosen c < length t.programs
     → stall_count (effect_of t d s c).outcome ≡ 0 → acted ≡ after_choice t d s c → IsSettled d t acted settled (c ∷ []) after → LeadsBy d t s after settled
@@ -144,21 +136,6 @@ reached-is d t hidden pairs s acted settled forgot kept c before after none exch
       kept_is = is;
     }
 
-module _ (eq : Packed → Packed → Bool) (d : ℕ) (t : Litmus) (hidden : List (List Bool)) (old new : List Packed) (x : Packed) (links : List Link) (added : Bool)
-    (keys : new ≡ insert_key eq old x) (is : added ≡ not (list_any (eq x) old)) (h : AreLinked d t hidden old links) where
-  -- it was new
-  pub linked-new : (r : Packed) (link : Link) (more : List Link) → added ≡ true → more ≡ links ++ link ∷ [] → slice_get old link.from ≡ Some r
-      → LeadByTurns d t hidden (state_of_packed r) link.turns.items (state_of_packed x) → AreLinked d t hidden new more
-  linked-new r link more q m at leads =
-      let last : new ≡ old ++ x ∷ [] = keys ∙ ap (λ b. if b then old else old ++ x ∷ []) (not-true (list_any (eq x) old) (sym is ∙ q)) in
-      subst (λ z. AreLinked d t hidden z more) (sym last) (subst (λ z. AreLinked d t hidden (old ++ x ∷ []) z) (sym m) (linked-more d t hidden old links r x link h at leads))
-
-  -- it was there
-  pub linked-old : added ≡ false → AreLinked d t hidden new links
-  linked-old q =
-      let same : new ≡ old = keys ∙ ap (λ b. if b then old else old ++ x ∷ []) (not-false (list_any (eq x) old) (sym is ∙ q)) in
-      subst (λ z. AreLinked d t hidden z links) (sym same) h
-
 -- the first alone
 pub linked-first : (d : ℕ) (t : Litmus) (hidden : List (List Bool)) (x : Packed) (link : Link) → LeadByTurns d t hidden (start t) link.turns.items (state_of_packed x)
     → AreLinked d t hidden (x ∷ []) (link ∷ [])
@@ -169,6 +146,16 @@ linked-first d t hidden x link leads = record { count = refl; each = each }
         subst (λ z. LeadByTurns d t hidden (start t) z.turns.items (state_of_packed s)) b
         (subst (λ z. LeadByTurns d t hidden (start t) link.turns.items (state_of_packed z)) a leads)
     each (suc i) s l p q = absurd (let z : ⊥ = cc in z)
+
+-- one state more, reached from the beginning where it is the first, and else from one that is there
+pub linked-on : (d : ℕ) (t : Litmus) (hidden : List (List Bool)) (xs : List Packed) (links : List Link) (x : Packed) (link : Link) (cs : List Choice) (es : List (ℕ × ℕ)) → AreLinked d t hidden xs links
+    → link.turns.items ≡ map Made cs ++ map Exchanged es → LeadOn d t hidden xs link.from cs es (state_of_packed x) → AreLinked d t hidden (xs ++ x ∷ []) (links ++ link ∷ [])
+linked-on d t hidden [] [] x link cs es h turns (inl first) =
+    linked-first d t hidden x link (record { choices = cs; exchanges = es; turns_are = turns; lead = first.1 })
+linked-on d t hidden [] (l ∷ links) x link cs es h turns (inl first) = absurd (let n = h.count in let z : ⊥ = omega (arith, n) in z)
+linked-on d t hidden (y ∷ xs) links x link cs es h turns (inl first) = absurd (let e = first.0 in let z : ⊥ = cc in z)
+linked-on d t hidden xs links x link cs es h turns (inr on) =
+    linked-more d t hidden xs links on.0 x link h on.1 (record { choices = cs; exchanges = es; turns_are = turns; lead = on.2 })
 
 -- ---- paths
 

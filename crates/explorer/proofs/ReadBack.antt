@@ -61,12 +61,10 @@ kind-back F = refl
 kind-back LR = refl
 kind-back LW = refl
 
-pub packs-entry : (e : Entry) (old a b c d new : List ℕ) → a ≡ old ++ e.core.0 ∷ [] → b ≡ a ++ e.place ∷ [] → c ≡ b ++ kind_byte e.kind ∷ [] → d ≡ c ++ e.loc.0 ∷ []
-    → Packs number_bytes read_word e.value d new → Packs entry_bytes read_entry e old new
+pub packs-entry : (e : Entry) (old mid new : List ℕ) → mid ≡ old ++ e.core.0 ∷ e.place ∷ kind_byte e.kind ∷ e.loc.0 ∷ [] → Packs number_bytes read_word e.value mid new → Packs entry_bytes read_entry e old new
 unfolding read_entry read_byte
-packs-entry e old a b c d new p q r s h = record {
-  appended = h.appended ∙ ap (λ z. z ++ number_bytes e.value) (s ∙ ap (λ z. z ++ e.loc.0 ∷ []) (r ∙ ap (λ z. z ++ kind_byte e.kind ∷ []) (q ∙ ap (λ z. z ++ e.place ∷ []) p)))
-      ∙ simp append_assoc;
+packs-entry e old mid new p h = record {
+  appended = h.appended ∙ ap (λ z. z ++ number_bytes e.value) p ∙ append_assoc old (e.core.0 ∷ e.place ∷ kind_byte e.kind ∷ e.loc.0 ∷ []) (number_bytes e.value);
   read_back = λ rest. rw (h.read_back rest, kind-back e.kind) refl;
 }
 

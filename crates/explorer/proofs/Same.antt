@@ -1,5 +1,5 @@
 -- Packed states are equal by == exactly where their bytes are the same.
-use Rattle.explorer.proofs.Vocabulary.{◌≡◌, ℕ, List, [], ◌∷◌, Bool, true, ◌&&◌, ap, refl, subst, pointwise, eqb-true, eq-eqb, eqb, false, sym, and-left, and-right, state_of_bytes, state_of_packed, Packed}
+use Rattle.explorer.proofs.Vocabulary.{◌≡◌, ℕ, List, [], ◌∷◌, Bool, true, ◌&&◌, ◌||◌, ◌∙◌, list_any, ap, refl, subst, pointwise, eqb-true, eq-eqb, eqb, false, sym, and-left, and-right, state_of_bytes, state_of_packed, Packed}
 use mathlib.Core.Bool.{beq}
 use Rattle.explorer.specs.contracts.packed.PackedPartialEq.TheImpl as packed_eq
 
@@ -23,6 +23,12 @@ tests-same xs ys q = pointwise-same beq both-tests xs ys q
 
 pub packed-same : (a b : Packed) → (packed_eq.eq-value).it a b ≡ true → state_of_packed a ≡ state_of_packed b
 packed-same a b q = ap state_of_bytes (words-same a.bytes.items b.bytes.items q)
+
+-- so the same bytes are in a set, or aren't
+pub same-any : (a b : Packed) (xs : List Packed) → a.bytes.items ≡ b.bytes.items → list_any ((packed_eq.eq-value).it a) xs ≡ list_any ((packed_eq.eq-value).it b) xs
+same-any a b [] q = refl
+same-any a b (x ∷ xs) q =
+    ap (λ z. pointwise eqb z x.bytes.items || list_any ((packed_eq.eq-value).it a) xs) q ∙ ap (λ z. (packed_eq.eq-value).it b x || z) (same-any a b xs q)
 
 -- ---- the same, and so equal by ==
 

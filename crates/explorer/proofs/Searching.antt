@@ -1,7 +1,7 @@
 -- What the search keeps, step by step.
-use Rattle.explorer.proofs.Vocabulary.{◌≡◌, ◌<◌, ◌≤◌, ℕ, ◌+◌, zero, suc, Bool, true, false, List, [], ◌∷◌, ◌++◌, length, map, Some, slice_get, slice_index_or, if◌then◌else◌, ◌⊎◌, inl, inr, arith, ap, sym, ◌∙◌, subst, refl, append_assoc, length-append, drop, ◌==◌, ◌||◌, list_any, insert_key, lt-or, append-nil, Litmus, State, after_choice, effect_of, start, chosen, step, drain, Entry, Choice, Step, Drain, stall_count, IsEager, LeadsEagerly, IsAmongStates, IsCovered, IsExpandedEnough, ArePartlyClosed, ChoiceSet, has_choice, IsStubborn, HasEvery, ArePicksVisited, forgotten, exchanged_by, state_bytes, state_of_bytes, state_of_packed, state_of_snapshot, core_of_processor, length-map, LeadsBy, IsSettled, Grows, IsKeptState, HaveCores, IsCurrent, IsFirstKept, IsReachedByChoice, IsVisited, AreLinked, Snapshot, Packed, Link, Made, Exchanged}
+use Rattle.explorer.proofs.Vocabulary.{◌≡◌, ◌<◌, ◌≤◌, ℕ, ◌+◌, zero, suc, Bool, true, false, List, [], ◌∷◌, ◌++◌, length, map, Some, slice_get, if◌then◌else◌, ◌⊎◌, inl, inr, arith, ap, sym, ◌∙◌, subst, refl, append_assoc, length-append, ◌||◌, list_any, insert_key, lt-or, append-nil, Litmus, State, after_choice, effect_of, start, chosen, step, drain, Choice, Step, Drain, stall_count, IsEager, LeadsEagerly, IsAmongStates, IsCovered, IsExpandedEnough, ArePartlyClosed, ChoiceSet, has_choice, IsStubborn, HasEvery, ArePicksVisited, forgotten, exchanged_by, state_bytes, state_of_bytes, state_of_packed, state_of_snapshot, core_of_processor, length-map, LeadsBy, IsSettled, Grows, IsKeptState, HaveCores, IsCurrent, IsReachedByChoice, IsVisited, AreLinked, LeadToExchanged, Snapshot, Packed}
 use Rattle.explorer.proofs.Exchanging.{none-alike}
-use Rattle.explorer.proofs.Linking.{get-left, get-back, get-within, get-one, kept-at, leads-append, linked-first}
+use Rattle.explorer.proofs.Linking.{get-left, get-back, get-within, get-one, kept-at, leads-append}
 
 -- ---- eager choices, one more
 
@@ -28,13 +28,6 @@ grows-none xs = ([], sym (append-nil xs))
 
 pub grows-on : (xs ys zs : List Packed) → Grows xs ys → Grows ys zs → Grows xs zs
 grows-on xs ys zs g h = (g.0 ++ h.0, h.1 ∙ ap (λ z. z ++ h.0) g.1 ∙ append_assoc xs g.0 h.0)
-
-pub grows-insert : (eq : Packed → Packed → Bool) (xs : List Packed) (x : Packed) → Grows xs (insert_key eq xs x)
-grows-insert eq xs x = go (list_any (eq x) xs)
-  where
-    go : (b : Bool) → Grows xs (if b then xs else xs ++ x ∷ [])
-    go true = grows-none xs
-    go false = (x ∷ [], refl)
 
 map-append : (xs ys : List Packed) → map state_of_packed (xs ++ ys) ≡ map state_of_packed xs ++ map state_of_packed ys
 map-append [] ys = refl
@@ -82,19 +75,14 @@ from-list (y ∷ xs) (suc i) s q = let r = from-list xs i s q in (r.0, r.1, r.2,
 
 -- ---- cores
 
-pub cores-insert : (eq : Packed → Packed → Bool) (t : Litmus) (xs : List Packed) (x : Packed) → HaveCores t xs → IsKeptState t x → HaveCores t (insert_key eq xs x)
-cores-insert eq t xs x h q = go (list_any (eq x) xs)
-  where
-    last : (xs : List Packed) → ((k : ℕ) (d : Packed) → k < length xs → IsKeptState t (slice_index_or xs k d))
-        → (k : ℕ) (d : Packed) → k < length (xs ++ x ∷ []) → IsKeptState t (slice_index_or (xs ++ x ∷ []) k d)
-    last [] h zero d l = q
-    last [] h (suc k) d l = absurd (let z : ⊥ = omega (arith, l) in z)
-    last (y ∷ xs) h zero d l = h zero d (omega arith)
-    last (y ∷ xs) h (suc k) d l = last xs (λ k d l. h (suc k) d (omega (arith, l))) k d (omega (arith, l))
+pub cores-none : (t : Litmus) → HaveCores t []
+cores-none t k d l = absurd (let z : ⊥ = omega (arith, l) in z)
 
-    go : (b : Bool) → HaveCores t (if b then xs else xs ++ x ∷ [])
-    go true = h
-    go false = last xs h
+pub cores-more : (t : Litmus) (xs : List Packed) (x : Packed) → HaveCores t xs → IsKeptState t x → HaveCores t (xs ++ x ∷ [])
+cores-more t [] x h q zero d l = q
+cores-more t [] x h q (suc k) d l = absurd (let z : ⊥ = omega (arith, l) in z)
+cores-more t (y ∷ xs) x h q zero d l = h zero d (omega arith)
+cores-more t (y ∷ xs) x h q (suc k) d l = cores-more t xs x (λ k d l. h (suc k) d (omega (arith, l))) q k d (omega (arith, l))
 
 -- what was packed is kept
 pub packed-is : (x room : Packed) (s : Snapshot) → x.bytes.items ≡ room.bytes.items → state_of_packed room ≡ state_of_snapshot s → state_of_packed x ≡ state_of_snapshot s
@@ -199,44 +187,37 @@ visits d t hidden pairs keys s kept c choices exchanges h m = inr (record {
   among = subst (IsAmongStates (map state_of_packed keys)) (sym h.kept_is) m;
 })
 
--- the first of a list
-pub first-is : (xs : List Entry) (x : Entry) → (length xs == 0) ≡ false → x ≡ slice_index_or xs 0 x → xs ≡ x ∷ drop 1 xs
-first-is [] x q e = absurd (let z : ⊥ = cc in z)
-first-is (y ∷ xs) x q e = ap (λ z. z ∷ xs) (sym e)
+-- a state that isn't in the set is added at its end
+pub added : (eq : Packed → Packed → Bool) (xs new : List Packed) (x : Packed) → list_any (eq x) xs ≡ false → new ≡ insert_key eq xs x → new ≡ xs ++ x ∷ []
+added eq xs new x q keys = keys ∙ ap (λ b. if b then xs else xs ++ x ∷ []) q
+
+last-in : (xs : List Packed) (x : Packed) → slice_get (xs ++ x ∷ []) (length xs) ≡ Some x
+last-in [] x = refl
+last-in (y ∷ xs) x = last-in xs x
+
+pub among-added : (xs new : List Packed) (x : Packed) → new ≡ xs ++ x ∷ [] → IsAmongStates (map state_of_packed new) (state_of_packed x)
+among-added xs new x e = in-list new (length xs) x (subst (λ z. slice_get z (length xs) ≡ Some x) (sym e) (last-in xs x))
 
 -- the first state alone
-module _ (d : ℕ) (t : Litmus) (hidden : List (List Bool)) (x : Packed) (choices : List Choice) (es : List (ℕ × ℕ)) (h : IsFirstKept d t hidden choices es (state_of_packed x)) where
-  leads-first : LeadsBy d t (start t) choices h.last
-  leads-first = subst (λ z. LeadsBy d t (start t) z h.last) (sym h.settled.appended) h.settled.leads
-
-  pub first-linked : (new : List Packed) → new ≡ x ∷ [] → (links : List Link) (link : Link) → link.turns.items ≡ map Made choices ++ map Exchanged es → links ≡ link ∷ [] → AreLinked d t hidden new links
-  first-linked new alone links link a m =
-      subst (λ z. AreLinked d t hidden z links) (sym alone)
-      (subst (λ z. AreLinked d t hidden (x ∷ []) z) (sym m) (linked-first d t hidden x link (record {
-        choices = choices;
-        exchanges = es;
-        turns_are = a;
-        lead = record {
-          last = h.last;
-          leads = leads-first;
-          alike = none-alike t hidden es h.none;
-          kept_is = ap (λ z. exchanged_by z (forgotten t hidden h.last)) h.none ∙ sym h.kept_is;
-        };
-      })))
-
-  pub first-covered : (pairs : List (ℕ × ℕ)) (new : List Packed) → new ≡ x ∷ [] → IsCovered d t hidden pairs (map state_of_packed new) (start t)
-  first-covered pairs new alone = record {
-    eager = h.settled.made;
-    last = h.last;
-    leads = h.settled.eager;
-    exchanges = [];
-    of_pairs = tt;
-    among = subst (λ z. IsAmongStates (map state_of_packed z) (forgotten t hidden h.last)) (sym alone) (0, ap Some h.kept_is);
+module _ (d : ℕ) (t : Litmus) (hidden : List (List Bool)) (settled kept : State) (before choices : List Choice) (es : List (ℕ × ℕ)) (none : before ≡ [])
+    (h : IsSettled d t (start t) settled before choices) (forgot : kept ≡ forgotten t hidden settled) where
+  pub first-leads : es ≡ [] → LeadToExchanged d t hidden (start t) choices es kept
+  first-leads q = record {
+    last = settled;
+    leads = subst (λ z. LeadsBy d t (start t) z settled) (sym (h.appended ∙ ap (λ z. z ++ h.made) none)) h.leads;
+    alike = none-alike t hidden es q;
+    kept_is = ap (λ z. exchanged_by z (forgotten t hidden settled)) q ∙ sym forgot;
   }
 
-pub first-cores : (t : Litmus) (x : Packed) (new : List Packed) → new ≡ x ∷ [] → IsKeptState t x → HaveCores t new
-first-cores t x new alone q = subst (λ z. HaveCores t z) (sym alone) only
-  where
-    only : (k : ℕ) (d : Packed) → k < length (x ∷ []) → IsKeptState t (slice_index_or (x ∷ []) k d)
-    only zero d l = q
-    only (suc k) d l = absurd (let z : ⊥ = omega (arith, l) in z)
+  pub first-covered : (pairs : List (ℕ × ℕ)) (new : List Packed) → IsAmongStates (map state_of_packed new) kept → IsCovered d t hidden pairs (map state_of_packed new) (start t)
+  first-covered pairs new among = record {
+    eager = h.made;
+    last = settled;
+    leads = h.eager;
+    exchanges = [];
+    of_pairs = tt;
+    among = subst (IsAmongStates (map state_of_packed new)) forgot among;
+  }
+
+pub no-links : (d : ℕ) (t : Litmus) (hidden : List (List Bool)) → AreLinked d t hidden [] []
+no-links d t hidden = record { count = refl; each = λ i s link p q. absurd (let z : ⊥ = cc in z) }

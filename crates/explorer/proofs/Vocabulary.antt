@@ -22,10 +22,10 @@ pub use Rattle.std.specs.List.{list_any, AllByRecursion}
 unfoldable pub use Rattle.std.specs.List.{IsDistinct}
 pub use Rattle.indexmap.specs.IndexSet.{insert_key}
 pub use Rattle.tso_model.specs.Runs.{stall_count, CoresExist, is_done, all_done, has_ended, resting, then_run, run_from, run}
-pub use Rattle.eager_laws.specs.Eager.{IsEager, Avoids, meets}
+pub use Rattle.eager_laws.specs.Eager.{IsEager, IsEagerBy, Avoids, meets}
 pub use Rattle.eager_laws.specs.Closed.{LeadsEagerly, IsAmongStates, IsCovered, IsExpandedEnough, ArePartlyClosed, PartlyClosedStatesMissNone}
 pub use Rattle.explorer.specs.Settled.{LeadsBy, IsSettled, LeadsToForgotten}
-pub use Rattle.explorer.specs.inner.Settled.{Grows, IsKeptState, HaveCores, IsCurrent, IsFirstKept, IsReachedByChoice, IsVisited, ArePicksVisited, AreLinked, LeadByTurns, IsLinked, IsPath, GoBack, LeadToExchanged}
+pub use Rattle.explorer.specs.inner.Settled.{Grows, IsKeptState, HaveCores, IsCurrent, LeadOn, IsReachedByChoice, IsVisited, ArePicksVisited, AreLinked, LeadByTurns, IsLinked, IsPath, GoBack, LeadToExchanged, IsInOrder}
 pub use Rattle.flat_machine.specs.declared.snapshot.Snapshot.{Snapshot}
 pub use Rattle.explorer.specs.declared.packed.Packed.{Packed}
 pub use Rattle.explorer.specs.inner.Packed.{state_bytes, state_of_bytes, state_of_packed, IsPacked}
@@ -46,5 +46,5 @@ pub use Rattle.explorer.specs.inner.Collected.{IsFinalOf, IsMadeOf, AreFinalsOf,
 pub use Rattle.std.specs.declared.vec.Vec.{Vec}
 pub use Rattle.std.specs.declared.alloc.Global.{Global}
 pub use Rattle.eager_laws.specs.Stubborn.{ChoiceSet, has_step, has_drain, has_choice, HasPending, HasNonePending, IsHeldBack, OthersAreHeldBack, IsApartBy, IsApartStep, IsApartDrain, IsStubborn, away, by_drain, by_step}
-pub use Rattle.explorer.specs.inner.Picked.{set_of, HasEvery, ArePicksApart}
+pub use Rattle.explorer.specs.inner.Picked.{set_of, HasEvery, ArePicksApart, IsNextAction}
 pub use Rattle.explorer.specs.declared.stubborn.Picked.{Picked}

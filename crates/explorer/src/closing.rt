@@ -1,22 +1,19 @@
 //! What exchanges of alike cores make of the states in which the test has ended. A search keeps one of the states that
 //! differ by such exchanges; all of those that have ended are added to it at its end, each with choices that lead there.
-ghost use Rattle.std.specs.Prelude.{◌≡◌, ◌<◌, ◌≤◌, true, IfOk, OnOk, map, length, slice_get, Some};
+ghost use Rattle.std.specs.Prelude.{◌≡◌, ◌<◌, ◌≤◌, true, OnOk, map, length, slice_get, Some};
 ghost use Rattle.tso_model.specs.Runs.{has_ended};
 ghost use Rattle.eager_laws.specs.Closed.{IsAmongStates};
 ghost use Rattle.eager_laws.specs.Exchanged.{exchanged, IsOneOf};
 ghost use Rattle.flat_machine.specs.State.{state_of_snapshot};
 ghost use Rattle.explorer.specs.inner.Packed.{state_of_packed};
-ghost use Rattle.explorer.specs.inner.Settled.{Grows, HaveCores, IsCurrent, AreLinked};
+ghost use Rattle.explorer.specs.inner.Settled.{Grows, IsCurrent, IsInOrder};
 ghost use Rattle.explorer.specs.inner.Arranged.{HasExchanged, AreExchanged};
 ghost use Rattle.explorer.specs.inner.Planned.{IsPlan};
 ghost use Rattle.explorer.specs.declared.packed.Packed.{Packed};
-ghost use Rattle.explorer.specs.declared.search.Extent.{Extent};
 
 use crate::exchange::exchange;
 use crate::found::{Found, keep};
 use crate::plan::Plan;
-use crate::reached::{Reached, nowhere};
-use crate::search::{Extent, extent_within};
 use crate::unpacking::unpack;
 use eager_laws::{alike_cores_are_exchangeable, dead_registers_change_nothing};
 use flat_machine::{has_ended, overwrite};
@@ -30,31 +27,26 @@ fn add_exchanged(
     alloc: Global,
     plan: &Plan,
     found: &mut Found,
-    reached: &mut Reached,
     from: usize,
     pair: (u8, u8),
 ) -> Result<(), NoMemory>
     requires plan { IsPlan plan.now }
     requires current { IsCurrent found.old.states.keys from found.old.current }
-    requires cores { HaveCores plan.now.test.now found.old.states.keys }
-    requires linked { AreLinked plan.now.depth plan.now.test.now plan.now.hidden.now found.old.states.keys found.old.links.items }
-    requires room { length reached.old.state.cores.items ≡ length plan.now.test.now.programs }
+    requires found { IsInOrder plan.now found.old }
     requires pair { IsOneOf plan.now.alike.items pair }
     ensures grows { OnOk result (Grows found.old.states.keys found.new.states.keys) }
-    ensures cores { OnOk result (HaveCores plan.now.test.now found.new.states.keys) }
-    ensures linked { OnOk result (AreLinked plan.now.depth plan.now.test.now plan.now.hidden.now found.new.states.keys found.new.links.items) }
-    ensures room { OnOk result (length reached.new.state.cores.items ≡ length plan.now.test.now.programs) }
+    ensures found { OnOk result (IsInOrder plan.now found.new) }
     ensures current { OnOk result (found.new.current ≡ found.old.current) }
     ensures among { OnOk result (IsAmongStates (map state_of_packed found.new.states.keys) (exchanged pair (state_of_snapshot found.old.current))) }
 {
     alike_cores_are_exchangeable();
     dead_registers_change_nothing();
-    overwrite(&mut reached.state, &found.current)?;
-    exchange(&mut reached.state, pair);
-    reached.choices.clear();
-    reached.exchanges.clear();
-    reached.exchanges.push(pair)?;
-    keep(alloc, found, reached, from)
+    overwrite(&mut found.reached.state, &found.current)?;
+    exchange(&mut found.reached.state, pair);
+    found.reached.choices.clear();
+    found.reached.exchanges.clear();
+    found.reached.exchanges.push(pair)?;
+    keep(alloc, found, from)
 }
 
 /// Adds what each exchange of two alike cores makes of a state, if the test has ended in it.
@@ -64,20 +56,13 @@ fn add_all_exchanged(
     alloc: Global,
     plan: &Plan,
     found: &mut Found,
-    reached: &mut Reached,
     from: usize,
 ) -> Result<(), NoMemory>
     requires plan { IsPlan plan.now }
     requires from { from < length found.old.states.keys }
-    requires cores { HaveCores plan.now.test.now found.old.states.keys }
-    requires linked { AreLinked plan.now.depth plan.now.test.now plan.now.hidden.now found.old.states.keys found.old.links.items }
-    requires current { length found.old.current.cores.items ≡ length plan.now.test.now.programs }
-    requires room { length reached.old.state.cores.items ≡ length plan.now.test.now.programs }
+    requires found { IsInOrder plan.now found.old }
     ensures grows { OnOk result (Grows found.old.states.keys found.new.states.keys) }
-    ensures cores { OnOk result (HaveCores plan.now.test.now found.new.states.keys) }
-    ensures linked { OnOk result (AreLinked plan.now.depth plan.now.test.now plan.now.hidden.now found.new.states.keys found.new.links.items) }
-    ensures current { OnOk result (length found.new.current.cores.items ≡ length plan.now.test.now.programs) }
-    ensures room { OnOk result (length reached.new.state.cores.items ≡ length plan.now.test.now.programs) }
+    ensures found { OnOk result (IsInOrder plan.now found.new) }
     ensures exchanged { OnOk result ((s : Packed) → slice_get found.old.states.keys from ≡ Some s
         → has_ended plan.now.test.now (state_of_packed s) ≡ true → HasExchanged plan.now.alike.items found.new.states.keys (state_of_packed s)) }
 {
@@ -86,7 +71,7 @@ fn add_all_exchanged(
         return Ok(());
     }
     for at in 0..plan.alike.len() {
-        add_exchanged(alloc, plan, found, reached, from, plan.alike[at])?;
+        add_exchanged(alloc, plan, found, from, plan.alike[at])?;
     }
     Ok(())
 }
@@ -95,34 +80,22 @@ fn add_all_exchanged(
 /// nothing is new, as long as no more than `limit` are kept. Where they are more, it ends there.
 ///
 /// Errors: out of memory only.
-pub fn close(
-    alloc: Global,
-    plan: &Plan,
-    found: &mut Found,
-    limit: usize,
-) -> Result<Extent, NoMemory>
+pub fn close(alloc: Global, plan: &Plan, found: &mut Found, limit: usize) -> Result<(), NoMemory>
     requires plan { IsPlan plan.now }
-    requires cores { HaveCores plan.now.test.now found.old.states.keys }
-    requires linked { AreLinked plan.now.depth plan.now.test.now plan.now.hidden.now found.old.states.keys found.old.links.items }
-    requires current { length found.old.current.cores.items ≡ length plan.now.test.now.programs }
-    requires within { length found.old.states.keys ≤ limit }
+    requires found { IsInOrder plan.now found.old }
     ensures grows { OnOk result (Grows found.old.states.keys found.new.states.keys) }
-    ensures cores { OnOk result (HaveCores plan.now.test.now found.new.states.keys) }
-    ensures linked { OnOk result (AreLinked plan.now.depth plan.now.test.now plan.now.hidden.now found.new.states.keys found.new.links.items) }
-    ensures exchanged { IfOk result (λ extent. extent ≡ Extent.Whole → AreExchanged plan.now.test.now plan.now.alike.items
+    ensures found { OnOk result (IsInOrder plan.now found.new) }
+    ensures exchanged { OnOk result (length found.new.states.keys ≤ limit → AreExchanged plan.now.test.now plan.now.alike.items
         found.new.states.keys (length found.new.states.keys)) }
-    ensures within { IfOk result (λ extent. extent ≡ Extent.Whole → length found.new.states.keys ≤ limit) }
-    ensures more { IfOk result (λ extent. extent ≡ Extent.Cut → limit < length found.new.states.keys) }
 {
     if plan.alike.is_empty() {
-        return Ok(Extent::Whole);
+        return Ok(());
     }
-    let mut reached = nowhere(alloc, plan.test)?;
     for at in 0..limit {
         if at >= found.states.len() || found.states.len() > limit {
             break;
         }
-        add_all_exchanged(alloc, plan, found, &mut reached, at)?;
+        add_all_exchanged(alloc, plan, found, at)?;
     }
-    Ok(extent_within(limit, found.states.len()))
+    Ok(())
 }

@@ -1,6 +1,6 @@
 //! The final states that a search met: those kept states in which the test has ended, each once, with choices that lead
 //! there. A kept state has 0 in its hidden registers; what they hold at the end is known by making the choices again.
-ghost use Rattle.std.specs.Prelude.{◌≡◌, ◌<◌, ◌≤◌, ℕ, IfOk, IfErr, OnOk, length, map, slice_get, Some};
+ghost use Rattle.std.specs.Prelude.{◌≡◌, ◌<◌, ◌≤◌, ℕ, [], IfOk, IfErr, OnOk, length, map, slice_get, Some};
 ghost use Rattle.tso_model.specs.FlatMachine.{start};
 ghost use Rattle.tso_model.specs.Limits.{most_depth};
 ghost use Rattle.tso_model.specs.Runs.{CoresExist};
@@ -9,7 +9,7 @@ ghost use Rattle.flat_machine.specs.State.{state_of_snapshot};
 ghost use Rattle.eager_laws.specs.Closed.{IsCovered};
 ghost use Rattle.explorer.specs.inner.Planned.{IsPlan};
 ghost use Rattle.explorer.specs.inner.Packed.{state_of_packed};
-ghost use Rattle.explorer.specs.inner.Settled.{HaveCores, AreLinked};
+ghost use Rattle.explorer.specs.inner.Settled.{IsInOrder};
 ghost use Rattle.explorer.specs.inner.Collected.{IsFinalOf, AreFinalsOf, MissesNoEnd};
 ghost use Rattle.explorer.specs.FinalStates.{AreReached, HaveEveryEnd, AreDistinct, HasMoreStates};
 ghost use Rattle.explorer.specs.FinalStates.{AreWhatTsoAllows, AreWhatSequentialConsistencyAllows};
@@ -22,7 +22,7 @@ use crate::fault::ExploreFault;
 use crate::found::{Found, beginning};
 use crate::link::path;
 use crate::plan::{Plan, plan_of};
-use crate::search::{Extent, expand_all};
+use crate::search::{Extent, expand_all, extent_within};
 use crate::unpacking::unpack;
 use crate::watching::{Unwatched, Watcher};
 use eager_laws::{
@@ -76,7 +76,7 @@ fn state_after(
 /// Errors: out of memory only.
 fn final_state(alloc: Global, plan: &Plan, found: &Found, at: usize) -> Result<FinalState, NoMemory>
     requires at { at < length found.now.states.keys }
-    requires linked { AreLinked plan.now.depth plan.now.test.now plan.now.hidden.now found.now.states.keys found.now.links.items }
+    requires found { IsInOrder plan.now found.now }
     ensures { IfOk result (λ f. (s : Packed) → slice_get found.now.states.keys at ≡ Some s
         → IsFinalOf plan.now.depth plan.now.test.now plan.now.hidden.now (state_of_packed s) f) }
 {
@@ -90,24 +90,43 @@ fn final_state(alloc: Global, plan: &Plan, found: &Found, at: usize) -> Result<F
     })
 }
 
+/// Appends the final states among those that are kept. The room is for one of them, unpacked.
+///
+/// Errors: out of memory only; some may have been appended then.
+fn push_final_states(
+    alloc: Global,
+    plan: &Plan,
+    found: &Found,
+    room: &mut Snapshot,
+    final_states: &mut Vec<FinalState>,
+) -> Result<(), NoMemory>
+    requires found { IsInOrder plan.now found.now }
+    requires room { length room.old.cores.items ≡ length plan.now.test.now.programs }
+    requires none { final_states.old.items ≡ [] }
+    ensures { OnOk result (AreFinalsOf plan.now.depth plan.now.test.now plan.now.hidden.now found.now.states.keys
+        (length found.now.states.keys) final_states.new.items) }
+{
+    dead_registers_change_nothing();
+    for at in 0..found.states.len() {
+        unpack(&found.states[at], room)?;
+        if has_ended(plan.test, room) {
+            final_states.push(final_state(alloc, plan, found, at)?)?;
+        }
+    }
+    Ok(())
+}
+
 /// The final states among those that are kept.
 ///
 /// Errors: out of memory only.
 fn final_states(alloc: Global, plan: &Plan, found: &Found) -> Result<Vec<FinalState>, NoMemory>
-    requires cores { HaveCores plan.now.test.now found.now.states.keys }
-    requires linked { AreLinked plan.now.depth plan.now.test.now plan.now.hidden.now found.now.states.keys found.now.links.items }
+    requires { IsInOrder plan.now found.now }
     ensures { IfOk result (λ fs. AreFinalsOf plan.now.depth plan.now.test.now plan.now.hidden.now found.now.states.keys
         (length found.now.states.keys) fs.items) }
 {
-    dead_registers_change_nothing();
+    let mut room = start(alloc, plan.test)?;
     let mut final_states = Vec::new(alloc);
-    let mut state = start(alloc, plan.test)?;
-    for at in 0..found.states.len() {
-        unpack(&found.states[at], &mut state)?;
-        if has_ended(plan.test, &state) {
-            final_states.push(final_state(alloc, plan, found, at)?)?;
-        }
-    }
+    push_final_states(alloc, plan, found, &mut room, &mut final_states)?;
     Ok(final_states)
 }
 
@@ -121,32 +140,17 @@ fn search_all<W: Watcher>(
     found: &mut Found,
     limit: usize,
     watcher: &mut W,
-) -> Result<Extent, NoMemory>
+) -> Result<(), NoMemory>
     requires plan { IsPlan plan.now }
-    requires cores { HaveCores plan.now.test.now found.old.states.keys }
-    requires linked { AreLinked plan.now.depth plan.now.test.now plan.now.hidden.now found.old.states.keys found.old.links.items }
+    requires found { IsInOrder plan.now found.old }
     requires covered { IsCovered plan.now.depth plan.now.test.now plan.now.hidden.now plan.now.alike.items
         (map state_of_packed found.old.states.keys) (start plan.now.test.now) }
-    requires current { length found.old.current.cores.items ≡ length plan.now.test.now.programs }
-    requires one { length found.old.states.keys ≡ 1 }
-    ensures cores { OnOk result (HaveCores plan.now.test.now found.new.states.keys) }
-    ensures linked { OnOk result (AreLinked plan.now.depth plan.now.test.now plan.now.hidden.now found.new.states.keys found.new.links.items) }
-    ensures whole { IfOk result (λ extent. extent ≡ Extent.Whole
+    ensures found { OnOk result (IsInOrder plan.now found.new) }
+    ensures whole { OnOk result (length found.new.states.keys ≤ limit
         → MissesNoEnd plan.now.depth plan.now.test.now plan.now.hidden.now plan.now.alike.items found.new.states.keys) }
-    ensures within { IfOk result (λ extent. extent ≡ Extent.Whole → length found.new.states.keys ≤ limit) }
-    ensures more { IfOk result (λ extent. extent ≡ Extent.Cut → limit < length found.new.states.keys) }
 {
-    if limit == 0 {
-        return Ok(Extent::Cut);
-    }
-    let expanded = expand_all(alloc, plan, found, limit, watcher)?;
-    match expanded {
-        Extent::Whole => {
-            let closed = close(alloc, plan, found, limit)?;
-            Ok(closed)
-        }
-        Extent::Cut => Ok(Extent::Cut),
-    }
+    expand_all(alloc, plan, found, limit, watcher)?;
+    close(alloc, plan, found, limit)
 }
 
 /// What a search met, whether it came to its end or to its limit.
@@ -159,6 +163,45 @@ pub struct Met {
     pub final_states: Vec<FinalState>,
     /// How many states the search kept, as [`Exploration`] counts them.
     pub kept: usize,
+}
+
+/// Searches on from what a search begins with, and answers what it met. The watcher is told of it.
+///
+/// Errors: out of memory only.
+fn meet<W: Watcher>(
+    alloc: Global,
+    plan: &Plan,
+    found: &mut Found,
+    limit: usize,
+    watcher: &mut W,
+) -> Result<Met, NoMemory>
+    requires plan { IsPlan plan.now }
+    requires found { IsInOrder plan.now found.old }
+    requires covered { IsCovered plan.now.depth plan.now.test.now plan.now.hidden.now plan.now.alike.items
+        (map state_of_packed found.old.states.keys) (start plan.now.test.now) }
+    ensures reached { IfOk result (λ m. AreReached plan.now.test.now plan.now.depth m.final_states.items) }
+    ensures once { IfOk result (λ m. AreDistinct plan.now.hidden.now m.final_states.items) }
+    ensures complete { IfOk result (λ m. m.extent ≡ Extent.Whole
+        → HaveEveryEnd plan.now.test.now plan.now.depth plan.now.hidden.now m.final_states.items) }
+    ensures within { IfOk result (λ m. m.extent ≡ Extent.Whole → m.kept ≤ limit) }
+    ensures more { IfOk result (λ m. m.extent ≡ Extent.Cut → limit < m.kept) }
+    ensures kept { IfOk result (λ m. (fewer : ℕ) → fewer < m.kept → HasMoreStates plan.now.test.now plan.now.depth fewer) }
+{
+    alike_cores_are_exchangeable();
+    partly_closed_states_miss_none();
+    dead_registers_change_nothing();
+    runs_stop_where_they_end();
+    plan.test.know_limits();
+    let searched = search_all(alloc, plan, found, limit, watcher);
+    let kept = found.states.len();
+    watcher.is_over(kept);
+    searched?;
+    let final_states = final_states(alloc, plan, found)?;
+    Ok(Met {
+        extent: extent_within(limit, kept),
+        final_states,
+        kept,
+    })
 }
 
 /// As [`explore`], watched: the watcher is told after each [`STRIDE`] further states that are kept, and when the search is over.
@@ -181,23 +224,9 @@ pub fn explore_watched<W: Watcher>(
     ensures more { IfOk result (λ m. m.extent ≡ Extent.Cut → limit < m.kept) }
     ensures kept { IfOk result (λ m. (fewer : ℕ) → fewer < m.kept → HasMoreStates test.now depth fewer) }
 {
-    alike_cores_are_exchangeable();
-    partly_closed_states_miss_none();
-    dead_registers_change_nothing();
-    runs_stop_where_they_end();
-    test.know_limits();
     let plan = plan_of(alloc, test, depth, hidden)?;
     let mut found = beginning(alloc, &plan)?;
-    let searched = search_all(alloc, &plan, &mut found, limit, watcher);
-    let kept = found.states.len();
-    watcher.is_over(kept);
-    let extent = searched?;
-    let final_states = final_states(alloc, &plan, &found)?;
-    Ok(Met {
-        extent,
-        final_states,
-        kept,
-    })
+    meet(alloc, &plan, &mut found, limit, watcher)
 }
 
 /// Every final state that the machine can reach at this depth of its store buffers, each once, with

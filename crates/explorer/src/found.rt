@@ -1,13 +1,12 @@
 //! What a search has found: states, packed, each once, in the order in which they were found, and how each was reached.
-ghost use Rattle.std.specs.Prelude.{◌≡◌, ◌<◌, ℕ, Bool, List, [], ◌∷◌, IfOk, OnOk, map, length, slice_get, Some};
+ghost use Rattle.std.specs.Prelude.{◌≡◌, [], IfOk, OnOk, map, length};
 ghost use Rattle.tso_model.specs.FlatMachine.{start};
-ghost use Rattle.tso_model.specs.Litmus.{Litmus};
 ghost use Rattle.eager_laws.specs.Closed.{IsAmongStates, IsCovered};
 ghost use Rattle.flat_machine.specs.State.{state_of_snapshot};
-ghost use Rattle.explorer.specs.inner.Settled.{Grows, HaveCores, IsFirstKept, LeadToExchanged, AreLinked};
+ghost use Rattle.explorer.specs.inner.Settled.{Grows, LeadOn, IsInOrder};
 ghost use Rattle.explorer.specs.inner.Packed.{state_of_packed};
 ghost use Rattle.explorer.specs.inner.Planned.{IsPlan};
-ghost use Rattle.explorer.specs.declared.packed.Packed.{Packed};
+ghost use Rattle.explorer.specs.declared.plan.Plan.{Plan};
 
 use crate::eager::settle;
 use crate::forgetting::forget;
@@ -16,10 +15,10 @@ use crate::packed::{Packed, copy};
 use crate::packing::pack;
 use crate::plan::Plan;
 use crate::reached::{Reached, nowhere};
-use flat_machine::Snapshot;
+use flat_machine::{Snapshot, start};
 use indexmap::IndexSet;
 use std::alloc::Global;
-use tso_model::NoMemory;
+use tso_model::{NoMemory, Test};
 
 /// What a search has found: each state once, and how each was reached.
 #[derive(Drop)]
@@ -30,102 +29,77 @@ pub struct Found {
     pub current: Snapshot,
     /// Room to pack a state in, so that one that is there already takes no memory.
     pub room: Packed,
+    /// What was reached last from the state that is gone through: room for it, likewise.
+    pub reached: Reached,
 }
 
-/// Keeps what was reached from one of the states, if it isn't there yet.
+/// Keeps what was reached from the state of this number, or from the beginning of the test where there is no state yet. One
+/// that is there already is left out.
 ///
 /// Errors: out of memory only.
-pub fn keep(
-    alloc: Global,
-    found: &mut Found,
-    reached: &Reached,
-    from: usize,
-) -> Result<(), NoMemory>
-    requires from { from < length found.old.states.keys }
+pub fn keep(alloc: Global, found: &mut Found, from: usize) -> Result<(), NoMemory>
     ensures grows { OnOk result (Grows found.old.states.keys found.new.states.keys) }
-    ensures among { OnOk result (IsAmongStates (map state_of_packed found.new.states.keys) (state_of_snapshot reached.now.state)) }
-    ensures cores { OnOk result ((t : Litmus) → HaveCores t found.old.states.keys
-        → length reached.now.state.cores.items ≡ length t.programs → HaveCores t found.new.states.keys) }
-    ensures linked { OnOk result ((depth : ℕ) (t : Litmus) (hidden : List (List Bool)) (s : Packed)
-        → AreLinked depth t hidden found.old.states.keys found.old.links.items → slice_get found.old.states.keys from ≡ Some s
-        → LeadToExchanged depth t hidden (state_of_packed s) reached.now.choices.items reached.now.exchanges.items (state_of_snapshot reached.now.state)
-        → AreLinked depth t hidden found.new.states.keys found.new.links.items) }
+    ensures among { OnOk result (IsAmongStates (map state_of_packed found.new.states.keys) (state_of_snapshot found.old.reached.state)) }
+    ensures found { OnOk result ((plan : Plan) → IsInOrder plan found.old
+        → LeadOn plan.depth plan.test.now plan.hidden.now found.old.states.keys from found.old.reached.choices.items found.old.reached.exchanges.items
+        (state_of_snapshot found.old.reached.state)
+        → IsInOrder plan found.new) }
     ensures current { OnOk result (found.new.current ≡ found.old.current) }
 {
-    pack(&reached.state, &mut found.room)?;
+    pack(&found.reached.state, &mut found.room)?;
     if found.states.contains(&found.room) {
         return Ok(());
     }
     let packed = copy(alloc, &found.room)?;
-    let turns = turns_of(alloc, &reached.choices, &reached.exchanges)?;
-    let (_, added) = found.states.insert_full(packed)?;
-    if added {
-        found.links.push(Link { from, turns })?;
-    }
+    found.states.insert(packed)?;
+    let turns = turns_of(alloc, &found.reached.choices, &found.reached.exchanges)?;
+    found.links.push(Link { from, turns })?;
     Ok(())
 }
 
-/// Where the choices that need not wait lead from the first state of a test, without what is dead there.
+/// No state, with room for those that will be gone through and reached.
 ///
 /// Errors: out of memory only.
-fn first_reached(alloc: Global, plan: &Plan) -> Result<Reached, NoMemory>
-    requires { IsPlan plan.now }
-    ensures cores { IfOk result (λ r. length r.state.cores.items ≡ length plan.now.test.now.programs) }
-    ensures first { IfOk result (λ r. IsFirstKept plan.now.depth plan.now.test.now plan.now.hidden.now
-        r.choices.items r.exchanges.items (state_of_snapshot r.state)) }
+fn nothing_found(alloc: Global, test: &Test) -> Result<Found, NoMemory>
+    ensures states { IfOk result (λ found. found.states.keys ≡ []) }
+    ensures links { IfOk result (λ found. found.links.items ≡ []) }
+    ensures current { IfOk result (λ found. length found.current.cores.items ≡ length test.now.programs) }
+    ensures room { IfOk result (λ found. length found.reached.state.cores.items ≡ length test.now.programs) }
+    ensures state { IfOk result (λ found. state_of_snapshot found.reached.state ≡ start test.now) }
+    ensures choices { IfOk result (λ found. found.reached.choices.items ≡ []) }
+    ensures exchanges { IfOk result (λ found. found.reached.exchanges.items ≡ []) }
 {
-    let mut first = nowhere(alloc, plan.test)?;
-    settle(&mut first.state, plan.test, plan.depth, &mut first.choices)?;
-    forget(&mut first.state, plan);
-    Ok(first)
+    let current = start(alloc, test)?;
+    let reached = nowhere(alloc, test)?;
+    Ok(Found {
+        states: IndexSet::new(alloc),
+        links: Vec::new(alloc),
+        current,
+        room: Packed {
+            bytes: Vec::new(alloc),
+        },
+        reached,
+    })
 }
 
-/// What a search begins with: that first state alone, and how it was reached.
+/// What a search begins with: the state alone to which the choices that need not wait lead from the first state of the test,
+/// without what is dead there, and how it was reached.
 ///
 /// Errors: out of memory only.
 pub fn beginning(alloc: Global, plan: &Plan) -> Result<Found, NoMemory>
     requires { IsPlan plan.now }
-    ensures cores { IfOk result (λ found. HaveCores plan.now.test.now found.states.keys) }
-    ensures linked { IfOk result (λ found. AreLinked plan.now.depth plan.now.test.now plan.now.hidden.now found.states.keys found.links.items) }
-    ensures current { IfOk result (λ found. length found.current.cores.items ≡ length plan.now.test.now.programs) }
+    ensures found { IfOk result (λ found. IsInOrder plan.now found) }
     ensures covered { IfOk result (λ found. IsCovered plan.now.depth plan.now.test.now plan.now.hidden.now plan.now.alike.items
         (map state_of_packed found.states.keys) (start plan.now.test.now)) }
-    ensures one { IfOk result (λ found. length found.states.keys ≡ 1) }
 {
-    let first = first_reached(alloc, plan)?;
-    let turns = turns_of(alloc, &first.choices, &first.exchanges)?;
-    let links = one_link(alloc, Link { from: 0, turns })?;
-    let mut room = Packed {
-        bytes: Vec::new(alloc),
-    };
-    pack(&first.state, &mut room)?;
-    let states = one_state(alloc, copy(alloc, &room)?)?;
-    Ok(Found {
-        states,
-        links,
-        current: first.state,
-        room,
-    })
-}
-
-/// A set of one state.
-///
-/// Errors: out of memory only.
-fn one_state(alloc: Global, packed: Packed) -> Result<IndexSet<Packed>, NoMemory>
-    ensures { IfOk result (λ set. set.keys ≡ packed ∷ []) }
-{
-    let mut states = IndexSet::new(alloc);
-    states.insert(packed)?;
-    Ok(states)
-}
-
-/// A list of one link.
-///
-/// Errors: out of memory only.
-fn one_link(alloc: Global, link: Link) -> Result<Vec<Link>, NoMemory>
-    ensures { IfOk result (λ links. links.items ≡ link ∷ []) }
-{
-    let mut links = Vec::new(alloc);
-    links.push(link)?;
-    Ok(links)
+    let mut found = nothing_found(alloc, plan.test)?;
+    settle(
+        &mut found.reached.state,
+        plan.test,
+        plan.depth,
+        &mut found.reached.choices,
+    )?;
+    forget(&mut found.reached.state, plan);
+    keep(alloc, &mut found, 0)?;
+    Ok(found)
 }

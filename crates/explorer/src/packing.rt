@@ -76,23 +76,9 @@ fn byte_of_kind(kind: Kind) -> u8
 fn push_entry(bytes: &mut Vec<u8>, entry: &Entry) -> Result<(), NoMemory>
     ensures { OnOk result (Packs entry_bytes read_entry entry.now bytes.old.items bytes.new.items) }
 {
-    bytes.push(entry.core.0)?;
-    bytes.push(entry.place)?;
-    bytes.push(byte_of_kind(entry.kind))?;
-    bytes.push(entry.loc.0)?;
+    let kind = byte_of_kind(entry.kind);
+    bytes.extend_from_slice(&[entry.core.0, entry.place, kind, entry.loc.0])?;
     push_word(bytes, entry.value)
-}
-
-/// Appends pending stores.
-///
-/// Errors: out of memory only.
-fn push_entries(bytes: &mut Vec<u8>, entries: &[Entry]) -> Result<(), NoMemory>
-    ensures { OnOk result (Packs (all_bytes entry_bytes) (read_all read_entry (length entries.now)) entries.now bytes.old.items bytes.new.items) }
-{
-    for entry in entries {
-        push_entry(bytes, entry)?;
-    }
-    Ok(())
 }
 
 /// Appends how many stores are pending, and then each.
@@ -102,7 +88,10 @@ fn push_pending(bytes: &mut Vec<u8>, pending: &[Entry]) -> Result<(), NoMemory>
     ensures { OnOk result (Packs (list_bytes entry_bytes) (read_list read_entry) pending.now bytes.old.items bytes.new.items) }
 {
     push_number(bytes, pending.len() as u64)?;
-    push_entries(bytes, pending)
+    for entry in pending {
+        push_entry(bytes, entry)?;
+    }
+    Ok(())
 }
 
 /// Appends registers. How many they are isn't told: they are always six.

@@ -6,10 +6,11 @@ ghost use Rattle.eager_laws.specs.Stubborn.{IsStubborn};
 ghost use Rattle.flat_machine.specs.State.{state_of_snapshot};
 ghost use Rattle.explorer.specs.inner.Picked.{set_of, HasEvery};
 
-use crate::eager::avoids;
-use crate::stubborn::{Picked, has_none_pending, is_stubborn};
-use flat_machine::{Processor, Snapshot};
-use tso_model::{Action, Core, Instr, Loc, Test};
+use crate::meeting::{Meeting, has_none_coming, has_none_pending};
+use crate::situation::Situation;
+use crate::stubborn::{Picked, is_stubborn};
+use flat_machine::Snapshot;
+use tso_model::{Action, Core, Test};
 
 /// Every choice. No stubborn set has them all, for some are of cores that aren't there.
 const EVERY: u16 = 0xFFFF;
@@ -36,88 +37,84 @@ fn drain_bit(core: u8) -> u16 {
     2u16 << (core % 8 * 2)
 }
 
-/// The choice of a core that comes before all that meets the location: its drain while it has a store there pending, else its
-/// step if an instruction to come does so.
-fn first_to_meet(program: &[Instr], processor: &Processor, core: u8, loads: bool, loc: Loc) -> u16 {
-    if !has_none_pending(processor, loc) {
-        return drain_bit(core);
+/// The choice of a core that comes before all of its accesses that meet one: its drain while it has a store to the location
+/// pending, else its step if an instruction to come makes such an access.
+fn first_to_meet(at: &Situation, core: Core, meeting: Meeting) -> u16
+    requires cores { length at.now.state.now.cores.items ≡ length at.now.test.now.programs }
+    requires core { core.0 < length at.now.test.now.programs }
+{
+    let processor = at.processor(core);
+    if !has_none_pending(processor, meeting.loc) {
+        return drain_bit(core.0);
     }
-    if avoids(program, processor, loads, loc) {
+    if has_none_coming(at.test.program(core), processor, meeting) {
         return 0;
     }
-    step_bit(core)
+    step_bit(core.0)
 }
 
 /// Those choices of all other cores.
-fn all_to_meet(state: &Snapshot, test: &Test, core: u8, loads: bool, loc: Loc) -> u16
-    requires { length state.now.cores.items ≡ length test.now.programs }
+fn all_to_meet(at: &Situation, core: Core, meeting: Meeting) -> u16
+    requires { length at.now.state.now.cores.items ≡ length at.now.test.now.programs }
 {
     let mut set = 0u16;
-    for other in 0..test.cores() {
-        if other != core {
-            let processor = &state.cores[usize::from(other)];
-            set |= first_to_meet(test.program(Core(other)), processor, other, loads, loc);
+    for other in 0..at.test.cores() {
+        if other != core.0 {
+            set |= first_to_meet(at, Core(other), meeting);
         }
     }
     set
 }
 
-/// What a core's step needs. One that stalls needs the core's drain.
-fn step_needs(state: &Snapshot, test: &Test, depth: u8, core: u8) -> u16
-    requires cores { length state.now.cores.items ≡ length test.now.programs }
-    requires core { core < length test.now.programs }
+/// What a core's step needs. One that stalls needs the core's drain: where no choice is left that need not wait, a fence has
+/// something pending before it, and a store that isn't made at once finds the buffer full.
+fn step_needs(at: &Situation, core: Core) -> u16
+    requires cores { length at.now.state.now.cores.items ≡ length at.now.test.now.programs }
+    requires core { core.0 < length at.now.test.now.programs }
 {
-    let program = test.program(Core(core));
-    let processor = &state.cores[usize::from(core)];
-    let place = usize::from(processor.place);
-    if place >= program.len() {
+    let Some(action) = at.next_action(core) else {
         return EVERY;
-    }
-    let waits = !processor.pending.is_empty();
-    match program[place].action() {
-        Action::Load(_, loc) => all_to_meet(state, test, core, false, loc),
-        Action::Lock(loc, _, _) if !waits => all_to_meet(state, test, core, true, loc),
-        Action::Store(loc, _) if depth == 0 && !waits => all_to_meet(state, test, core, true, loc),
-        Action::Lock(..) => drain_bit(core),
-        Action::Fence if waits => drain_bit(core),
-        Action::Store(..) if waits && processor.pending.len() >= usize::from(depth) => {
-            drain_bit(core)
+    };
+    let waits = !at.pending(core).is_empty();
+    match action {
+        Action::Load(_, loc) => all_to_meet(at, core, Meeting { loc, loads: false }),
+        Action::Store(loc, _) | Action::Lock(loc, _, _) if !waits => {
+            all_to_meet(at, core, Meeting { loc, loads: true })
         }
-        _ => EVERY,
+        _ => drain_bit(core.0),
     }
 }
 
 /// What a core's drain needs.
-fn drain_needs(state: &Snapshot, test: &Test, core: u8) -> u16
-    requires cores { length state.now.cores.items ≡ length test.now.programs }
-    requires core { core < length test.now.programs }
+fn drain_needs(at: &Situation, core: Core) -> u16
+    requires cores { length at.now.state.now.cores.items ≡ length at.now.test.now.programs }
+    requires core { core.0 < length at.now.test.now.programs }
 {
-    let processor = &state.cores[usize::from(core)];
-    if processor.pending.is_empty() {
+    let Some((oldest, _later)) = at.pending(core).split_first() else {
         return EVERY;
-    }
-    all_to_meet(state, test, core, true, processor.pending[0].loc)
+    };
+    let meeting = Meeting {
+        loc: oldest.loc,
+        loads: true,
+    };
+    all_to_meet(at, core, meeting)
 }
 
-/// Which choices of a core don't stall, where its step needs these.
-fn open_bits(state: &Snapshot, test: &Test, core: u8, step: u16) -> u16
-    requires cores { length state.now.cores.items ≡ length test.now.programs }
-    requires core { core < length test.now.programs }
-{
-    let processor = &state.cores[usize::from(core)];
+/// Which choices of a core don't stall, where its step and its drain need these.
+fn open_bits(core: u8, step: u16, drain: u16) -> u16 {
     let mut open = 0u16;
-    if usize::from(processor.place) < test.program(Core(core)).len() && step != drain_bit(core) {
+    if step != EVERY && step != drain_bit(core) {
         open |= step_bit(core);
     }
-    if !processor.pending.is_empty() {
+    if drain != EVERY {
         open |= drain_bit(core);
     }
     open
 }
 
 /// What each choice needs.
-fn needs_of(state: &Snapshot, test: &Test, depth: u8) -> Needs
-    requires { length state.now.cores.items ≡ length test.now.programs }
+fn needs_of(at: &Situation) -> Needs
+    requires { length at.now.state.now.cores.items ≡ length at.now.test.now.programs }
 {
     let mut needs = Needs {
         steps: [EVERY; 8],
@@ -125,12 +122,12 @@ fn needs_of(state: &Snapshot, test: &Test, depth: u8) -> Needs
         open: 0,
     };
     for core in 0..8u8 {
-        if core < test.cores() {
-            let step = step_needs(state, test, depth, core);
-            let drain = drain_needs(state, test, core);
+        if core < at.test.cores() {
+            let step = step_needs(at, Core(core));
+            let drain = drain_needs(at, Core(core));
             needs.steps[usize::from(core)] = step;
             needs.drains[usize::from(core)] = drain;
-            needs.open |= open_bits(state, test, core, step);
+            needs.open |= open_bits(core, step, drain);
         }
     }
     needs
@@ -207,10 +204,10 @@ pub fn pick(state: &Snapshot, test: &Test, depth: u8) -> Picked
     requires { length state.now.cores.items ≡ length test.now.programs }
     ensures { IsStubborn depth test.now (set_of result) (state_of_snapshot state.now) ⊎ HasEvery (set_of result) (length test.now.programs) }
 {
-    let needs = needs_of(state, test, depth);
-    let set = smallest(&needs);
+    let at = Situation { state, test, depth };
+    let set = smallest(&needs_of(&at));
     let picked = picked_of(set);
-    if set == EVERY || !is_stubborn(state, test, depth, &picked) {
+    if set == EVERY || !is_stubborn(&at, &picked) {
         return every_choice(test);
     }
     picked

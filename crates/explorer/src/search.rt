@@ -1,10 +1,10 @@
 //! The search for all states that choices lead to. One list is queue and visited set at once; each of its states is gone
 //! through, and where there are more than may be kept the search says so and ends there.
-ghost use Rattle.std.specs.Prelude.{◌≡◌, ℕ, ◌<◌, ◌≤◌, true, IfOk, OnOk, map, length, slice_get, Some};
+ghost use Rattle.std.specs.Prelude.{◌≡◌, ℕ, ◌<◌, ◌≤◌, true, OnOk, map, length, slice_get, Some};
 ghost use Rattle.tso_model.specs.FlatMachine.{chosen, start};
 ghost use Rattle.eager_laws.specs.Closed.{IsCovered, IsExpandedEnough, ArePartlyClosed};
 ghost use Rattle.flat_machine.specs.State.{state_of_snapshot};
-ghost use Rattle.explorer.specs.inner.Settled.{Grows, HaveCores, IsCurrent, IsVisited, ArePicksVisited, AreLinked};
+ghost use Rattle.explorer.specs.inner.Settled.{Grows, IsCurrent, IsVisited, ArePicksVisited, IsInOrder};
 ghost use Rattle.explorer.specs.inner.Planned.{IsPlan};
 ghost use Rattle.explorer.specs.inner.Packed.{state_of_packed};
 ghost use Rattle.explorer.specs.inner.Picked.{set_of};
@@ -14,7 +14,7 @@ ghost use Rattle.explorer.specs.declared.search.Extent.{Extent};
 use crate::found::{Found, keep};
 use crate::picking::pick;
 use crate::plan::Plan;
-use crate::reached::{Reached, nowhere, reach};
+use crate::reached::reach;
 use crate::stubborn::{Picked, is_marked};
 use crate::unpacking::unpack;
 use crate::watching::{ToldSoFar, Watcher, tell};
@@ -28,26 +28,21 @@ use tso_model::{Choice, Core, NoMemory};
 pub fn visit(
     alloc: Global,
     found: &mut Found,
-    reached: &mut Reached,
     plan: &Plan,
     from: usize,
     choice: Choice,
 ) -> Result<(), NoMemory>
     requires plan { IsPlan plan.now }
     requires current { IsCurrent found.old.states.keys from found.old.current }
-    requires cores { HaveCores plan.now.test.now found.old.states.keys }
-    requires linked { AreLinked plan.now.depth plan.now.test.now plan.now.hidden.now found.old.states.keys found.old.links.items }
-    requires room { length reached.old.state.cores.items ≡ length plan.now.test.now.programs }
+    requires found { IsInOrder plan.now found.old }
     requires chosen { chosen choice < length plan.now.test.now.programs }
     ensures grows { OnOk result (Grows found.old.states.keys found.new.states.keys) }
-    ensures cores { OnOk result (HaveCores plan.now.test.now found.new.states.keys) }
-    ensures linked { OnOk result (AreLinked plan.now.depth plan.now.test.now plan.now.hidden.now found.new.states.keys found.new.links.items) }
-    ensures room { OnOk result (length reached.new.state.cores.items ≡ length plan.now.test.now.programs) }
+    ensures found { OnOk result (IsInOrder plan.now found.new) }
     ensures current { OnOk result (found.new.current ≡ found.old.current) }
     ensures visited { OnOk result (IsVisited plan.now.depth plan.now.test.now plan.now.hidden.now plan.now.alike.items found.new.states.keys (state_of_snapshot found.old.current) choice) }
 {
-    if reach(reached, &found.current, plan, choice)? {
-        keep(alloc, found, reached, from)?;
+    if reach(&mut found.reached, &found.current, plan, choice)? {
+        keep(alloc, found, from)?;
     }
     Ok(())
 }
@@ -58,7 +53,6 @@ pub fn visit(
 fn visit_if(
     alloc: Global,
     found: &mut Found,
-    reached: &mut Reached,
     plan: &Plan,
     from: usize,
     choice: Choice,
@@ -66,21 +60,17 @@ fn visit_if(
 ) -> Result<(), NoMemory>
     requires plan { IsPlan plan.now }
     requires current { IsCurrent found.old.states.keys from found.old.current }
-    requires cores { HaveCores plan.now.test.now found.old.states.keys }
-    requires linked { AreLinked plan.now.depth plan.now.test.now plan.now.hidden.now found.old.states.keys found.old.links.items }
-    requires room { length reached.old.state.cores.items ≡ length plan.now.test.now.programs }
+    requires found { IsInOrder plan.now found.old }
     requires chosen { chosen choice < length plan.now.test.now.programs }
     ensures grows { OnOk result (Grows found.old.states.keys found.new.states.keys) }
-    ensures cores { OnOk result (HaveCores plan.now.test.now found.new.states.keys) }
-    ensures linked { OnOk result (AreLinked plan.now.depth plan.now.test.now plan.now.hidden.now found.new.states.keys found.new.links.items) }
-    ensures room { OnOk result (length reached.new.state.cores.items ≡ length plan.now.test.now.programs) }
+    ensures found { OnOk result (IsInOrder plan.now found.new) }
     ensures current { OnOk result (found.new.current ≡ found.old.current) }
     ensures visited { OnOk result (is_picked ≡ true → IsVisited plan.now.depth plan.now.test.now plan.now.hidden.now plan.now.alike.items found.new.states.keys (state_of_snapshot found.old.current) choice) }
 {
     if !is_picked {
         return Ok(());
     }
-    visit(alloc, found, reached, plan, from, choice)
+    visit(alloc, found, plan, from, choice)
 }
 
 /// Makes the picked choices of a core in one of the states.
@@ -89,7 +79,6 @@ fn visit_if(
 fn visit_picked(
     alloc: Global,
     found: &mut Found,
-    reached: &mut Reached,
     plan: &Plan,
     from: usize,
     picked: &Picked,
@@ -97,31 +86,19 @@ fn visit_picked(
 ) -> Result<(), NoMemory>
     requires plan { IsPlan plan.now }
     requires current { IsCurrent found.old.states.keys from found.old.current }
-    requires cores { HaveCores plan.now.test.now found.old.states.keys }
-    requires linked { AreLinked plan.now.depth plan.now.test.now plan.now.hidden.now found.old.states.keys found.old.links.items }
-    requires room { length reached.old.state.cores.items ≡ length plan.now.test.now.programs }
+    requires found { IsInOrder plan.now found.old }
     requires core { core < length plan.now.test.now.programs }
     ensures grows { OnOk result (Grows found.old.states.keys found.new.states.keys) }
-    ensures cores { OnOk result (HaveCores plan.now.test.now found.new.states.keys) }
-    ensures linked { OnOk result (AreLinked plan.now.depth plan.now.test.now plan.now.hidden.now found.new.states.keys found.new.links.items) }
-    ensures room { OnOk result (length reached.new.state.cores.items ≡ length plan.now.test.now.programs) }
+    ensures found { OnOk result (IsInOrder plan.now found.new) }
     ensures current { OnOk result (found.new.current ≡ found.old.current) }
     ensures visited { OnOk result (ArePicksVisited plan.now.depth plan.now.test.now plan.now.hidden.now plan.now.alike.items found.new.states.keys (state_of_snapshot found.old.current) (set_of picked.now) core) }
 {
     let is_step_picked = is_marked(&picked.steps, core);
     let its_step = Choice::Step(Core(core));
-    visit_if(alloc, found, reached, plan, from, its_step, is_step_picked)?;
+    visit_if(alloc, found, plan, from, its_step, is_step_picked)?;
     let is_drain_picked = is_marked(&picked.drains, core);
     let its_drain = Choice::Drain(Core(core));
-    visit_if(
-        alloc,
-        found,
-        reached,
-        plan,
-        from,
-        its_drain,
-        is_drain_picked,
-    )
+    visit_if(alloc, found, plan, from, its_drain, is_drain_picked)
 }
 
 /// Makes the picked choices in one of the states.
@@ -130,26 +107,21 @@ fn visit_picked(
 fn expand_picked(
     alloc: Global,
     found: &mut Found,
-    reached: &mut Reached,
     plan: &Plan,
     from: usize,
     picked: &Picked,
 ) -> Result<(), NoMemory>
     requires plan { IsPlan plan.now }
     requires current { IsCurrent found.old.states.keys from found.old.current }
-    requires cores { HaveCores plan.now.test.now found.old.states.keys }
-    requires linked { AreLinked plan.now.depth plan.now.test.now plan.now.hidden.now found.old.states.keys found.old.links.items }
-    requires room { length reached.old.state.cores.items ≡ length plan.now.test.now.programs }
+    requires found { IsInOrder plan.now found.old }
     ensures grows { OnOk result (Grows found.old.states.keys found.new.states.keys) }
-    ensures cores { OnOk result (HaveCores plan.now.test.now found.new.states.keys) }
-    ensures linked { OnOk result (AreLinked plan.now.depth plan.now.test.now plan.now.hidden.now found.new.states.keys found.new.links.items) }
-    ensures room { OnOk result (length reached.new.state.cores.items ≡ length plan.now.test.now.programs) }
+    ensures found { OnOk result (IsInOrder plan.now found.new) }
     ensures current { OnOk result (found.new.current ≡ found.old.current) }
     ensures visited { OnOk result ((core : ℕ) → core < length plan.now.test.now.programs
         → ArePicksVisited plan.now.depth plan.now.test.now plan.now.hidden.now plan.now.alike.items found.new.states.keys (state_of_snapshot found.old.current) (set_of picked.now) core) }
 {
     for core in 0..plan.test.cores() {
-        visit_picked(alloc, found, reached, plan, from, picked, core)?;
+        visit_picked(alloc, found, plan, from, picked, core)?;
     }
     Ok(())
 }
@@ -157,34 +129,22 @@ fn expand_picked(
 /// Makes the choices of a stubborn set in one of the states, or every choice where no such set is found.
 ///
 /// Errors: out of memory only.
-pub fn expand(
-    alloc: Global,
-    found: &mut Found,
-    reached: &mut Reached,
-    plan: &Plan,
-    from: usize,
-) -> Result<(), NoMemory>
+pub fn expand(alloc: Global, found: &mut Found, plan: &Plan, from: usize) -> Result<(), NoMemory>
     requires plan { IsPlan plan.now }
     requires from { from < length found.old.states.keys }
-    requires cores { HaveCores plan.now.test.now found.old.states.keys }
-    requires linked { AreLinked plan.now.depth plan.now.test.now plan.now.hidden.now found.old.states.keys found.old.links.items }
-    requires current { length found.old.current.cores.items ≡ length plan.now.test.now.programs }
-    requires room { length reached.old.state.cores.items ≡ length plan.now.test.now.programs }
+    requires found { IsInOrder plan.now found.old }
     ensures grows { OnOk result (Grows found.old.states.keys found.new.states.keys) }
-    ensures cores { OnOk result (HaveCores plan.now.test.now found.new.states.keys) }
-    ensures linked { OnOk result (AreLinked plan.now.depth plan.now.test.now plan.now.hidden.now found.new.states.keys found.new.links.items) }
-    ensures current { OnOk result (length found.new.current.cores.items ≡ length plan.now.test.now.programs) }
-    ensures room { OnOk result (length reached.new.state.cores.items ≡ length plan.now.test.now.programs) }
+    ensures found { OnOk result (IsInOrder plan.now found.new) }
     ensures expanded { OnOk result ((s : Packed) → slice_get found.old.states.keys from ≡ Some s
         → IsExpandedEnough plan.now.depth plan.now.test.now plan.now.hidden.now plan.now.alike.items (map state_of_packed found.new.states.keys) (state_of_packed s)) }
 {
     unpack(&found.states[from], &mut found.current)?;
     let picked = pick(&found.current, plan.test, plan.depth);
-    expand_picked(alloc, found, reached, plan, from, &picked)
+    expand_picked(alloc, found, plan, from, &picked)
 }
 
 /// How far a search came.
-#[derive(Clone, Copy, PartialEq, Eq)]
+#[derive(Clone, Copy)]
 pub enum Extent {
     /// To its end: each of the states that it keeps was gone through.
     Whole,
@@ -214,33 +174,28 @@ pub fn expand_all<W: Watcher>(
     found: &mut Found,
     limit: usize,
     watcher: &mut W,
-) -> Result<Extent, NoMemory>
+) -> Result<(), NoMemory>
     requires plan { IsPlan plan.now }
-    requires cores { HaveCores plan.now.test.now found.old.states.keys }
-    requires linked { AreLinked plan.now.depth plan.now.test.now plan.now.hidden.now found.old.states.keys found.old.links.items }
-    requires current { length found.old.current.cores.items ≡ length plan.now.test.now.programs }
+    requires found { IsInOrder plan.now found.old }
     requires covered { IsCovered plan.now.depth plan.now.test.now plan.now.hidden.now plan.now.alike.items
         (map state_of_packed found.old.states.keys) (start plan.now.test.now) }
-    requires within { length found.old.states.keys ≤ limit }
-    ensures cores { OnOk result (HaveCores plan.now.test.now found.new.states.keys) }
-    ensures linked { OnOk result (AreLinked plan.now.depth plan.now.test.now plan.now.hidden.now found.new.states.keys found.new.links.items) }
-    ensures current { OnOk result (length found.new.current.cores.items ≡ length plan.now.test.now.programs) }
-    ensures closed { IfOk result (λ extent. extent ≡ Extent.Whole
+    ensures found { OnOk result (IsInOrder plan.now found.new) }
+    ensures closed { OnOk result (length found.new.states.keys ≤ limit
         → ArePartlyClosed plan.now.depth plan.now.test.now plan.now.hidden.now plan.now.alike.items (map state_of_packed found.new.states.keys)) }
-    ensures within { IfOk result (λ extent. extent ≡ Extent.Whole → length found.new.states.keys ≤ limit) }
-    ensures more { IfOk result (λ extent. extent ≡ Extent.Cut → limit < length found.new.states.keys) }
 {
-    let mut reached = nowhere(alloc, plan.test)?;
     let mut told = ToldSoFar::nothing();
     for at in 0..limit {
-        if at >= found.states.len() {
+        if at >= found.states.len() || found.states.len() > limit {
             break;
         }
-        expand(alloc, found, &mut reached, plan, at)?;
-        if found.states.len() > limit {
-            return Ok(Extent::Cut);
-        }
-        tell(plan, found, &mut reached.state, &mut told, watcher)?;
+        tell(
+            plan,
+            &found.states,
+            &mut found.reached.state,
+            &mut told,
+            watcher,
+        )?;
+        expand(alloc, found, plan, at)?;
     }
-    Ok(Extent::Whole)
+    Ok(())
 }

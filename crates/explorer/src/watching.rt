@@ -3,10 +3,11 @@
 ghost use Rattle.std.specs.Prelude.{◌≡◌, OnOk, length};
 ghost use Rattle.explorer.specs.inner.Settled.{HaveCores};
 
-use crate::found::Found;
+use crate::packed::Packed;
 use crate::plan::Plan;
 use crate::unpacking::unpack;
 use flat_machine::{Snapshot, has_ended};
+use indexmap::IndexSet;
 use tso_model::NoMemory;
 
 /// How many more states are kept before a search is told of again.
@@ -58,20 +59,20 @@ impl ToldSoFar {
 /// Errors: out of memory only.
 pub(crate) fn tell<W: Watcher>(
     plan: &Plan,
-    found: &Found,
+    states: &IndexSet<Packed>,
     room: &mut Snapshot,
     told: &mut ToldSoFar,
     watcher: &mut W,
 ) -> Result<(), NoMemory>
-    requires cores { HaveCores plan.now.test.now found.now.states.keys }
+    requires cores { HaveCores plan.now.test.now states.now.keys }
     requires room { length room.old.cores.items ≡ length plan.now.test.now.programs }
     ensures room { OnOk result (length room.new.cores.items ≡ length plan.now.test.now.programs) }
 {
-    let kept = found.states.len();
+    let kept = states.len();
     if kept < told.next {
         return Ok(());
     }
-    let finals = count_ended(plan, found, room, told.counted)?;
+    let finals = count_ended(plan, states, room, told.counted)?;
     told.finals = told.finals.saturating_add(finals);
     told.counted = kept;
     told.next = told.next.saturating_add(STRIDE);
@@ -84,17 +85,17 @@ pub(crate) fn tell<W: Watcher>(
 /// Errors: out of memory only.
 fn count_ended(
     plan: &Plan,
-    found: &Found,
+    states: &IndexSet<Packed>,
     room: &mut Snapshot,
     from: usize,
 ) -> Result<usize, NoMemory>
-    requires cores { HaveCores plan.now.test.now found.now.states.keys }
+    requires cores { HaveCores plan.now.test.now states.now.keys }
     requires room { length room.old.cores.items ≡ length plan.now.test.now.programs }
     ensures room { OnOk result (length room.new.cores.items ≡ length plan.now.test.now.programs) }
 {
     let mut count = 0usize;
-    for at in from..found.states.len() {
-        unpack(&found.states[at], room)?;
+    for at in from..states.len() {
+        unpack(&states[at], room)?;
         if has_ended(plan.test, room) {
             count = count.saturating_add(1);
         }

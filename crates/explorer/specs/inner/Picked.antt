@@ -1,7 +1,10 @@
 -- The choices that a search makes in a state, as the set of choices that they are.
-use Rattle.std.specs.Prelude.{ℕ, ◌<◌, ◌≡◌, true}
+use Rattle.std.specs.Prelude.{ℕ, ◌<◌, ◌≡◌, true, Some, slice_get}
+use Rattle.tso_model.specs.Actions.{action_of}
 use Rattle.tso_model.specs.Litmus.{Litmus}
-use Rattle.tso_model.specs.FlatMachine.{State}
+use Rattle.tso_model.specs.FlatMachine.{State, program_of, core_of}
+use Rattle.tso_model.specs.declared.action.Action.{Action}
+use Rattle.tso_model.specs.declared.instruction.Instr.{Instr}
 use Rattle.eager_laws.specs.Stubborn.{ChoiceSet, has_step, has_drain, IsApartStep, IsApartDrain}
 use Rattle.explorer.specs.declared.stubborn.Picked.{Picked}
 
@@ -17,3 +20,9 @@ abbrev pub ArePicksApart : ℕ → Litmus → ChoiceSet → State → ℕ → Ty
 ArePicksApart depth t set state count =
     (core : ℕ) → core < count
     → (has_step set core ≡ true → IsApartStep depth t set state core) × (has_drain set core ≡ true → IsApartDrain depth t set state core)
+
+-- the action is that of the core's next instruction
+pub record IsNextAction (t : Litmus) (state : State) (core : ℕ) (action : Action) : Type 0 where
+  pub next : Instr
+  pub stands : slice_get (program_of t core) (core_of state core).place ≡ Some next
+  pub action_is : action_of next ≡ action

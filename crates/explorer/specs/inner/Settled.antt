@@ -15,7 +15,9 @@ use Rattle.explorer.specs.declared.packed.Packed.{Packed}
 use Rattle.explorer.specs.declared.link.Turn.{Turn}
 use Rattle.explorer.specs.declared.link.Turn.TheVariants.{Made, Exchanged}
 use Rattle.explorer.specs.declared.link.Link.{Link}
-use Rattle.explorer.specs.Settled.{LeadsBy, LeadsToForgotten, IsSettled}
+use Rattle.explorer.specs.declared.found.Found.{Found}
+use Rattle.explorer.specs.declared.plan.Plan.{Plan}
+use Rattle.explorer.specs.Settled.{LeadsBy, LeadsToForgotten}
 
 -- no state was taken away, and those that are new came last
 abbrev pub Grows : List Packed → List Packed → Type 0
@@ -36,20 +38,18 @@ pub record IsCurrent (states : List Packed) (at : ℕ) (current : Snapshot) : Ty
   pub stands : slice_get states at ≡ Some kept
   pub state_is : state_of_packed kept ≡ state_of_snapshot current
 
--- choices that need not wait lead from the beginning of the test to a state that is the kept one once its dead registers are
--- forgotten; nothing was exchanged
-pub record IsFirstKept (depth : ℕ) (t : Litmus) (hidden : List (List Bool)) (choices : List Choice) (exchanges : List (ℕ × ℕ)) (kept : State) : Type 0 where
-  pub last : State
-  pub settled : IsSettled depth t (start t) last [] choices
-  pub none : exchanges ≡ []
-  pub kept_is : kept ≡ forgotten t hidden last
-
 -- choices lead to a state that is the kept one once its dead registers are forgotten and then cores that are alike exchanged
 pub record LeadToExchanged (depth : ℕ) (t : Litmus) (hidden : List (List Bool)) (state : State) (choices : List Choice) (exchanges : List (ℕ × ℕ)) (kept : State) : Type 0 where
   pub last : State
   pub leads : LeadsBy depth t state choices last
   pub alike : AreAllAlike t hidden exchanges
   pub kept_is : exchanged_by exchanges (forgotten t hidden last) ≡ kept
+
+-- they lead there from the beginning of the test where there is no state yet, and else from the state of this number
+abbrev pub LeadOn : ℕ → Litmus → List (List Bool) → List Packed → ℕ → List Choice → List (ℕ × ℕ) → State → Type 0
+LeadOn depth t hidden states from choices exchanges kept =
+    ((states ≡ []) × LeadToExchanged depth t hidden (start t) choices exchanges kept)
+    ⊎ ((s : Packed) × (slice_get states from ≡ Some s) × LeadToExchanged depth t hidden (state_of_packed s) choices exchanges kept)
 
 -- so do the choices of these turns, with the exchanges after them
 pub record LeadByTurns (depth : ℕ) (t : Litmus) (hidden : List (List Bool)) (state : State) (turns : List Turn) (kept : State) : Type 0 where
@@ -101,3 +101,11 @@ IsPath links at choices =
 -- each link but the first names a packed state before its own
 abbrev pub GoBack : List Link → Type 0
 GoBack links = (i : ℕ) (link : Link) → slice_get links (suc i) ≡ Some link → link.from ≤ i
+
+-- what the search has found is in order: each state is as it was packed and has its link, and the states that are gone through
+-- and reached have a core for each program
+pub record IsInOrder (plan : Plan) (found : Found) : Type 0 where
+  pub cores : HaveCores plan.test.now found.states.keys
+  pub linked : AreLinked plan.depth plan.test.now plan.hidden.now found.states.keys found.links.items
+  pub current : length found.current.cores.items ≡ length plan.test.now.programs
+  pub room : length found.reached.state.cores.items ≡ length plan.test.now.programs

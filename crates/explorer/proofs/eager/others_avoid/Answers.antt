@@ -1,18 +1,5 @@
-use Rattle.explorer.proofs.Vocabulary.{◌≡◌, sym, subst, ◌∙◌, inl, inr, arith, lt-or, program_of, core_of, Avoids, state_of_snapshot}
-use Rattle.explorer.proofs.Absent.{avoids-absent}
+use Rattle.explorer.proofs.Marks.{held-by-none, none-marked}
 use Rattle.explorer.proofs.eager.others_avoid.Goals as goal
 
-pub loop-other-preserved : goal.loop-other-preserved
-loop-other-preserved c = λ j l n. elim (lt-or c.loop-other.other j) [
-  | inl m ↦ c.loop-other.invariant j m n
-  | inr m ↦ let q : j ≡ c.loop-other.other = omega (arith, l, m) in
-      subst (λ z. Avoids c.args.loads c.args.loc.0 (program_of c.args.test.now z) (core_of (state_of_snapshot c.args.state.now) z)) (sym q)
-      (c.keeps_away.ensures c.if-not-keeps_away.false (λ r. n (q ∙ r)))
-]
-
 pub returns : goal.returns
-returns c = λ q j n. elim (lt-or c.loop-other.other j) [
-  | inl l ↦ c.loop-other.invariant j l n
-  | inr l ↦ let m = c.requires in let k = c.loop-other-test.false in let r = c.cores-other-end.ensures.value in
-      avoids-absent c.args.loads c.args.loc.0 c.args.test.now c.args.state.now j (omega (arith, m, k, r, l)) (omega (arith, k, r, l))
-]
+returns c = λ q j n. held-by-none _ _ _ _ _ _ _ (none-marked 8 j) (none-marked 8 j) (c.others_are_held_back.ensures q j n)

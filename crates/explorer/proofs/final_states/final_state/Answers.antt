@@ -5,15 +5,15 @@ use Rattle.explorer.proofs.final_states.final_state.Goals as goal
 
 pub path-requires : goal.path-requires
 path-requires c = record {
-  at = let a = c.requires.at in let n = c.requires.linked.count in let l = ap length c.deref.ensures.value in omega (arith, a, n, l);
-  back = subst GoBack (sym c.deref.ensures.value) (goes-back c.args.plan.now.depth c.args.plan.now.test.now c.args.plan.now.hidden.now c.args.found.now.states.keys c.args.found.now.links.items c.requires.linked);
+  at = let a = c.requires.at in let n = c.requires.found.linked.count in let l = ap length c.deref.ensures.value in omega (arith, a, n, l);
+  back = subst GoBack (sym c.deref.ensures.value) (goes-back c.args.plan.now.depth c.args.plan.now.test.now c.args.plan.now.hidden.now c.args.found.now.states.keys c.args.found.now.links.items c.requires.found.linked);
 }
 
 pub state_after-requires : goal.state_after-requires
 state_after-requires c =
     let s = get-some c.args.found.now.states.keys c.args.at c.requires.at in
     let path : IsPath c.args.found.now.links.items c.args.at c.in_ok-choices.choices.items = subst (λ z. IsPath z c.args.at c.in_ok-choices.choices.items) c.deref.ensures.value c.in_ok-choices.ensures in
-    let p = path c.args.plan.now.depth c.args.plan.now.test.now c.args.plan.now.hidden.now c.args.found.now.states.keys s.0 c.requires.linked s.1 in
+    let p = path c.args.plan.now.depth c.args.plan.now.test.now c.args.plan.now.hidden.now c.args.found.now.states.keys s.0 c.requires.found.linked s.1 in
     subst (CoresExist (length c.args.plan.now.test.now.programs)) (sym c.deref-2.ensures.value)
     (leads-cores c.args.plan.now.depth c.args.plan.now.test.now (start c.args.plan.now.test.now) c.in_ok-choices.choices.items p.last p.leads)
 
@@ -21,7 +21,7 @@ pub returns : goal.returns
 returns c = λ s at.
     let path : IsPath c.args.found.now.links.items c.args.at c.in_ok-choices.choices.items = subst (λ z. IsPath z c.args.at c.in_ok-choices.choices.items) c.deref.ensures.value c.in_ok-choices.ensures in
     let p : LeadsToForgotten c.args.plan.now.depth c.args.plan.now.test.now c.args.plan.now.hidden.now (start c.args.plan.now.test.now) c.in_ok-choices.choices.items (state_of_packed s) =
-    path c.args.plan.now.depth c.args.plan.now.test.now c.args.plan.now.hidden.now c.args.found.now.states.keys s c.requires.linked at in
+    path c.args.plan.now.depth c.args.plan.now.test.now c.args.plan.now.hidden.now c.args.found.now.states.keys s c.requires.found.linked at in
     let same : state_of_snapshot c.in_ok-last.last ≡ p.last =
     c.in_ok-last.ensures ∙ ap (state_after c.args.plan.now.test.now c.args.plan.now.depth (start c.args.plan.now.test.now)) c.deref-2.ensures.value
     ∙ leads-after c.args.plan.now.depth c.args.plan.now.test.now (start c.args.plan.now.test.now) c.in_ok-choices.choices.items p.last p.leads in

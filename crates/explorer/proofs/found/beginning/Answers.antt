@@ -1,20 +1,26 @@
-use Rattle.explorer.proofs.Vocabulary.{map, ap, ◌∙◌, ◌++◌, length, subst, sym, Made, Exchanged, IsFirstKept}
-use Rattle.explorer.proofs.Searching.{first-covered, first-linked, first-cores, packed-is, packed-kept}
+use Rattle.explorer.proofs.Vocabulary.{[], inl, sym, ◌∙◌, subst, HaveCores, AreLinked, IsSettled, state_of_snapshot}
+use Rattle.explorer.proofs.Searching.{cores-none, no-links, first-leads, first-covered}
 use Rattle.explorer.proofs.found.beginning.Goals as goal
 
 pub returns : goal.returns
 returns c =
-    let r = c.in_ok-first.first in
-    let x = c.in_ok-copy.field-0 in
-    let first = subst (λ z. IsFirstKept c.args.plan.now.depth c.args.plan.now.test.now c.args.plan.now.hidden.now r.choices.items r.exchanges.items z)
-    (sym (packed-is x c.pack.new.packed r.state c.in_ok-copy.ensures c.in_ok-pack.ensures.state)) c.in_ok-first.ensures.first in
+    let d = c.args.plan.now.depth in
+    let t = c.args.plan.now.test.now in
+    let hidden = c.args.plan.now.hidden.now in
+    let none = c.in_ok-found.ensures in
+    let found = c.in_ok-found.found in
+    let kept = state_of_snapshot c.forget.new.state in
+    let settled = subst (λ z. IsSettled d t z (state_of_snapshot c.settle.new.state) found.reached.choices.items c.settle.new.choices.items) none.state c.in_ok-settle.ensures.settled in
     record {
-      cores = first-cores c.args.plan.now.test.now x _ c.in_ok-states.ensures
-          (packed-kept c.args.plan.now.test.now x c.pack.new.packed r.state c.in_ok-copy.ensures c.in_ok-pack.ensures.bytes c.in_ok-pack.ensures.state c.in_ok-first.ensures.cores);
-      linked = first-linked c.args.plan.now.depth c.args.plan.now.test.now c.args.plan.now.hidden.now x _ _ first _ c.in_ok-states.ensures _ _
-          (c.in_ok-turns.ensures ∙ ap (λ z. map Made z ++ map Exchanged c.deref-2.result.now) c.deref.ensures.value ∙ ap (λ z. map Made r.choices.items ++ map Exchanged z) c.deref-2.ensures.value)
-          c.in_ok-links.ensures;
-      current = c.in_ok-first.ensures.cores;
-      covered = first-covered c.args.plan.now.depth c.args.plan.now.test.now c.args.plan.now.hidden.now x _ _ first c.args.plan.now.alike.items _ c.in_ok-states.ensures;
-      one = ap length c.in_ok-states.ensures;
+      found = c.in_ok-keep.ensures.found c.args.plan.now (record {
+        cores = subst (HaveCores t) (sym none.states) (cores-none t);
+        linked = subst (λ z. AreLinked d t hidden z found.links.items) (sym none.states) (subst (AreLinked d t hidden []) (sym none.links) (no-links d t hidden));
+        current = none.current;
+        room = c.forget.ensures.cores ∙ c.in_ok-settle.ensures.cores;
+      }) (inl (
+        none.states,
+        first-leads d t hidden (state_of_snapshot c.settle.new.state) kept found.reached.choices.items c.settle.new.choices.items found.reached.exchanges.items none.choices settled c.forget.ensures.value none.exchanges,
+      ));
+      covered = first-covered d t hidden (state_of_snapshot c.settle.new.state) kept found.reached.choices.items c.settle.new.choices.items found.reached.exchanges.items none.choices settled c.forget.ensures.value
+          c.args.plan.now.alike.items c.keep.new.found.states.keys c.in_ok-keep.ensures.among;
     }

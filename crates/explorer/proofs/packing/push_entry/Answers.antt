@@ -4,5 +4,5 @@ use Rattle.explorer.proofs.packing.push_entry.Goals as goal
 
 pub returns : goal.returns
 returns c =
-    on-ok c.push_word.result (λ h. packs-entry c.args.entry.now _ _ _ _ _ _ c.in_ok-push.ensures.items c.in_ok-push-2.ensures.items
-    (c.in_ok-push-3.ensures.items ∙ ap (λ z. c.push-2.new.self.items ++ z ∷ []) c.byte_of_kind.ensures) c.in_ok-push-4.ensures.items h) c.push_word.ensures
+    on-ok c.push_word.result (λ h. packs-entry c.args.entry.now _ _ _
+    (c.in_ok-extend_from_slice.ensures.items ∙ ap (λ z. c.args.bytes.now.items ++ c.args.entry.now.core.0 ∷ c.args.entry.now.place ∷ z ∷ c.args.entry.now.loc.0 ∷ []) c.byte_of_kind-kind.ensures) h) c.push_word.ensures

@@ -1,10 +1,10 @@
-use Rattle.explorer.proofs.Vocabulary.{length, map, ap, sym, ◌∙◌, subst, on-ok, state_of_snapshot, state_of_packed, IsExpandedEnough, set_of}
+use Rattle.explorer.proofs.Vocabulary.{map, sym, ◌∙◌, subst, on-ok, state_of_snapshot, state_of_packed, IsExpandedEnough, set_of}
 use Rattle.explorer.proofs.Linking.{kept-at}
 use Rattle.explorer.proofs.Searching.{expands-enough, current-here, current-is}
 use Rattle.explorer.proofs.search.expand.Goals as goal
 
 pub unpack-requires : goal.unpack-requires
-unpack-requires c = c.requires.current ∙ sym (kept-at c.args.plan.now.test.now _ c.args.from c.index.result.now c.requires.cores c.index.ensures).cores
+unpack-requires c = c.requires.found.current ∙ sym (kept-at c.args.plan.now.test.now _ c.args.from c.index.result.now c.requires.found.cores c.index.ensures).cores
 
 pub expand_picked-requires-clause-current : goal.expand_picked-requires-clause-current
 expand_picked-requires-clause-current c = current-here _ c.args.from c.index.result.now c.unpack.new.state c.index.ensures c.in_ok-unpack.ensures.value
@@ -18,6 +18,10 @@ returns-clause-expanded c =
     (expands-enough c.args.plan.now.depth c.args.plan.now.test.now c.args.plan.now.hidden.now c.args.plan.now.alike.items _ (state_of_snapshot c.unpack.new.state) (set_of c.pick-picked.result) c.pick-picked.ensures v))
     c.expand_picked.ensures.visited
 
-pub returns-clause-current : goal.returns-clause-current
-returns-clause-current c =
-    on-ok c.expand_picked.result (λ e. ap (λ z. length z.cores.items) e ∙ c.in_ok-unpack.ensures.cores ∙ c.requires.current) c.expand_picked.ensures.current
+pub expand_picked-requires-clause-found : goal.expand_picked-requires-clause-found
+expand_picked-requires-clause-found c =
+    let h = c.requires.found in
+    record { cores = h.cores; linked = h.linked; current = c.in_ok-unpack.ensures.cores ∙ h.current; room = h.room }
+
+pub pick-picked-requires : goal.pick-picked-requires
+pick-picked-requires c = c.in_ok-unpack.ensures.cores ∙ c.requires.found.current

@@ -8,9 +8,7 @@ visit_picked-requires-clause-current c = current-grown _ _ _ _ _ c.loop-core.inv
 pub loop-core-preserved : goal.loop-core-preserved
 loop-core-preserved c = record {
   grows = grows-on _ _ _ c.loop-core.invariant.grows c.in_ok-visit_picked.ensures.grows;
-  cores = c.in_ok-visit_picked.ensures.cores;
-  linked = c.in_ok-visit_picked.ensures.linked;
-  room = c.in_ok-visit_picked.ensures.room;
+  found = c.in_ok-visit_picked.ensures.found;
   current = c.in_ok-visit_picked.ensures.current ∙ c.loop-core.invariant.current;
   visited = picks-more _ _ _ _ _ _ _ _ _ c.in_ok-visit_picked.ensures.grows c.loop-core.invariant.visited
       (subst (λ z. ArePicksVisited c.args.plan.now.depth c.args.plan.now.test.now c.args.plan.now.hidden.now c.args.plan.now.alike.items c.visit_picked.new.found.states.keys z (set_of c.args.picked.now) c.loop-core.core)

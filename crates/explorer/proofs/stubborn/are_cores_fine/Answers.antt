@@ -5,8 +5,8 @@ pub loop-core-preserved : goal.loop-core-preserved
 loop-core-preserved c = λ k m. elim (lt-or c.loop-core.core k) [
   | inl n ↦ c.loop-core.invariant k n
   | inr n ↦ let q : k ≡ c.loop-core.core = omega (arith, m, n) in
-      subst (λ z. (has_step (set_of c.args.picked.now) z ≡ true → IsApartStep c.args.depth c.args.test.now (set_of c.args.picked.now) (state_of_snapshot c.args.state.now) z)
-      × (has_drain (set_of c.args.picked.now) z ≡ true → IsApartDrain c.args.depth c.args.test.now (set_of c.args.picked.now) (state_of_snapshot c.args.state.now) z)) (sym q)
+      subst (λ z. (has_step (set_of c.args.picked.now) z ≡ true → IsApartStep c.args.at.now.depth c.args.at.now.test.now (set_of c.args.picked.now) (state_of_snapshot c.args.at.now.state.now) z)
+      × (has_drain (set_of c.args.picked.now) z ≡ true → IsApartDrain c.args.at.now.depth c.args.at.now.test.now (set_of c.args.picked.now) (state_of_snapshot c.args.at.now.state.now) z)) (sym q)
       (c.is_step_fine.ensures c.if-not-is_step_fine.false, c.is_drain_fine.ensures c.if-not-is_drain_fine.false)
 ]
 

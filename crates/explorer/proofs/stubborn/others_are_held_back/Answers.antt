@@ -6,7 +6,7 @@ pub loop-other-preserved : goal.loop-other-preserved
 loop-other-preserved c = λ j l n. elim (lt-or c.loop-other.other j) [
   | inl m ↦ c.loop-other.invariant j m n
   | inr m ↦ let q : j ≡ c.loop-other.other = omega (arith, l, m) in
-      subst (λ z. IsHeldBack c.args.depth c.args.loads c.args.loc.0 (program_of c.args.test.now z) (core_of (state_of_snapshot c.args.state.now) z) (has_step (set_of c.args.picked.now) z) (has_drain (set_of c.args.picked.now) z)) (sym q)
+      subst (λ z. IsHeldBack c.args.at.now.depth c.args.meeting.loads c.args.meeting.loc.0 (program_of c.args.at.now.test.now z) (core_of (state_of_snapshot c.args.at.now.state.now) z) (has_step (set_of c.args.picked.now) z) (has_drain (set_of c.args.picked.now) z)) (sym q)
       (c.stays_held_back.ensures c.if-not-stays_held_back.false (λ r. n (q ∙ r)))
 ]
 
@@ -14,5 +14,5 @@ pub returns : goal.returns
 returns c = λ q j n. elim (lt-or c.loop-other.other j) [
   | inl l ↦ c.loop-other.invariant j l n
   | inr l ↦ let m = c.requires in let k = c.loop-other-test.false in let r = c.cores-other-end.ensures.value in
-      away (avoids-absent c.args.loads c.args.loc.0 c.args.test.now c.args.state.now j (omega (arith, m, k, r, l)) (omega (arith, k, r, l)))
+      away (avoids-absent c.args.meeting.loads c.args.meeting.loc.0 c.args.at.now.test.now c.args.at.now.state.now j (omega (arith, m, k, r, l)) (omega (arith, k, r, l)))
 ]

@@ -1,0 +1,51 @@
+//! What a choice is judged by, as it stands: a state of a test, and how deep store buffers are. A core's next action and what
+//! it has pending are looked up here alone.
+ghost use Rattle.std.specs.Prelude.{◌≡◌, ◌<◌, length, IfSome};
+ghost use Rattle.tso_model.specs.FlatMachine.{core_of};
+ghost use Rattle.flat_machine.specs.State.{state_of_snapshot, core_of_processor};
+ghost use Rattle.explorer.specs.inner.Picked.{IsNextAction};
+
+use flat_machine::{Processor, Snapshot};
+use tso_model::{Action, Core, Entry, Instr, Test};
+
+/// A state of a test, where each core's store buffer has this depth.
+#[derive(Clone, Copy)]
+pub struct Situation<'a> {
+    pub state: &'a Snapshot,
+    pub test: &'a Test,
+    pub depth: u8,
+}
+
+impl<'a> Situation<'a> {
+    /// The core of this number.
+    pub fn processor(&self, core: Core) -> &'a Processor
+        requires cores { length self.now.state.now.cores.items ≡ length self.now.test.now.programs }
+        requires core { core.0 < length self.now.test.now.programs }
+        ensures { core_of_processor result.now ≡ core_of (state_of_snapshot self.now.state.now) core.0 }
+    {
+        &self.state.cores[usize::from(core.0)]
+    }
+
+    /// What the core has pending, the oldest first.
+    pub fn pending(&self, core: Core) -> &'a [Entry]
+        requires cores { length self.now.state.now.cores.items ≡ length self.now.test.now.programs }
+        requires core { core.0 < length self.now.test.now.programs }
+        ensures { result.now ≡ (core_of (state_of_snapshot self.now.state.now) core.0).pending }
+    {
+        &self.processor(core).pending
+    }
+
+    /// The core's next action, if it has one.
+    pub fn next_action(&self, core: Core) -> Option<Action>
+        requires cores { length self.now.state.now.cores.items ≡ length self.now.test.now.programs }
+        requires core { core.0 < length self.now.test.now.programs }
+        ensures { IfSome result (λ action. IsNextAction self.now.test.now (state_of_snapshot self.now.state.now) core.0 action) }
+    {
+        let program = self.test.program(core);
+        let place = usize::from(self.processor(core).place);
+        if place >= program.len() {
+            return None;
+        }
+        Some(program[place].action())
+    }
+}
