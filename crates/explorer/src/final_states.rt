@@ -1,6 +1,6 @@
 //! The final states that a search met: those kept states in which the test has ended, each once, with choices that lead
 //! there. A kept state has 0 in its hidden registers; what they hold at the end is known by making the choices again.
-ghost use Rattle.std.specs.Prelude.{◌≡◌, ◌<◌, ◌≤◌, ℕ, [], IfOk, IfErr, OnOk, length, map, slice_get, Some};
+ghost use Rattle.std.specs.Prelude.{◌≡◌, ◌<◌, ◌≤◌, ℕ, IfOk, IfErr, OnOk, length, map, slice_get, Some};
 ghost use Rattle.tso_model.specs.FlatMachine.{start};
 ghost use Rattle.tso_model.specs.Limits.{most_depth};
 ghost use Rattle.tso_model.specs.Runs.{CoresExist};
@@ -9,7 +9,7 @@ ghost use Rattle.flat_machine.specs.State.{state_of_snapshot};
 ghost use Rattle.eager_laws.specs.Closed.{IsCovered};
 ghost use Rattle.explorer.specs.inner.Planned.{IsPlan};
 ghost use Rattle.explorer.specs.inner.Packed.{state_of_packed};
-ghost use Rattle.explorer.specs.inner.Settled.{IsInOrder};
+ghost use Rattle.explorer.specs.inner.Settled.{IsInOrder, IsNothingYet};
 ghost use Rattle.explorer.specs.inner.Collected.{IsFinalOf, AreFinalsOf, MissesNoEnd};
 ghost use Rattle.explorer.specs.FinalStates.{AreReached, HaveEveryEnd, AreDistinct, HasMoreStates};
 ghost use Rattle.explorer.specs.FinalStates.{AreWhatTsoAllows, AreWhatSequentialConsistencyAllows};
@@ -19,7 +19,7 @@ ghost use Rattle.explorer.specs.declared.search.Extent.{Extent};
 
 use crate::closing::close;
 use crate::fault::ExploreFault;
-use crate::found::{Found, beginning};
+use crate::found::{Found, begin, nothing_found};
 use crate::link::path;
 use crate::plan::{Plan, plan_of};
 use crate::search::{Extent, expand_all, extent_within};
@@ -90,32 +90,6 @@ fn final_state(alloc: Global, plan: &Plan, found: &Found, at: usize) -> Result<F
     })
 }
 
-/// Appends the final states among those that are kept. The room is for one of them, unpacked.
-///
-/// Errors: out of memory only; some may have been appended then.
-fn push_final_states(
-    alloc: Global,
-    plan: &Plan,
-    found: &Found,
-    room: &mut Snapshot,
-    final_states: &mut Vec<FinalState>,
-) -> Result<(), NoMemory>
-    requires found { IsInOrder plan.now found.now }
-    requires room { length room.old.cores.items ≡ length plan.now.test.now.programs }
-    requires none { final_states.old.items ≡ [] }
-    ensures { OnOk result (AreFinalsOf plan.now.depth plan.now.test.now plan.now.hidden.now found.now.states.keys
-        (length found.now.states.keys) final_states.new.items) }
-{
-    dead_registers_change_nothing();
-    for at in 0..found.states.len() {
-        unpack(&found.states[at], room)?;
-        if has_ended(plan.test, room) {
-            final_states.push(final_state(alloc, plan, found, at)?)?;
-        }
-    }
-    Ok(())
-}
-
 /// The final states among those that are kept.
 ///
 /// Errors: out of memory only.
@@ -124,9 +98,15 @@ fn final_states(alloc: Global, plan: &Plan, found: &Found) -> Result<Vec<FinalSt
     ensures { IfOk result (λ fs. AreFinalsOf plan.now.depth plan.now.test.now plan.now.hidden.now found.now.states.keys
         (length found.now.states.keys) fs.items) }
 {
-    let mut room = start(alloc, plan.test)?;
+    dead_registers_change_nothing();
     let mut final_states = Vec::new(alloc);
-    push_final_states(alloc, plan, found, &mut room, &mut final_states)?;
+    let mut state = start(alloc, plan.test)?;
+    for at in 0..found.states.len() {
+        unpack(&found.states[at], &mut state)?;
+        if has_ended(plan.test, &state) {
+            final_states.push(final_state(alloc, plan, found, at)?)?;
+        }
+    }
     Ok(final_states)
 }
 
@@ -165,7 +145,7 @@ pub struct Met {
     pub kept: usize,
 }
 
-/// Searches on from what a search begins with, and answers what it met. The watcher is told of it.
+/// Searches, where nothing is found yet, and answers what it met. The watcher is told of it.
 ///
 /// Errors: out of memory only.
 fn meet<W: Watcher>(
@@ -176,9 +156,7 @@ fn meet<W: Watcher>(
     watcher: &mut W,
 ) -> Result<Met, NoMemory>
     requires plan { IsPlan plan.now }
-    requires found { IsInOrder plan.now found.old }
-    requires covered { IsCovered plan.now.depth plan.now.test.now plan.now.hidden.now plan.now.alike.items
-        (map state_of_packed found.old.states.keys) (start plan.now.test.now) }
+    requires nothing { IsNothingYet plan.now.test.now found.old }
     ensures reached { IfOk result (λ m. AreReached plan.now.test.now plan.now.depth m.final_states.items) }
     ensures once { IfOk result (λ m. AreDistinct plan.now.hidden.now m.final_states.items) }
     ensures complete { IfOk result (λ m. m.extent ≡ Extent.Whole
@@ -187,6 +165,7 @@ fn meet<W: Watcher>(
     ensures more { IfOk result (λ m. m.extent ≡ Extent.Cut → limit < m.kept) }
     ensures kept { IfOk result (λ m. (fewer : ℕ) → fewer < m.kept → HasMoreStates plan.now.test.now plan.now.depth fewer) }
 {
+    begin(alloc, plan, found)?;
     alike_cores_are_exchangeable();
     partly_closed_states_miss_none();
     dead_registers_change_nothing();
@@ -225,7 +204,7 @@ pub fn explore_watched<W: Watcher>(
     ensures kept { IfOk result (λ m. (fewer : ℕ) → fewer < m.kept → HasMoreStates test.now depth fewer) }
 {
     let plan = plan_of(alloc, test, depth, hidden)?;
-    let mut found = beginning(alloc, &plan)?;
+    let mut found = nothing_found(alloc, plan.test)?;
     meet(alloc, &plan, &mut found, limit, watcher)
 }
 

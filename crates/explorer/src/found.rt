@@ -1,9 +1,9 @@
 //! What a search has found: states, packed, each once, in the order in which they were found, and how each was reached.
-ghost use Rattle.std.specs.Prelude.{◌≡◌, [], IfOk, OnOk, map, length};
+ghost use Rattle.std.specs.Prelude.{◌≡◌, IfOk, OnOk, map};
 ghost use Rattle.tso_model.specs.FlatMachine.{start};
 ghost use Rattle.eager_laws.specs.Closed.{IsAmongStates, IsCovered};
 ghost use Rattle.flat_machine.specs.State.{state_of_snapshot};
-ghost use Rattle.explorer.specs.inner.Settled.{Grows, LeadOn, IsInOrder};
+ghost use Rattle.explorer.specs.inner.Settled.{Grows, LeadOn, IsInOrder, IsNothingYet};
 ghost use Rattle.explorer.specs.inner.Packed.{state_of_packed};
 ghost use Rattle.explorer.specs.inner.Planned.{IsPlan};
 ghost use Rattle.explorer.specs.declared.plan.Plan.{Plan};
@@ -60,14 +60,8 @@ pub fn keep(alloc: Global, found: &mut Found, from: usize) -> Result<(), NoMemor
 /// No state, with room for those that will be gone through and reached.
 ///
 /// Errors: out of memory only.
-fn nothing_found(alloc: Global, test: &Test) -> Result<Found, NoMemory>
-    ensures states { IfOk result (λ found. found.states.keys ≡ []) }
-    ensures links { IfOk result (λ found. found.links.items ≡ []) }
-    ensures current { IfOk result (λ found. length found.current.cores.items ≡ length test.now.programs) }
-    ensures room { IfOk result (λ found. length found.reached.state.cores.items ≡ length test.now.programs) }
-    ensures state { IfOk result (λ found. state_of_snapshot found.reached.state ≡ start test.now) }
-    ensures choices { IfOk result (λ found. found.reached.choices.items ≡ []) }
-    ensures exchanges { IfOk result (λ found. found.reached.exchanges.items ≡ []) }
+pub fn nothing_found(alloc: Global, test: &Test) -> Result<Found, NoMemory>
+    ensures { IfOk result (IsNothingYet test.now) }
 {
     let current = start(alloc, test)?;
     let reached = nowhere(alloc, test)?;
@@ -82,17 +76,17 @@ fn nothing_found(alloc: Global, test: &Test) -> Result<Found, NoMemory>
     })
 }
 
-/// What a search begins with: the state alone to which the choices that need not wait lead from the first state of the test,
-/// without what is dead there, and how it was reached.
+/// Keeps what a search begins with, where nothing is found yet: the state alone to which the choices that need not wait lead
+/// from the first state of the test, without what is dead there, and how it was reached.
 ///
 /// Errors: out of memory only.
-pub fn beginning(alloc: Global, plan: &Plan) -> Result<Found, NoMemory>
-    requires { IsPlan plan.now }
-    ensures found { IfOk result (λ found. IsInOrder plan.now found) }
-    ensures covered { IfOk result (λ found. IsCovered plan.now.depth plan.now.test.now plan.now.hidden.now plan.now.alike.items
-        (map state_of_packed found.states.keys) (start plan.now.test.now)) }
+pub fn begin(alloc: Global, plan: &Plan, found: &mut Found) -> Result<(), NoMemory>
+    requires plan { IsPlan plan.now }
+    requires nothing { IsNothingYet plan.now.test.now found.old }
+    ensures found { OnOk result (IsInOrder plan.now found.new) }
+    ensures covered { OnOk result (IsCovered plan.now.depth plan.now.test.now plan.now.hidden.now plan.now.alike.items
+        (map state_of_packed found.new.states.keys) (start plan.now.test.now)) }
 {
-    let mut found = nothing_found(alloc, plan.test)?;
     settle(
         &mut found.reached.state,
         plan.test,
@@ -100,6 +94,5 @@ pub fn beginning(alloc: Global, plan: &Plan) -> Result<Found, NoMemory>
         &mut found.reached.choices,
     )?;
     forget(&mut found.reached.state, plan);
-    keep(alloc, &mut found, 0)?;
-    Ok(found)
+    keep(alloc, found, 0)
 }
