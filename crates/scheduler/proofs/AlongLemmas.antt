@@ -1,5 +1,6 @@
 -- The choices along an order, made one entry after the other.
-use Rattle.scheduler.proofs.Vocabulary.{◌≡◌, ℕ, ◌+◌, ◌-◌, ◌<◌, ◌≤◌, zero, suc, List, [], ◌∷◌, ◌++◌, length, get_or, drop, replicate, refl, ap, sym, ◌∙◌, add-one, append_assoc, All, length-set, append-nil, drop_more, drop_all, All-get_or, Litmus, Entry, Instr, Choice, steps, beginnings, choices_for, places_after, last_steps, choices_from, choices_along}
+use Rattle.scheduler.proofs.Vocabulary.{◌≡◌, ℕ, ◌+◌, ◌-◌, ◌<◌, ◌≤◌, zero, suc, List, [], ◌∷◌, ◌++◌, length, get_or, drop, take, replicate, arith, refl, ap, sym, ◌∙◌, add-one, append_assoc, All, length-set, append-nil, drop_more, drop_all, All-get_or, Litmus, Entry, Instr, Choice, steps, beginnings, choices_for, places_after, last_steps, choices_from}
+use Rattle.std.proofs.Common.{Result, Ok, Err, OnOk}
 use Rattle.tso_model.specs.FlatMachine.{step}
 
 -- one step more goes last
@@ -13,11 +14,12 @@ steps-more core n = rw add-one (go n)
 pub one-step-more : (old choices new : List Choice) (core n : ℕ) → choices ≡ old ++ steps core n → new ≡ choices ++ step core ∷ [] → new ≡ old ++ steps core (n + 1)
 one-step-more old choices new core n e f = f ∙ rw e (rw append_assoc (ap (λ (t : List Choice). old ++ t) (steps-more core n)))
 
--- before the first entry
-pub begun : (t : Litmus) (order : List Entry) (choices : List Choice) (places : List ℕ) → choices ≡ [] → places ≡ beginnings t.programs →
-    choices ++ choices_from t places order ≡ choices_along t order
-begun t order choices places e f = rw (e, f) refl
+-- what is so of what a call did is so of what follows from it
+pub on-ok : {A E : Type 0} {P Q : Type 0} (r : Result A E) → (P → Q) → OnOk r P → OnOk r Q
+on-ok (Ok a) f h = f h
+on-ok (Err e) f h = h
 
+-- before the first entry
 pub as-many : (programs : List (List Instr)) (places : List ℕ) → places ≡ beginnings programs → length places ≡ length programs
 as-many programs places e = rw e (go programs)
   where
@@ -26,12 +28,13 @@ as-many programs places e = rw e (go programs)
     go (p ∷ ps) = ap suc (go ps)
 
 -- each core at the beginning of its program
-pub all-begun : (programs : List (List Instr)) (n : ℕ) → n ≡ length programs → replicate n 0 ≡ beginnings programs
-all-begun programs n e = rw e (go programs)
+pub all-begun : (programs : List (List Instr)) (n most : ℕ) → n ≡ length programs → length programs ≤ most → take n (replicate most 0) ≡ beginnings programs
+all-begun programs n most e l = rw e (go programs most l)
   where
-    go : (ps : List (List Instr)) → replicate (length ps) 0 ≡ beginnings ps
-    go [] = refl
-    go (p ∷ ps) = ap (λ t. 0 ∷ t) (go ps)
+    go : (ps : List (List Instr)) (most : ℕ) → length ps ≤ most → take (length ps) (replicate most 0) ≡ beginnings ps
+    go [] most l = refl
+    go (p ∷ ps) zero l = absurd (let z : ⊥ = omega (arith, l) in z)
+    go (p ∷ ps) (suc most) l = ap (λ t. 0 ∷ t) (go ps most (omega (arith, l)))
 
 -- an entry's core has a place
 pub core-in : (order : List Entry) (i m n : ℕ) (d : Entry) → All (λ x. x.core.0 < n) order → i < length order → m ≡ n → (get_or order i d).core.0 < m
@@ -49,10 +52,10 @@ pub as-many-after : (places after : List ℕ) (x : Entry) (n : ℕ) → after �
 as-many-after places after x n e h = ap length e ∙ length-set places x.core.0 _ ∙ h
 
 -- after the last entry
-pub all-made : (t : Litmus) (order : List Entry) (i : ℕ) (choices new whole : List Choice) (places seen : List ℕ) → length order ≤ i →
-    new ≡ choices ++ last_steps 0 t.programs seen → seen ≡ places → choices ++ choices_from t places (drop i order) ≡ whole → new ≡ whole
-all-made t order i choices new whole places seen le e f made =
-    e ∙ ap (λ p. choices ++ last_steps 0 t.programs p) f ∙ sym (ap (λ r. choices ++ choices_from t places r) (drop_all i order le)) ∙ made
+pub all-made : (t : Litmus) (order : List Entry) (i : ℕ) (choices new whole : List Choice) (places : List ℕ) → length order ≤ i →
+    new ≡ choices ++ last_steps 0 t.programs places → choices ++ choices_from t places (drop i order) ≡ whole → new ≡ whole
+all-made t order i choices new whole places le e made =
+    e ∙ sym (ap (λ r. choices ++ choices_from t places r) (drop_all i order le)) ∙ made
 
 -- the steps of one core more
 pub last-more : (programs : List (List Instr)) (places : List ℕ) (i k n : ℕ) (p : List Instr) (choices new whole : List Choice) → i < length programs →

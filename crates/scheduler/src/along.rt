@@ -5,6 +5,7 @@ ghost use Rattle.std.specs.Prelude.{◌≡◌, ◌<◌, ◌++◌, IfOk, OnOk, Al
 ghost use Rattle.tso_laws.specs.Along.{steps, choices_for, places_after, last_steps, choices_along};
 
 use std::alloc::Global;
+use tso_model::limits::MAX_CORES;
 use tso_model::{Choice, Core, Entry, Kind, NoMemory, Test};
 
 /// The choices along an order: for each entry the steps of its core up to and over its instruction, as far as they aren't
@@ -16,19 +17,28 @@ pub fn choices_along(alloc: Global, test: &Test, order: &[Entry]) -> Result<Vec<
     ensures { IfOk result (λ v. v.items ≡ choices_along test.now order.now) }
 {
     let mut choices = Vec::new(alloc);
-    let mut places = beginnings(alloc, test)?;
-    for entry in order {
-        push_choices_for(&mut choices, &mut places, entry)?;
-    }
-    push_last_steps(&mut choices, test, &places)?;
+    push_choices_along(&mut choices, test, order)?;
     Ok(choices)
 }
 
-/// The place of each core before its first step.
-fn beginnings(alloc: Global, test: &Test) -> Result<Vec<usize>, NoMemory>
-    ensures { IfOk result (λ v. v.items ≡ Rattle.tso_laws.specs.Along.beginnings test.now.programs) }
+/// Appends the choices along an order.
+///
+/// Errors: out of memory only; the choices may have grown then.
+fn push_choices_along(
+    choices: &mut Vec<Choice>,
+    test: &Test,
+    order: &[Entry],
+) -> Result<(), NoMemory>
+    requires { All (λ x. x.core.0 < length test.now.programs) order.now }
+    ensures { OnOk result (choices.new.items ≡ choices.old.items ++ choices_along test.now order.now) }
 {
-    Ok(vec![in alloc; 0; usize::from(test.cores())]?)
+    test.know_limits();
+    let mut places = [0; MAX_CORES];
+    let places = &mut places[..usize::from(test.cores())];
+    for entry in order {
+        push_choices_for(choices, places, entry)?;
+    }
+    push_last_steps(choices, test, places)
 }
 
 /// Appends what an entry needs where the cores stand at these places, and moves its core on.
@@ -36,12 +46,12 @@ fn beginnings(alloc: Global, test: &Test) -> Result<Vec<usize>, NoMemory>
 /// Errors: out of memory only; the choices may have grown then.
 fn push_choices_for(
     choices: &mut Vec<Choice>,
-    places: &mut Vec<usize>,
+    places: &mut [usize],
     entry: &Entry,
 ) -> Result<(), NoMemory>
-    requires { entry.now.core.0 < length places.old.items }
-    ensures choices { OnOk result (choices.new.items ≡ choices.old.items ++ choices_for places.old.items entry.now) }
-    ensures places { OnOk result (places.new.items ≡ places_after places.old.items entry.now) }
+    requires { entry.now.core.0 < length places.old }
+    ensures choices { OnOk result (choices.new.items ≡ choices.old.items ++ choices_for places.old entry.now) }
+    ensures places { OnOk result (places.new ≡ places_after places.old entry.now) }
 {
     let place = &mut places[usize::from(entry.core.0)];
     let after = usize::from(entry.place) + 1;

@@ -37,15 +37,10 @@ pub fn write_after(text: &mut String, choices: &[Choice]) -> Result<(), NoMemory
 fn write_choice(text: &mut String, choice: Choice) -> Result<(), NoMemory>
     ensures { OnOk result (string_bytes text.new ≡ string_bytes text.old ++ printed_choice choice) }
 {
-    match choice {
-        Choice::Step(core) => {
-            let core = core.0;
-            write!(text, "{core}s")?;
-        }
-        Choice::Drain(core) => {
-            let core = core.0;
-            write!(text, "{core}d")?;
-        }
-    }
+    let (core, letter) = match choice {
+        Choice::Step(core) => (core.0, "s"),
+        Choice::Drain(core) => (core.0, "d"),
+    };
+    write!(text, "{core}{letter}")?;
     Ok(())
 }
