@@ -50,8 +50,7 @@ pub fn with_source(
     let mut sources = Vec::new(alloc);
     sources.push(Source { read, write })?;
     sources.extend_from_slice(&answers.sources)?;
-    let mut order = Vec::new(alloc);
-    order.extend_from_slice(&answers.order)?;
+    let order = Vec::from_slice(alloc, &answers.order)?;
     Ok(Answers { sources, order })
 }
 
@@ -66,8 +65,7 @@ pub fn with_pair(
 ) -> Result<Answers, NoMemory>
     ensures { IfOk result (λ a. known_of a ≡ spec.with_pair (known_of answers.now) first second) }
 {
-    let mut sources = Vec::new(alloc);
-    sources.extend_from_slice(&answers.sources)?;
+    let sources = Vec::from_slice(alloc, &answers.sources)?;
     let mut order = Vec::new(alloc);
     order.push(Pair { first, second })?;
     order.extend_from_slice(&answers.order)?;

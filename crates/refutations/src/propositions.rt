@@ -11,7 +11,7 @@ ghost use Rattle.refutation_laws.specs.declared.known.Pair as declared;
 ghost use Rattle.refutations.specs.inner.Trees.{known_of};
 ghost use Rattle.refutations.specs.inner.Facts.{AreFacts};
 
-use crate::answers::Answers;
+use crate::answers::{Answers, Branch};
 use crate::events::{is_event, same_event, writes_to};
 use crate::facts::Facts;
 use crate::values::{first_word, value_among};
@@ -64,58 +64,51 @@ fn can_be_last(test: &Test, events: &[Entry], answers: &Answers, loc: u8, w: &En
     writes_to(loc, w) && !is_passed(test, events, answers, w)
 }
 
-fn write_can_be(
-    test: &Test,
-    events: &[Entry],
-    answers: &Answers,
-    facts: &Facts,
-    loc: u8,
-    n: u32,
+/// What a number has to be: this one, or any other one.
+#[derive(Clone, Copy)]
+struct Wanted {
+    number: u32,
     truth: bool,
-    w: &Entry,
-) -> bool
-    requires events { events.now ≡ events_of test.now }
-    requires facts { AreFacts test.now (known_of answers.now) facts.now }
-    ensures { result ≡ (spec.can_be_last test.now (known_of answers.now) loc w.now
-        && spec.can_be n truth (spec.value_among (spec.all_known test.now (known_of answers.now)) w.now)) }
-{
-    can_be_last(test, events, answers, loc, w) && can_be(n, truth, value_among(&facts.writes, w))
 }
 
-fn some_write_can_be(
-    test: &Test,
-    events: &[Entry],
-    answers: &Answers,
-    facts: &Facts,
-    loc: u8,
-    n: u32,
-    truth: bool,
-) -> bool
-    requires events { events.now ≡ events_of test.now }
-    requires facts { AreFacts test.now (known_of answers.now) facts.now }
-    ensures { result ≡ list_any (λ w. spec.can_be_last test.now (known_of answers.now) loc w
-        && spec.can_be n truth (spec.value_among (spec.all_known test.now (known_of answers.now)) w)) events.now }
+fn write_can_be(branch: Branch<'_>, facts: &Facts, loc: u8, wanted: Wanted, w: &Entry) -> bool
+    requires events { branch.events.now ≡ events_of branch.test.now }
+    requires facts { AreFacts branch.test.now (known_of branch.answers.now) facts.now }
+    ensures { result ≡ (spec.can_be_last branch.entry.test.now (known_of branch.entry.answers.now) loc w.now
+        && spec.can_be wanted.number wanted.truth
+        (spec.value_among (spec.all_known branch.entry.test.now (known_of branch.entry.answers.now)) w.now)) }
 {
-    events.iter().any(|w| write_can_be(test, events, answers, facts, loc, n, truth, w))
+    can_be_last(branch.test, branch.events, branch.answers, loc, w)
+        && can_be(wanted.number, wanted.truth, value_among(&facts.writes, w))
 }
 
-fn word_can_be(
-    test: &Test,
-    events: &[Entry],
-    answers: &Answers,
-    facts: &Facts,
-    loc: Loc,
-    n: u32,
-    truth: bool,
-) -> bool
-    requires events { events.now ≡ events_of test.now }
-    requires facts { AreFacts test.now (known_of answers.now) facts.now }
-    ensures { result ≡ list_any (spec.can_be n truth) (spec.words_at_end test.now (known_of answers.now) loc.0) }
+fn some_write_can_be(branch: Branch<'_>, facts: &Facts, loc: u8, wanted: Wanted) -> bool
+    requires events { branch.events.now ≡ events_of branch.test.now }
+    requires facts { AreFacts branch.test.now (known_of branch.answers.now) facts.now }
+    ensures { result ≡ list_any (λ w. spec.can_be_last branch.entry.test.now (known_of branch.entry.answers.now) loc w
+        && spec.can_be wanted.number wanted.truth
+        (spec.value_among (spec.all_known branch.entry.test.now (known_of branch.entry.answers.now)) w)) branch.entry.events.now }
 {
-    if has_writes(events, loc.0) {
-        some_write_can_be(test, events, answers, facts, loc.0, n, truth)
+    branch
+        .events
+        .iter()
+        .any(|w| write_can_be(branch, facts, loc, wanted, w))
+}
+
+fn word_can_be(branch: Branch<'_>, facts: &Facts, loc: Loc, wanted: Wanted) -> bool
+    requires events { branch.events.now ≡ events_of branch.test.now }
+    requires facts { AreFacts branch.test.now (known_of branch.answers.now) facts.now }
+    ensures { result ≡ list_any (spec.can_be wanted.number wanted.truth)
+        (spec.words_at_end branch.entry.test.now (known_of branch.entry.answers.now) loc.0) }
+{
+    if has_writes(branch.events, loc.0) {
+        some_write_can_be(branch, facts, loc.0, wanted)
     } else {
-        can_be(n, truth, Some(first_word(test, loc)))
+        can_be(
+            wanted.number,
+            wanted.truth,
+            Some(first_word(branch.test, loc)),
+        )
     }
 }
 
@@ -186,7 +179,18 @@ pub fn allows(
                 register_at_end(test, answers, facts, *core, *reg),
             )
         }
-        Prop::LocIs(loc, value) => word_can_be(test, events, answers, facts, *loc, *value, truth),
+        Prop::LocIs(loc, value) => {
+            let branch = Branch {
+                test,
+                events,
+                answers,
+            };
+            let wanted = Wanted {
+                number: *value,
+                truth,
+            };
+            word_can_be(branch, facts, *loc, wanted)
+        }
         Prop::Not(inner) => allows(test, events, answers, facts, inner, !truth),
         Prop::And(left, right) => {
             if truth {

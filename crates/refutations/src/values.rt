@@ -138,15 +138,20 @@ fn act(
                 loc,
                 value: 0,
             };
-            note(walk, write, value)?;
+            note(walk, write, value)
         }
-        Action::Load(reg, _) => walk.registers[reg.index()] = word,
+        Action::Load(reg, _) => {
+            walk.registers[reg.index()] = word;
+            Ok(())
+        }
         Action::Move(reg, operand) => {
             walk.registers[reg.index()] = known_operand(&walk.registers, operand);
+            Ok(())
         }
-        Action::Fence => {}
+        Action::Fence => Ok(()),
         Action::Lock(loc, reg, update) => {
             let value = known_update(update, word, walk.registers[reg.index()]);
+            walk.registers[reg.index()] = word;
             let write = Entry {
                 core,
                 place,
@@ -154,11 +159,9 @@ fn act(
                 loc,
                 value: 0,
             };
-            note(walk, write, value)?;
-            walk.registers[reg.index()] = word;
+            note(walk, write, value)
         }
     }
-    Ok(())
 }
 
 /// Runs one instruction.

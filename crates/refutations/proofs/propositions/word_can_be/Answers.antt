@@ -5,6 +5,6 @@ use Rattle.refutations.proofs.propositions.word_can_be.Goals as goal
 pub returns-then-has_writes : goal.returns-then-has_writes
 returns-then-has_writes c =
     c.some_write_can_be.ensures
-    ∙ (among c.args.events.now c.args.test.now _ c.requires.events
-    ∙ words-kept c.args.test.now (known_of c.args.answers.now) c.args.loc.0 (can_be c.args.n c.args.truth)
+    ∙ (among c.args.branch.events.now c.args.branch.test.now _ c.requires.events
+    ∙ words-kept c.args.branch.test.now (known_of c.args.branch.answers.now) c.args.loc.0 (can_be c.args.wanted.number c.args.wanted.truth)
     (sym (ap (list_any (writes_to c.args.loc.0)) c.requires.events) ∙ (sym c.has_writes.ensures ∙ c.if-has_writes.true)))
