@@ -11,16 +11,16 @@ use std::alloc::Global;
 pub enum Conflict {
     Open,
     /// The edge with this number closes a cycle.
-    Cycle,
-    /// The read has no source left.
-    NoSource,
+    Cycle(usize),
+    /// This read has no source left.
+    NoSource(usize),
     /// What is asked is false by the values of the read, or of the location at the end.
     False,
 }
 
 /// A change that is undone later.
 #[derive(Clone, Copy)]
-enum Change {
+pub enum Change {
     /// The word at this place of the rows was this one.
     Word(usize, u64),
     /// The last edge that leaves here was this one.
@@ -50,13 +50,20 @@ pub struct Mark {
     edges: usize,
 }
 
+/// Where a branch stands that has nothing yet.
+pub const START: Mark = Mark {
+    trail: 0,
+    facts: 0,
+    edges: 0,
+};
+
 /// A branch.
 #[derive(Drop)]
 pub struct Branch {
     pub problem: Problem,
     /// What is after each event in each of the relations, what is before it, and the sources that each read may still have.
     pub rows: Rows,
-    trail: List<Change>,
+    pub trail: List<Change>,
     pub facts: List<Fact>,
     pub edges: List<Edge>,
     /// The last edge that leaves an event, in each of the relations.
@@ -74,16 +81,9 @@ pub struct Branch {
     pub earlier: Rows,
     pub claim_is_dirty: bool,
     pub conflict: Conflict,
-    /// What closes the branch.
-    pub clash: usize,
 }
 
 impl Branch {
-    /// The row of what is after an event.
-    pub fn after(&self, relations: Relations, a: usize) -> usize {
-        self.problem.row(relations, a)
-    }
-
     /// The row of what is before an event.
     pub fn before(&self, relations: Relations, a: usize) -> usize {
         self.problem
@@ -99,12 +99,12 @@ impl Branch {
 
     /// Whether one event is known to be before another one.
     pub fn is_known(&self, relations: Relations, a: usize, b: usize) -> bool {
-        self.rows.has(self.after(relations, a), b)
+        self.rows.has(self.problem.row(relations, a), b)
     }
 
     /// A word of what is after an event.
     pub fn word_after(&self, relations: Relations, a: usize, k: usize) -> u64 {
-        self.rows.word(self.after(relations, a), k)
+        self.rows.word(self.problem.row(relations, a), k)
     }
 
     /// A word of what is before an event.
@@ -140,7 +140,7 @@ impl Branch {
     /// Whether memory was refused.
     pub fn is_refused(&self) -> bool {
         self.problem.is_refused()
-            | self.rows.is_refused
+            | self.rows.words.is_refused
             | self.trail.is_refused
             | self.facts.is_refused
             | self.edges.is_refused
@@ -148,14 +148,9 @@ impl Branch {
             | self.source.is_refused
             | self.values.is_refused
             | self.moments.is_refused
-            | self.dirty.is_refused
-            | self.earlier.is_refused
+            | self.dirty.words.is_refused
+            | self.earlier.words.is_refused
     }
-}
-
-/// Marks an event as to be looked at.
-pub fn look_at(branch: &mut Branch, a: usize) {
-    branch.dirty.add(0, a);
 }
 
 /// Marks all as to be looked at.
@@ -164,11 +159,6 @@ pub fn look_at_all(branch: &mut Branch) {
         branch.dirty.add(0, a);
     }
     branch.claim_is_dirty = true;
-}
-
-/// Marks what reads a location as to be looked at.
-pub fn look_at_readers(branch: &mut Branch, loc: usize) {
-    branch.dirty.join(0, &branch.problem.readers_of, loc);
 }
 
 /// A branch with no answer.
@@ -189,17 +179,9 @@ pub fn make_branch(alloc: Global, problem: Problem) -> Branch {
         earlier: Rows::new(alloc, 2, size),
         claim_is_dirty: true,
         conflict: Conflict::Open,
-        clash: NONE,
     };
     look_at_all(&mut branch);
     branch
-}
-
-/// The branch is closed. False, as what closes it.
-pub fn close(branch: &mut Branch, conflict: Conflict, clash: usize) -> bool {
-    branch.conflict = conflict;
-    branch.clash = clash;
-    false
 }
 
 /// Where the branch stands.
@@ -211,20 +193,15 @@ pub fn mark_here(branch: &Branch) -> Mark {
     }
 }
 
-fn undo_one(branch: &mut Branch, change: Change) {
-    match change {
-        Change::Word(place, bits) => branch.rows.put_at(place, bits),
-        Change::Head(place, edge) => branch.heads.put(place, edge),
-        Change::Source(r) => branch.source.put(r, NONE),
-        Change::Moment(place) => branch.moments.put(place, NEVER),
-    }
-}
-
 /// Goes back to where the branch stood.
 pub fn undo(branch: &mut Branch, mark: &Mark) {
     for _change in mark.trail..branch.trail.len() {
-        let change = branch.trail.pop();
-        undo_one(branch, change);
+        match branch.trail.pop() {
+            Change::Word(place, bits) => branch.rows.words.put(place, bits),
+            Change::Head(place, edge) => branch.heads.put(place, edge),
+            Change::Source(r) => branch.source.put(r, NONE),
+            Change::Moment(place) => branch.moments.put(place, NEVER),
+        }
     }
     branch.facts.cut(mark.facts);
     branch.edges.cut(mark.edges);
@@ -235,21 +212,14 @@ pub fn undo(branch: &mut Branch, mark: &Mark) {
 
 /// Writes a word of a row.
 pub fn change_word(branch: &mut Branch, row: usize, k: usize, bits: u64) {
-    let old = branch.rows.word(row, k);
     let place = branch.rows.place(row, k);
+    let old = branch.rows.words.at(place);
     branch.trail.push(Change::Word(place, old));
-    branch.rows.put_at(place, bits);
-}
-
-/// Notes that an edge is the last one that leaves its event.
-pub fn put_head(branch: &mut Branch, place: usize, edge: usize) {
-    let old = branch.heads.at(place);
-    branch.trail.push(Change::Head(place, old));
-    branch.heads.put(place, edge);
+    branch.rows.words.put(place, bits);
 }
 
 /// Adds a fact, and gives its number.
-fn add_fact(branch: &mut Branch, answer: Answer, tried: bool) -> usize {
+pub fn add_fact(branch: &mut Branch, answer: Answer, tried: bool) -> usize {
     let number = branch.facts.len();
     branch.facts.push(Fact {
         answer,
@@ -259,31 +229,14 @@ fn add_fact(branch: &mut Branch, answer: Answer, tried: bool) -> usize {
     number
 }
 
-/// Adds the fact that a read reads from a write, and gives its number.
-pub fn add_source(branch: &mut Branch, r: usize, w: usize, tried: bool) -> usize {
-    let fact = add_fact(branch, Answer::Source(r, w), tried);
-    branch.trail.push(Change::Source(r));
-    branch.source.put(r, fact);
-    fact
-}
-
-/// Notes for an event and a write that so many facts stand on the branch.
-fn put_moment(branch: &mut Branch, a: usize, w: usize, facts: usize) {
+/// Notes for an event and a write where the branch stands now: the event can't read from the write, or the next fact says that it is
+/// before the write.
+pub fn put_moment(branch: &mut Branch, a: usize, w: usize) {
     let place = branch.cell(a, w);
-    let edges = branch.edges.len();
+    let now = Moment {
+        facts: branch.facts.len(),
+        edges: branch.edges.len(),
+    };
     branch.trail.push(Change::Moment(place));
-    branch.moments.put(place, Moment { facts, edges });
-}
-
-/// Adds the fact that one write is before another one, and gives its number.
-pub fn add_order(branch: &mut Branch, a: usize, b: usize, tried: bool) -> usize {
-    let fact = add_fact(branch, Answer::Before(a, b), tried);
-    put_moment(branch, a, b, fact);
-    fact
-}
-
-/// Notes that a read can't have this source.
-pub fn note_removed(branch: &mut Branch, r: usize, s: usize) {
-    let facts = branch.facts.len();
-    put_moment(branch, r, s, facts);
+    branch.moments.put(place, now);
 }

@@ -7,9 +7,7 @@ pub struct Chance {
 }
 
 /// Numbers of chance from the first one on.
-pub fn first_chance() -> Chance {
-    Chance { seed: 1 }
-}
+pub const FIRST_CHANCE: Chance = Chance { seed: 1 };
 
 impl Chance {
     /// The next number of chance below this one, or 0.

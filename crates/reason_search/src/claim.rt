@@ -1,7 +1,7 @@
 //! What is asked of the final state, as a list of parts. A part that is made of two stands before them, the first one right behind it.
 
 use crate::lists::{List, NONE};
-use crate::problem::{Problem, Term};
+use crate::problem::{Problem, Term, add_reads, register_place};
 use crate::rows::bit;
 use std::alloc::Global;
 use tso_model::{Loc, Prop, Quantifier, Test};
@@ -52,24 +52,9 @@ impl Parts {
     }
 }
 
-/// Whether a value is as it has to be.
-pub fn meets(value: usize, demand: Demand) -> bool {
-    (value == demand.number as usize) == demand.truth
-}
-
 /// Whether a value is as it has to be, or isn't known.
 pub fn can_be(demand: Demand, value: usize) -> bool {
-    value == NONE || meets(value, demand)
-}
-
-/// Whether a part can be so where it is known which of the parts behind it can be.
-pub fn can_be_made(part: Part, i: usize, parts: &Parts) -> bool {
-    match part {
-        Part::Fixed(truth) => truth,
-        Part::Value(..) => parts.has(i),
-        Part::Both(second) => parts.has(i.wrapping_add(1)) && parts.has(second),
-        Part::Either(second) => parts.has(i.wrapping_add(1)) || parts.has(second),
-    }
+    value == NONE || (value == demand.number as usize) == demand.truth
 }
 
 /// A part that says of a term that it has a number, or hasn't.
@@ -84,10 +69,10 @@ fn term_part(term: Term, number: u32, truth: bool) -> Part {
 /// A part that says of a location that it has a number at the end, or hasn't.
 fn word_part(problem: &Problem, loc: Loc, number: u32, truth: bool) -> Part {
     let x = usize::from(loc.0);
-    if problem.is_written(x) {
-        Part::Value(x, Demand { number, truth })
-    } else {
+    if problem.writes_to.next(x, 0) == NONE {
         term_part(problem.terms.at(x), number, truth)
+    } else {
+        Part::Value(x, Demand { number, truth })
     }
 }
 
@@ -95,26 +80,24 @@ fn word_part(problem: &Problem, loc: Loc, number: u32, truth: bool) -> Part {
 fn add_parts(
     parts: &mut List<Part>,
     problem: &Problem,
-    finals: &List<Term>,
+    registers: &List<Term>,
     prop: &Prop,
     truth: bool,
 ) {
     match prop {
         Prop::Truth(value) => parts.push(Part::Fixed(*value == truth)),
         Prop::RegIs(core, reg, number) => {
-            let place = usize::from(core.0)
-                .wrapping_mul(6)
-                .wrapping_add(reg.index());
-            parts.push(term_part(finals.at(place), *number, truth));
+            let held = registers.at(register_place(*core, *reg));
+            parts.push(term_part(held, *number, truth));
         }
         Prop::LocIs(loc, number) => parts.push(word_part(problem, *loc, *number, truth)),
-        Prop::Not(inner) => add_parts(parts, problem, finals, inner, !truth),
+        Prop::Not(inner) => add_parts(parts, problem, registers, inner, !truth),
         Prop::And(left, right) | Prop::Or(left, right) => {
             let place = parts.len();
             parts.push(Part::Fixed(true));
-            add_parts(parts, problem, finals, left, truth);
+            add_parts(parts, problem, registers, left, truth);
             let second = parts.len();
-            add_parts(parts, problem, finals, right, truth);
+            add_parts(parts, problem, registers, right, truth);
             let both = matches!(prop, Prop::And(..)) == truth;
             parts.put(
                 place,
@@ -129,11 +112,16 @@ fn add_parts(
 }
 
 /// The parts of what a test asks.
-pub fn parts_of(alloc: Global, problem: &Problem, finals: &List<Term>, test: &Test) -> List<Part> {
+pub fn parts_of(
+    alloc: Global,
+    problem: &Problem,
+    registers: &List<Term>,
+    test: &Test,
+) -> List<Part> {
     let mut parts = List::new(alloc, Part::Fixed(true));
     if let Some(cond) = test.cond() {
         let truth = !matches!(cond.quantifier, Quantifier::Forall);
-        add_parts(&mut parts, problem, finals, &cond.prop, truth);
+        add_parts(&mut parts, problem, registers, &cond.prop, truth);
     }
     parts
 }
@@ -147,9 +135,7 @@ fn mark_more(problem: &mut Problem) -> bool {
             problem.relevant.add(0, loc);
         }
         if problem.relevant.has(0, loc) && problem.is_write_to(loc, a) {
-            let term = problem.terms.at(a);
-            problem.relevant.add(0, term.first);
-            problem.relevant.add(0, term.second);
+            add_reads(&mut problem.relevant, problem.terms.at(a));
         }
     }
     problem.relevant.count(0) != before

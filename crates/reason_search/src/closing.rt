@@ -3,21 +3,22 @@
 use crate::branch::Branch;
 use crate::evidence::{Closing, reset, use_facts};
 use crate::facts::Turned;
-use crate::growing::{Growth, add_cycle, add_leaf, add_question, put_branch};
+use crate::growing::{Growth, add_cycle, add_node, put_branch};
 use crate::offers::{Desk, show_order};
+use crate::problem::Relations;
 
 /// The question which of two writes comes first, with the tree of the other order and of this one.
 pub fn ask_order(desk: &mut Desk, a: usize, b: usize, other: usize, tree: usize) -> usize {
-    let question = add_question(&mut desk.trees, Growth::ComesFirst(a, b));
+    let question = add_node(&mut desk.trees, Growth::ComesFirst(a, b), 0);
     put_branch(&mut desk.trees, question, other);
     put_branch(&mut desk.trees, question, tree);
     question
 }
 
-/// The leaf in hand, a cycle.
-pub fn add_trial(desk: &mut Desk) -> usize {
+/// The leaf in hand, a cycle of these relations.
+pub fn add_trial(desk: &mut Desk, relations: Relations) -> usize {
     use_facts(&desk.trial, &mut desk.used);
-    add_cycle(&mut desk.trees, &desk.trial)
+    add_cycle(&mut desk.trees, relations, &desk.trial.cycle)
 }
 
 /// Whether an answer above says that one write is before another one; it is used then.
@@ -33,25 +34,32 @@ fn is_used(branch: &Branch, desk: &mut Desk, a: usize, b: usize) -> bool {
     true
 }
 
+/// Two writes, of which one comes before the other.
+#[derive(Clone, Copy)]
+struct Pair {
+    first: usize,
+    second: usize,
+}
+
 /// A tree that goes by an order. Where no answer says it, and it isn't the one that is turned, it follows from a chain: then the
 /// question stands above the tree, and the other order is a cycle.
 fn add_pair_above(
     branch: &Branch,
     desk: &mut Desk,
     turned: Turned,
-    a: usize,
-    b: usize,
+    pair: Pair,
     tree: usize,
 ) -> usize {
-    if a == turned.second && b == turned.first || is_used(branch, desk, a, b) {
+    let Pair { first, second } = pair;
+    if first == turned.second && second == turned.first || is_used(branch, desk, first, second) {
         return tree;
     }
-    reset(&mut desk.trial, Closing::OnLocation);
-    desk.trial.cycle.push(a);
-    show_order(branch, desk, a, b, turned.edges);
-    desk.trial.cycle.push(b);
-    let cycle = add_trial(desk);
-    ask_order(desk, a, b, cycle, tree)
+    reset(&mut desk.trial, Closing::Cycle(Relations::OnLocation));
+    desk.trial.cycle.push(first);
+    show_order(branch, desk, first, second, turned.edges);
+    desk.trial.cycle.push(second);
+    let cycle = add_trial(desk, Relations::OnLocation);
+    ask_order(desk, first, second, cycle, tree)
 }
 
 /// The tree of a write between two parts, the first of which reads from `s`, with the pairs that only follow from chains.
@@ -59,9 +67,17 @@ fn add_between_tree(branch: &Branch, desk: &mut Desk, s: usize, turned: Turned) 
     let r = desk.best.cycle.at(0);
     let v = desk.best.cycle.at(1);
     let own = desk.best.cycle.at(2);
-    let leaf = add_leaf(&mut desk.trees, Growth::Between(r, v, own));
-    let tree = add_pair_above(branch, desk, turned, v, own, leaf);
-    add_pair_above(branch, desk, turned, s, v, tree)
+    let leaf = add_node(&mut desk.trees, Growth::Between(r, v, own), 1);
+    let later = Pair {
+        first: v,
+        second: own,
+    };
+    let earlier = Pair {
+        first: s,
+        second: v,
+    };
+    let tree = add_pair_above(branch, desk, turned, later, leaf);
+    add_pair_above(branch, desk, turned, earlier, tree)
 }
 
 /// The tree of the best reason, for a read of `s`, or where this order is supposed to be turned; what it uses is used then. Where
@@ -69,9 +85,9 @@ fn add_between_tree(branch: &Branch, desk: &mut Desk, s: usize, turned: Turned) 
 pub fn add_best(branch: &Branch, desk: &mut Desk, s: usize, turned: Turned) -> usize {
     use_facts(&desk.best, &mut desk.used);
     match desk.best.closing {
-        Closing::OnLocation | Closing::Global => add_cycle(&mut desk.trees, &desk.best),
+        Closing::Cycle(relations) => add_cycle(&mut desk.trees, relations, &desk.best.cycle),
         Closing::Between => add_between_tree(branch, desk, s, turned),
-        Closing::False => add_leaf(&mut desk.trees, Growth::False),
+        Closing::False => add_node(&mut desk.trees, Growth::False, 1),
         Closing::None => add_false(desk),
     }
 }
@@ -81,5 +97,5 @@ pub fn add_false(desk: &mut Desk) -> usize {
     for fact in 0..desk.above {
         desk.used.add(0, fact);
     }
-    add_leaf(&mut desk.trees, Growth::False)
+    add_node(&mut desk.trees, Growth::False, 1)
 }

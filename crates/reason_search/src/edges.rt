@@ -1,12 +1,10 @@
 //! Edges that the program and answers tell, and what is before what by chains of them.
 
-use crate::branch::{
-    Branch, Conflict, add_order, change_word, close, look_at, look_at_readers, put_head,
-};
-use crate::facts::{Edge, Link};
+use crate::branch::{Branch, Change, Conflict, add_fact, change_word, put_moment};
+use crate::facts::{Answer, Edge, Link};
 use crate::lists::NONE;
 use crate::problem::Relations;
-use crate::rows::{bit, lowest, rest};
+use crate::rows::{bit, lowest};
 
 /// A row, and a number that belongs to it as well.
 #[derive(Clone, Copy)]
@@ -45,11 +43,11 @@ fn widen_each(branch: &mut Branch, some: Ends, first: usize, added: Ends) {
                 break;
             }
             let x = lowest(k, left);
-            left = rest(left);
+            left &= left.wrapping_sub(1);
             let row = first.wrapping_add(x);
             if !branch.rows.has(row, added.also) {
                 widen(branch, row, added);
-                look_at(branch, x);
+                branch.dirty.add(0, x);
             }
         }
     }
@@ -62,10 +60,10 @@ fn spread(branch: &mut Branch, relations: Relations, a: usize, b: usize) {
         also: a,
     };
     let later = Ends {
-        row: branch.after(relations, b),
+        row: branch.problem.row(relations, b),
         also: b,
     };
-    let first_after = branch.after(relations, 0);
+    let first_after = branch.problem.row(relations, 0);
     let first_before = branch.before(relations, 0);
     widen_each(branch, earlier, first_after, later);
     widen_each(branch, later, first_before, earlier);
@@ -78,21 +76,23 @@ pub fn add_edge(branch: &mut Branch, relations: Relations, link: Link) -> bool {
         return true;
     }
     let place = branch.problem.row(relations, a);
-    let edge = Edge {
+    let next = branch.heads.at(place);
+    let number = branch.edges.len();
+    branch.edges.push(Edge {
         link,
         relations,
-        next: branch.heads.at(place),
-    };
-    let number = branch.edges.len();
-    branch.edges.push(edge);
+        next,
+    });
     if a == b || branch.is_known(relations, b, a) {
-        return close(branch, Conflict::Cycle, number);
+        branch.conflict = Conflict::Cycle(number);
+        return false;
     }
-    put_head(branch, place, number);
+    branch.trail.push(Change::Head(place, next));
+    branch.heads.put(place, number);
     spread(branch, relations, a, b);
     if matches!(relations, Relations::Coherence) {
         let loc = branch.problem.location(a);
-        look_at_readers(branch, loc);
+        branch.dirty.join(0, &branch.problem.readers_of, loc);
     }
     true
 }
@@ -107,10 +107,11 @@ pub fn put_before(branch: &mut Branch, a: usize, b: usize, tried: bool) -> bool 
     if branch.problem.is_initial(a) || branch.is_known(Relations::Coherence, a, b) {
         return true;
     }
+    put_moment(branch, a, b);
     let link = Link {
         from: a,
         to: b,
-        fact: add_order(branch, a, b, tried),
+        fact: add_fact(branch, Answer::Before(a, b), tried),
         is_from_read: false,
     };
     add_edge(branch, Relations::Coherence, link) && add_edges(branch, link)
@@ -118,7 +119,7 @@ pub fn put_before(branch: &mut Branch, a: usize, b: usize, tried: bool) -> bool 
 
 /// Notes what is after an event in its program, where what is after those is known.
 fn add_program(branch: &mut Branch, relations: Relations, a: usize) {
-    let row = branch.after(relations, a);
+    let row = branch.problem.row(relations, a);
     branch.rows.join(row, &branch.problem.program, row);
     let mut b = branch.rows.next(row, a);
     for _later in a..branch.problem.size {
@@ -136,12 +137,14 @@ fn add_program(branch: &mut Branch, relations: Relations, a: usize) {
     }
 }
 
-/// What the program alone tells of a relation, from the last event on.
-fn spread_program(branch: &mut Branch, relations: Relations) {
+/// What the program alone tells, from the last event on.
+fn spread_program(branch: &mut Branch) {
     let mut a = branch.problem.size;
     for _event in 0..branch.problem.size {
         a = a.wrapping_sub(1);
-        add_program(branch, relations, a);
+        add_program(branch, Relations::OnLocation, a);
+        add_program(branch, Relations::Global, a);
+        add_program(branch, Relations::Coherence, a);
     }
 }
 
@@ -163,9 +166,7 @@ fn put_before_later(branch: &mut Branch, a: usize) {
 
 /// Puts what the program alone tells on a branch that has nothing yet.
 pub fn put_program(branch: &mut Branch) {
-    spread_program(branch, Relations::OnLocation);
-    spread_program(branch, Relations::Global);
-    spread_program(branch, Relations::Coherence);
+    spread_program(branch);
     for a in branch.problem.locations..branch.problem.size {
         let event = branch.problem.events.at(a);
         if event.writes {

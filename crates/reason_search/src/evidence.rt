@@ -1,6 +1,7 @@
 //! Why a case is closed: a leaf, and the answers that it uses.
 
 use crate::lists::{List, NONE};
+use crate::problem::Relations;
 use crate::rows::Rows;
 use std::alloc::Global;
 
@@ -8,8 +9,8 @@ use std::alloc::Global;
 #[derive(Clone, Copy)]
 pub enum Closing {
     None,
-    OnLocation,
-    Global,
+    /// A cycle of edges that these relations have.
+    Cycle(Relations),
     Between,
     False,
 }
@@ -38,7 +39,7 @@ pub fn make_evidence(alloc: Global, size: usize) -> Evidence {
 
 /// Whether memory was refused for a leaf.
 pub fn lacks_memory(evidence: &Evidence) -> bool {
-    evidence.cycle.is_refused | evidence.facts.is_refused | evidence.needed.is_refused
+    evidence.cycle.is_refused | evidence.facts.is_refused | evidence.needed.words.is_refused
 }
 
 /// Begins a leaf anew.
@@ -56,8 +57,12 @@ pub fn need(evidence: &mut Evidence, fact: usize) {
     }
 }
 
-/// How many facts a leaf uses that aren't used yet, and how long it is.
-pub fn weigh(evidence: &mut Evidence, used: &Rows, length: usize) {
+/// How many facts a leaf uses that aren't used yet, and how long it is: a write between counts as a cycle of six.
+pub fn weigh(evidence: &mut Evidence, used: &Rows) {
+    let length = match evidence.closing {
+        Closing::Between => 6,
+        _ => evidence.cycle.len(),
+    };
     let mut fresh = 0usize;
     for i in 0..evidence.facts.len() {
         if !used.has(0, evidence.facts.at(i)) {

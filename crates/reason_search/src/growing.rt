@@ -1,11 +1,9 @@
 //! The tree of a refutation while it grows: each node with its first branch, and with the node of the next branch beside it.
 
-use crate::evidence::{Closing, Evidence};
 use crate::lists::{List, NONE};
-use crate::problem::{NO_EVENT, Problem};
+use crate::problem::{NO_EVENT, Problem, Relations};
 use refutations::Node;
 use std::alloc::Global;
-use std::mem::swap;
 use tso_model::{Entry, NoMemory};
 
 /// What stands at a node.
@@ -15,9 +13,8 @@ pub enum Growth {
     ReadsFrom(usize),
     /// Both writes.
     ComesFirst(usize, usize),
-    /// Where the cycle begins, and how long it is.
-    OnLocation(usize, usize),
-    Global(usize, usize),
+    /// The cycle's relations, where it begins, and how long it is.
+    Cycle(Relations, usize, usize),
     /// The load part, the write between, and the store part.
     Between(usize, usize, usize),
     False,
@@ -31,14 +28,14 @@ pub struct Twig {
     child: usize,
     /// The next branch of the node above.
     beside: usize,
-    leaves: usize,
+    pub leaves: usize,
 }
 
 /// Nodes, and the events of their cycles.
 #[derive(Drop)]
 pub struct Trees {
-    twigs: List<Twig>,
-    events: List<usize>,
+    pub twigs: List<Twig>,
+    pub events: List<usize>,
 }
 
 /// No nodes.
@@ -49,18 +46,8 @@ pub fn no_trees(alloc: Global) -> Trees {
     }
 }
 
-/// Takes all nodes away.
-pub fn clear_trees(trees: &mut Trees) {
-    trees.twigs.cut(0);
-    trees.events.cut(0);
-}
-
-/// Whether memory was refused.
-pub fn are_refused(trees: &Trees) -> bool {
-    trees.twigs.is_refused | trees.events.is_refused
-}
-
-fn add_twig(trees: &mut Trees, growth: Growth, leaves: usize) -> usize {
+/// Adds a node with no branch yet: a question, which has no leaves then, or a leaf.
+pub fn add_node(trees: &mut Trees, growth: Growth, leaves: usize) -> usize {
     let number = trees.twigs.len();
     trees.twigs.push(Twig {
         growth,
@@ -75,32 +62,13 @@ fn add_twig(trees: &mut Trees, growth: Growth, leaves: usize) -> usize {
     number
 }
 
-/// A question with no branch yet.
-pub fn add_question(trees: &mut Trees, growth: Growth) -> usize {
-    add_twig(trees, growth, 0)
-}
-
-/// A leaf.
-pub fn add_leaf(trees: &mut Trees, growth: Growth) -> usize {
-    add_twig(trees, growth, 1)
-}
-
-fn add_events(events: &mut List<usize>, cycle: &List<usize>) {
-    for i in 0..cycle.len() {
-        events.push(cycle.at(i));
-    }
-}
-
-/// A leaf of a cycle.
-pub fn add_cycle(trees: &mut Trees, evidence: &Evidence) -> usize {
+/// A leaf of a cycle of these relations.
+pub fn add_cycle(trees: &mut Trees, relations: Relations, cycle: &List<usize>) -> usize {
     let start = trees.events.len();
-    let length = evidence.cycle.len();
-    add_events(&mut trees.events, &evidence.cycle);
-    if matches!(evidence.closing, Closing::Global) {
-        add_leaf(trees, Growth::Global(start, length))
-    } else {
-        add_leaf(trees, Growth::OnLocation(start, length))
+    for i in 0..cycle.len() {
+        trees.events.push(cycle.at(i));
     }
+    add_node(trees, Growth::Cycle(relations, start, cycle.len()), 1)
 }
 
 /// What stands where there is no node.
@@ -110,11 +78,6 @@ const NO_TWIG: Twig = Twig {
     beside: NONE,
     leaves: 0,
 };
-
-/// How many leaves a tree has.
-pub fn leaves_of(trees: &Trees, number: usize) -> usize {
-    trees.twigs.at(number).leaves
-}
 
 /// Puts a branch before the branches of a question.
 pub fn put_branch(trees: &mut Trees, question: usize, branch: usize) {
@@ -148,7 +111,7 @@ fn cycle_of(
     let mut cycle = List::new(alloc, NO_EVENT.entry);
     for i in 0..length {
         let a = events.at(start.wrapping_add(i));
-        cycle.push(problem.events.at(a).entry);
+        cycle.push(problem.entry(a));
     }
     cycle.into_items()
 }
@@ -160,17 +123,19 @@ fn node_of(
     trees: &Trees,
     growth: Growth,
 ) -> Result<Node, NoMemory> {
-    let entry = |a: usize| problem.events.at(a).entry;
     Ok(match growth {
-        Growth::ReadsFrom(r) => Node::ReadsFrom(entry(r)),
-        Growth::ComesFirst(a, b) => Node::ComesFirst(entry(a), entry(b)),
-        Growth::OnLocation(start, length) => {
-            Node::OnLocation(cycle_of(alloc, problem, &trees.events, start, length)?)
+        Growth::ReadsFrom(r) => Node::ReadsFrom(problem.entry(r)),
+        Growth::ComesFirst(a, b) => Node::ComesFirst(problem.entry(a), problem.entry(b)),
+        Growth::Cycle(relations, start, length) => {
+            let cycle = cycle_of(alloc, problem, &trees.events, start, length)?;
+            match relations {
+                Relations::Global => Node::Globally(cycle),
+                _ => Node::OnLocation(cycle),
+            }
         }
-        Growth::Global(start, length) => {
-            Node::Globally(cycle_of(alloc, problem, &trees.events, start, length)?)
+        Growth::Between(r, v, w) => {
+            Node::Between(problem.entry(r), problem.entry(v), problem.entry(w))
         }
-        Growth::Between(r, v, w) => Node::Between(entry(r), entry(v), entry(w)),
         Growth::False => Node::FalseClaim,
     })
 }
@@ -178,53 +143,26 @@ fn node_of(
 /// A tree that is proposed, and its nodes that aren't taken yet but for what stands below them.
 #[derive(Drop)]
 pub struct Proposal {
-    trees: Trees,
-    open: List<usize>,
+    pub trees: Trees,
+    pub open: List<usize>,
 }
 
-impl Proposal {
-    /// No tree.
-    pub fn none(alloc: Global) -> Proposal {
-        Proposal {
-            trees: no_trees(alloc),
-            open: List::new(alloc, NONE),
-        }
-    }
+/// Whether memory was refused for a proposal.
+pub fn is_short(proposal: &Proposal) -> bool {
+    proposal.trees.twigs.is_refused | proposal.trees.events.is_refused | proposal.open.is_refused
+}
 
-    /// Whether memory was refused.
-    pub fn is_refused(&self) -> bool {
-        are_refused(&self.trees) | self.open.is_refused
+/// Takes a node, and opens those that stand behind it.
+fn take(proposal: &mut Proposal) -> Growth {
+    let number = proposal.open.pop();
+    let twig = proposal.trees.twigs.at(number);
+    if twig.beside != NONE {
+        proposal.open.push(twig.beside);
     }
-
-    /// Whether all nodes are taken.
-    pub fn is_taken(&self) -> bool {
-        self.open.len() == 0
+    if twig.child != NONE {
+        proposal.open.push(twig.child);
     }
-
-    /// Forgets the nodes that aren't taken yet.
-    pub fn forget(&mut self) {
-        self.open.cut(0);
-    }
-
-    /// Proposes the tree that starts here, and gives back those that stood here before.
-    pub fn propose(&mut self, trees: &mut Trees, root: usize) {
-        swap(&mut self.trees, trees);
-        self.open.cut(0);
-        self.open.push(root);
-    }
-
-    /// Takes a node, and opens those that stand behind it.
-    fn take(&mut self) -> Growth {
-        let number = self.open.pop();
-        let twig = self.trees.twigs.at(number);
-        if twig.beside != NONE {
-            self.open.push(twig.beside);
-        }
-        if twig.child != NONE {
-            self.open.push(twig.child);
-        }
-        twig.growth
-    }
+    twig.growth
 }
 
 /// The next node of the tree that is proposed, where these are still to be taken, each before its branches.
@@ -235,11 +173,11 @@ pub fn next_node(
     problem: &Problem,
     proposal: &mut Proposal,
 ) -> Result<Option<Node>, NoMemory> {
-    if proposal.is_taken() {
+    if proposal.open.len() == 0 {
         return Ok(None);
     }
-    let growth = proposal.take();
-    if proposal.is_refused() {
+    let growth = take(proposal);
+    if is_short(proposal) {
         return Err(NoMemory);
     }
     Ok(Some(node_of(alloc, problem, &proposal.trees, growth)?))

@@ -1,11 +1,13 @@
 //! What a search proposes: nodes of a tree, from the root on, or the order of an execution.
 
-use crate::growing::{Proposal, leaves_of, next_node};
+use crate::growing::{Proposal, is_short, next_node, no_trees};
 use crate::hunting::{Find, Hunt, hunt_again, hunt_for, is_refused, make_hunt};
+use crate::lists::{List, NONE};
 use crate::ordering::make_order;
 use refutation_laws::Model;
 use refutations::Node;
 use std::alloc::Global;
+use std::mem::swap;
 use tso_model::{Entry, Execution, NoMemory, Test};
 
 /// How many cases a search looks at before it gives up.
@@ -22,77 +24,65 @@ pub struct Guide {
     proposal: Proposal,
 }
 
+/// Proposes the tree that starts here, if it has fewer leaves than so many. How many leaves the tree has that is proposed then.
+fn offer_tree(guide: &mut Guide, root: usize, leaves: usize) -> usize {
+    let trees = &mut guide.hunt.desk.trees;
+    let fewer = trees.twigs.at(root).leaves;
+    if fewer >= leaves {
+        return leaves;
+    }
+    // The trees that were proposed stand there from now on.
+    swap(&mut guide.proposal.trees, trees);
+    guide.proposal.open.cut(0);
+    guide.proposal.open.push(root);
+    fewer
+}
+
 /// Looks for smaller trees than this one, a few times, each time at no more cases than that took.
-fn look_for_smaller(hunt: &mut Hunt, proposal: &mut Proposal, first: usize) {
-    let effort = hunt.cases.wrapping_add(20);
-    let mut leaves = first;
+fn look_for_smaller(guide: &mut Guide, root: usize) {
+    let effort = guide.hunt.cases.wrapping_add(20);
+    let mut leaves = offer_tree(guide, root, NONE);
     for tries in 0..MOST_TRIES {
-        if leaves < 3 || tries.wrapping_mul(effort) > 4_000 || is_refused(hunt) {
+        if leaves < 3 || tries.wrapping_mul(effort) > 4_000 || is_refused(&guide.hunt) {
             break;
         }
-        if let Find::Refuted(root) = hunt_again(hunt, effort) {
-            let fewer = leaves_of(&hunt.desk.trees, root);
-            if fewer < leaves {
-                leaves = fewer;
-                proposal.propose(&mut hunt.desk.trees, root);
-            }
+        if let Find::Refuted(other) = hunt_again(&mut guide.hunt, effort) {
+            leaves = offer_tree(guide, other, leaves);
         }
     }
 }
 
-/// Whether memory was refused.
-fn is_memory_refused(guide: &Guide) -> bool {
-    is_refused(&guide.hunt) | guide.proposal.is_refused()
-}
-
-/// Searches. Whether a branch is open to the end; where all is closed, a tree is proposed.
-fn run(hunt: &mut Hunt, proposal: &mut Proposal) -> bool {
-    match hunt_for(hunt, MOST_CASES) {
-        Find::Refuted(root) => {
-            let leaves = leaves_of(&hunt.desk.trees, root);
-            proposal.propose(&mut hunt.desk.trees, root);
-            look_for_smaller(hunt, proposal, leaves);
-            false
-        }
-        Find::Allowed => true,
-        Find::Paused => false,
+/// Searches. Where all is closed, a tree is proposed.
+fn search(guide: &mut Guide) {
+    match hunt_for(&mut guide.hunt, MOST_CASES) {
+        Find::Refuted(root) => look_for_smaller(guide, root),
+        Find::Allowed => guide.is_allowed = true,
+        Find::Paused => {}
     }
 }
 
-/// Searches. False where memory was refused, for this or before.
-fn search(guide: &mut Guide) -> bool {
-    if is_memory_refused(guide) {
-        return false;
-    }
-    guide.is_allowed = run(&mut guide.hunt, &mut guide.proposal);
-    !is_memory_refused(guide)
-}
-
-/// Searches: a tree, or a branch that is open to the end, or neither.
-///
-/// Errors: out of memory only.
-pub fn make_guide(
-    alloc: Global,
-    test: &Test,
-    events: &[Entry],
-    model: Model,
-) -> Result<Guide, NoMemory> {
+/// Searches: a tree, or a branch that is open to the end, or neither. Where memory is refused, the search ends, and `proposed_order`
+/// tells it.
+pub fn make_guide(alloc: Global, test: &Test, events: &[Entry], model: Model) -> Guide {
     let mut guide = Guide {
         hunt: make_hunt(alloc, test, events, model),
         is_allowed: false,
-        proposal: Proposal::none(alloc),
+        proposal: Proposal {
+            trees: no_trees(alloc),
+            open: List::new(alloc, NONE),
+        },
     };
-    if search(&mut guide) {
-        Ok(guide)
-    } else {
-        Err(NoMemory)
-    }
+    search(&mut guide);
+    guide
 }
 
 /// The order that is proposed, if one is.
 ///
-/// Errors: out of memory only.
+/// Errors: out of memory only, for this or for the search.
 pub fn proposed_order(alloc: Global, guide: &Guide) -> Result<Option<Execution>, NoMemory> {
+    if is_refused(&guide.hunt) | is_short(&guide.proposal) {
+        return Err(NoMemory);
+    }
     if !guide.is_allowed {
         return Ok(None);
     }
@@ -109,5 +99,5 @@ pub fn propose(alloc: Global, guide: &mut Guide) -> Result<Option<Node>, NoMemor
 
 /// Forgets what was proposed and isn't taken yet.
 pub fn forget(guide: &mut Guide) {
-    guide.proposal.forget();
+    guide.proposal.open.cut(0);
 }

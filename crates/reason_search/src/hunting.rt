@@ -1,16 +1,15 @@
 //! The search: questions are asked, what follows is noted, and where a branch is closed its tree is made and the next answer tried.
 //! An answer that its tree doesn't use is no question: the tree stands in its place.
 
-use crate::branch::{Branch, Mark, look_at, look_at_all, make_branch, mark_here, undo};
-use crate::chance::{Chance, first_chance};
+use crate::branch::{Branch, Mark, look_at_all, make_branch, mark_here, undo};
+use crate::chance::{Chance, FIRST_CHANCE};
 use crate::choosing::{Ask, choose};
 use crate::edges::{put_before, put_program};
-use crate::growing::clear_trees;
 use crate::lists::NONE;
 use crate::looking::{deduce, put_source};
 use crate::offers::{Desk, make_desk};
-use crate::problem::{Problem, make_problem};
-use crate::questions::{Frame, Questions, begin};
+use crate::problem::make_problem;
+use crate::questions::{Frame, NO_FRAME, Questions, begin};
 use crate::reasoning::{add_conflict, add_source_question, add_tried_order, wrap};
 use crate::values::{find_values, known_facts};
 use refutation_laws::Model;
@@ -43,30 +42,23 @@ pub enum Find {
     Paused,
 }
 
-/// How many facts a branch may have at most: a read has one source, and a write is before others.
-fn most_facts(problem: &Problem) -> usize {
-    problem
-        .size
-        .wrapping_mul(problem.most_writes.wrapping_add(2))
-}
-
 /// A search that hasn't begun.
 pub fn make_hunt(alloc: Global, test: &Test, events: &[Entry], model: Model) -> Hunt {
     let problem = make_problem(alloc, test, events, model);
-    let most = most_facts(&problem);
-    let desk = make_desk(alloc, problem.size, most);
+    let size = problem.size;
+    // So many facts a branch may have at most: a read has one source, and a write is before others.
+    let most_facts = size.wrapping_mul(problem.most_writes.wrapping_add(2));
     let mut branch = make_branch(alloc, problem);
     put_program(&mut branch);
-    let start = mark_here(&branch);
     Hunt {
-        start,
+        start: mark_here(&branch),
         branch,
-        desk,
-        questions: Questions::none(alloc, start),
+        desk: make_desk(alloc, size, most_facts),
+        questions: Questions::none(alloc),
         cases: 0,
         pause: 0,
         round: 0,
-        chance: first_chance(),
+        chance: FIRST_CHANCE,
     }
 }
 
@@ -99,11 +91,11 @@ enum Next {
 }
 
 /// Tries the next answer of the last question.
-fn try_next(branch: &mut Branch, questions: &mut Questions, frame: &Frame) -> Next {
-    let answer = questions.next_answer(frame, branch.facts.len());
+fn try_next(hunt: &mut Hunt, frame: &Frame) -> Next {
+    let answer = hunt.questions.next_answer(frame, hunt.branch.facts.len());
     if answer == NONE {
         Next::None
-    } else if put_answer(branch, frame.ask, answer) {
+    } else if put_answer(&mut hunt.branch, frame.ask, answer) {
         Next::Open
     } else {
         Next::Closed
@@ -111,54 +103,50 @@ fn try_next(branch: &mut Branch, questions: &mut Questions, frame: &Frame) -> Ne
 }
 
 /// The tree of a question all of whose answers are closed.
-fn finish(branch: &mut Branch, desk: &mut Desk, questions: &mut Questions, frame: &Frame) -> usize {
+fn finish(hunt: &mut Hunt, frame: &Frame) -> usize {
+    let desk = &mut hunt.desk;
     desk.used.clear(0);
-    questions.use_again(frame, &mut desk.used);
-    questions.put_trees(frame, &mut desk.branches);
-    questions.drop_last(frame);
-    desk.above = branch.facts.len();
+    hunt.questions.use_again(frame, &mut desk.used);
+    hunt.questions.put_trees(frame, &mut desk.branches);
+    hunt.questions.take_back(frame);
+    desk.above = hunt.branch.facts.len();
     match frame.ask {
-        Ask::Source(r) => add_source_question(branch, desk, r),
+        Ask::Source(r) => add_source_question(&mut hunt.branch, desk, r),
         Ask::Order(a, b) => add_tried_order(desk, a, b),
         Ask::Nothing => NONE,
     }
 }
 
 /// Goes back to the last question with the tree of its answer. The question's tree, where that is known; else `NONE`.
-fn go_back_one(
-    branch: &mut Branch,
-    desk: &mut Desk,
-    questions: &mut Questions,
-    frame: &Frame,
-    tree: usize,
-) -> usize {
-    undo(branch, &frame.mark);
-    if !desk.used.has(0, frame.fact) {
+fn go_back_one(hunt: &mut Hunt, frame: &Frame, tree: usize) -> usize {
+    undo(&mut hunt.branch, &frame.mark);
+    if !hunt.desk.used.has(0, frame.fact) {
         // The tree doesn't use the answer, and closes the question.
-        questions.drop_last(frame);
+        hunt.questions.take_back(frame);
         return tree;
     }
-    questions.keep(frame, tree, &desk.used);
-    match try_next(branch, questions, frame) {
+    hunt.questions.keep(frame, tree, &hunt.desk.used);
+    match try_next(hunt, frame) {
         Next::Open => NONE,
-        Next::Closed => add_conflict(branch, desk),
-        Next::None => finish(branch, desk, questions, frame),
+        Next::Closed => add_conflict(&mut hunt.branch, &mut hunt.desk),
+        Next::None => finish(hunt, frame),
     }
 }
 
 /// Goes back from a closed branch to the next answer that is open. The tree where there is none.
-fn go_back(branch: &mut Branch, desk: &mut Desk, questions: &mut Questions) -> usize {
-    let mut tree = add_conflict(branch, desk);
+fn go_back(hunt: &mut Hunt) -> usize {
+    let mut tree = add_conflict(&mut hunt.branch, &mut hunt.desk);
     for _step in 0..u64::MAX {
-        if branch.is_refused() | desk.is_refused() | questions.is_refused() {
+        if is_refused(hunt) {
             return NONE;
         }
-        if questions.is_empty() {
-            return wrap(branch, desk, 0, tree);
+        if hunt.questions.frames.len() == 0 {
+            return wrap(&mut hunt.branch, &mut hunt.desk, 0, tree);
         }
-        let frame = questions.last();
-        tree = wrap(branch, desk, frame.fact.wrapping_add(1), tree);
-        tree = go_back_one(branch, desk, questions, &frame, tree);
+        let frame = hunt.questions.frames.from_end(0);
+        let next = frame.fact.wrapping_add(1);
+        tree = wrap(&mut hunt.branch, &mut hunt.desk, next, tree);
+        tree = go_back_one(hunt, &frame, tree);
         if tree == NONE {
             return NONE;
         }
@@ -180,7 +168,7 @@ fn ask_next(hunt: &mut Hunt) -> Next {
         ask,
         by_chance,
     );
-    try_next(&mut hunt.branch, &mut hunt.questions, &frame)
+    try_next(hunt, &frame)
 }
 
 /// Notes what every read returns, as the order of an execution has it.
@@ -212,7 +200,7 @@ fn search(hunt: &mut Hunt) -> Find {
                 Next::Closed => {}
             }
         }
-        let tree = go_back(&mut hunt.branch, &mut hunt.desk, &mut hunt.questions);
+        let tree = go_back(hunt);
         if tree != NONE {
             return Find::Refuted(tree);
         }
@@ -224,8 +212,9 @@ fn search(hunt: &mut Hunt) -> Find {
 pub fn start_anew(hunt: &mut Hunt) {
     undo(&mut hunt.branch, &hunt.start);
     look_at_all(&mut hunt.branch);
-    hunt.questions.clear();
-    clear_trees(&mut hunt.desk.trees);
+    hunt.questions.take_back(&NO_FRAME);
+    hunt.desk.trees.twigs.cut(0);
+    hunt.desk.trees.events.cut(0);
     hunt.round = hunt.round.wrapping_add(1);
 }
 
@@ -248,7 +237,7 @@ pub fn hunt_for(hunt: &mut Hunt, most: usize) -> Find {
 fn look_by_chance(branch: &mut Branch, chance: &mut Chance) -> bool {
     branch.dirty.clear(0);
     for _event in 0..branch.problem.size {
-        look_at(branch, chance.below(branch.problem.size));
+        branch.dirty.add(0, chance.below(branch.problem.size));
         if !deduce(branch) {
             return false;
         }
@@ -264,7 +253,7 @@ pub fn hunt_again(hunt: &mut Hunt, most: usize) -> Find {
     if look_by_chance(&mut hunt.branch, &mut hunt.chance) {
         return search(hunt);
     }
-    let tree = go_back(&mut hunt.branch, &mut hunt.desk, &mut hunt.questions);
+    let tree = go_back(hunt);
     if tree == NONE {
         return Find::Paused;
     }

@@ -1,13 +1,11 @@
 //! What follows at a write, at a read and at a location, and all that follows in a branch.
 
-use crate::branch::{
-    Branch, Conflict, add_source, change_word, close, look_at, look_at_readers, note_removed,
-};
+use crate::branch::{Branch, Change, Conflict, add_fact, change_word, put_moment};
 use crate::edges::{add_edge, add_edges, put_before};
-use crate::facts::Link;
+use crate::facts::{Answer, Link};
 use crate::lists::NONE;
 use crate::problem::Relations;
-use crate::rows::{bit, lowest, rest};
+use crate::rows::{bit, lowest};
 use crate::values::{find_values, is_false, is_wrong_source, is_wrong_value, known_facts};
 
 /// Whether a read from this write is an edge of the global relations.
@@ -21,7 +19,9 @@ fn look_at_dependents(branch: &mut Branch, r: usize) {
         let term = branch.problem.terms.at(w);
         let event = branch.problem.events.at(w);
         if event.writes && (term.first == r || term.second == r) {
-            look_at_readers(branch, event.location);
+            branch
+                .dirty
+                .join(0, &branch.problem.readers_of, event.location);
         }
     }
 }
@@ -30,7 +30,7 @@ fn look_at_dependents(branch: &mut Branch, r: usize) {
 fn look_at_relevant(branch: &mut Branch) {
     for r in branch.problem.locations..branch.problem.size {
         if branch.problem.relevant.has(0, r) && branch.source.at(r) == NONE {
-            look_at(branch, r);
+            branch.dirty.add(0, r);
         }
     }
 }
@@ -50,13 +50,16 @@ fn look_at_value(branch: &mut Branch, r: usize, w: usize) {
 
 /// A read has this source. False where that closes a cycle.
 pub fn put_source(branch: &mut Branch, r: usize, w: usize, tried: bool) -> bool {
+    let fact = add_fact(branch, Answer::Source(r, w), tried);
     let link = Link {
         from: w,
         to: r,
-        fact: add_source(branch, r, w, tried),
+        fact,
         is_from_read: false,
     };
-    look_at(branch, r);
+    branch.trail.push(Change::Source(r));
+    branch.source.put(r, fact);
+    branch.dirty.add(0, r);
     look_at_value(branch, r, w);
     add_edge(branch, Relations::OnLocation, link)
         && (!is_global_source(branch, w, r) || add_edge(branch, Relations::Global, link))
@@ -97,17 +100,12 @@ fn put_each(branch: &mut Branch, put: Put, k: usize, some: u64) -> bool {
             break;
         }
         let v = lowest(k, left);
-        left = rest(left);
+        left &= left.wrapping_sub(1);
         if !put_one(branch, put, v) {
             return false;
         }
     }
     true
-}
-
-/// A word of what is after an event on its location or globally.
-fn word_later(branch: &Branch, a: usize, k: usize) -> u64 {
-    branch.word_after(Relations::OnLocation, a, k) | branch.word_after(Relations::Global, a, k)
 }
 
 /// A word of what is before an event on its location or globally.
@@ -119,9 +117,11 @@ fn word_earlier(branch: &Branch, a: usize, k: usize) -> u64 {
 fn look_at_write(branch: &mut Branch, a: usize) -> bool {
     let loc = branch.problem.location(a);
     for k in 0..branch.problem.width {
-        let later = word_later(branch, a, k) & branch.problem.writes_to.word(loc, k);
+        let later = branch.word_after(Relations::OnLocation, a, k)
+            | branch.word_after(Relations::Global, a, k);
+        let them = branch.problem.writes_to.word(loc, k);
         let known = branch.word_after(Relations::Coherence, a, k);
-        if !put_each(branch, Put::After(a), k, later & !known) {
+        if !put_each(branch, Put::After(a), k, later & them & !known) {
             return false;
         }
     }
@@ -202,16 +202,6 @@ fn note_parted(branch: &mut Branch, r: usize) {
     }
 }
 
-/// Whether a read is known to be before a write from which it would read.
-pub fn is_before_source(branch: &Branch, relations: Relations, r: usize, s: usize) -> bool {
-    match relations {
-        Relations::Global => {
-            is_global_source(branch, s, r) && branch.is_known(Relations::Global, r, s)
-        }
-        _ => branch.is_known(relations, r, s),
-    }
-}
-
 /// A word of what a read can't read from, since it is known to be before it.
 fn word_too_late(branch: &Branch, r: usize, k: usize) -> u64 {
     let own = if branch.problem.sequential {
@@ -234,17 +224,8 @@ fn take_sources(branch: &mut Branch, r: usize, k: usize, taken: u64) {
         if left == 0 {
             break;
         }
-        note_removed(branch, r, lowest(k, left));
-        left = rest(left);
-    }
-}
-
-/// Takes from a read those sources of a word that it can't have, for what is known of the order.
-fn take_by_order(branch: &mut Branch, r: usize, k: usize) {
-    let barred = word_too_late(branch, r, k) | branch.earlier.word(1, k);
-    let taken = branch.rows.word(branch.candidates(r), k) & barred;
-    if taken != 0 {
-        take_sources(branch, r, k, taken);
+        put_moment(branch, r, lowest(k, left));
+        left &= left.wrapping_sub(1);
     }
 }
 
@@ -256,19 +237,23 @@ fn take_by_value(branch: &mut Branch, r: usize, k: usize) {
             break;
         }
         let s = lowest(k, left);
-        left = rest(left);
+        left &= left.wrapping_sub(1);
         if is_wrong_source(branch, r, s) {
             take_sources(branch, r, k, bit(s));
         }
     }
 }
 
-/// Takes from a read all sources that it can't have.
+/// Takes from a read all sources that it can't have, for what is known of the order, and for their values.
 fn take_all(branch: &mut Branch, r: usize) {
     note_parted(branch, r);
     let is_tested = !branch.dirty.has(1, r);
     for k in 0..branch.problem.width {
-        take_by_order(branch, r, k);
+        let barred = word_too_late(branch, r, k) | branch.earlier.word(1, k);
+        let taken = branch.rows.word(branch.candidates(r), k) & barred;
+        if taken != 0 {
+            take_sources(branch, r, k, taken);
+        }
         if !is_tested {
             take_by_value(branch, r, k);
         }
@@ -281,7 +266,10 @@ fn look_at_open(branch: &mut Branch, r: usize) -> bool {
     take_all(branch, r);
     let row = branch.candidates(r);
     match branch.rows.count(row) {
-        0 => close(branch, Conflict::NoSource, r),
+        0 => {
+            branch.conflict = Conflict::NoSource(r);
+            false
+        }
         1 => {
             let only = branch.rows.next(row, 0);
             put_source(branch, r, only, false)
@@ -290,37 +278,27 @@ fn look_at_open(branch: &mut Branch, r: usize) -> bool {
     }
 }
 
-/// Whether a write to a location can be its last one.
-fn can_be_last(branch: &Branch, loc: usize, a: usize) -> bool {
-    branch.rows.is_empty(branch.after(Relations::Coherence, a)) && !is_wrong_value(branch, loc, a)
-}
-
 /// The next write to a location, from a number on, that can be its last one; `NONE` where there is none.
 pub fn next_last(branch: &Branch, loc: usize, from: usize) -> usize {
-    let mut a = branch.problem.writes_to.next(loc, from);
-    for _write in 0..branch.problem.size {
-        if a == NONE || can_be_last(branch, loc, a) {
+    for a in from..branch.problem.size {
+        if branch.problem.is_write_to(loc, a)
+            && branch
+                .rows
+                .next(branch.problem.row(Relations::Coherence, a), 0)
+                == NONE
+            && !is_wrong_value(branch, loc, a)
+        {
             return a;
         }
-        a = branch.problem.writes_to.next(loc, a.wrapping_add(1));
     }
     NONE
 }
 
-/// The only write to a location that can be its last one; `NONE` where there are several or none.
-fn only_last(branch: &mut Branch, loc: usize) -> usize {
-    let only = next_last(branch, loc, 0);
-    if only == NONE || next_last(branch, loc, only.wrapping_add(1)) != NONE {
-        return NONE;
-    }
-    only
-}
-
-/// What follows at a location of which something is asked.
+/// What follows at a location of which something is asked, where only one write can be its last one.
 fn look_at_last(branch: &mut Branch, loc: usize) -> bool {
-    let only = only_last(branch, loc);
+    let only = next_last(branch, loc, 0);
     branch.claim_is_dirty = true;
-    if only == NONE {
+    if only == NONE || next_last(branch, loc, only.wrapping_add(1)) != NONE {
         return true;
     }
     for k in 0..branch.problem.width {
@@ -352,13 +330,6 @@ fn look_at_one(branch: &mut Branch, a: usize) -> bool {
     }
 }
 
-/// The next event that is to be looked at.
-fn take_dirty(branch: &mut Branch) -> usize {
-    let next = branch.dirty.next(0, 0);
-    branch.dirty.remove(0, next);
-    next
-}
-
 /// Notes all that follows. False where the branch is closed.
 pub fn deduce(branch: &mut Branch) -> bool {
     for _step in 0..u64::MAX {
@@ -372,14 +343,16 @@ pub fn deduce(branch: &mut Branch) -> bool {
             find_values(branch, known);
             branch.dirty.join(1, &branch.problem.relevant, 0);
             if is_false(branch, known) {
-                return close(branch, Conflict::False, NONE);
+                branch.conflict = Conflict::False;
+                return false;
             }
             continue;
         }
-        let next = take_dirty(branch);
+        let next = branch.dirty.next(0, 0);
         if next == NONE {
             return true;
         }
+        branch.dirty.remove(0, next);
         if !look_at_one(branch, next) {
             return false;
         }

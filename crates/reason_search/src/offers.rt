@@ -4,11 +4,11 @@
 use crate::branch::Branch;
 use crate::evidence::{Closing, Evidence, lacks_memory, make_evidence, need, reset, weigh};
 use crate::facts::{Edge, Link, Turned};
-use crate::growing::{Trees, are_refused, no_trees};
+use crate::growing::{Trees, no_trees};
 use crate::lists::{List, NONE};
-use crate::looking::is_before_source;
+use crate::looking::is_global_source;
 use crate::paths::{
-    Edges, Paths, begin, find, first_edges, lack_memory, make_paths, start_from, start_from_later,
+    Edges, Paths, begin, find, lack_memory, make_paths, start_from, start_from_later,
 };
 use crate::problem::Relations;
 use crate::rows::Rows;
@@ -37,14 +37,15 @@ pub struct Desk {
 impl Desk {
     /// Whether memory was refused.
     pub fn is_refused(&self) -> bool {
-        are_refused(&self.trees)
+        self.trees.twigs.is_refused
+            | self.trees.events.is_refused
             | lack_memory(&self.paths)
             | lack_memory(&self.inner)
             | lacks_memory(&self.best)
             | lacks_memory(&self.trial)
-            | self.used.is_refused
+            | self.used.words.is_refused
             | self.branches.is_refused
-            | self.weights.is_refused()
+            | self.weights.of.is_refused
     }
 }
 
@@ -63,18 +64,34 @@ pub fn make_desk(alloc: Global, size: usize, facts: usize) -> Desk {
     }
 }
 
+/// A path: its ends, and the edges that it may use.
+#[derive(Clone, Copy)]
+struct Way {
+    edges: Edges,
+    from: usize,
+    to: usize,
+}
+
+/// A write between the parts of a locked instruction, that is so by the order of two writes.
+#[derive(Clone, Copy)]
+struct Parting {
+    load: usize,
+    between: usize,
+    first: usize,
+    second: usize,
+}
+
 /// Adds to the leaf in hand the facts that one write comes before another one.
 fn need_order(branch: &Branch, desk: &mut Desk, a: usize, b: usize, limit: usize) {
+    let edges = Edges {
+        relations: Relations::Coherence,
+        limit,
+    };
     begin(&mut desk.inner);
     start_from(&mut desk.inner, a);
-    if find(
-        branch,
-        &mut desk.inner,
-        first_edges(Relations::Coherence, limit),
-        b,
-    ) {
-        for i in 0..desk.inner.events.len() {
-            let edge = branch.edges.at(desk.inner.edges.at(i));
+    if find(branch, &mut desk.inner, edges, b) {
+        for i in 0..desk.inner.path.len() {
+            let edge = branch.edges.at(desk.inner.path.at(i).edge);
             need(&mut desk.trial, edge.link.fact);
         }
     }
@@ -83,8 +100,8 @@ fn need_order(branch: &Branch, desk: &mut Desk, a: usize, b: usize, limit: usize
 /// The same, and adds to the cycle the writes that stand between them.
 pub fn show_order(branch: &Branch, desk: &mut Desk, a: usize, b: usize, limit: usize) {
     need_order(branch, desk, a, b, limit);
-    for i in 1..desk.inner.events.len() {
-        desk.trial.cycle.push(desk.inner.events.from_end(i));
+    for i in 1..desk.inner.path.len() {
+        desk.trial.cycle.push(desk.inner.path.from_end(i).from);
     }
 }
 
@@ -99,50 +116,41 @@ fn need_edge(branch: &Branch, desk: &mut Desk, edge: Edge, limit: usize) {
 
 /// Adds the path that was found.
 fn follow(branch: &Branch, desk: &mut Desk, to: usize) {
-    for i in 0..desk.paths.events.len() {
-        desk.trial.cycle.push(desk.paths.events.from_end(i));
-        let limit = desk.paths.edges.from_end(i);
-        if limit != NONE {
-            need_edge(branch, desk, branch.edges.at(limit), limit);
+    for i in 0..desk.paths.path.len() {
+        let step = desk.paths.path.from_end(i);
+        desk.trial.cycle.push(step.from);
+        if step.edge != NONE {
+            need_edge(branch, desk, branch.edges.at(step.edge), step.edge);
         }
     }
     desk.trial.cycle.push(to);
 }
 
-/// What kind of leaf a cycle of these relations is.
-fn closing_of(relations: Relations) -> Closing {
-    match relations {
-        Relations::Global => Closing::Global,
-        _ => Closing::OnLocation,
-    }
-}
-
 /// Takes in hand the leaf of a cycle that an edge closes.
 pub fn close_cycle(branch: &Branch, desk: &mut Desk, edge: Edge) {
     let limit = branch.edges.len();
-    let edges = first_edges(edge.relations, limit);
+    let relations = edge.relations;
     let Link { from, to, .. } = edge.link;
+    let back = Way {
+        edges: Edges { relations, limit },
+        from: to,
+        to: from,
+    };
     if to == from {
-        reset(&mut desk.trial, closing_of(edge.relations));
+        reset(&mut desk.trial, Closing::Cycle(relations));
         desk.trial.cycle.push(from);
-    } else if !take_path(branch, desk, edges, to, from) {
+    } else if !take_path(branch, desk, back) {
         return;
     }
     need_edge(branch, desk, edge, limit);
 }
 
-/// Offers the leaf in hand, which counts as so long: the better one is the best then.
-fn offer(desk: &mut Desk, length: usize) {
-    weigh(&mut desk.trial, &desk.used, length);
+/// Offers the leaf in hand: the better one is the best then.
+fn offer(desk: &mut Desk) {
+    weigh(&mut desk.trial, &desk.used);
     if desk.trial.cost < desk.best.cost {
         swap(&mut desk.trial, &mut desk.best);
     }
-}
-
-/// Offers the cycle in hand.
-fn offer_cycle(desk: &mut Desk) {
-    let length = desk.trial.cycle.len();
-    offer(desk, length);
 }
 
 /// Takes in hand the cycle of a path to `to`, and of an edge back. False where there is no path.
@@ -150,53 +158,64 @@ fn take_cycle(branch: &Branch, desk: &mut Desk, edges: Edges, to: usize) -> bool
     if !find(branch, &mut desk.paths, edges, to) {
         return false;
     }
-    reset(&mut desk.trial, closing_of(edges.relations));
+    reset(&mut desk.trial, Closing::Cycle(edges.relations));
     follow(branch, desk, to);
     true
 }
 
 /// Takes in hand the cycle of a path from one event to another one, and of an edge back.
-fn take_path(branch: &Branch, desk: &mut Desk, edges: Edges, from: usize, to: usize) -> bool {
+fn take_path(branch: &Branch, desk: &mut Desk, way: Way) -> bool {
     begin(&mut desk.paths);
-    start_from(&mut desk.paths, from);
-    take_cycle(branch, desk, edges, to)
+    start_from(&mut desk.paths, way.from);
+    take_cycle(branch, desk, way.edges, way.to)
 }
 
 /// Makes the leaf in hand one of a write between two parts, and offers it.
-fn offer_write_between(desk: &mut Desk, r: usize, v: usize, own: usize) {
+fn offer_write_between(branch: &Branch, desk: &mut Desk, r: usize, v: usize) {
     desk.trial.closing = Closing::Between;
     desk.trial.cycle.cut(0);
     desk.trial.cycle.push(r);
     desk.trial.cycle.push(v);
-    desk.trial.cycle.push(own);
-    offer(desk, 6);
+    desk.trial.cycle.push(branch.problem.partner(r));
+    offer(desk);
 }
 
 /// Offers the cycle of a path between two events, and of the edge back, which a fact tells, or which is supposed.
-fn offer_path(branch: &Branch, desk: &mut Desk, edges: Edges, from: usize, to: usize, fact: usize) {
-    if take_path(branch, desk, edges, from, to) {
+fn offer_path(branch: &Branch, desk: &mut Desk, way: Way, fact: usize) {
+    if take_path(branch, desk, way) {
         need(&mut desk.trial, fact);
-        offer_cycle(desk);
+        offer(desk);
     }
 }
 
 /// Offers the reasons by the order of one relation why a read can't have a source: it is before the source, or after a write that is
 /// after the source.
 fn offer_orders(branch: &Branch, desk: &mut Desk, edges: Edges, r: usize, s: usize) {
-    if is_before_source(branch, edges.relations, r, s) {
-        offer_path(branch, desk, edges, r, s, NONE);
+    let is_edge = matches!(edges.relations, Relations::OnLocation)
+        || is_global_source(branch, s, r);
+    if is_edge && branch.is_known(edges.relations, r, s) {
+        let way = Way {
+            edges,
+            from: r,
+            to: s,
+        };
+        offer_path(branch, desk, way, NONE);
     }
     start_from_later(branch, &mut desk.paths, s, edges.limit);
     if take_cycle(branch, desk, edges, r) {
         let first = desk.trial.cycle.at(0);
         show_order(branch, desk, s, first, edges.limit);
-        offer_cycle(desk);
+        offer(desk);
     }
 }
 
 /// Offers a write of another core between the source of a load part and its store part.
 fn offer_between(branch: &Branch, desk: &mut Desk, r: usize, s: usize, limit: usize) {
     let own = branch.problem.partner(r);
+    let edges = Edges {
+        relations: Relations::Coherence,
+        limit,
+    };
     start_from_later(branch, &mut desk.inner, s, limit);
     begin(&mut desk.paths);
     for x in branch.problem.locations..branch.problem.size {
@@ -207,17 +226,17 @@ fn offer_between(branch: &Branch, desk: &mut Desk, r: usize, s: usize, limit: us
             start_from(&mut desk.paths, x);
         }
     }
-    if take_cycle(branch, desk, first_edges(Relations::Coherence, limit), own) {
+    if take_cycle(branch, desk, edges, own) {
         let x = desk.trial.cycle.at(0);
         need_order(branch, desk, s, x, limit);
-        offer_write_between(desk, r, x, own);
+        offer_write_between(branch, desk, r, x);
     }
 }
 
 /// Offers that what is asked is false by the values that are known.
 fn offer_false(branch: &mut Branch, desk: &mut Desk, known: Known) {
     if need_falsity(branch, known, &mut desk.trial) {
-        offer(desk, 0);
+        offer(desk);
     }
 }
 
@@ -230,40 +249,42 @@ pub fn find_why_not(branch: &mut Branch, desk: &mut Desk, r: usize, s: usize) {
         source: s,
         ..known_facts(removed.facts)
     };
+    let on_location = Edges {
+        relations: Relations::OnLocation,
+        limit,
+    };
+    let global = Edges {
+        relations: Relations::Global,
+        limit,
+    };
     reset(&mut desk.best, Closing::None);
     offer_false(branch, desk, known);
-    offer_orders(
-        branch,
-        desk,
-        first_edges(Relations::OnLocation, limit),
-        r,
-        s,
-    );
-    offer_orders(branch, desk, first_edges(Relations::Global, limit), r, s);
+    offer_orders(branch, desk, on_location, r, s);
+    offer_orders(branch, desk, global, r, s);
     if branch.problem.partner(r) != NONE {
         offer_between(branch, desk, r, s, limit);
     }
 }
 
-/// Offers a cycle of each relation: the path from one event to another one, and the edge back.
+/// Offers a cycle of each relation: the path from the first one of two writes to an event, and the edge back.
 fn offer_paths(branch: &Branch, desk: &mut Desk, turned: Turned, to: usize, fact: usize) {
-    let from = turned.first;
-    offer_path(
-        branch,
-        desk,
-        first_edges(Relations::OnLocation, turned.edges),
-        from,
+    let on_location = Way {
+        edges: Edges {
+            relations: Relations::OnLocation,
+            limit: turned.edges,
+        },
+        from: turned.first,
         to,
-        fact,
-    );
-    offer_path(
-        branch,
-        desk,
-        first_edges(Relations::Global, turned.edges),
-        from,
-        to,
-        fact,
-    );
+    };
+    let global = Way {
+        edges: Edges {
+            relations: Relations::Global,
+            limit: turned.edges,
+        },
+        ..on_location
+    };
+    offer_path(branch, desk, on_location, fact);
+    offer_path(branch, desk, global, fact);
 }
 
 /// Finds the best reason why an order that a fact tells can't be turned.
@@ -294,29 +315,41 @@ fn offer_read(branch: &Branch, desk: &mut Desk, turned: Turned, r: usize) {
         // b before a: r is before a
         offer_paths(branch, desk, turned, r, branch.source.at(r));
         if own != NONE && own != a {
-            offer_parts(branch, desk, turned, r, a, a, own);
+            let parting = Parting {
+                load: r,
+                between: a,
+                first: a,
+                second: own,
+            };
+            offer_parting(branch, desk, turned.edges, parting);
         }
     } else if own == a {
-        offer_parts(branch, desk, turned, r, b, s, b);
+        let parting = Parting {
+            load: r,
+            between: b,
+            first: s,
+            second: b,
+        };
+        offer_parting(branch, desk, turned.edges, parting);
     }
 }
 
-/// Offers a write of another core between the parts of a locked instruction, where one write is known to be before another one.
-fn offer_parts(
-    branch: &Branch,
-    desk: &mut Desk,
-    turned: Turned,
-    r: usize,
-    between: usize,
-    from: usize,
-    to: usize,
-) {
-    let edges = first_edges(Relations::Coherence, turned.edges);
-    if branch.is_known(Relations::Coherence, from, to)
-        && branch.problem.core(between) != branch.problem.core(r)
-        && take_path(branch, desk, edges, from, to)
+/// Offers a write of another core between the parts of a locked instruction, where the order of the two writes is known.
+fn offer_parting(branch: &Branch, desk: &mut Desk, limit: usize, parting: Parting) {
+    let Parting { load, between, .. } = parting;
+    let way = Way {
+        edges: Edges {
+            relations: Relations::Coherence,
+            limit,
+        },
+        from: parting.first,
+        to: parting.second,
+    };
+    if branch.is_known(Relations::Coherence, way.from, way.to)
+        && branch.problem.core(between) != branch.problem.core(load)
+        && take_path(branch, desk, way)
     {
-        need(&mut desk.trial, branch.source.at(r));
-        offer_write_between(desk, r, between, branch.problem.partner(r));
+        need(&mut desk.trial, branch.source.at(load));
+        offer_write_between(branch, desk, load, between);
     }
 }

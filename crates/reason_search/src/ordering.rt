@@ -3,14 +3,10 @@
 use crate::branch::Branch;
 use crate::lists::{List, NONE};
 use crate::problem::{NO_EVENT, Relations};
-use crate::rows::{Rows, lowest, rest};
+use crate::rows::{Rows, lowest};
 use crate::values::written;
 use std::alloc::Global;
 use tso_model::{Entry, Kind, NoMemory};
-
-fn is_fence(branch: &Branch, a: usize) -> bool {
-    matches!(branch.problem.events.at(a).entry.kind, Kind::F)
-}
 
 /// An order while events are placed.
 #[derive(Drop)]
@@ -22,14 +18,14 @@ struct Placing {
 
 /// Whether a fence stands between an event and one that stands before it in its program and is still to come, or is one of them.
 fn is_fenced(branch: &Branch, placing: &Placing, a: usize) -> bool {
-    let mut is_fenced = is_fence(branch, a);
+    let mut is_fenced = branch.problem.is_fence(a);
     let mut b = a;
     for _event in 0..a {
         b = b.wrapping_sub(1);
         if branch.problem.core(b) != branch.problem.core(a) {
             break;
         }
-        is_fenced |= is_fence(branch, b);
+        is_fenced |= branch.problem.is_fence(b);
         if is_fenced && placing.left.has(0, b) {
             return true;
         }
@@ -42,7 +38,7 @@ fn is_waiting(branch: &Branch, placing: &Placing, a: usize) -> bool {
     let partner = branch.problem.partner(a);
     for k in 0..branch.problem.width {
         let left = branch.word_before(Relations::Global, a, k) & placing.left.word(0, k);
-        if left != 0 && (rest(left) != 0 || lowest(k, left) != partner) {
+        if left != 0 && (left & left.wrapping_sub(1) != 0 || lowest(k, left) != partner) {
             return true;
         }
     }
@@ -67,7 +63,7 @@ fn place(branch: &Branch, placing: &mut Placing, a: usize) {
     placing.left.remove(0, a);
     placing.order.push(Entry {
         value: event_value(branch, a),
-        ..branch.problem.events.at(a).entry
+        ..branch.problem.entry(a)
     });
 }
 
@@ -111,12 +107,10 @@ pub fn make_order(alloc: Global, branch: &Branch) -> Result<Vec<Entry>, NoMemory
         left: Rows::new(alloc, 1, size),
         order: List::new(alloc, NO_EVENT.entry),
     };
-    if placing.left.is_refused {
-        return Err(NoMemory);
-    }
     for a in branch.problem.locations..size {
         placing.left.add(0, a);
     }
     place_all(branch, &mut placing);
+    placing.order.is_refused |= placing.left.words.is_refused;
     placing.order.into_items()
 }

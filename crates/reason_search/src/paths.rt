@@ -3,7 +3,7 @@
 use crate::branch::Branch;
 use crate::lists::{List, NONE};
 use crate::problem::Relations;
-use crate::rows::{Rows, lowest, rest};
+use crate::rows::{Rows, lowest};
 use std::alloc::Global;
 
 /// The edges that a path may use: those of the program, and of those that answers tell the first so many.
@@ -13,16 +13,22 @@ pub struct Edges {
     pub limit: usize,
 }
 
-/// The edges of a relation, of those that answers tell the first so many.
-pub fn first_edges(relations: Relations, limit: usize) -> Edges {
-    Edges { relations, limit }
+/// A step of a path: the event that it leaves, and the number of its edge, if answers tell it.
+#[derive(Clone, Copy)]
+pub struct Step {
+    pub from: usize,
+    pub edge: usize,
 }
 
-/// A search for paths: by which event and which edge each event was reached, and the path that was found.
+const NO_STEP: Step = Step {
+    from: NONE,
+    edge: NONE,
+};
+
+/// A search for paths: by which step each event was reached, and the path that was found.
 #[derive(Drop)]
 pub struct Paths {
-    back: List<usize>,
-    by: List<usize>,
+    steps: List<Step>,
     queue: List<usize>,
     /// Where in the queue the next event stands.
     next: usize,
@@ -30,35 +36,29 @@ pub struct Paths {
     seen: Rows,
     /// One row: the events from which paths begin.
     pub starts: Rows,
-    /// The events of the path that was found, backwards and without its end.
-    pub events: List<usize>,
-    /// For each of them the number of the edge that leaves it, if answers tell it.
-    pub edges: List<usize>,
+    /// The steps of the path that was found, backwards.
+    pub path: List<Step>,
 }
 
 /// Paths over the events of a problem.
 pub fn make_paths(alloc: Global, size: usize) -> Paths {
     Paths {
-        back: List::filled(alloc, size, NONE),
-        by: List::filled(alloc, size, NONE),
+        steps: List::filled(alloc, size, NO_STEP),
         queue: List::new(alloc, NONE),
         next: 0,
         seen: Rows::new(alloc, 1, size),
         starts: Rows::new(alloc, 1, size),
-        events: List::new(alloc, NONE),
-        edges: List::new(alloc, NONE),
+        path: List::new(alloc, NO_STEP),
     }
 }
 
 /// Whether memory was refused for a search for paths.
 pub fn lack_memory(paths: &Paths) -> bool {
-    paths.back.is_refused
-        | paths.by.is_refused
+    paths.steps.is_refused
         | paths.queue.is_refused
-        | paths.seen.is_refused
-        | paths.starts.is_refused
-        | paths.events.is_refused
-        | paths.edges.is_refused
+        | paths.seen.words.is_refused
+        | paths.starts.words.is_refused
+        | paths.path.is_refused
 }
 
 /// Begins a search for paths with no start.
@@ -67,38 +67,38 @@ pub fn begin(paths: &mut Paths) {
     paths.seen.clear(0);
     paths.queue.cut(0);
     paths.next = 0;
-    paths.events.cut(0);
-    paths.edges.cut(0);
+    paths.path.cut(0);
 }
 
 /// Adds an event from which paths begin.
 pub fn start_from(paths: &mut Paths, a: usize) {
-    if !paths.starts.has(0, a) {
-        paths.starts.add(0, a);
-        paths.seen.add(0, a);
-        paths.queue.push(a);
-    }
+    paths.starts.add(0, a);
+    paths.seen.add(0, a);
+    paths.queue.push(a);
 }
 
-fn reach(paths: &mut Paths, from: usize, by: usize, to: usize) {
+fn reach(paths: &mut Paths, step: Step, to: usize) {
     if !paths.seen.has(0, to) {
         paths.seen.add(0, to);
-        paths.back.put(to, from);
-        paths.by.put(to, by);
+        paths.steps.put(to, step);
         paths.queue.push(to);
     }
 }
 
 fn reach_by_program(branch: &Branch, paths: &mut Paths, relations: Relations, a: usize) {
     let row = branch.problem.row(relations, a);
+    let step = Step {
+        from: a,
+        edge: NONE,
+    };
     for k in 0..branch.problem.width {
         let mut left = branch.problem.program.word(row, k) & !paths.seen.word(0, k);
         for _event in 0..64u8 {
             if left == 0 {
                 break;
             }
-            reach(paths, a, NONE, lowest(k, left));
-            left = rest(left);
+            reach(paths, step, lowest(k, left));
+            left &= left.wrapping_sub(1);
         }
     }
 }
@@ -111,7 +111,11 @@ fn reach_by_answers(branch: &Branch, paths: &mut Paths, edges: Edges, a: usize) 
         }
         let edge = branch.edges.at(number);
         if number < edges.limit {
-            reach(paths, a, number, edge.link.to);
+            let step = Step {
+                from: a,
+                edge: number,
+            };
+            reach(paths, step, edge.link.to);
         }
         number = edge.next;
     }
@@ -134,35 +138,32 @@ fn reach_all(branch: &Branch, paths: &mut Paths, edges: Edges, to: usize) -> boo
     false
 }
 
-/// Notes the path to an event that was reached.
-fn trace(paths: &mut Paths, size: usize, to: usize) {
-    paths.events.cut(0);
-    paths.edges.cut(0);
+/// Finds a shortest path from one of the starts to an event. No start is its end.
+pub fn find(branch: &Branch, paths: &mut Paths, edges: Edges, to: usize) -> bool {
+    if !reach_all(branch, paths, edges, to) {
+        return false;
+    }
+    paths.path.cut(0);
     let mut a = to;
-    for _event in 0..size {
-        paths.edges.push(paths.by.at(a));
-        a = paths.back.at(a);
-        paths.events.push(a);
+    for _event in 0..branch.problem.size {
+        let step = paths.steps.at(a);
+        paths.path.push(step);
+        a = step.from;
         if paths.starts.has(0, a) {
             break;
         }
     }
-}
-
-/// Finds a shortest path from one of the starts to an event. No start is its end.
-pub fn find(branch: &Branch, paths: &mut Paths, edges: Edges, to: usize) -> bool {
-    let is_found = reach_all(branch, paths, edges, to);
-    if is_found {
-        trace(paths, branch.problem.size, to);
-    }
-    is_found
+    true
 }
 
 /// Begins with all writes that are known to come after a write, by the first so many edges.
 pub fn start_from_later(branch: &Branch, paths: &mut Paths, s: usize, limit: usize) {
     begin(paths);
     paths.queue.push(s);
-    let edges = first_edges(Relations::Coherence, limit);
+    let edges = Edges {
+        relations: Relations::Coherence,
+        limit,
+    };
     let _all = reach_all(branch, paths, edges, NONE);
     paths.starts.join(0, &paths.seen, 0);
     paths.next = 1;

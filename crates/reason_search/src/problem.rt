@@ -10,7 +10,7 @@ use crate::rows::Rows;
 use refutation_laws::Model;
 use refutations::events::{is_read, is_write};
 use std::alloc::Global;
-use tso_model::{Action, Core, Entry, Kind, Loc, Operand, Test, Update};
+use tso_model::{Action, Core, Entry, Kind, Loc, Operand, Reg, Test, Update};
 
 /// A value: a number and what up to two reads return, added up. `NONE` is no read.
 #[derive(Clone, Copy)]
@@ -92,6 +92,11 @@ pub struct Problem {
 }
 
 impl Problem {
+    /// An event as the entry of an order has it.
+    pub fn entry(&self, i: usize) -> Entry {
+        self.events.at(i).entry
+    }
+
     /// The location of an event.
     pub fn location(&self, i: usize) -> usize {
         self.events.at(i).location
@@ -105,6 +110,11 @@ impl Problem {
     /// The core of an event.
     pub fn core(&self, i: usize) -> u8 {
         self.events.at(i).entry.core.0
+    }
+
+    /// Whether this is a fence.
+    pub fn is_fence(&self, i: usize) -> bool {
+        matches!(self.events.at(i).entry.kind, Kind::F)
     }
 
     /// Whether this is the initial write of a location.
@@ -122,12 +132,7 @@ impl Problem {
         self.writes_to.has(loc, i)
     }
 
-    /// Whether a location has such a write.
-    pub fn is_written(&self, loc: usize) -> bool {
-        !self.writes_to.is_empty(loc)
-    }
-
-    /// The row of what is after an event by the program alone.
+    /// The row of what is after an event.
     pub fn row(&self, relations: Relations, a: usize) -> usize {
         (relations as usize).wrapping_mul(self.size).wrapping_add(a)
     }
@@ -144,12 +149,12 @@ impl Problem {
             | self.terms.is_refused
             | self.claim.is_refused
             | self.ranks.is_refused
-            | self.writes_to.is_refused
-            | self.readers_of.is_refused
-            | self.events_of.is_refused
-            | self.program.is_refused
-            | self.stored.is_refused
-            | self.relevant.is_refused
+            | self.writes_to.words.is_refused
+            | self.readers_of.words.is_refused
+            | self.events_of.words.is_refused
+            | self.program.words.is_refused
+            | self.stored.words.is_refused
+            | self.relevant.words.is_refused
             | self.parts_on.is_refused
             | self.other_parts.is_refused
     }
@@ -164,13 +169,10 @@ pub fn bare_number(value: u32) -> Term {
     }
 }
 
-/// What a read returns.
-fn returned(r: usize) -> Term {
-    Term {
-        number: 0,
-        first: r,
-        second: NONE,
-    }
+/// Adds to a row the reads on which a term hangs.
+pub fn add_reads(rows: &mut Rows, term: Term) {
+    rows.add(0, term.first);
+    rows.add(0, term.second);
 }
 
 /// The event with this number.
@@ -203,7 +205,8 @@ fn add_events(problem: &mut Problem, events: &[Entry]) {
     }
 }
 
-/// Notes for each location what writes to it and what reads it. Its initial write is before all others.
+/// Notes for each location what writes to it and what reads it, and the reads on whose values hangs what writes write. Its initial
+/// write is before all others.
 fn add_accesses(problem: &mut Problem) {
     for a in 0..problem.size {
         let event = problem.events.at(a);
@@ -213,6 +216,7 @@ fn add_accesses(problem: &mut Problem) {
             problem.add_edge(Relations::OnLocation, loc, a);
             problem.add_edge(Relations::Global, loc, a);
             problem.add_edge(Relations::Coherence, loc, a);
+            add_reads(&mut problem.stored, problem.terms.at(a));
         }
         if event.reads || problem.is_initial(a) {
             problem.readers_of.add(loc, a);
@@ -223,87 +227,73 @@ fn add_accesses(problem: &mut Problem) {
     }
 }
 
-fn held(registers: &[Term; 6], operand: Operand) -> Term {
+/// Where a register stands among those of all cores, six to a core.
+pub fn register_place(core: Core, reg: Reg) -> usize {
+    usize::from(core.0)
+        .wrapping_mul(6)
+        .wrapping_add(reg.index())
+}
+
+fn held(registers: &List<Term>, core: Core, operand: Operand) -> Term {
     match operand {
         Operand::Number(value) => bare_number(value),
-        Operand::Held(reg) => registers[reg.index()],
+        Operand::Held(reg) => registers.at(register_place(core, reg)),
     }
 }
 
-/// What a locked instruction writes, where its load part is this read and its register holds this.
-fn updated(update: Update, read: usize, held: Term) -> Term {
-    match update {
-        Update::Exchange => held,
-        Update::Add => {
-            Term {
-                number: held.number,
-                first: read,
-                second: held.first,
-            }
-        }
-    }
-}
-
-/// The terms of what an action does.
-fn add_terms(terms: &mut List<Term>, registers: &mut [Term; 6], action: Action) {
-    let next = returned(terms.len());
+/// The terms of what an action of a core does.
+fn add_terms(terms: &mut List<Term>, registers: &mut List<Term>, core: Core, action: Action) {
+    let returned = Term {
+        first: terms.len(),
+        ..bare_number(0)
+    };
     match action {
-        Action::Store(_, operand) => terms.push(held(registers, operand)),
+        Action::Store(_, operand) => terms.push(held(registers, core, operand)),
         Action::Load(reg, _) => {
-            terms.push(next);
-            registers[reg.index()] = next;
+            terms.push(returned);
+            registers.put(register_place(core, reg), returned);
         }
-        Action::Move(reg, operand) => registers[reg.index()] = held(registers, operand),
+        Action::Move(reg, operand) => {
+            let value = held(registers, core, operand);
+            registers.put(register_place(core, reg), value);
+        }
         Action::Fence => terms.push(bare_number(0)),
         Action::Lock(_, reg, update) => {
-            terms.push(next);
-            terms.push(updated(update, next.first, registers[reg.index()]));
-            registers[reg.index()] = next;
+            let place = register_place(core, reg);
+            let old = registers.at(place);
+            terms.push(returned);
+            terms.push(match update {
+                Update::Exchange => old,
+                Update::Add => Term {
+                    number: old.number,
+                    first: returned.first,
+                    second: old.first,
+                },
+            });
+            registers.put(place, returned);
         }
     }
 }
 
 /// The terms of a core's events; adds what its registers hold at the end.
-fn run_core(terms: &mut List<Term>, finals: &mut List<Term>, test: &Test, core: Core)
+fn run_core(terms: &mut List<Term>, registers: &mut List<Term>, test: &Test, core: Core)
     requires { core.0 < length test.now.programs }
 {
-    let first = test.initial_registers(core);
-    let mut registers = [
-        bare_number(first[0]),
-        bare_number(first[1]),
-        bare_number(first[2]),
-        bare_number(first[3]),
-        bare_number(first[4]),
-        bare_number(first[5]),
-    ];
-    for instr in test.program(core) {
-        add_terms(terms, &mut registers, instr.action());
+    for word in test.initial_registers(core) {
+        registers.push(bare_number(word));
     }
-    for held in registers {
-        finals.push(held);
+    for instr in test.program(core) {
+        add_terms(terms, registers, core, instr.action());
     }
 }
 
-/// The terms of all events. What is returned are those of all registers at the end, six to a core.
-fn run_cores(alloc: Global, problem: &mut Problem, test: &Test) -> List<Term> {
-    let mut finals = List::new(alloc, bare_number(0));
+/// The terms of all events, and of all registers at the end.
+fn run_cores(terms: &mut List<Term>, registers: &mut List<Term>, test: &Test) {
     for word in test.initial_words() {
-        problem.terms.push(bare_number(*word));
+        terms.push(bare_number(*word));
     }
     for core in 0..test.cores() {
-        run_core(&mut problem.terms, &mut finals, test, Core(core));
-    }
-    finals
-}
-
-/// Notes the reads on whose values hangs what writes write.
-fn note_stored(problem: &mut Problem) {
-    for w in problem.locations..problem.size {
-        if problem.events.at(w).writes {
-            let term = problem.terms.at(w);
-            problem.stored.add(0, term.first);
-            problem.stored.add(0, term.second);
-        }
+        run_core(terms, registers, test, Core(core));
     }
 }
 
@@ -335,14 +325,14 @@ fn bare_problem(alloc: Global, locations: usize, events: usize, model: Model) ->
 pub fn make_problem(alloc: Global, test: &Test, events: &[Entry], model: Model) -> Problem {
     let locations = usize::from(test.locations());
     let mut problem = bare_problem(alloc, locations, events.len(), model);
+    let mut registers = List::new(alloc, bare_number(0));
+    run_cores(&mut problem.terms, &mut registers, test);
+    // What is asked hangs on both lists, and this one ends here.
+    problem.terms.is_refused |= registers.is_refused;
     add_events(&mut problem, events);
     add_accesses(&mut problem);
     add_program_order(&mut problem);
-    let finals = run_cores(alloc, &mut problem, test);
-    // What is asked hangs on both lists, and this one ends here.
-    problem.terms.is_refused |= finals.is_refused;
-    note_stored(&mut problem);
-    problem.claim = parts_of(alloc, &problem, &finals, test);
+    problem.claim = parts_of(alloc, &problem, &registers, test);
     mark_relevant(&mut problem);
     problem
 }

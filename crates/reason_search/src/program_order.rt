@@ -1,23 +1,18 @@
 //! What program order keeps of the order of events. The events of a program stand side by side, in its order.
 
+use crate::lists::NONE;
 use crate::problem::{Problem, Relations};
-use refutations::events::{is_access, is_locked, is_read, is_write};
-use tso_model::Entry;
 
-/// Whether the order of two accesses is kept with no fence between them: of all but a plain store and a later plain load.
-fn is_kept(x: &Entry, y: &Entry) -> bool {
-    let passes = is_write(x) && is_read(y);
-    !passes || is_locked(x) || is_locked(y)
-}
-
-/// Adds the edges between two accesses of one program that program order tells.
+/// Adds the edges between two accesses of one program that program order tells: all but that of a plain store and a later plain load,
+/// with no fence between them.
 fn add_pair(problem: &mut Problem, a: usize, b: usize, is_fenced: bool) {
-    let x = problem.events.at(a).entry;
-    let y = problem.events.at(b).entry;
-    if x.loc.0 == y.loc.0 {
+    let x = problem.events.at(a);
+    let y = problem.events.at(b);
+    if x.location == y.location {
         problem.add_edge(Relations::OnLocation, a, b);
     }
-    if is_fenced || problem.sequential || is_kept(&x, &y) {
+    let passes = x.writes && y.reads && x.partner == NONE && y.partner == NONE;
+    if is_fenced || problem.sequential || !passes {
         problem.add_edge(Relations::Global, a, b);
     }
 }
@@ -30,10 +25,10 @@ fn add_later(problem: &mut Problem, a: usize) {
         if problem.core(b) != core {
             break;
         }
-        if is_access(&problem.events.at(b).entry) {
-            add_pair(problem, a, b, is_fenced);
-        } else {
+        if problem.is_fence(b) {
             is_fenced = true;
+        } else {
+            add_pair(problem, a, b, is_fenced);
         }
     }
 }
@@ -41,7 +36,7 @@ fn add_later(problem: &mut Problem, a: usize) {
 /// Adds the edges that program order tells.
 pub fn add_program_order(problem: &mut Problem) {
     for a in problem.locations..problem.size {
-        if is_access(&problem.events.at(a).entry) {
+        if !problem.is_fence(a) {
             add_later(problem, a);
         }
     }

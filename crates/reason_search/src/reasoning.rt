@@ -5,7 +5,7 @@ use crate::branch::{Branch, Conflict};
 use crate::closing::{add_best, add_false, add_trial, ask_order};
 use crate::evidence::use_facts;
 use crate::facts::{Answer, Fact, Turned};
-use crate::growing::{Growth, add_leaf, add_question, put_branch};
+use crate::growing::{Growth, add_node, put_branch};
 use crate::lists::NONE;
 use crate::offers::{Desk, close_cycle, find_why_before, find_why_not};
 use crate::values::{known_facts, need_falsity};
@@ -48,7 +48,7 @@ pub fn add_source_question(branch: &mut Branch, desk: &mut Desk, r: usize) -> us
     }
     close_source(branch, desk, r, loc);
     desk.weights.heed(r);
-    let question = add_question(&mut desk.trees, Growth::ReadsFrom(r));
+    let question = add_node(&mut desk.trees, Growth::ReadsFrom(r), 0);
     put_branches(desk, question, branch.problem.size);
     question
 }
@@ -76,7 +76,8 @@ fn add_other(branch: &mut Branch, desk: &mut Desk, turned: Turned) -> usize {
     add_best(branch, desk, s, turned)
 }
 
-/// The tree where an edge closes a cycle. Where its order follows, and an answer says the other one: why that can't be.
+/// The tree where the edge with this number closes a cycle. Where its order follows, and an answer says the other one: why that can't
+/// be.
 fn add_closed_cycle(branch: &mut Branch, desk: &mut Desk, clash: usize) -> usize {
     let edge = branch.edges.at(clash);
     let number = edge.link.fact;
@@ -96,7 +97,7 @@ fn add_closed_cycle(branch: &mut Branch, desk: &mut Desk, clash: usize) -> usize
         }
     }
     close_cycle(branch, desk, edge);
-    add_trial(desk)
+    add_trial(desk, edge.relations)
 }
 
 /// The leaf where what is asked is false by the values that answers tell.
@@ -106,7 +107,7 @@ fn add_falsity(branch: &mut Branch, desk: &mut Desk) -> usize {
         return add_false(desk);
     }
     use_facts(&desk.trial, &mut desk.used);
-    add_leaf(&mut desk.trees, Growth::False)
+    add_node(&mut desk.trees, Growth::False, 1)
 }
 
 /// The tree of a branch that is closed. What it uses is used then, and nothing else.
@@ -114,10 +115,9 @@ pub fn add_conflict(branch: &mut Branch, desk: &mut Desk) -> usize {
     desk.used.clear(0);
     desk.weights.move_on();
     desk.above = branch.facts.len();
-    let clash = branch.clash;
     match branch.conflict {
-        Conflict::Cycle => add_closed_cycle(branch, desk, clash),
-        Conflict::NoSource => add_source_question(branch, desk, clash),
+        Conflict::Cycle(edge) => add_closed_cycle(branch, desk, edge),
+        Conflict::NoSource(r) => add_source_question(branch, desk, r),
         Conflict::False => add_falsity(branch, desk),
         Conflict::Open => add_false(desk),
     }

@@ -6,20 +6,13 @@ use std::alloc::Global;
 /// Rows of bits, all of so many words.
 #[derive(Drop)]
 pub struct Rows {
-    words: List<u64>,
+    pub words: List<u64>,
     width: usize,
-    /// Whether memory was refused.
-    pub is_refused: bool,
 }
 
 /// The word in which a number's bit stands alone.
 pub fn bit(i: usize) -> u64 {
     1u64 << (i % 64)
-}
-
-/// The word of all numbers of its word that are below one.
-pub fn below(i: usize) -> u64 {
-    bit(i).wrapping_sub(1)
 }
 
 /// The lowest number of a word that isn't empty, where the word is the `k`-th of its row.
@@ -28,19 +21,12 @@ pub fn lowest(k: usize, bits: u64) -> usize {
         .wrapping_add(bits.trailing_zeros() as usize)
 }
 
-/// The word without its lowest number.
-pub fn rest(bits: u64) -> u64 {
-    bits & bits.wrapping_sub(1)
-}
-
 impl Rows {
     /// So many empty rows for numbers below `most`, and none where memory is refused.
     pub fn new(alloc: Global, count: usize, most: usize) -> Rows {
         let width = most / 64 + 1;
-        let words = List::filled(alloc, count.wrapping_mul(width), 0);
         Rows {
-            is_refused: words.is_refused,
-            words,
+            words: List::filled(alloc, count.wrapping_mul(width), 0),
             width,
         }
     }
@@ -50,11 +36,6 @@ impl Rows {
         row.wrapping_mul(self.width).wrapping_add(k)
     }
 
-    /// Writes the word at a place.
-    pub fn put_at(&mut self, place: usize, bits: u64) {
-        self.words.put(place, bits);
-    }
-
     /// A word of a row, and no bits where there is no such row.
     pub fn word(&self, row: usize, k: usize) -> u64 {
         self.words.at(self.place(row, k))
@@ -62,7 +43,8 @@ impl Rows {
 
     /// Writes a word of a row.
     pub fn put_word(&mut self, row: usize, k: usize, bits: u64) {
-        self.put_at(self.place(row, k), bits);
+        let place = self.place(row, k);
+        self.words.put(place, bits);
     }
 
     /// Whether a row has the number.
@@ -94,17 +76,16 @@ impl Rows {
         let start = from / 64;
         for k in start..self.width {
             let all = self.word(row, k);
-            let bits = if k == start { all & !below(from) } else { all };
+            let bits = if k == start {
+                all & !bit(from).wrapping_sub(1)
+            } else {
+                all
+            };
             if bits != 0 {
                 return lowest(k, bits);
             }
         }
         NONE
-    }
-
-    /// Whether a row has no number.
-    pub fn is_empty(&self, row: usize) -> bool {
-        self.next(row, 0) == NONE
     }
 
     /// Makes a row empty.

@@ -1,11 +1,10 @@
 //! Values that answers tell, read by read: and whether what is asked is false by them, with the answers by which it is.
 
 use crate::branch::Branch;
-use crate::claim::{Demand, Part, Parts, can_be, can_be_made};
+use crate::claim::{Demand, Part, Parts, can_be};
 use crate::evidence::{Closing, Evidence, need, reset};
 use crate::lists::NONE;
-use crate::problem::Term;
-use crate::rows::Rows;
+use crate::problem::add_reads;
 
 /// What is taken as known: the first so many facts, and what is supposed, that a read has a source, or that a write comes before
 /// another one. `NONE` is no such read or write.
@@ -27,25 +26,24 @@ pub fn known_facts(limit: usize) -> Known {
     }
 }
 
-/// The sum of two values, as far as they are known.
-fn sum(first: usize, second: usize) -> usize {
-    if first == NONE || second == NONE {
+/// A number and what a read returns, added up as far as both are known; no read adds nothing.
+fn plus_returned(branch: &Branch, number: usize, r: usize) -> usize {
+    if r == NONE {
+        return number;
+    }
+    let value = branch.values.at(r);
+    if number == NONE || value == NONE {
         NONE
     } else {
-        first.wrapping_add(second) % 4_294_967_296
+        number.wrapping_add(value) % 4_294_967_296
     }
-}
-
-/// What a read returns, as far as it is known; no read adds nothing.
-fn returned(branch: &Branch, r: usize) -> usize {
-    if r == NONE { 0 } else { branch.values.at(r) }
 }
 
 /// What an event writes, as far as it is known.
 pub fn written(branch: &Branch, w: usize) -> usize {
     let term = branch.problem.terms.at(w);
-    let read = sum(returned(branch, term.first), returned(branch, term.second));
-    sum(term.number as usize, read)
+    let first = plus_returned(branch, term.number as usize, term.first);
+    plus_returned(branch, first, term.second)
 }
 
 /// The source that a read is known to have.
@@ -139,7 +137,9 @@ fn part_can_be(branch: &Branch, known: Known, supposed: Supposed, parts: &Parts,
                 can_be(demand, branch.values.at(r))
             }
         }
-        part => can_be_made(part, i, parts),
+        Part::Fixed(truth) => truth,
+        Part::Both(second) => parts.has(i.wrapping_add(1)) && parts.has(second),
+        Part::Either(second) => parts.has(i.wrapping_add(1)) || parts.has(second),
     }
 }
 
@@ -212,12 +212,6 @@ fn is_barred(branch: &Branch, place: usize, value: usize) -> bool {
     false
 }
 
-/// Adds the reads on which the value of a term hangs.
-fn need_term(needed: &mut Rows, term: Term) {
-    needed.add(0, term.first);
-    needed.add(0, term.second);
-}
-
 /// Notes by what a location doesn't have such a word at the end.
 fn need_word(branch: &Branch, known: Known, evidence: &mut Evidence, loc: usize, demand: Demand) {
     for w in branch.problem.locations..branch.problem.size {
@@ -228,10 +222,17 @@ fn need_word(branch: &Branch, known: Known, evidence: &mut Evidence, loc: usize,
                     need(evidence, fact);
                 }
             } else {
-                need_term(&mut evidence.needed, branch.problem.terms.at(w));
+                add_reads(&mut evidence.needed, branch.problem.terms.at(w));
             }
         }
     }
+}
+
+/// The parts of what is asked that can be so, and those by which it is false.
+#[derive(Clone, Copy)]
+struct Falsity {
+    can: Parts,
+    wrong: Parts,
 }
 
 /// Notes by what a part is false, and adds to those that are false on which this hangs.
@@ -239,9 +240,8 @@ fn need_part(
     branch: &Branch,
     known: Known,
     evidence: &mut Evidence,
+    falsity: &mut Falsity,
     i: usize,
-    can: &Parts,
-    wrong: &mut Parts,
 ) {
     let first = i.wrapping_add(1);
     match branch.problem.claim.at(i) {
@@ -253,13 +253,13 @@ fn need_part(
             }
         }
         Part::Both(second) => {
-            let is_second = !can.has(second);
-            wrong.add(second, is_second);
-            wrong.add(first, !is_second);
+            let is_second = !falsity.can.has(second);
+            falsity.wrong.add(second, is_second);
+            falsity.wrong.add(first, !is_second);
         }
         Part::Either(second) => {
-            wrong.add(first, true);
-            wrong.add(second, true);
+            falsity.wrong.add(first, true);
+            falsity.wrong.add(second, true);
         }
         Part::Fixed(_) => {}
     }
@@ -279,7 +279,7 @@ fn need_more_sources(branch: &mut Branch, known: Known, evidence: &mut Evidence)
                 need(evidence, branch.source.at(r));
             }
             let term = branch.problem.terms.at(source(branch, known, r));
-            need_term(&mut evidence.needed, term);
+            add_reads(&mut evidence.needed, term);
             changed |= term.first != NONE;
         }
         r = evidence.needed.next(0, r.wrapping_add(1));
@@ -296,11 +296,14 @@ pub fn need_falsity(branch: &mut Branch, known: Known, evidence: &mut Evidence) 
     }
     reset(evidence, Closing::False);
     evidence.needed.clear(0);
-    let mut wrong = Parts::none();
-    wrong.add(0, true);
+    let mut falsity = Falsity {
+        can,
+        wrong: Parts::none(),
+    };
+    falsity.wrong.add(0, true);
     for i in 0..branch.problem.claim.len() {
-        if wrong.has(i) {
-            need_part(branch, known, evidence, i, &can, &mut wrong);
+        if falsity.wrong.has(i) {
+            need_part(branch, known, evidence, &mut falsity, i);
         }
     }
     for _round in 0..branch.problem.size {

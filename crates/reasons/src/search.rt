@@ -22,6 +22,14 @@ use refutations::{Answers, Node, add_branches, make_events, no_answers};
 use std::alloc::Global;
 use tso_model::{Entry, Execution, NoMemory, Test};
 
+/// What a search is for: a test, its events, and the model.
+#[derive(Clone, Copy)]
+struct Asked<'t> {
+    test: &'t Test,
+    events: &'t [Entry],
+    model: Model,
+}
+
 /// What is done with a case that no leaf closes: the next question is asked, or it has an execution.
 fn go_on(
     alloc: Global,
@@ -149,7 +157,7 @@ pub fn explain(alloc: Global, test: &Test, model: Model, limit: usize) -> Result
     ensures { IfOk result (IsReason model test.now limit) }
 {
     let events = make_events(alloc, test)?;
-    let mut guide = make_guide(alloc, test, &events, model)?;
+    let mut guide = make_guide(alloc, test, &events, model);
     search(alloc, &mut guide, test, &events, model, limit)
 }
 
@@ -171,9 +179,12 @@ fn search(
     let mut cases = Vec::new(alloc);
     add_case(&mut cases, no_answers(alloc))?;
     let mut nodes = Vec::new(alloc);
-    match close_cases(
-        alloc, guide, test, events, model, limit, &mut cases, &mut nodes,
-    )? {
+    let asked = Asked {
+        test,
+        events,
+        model,
+    };
+    match close_cases(alloc, guide, asked, limit, &mut cases, &mut nodes)? {
         Some(reason) => Ok(reason),
         None => Ok(Reason::Never(nodes)),
     }
@@ -183,21 +194,26 @@ fn search(
 fn close_cases(
     alloc: Global,
     guide: &mut Guide,
-    test: &Test,
-    events: &[Entry],
-    model: Model,
+    asked: Asked<'_>,
     limit: usize,
     cases: &mut Vec<Answers>,
     nodes: &mut Vec<Node>,
 ) -> Result<Option<Reason>, NoMemory>
-    requires events { events.now ≡ events_of test.now }
+    requires events { asked.events.now ≡ events_of asked.test.now }
     requires cases { cases_of cases.old.items ≡ nothing ∷ [] }
     requires nodes { nodes.old.items ≡ [] }
-    ensures { IfOk result (λ reason. IsReason model test.now limit (reason_or_never nodes.new reason)) }
+    ensures { IfOk result (λ reason. IsReason asked.entry.model asked.entry.test.now limit (reason_or_never nodes.new reason)) }
 {
     let mut leaves = 0;
     while let Some(answers) = cases.pop() {
-        match guided_step(alloc, guide, test, events, model, &answers)? {
+        match guided_step(
+            alloc,
+            guide,
+            asked.test,
+            asked.events,
+            asked.model,
+            &answers,
+        )? {
             Step::Leaf(leaf) => {
                 if leaves == limit {
                     return Ok(Some(Reason::TooMany));
@@ -206,7 +222,7 @@ fn close_cases(
                 nodes.push(leaf)?;
             }
             Step::Question(question) => {
-                add_branches(alloc, cases, test, events, &answers, &question)?;
+                add_branches(alloc, cases, asked.test, asked.events, &answers, &question)?;
                 nodes.push(question)?;
             }
             Step::Allowed(execution) => return Ok(Some(Reason::Allowed(execution))),

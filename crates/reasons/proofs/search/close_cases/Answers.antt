@@ -7,21 +7,21 @@ use Rattle.reasons.proofs.search.close_cases.Goals.{in-Leaf+else-leaves-limit+in
 pub loop-answers-init : goal.loop-answers-init
 loop-answers-init c = record {
   search =
-      subst (λ ns. IsSearch c.args.model c.args.test.now (cases_of c.args.cases.now.items) (map node_of ns) 0) (sym c.requires.nodes)
-      (first-case c.args.model c.args.test.now c.args.cases.now.items nothing c.requires.cases refl);
+      subst (λ ns. IsSearch c.args.asked.model c.args.asked.test.now (cases_of c.args.cases.now.items) (map node_of ns) 0) (sym c.requires.nodes)
+      (first-case c.args.asked.model c.args.asked.test.now c.args.cases.now.items nothing c.requires.cases refl);
   few = omega arith;
 }
 
 pub guided_step-requires-clause-sound : goal.guided_step-requires-clause-sound
 guided_step-requires-clause-sound c =
-    its-sound c.args.model c.args.test.now c.loop-answers.cases.items c.pop.new.self.items c.in-Some.answers c.in-Some.ensures.items
+    its-sound c.args.asked.model c.args.asked.test.now c.loop-answers.cases.items c.pop.new.self.items c.in-Some.answers c.in-Some.ensures.items
     (map node_of c.loop-answers.nodes.items) c.loop-answers.leaves c.loop-answers.invariant.search
 
 pub returns-then-leaves-limit : goal.returns-then-leaves-limit
 returns-then-leaves-limit c =
-    one-too-many c.args.model c.args.test.now c.loop-answers.cases.items c.pop.new.self.items c.in-Some.answers c.in-Some.ensures.items
+    one-too-many c.args.asked.model c.args.asked.test.now c.loop-answers.cases.items c.pop.new.self.items c.in-Some.answers c.in-Some.ensures.items
     c.loop-answers.nodes.items c.loop-answers.leaves c.args.limit c.in-Leaf.leaf c.if-leaves-limit.true c.loop-answers.invariant.search
-    (subst (IsSearchStep c.args.model c.args.test.now (known_of c.in-Some.answers)) c.in-Leaf.is c.in_ok-leaf.ensures)
+    (subst (IsSearchStep c.args.asked.model c.args.asked.test.now (known_of c.in-Some.answers)) c.in-Leaf.is c.in_ok-leaf.ensures)
 
 pub overflow_add-leaves : goal.overflow_add-leaves
 overflow_add-leaves c =
@@ -34,13 +34,13 @@ pub loop-answers-smaller : goal.loop-answers-smaller
 loop-answers-smaller c =
     elim c.match-branch-2.branch [
       | in-Leaf+else-leaves-limit+in_ok-push-in-Leaf w ↦
-          subst (λ (v : Vec Answers). total 1 c.args.test.now (cases_of v.items) < total 1 c.args.test.now (cases_of c.loop-answers.cases.items)) (sym w.cases-is)
-          (lighter-by-leaf c.args.model c.args.test.now c.loop-answers.cases.items c.pop.new.self.items c.in-Some.answers c.in-Some.ensures.items)
+          subst (λ (v : Vec Answers). total 1 c.args.asked.test.now (cases_of v.items) < total 1 c.args.asked.test.now (cases_of c.loop-answers.cases.items)) (sym w.cases-is)
+          (lighter-by-leaf c.args.asked.model c.args.asked.test.now c.loop-answers.cases.items c.pop.new.self.items c.in-Some.answers c.in-Some.ensures.items)
       | in-Question+in_ok-add_branches-in-Question+in_ok-push-in-Question w ↦
-          subst (λ (v : Vec Answers). total 1 c.args.test.now (cases_of v.items) < total 1 c.args.test.now (cases_of c.loop-answers.cases.items)) (sym w.cases-is)
-          (lighter-by-question c.args.model c.args.test.now c.loop-answers.cases.items c.pop.new.self.items c.in-Some.answers c.in-Some.ensures.items
+          subst (λ (v : Vec Answers). total 1 c.args.asked.test.now (cases_of v.items) < total 1 c.args.asked.test.now (cases_of c.loop-answers.cases.items)) (sym w.cases-is)
+          (lighter-by-question c.args.asked.model c.args.asked.test.now c.loop-answers.cases.items c.pop.new.self.items c.in-Some.answers c.in-Some.ensures.items
           w.in-Question.question w.add_branches.new.cases.items w.in_ok-add_branches-in-Question.ensures
-          (subst (IsSearchStep c.args.model c.args.test.now (known_of c.in-Some.answers)) w.in-Question.is c.in_ok-leaf.ensures))
+          (subst (IsSearchStep c.args.asked.model c.args.asked.test.now (known_of c.in-Some.answers)) w.in-Question.is c.in_ok-leaf.ensures))
     ]
 
 pub loop-answers-preserved : goal.loop-answers-preserved
@@ -48,16 +48,16 @@ loop-answers-preserved c =
     elim c.match-branch-2.branch [
       | in-Leaf+else-leaves-limit+in_ok-push-in-Leaf w ↦ record {
         search =
-            subst (λ m. IsSearch c.args.model c.args.test.now (cases_of c.match-branch-2.cases.items) (map node_of c.match-branch-2.nodes.items) m)
+            subst (λ m. IsSearch c.args.asked.model c.args.asked.test.now (cases_of c.match-branch-2.cases.items) (map node_of c.match-branch-2.nodes.items) m)
             (sym w.leaves-is)
-            (subst (λ (v : Vec Node). IsSearch c.args.model c.args.test.now (cases_of c.match-branch-2.cases.items) (map node_of v.items)
+            (subst (λ (v : Vec Node). IsSearch c.args.asked.model c.args.asked.test.now (cases_of c.match-branch-2.cases.items) (map node_of v.items)
             (c.loop-answers.leaves + 1)) (sym w.nodes-is)
-            (subst (λ (v : Vec Answers). IsSearch c.args.model c.args.test.now (cases_of v.items) (map node_of w.push.new.self.items)
+            (subst (λ (v : Vec Answers). IsSearch c.args.asked.model c.args.asked.test.now (cases_of v.items) (map node_of w.push.new.self.items)
             (c.loop-answers.leaves + 1)) (sym w.cases-is)
-            (after-leaf c.args.model c.args.test.now c.loop-answers.cases.items c.pop.new.self.items c.in-Some.answers c.in-Some.ensures.items
+            (after-leaf c.args.asked.model c.args.asked.test.now c.loop-answers.cases.items c.pop.new.self.items c.in-Some.answers c.in-Some.ensures.items
             c.loop-answers.nodes.items w.push.new.self.items c.loop-answers.leaves w.in-Leaf.leaf w.in_ok-push-in-Leaf.ensures.items
             c.loop-answers.invariant.search
-            (subst (IsSearchStep c.args.model c.args.test.now (known_of c.in-Some.answers)) w.in-Leaf.is c.in_ok-leaf.ensures))));
+            (subst (IsSearchStep c.args.asked.model c.args.asked.test.now (known_of c.in-Some.answers)) w.in-Leaf.is c.in_ok-leaf.ensures))));
         few =
             let few = c.loop-answers.invariant.few in
             let other = w.if-leaves-limit.false in
@@ -66,17 +66,17 @@ loop-answers-preserved c =
       }
       | in-Question+in_ok-add_branches-in-Question+in_ok-push-in-Question w ↦ record {
         search =
-            subst (λ m. IsSearch c.args.model c.args.test.now (cases_of c.match-branch-2.cases.items) (map node_of c.match-branch-2.nodes.items) m)
+            subst (λ m. IsSearch c.args.asked.model c.args.asked.test.now (cases_of c.match-branch-2.cases.items) (map node_of c.match-branch-2.nodes.items) m)
             (sym w.leaves-is)
-            (subst (λ (v : Vec Node). IsSearch c.args.model c.args.test.now (cases_of c.match-branch-2.cases.items) (map node_of v.items)
+            (subst (λ (v : Vec Node). IsSearch c.args.asked.model c.args.asked.test.now (cases_of c.match-branch-2.cases.items) (map node_of v.items)
             c.loop-answers.leaves) (sym w.nodes-is)
-            (subst (λ (v : Vec Answers). IsSearch c.args.model c.args.test.now (cases_of v.items) (map node_of w.push-in-Question.new.self.items)
+            (subst (λ (v : Vec Answers). IsSearch c.args.asked.model c.args.asked.test.now (cases_of v.items) (map node_of w.push-in-Question.new.self.items)
             c.loop-answers.leaves) (sym w.cases-is)
-            (after-question c.args.model c.args.test.now c.loop-answers.cases.items c.pop.new.self.items c.in-Some.answers c.in-Some.ensures.items
+            (after-question c.args.asked.model c.args.asked.test.now c.loop-answers.cases.items c.pop.new.self.items c.in-Some.answers c.in-Some.ensures.items
             c.loop-answers.nodes.items w.push-in-Question.new.self.items c.loop-answers.leaves w.in-Question.question
             w.in_ok-push-in-Question.ensures.items w.add_branches.new.cases.items w.in_ok-add_branches-in-Question.ensures
             c.loop-answers.invariant.search
-            (subst (IsSearchStep c.args.model c.args.test.now (known_of c.in-Some.answers)) w.in-Question.is c.in_ok-leaf.ensures))));
+            (subst (IsSearchStep c.args.asked.model c.args.asked.test.now (known_of c.in-Some.answers)) w.in-Question.is c.in_ok-leaf.ensures))));
         few =
             let few = c.loop-answers.invariant.few in
             let now = w.leaves-is in
@@ -88,9 +88,9 @@ pub returns : goal.returns
 returns c =
     let none = c.in_default.ensures.cases in
     let size = c.loop-answers.cases.ok.0 in
-    all-done c.args.model c.args.test.now c.loop-answers.cases.items (map node_of c.loop-answers.nodes.items) c.loop-answers.leaves
+    all-done c.args.asked.model c.args.asked.test.now c.loop-answers.cases.items (map node_of c.loop-answers.nodes.items) c.loop-answers.leaves
     (nil_from_length c.loop-answers.cases.items (omega (arith, none, size))) c.loop-answers.invariant.search
 
 pub returns-in-Allowed : goal.returns-in-Allowed
 returns-in-Allowed c =
-    subst (IsSearchStep c.args.model c.args.test.now (known_of c.in-Some.answers)) c.in-Allowed.is c.in_ok-leaf.ensures
+    subst (IsSearchStep c.args.asked.model c.args.asked.test.now (known_of c.in-Some.answers)) c.in-Allowed.is c.in_ok-leaf.ensures

@@ -5,9 +5,9 @@ use Rattle.reasons.proofs.search.close_cases.Given as goal
 
 abbrev pub invariant-loop-answers : goal.invariant-loop-answers
 invariant-loop-answers l = record {
-  search : IsSearch l.model l.test (cases_of l.cases.items) (map node_of l.nodes.items) l.leaves;
+  search : IsSearch l.asked.model l.asked.test.now (cases_of l.cases.items) (map node_of l.nodes.items) l.leaves;
   few : l.leaves ≤ l.limit;
 }
 
 abbrev pub decreases-loop-answers : goal.decreases-loop-answers
-decreases-loop-answers l = total 1 l.test (cases_of l.cases.items)
+decreases-loop-answers l = total 1 l.asked.test.now (cases_of l.cases.items)
