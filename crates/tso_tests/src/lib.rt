@@ -23,6 +23,8 @@ mod named;
 #[cfg(test)]
 mod orders;
 #[cfg(test)]
+mod refuted;
+#[cfg(test)]
 mod split_accesses;
 #[cfg(test)]
 mod steps;
