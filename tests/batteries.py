@@ -34,7 +34,7 @@
 
 The last line is 'N passed, M failed'.
 """
-import multiprocessing
+import json
 import os
 import re
 import subprocess
@@ -45,7 +45,6 @@ sys.dont_write_bytecode = True
 import tool_runs
 from tool_runs import TOP, TOOLS, Tally, gallery, script, tool, write
 
-import answers
 import byte_machine
 import campaign_runs
 import cluster_runs
@@ -102,14 +101,15 @@ def judge_cycle(work):
     if (again.programs, again.initial, again.condition) != (test.programs, test.initial, test.condition):
         return test.name, None, "is read back as another test"
     searched = flat_machine.choices_to_outcome(flat_machine.Test(text), DEPTH) is not None
-    said, found = verdicts.by_theory(theory, text), answers.outcomes(program, text, [], PATIENCE)
+    said, done = verdicts.by_theory(theory, text), judging.run(program, ["outcomes", "--json"], text.encode())
     line = cycles.line_of(test, said.verdict)
-    if "states" not in found:
-        return test.name, line, str(found)
-    told = said.verdict, "allowed" if searched else "forbidden", rule(cycle), "allowed" if found["true"] else "forbidden"
+    if done.returncode != judging.ENDED:
+        return test.name, line, judging.described(done)
+    found = json.loads(done.stdout)
+    told = said.verdict, "allowed" if searched else "forbidden", rule(cycle), "allowed" if found["observation"]["true"] else "forbidden"
     if len(set(told)) > 1:
         return test.name, line, "theory, search, rule and the program say %s, %s, %s, %s" % told
-    states = {frozenset(state.items()) for state in found["states"]}
+    states = {frozenset(state["values"].items()) for state in found["states"]}
     return test.name, line, None if states == said.states else "theory allows other final states than the program"
 
 
@@ -118,10 +118,6 @@ def fact(text, key):
 
 
 FEW_CANDIDATES = 2_000
-
-# Seconds that the program may take for a test.
-PATIENCE = 60
-
 
 def fault_of_states(text):
     """What is wrong with the final states that theory allows, held against those of the plain search."""
@@ -202,13 +198,12 @@ def main():
         count = sum(1 for _ in edges.cycles(length, locked))
         tally.add("cycles of length %d" % length, None if count == wanted else "there are %d, not %d" % (count, wanted))
     lines = set()
-    with multiprocessing.Pool() as pool:
-        for length, locked in JUDGED:
-            work = [(program, cycle) for cycle in edges.cycles(length, locked)]
-            for name, line, fault in pool.imap_unordered(judge_cycle, work, chunksize=16):
-                tally.add(name, fault)
-                if locked:
-                    lines.add(line)
+    for length, locked in JUDGED:
+        work = [(program, cycle) for cycle in edges.cycles(length, locked)]
+        for name, line, fault in judging.in_processes(judge_cycle, work):
+            tally.add(name, fault)
+            if locked:
+                lines.add(line)
     with open(BATTERY, encoding="ascii") as file:
         shipped = file.read().splitlines()
     for line in sorted(lines ^ set(shipped), key=str):

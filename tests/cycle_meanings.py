@@ -1,9 +1,9 @@
 """What tests of cycles ask for, for tests/batteries.py: cycles that are given by hand, each held against all candidates of its test."""
 import dataclasses
 import itertools
-import multiprocessing
 import random
 
+import judging
 import tool_runs
 
 import answers
@@ -246,7 +246,6 @@ def judge(program, tally):
     """Each cycle has a test that asks for it, or is refused where it contradicts itself; and those that are shown have their lines."""
     found = [cycle for length in ALL_OF for cycle in all_cycles(length)] + drawn_cycles()
     work = [(cycle, None if at % ASKED_OF_PROGRAM else program) for at, cycle in enumerate(found)]
-    with multiprocessing.Pool() as pool:
-        for words, fault in pool.imap_unordered(judge_cycle, work, chunksize=16):
-            tally.add(words, fault)
+    for words, fault in judging.in_processes(judge_cycle, work):
+        tally.add(words, fault)
     judge_lines(tally)

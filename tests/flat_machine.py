@@ -16,6 +16,7 @@ CELLS = (
     ("xchg", r"XCHG \[(\w+)\],(E[A-Z]{2})"),
     ("xadd", r"LOCK XADD \[(\w+)\],(E[A-Z]{2})"),
 )
+REGISTER = re.compile("E[A-Z]{2}")
 
 
 class Test:
@@ -30,7 +31,7 @@ class Test:
         rows, _, condition = body.partition("exists")
         rows = [[cell.strip() for cell in row.split("|")] for row in rows.split(";") if row.strip()]
         self.programs = [[instruction(cell) for cell in column if cell] for column in zip(*rows[1:])]
-        self.initial = {atom(item)[0]: atom(item)[1] for item in initial.split(";") if item.strip()}
+        self.initial = dict(atom(item) for item in initial.split(";") if item.strip())
         self.wanted = [atom(item) for item in re.fullmatch(r"\s*\((.*)\)\s*", condition).group(1).split("/\\")]
 
     def has_outcome(self, words):
@@ -51,119 +52,123 @@ def atom(text):
     return place, int(value)
 
 
-class State:
-    """A state of the machine. `words` holds registers, as '0:EAX', and memory, as 'x'; what isn't there is 0."""
+class Steps:
+    """A test's programs over one row of words: the places of all registers, locations and numbers that they name, what these hold at the
+    start, and each core's instructions, whose operands are numbers of places."""
 
-    def __init__(self, places, buffers, words):
-        self.places, self.buffers, self.words = places, buffers, words
+    def __init__(self, test):
+        self.names, self.first = list(test.initial), list(test.initial.values())
+        self.of_core = [[(kind, *(self.place(core, name) for name in operands)) for kind, *operands in program]
+                        for core, program in enumerate(test.programs)]
 
-    def key(self):
-        return tuple(self.places), tuple(map(tuple, self.buffers)), frozenset(self.words.items())
+    def place(self, core, name):
+        name = "%d:%s" % (core, name) if REGISTER.fullmatch(name) else name
+        if name not in self.names:
+            self.names.append(name)
+            self.first.append(int(name) if name.isdigit() else 0)
+        return self.names.index(name)
 
-    def copy(self):
-        return State(list(self.places), [list(buffer) for buffer in self.buffers], dict(self.words))
+    def first_state(self):
+        """The places of the cores, their pending stores, oldest first, each a location and a value, and the words."""
+        return (0,) * len(self.of_core), ((),) * len(self.of_core), tuple(self.first)
 
-    def word(self, place):
-        return self.words.get(place, 0)
+    def values(self, words):
+        """The registers and locations of these words that aren't 0, by their names."""
+        return {name: word for name, word in zip(self.names, words) if word and not name.isdigit()}
 
-    def seen(self, core, location):
-        own = [value for stored, value in self.buffers[core] if stored == location]
-        return own[-1] if own else self.word(location)
+
+def put(row, at, value):
+    return row[:at] + (value,) + row[at + 1:]
 
 
 def drain(state, core):
-    after = state.copy()
-    location, value = after.buffers[core].pop(0)
-    after.words[location] = value
-    return after
+    places, buffers, words = state
+    location, value = buffers[core][0]
+    return places, put(buffers, core, buffers[core][1:]), put(words, location, value)
 
 
-def step(test, state, core, depth):
+def step(steps, state, core, depth):
     """The state after this core's next instruction, or None where it must wait."""
-    kind, *operands = test.programs[core][state.places[core]]
-    if kind in ("fence", "xchg", "xadd") and state.buffers[core]:
+    places, buffers, words = state
+    kind, *operands = steps.of_core[core][places[core]]
+    pending = buffers[core]
+    if pending and kind in ("fence", "xchg", "xadd"):
         return None
-    after = state.copy()
-    after.places[core] += 1
     if kind == "load":
         register, location = operands
-        after.words["%d:%s" % (core, register)] = state.seen(core, location)
+        own = [value for stored, value in pending if stored == location]
+        words = put(words, register, own[-1] if own else words[location])
     elif kind == "move":
         register, source = operands
-        value = int(source) if source.isdigit() else state.word("%d:%s" % (core, source))
-        after.words["%d:%s" % (core, register)] = value
+        words = put(words, register, words[source])
     elif kind in ("xchg", "xadd"):
         location, register = operands
-        register = "%d:%s" % (core, register)
-        old, operand = state.word(location), state.word(register)
-        after.words[register] = old
-        after.words[location] = operand if kind == "xchg" else (old + operand) % 2**32
+        old, operand = words[location], words[register]
+        words = put(words, location, operand if kind == "xchg" else (old + operand) % 2**32)
+        words = put(words, register, old)
     elif kind == "store":
         location, source = operands
-        value = int(source) if source.isdigit() else state.word("%d:%s" % (core, source))
         if depth == 0:
-            after.words[location] = value
-        elif len(state.buffers[core]) == depth:
+            words = put(words, location, words[source])
+        elif len(pending) == depth:
             return None
         else:
-            after.buffers[core].append((location, value))
-    return after
+            buffers = put(buffers, core, pending + ((location, words[source]),))
+    return put(places, core, places[core] + 1), buffers, words
 
 
-def successors(test, state, depth):
-    for core, program in enumerate(test.programs):
-        if state.places[core] < len(program):
-            after = step(test, state, core, depth)
+def successors(steps, state, depth):
+    for core, program in enumerate(steps.of_core):
+        if state[0][core] < len(program):
+            after = step(steps, state, core, depth)
             if after is not None:
                 yield "%ds" % core, after
-        if state.buffers[core]:
+        if state[1][core]:
             yield "%dd" % core, drain(state, core)
-
-
-def first_state(test):
-    cores = range(len(test.programs))
-    return State([0 for _ in cores], [[] for _ in cores], dict(test.initial))
 
 
 def final_states(test, depth):
     """The registers and words of all final states: of each the values that aren't 0, by their places."""
-    reached, frontier, found = {first_state(test).key()}, [first_state(test)], set()
+    steps = Steps(test)
+    start = steps.first_state()
+    reached, frontier, found = {start}, [start], set()
     while frontier:
         state = frontier.pop()
         ended = True
-        for _, after in successors(test, state, depth):
+        for _, after in successors(steps, state, depth):
             ended = False
-            if after.key() not in reached:
-                reached.add(after.key())
+            if after not in reached:
+                reached.add(after)
                 frontier.append(after)
         if ended:
-            found.add(frozenset(pair for pair in state.words.items() if pair[1]))
+            found.add(frozenset(steps.values(state[2]).items()))
     return found
 
 
 def choices_to_outcome(test, depth):
     """A shortest list of choices that ends the test in what its condition asks for; None where no run does."""
-    start = first_state(test)
-    came_from, frontier = {start.key(): None}, [start]
+    steps = Steps(test)
+    start = steps.first_state()
+    came_from, frontier = {start: None}, [start]
     while frontier:
         reached = []
         for state in frontier:
             ended = True
-            for choice, after in successors(test, state, depth):
+            for choice, after in successors(steps, state, depth):
                 ended = False
-                if after.key() not in came_from:
-                    came_from[after.key()] = choice, state.key()
+                if after not in came_from:
+                    came_from[after] = choice, state
                     reached.append(after)
-            if ended and test.has_outcome(state.words):
-                return path_to(state.key(), came_from)
+            if ended and test.has_outcome(steps.values(state[2])):
+                return path_to(state, came_from)
         frontier = reached
     return None
 
 
-def path_to(key, came_from):
+def path_to(state, came_from):
     choices = []
-    while came_from[key] is not None:
-        choice, key = came_from[key]
+    while came_from[state] is not None:
+        choice, state = came_from[state]
         choices.append(choice)
     return choices[::-1]
 

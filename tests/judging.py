@@ -184,17 +184,26 @@ def in_threads(function, items, workers=None):
 _work = []
 
 
+def _stay(processors):
+    """Keeps this process, and all that it starts, on the next of these processors: a program that is woken on another one costs more."""
+    os.sched_setaffinity(0, {processors.get()})
+
+
 def _at(number):
     function, items = _work[-1]
     return function(items[number])
 
 
 def in_processes(function, items, at_once=16):
-    """The same by forks of this process, each of which takes so many items at once."""
+    """The same by forks of this process, one for each processor, each of which takes so many items at once."""
     items = list(items)
     starts.library("many_starts")
     _work.append((function, items))
-    with concurrent.futures.ProcessPoolExecutor(mp_context=multiprocessing.get_context("fork")) as pool:
+    context = multiprocessing.get_context("fork")
+    processors = context.SimpleQueue()
+    for processor in sorted(os.sched_getaffinity(0)):
+        processors.put(processor)
+    with concurrent.futures.ProcessPoolExecutor(len(os.sched_getaffinity(0)), context, _stay, (processors,)) as pool:
         found = list(pool.map(_at, range(len(items)), chunksize=at_once))
     _work.pop()
     return found

@@ -105,6 +105,21 @@ def ends(test, depth):
     return found
 
 
+@functools.lru_cache(16)
+def test_of(given):
+    return reading.read_test(given)
+
+
+@functools.lru_cache(16)
+def ends_of(given, depth):
+    return ends(test_of(given), depth)
+
+
+def depth_that_counts(test, depth):
+    """The depth, or as many stores as a core has, if these are fewer: no buffer gets fuller, so all runs are the same."""
+    return min(depth, max(sum(done.kind in litmus.STORES for done in program) for program in test.programs))
+
+
 def places_shown(test, show):
     """The registers, as pairs of core and register, and the locations whose values a state has."""
     registers, locations = set(), set(range(len(test.locations)))
@@ -186,8 +201,9 @@ def faults_of_way(report, shown, values, way):
 
 
 def faults_at(program, given, depth):
-    test = reading.read_test(given)
-    found, report_by = ends(test, depth), functools.cache(lambda way: report_of(program, given, depth, way))
+    test = test_of(given)
+    found = ends_of(given, depth_that_counts(test, depth))
+    report_by = functools.cache(lambda way: report_of(program, given, depth, way))
     return [fault for show in SHOWN for fault in faults_of_shown(program, given, show, Shown(test, depth, show, found), report_by)]
 
 

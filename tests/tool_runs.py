@@ -37,9 +37,9 @@ def test_file(name):
     return os.path.join(GALLERY, name + ".litmus")
 
 
-def tool(name, *words, python=sys.executable, **how):
-    """What a tool answers."""
-    return subprocess.run([python, os.path.join(TOOLS, name), *words], capture_output=True, text=True, **how)
+def tool(name, *words, **how):
+    """What a tool answers. It needs the standard library alone, so Python doesn't look for more (-S): that takes longer than most tools."""
+    return subprocess.run([sys.executable, "-S", os.path.join(TOOLS, name), *words], capture_output=True, text=True, **how)
 
 
 def interrupted(name, *words, ready):
