@@ -116,6 +116,7 @@ def names_in(text):
     return [word for word in WORD.findall(text) if word.split(".")[0] not in bound]
 
 
+@lru_cache(None)
 def uses(module, name, case):
     """What one definition uses: pairs of a module and a name; a declared type's module stands for itself."""
     file = files()[module]

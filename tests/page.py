@@ -119,7 +119,7 @@ def faults_of_spoiled(module, groups, room):
     spoiled = os.path.join(room, "spoiled.wasm")
     with open(spoiled, "wb") as file:
         file.write(module.replace(SAID, NEVER_SAID))
-    with Served(spoiled, count=1) as served:
+    with Served(spoiled) as served:
         fails = any(judging.faults_told(lambda: work(served)) for _, works in groups for _, work in works)
     return [] if fails else ["with %s in place of %s it passes" % (NEVER_SAID.decode(), SAID.decode())]
 

@@ -6,8 +6,8 @@ program of its own. A group is a name and its works: pairs of a name and a funct
 import base64
 import json
 import os
-import queue
 import subprocess
+import threading
 import typing
 
 import judging
@@ -22,32 +22,27 @@ SEED = 48
 
 
 class Served:
-    """The page's program with this module, by processes of Node that go on."""
+    """The page's program with this module, by a process of Node that goes on. One is enough: each compiles the module for itself, which takes
+    longer than all its answers."""
 
-    def __init__(self, module, count=os.cpu_count(), flags=()):
+    def __init__(self, module, flags=()):
         words = ["node", "--no-warnings", *flags, PAGE_PROGRAM, "--serve"]
-        self.free = queue.Queue()
-        for _ in range(count):
-            self.free.put(subprocess.Popen(words, stdin=subprocess.PIPE, stdout=subprocess.PIPE, env=dict(os.environ, TSO_MODULE=module)))
+        self.server = subprocess.Popen(words, stdin=subprocess.PIPE, stdout=subprocess.PIPE, env=dict(os.environ, TSO_MODULE=module))
+        self.turn = threading.Lock()
 
     def __enter__(self):
         return self
 
     def __exit__(self, *_):
-        while not self.free.empty():
-            server = self.free.get()
-            server.stdin.close()
-            server.wait()
+        self.server.stdin.close()
+        self.server.wait()
 
     def run(self, words, given):
-        server = self.free.get()
-        try:
-            call = {"words": words, "input": base64.b64encode(given).decode()}
-            server.stdin.write(json.dumps(call).encode() + b"\n")
-            server.stdin.flush()
-            answer = json.loads(server.stdout.readline())
-        finally:
-            self.free.put(server)
+        call = {"words": words, "input": base64.b64encode(given).decode()}
+        with self.turn:
+            self.server.stdin.write(json.dumps(call).encode() + b"\n")
+            self.server.stdin.flush()
+            answer = json.loads(self.server.stdout.readline())
         return subprocess.CompletedProcess(words, answer["status"], base64.b64decode(answer["output"]), base64.b64decode(answer["errors"]))
 
 

@@ -17,6 +17,10 @@ CLAUSE = re.compile(r"^( *)(" + WORD + r")((?: [^=]*)?) =(?= |$)")
 # What an answer calls the record of all that is known at its goal.
 CONTEXTS = ("c", "given")
 RESERVED = {"use", "let", "in", "elim", "record", "data", "module", "mod", "rw", "where", "abbrev", "pub"}
+# What stands after a definition's name in the head of an equation.
+HEAD = re.compile(r"(?: [^=→:]*)? = ")
+BLOCK = re.compile(r" *(module|(?:pub )?data|(?:pub )?record) ")
+is_word, is_field = re.compile(WORD).fullmatch, re.compile(r"\." + WORD).fullmatch
 LET = re.compile(r"\blet (" + WORD + r")( : )?")
 FUNCTION = re.compile(r"^(?:    )?pub(?:\(crate\))? (?:const )?(?:extern \"C\" )?fn (\w+)\b(.*?)^(?:    )?(?:\{|\}$)", re.M | re.S)
 ENSURES = re.compile(r"^ +ensures (?:(\w+) )?\{ (.*?) \}(?=\n +(?:ensures|requires)|\n *$|\n *\{|\s*\Z)", re.M | re.S)
@@ -60,9 +64,21 @@ def abbreviations():
     for module, file in believed.files().items():
         for name, definition in file.definitions.items():
             body = " ".join(definition.text)
-            equations = re.findall(r"(?:^|\s)" + re.escape(name) + r"(?: [^=→:]*)? = ", body)
-            if len(equations) == 1 and (module, name) not in records():
-                found[module, name] = (Scope(module, file.imports), tokens(body.partition(equations[0])[2]))
+            ends = ends_of_heads(name, body)
+            if len(ends) == 1 and (module, name) not in records():
+                found[module, name] = (Scope(module, file.imports), tokens(body[ends[0]:]))
+    return found
+
+
+def ends_of_heads(name, body):
+    """Where the heads of this name's equations end in a text, each with its ` = `."""
+    found, at, end = [], body.find(name), -1
+    while at >= 0:
+        head = HEAD.match(body, at + len(name)) if at == 0 or at > end and body[at - 1].isspace() else None
+        if head:
+            end = head.end()
+            found.append(end)
+        at = body.find(name, at + 1)
     return found
 
 
@@ -99,6 +115,7 @@ class Source:
                     name, _, other = item.strip().partition(" as ")
                     self.imports[other or name] = handed_on(found.group(2)).get(name, (found.group(2), name))
         self.scope = Scope(self.module, self.imports)
+        self.blocks = blocks(self.lines)
 
 
 @lru_cache(None)
@@ -116,7 +133,7 @@ def blocks(lines):
     found = []
     for line in lines:
         begins = (SIGNATURE.match(line) or CLAUSE.match(line)) and line.split()[0] not in ("let", "record", "elim", "|", "rw")
-        if begins or re.match(r" *(module|(?:pub )?data|(?:pub )?record) ", line):
+        if begins or BLOCK.match(line):
             found.append([len(line) - len(line.lstrip()), line.strip()])
         elif found:
             found[-1][1] += " " + line.strip()
@@ -128,7 +145,7 @@ def lemmas():
     """The statements of lemmas and of constructors: by the module and the name the scope, and the words."""
     found = {}
     for source in sources():
-        for _, text in blocks(source.lines):
+        for _, text in source.blocks:
             signature = SIGNATURE.match(text)
             if signature:
                 found[source.module, signature.group(3)] = (source.scope, tokens(text[signature.end():]))
@@ -198,7 +215,7 @@ class Typing:
     def whole(words):
         name = words[0]
         for word in words[1:]:
-            if not re.fullmatch(r"\." + WORD, word):
+            if not is_field(word):
                 break
             name += word
         return name
@@ -252,7 +269,7 @@ class Typing:
         elif words[0] in CONTEXTS and words[0] not in known:
             kind, read = self.ensured(words)
             rest = words[read or 1:]
-        elif re.fullmatch(WORD, words[0]) and words[0] not in RESERVED:
+        elif is_word(words[0]) and words[0] not in RESERVED:
             kind, rest = self.statement_of(words[0], known), words[1:]
         else:
             return None
@@ -270,7 +287,7 @@ class Typing:
             after = end + 1
             while after < len(words) and words[after].startswith(".") and words[after] != ".":
                 after += 1
-            if after > end + 1 and (words[at] == "(" or re.fullmatch(WORD, words[at])):
+            if after > end + 1 and (words[at] == "(" or is_word(words[at])):
                 self.value(words[at:after], known)
             at += 1
 
@@ -284,7 +301,7 @@ class Typing:
         for pattern, (_, kind) in zip(patterns, arguments(words)[0]):
             pattern = bare(pattern)
             kind = bare(kind)
-            if len(pattern) == 1 and re.fullmatch(WORD, pattern[0]):
+            if len(pattern) == 1 and is_word(pattern[0]):
                 known[pattern[0]] = (scope, kind)
             elif len(pattern) == 2 and pattern[0] == "Some" and kind[:1] == ["Option"]:
                 known[pattern[1]] = (scope, kind[1:])
@@ -321,7 +338,7 @@ class Typing:
     def go(self):
         """Goes through the file, and answers what it takes up."""
         frames, statements = [], {}
-        for indent, text in blocks(self.source.lines):
+        for indent, text in self.source.blocks:
             while frames and frames[-1][0] >= indent:
                 frames.pop()
             known = dict(frames[-1][1]) if frames else {}
