@@ -119,6 +119,7 @@ def fact(text, key):
 
 FEW_CANDIDATES = 2_000
 
+
 def fault_of_states(text):
     """What is wrong with the final states that theory allows, held against those of the plain search."""
     test = litmus.read_test(text)
