@@ -1,5 +1,6 @@
-use Rattle.snoop_bus.proofs.Vocabulary.{rules, refl, true, ◌<◌, counted_copies_of}
+use Rattle.snoop_bus.proofs.Vocabulary.{refl, true, ◌<◌, counted_copies_of, ap, length, ◌∙◌}
 use Rattle.snoop_bus.proofs.CallLemmas.{bus_ready, free_or_hit, loc_in, write_word, write_done}
+use Rattle.snoop_bus.proofs.MemoryLemmas.{length-whole}
 use Rattle.snoop_bus.proofs.NewLemmas.{bus-written, same_cores}
 use Rattle.snoop_bus.proofs.bus.SnoopBus.update.Goals as goal
 
@@ -26,7 +27,8 @@ returns-clause-done g c =
 pub invariant_of-self : goal.invariant_of-self
 invariant_of-self g c =
     let within : c.args.loc.0 < c.self.inside.locations = loc_in c.self.inside.shape.words c.self.inside.locations (counted_copies_of c.self.inside.held c.self.inside.hierarchy.caches.items) c.self.inside.hierarchy.memory.items c.args.loc.0 (rw (← c.self.view_is) at c.requires.loc) in
-    (bus-written (g.P.Protocol.table c.self.inside.protocol) c.self.inside.held c.update.result c.self.inside.shape c.self.inside.locations c.self.inside.hierarchy c.update.new.self c.args.core.0 c.args.loc.0 c.self.invariant (search rules) within
+    (bus-written (g.P.Protocol.table c.self.inside.protocol) c.self.inside.held c.update.result c.self.inside.shape c.self.inside.locations c.self.inside.hierarchy c.update.new.self c.args.core.0 c.args.loc.0 c.self.invariant
+    (ap length c.update.ensures.ok.made.memory ∙ length-whole (g.P.Protocol.table c.self.inside.protocol) true c.target_of-target.result.core c.target_of-target.result.line c.self.inside.hierarchy.caches.items c.self.inside.hierarchy.memory.items) within
     c.update.ensures.coherent c.update.ensures.awaited c.update.ensures.ways
     (rw (c.target_of-target.ensures.value) at c.update.ensures.ok))
 

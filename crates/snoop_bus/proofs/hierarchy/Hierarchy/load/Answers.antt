@@ -1,5 +1,5 @@
-use Rattle.snoop_bus.proofs.Vocabulary.{◌≡◌, Some, [], ◌∙◌, get_or_default, copy_at, option_copied}
-use Rattle.snoop_bus.proofs.AcquireCalls.{own_found, is_free, kept_alone}
+use Rattle.snoop_bus.proofs.Vocabulary.{◌≡◌, Some, None, [], ◌∙◌, get_or_default, copy_at, option_copied}
+use Rattle.snoop_bus.proofs.AcquireCalls.{own_found, own_absent, is_free, ready_alone, kept_alone}
 use Rattle.snoop_bus.proofs.HitLemmas.{load_hit}
 use Rattle.snoop_bus.proofs.hierarchy.Hierarchy.load.Goals as goal
 
@@ -20,3 +20,12 @@ returns-in-Some-clause-kept g c =
 
 pub returns-clause-kept : goal.returns-clause-kept
 returns-clause-kept g c = kept_alone c.args.held (is_free c.args.held c.if-prove.ensures) c.args.self.now.caches.items c.load_miss.new.self.caches.items c.args.self.now.memory.items c.load_miss.new.self.memory.items c.load_miss.ensures.words
+
+pub load_miss-requires : goal.load_miss-requires
+load_miss-requires g c =
+    let free : c.args.held ≡ None = is_free c.args.held c.if-prove.ensures in
+    record {
+      ready = ready_alone c.args.held free c.args.target.core c.args.target.line c.args.self.now c.requires.ready;
+      offset = c.requires.offset;
+      absent = own_absent c.args.self.now.caches.items c.args.target.core c.args.target.line c.index.result.now (option_copied c.look.result) c.requires.ready.core_in c.index.ensures c.look.ensures.found c.in_default.ensures;
+    }

@@ -2,6 +2,7 @@ use Rattle.snoop_bus.proofs.Vocabulary.{◌<◌, false, Some, length, [], ap, re
 use Rattle.snoop_bus.proofs.HeldLemmas.{same_sets}
 use Rattle.snoop_bus.proofs.MemoryLemmas.{length-asked}
 use Rattle.snoop_bus.proofs.NewLemmas.{same_cores}
+use Rattle.snoop_bus.proofs.SettleAll.{keeps-more}
 use Rattle.snoop_bus.proofs.TwoHalves.{load-in_halves}
 use Rattle.snoop_bus.proofs.UpgradeAsk.{load_asks, load_ask-tags, load_ask-awaits}
 use Rattle.snoop_bus.proofs.hierarchy.Hierarchy.load_miss.Goals as goal
@@ -34,3 +35,14 @@ returns-clause-ok g c =
       completes = c.complete_load.ensures.ok;
     })
     c.requires.absent c.complete_load.ensures.word
+
+pub ask_load-transaction-requires-clause-some_set : goal.ask_load-transaction-requires-clause-some_set
+ask_load-transaction-requires-clause-some_set g c =
+    let here = c.index.ensures ∙ get_or_default c.args.self.now.caches.items c.args.target.core c.index.result.now [] c.requires.ready.core_in in
+    rw here at c.know_sets.ensures.some
+
+pub returns-clause-words : goal.returns-clause-words
+returns-clause-words g c =
+    keeps-more c.args.self.now.caches.items _ c.complete_load.new.self.caches.items c.args.self.now.memory.items c.ask_load-transaction.new.self.memory.items c.complete_load.new.self.memory.items
+    (ap length c.ask_load-transaction.ensures.memory ∙ length-asked (g.P.Protocol.table c.args.protocol.now) GetS c.args.target.line c.args.self.now.caches.items c.args.self.now.memory.items)
+    c.ask_load-transaction.ensures.words c.complete_load.ensures.words

@@ -27,3 +27,11 @@ returns-clause-tags g c =
     let all : c.loop-core.core ≡ length (tags_of c.args.self.now.caches.items) = rw (length-tags c.args.self.now.caches.items) (omega arith) in
     tags-all (tags_of c.args.self.now.caches.items) (tags_of c.loop-core.self.caches.items) (rw (length-tags c.args.self.now.caches.items, length-tags c.loop-core.self.caches.items) same)
     (subst (λ (n : ℕ). (i : ℕ) → sets_of (tags_of c.loop-core.self.caches.items) i ≡ (if nat_lt i n then map cleaned (sets_of (tags_of c.args.self.now.caches.items) i) else sets_of (tags_of c.args.self.now.caches.items) i)) all c.loop-core.invariant.tags)
+
+pub settle_at-requires-clause-core : goal.settle_at-requires-clause-core
+settle_at-requires-clause-core g c =
+    let same : length c.loop-core.self.caches.items ≡ length c.args.self.now.caches.items = same_cores c.args.self.now.caches.items c.loop-core.self.caches.items c.loop-core.invariant.words.ways in
+    omega arith
+
+pub settle_at-requires-clause-few : goal.settle_at-requires-clause-few
+settle_at-requires-clause-few g c = rw c.loop-core.invariant.size c.requires.few

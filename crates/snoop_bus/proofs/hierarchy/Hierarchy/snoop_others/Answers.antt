@@ -1,4 +1,4 @@
-use Rattle.snoop_bus.proofs.Vocabulary.{arith, ◌≡◌, ℕ, length, refl, subst, ◌∙◌, snoop_column, SeenBelow, LeftBelow}
+use Rattle.snoop_bus.proofs.Vocabulary.{arith, ◌≡◌, ◌<◌, ℕ, length, refl, subst, ◌∙◌, snoop_column, SeenBelow, LeftBelow}
 use Rattle.snoop_bus.proofs.CacheTags.{tags-requested}
 use Rattle.snoop_bus.proofs.NewLemmas.{same_cores}
 use Rattle.snoop_bus.proofs.SnoopLemmas.{seen-none, seen-more, own-unseen, left-none, left-more, left-all}
@@ -37,3 +37,14 @@ returns-clause-copies g c =
     let all : c.loop-other.other ≡ length c.args.self.now.caches.items = omega arith in
     left-all on c.args.core c.args.line c.args.self.now.caches.items c.loop-other.self.caches.items
     (subst (λ (n : ℕ). LeftBelow n on c.args.core c.args.line c.args.self.now.caches.items c.loop-other.self.caches.items) all c.loop-other.invariant.copies)
+
+pub snoop_at-requires-clause-other : goal.snoop_at-requires-clause-other
+snoop_at-requires-clause-other g c =
+    let same : length c.loop-other.self.caches.items ≡ length c.args.self.now.caches.items = same_cores c.args.self.now.caches.items c.loop-other.self.caches.items c.loop-other.invariant.ways in
+    omega arith
+
+pub returns-clause-ways : goal.returns-clause-ways
+returns-clause-ways g c = c.loop-other.invariant.ways
+
+pub returns-clause-memory : goal.returns-clause-memory
+returns-clause-memory g c = c.loop-other.invariant.memory
