@@ -1,5 +1,11 @@
+use Rattle.snoop_bus.proofs.Vocabulary.{◌≡◌, Option, Some, None, IsSome, refl, in_place, M, Line, state_of_copy, copy_at}
 use Rattle.snoop_bus.proofs.AcquireAsked.{hit_acquired, kept_words, upgrade_acquired}
 use Rattle.snoop_bus.proofs.hierarchy.Hierarchy.acquire_asked.Goals as goal
+
+-- a copy that is written in place is there
+placed_there : (o : Option Line) → in_place (state_of_copy o) ≡ Some M → IsSome o
+placed_there None w = cc
+placed_there (Some copy) w = refl
 
 pub returns-in-None-clause-words : goal.returns-in-None-clause-words
 returns-in-None-clause-words g c =
@@ -21,3 +27,11 @@ returns-in-SmD-clause-words g c =
 pub returns-in-SmD-clause-found : goal.returns-in-SmD-clause-found
 returns-in-SmD-clause-found g c =
     rw c.in-Some.is (kept_words c.args.self.now.caches.items c.args.self.now.memory.items c.args.core c.args.line c.in-Some.transaction.copy (rw c.in-Some.is at c.requires.awaited.coherent) c.requires.awaited.core_in c.requires.awaited.some_set c.requires.awaited.line_in)
+
+pub enter-requires-clause-present : goal.enter-requires-clause-present
+enter-requires-clause-present g c = placed_there (copy_at c.args.self.now.caches.items c.args.core c.args.line) (rw c.in-None.is at c.requires.awaited.awaits)
+
+pub returns-in-None-clause-own : goal.returns-in-None-clause-own
+returns-in-None-clause-own g c =
+    rw c.in-None.is (hit_acquired c.args.self.now.caches.items c.enter.new.self.caches.items c.args.self.now.memory.items c.args.core c.args.line
+    (rw c.in-None.is at c.requires.awaited.coherent) c.requires.awaited.line_in (rw c.in-None.is at c.requires.awaited.awaits) c.enter.ensures.copies c.enter.ensures.ways).0

@@ -28,3 +28,15 @@ returns-else-write-clause-awaited g c =
     (now_held c.args.self.now.caches.items c.ask_load.new.self.caches.items c.args.self.now.memory.items c.ask_load.new.self.memory.items c.args.wanted.core c.args.wanted.loc Load c.args.wanted.line (Some c.ask_load.result)
     c.ask_load.ensures.ways c.requires.ready.core_in some c.requires.ready.line_in (ap length c.ask_load.ensures.memory ∙ length-asked (g.P.Protocol.table c.args.protocol.now) GetS c.args.wanted.line c.args.self.now.caches.items c.args.self.now.memory.items)
     (load_ask-awaits (g.P.Protocol.table c.args.protocol.now) c.args.wanted.line (current_words c.args.self.now.caches.items c.args.self.now.memory.items c.args.wanted.line) (tags_of c.args.self.now.caches.items) (copy_at c.ask_load.new.self.caches.items c.args.wanted.core.0 c.args.wanted.line) c.ask_load.result c.ask_load.ensures.transaction (rw c.from-at.ensures at c.ask_load.ensures.own)))
+
+pub ask_write-transaction-requires : goal.ask_write-transaction-requires
+ask_write-transaction-requires g c =
+    let within : c.from-at.result < length c.args.self.now.caches.items = rw c.from-at.ensures c.requires.ready.core_in in
+    let here = c.index.ensures ∙ get_or_default c.args.self.now.caches.items c.from-at.result c.index.result.now [] within in
+    record { ready = rw c.from-at.ensures c.requires.ready; some_set = rw here at c.know_sets.ensures.some }
+
+pub ask_load-requires-clause-some_set : goal.ask_load-requires-clause-some_set
+ask_load-requires-clause-some_set g c =
+    let within : c.from-at.result < length c.args.self.now.caches.items = rw c.from-at.ensures c.requires.ready.core_in in
+    let here = c.index.ensures ∙ get_or_default c.args.self.now.caches.items c.from-at.result c.index.result.now [] within in
+    rw here at c.know_sets.ensures.some

@@ -56,3 +56,10 @@ returns-in-Some-transient-clause-words g c =
       left = c.snoop_others.ensures.copies;
       ways = c.snoop_others.ensures.ways;
     })
+
+pub ask_write_miss-requires : goal.ask_write_miss-requires
+ask_write_miss-requires g c = record {
+  ready = c.requires.ready;
+  some_set = c.requires.some_set;
+  absent = own_absent c.args.self.now.caches.items c.args.core c.args.line c.index.result.now (option_copied c.look.result) c.requires.ready.core_in c.index.ensures c.look.ensures.found c.in-None.ensures;
+}

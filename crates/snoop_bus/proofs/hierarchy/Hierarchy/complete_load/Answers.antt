@@ -1,0 +1,18 @@
+use Rattle.snoop_bus.proofs.hierarchy.Hierarchy.complete_load.Goals as goal
+
+pub fill_asked-access-requires : goal.fill_asked-access-requires
+fill_asked-access-requires g c =
+    let awaits = rw c.unwrap-transaction.ensures at c.requires.awaited.awaits in
+    record {
+      coherent = rw c.unwrap-transaction.ensures at c.requires.awaited.coherent;
+      core = c.requires.awaited.core_in;
+      some_set = c.requires.awaited.some_set;
+      line = c.requires.awaited.line_in;
+      absent = awaits.1;
+    }
+
+pub returns-clause-words : goal.returns-clause-words
+returns-clause-words g c = rw c.unwrap-transaction.ensures c.fill_asked-access.ensures.words
+
+pub returns-clause-ways : goal.returns-clause-ways
+returns-clause-ways g c = c.fill_asked-access.ensures.ways
