@@ -1,5 +1,5 @@
-use Rattle.machine_core.proofs.Vocabulary.{sym, refl, subst, drain_access, Drain, words_of, pending_in, effect_of_drain, SucceedsUnlessCommitting}
-use Rattle.machine_core.proofs.ChoiceEffects.{access_of-drain, effect_in-drain, may-make, IfOk-Makes, within-cores}
+use Rattle.machine_core.proofs.Vocabulary.{sym, refl, subst, ◌∙◌, drain_access, Drain, words_of, pending_in, effect_of_drain, SucceedsUnlessCommitting}
+use Rattle.machine_core.proofs.ChoiceEffects.{access_of-drain, effect_in-drain, may-make, IfOk-Makes, within-cores, IsCore-at, PartsFitTest-next}
 use Rattle.machine_core.proofs.Undoing.{acts-holder, undone}
 use Rattle.machine_core.proofs.hardware.act.Goals as goal
 
@@ -44,3 +44,14 @@ returns-in-Step-clause-makes g c = rw c.in-Step.is c.step.ensures.makes
 
 pub returns-in-Step-clause-succeeds : goal.returns-in-Step-clause-succeeds
 returns-in-Step-clause-succeeds g c = rw c.in-Step.is c.step.ensures.succeeds
+
+pub drain-requires-clause-stores : goal.drain-requires-clause-stores
+drain-requires-clause-stores g c =
+    let core = IsCore-at c.args.test.now c.args.hardware.now c.in-Drain.core.0 c.index_mut-processor.result.now c.requires.fits (rw c.in-Drain.is at c.requires.core) c.index_mut-processor.ensures.value in
+    core.known
+
+pub returns-in-Drain-clause-fits : goal.returns-in-Drain-clause-fits
+returns-in-Drain-clause-fits g c =
+    let core = IsCore-at c.args.test.now c.args.hardware.now c.in-Drain.core.0 c.index_mut-processor.result.now c.requires.fits (rw c.in-Drain.is at c.requires.core) c.index_mut-processor.ensures.value in
+    PartsFitTest-next c.args.test.now c.args.hardware.now _ c.in-Drain.core.0 c.drain.new.processor c.requires.fits refl refl
+    c.drain.ensures.sizes.cores c.drain.ensures.sizes.count (c.drain.ensures.depth ∙ core.depth_is) c.drain.ensures.stores

@@ -1,4 +1,4 @@
-use Rattle.machine_core.proofs.Vocabulary.{sym, ◌∙◌, ap, length}
+use Rattle.machine_core.proofs.Vocabulary.{◌≡◌, arith, sym, ◌∙◌, ap, length}
 use Rattle.machine_core.proofs.TallyLemmas.{flusher-next, few-next, tallied-next}
 use Rattle.machine_core.proofs.hardware.make_choice.Goals as goal
 
@@ -17,3 +17,13 @@ returns-clause-tallied g c =
     c.core_of.result.0 c.act_on_bus.new.hardware.counts.len c.deref_mut.result.now c.tally.new.counts _ c.requires.consistent.fits c.requires.core c.requires.consistent.holder c.requires.tallied c.in_ok-outcome.ensures.makes.ok
     c.in_ok-outcome.ensures.makes.caches c.core_of.ensures.chosen (c.deref_mut.ensures.value ∙ c.act_on_bus.ensures.keeps.counts) c.tally.ensures
     (c.act_on_bus.new.hardware.counts.ok.0 ∙ ap length (sym c.deref_mut.ensures.value))
+
+pub tally-requires-clause-core : goal.tally-requires-clause-core
+tally-requires-clause-core g c =
+    let cores : length c.args.hardware.now.counts.items ≡ length c.args.test.now.programs = c.requires.tallied.cores in
+    let same : length c.deref_mut.result.now ≡ length c.args.hardware.now.counts.items = ap length (c.deref_mut.ensures.value ∙ c.act_on_bus.ensures.keeps.counts) in
+    omega (arith, c.core_of.ensures.chosen, c.requires.core)
+
+pub returns-in_err-outcome-clause-tallied : goal.returns-in_err-outcome-clause-tallied
+returns-in_err-outcome-clause-tallied g c =
+    rw (c.in_err-outcome.ensures.err.state, c.in_err-outcome.ensures.err.bus, c.act_on_bus.ensures.keeps.counts) c.requires.tallied

@@ -1,7 +1,10 @@
-use Rattle.machine_core.proofs.Vocabulary.{◌≡◌, ap, sym, ◌∙◌, refl, subst, slice_get, None, Some, Ok, program_of, stalled, NoAccess, step_access, Step, Stalled, words_of, Unused, core_state, pending_in, own_access, step_by, SucceedsUnlessCommitting, action_of}
+use Rattle.machine_core.proofs.Vocabulary.{◌≡◌, ap, sym, length, ◌∙◌, refl, subst, slice_get, None, Some, Ok, program_of, stalled, NoAccess, step_access, Step, Stalled, words_of, Unused, core_state, pending_in, own_access, step_by, SucceedsUnlessCommitting, action_of}
 use Rattle.tso_model.specs.declared.choice.Stall.TheVariants as stall
+use Rattle.tso_model.specs.Litmus.{KnownLocation}
 use Rattle.machine_core.proofs.ActedLemmas.{acts-stalls}
 use Rattle.machine_core.proofs.ChoiceEffects.{access_of-step, access_of-done, effect_in-step, effect_in-done, may-make, whole-done, IfOk-Makes, PartsFitTest-next, IsCore-at, within-cores}
+use Rattle.machine_core.proofs.Finishing.{All-got}
+use Rattle.machine_core.proofs.StepCompletions.{place-within}
 use Rattle.machine_core.proofs.Undoing.{acts-holder, undone}
 use Rattle.machine_core.proofs.hardware.step.Goals as goal
 
@@ -68,3 +71,26 @@ returns-in-Some-clause-holder g c =
     let p = c.index_mut-processor.result.now in
     acts-holder c.step.result (record { core = c.args.core; way = c.args.way }) (own_access (action_of c.in-Some.instr) c.args.core.0 p) (step_by c.in-Some.instr) p c.step.new.processor c.args.hardware.now.bus c.step.new.bus
     c.args.hardware.now.commits c.step.new.commits c.step.ensures.acts
+
+pub returns-in-None-clause-fits : goal.returns-in-None-clause-fits
+returns-in-None-clause-fits g c =
+    let p = c.index_mut-processor.result.now in
+    let core = IsCore-at c.args.test.now c.args.hardware.now c.args.core.0 p c.requires.fits c.requires.core c.index_mut-processor.ensures.value in
+    PartsFitTest-next c.args.test.now c.args.hardware.now _ c.args.core.0 p c.requires.fits refl refl refl refl core.depth_is core.known
+
+pub step-requires-clause-place : goal.step-requires-clause-place
+step-requires-clause-place g c =
+    place-within c.program-program.result.now (Some c.in-Some.instr) c.in-Some.instr c.index_mut-processor.result.now.place c.in-Some.ensures refl c.program-program.ensures.size
+
+pub step-requires-clause-core : goal.step-requires-clause-core
+step-requires-clause-core g c = rw c.requires.fits.on_bus c.requires.core
+
+pub step-requires-clause-known : goal.step-requires-clause-known
+step-requires-clause-known g c =
+    rw c.requires.fits.words
+    (All-got (KnownLocation (length c.args.test.now.locations)) c.program-program.result.now c.index_mut-processor.result.now.place c.in-Some.instr c.program-program.ensures.locations (sym c.in-Some.ensures))
+
+pub step-requires-clause-stores : goal.step-requires-clause-stores
+step-requires-clause-stores g c =
+    let core = IsCore-at c.args.test.now c.args.hardware.now c.args.core.0 c.index_mut-processor.result.now c.requires.fits c.requires.core c.index_mut-processor.ensures.value in
+    core.known

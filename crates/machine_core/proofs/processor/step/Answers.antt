@@ -1,4 +1,4 @@
-use Rattle.machine_core.proofs.Vocabulary.{sym, ◌∙◌, words_of, Fence, Lock}
+use Rattle.machine_core.proofs.Vocabulary.{sym, ap, ◌∙◌, words_of, Fence, Lock}
 use Rattle.machine_core.proofs.Stepping.{access-store, access-load, access-lock, known-store, acts-store, acts-load, acts-set, acts-fence, acts-lock, succeeds-store, succeeds-load, succeeds-by}
 use Rattle.machine_core.proofs.processor.step.Goals as goal
 
@@ -53,3 +53,27 @@ returns-in-Lock-clause-acts g c =
 pub returns-in-Lock-clause-succeeds : goal.returns-in-Lock-clause-succeeds
 returns-in-Lock-clause-succeeds g c =
     succeeds-by c.args.turn c.args.instr c.args.processor.now c.args.bus.now c.read_and_write.result (words_of c.args.bus.now) (Lock c.in-Lock.loc c.in-Lock.reg c.in-Lock.update) (sym c.action.ensures ∙ c.in-Lock.is) c.read_and_write.ensures.succeeds
+
+pub returns-in-Load-clause-depth : goal.returns-in-Load-clause-depth
+returns-in-Load-clause-depth g c = ap (λ s. s.depth) c.load.ensures.stores
+
+pub returns-in-Load-clause-stores : goal.returns-in-Load-clause-stores
+returns-in-Load-clause-stores g c = rw c.load.ensures.stores c.requires.stores
+
+pub returns-in-Move-clause-depth : goal.returns-in-Move-clause-depth
+returns-in-Move-clause-depth g c = ap (λ p. p.stores.depth) c.set.ensures.after
+
+pub returns-in-Move-clause-stores : goal.returns-in-Move-clause-stores
+returns-in-Move-clause-stores g c = rw c.set.ensures.after c.requires.stores
+
+pub returns-in-Fence-clause-depth : goal.returns-in-Fence-clause-depth
+returns-in-Fence-clause-depth g c = ap (λ s. s.depth) c.fence.ensures.stores
+
+pub returns-in-Fence-clause-stores : goal.returns-in-Fence-clause-stores
+returns-in-Fence-clause-stores g c = rw c.fence.ensures.stores c.requires.stores
+
+pub returns-in-Lock-clause-depth : goal.returns-in-Lock-clause-depth
+returns-in-Lock-clause-depth g c = ap (λ s. s.depth) c.read_and_write.ensures.stores
+
+pub returns-in-Lock-clause-stores : goal.returns-in-Lock-clause-stores
+returns-in-Lock-clause-stores g c = rw c.read_and_write.ensures.stores c.requires.stores

@@ -1,4 +1,5 @@
-use Rattle.machine_core.proofs.Vocabulary.{ap, ◌∙◌, map, sym, subst, IsTrue, ArePaired, is_ended, state_in}
+use Rattle.machine_core.proofs.Vocabulary.{ap, ◌∙◌, length, map, sym, subst, IsTrue, ArePaired, is_ended, state_in, Processor}
+use Rattle.std.proofs.lemmas.List.{length-map}
 use Rattle.machine_core.proofs.RunningLemmas.{has-ended, free-bus}
 use Rattle.machine_core.proofs.Paired.{paired}
 use Rattle.machine_core.proofs.CoreLemmas.{registers-core_states}
@@ -26,3 +27,10 @@ build-requires g c =
     let free = c.what_holds_so_far_on_either_bus.ensures.free hardware.config.bus t hardware.config.depth hardware.commits.entries (state_in hardware) c.self.invariant.possible ended in
     let so_far = c.what_holds_so_far_on_either_bus.ensures.so_far hardware.config.bus t hardware.config.depth hardware.commits.entries (state_in hardware) c.self.invariant.possible in
     paired hardware.commits.entries (subst (ArePaired hardware.commits.entries) free so_far.pairs)
+
+pub returns-clause-cores : goal.returns-clause-cores
+returns-clause-cores g c =
+    ap length c.in_ok-state.ensures.registers ∙ length-map c.self.inside.hardware.processors.items (λ (p : Processor). p.registers) ∙ c.self.invariant.fits.cores ∙ ap (λ m. length m.test.programs) c.self.view_is
+
+pub returns-clause-locations : goal.returns-clause-locations
+returns-clause-locations g c = ap length c.in_ok-state.ensures.memory ∙ c.self.invariant.fits.words ∙ ap (λ m. length m.test.locations) c.self.view_is
