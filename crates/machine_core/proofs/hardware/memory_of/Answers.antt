@@ -1,4 +1,4 @@
-use Rattle.machine_core.proofs.Vocabulary.{◌∙◌, ◌++◌, ◌∷◌, [], ap, sym, memory_words_of}
+use Rattle.machine_core.proofs.Vocabulary.{arith, ◌∙◌, ◌++◌, ◌∷◌, [], ap, sym, memory_words_of}
 use Rattle.machine_core.proofs.CoreLemmas.{take-got}
 use Rattle.machine_core.proofs.hardware.memory_of.Goals as goal
 
@@ -6,3 +6,6 @@ pub loop-location-preserved : goal.loop-location-preserved
 loop-location-preserved g c =
     c.in_ok-push.ensures.items ∙ ap (λ xs. xs ++ c.memory_word.result ∷ []) c.loop-location.invariant
     ∙ sym (take-got (memory_words_of c.args.bus.now) c.loop-location.location c.memory_word.result c.memory_word.ensures.value)
+
+pub memory_word-requires : goal.memory_word-requires
+memory_word-requires g c = omega (arith, c.requires, c.loop-location-test.true)

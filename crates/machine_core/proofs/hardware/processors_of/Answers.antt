@@ -20,3 +20,6 @@ loop-core-preserved c = record {
       (IsCore-new c.args.depth locations (begun c) c.in_ok-stores.ensures));
   size = ap length c.in_ok-push.ensures.items ∙ length-append c.loop-core.processors.items (begun c ∷ []) ∙ ap (λ n. n + 1) c.loop-core.invariant.size;
 }
+
+pub initial_registers-registers-requires : goal.initial_registers-registers-requires
+initial_registers-registers-requires c = omega (arith, c.cores-core-end.ensures.value, c.loop-core-test.true)

@@ -1,4 +1,4 @@
-use Rattle.machine_core.proofs.Vocabulary.{refl, locked_access, words_of, pending_in, effect_of_lock, Whole}
+use Rattle.machine_core.proofs.Vocabulary.{arith, refl, locked_access, words_of, pending_in, effect_of_lock, Whole}
 use Rattle.tso_model.specs.declared.choice.Stall.TheVariants as stall
 use Rattle.machine_core.proofs.CoreLemmas.{lock-waits}
 use Rattle.machine_core.proofs.Locking.{acts-locks, lock-commits, may-lock}
@@ -34,3 +34,10 @@ returns-in_err-note_locked-clause-succeeds g c =
 pub update-requires-clause-free : goal.update-requires-clause-free
 update-requires-clause-free g c =
     may-lock c.args.core c.args.locked.loc c.args.processor.now c.args.bus.now (c.is_empty.ensures.0 c.if-not-is_empty.false) c.requires.access.free
+
+-- there is room for both parts
+pub returns-in_err-note_locked-clause-err : goal.returns-in_err-note_locked-clause-err
+returns-in_err-note_locked-clause-err g c =
+    let ok = c.note_locked.ensures.succeeds c.in_ok-make_room.ensures.ok in
+    let wrong = rw c.in_err-note_locked.was at ok in
+    absurd (let z : ⊥ = cc in z)
