@@ -1,6 +1,7 @@
 -- What is looked up on a machine, one after the other.
-use Rattle.trace_json.proofs.Vocabulary.{◌≡◌, ◌∙◌, ℕ, zero, suc, ◌+◌, ◌-◌, ◌<◌, List, [], ◌∷◌, ◌++◌, length, map, take, Some, None, option_map, slice_get, slice_index_or, refl, sym, ap, arith, length-append, unwrap_or, CoreState, idle, core_of, CachedLine, Running, registers_value, cached_lines_in}
-use Rattle.machine_core.specs.inner.Looking.{core_numbered, cached_line}
+use Rattle.trace_json.proofs.Vocabulary.{◌≡◌, ◌∙◌, ℕ, zero, suc, ◌+◌, ◌-◌, ◌<◌, List, [], ◌∷◌, ◌++◌, length, map, take, Some, None, option_map, slice_get, slice_index_or, refl, sym, ap, arith, length-append, length-map, unwrap_or, Data, view, Value, Litmus, CoreState, idle, core_of, Running, registers_value, store_text, cached_lines_in}
+use Rattle.trace_report.proofs.Looking.{pending-of}
+use Rattle.machine_core.specs.inner.Looking.{core_numbered, cached_line, pending_at}
 
 -- ---- a list read one after the other
 read-on : {A : Type 0} (n : ℕ) (xs done : List A) (x : A) → n ≡ length done → Some x ≡ slice_get xs n → done ≡ take n xs → done ++ x ∷ [] ≡ take (n + 1) xs
@@ -26,23 +27,43 @@ mapped f [] n = refl
 mapped f (x ∷ xs) zero = refl
 mapped f (x ∷ xs) (suc n) = mapped f xs n
 
--- ---- the copies of a set
+-- ---- values made of such a list
 
-copy-at : (m : Running) (core set rank : ℕ) → cached_line m core set rank ≡ slice_get (cached_lines_in m core set) rank
+one-more : (values after : List Value) (d : Data) → map view after ≡ map view values ++ d ∷ [] → length after ≡ length values + 1
+one-more values after d pushed = sym (length-map after view) ∙ (ap length pushed ∙ (length-append (map view values) (d ∷ []) ∙ ap (λ k. k + 1) (length-map values view)))
+
+pub next-read : {A : Type 0} (f : A → Data) (xs : List A) (n : ℕ) (values after : List Value) (x : A) → n ≡ length values → Some x ≡ slice_get xs n
+    → map view after ≡ map view values ++ f x ∷ [] → map view values ≡ take (length values) (map f xs) → map view after ≡ take (length after) (map f xs)
+next-read f xs n values after x many found pushed so_far =
+    let all = map f xs in
+    let size : length after ≡ n + 1 = one-more values after (f x) pushed ∙ ap (λ k. k + 1) (sym many) in
+    let there : Some (f x) ≡ slice_get all n = ap (option_map f) found ∙ mapped f xs n in
+    pushed ∙ (read-on n all (map view values) (f x) (many ∙ sym (length-map values view)) there (so_far ∙ ap (λ k. take k all) (sym many)) ∙ ap (λ k. take k all) (sym size))
+
+pub all-read : {A : Type 0} (f : A → Data) (xs : List A) (n : ℕ) (values : List Value) → n ≡ length values → None ≡ slice_get xs n
+    → map view values ≡ take (length values) (map f xs) → map view values ≡ map f xs
+all-read f xs n values many none so_far =
+    so_far ∙ (ap (λ k. take k (map f xs)) (sym many) ∙ read-all n (map f xs) (ap (option_map f) none ∙ mapped f xs n))
+
+within : {A : Type 0} (xs : List A) (n : ℕ) (x : A) → Some x ≡ slice_get xs n → n < length xs
+within [] n x found = absurd cc
+within (y ∷ ys) zero x found = omega arith
+within (y ∷ ys) (suc n) x found = let l = within ys n x found in omega (arith, l)
+
+pub fewer-left : {A : Type 0} (f : A → Data) (xs : List A) (n : ℕ) (values after : List Value) (x : A) → n ≡ length values → Some x ≡ slice_get xs n
+    → map view after ≡ map view values ++ f x ∷ [] → length xs - length after < length xs - length values
+fewer-left f xs n values after x many found pushed =
+    let l = within xs n x found in
+    let size = one-more values after (f x) pushed in
+    omega (arith, l, many, size)
+
+-- a copy of a set, and a text of a pending store, as they stand in such lists
+pub copy-at : (m : Running) (core set rank : ℕ) → cached_line m core set rank ≡ slice_get (cached_lines_in m core set) rank
 copy-at m core set rank = mapped _ _ rank
 
-pub next-copy : (m : Running) (core set n : ℕ) (done : List CachedLine) (x : CachedLine) → n ≡ length done → Some x ≡ cached_line m core set n
-    → done ≡ take (length done) (cached_lines_in m core set) → done ++ x ∷ [] ≡ take (length (done ++ x ∷ [])) (cached_lines_in m core set)
-next-copy m core set n done x many found so_far =
-    let all = cached_lines_in m core set in
-    let size : length (done ++ x ∷ []) ≡ n + 1 = length-append done (x ∷ []) ∙ ap (λ k. k + 1) (sym many) in
-    read-on n all done x many (found ∙ copy-at m core set n) (so_far ∙ ap (λ k. take k all) (sym many)) ∙ ap (λ k. take k all) (sym size)
-
-pub all-copies : (m : Running) (core set n : ℕ) (done : List CachedLine) → n ≡ length done → None ≡ cached_line m core set n
-    → done ≡ take (length done) (cached_lines_in m core set) → done ≡ cached_lines_in m core set
-all-copies m core set n done many none so_far =
-    let all = cached_lines_in m core set in
-    so_far ∙ (ap (λ k. take k all) (sym many) ∙ read-all n all (none ∙ copy-at m core set n))
+pub store-at : (t : Litmus) (m : Running) (core number : ℕ)
+    → option_map (store_text t) (pending_at m core number) ≡ slice_get (map (store_text t) (core_of m.state.flat core).pending) number
+store-at t m core number = ap (option_map (store_text t)) (pending-of m core number) ∙ mapped (store_text t) (core_of m.state.flat core).pending number
 
 -- ---- a core's registers
 
@@ -55,17 +76,3 @@ registers-in (s ∷ ss) (suc i) = registers-in ss i
 pub registers-of : (m : Running) (core : ℕ)
     → registers_value (unwrap_or (option_map (λ (s : CoreState). s.registers) (core_numbered m core)) (0 ∷ 0 ∷ 0 ∷ 0 ∷ 0 ∷ 0 ∷ [])) ≡ registers_value (core_of m.state.flat core).registers
 registers-of m core = registers-in m.state.flat.cores core
-
--- ---- how many are left
-
-copy-within : (xs : List CachedLine) (n : ℕ) (x : CachedLine) → Some x ≡ slice_get xs n → n < length xs
-copy-within [] n x found = absurd cc
-copy-within (y ∷ ys) zero x found = omega arith
-copy-within (y ∷ ys) (suc n) x found = let l = copy-within ys n x found in omega (arith, l)
-
-pub one-copy-fewer : (m : Running) (core set n : ℕ) (done after : List CachedLine) (x : CachedLine) → n ≡ length done → Some x ≡ cached_line m core set n → after ≡ done ++ x ∷ []
-    → length (cached_lines_in m core set) - length after < length (cached_lines_in m core set) - length done
-one-copy-fewer m core set n done after x many found pushed =
-    let l = copy-within (cached_lines_in m core set) n x (found ∙ copy-at m core set n) in
-    let size : length after ≡ length done + 1 = ap length pushed ∙ length-append done (x ∷ []) in
-    omega (arith, l, many, size)

@@ -1,5 +1,5 @@
 -- The names that the proofs of this crate bring in from definitions and from crates below; each file takes its own from here.
-pub use Rattle.std.proofs.Common.{◌≡◌, ℕ, zero, suc, ◌+◌, Bool, true, false, ◌||◌, if◌then◌else◌, List, [], ◌∷◌, map, take, length, ◌/◌, Option, Some, None, refl, ◌∙◌, ◌-◌, ◌<◌, ◌++◌, option_map, slice_get, slice_index_or, sym, ap, arith, length-append, ◌*◌, ◌≤◌, min, drop, get_or, append_assoc, append-nil, ◌%◌, slice_index, inl, inr, subst, rules, String, Global, Vec, string_bytes, ◌&&◌, not, slice_set, ◌≢◌, All, IfSome}
+pub use Rattle.std.proofs.Common.{◌≡◌, ℕ, zero, suc, ◌+◌, Bool, true, false, ◌||◌, if◌then◌else◌, List, [], ◌∷◌, map, take, length, ◌/◌, Option, Some, None, refl, ◌∙◌, ◌-◌, ◌<◌, ◌++◌, option_map, slice_get, slice_index_or, sym, ap, arith, length-append, ◌*◌, ◌≤◌, min, drop, get_or, append_assoc, append-nil, ◌%◌, slice_index, inl, inr, subst, rules, String, Global, Vec, string_bytes, ◌&&◌, not, slice_set, ◌≢◌, All, IfSome, codes}
 pub use Rattle.std.specs.Ordering.{nat_cmp, match_ordering}
 pub use Rattle.std.specs.Cmp.Lexicographic.{slice_cmp}
 pub use Rattle.std.specs.declared.cmp.Ordering.{Ordering}
@@ -30,16 +30,19 @@ pub use Rattle.trace_json.specs.Supplied.{supplier_text, found_by, supplied_to, 
 pub use Rattle.trace_json.specs.TraceJson.{Sourced, sourced_by, last_or, last_step_json, step_to, steps_json, start_json, trace_json, alone, trace_from, last_from}
 pub use Rattle.trace_json.specs.declared.supplied.Source.{Source}
 pub use Rattle.tso_model.specs.Condition.{Condition, condition_of}
+pub use Rattle.std.proofs.lemmas.Result.{on_ok_weaker}
+pub use Rattle.trace_json.specs.Proposition.{proposition_value}
+pub use Rattle.scheduler.specs.Printed.{printed_choice}
 pub use Rattle.trace_json.specs.Programs.{instruction_text, program_value, programs_value}
 pub use Rattle.trace_json.specs.TracedRun.{most_steps, with_trace_value}
 pub use Rattle.std.specs.Option.{unwrap_or}
-pub use Rattle.std.proofs.lemmas.List.{drop_all, length-drop, length-take, drop_more, get_or_past, map-append, take_more, take_all}
+pub use Rattle.std.proofs.lemmas.List.{drop_all, length-drop, length-map, length-take, drop_more, get_or_past, map-append, take_more, take_all}
 pub use Rattle.std.proofs.Math.ListN.{drop_of_length-le, length-set}
 pub use Rattle.std.proofs.lemmas.Option.{unwrap_or-slice_get}
 pub use Rattle.machine_core.specs.Caches.{Caches, at_access}
 pub use Rattle.trace_report.specs.Steps.{line_state, number_of_lines, trace_step_of, awaited_at, state_with}
 pub use Rattle.serde_json.specs.declared.value.Value.{Value, the_lemmas}
-pub use Rattle.trace_json.specs.inner.Looked.{IsMachineOfTest, told_last, sourced, HasMemory, trace_with}
+pub use Rattle.trace_json.specs.inner.Looked.{IsMachineOfTest, told_last, sourced, HasMemory, trace_with, core_members, core_parts}
 pub use Rattle.snoop_bus.specs.Geometry.{IsLineSize}
 pub use Rattle.trace_report.specs.Told.{IsTraced, IsTracedInStates}
 pub use Rattle.trace_report.specs.inner.Told.{IsLookedAt}

@@ -1,43 +1,40 @@
 //! The lines of a core's cache as a value, set by set and the most recently used first: so one sees which line would give
 //! way next.
 
-ghost use Rattle.std.specs.Prelude.{◌≡◌, ◌<◌, ◌≤◌, [], IfOk, OnOk, length, map, string_bytes};
+ghost use Rattle.std.specs.Prelude.{◌≡◌, ◌<◌, ◌≤◌, [], IfOk, OnOk, length, take};
 ghost use Rattle.serde_json.specs.Data.{array};
 ghost use Rattle.serde_json.specs.View.{view, members_view, items_of};
-ghost use Rattle.machine_core.specs.Looking.{bus_holder_of};
-ghost use Rattle.trace_report.specs.Lines.{names_in_line};
-ghost use Rattle.trace_report.specs.inner.Told.{IsLookedAt};
-ghost use Rattle.trace_json.specs.MachineJson.{copy_json, cached_lines_in, set_json, sets_json};
-ghost use Rattle.trace_json.specs.inner.Looked.{copy_members};
+ghost use Rattle.trace_report.specs.Lines.{line_name, names_in_line};
+ghost use Rattle.trace_json.specs.MachineJson.{copy_json, set_json, sets_json};
+ghost use Rattle.trace_json.specs.inner.Looked.{IsMachineOfTest, copy_members};
 
-use crate::texts::{array_of_numbers, line_text};
-use machine_core::{BusHolder, CachedLine, Machine};
+use crate::made::{push_made, put_made};
+use crate::moment::Moment;
+use crate::texts::line_value;
+use machine_core::CachedLine;
 use protocol_tables::Protocol;
 use serde_json::{Map, Value, put};
 use std::alloc::Global;
 use trace_report::names::state_name;
 use trace_report::states::line_state;
 use tso_model::{Core, NoMemory, Test};
+use tso_report::members::numbers_value;
 
-/// The lines of a core's cache with so many sets, by set, where lines have so many words.
+/// The lines of a core's cache, by set.
 ///
 /// Errors: out of memory only.
 pub fn sets_value<P: Protocol>(
     alloc: Global,
-    machine: &Machine<P>,
-    test: &Test,
-    words: u8,
-    sets: u8,
+    moment: &Moment<'_, '_, P>,
     core: Core,
 ) -> Result<Value, NoMemory>
-    requires looked { IsLookedAt test.now words machine.now }
-    requires core { core.0 < length test.now.programs }
-    requires line { words ≤ 4 }
-    ensures { IfOk result (λ value. view value ≡ array (items_of (sets_json machine.now core.0 0 sets))) }
+    requires shown { IsMachineOfTest moment.now.test.now moment.now.config moment.now.machine.now }
+    requires core { core.0 < length moment.now.test.now.programs }
+    ensures { IfOk result (λ value. view value ≡ array (items_of (sets_json moment.now.machine.now core.0 0 moment.now.config.shape.sets))) }
 {
     let mut values = Vec::new(alloc);
-    for set in 0..sets {
-        values.push(set_value(alloc, machine, test, words, core, set)?)?;
+    for set in 0..moment.config.sets() {
+        push_made(&mut values, set_value(alloc, moment, core, set))?;
     }
     Ok(Value::Array(values))
 }
@@ -45,100 +42,60 @@ pub fn sets_value<P: Protocol>(
 /// The lines of a core's set, the most recently used first.
 fn set_value<P: Protocol>(
     alloc: Global,
-    machine: &Machine<P>,
-    test: &Test,
-    words: u8,
+    moment: &Moment<'_, '_, P>,
     core: Core,
     set: u8,
 ) -> Result<Value, NoMemory>
-    requires looked { IsLookedAt test.now words machine.now }
-    requires core { core.0 < length test.now.programs }
-    requires line { words ≤ 4 }
-    ensures { IfOk result (λ value. view value ≡ set_json machine.now core.0 set) }
+    requires shown { IsMachineOfTest moment.now.test.now moment.now.config moment.now.machine.now }
+    requires core { core.0 < length moment.now.test.now.programs }
+    ensures { IfOk result (λ value. view value ≡ set_json moment.now.machine.now core.0 set) }
 {
-    let copies = cached_lines_in(alloc, machine, core, set)?;
-    copies_value(alloc, machine, test, words, core, &copies)
-}
-
-/// A core's copies of lines, in their order.
-fn copies_value<P: Protocol>(
-    alloc: Global,
-    machine: &Machine<P>,
-    test: &Test,
-    words: u8,
-    core: Core,
-    copies: &[CachedLine],
-) -> Result<Value, NoMemory>
-    requires looked { IsLookedAt test.now words machine.now }
-    requires core { core.0 < length test.now.programs }
-    requires line { words ≤ 4 }
-    ensures { IfOk result (λ value. view value ≡ array (items_of (map (copy_json machine.now core.0) copies.now))) }
-{
-    let holder = machine.bus_holder();
     let mut values = Vec::new(alloc);
-    for copy in copies {
-        values.push(copy_value(alloc, machine, holder, test, words, core, copy)?)?;
+    while let Some(copy) = moment.machine.cached_line(core, set, values.len()) {
+        push_made(&mut values, copy_value(alloc, moment, core, &copy))?;
     }
     Ok(Value::Array(values))
-}
-
-/// The copies of a core's set, the most recently used first.
-fn cached_lines_in<P: Protocol>(
-    alloc: Global,
-    machine: &Machine<P>,
-    core: Core,
-    set: u8,
-) -> Result<Vec<CachedLine>, NoMemory>
-    ensures { IfOk result (λ copies. copies.items ≡ cached_lines_in machine.now core.0 set) }
-{
-    let mut copies = Vec::new(alloc);
-    while let Some(copy) = machine.cached_line(core, set, copies.len()) {
-        copies.push(copy)?;
-    }
-    Ok(copies)
 }
 
 /// A core's copy of a line: the line's locations, what it is in, and their words.
 fn copy_value<P: Protocol>(
     alloc: Global,
-    machine: &Machine<P>,
-    holder: Option<BusHolder>,
-    test: &Test,
-    words: u8,
+    moment: &Moment<'_, '_, P>,
     core: Core,
     copy: &CachedLine,
 ) -> Result<Value, NoMemory>
-    requires looked { IsLookedAt test.now words machine.now }
-    requires holder { holder ≡ bus_holder_of machine.now }
-    requires core { core.0 < length test.now.programs }
-    requires line { words ≤ 4 }
-    ensures { IfOk result (λ value. view value ≡ copy_json machine.now core.0 copy.now) }
+    requires shown { IsMachineOfTest moment.now.test.now moment.now.config moment.now.machine.now }
+    requires core { core.0 < length moment.now.test.now.programs }
+    ensures { IfOk result (λ value. view value ≡ copy_json moment.now.machine.now core.0 copy.now) }
 {
-    let line = line_text(alloc, test, words, copy.line)?;
-    let state = state_name(line_state(machine, holder, words, core, copy.line));
-    let count = locations_in(test, words, copy.line);
+    let words = moment.config.words();
+    let holder = moment.machine.bus_holder();
+    let state = state_name(line_state(moment.machine, holder, words, core, copy.line));
     let mut members = Map::new(alloc);
-    put_copy(&mut members, alloc, line, state, &copy.words[..count])?;
+    put_copy(&mut members, alloc, moment.test, words, copy, state)?;
     Ok(Value::Object(members))
 }
 
-/// Puts what is told of a copy, by the names of its line and of what that is in, and the words of the line's locations.
+/// Puts what is told of a copy, where lines have so many words, by the name of what its line is in.
 fn put_copy(
     members: &mut Map<String, Value>,
     alloc: Global,
-    line: String,
+    test: &Test,
+    words: u8,
+    copy: &CachedLine,
     state: &str,
-    words: &[u32],
 ) -> Result<(), NoMemory>
-    requires { members.old.entries ≡ [] }
-    ensures { OnOk result (members_view members.new.entries ≡ copy_members (string_bytes line) state.now words.now) }
+    requires some { 0 < words }
+    requires line { words ≤ 4 }
+    requires empty { members.old.entries ≡ [] }
+    ensures { OnOk result (members_view members.new.entries
+        ≡ copy_members (line_name test.now words copy.now.line) state.now (take (length (names_in_line test.now.locations words copy.now.line)) copy.now.words)) }
 {
-    put(members, alloc, "line", Value::String(line))?;
+    put_made(members, alloc, "line", line_value(alloc, test, words, copy.line))?;
     let state = Value::try_from_str(alloc, state)?;
     put(members, alloc, "state", state)?;
-    let words = array_of_numbers(alloc, words)?;
-    put(members, alloc, "words", words)?;
-    Ok(())
+    let count = locations_in(test, words, copy.line);
+    put_made(members, alloc, "words", numbers_value(alloc, &copy.words[..count]))
 }
 
 /// How many locations a line has.

@@ -14,6 +14,7 @@ ghost use Rattle.trace_json.specs.inner.Looked.{sourced};
 ghost use Rattle.trace_json.specs.inner.Following.{CanFollow, Follows};
 
 use crate::machine::machine_value;
+use crate::moment::Moment;
 use crate::own_words::own_words;
 use crate::step::step_value;
 use crate::supplied::{Source, found_by, supplied_to};
@@ -127,7 +128,13 @@ impl<'t> Follower<'t> {
         requires { Follows self.now machine.now }
         ensures { IfOk result (λ value. view value ≡ machine_json machine.now self.now.memory.items) }
     {
-        machine_value(self.alloc, machine, self.test, self.config, &self.memory)
+        let moment = Moment {
+            machine,
+            test: self.test,
+            config: self.config,
+            memory: &self.memory,
+        };
+        machine_value(self.alloc, &moment)
     }
 
     /// The machine as the one before the first choice.

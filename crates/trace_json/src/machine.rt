@@ -1,15 +1,18 @@
 //! A machine between two choices as a value: all that can be seen of it, so that each step can be drawn by itself.
 
-ghost use Rattle.std.specs.Prelude.{◌≡◌, ◌<◌, [], IfOk, OnOk, length};
+ghost use Rattle.std.specs.Prelude.{◌≡◌, ◌<◌, [], IfOk, OnOk, length, option_map};
 ghost use Rattle.serde_json.specs.View.{view, members_view};
 ghost use Rattle.machine_core.specs.Looking.{bus_holder_of};
-ghost use Rattle.trace_report.specs.inner.Told.{IsLookedAt};
+ghost use Rattle.trace_report.specs.Lines.{transient_name};
+ghost use Rattle.trace_json.specs.Values.{text_or_null};
 ghost use Rattle.trace_json.specs.MachineJson.{words_in_line, words_on_bus, holder_json, bus_json, machine_json};
 ghost use Rattle.trace_json.specs.inner.Looked.{IsMachineOfTest, holder_members, machine_members};
 
 use crate::cores::cores_value;
-use crate::texts::{array_of_numbers, choice_text, line_text, name_or_null};
-use machine_core::{BusHolder, Choice, Config, Machine};
+use crate::made::put_made;
+use crate::moment::Moment;
+use crate::texts::{choice_value, line_value, name_or_null};
+use machine_core::{BusHolder, Machine};
 use protocol_tables::{Protocol, Transient};
 use serde_json::{Map, Value, put};
 use std::alloc::Global;
@@ -17,24 +20,22 @@ use trace_report::names::transient_name;
 use trace_report::step::core_of;
 use tso_model::{Loc, NoMemory, Test};
 use tso_report::json::memory_value;
+use tso_report::members::numbers_value;
 
-/// A machine whose memory has these words of its own: the bus, the cores, memory, and the words that a program sees.
+/// A machine at a moment: the bus, the cores, memory, and the words that a program sees.
 ///
 /// Errors: out of memory only.
 pub fn machine_value<P: Protocol>(
     alloc: Global,
-    machine: &Machine<P>,
-    test: &Test,
-    config: Config,
-    memory: &[u32],
+    moment: &Moment<'_, '_, P>,
 ) -> Result<Value, NoMemory>
-    requires shown { IsMachineOfTest test.now config machine.now }
-    requires memory { length memory.now ≡ length test.now.locations }
-    ensures { IfOk result (λ value. view value ≡ machine_json machine.now memory.now) }
+    requires shown { IsMachineOfTest moment.now.test.now moment.now.config moment.now.machine.now }
+    requires memory { length moment.now.memory.now ≡ length moment.now.test.now.locations }
+    ensures { IfOk result (λ value. view value ≡ machine_json moment.now.machine.now moment.now.memory.now) }
 {
-    let seen = seen_words(alloc, machine, test)?;
+    let seen = seen_words(alloc, moment.machine, moment.test)?;
     let mut members = Map::new(alloc);
-    put_machine(&mut members, alloc, machine, test, config, memory, &seen)?;
+    put_machine(&mut members, alloc, moment, &seen)?;
     Ok(Value::Object(members))
 }
 
@@ -42,27 +43,20 @@ pub fn machine_value<P: Protocol>(
 fn put_machine<P: Protocol>(
     members: &mut Map<String, Value>,
     alloc: Global,
-    machine: &Machine<P>,
-    test: &Test,
-    config: Config,
-    memory: &[u32],
+    moment: &Moment<'_, '_, P>,
     seen: &[u32],
 ) -> Result<(), NoMemory>
-    requires shown { IsMachineOfTest test.now config machine.now }
-    requires memory { length memory.now ≡ length test.now.locations }
-    requires seen { seen.now ≡ machine.now.state.flat.memory }
+    requires shown { IsMachineOfTest moment.now.test.now moment.now.config moment.now.machine.now }
+    requires memory { length moment.now.memory.now ≡ length moment.now.test.now.locations }
+    requires seen { seen.now ≡ moment.now.machine.now.state.flat.memory }
     requires empty { members.old.entries ≡ [] }
-    ensures { OnOk result (members_view members.new.entries ≡ machine_members machine.now memory.now) }
+    ensures { OnOk result (members_view members.new.entries ≡ machine_members moment.now.machine.now moment.now.memory.now) }
 {
-    let bus = bus_value(alloc, machine, test, config.words(), seen)?;
-    put(members, alloc, "bus", bus)?;
-    let cores = cores_value(alloc, machine, test, config)?;
-    put(members, alloc, "cores", cores)?;
-    let own = memory_value(alloc, test, memory)?;
-    put(members, alloc, "memory", own)?;
-    let seen = memory_value(alloc, test, seen)?;
-    put(members, alloc, "seen", seen)?;
-    Ok(())
+    put_made(members, alloc, "bus", bus_value(alloc, moment, seen))?;
+    put_made(members, alloc, "cores", cores_value(alloc, moment))?;
+    let own = memory_value(alloc, moment.test, moment.memory);
+    put_made(members, alloc, "memory", own)?;
+    put_made(members, alloc, "seen", memory_value(alloc, moment.test, seen))
 }
 
 /// The words that a program sees, one for each location of the test.
@@ -85,18 +79,16 @@ fn seen_words<P: Protocol>(
 /// The action that holds the bus, or `null` where nobody does.
 fn bus_value<P: Protocol>(
     alloc: Global,
-    machine: &Machine<P>,
-    test: &Test,
-    words: u8,
+    moment: &Moment<'_, '_, P>,
     seen: &[u32],
 ) -> Result<Value, NoMemory>
-    requires looked { IsLookedAt test.now words machine.now }
-    requires seen { seen.now ≡ machine.now.state.flat.memory }
-    ensures { IfOk result (λ value. view value ≡ bus_json machine.now (bus_holder_of machine.now)) }
+    requires shown { IsMachineOfTest moment.now.test.now moment.now.config moment.now.machine.now }
+    requires seen { seen.now ≡ moment.now.machine.now.state.flat.memory }
+    ensures { IfOk result (λ value. view value ≡ bus_json moment.now.machine.now (bus_holder_of moment.now.machine.now)) }
 {
-    match machine.bus_holder() {
+    match moment.machine.bus_holder() {
         None => Ok(Value::Null),
-        Some(holder) => holder_value(alloc, test, words, seen, holder),
+        Some(holder) => holder_value(alloc, moment.test, moment.config.words(), seen, holder),
     }
 }
 
@@ -131,18 +123,20 @@ fn put_holder(
     ensures { OnOk result (members_view members.new.entries ≡ holder_members test.now words seen.now holder) }
 {
     let line = holder.loc.0 / words;
-    let choice = choice_text(alloc, holder.choice)?;
-    put(members, alloc, "choice", Value::String(choice))?;
+    put_made(members, alloc, "choice", choice_value(alloc, holder.choice))?;
     let core = Value::from(core_of(holder.choice).0);
     put(members, alloc, "core", core)?;
-    let name = line_text(alloc, test, words, line)?;
-    put(members, alloc, "line", Value::String(name))?;
-    let state = name_or_null(alloc, holder.transient.map(transient_name))?;
-    put(members, alloc, "state", state)?;
+    put_made(members, alloc, "line", line_value(alloc, test, words, line))?;
+    put_made(members, alloc, "state", transient_value(alloc, holder.transient))?;
     let kept = words_on_bus(holder.transient, words_in_line(words, seen, line));
-    let kept = array_of_numbers(alloc, kept)?;
-    put(members, alloc, "words", kept)?;
-    Ok(())
+    put_made(members, alloc, "words", numbers_value(alloc, kept))
+}
+
+/// What the holder's line is in until its words come, or `null`.
+fn transient_value(alloc: Global, transient: Option<Transient>) -> Result<Value, NoMemory>
+    ensures { IfOk result (λ value. view value ≡ text_or_null (option_map transient_name transient)) }
+{
+    name_or_null(alloc, transient.map(transient_name))
 }
 
 /// The words that the bus keeps for its holder: none where nothing is awaited.

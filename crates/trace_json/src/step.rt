@@ -1,7 +1,7 @@
 //! What a choice did as a value: the members of a step, and `null` for what this choice has nothing of, so that each step
 //! has all of them.
 
-ghost use Rattle.std.specs.Prelude.{◌≡◌, ◌<◌, IfOk, OnOk, IfSome, All, map, option_map, string_bytes};
+ghost use Rattle.std.specs.Prelude.{◌≡◌, ◌<◌, IfOk, OnOk, IfSome, All, map, option_map};
 ghost use Rattle.serde_json.specs.Data.{string};
 ghost use Rattle.serde_json.specs.View.{view, members_view};
 ghost use Rattle.scheduler.specs.Printed.{printed_choice};
@@ -13,16 +13,18 @@ ghost use Rattle.trace_json.specs.Values.{text_or_null, array_of_texts};
 ghost use Rattle.trace_json.specs.StepJson.{outcome_word, stall_in, step_json};
 ghost use Rattle.trace_json.specs.inner.Stepped.{part_value, with_parts};
 
+use crate::made::{push_made, put_made};
 use crate::supplied::{Source, source_value};
-use crate::texts::{choice_text, line_text, name_or_null};
+use crate::texts::{choice_value, line_value, name_or_null, text_value};
 use serde_json::{Map, Value, put};
 use snoop_bus::AccessKind;
 use std::alloc::Global;
 use trace_report::names::{access_name, stall_name};
-use trace_report::text::{write_change, write_line_request, write_move};
+use trace_report::text::{write_change, write_line_request};
 use trace_report::{LineRequest, Moved, StateChange, Step};
-use tso_model::{Choice, Core, NoMemory, Outcome, Test};
+use tso_model::{Core, NoMemory, Outcome, Test};
 use tso_report::json::order_value;
+use tso_report::pieces::Piece;
 
 /// What stands under a key of a step's value.
 #[derive(Clone, Copy)]
@@ -119,8 +121,7 @@ fn put_parts(
         ≡ with_parts telling.now.test.now telling.now.words (shown_step telling.now.step.now) telling.now.supplied parts.now (members_view members.old.entries)) }
 {
     for (key, part) in parts {
-        let value = part_value(alloc, telling, *part)?;
-        put(members, alloc, key, value)?;
+        put_made(members, alloc, key, part_value(alloc, telling, *part))?;
     }
     Ok(())
 }
@@ -159,31 +160,27 @@ fn access_value(alloc: Global, access: Option<AccessKind>) -> Result<Value, NoMe
 fn flush_value(alloc: Global, flushed: Option<Core>) -> Result<Value, NoMemory>
     ensures { IfOk result (λ value. view value ≡ text_or_null (option_map printed_core flushed)) }
 {
-    let Some(core) = flushed else {
-        return Ok(Value::Null);
-    };
-    let core = core.0;
-    let mut text = String::new(alloc);
-    write!(text, "P{core}")?;
-    Ok(Value::String(text))
+    match flushed {
+        None => Ok(Value::Null),
+        Some(Core(core)) => text_value(alloc, &[Piece::Text("P"), Piece::Number(core as u64)]),
+    }
 }
 
 /// The register that a value was moved to, `EAX=5`.
 fn move_value(alloc: Global, moved: Option<Moved>) -> Result<Value, NoMemory>
     ensures { IfOk result (λ value. view value ≡ text_or_null (option_map printed_move moved)) }
 {
-    let Some(moved) = moved else {
-        return Ok(Value::Null);
-    };
-    let mut text = String::new(alloc);
-    write_move(&mut text, moved)?;
-    Ok(Value::String(text))
-}
-
-fn choice_value(alloc: Global, choice: Choice) -> Result<Value, NoMemory>
-    ensures { IfOk result (λ value. view value ≡ string (printed_choice choice)) }
-{
-    Ok(Value::String(choice_text(alloc, choice)?))
+    match moved {
+        None => Ok(Value::Null),
+        Some(Moved { reg, value }) => {
+            let pieces = [
+                Piece::Text(reg.name()),
+                Piece::Text("="),
+                Piece::Number(value as u64),
+            ];
+            text_value(alloc, &pieces)
+        }
+    }
 }
 
 fn outcome_value(alloc: Global, outcome: Outcome) -> Result<Value, NoMemory>
@@ -227,24 +224,24 @@ fn changes_value(
 {
     let mut values = Vec::new(alloc);
     for change in changes {
-        values.push(Value::String(change_text(alloc, test, words, *change)?))?;
+        push_made(&mut values, change_value(alloc, test, words, *change))?;
     }
     Ok(Value::Array(values))
 }
 
 /// A line whose state changed, `P1.x S>I`.
-fn change_text(
+fn change_value(
     alloc: Global,
     test: &Test,
     words: u8,
     change: StateChange,
-) -> Result<String, NoMemory>
+) -> Result<Value, NoMemory>
     requires { IsLine test.now words change.line }
-    ensures { IfOk result (λ text. string_bytes text ≡ printed_change test.now words change) }
+    ensures { IfOk result (λ value. view value ≡ string (printed_change test.now words change)) }
 {
     let mut text = String::new(alloc);
     write_change(&mut text, test, words, change)?;
-    Ok(text)
+    Ok(Value::String(text))
 }
 
 /// What went on the bus, `GetM x`.
@@ -278,5 +275,5 @@ fn write_back_value(
     let Some(line) = wrote_back else {
         return Ok(Value::Null);
     };
-    Ok(Value::String(line_text(alloc, test, words, line)?))
+    line_value(alloc, test, words, line)
 }

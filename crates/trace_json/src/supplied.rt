@@ -1,7 +1,7 @@
 //! Where the word that a choice reads is found. It is looked for on the machine before the choice: afterwards the copies have
 //! changed, and no longer tell which of them supplied the line. (Primer, chapters 6 and 7.)
 
-ghost use Rattle.std.specs.Prelude.{◌≡◌, ◌<◌, IfOk, length, option_map, string_bytes};
+ghost use Rattle.std.specs.Prelude.{◌≡◌, ◌<◌, IfOk, length, option_map};
 ghost use Rattle.serde_json.specs.View.{view};
 ghost use Rattle.machine_core.specs.inner.Keeping.{memory_access_in};
 ghost use Rattle.tso_model.specs.FlatMachine.{chosen};
@@ -11,6 +11,7 @@ ghost use Rattle.trace_json.specs.Supplied.{found_at, found_by, is_asked, line_r
 ghost use Rattle.trace_json.specs.Supplied.{supplier_or_memory, supplies};
 ghost use Rattle.trace_json.specs.Values.{text_or_null};
 
+use crate::texts::text_value;
 use machine_core::{Machine, MemoryAccess};
 use protocol_tables::{Protocol, State};
 use serde_json::Value;
@@ -18,6 +19,7 @@ use std::alloc::Global;
 use trace_report::Step;
 use trace_report::step::core_of;
 use tso_model::{Choice, Core, NoMemory, Outcome, Test};
+use tso_report::pieces::Piece;
 
 /// Where a core finds a word that it reads.
 #[derive(Clone, Copy)]
@@ -139,22 +141,14 @@ fn is_asked(outcome: Outcome) -> bool
 pub fn source_value(alloc: Global, supplied: Option<Source>) -> Result<Value, NoMemory>
     ensures { IfOk result (λ value. view value ≡ text_or_null (option_map supplier_text supplied)) }
 {
-    let Some(source) = supplied else {
-        return Ok(Value::Null);
-    };
-    Ok(Value::String(supplier_text(alloc, source)?))
-}
-
-fn supplier_text(alloc: Global, source: Source) -> Result<String, NoMemory>
-    ensures { IfOk result (λ text. string_bytes text ≡ supplier_text source) }
-{
-    let mut text = String::new(alloc);
-    match source {
-        Source::Buffer => write!(text, "buffer")?,
-        Source::Cache => write!(text, "cache")?,
-        Source::Other(Core(core)) => write!(text, "P{core}")?,
-        Source::Bus => write!(text, "bus")?,
-        Source::Memory => write!(text, "memory")?,
+    match supplied {
+        None => Ok(Value::Null),
+        Some(Source::Buffer) => text_value(alloc, &[Piece::Text("buffer")]),
+        Some(Source::Cache) => text_value(alloc, &[Piece::Text("cache")]),
+        Some(Source::Other(Core(core))) => {
+            text_value(alloc, &[Piece::Text("P"), Piece::Number(core as u64)])
+        }
+        Some(Source::Bus) => text_value(alloc, &[Piece::Text("bus")]),
+        Some(Source::Memory) => text_value(alloc, &[Piece::Text("memory")]),
     }
-    Ok(text)
 }

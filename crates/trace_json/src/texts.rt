@@ -1,25 +1,29 @@
-//! Texts and numbers as values, and lists of them.
+//! Texts as values.
 
-ghost use Rattle.std.specs.Prelude.{◌≡◌, ◌<◌, [], IfOk, map, option_map, slice_index_or, string_bytes};
+ghost use Rattle.std.specs.Prelude.{◌≡◌, ◌<◌, [], IfOk, option_map, slice_index_or, string_bytes};
+ghost use Rattle.std.specs.List.{flat_map};
+ghost use Rattle.serde_json.specs.Data.{string};
 ghost use Rattle.serde_json.specs.View.{view};
 ghost use Rattle.scheduler.specs.Printed.{printed_choice};
+ghost use Rattle.tso_report.specs.inner.Pieces.{line_piece};
 ghost use Rattle.trace_report.specs.Lines.{line_name, store_text};
-ghost use Rattle.trace_json.specs.Values.{array_of_numbers, text_or_null};
+ghost use Rattle.trace_json.specs.Values.{text_or_null};
 
-use scheduler::choices_text;
 use serde_json::Value;
 use std::alloc::Global;
 use trace_report::text::write_line_name;
-use tso_model::{Choice, Entry, Loc, NoMemory, Test};
+use tso_model::{Choice, Core, Entry, Loc, NoMemory, Test};
+use tso_report::pieces::{Piece, write_pieces};
 
-/// A text, or `null` where there is none.
-pub fn text_or_null(text: Option<String>) -> Value
-    ensures { view result ≡ text_or_null (option_map string_bytes text) }
+/// A text of these pieces, one after the other.
+///
+/// Errors: out of memory only.
+pub fn text_value(alloc: Global, pieces: &[Piece<'_>]) -> Result<Value, NoMemory>
+    ensures { IfOk result (λ value. view value ≡ string (flat_map line_piece pieces.now)) }
 {
-    match text {
-        None => Value::Null,
-        Some(text) => Value::String(text),
-    }
+    let mut text = String::new(alloc);
+    write_pieces(&mut text, pieces)?;
+    Ok(Value::String(text))
 }
 
 /// A name, or `null` where there is none.
@@ -34,53 +38,49 @@ pub fn name_or_null(alloc: Global, name: Option<&str>) -> Result<Value, NoMemory
     }
 }
 
-/// Numbers in a list.
-///
-/// Errors: out of memory only.
-pub fn array_of_numbers(alloc: Global, numbers: &[u32]) -> Result<Value, NoMemory>
-    ensures { IfOk result (λ value. view value ≡ array_of_numbers numbers.now) }
-{
-    let mut values = Vec::new(alloc);
-    for number in numbers {
-        values.push(Value::from(*number))?;
-    }
-    Ok(Value::Array(values))
-}
-
 /// A choice, `0s` or `0d`.
 ///
 /// Errors: out of memory only.
-pub fn choice_text(alloc: Global, choice: Choice) -> Result<String, NoMemory>
-    ensures { IfOk result (λ text. string_bytes text ≡ printed_choice choice) }
+pub fn choice_value(alloc: Global, choice: Choice) -> Result<Value, NoMemory>
+    ensures { IfOk result (λ value. view value ≡ string (printed_choice choice)) }
 {
-    choices_text(alloc, &[choice])
+    match choice {
+        Choice::Step(Core(core)) => {
+            text_value(alloc, &[Piece::Number(core as u64), Piece::Text("s")])
+        }
+        Choice::Drain(Core(core)) => {
+            text_value(alloc, &[Piece::Number(core as u64), Piece::Text("d")])
+        }
+    }
 }
 
 /// A line by the locations that it has, `x` or `x+y`, where lines have so many words. It is empty where the test
 /// has no such line.
 ///
 /// Errors: out of memory only.
-pub fn line_text(alloc: Global, test: &Test, words: u8, line: u8) -> Result<String, NoMemory>
+pub fn line_value(alloc: Global, test: &Test, words: u8, line: u8) -> Result<Value, NoMemory>
     requires { 0 < words }
-    ensures { IfOk result (λ text. string_bytes text ≡ line_name test.now words line) }
+    ensures { IfOk result (λ value. view value ≡ string (line_name test.now words line)) }
 {
     let mut name = String::new(alloc);
     if usize::from(line) * usize::from(words) < usize::from(test.locations()) {
         write_line_name(&mut name, test, words, line)?;
     }
-    Ok(name)
+    Ok(Value::String(name))
 }
 
 /// A pending store, `x=1`.
 ///
 /// Errors: out of memory only.
-pub fn store_text(alloc: Global, test: &Test, store: &Entry) -> Result<String, NoMemory>
-    ensures { IfOk result (λ text. string_bytes text ≡ store_text test.now store.now) }
+pub fn store_value(alloc: Global, test: &Test, store: Entry) -> Result<Value, NoMemory>
+    ensures { IfOk result (λ value. view value ≡ string (store_text test.now store)) }
 {
-    let mut text = String::new(alloc);
-    let (name, value) = (name_at(test, store.loc), store.value);
-    write!(text, "{name}={value}")?;
-    Ok(text)
+    let pieces = [
+        Piece::Text(name_at(test, store.loc)),
+        Piece::Text("="),
+        Piece::Number(store.value as u64),
+    ];
+    text_value(alloc, &pieces)
 }
 
 /// The name of a location. It is empty where the test has no such location.

@@ -13,6 +13,7 @@ ghost use Rattle.trace_json.specs.inner.Observing.{OpensTrace, AddsStep, OpensLa
 
 use crate::following::{Follower, SourcedStep};
 use crate::limited::Limited;
+use crate::made::push_made;
 use machine_core::{Choice, Machine, Outcome};
 use protocol_tables::Protocol;
 use scheduler::Stalls;
@@ -141,8 +142,8 @@ impl<'t> Observer for Tracer<'t> {
         choice: Choice,
     ) -> Result<Outcome, NoMemory> {
         let told = self.follower.tell(machine, choice)?;
-        let step = self.follower.step_to(machine, &told)?;
-        self.steps.push(step)?;
+        let step = self.follower.step_to(machine, &told);
+        push_made(&mut self.steps, step)?;
         Ok(told.step.outcome)
     }
 

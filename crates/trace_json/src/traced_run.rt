@@ -11,6 +11,7 @@ ghost use Rattle.simulator.specs.Simulation.{FitsEnding};
 ghost use Rattle.trace_json.specs.TracedRun.{most_steps, line_with, ending_members};
 ghost use Rattle.trace_json.specs.inner.Traced.{with_test};
 
+use crate::made::put_made;
 use crate::programs::programs_value;
 use crate::proposition::proposition_value;
 use scheduler::word_of_choice;
@@ -85,9 +86,6 @@ fn ending_members(
 fn put_test(members: &mut Map<String, Value>, alloc: Global, test: &Test) -> Result<(), NoMemory>
     ensures { OnOk result (members_view members.new.entries ≡ with_test test.now (members_view members.old.entries)) }
 {
-    let proposition = proposition_value(alloc, test)?;
-    put(members, alloc, "proposition", proposition)?;
-    let programs = programs_value(alloc, test)?;
-    put(members, alloc, "programs", programs)?;
-    Ok(())
+    put_made(members, alloc, "proposition", proposition_value(alloc, test))?;
+    put_made(members, alloc, "programs", programs_value(alloc, test))
 }

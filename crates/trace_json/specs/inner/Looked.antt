@@ -1,9 +1,9 @@
 -- A machine that is shown: it has a word for each location that its test names; and the members of its value, as the code puts
 -- them together.
-use Rattle.std.specs.Prelude.{ℕ, ◌≡◌, ◌/◌, length, List, Option, Some, None, option_map, codes}
-use Rattle.trace_json.specs.Vocabulary.{array, bus_holder_of, BusHolder, chosen, Configuration, configuration_of, count, Data, items_of, line_name, Litmus, member, Members, memory_value, no_members, object, printed_choice, Running, shown_step, string, transient_name}
-use Rattle.trace_json.specs.Values.{array_of_numbers, text_or_null}
-use Rattle.trace_json.specs.MachineJson.{bus_json, cores_json, words_on_bus, words_in_line}
+use Rattle.std.specs.Prelude.{ℕ, ◌≡◌, ◌/◌, length, List, map, Option, Some, None, option_map, codes}
+use Rattle.trace_json.specs.Vocabulary.{array, bus_holder_of, BusHolder, chosen, Configuration, configuration_of, core_of, count, Data, items_of, line_name, Litmus, member, Members, memory_value, no_members, object, printed_choice, registers_value, Running, shown_step, store_text, string, transient_name}
+use Rattle.trace_json.specs.Values.{array_of_numbers, array_of_texts, text_or_null}
+use Rattle.trace_json.specs.MachineJson.{bus_json, cores_json, sets_json, words_on_bus, words_in_line}
 use Rattle.trace_json.specs.TraceJson.{Sourced, alone, step_to}
 use Rattle.trace_json.specs.declared.following.SourcedStep.{SourcedStep}
 
@@ -25,6 +25,16 @@ machine_members m memory =
     (member (codes "cores") (array (items_of (cores_json m 0 (length m.test.programs))))
     (member (codes "memory") (memory_value m.test memory)
     (member (codes "seen") (memory_value m.test m.state.flat.memory) no_members)))
+
+-- those of a core's, from its parts
+abbrev pub core_parts : Data → Data → ℕ → Data → Members
+core_parts buffer lines place registers =
+    member (codes "buffer") buffer (member (codes "lines") lines (member (codes "place") (count place) (member (codes "registers") registers no_members)))
+
+abbrev pub core_members : Running → ℕ → Members
+core_members m core =
+    core_parts (array_of_texts (map (store_text m.test) (core_of m.state.flat core).pending)) (array (items_of (sets_json m core 0 m.statistics.caches.shape.sets)))
+    (core_of m.state.flat core).place (registers_value (core_of m.state.flat core).registers)
 
 -- those of its holder's
 abbrev pub holder_members : Litmus → ℕ → List ℕ → BusHolder → Members

@@ -3,4 +3,4 @@ use Rattle.trace_json.proofs.copies.sets_value.Given as goal
 
 abbrev pub invariant-loop-set : goal.invariant-loop-set
 invariant-loop-set g l =
-    map view l.values.items ++ sets_json l.machine l.core.0 l.set (l.sets - l.set) ≡ sets_json l.machine l.core.0 0 l.sets
+    map view l.values.items ++ sets_json l.moment.machine.now l.core.0 l.set (l.moment.config.shape.sets - l.set) ≡ sets_json l.moment.machine.now l.core.0 0 l.moment.config.shape.sets

@@ -3,4 +3,4 @@ use Rattle.trace_json.proofs.cores.cores_value.Given as goal
 
 abbrev pub invariant-loop-core : goal.invariant-loop-core
 invariant-loop-core g l =
-    map view l.values.items ++ cores_json l.machine l.core (length l.test.programs - l.core) ≡ cores_json l.machine 0 (length l.test.programs)
+    map view l.values.items ++ cores_json l.moment.machine.now l.core (length l.moment.test.now.programs - l.core) ≡ cores_json l.moment.machine.now 0 (length l.moment.test.now.programs)

@@ -1,4 +1,4 @@
-use Rattle.trace_json.proofs.Vocabulary.{◌+◌, ◌≤◌, ◌<◌, ◌∙◌, [], length, map, drop, ap, arith, drop_more, drop_all, program_value}
+use Rattle.trace_json.proofs.Vocabulary.{◌+◌, ◌≤◌, ◌<◌, ◌∙◌, [], ◌∷◌, ◌++◌, length, map, drop, ap, arith, drop_more, drop_all, view, program_value}
 use Rattle.trace_json.proofs.Listed.{listed, all-listed}
 use Rattle.trace_json.proofs.programs.programs_value.Goals as goal
 
@@ -8,8 +8,9 @@ loop-core-preserved c =
     let i = c.loop-core.core in
     let value = program_value c.args.test.now in
     let within : i < length xs = omega arith in
-    listed c.loop-core.programs.items c.push.new.self.items _ _ (map value (drop (i + 1) xs)) (map value (drop i xs)) (map value xs)
-    c.in_ok-push.ensures.items (c.in_ok-program_value.ensures ∙ ap value c.program.ensures.value) (ap (map value) (drop_more xs i [] within)) c.loop-core.invariant
+    listed (map view c.loop-core.programs.items) (map view c.push_made.new.values.items) _ (map value (drop (i + 1) xs)) (map value (drop i xs)) (map value xs)
+    (c.in_ok-push_made.ensures (value c.program.result.now) c.program_value.ensures ∙ ap (λ p. map view c.loop-core.programs.items ++ value p ∷ []) c.program.ensures.value)
+    (ap (map value) (drop_more xs i [] within)) c.loop-core.invariant
 
 pub returns : goal.returns
 returns c =
