@@ -18,6 +18,11 @@ core-noted p list before after core n small is was =
     part-noted p list before after (map (named_register core) all_registers) (named_registers (core + 1) (n - (core + 1))) is
     (ap (λ count. before ++ filter p (named_registers core count)) (sym (count-next core n small)) ∙ was)
 
+pub register-noted : (p : Named → Bool) (list before after : List Named) (named : Named) (rest all : List Named) → after ≡ before ++ filter p (named ∷ [])
+    → all ≡ named ∷ rest → before ++ filter p all ≡ list → after ++ filter p rest ≡ list
+register-noted p list before after named rest all is next was =
+    part-noted p list before after (named ∷ []) rest is (sym (ap (λ l. before ++ filter p l) next) ∙ was)
+
 pub location-noted : (p : Named → Bool) (list before after : List Named) (loc n : ℕ) → loc < n
     → after ≡ before ++ filter p (named_location loc ∷ []) → before ++ filter p (named_locations loc (n - loc)) ≡ list
     → after ++ filter p (named_locations (loc + 1) (n - (loc + 1))) ≡ list

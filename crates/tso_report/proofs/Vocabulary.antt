@@ -42,7 +42,7 @@ pub use Rattle.std.proofs.lemmas.Cmp.{nat_list_cmp_total, on_total, tied_itself}
 pub use Rattle.tso_report.specs.inner.Counted.{counted_states, counts_in, IsKept}
 pub use Rattle.std.specs.Slice.Iter.{iter_rest}
 pub use Rattle.std.specs.Iterator.Adapters.{zip_first, zip_second}
-pub use Rattle.std.proofs.lemmas.List.{drop_all}
+pub use Rattle.std.proofs.lemmas.List.{drop_all, drop_more}
 pub use Rattle.serde_json.proofs.Views.{view-Array}
 pub use Rattle.serde_json.specs.Data.{array}
 pub use Rattle.tso_report.specs.inner.Json.{with_run_parts}

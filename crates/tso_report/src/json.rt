@@ -13,7 +13,7 @@ ghost use Rattle.tso_report.specs.Json.{memory_members, memory_value, order_valu
 ghost use Rattle.tso_report.specs.inner.Json.{run_part_value, unfinished_search_value, with_run_parts};
 ghost use Rattle.tso_report.specs.Json.{run_members, unfinished_members, json_report, json_unfinished};
 
-use crate::members::{Datum, object_of, put_object};
+use crate::members::{Datum, object_of, push_made, put_made, put_object};
 use crate::report::quantifier_text;
 use crate::run::Run;
 use machine_core::{Bus, Config, Counts};
@@ -184,8 +184,7 @@ fn put_run_parts(
         ≡ with_run_parts reported.now.test.now reported.now.protocol reported.now.config (shown_run reported.now.run.now) parts.now (members_view members.old.entries)) }
 {
     for (key, part) in parts {
-        let value = run_part_value(alloc, reported, *part)?;
-        put(members, alloc, key, value)?;
+        put_made(members, alloc, key, run_part_value(alloc, reported, *part))?;
     }
     Ok(())
 }
@@ -215,7 +214,7 @@ fn cache_value(alloc: Global, counts: &[Counts]) -> Result<Value, NoMemory>
 {
     let mut values = Vec::new(alloc);
     for counts in counts {
-        values.push(counts_value(alloc, *counts)?)?;
+        push_made(&mut values, counts_value(alloc, *counts))?;
     }
     Ok(Value::Array(values))
 }
@@ -317,7 +316,7 @@ fn cores_value(alloc: Global, registers: &[[u32; 6]]) -> Result<Value, NoMemory>
 {
     let mut values = Vec::new(alloc);
     for registers in registers {
-        values.push(registers_value(alloc, registers)?)?;
+        push_made(&mut values, registers_value(alloc, registers))?;
     }
     Ok(Value::Array(values))
 }

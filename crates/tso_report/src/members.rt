@@ -1,7 +1,7 @@
 //! What a JSON object has under its keys.
 
-ghost use Rattle.std.specs.Prelude.{◌≡◌, IfOk, OnOk, map};
-ghost use Rattle.serde_json.specs.Data.{array, no_members, object, put as with_member};
+ghost use Rattle.std.specs.Prelude.{◌≡◌, ◌++◌, ◌∷◌, [], IfOk, OnOk, map};
+ghost use Rattle.serde_json.specs.Data.{Data, array, no_members, object, put as with_member};
 ghost use Rattle.serde_json.specs.View.{items_of, members_view, view};
 ghost use Rattle.tso_report.specs.Json.{count};
 ghost use Rattle.tso_report.specs.inner.Members.{datum_value, with_data};
@@ -44,9 +44,7 @@ pub fn put_object(
     ensures { OnOk result (members_view members.new.entries
         ≡ with_member key.now (object (with_data fields.now no_members)) (members_view members.old.entries)) }
 {
-    let value = object_of(alloc, fields)?;
-    put(members, alloc, key, value)?;
-    Ok(())
+    put_made(members, alloc, key, object_of(alloc, fields))
 }
 
 fn put_data(
@@ -57,8 +55,7 @@ fn put_data(
     ensures { OnOk result (members_view members.new.entries ≡ with_data fields.now (members_view members.old.entries)) }
 {
     for (key, datum) in fields {
-        let value = datum_value(alloc, *datum)?;
-        put(members, alloc, key, value)?;
+        put_made(members, alloc, key, datum_value(alloc, *datum))?;
     }
     Ok(())
 }
@@ -71,6 +68,31 @@ fn datum_value(alloc: Global, datum: Datum<'_>) -> Result<Value, NoMemory>
         Datum::Number(number) => Ok(Value::from(number)),
         Datum::Truth(truth) => Ok(Value::Bool(truth)),
     }
+}
+
+/// Adds a value to a list, if it could be made. So one who makes several has a single end for each, at which nothing is let go.
+///
+/// Errors: out of memory only, here or where the value was to be made.
+pub fn push_made(values: &mut Vec<Value>, made: Result<Value, NoMemory>) -> Result<(), NoMemory>
+    ensures { (d : Data) → IfOk made (λ value. view value ≡ d) → OnOk result (map view values.new.items ≡ map view values.old.items ++ d ∷ []) }
+{
+    values.push(made?)?;
+    Ok(())
+}
+
+/// Puts a value under a key, if it could be made.
+///
+/// Errors: out of memory only, here or where the value was to be made.
+pub fn put_made(
+    members: &mut Map<String, Value>,
+    alloc: Global,
+    key: &str,
+    made: Result<Value, NoMemory>,
+) -> Result<(), NoMemory>
+    ensures { (d : Data) → IfOk made (λ value. view value ≡ d) → OnOk result (members_view members.new.entries ≡ with_member key.now d (members_view members.old.entries)) }
+{
+    put(members, alloc, key, made?)?;
+    Ok(())
 }
 
 /// A list of numbers.

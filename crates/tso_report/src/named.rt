@@ -3,7 +3,6 @@
 
 ghost use Rattle.std.specs.Prelude.{◌≡◌, ◌<◌, ◌∷◌, [], IfOk, OnOk, All, length, map};
 ghost use Rattle.tso_model.specs.Condition.{claim_of};
-ghost use Rattle.tso_report.specs.Report.{all_registers};
 ghost use Rattle.tso_report.specs.Tally.{claim_names_register, claim_names_location, is_looked_at, named_register};
 ghost use Rattle.tso_report.specs.inner.Tally.{AreNoted, NameExists};
 ghost use Rattle.tso_report.specs.Tally.{named_registers, named_locations, looked_at, shown_value};
@@ -38,16 +37,9 @@ fn note_registers(list: &mut Vec<Named>, test: &Test) -> Result<(), NoMemory>
     ensures { OnOk result (AreNoted test.now.condition (named_registers 0 (length test.now.programs)) list.old.items list.new.items) }
 {
     for core in 0..test.cores() {
-        note_core(list, test, core)?;
+        note_each(list, test, core, &Reg::ALL)?;
     }
     Ok(())
-}
-
-#[tactic(auto, unfolding(crate::specs::Report::all_registers))]
-fn note_core(list: &mut Vec<Named>, test: &Test, core: u8) -> Result<(), NoMemory>
-    ensures { OnOk result (AreNoted test.now.condition (map (named_register core) all_registers) list.old.items list.new.items) }
-{
-    note_each(list, test, core, &Reg::ALL)
 }
 
 fn note_each(list: &mut Vec<Named>, test: &Test, core: u8, regs: &[Reg]) -> Result<(), NoMemory>

@@ -1,6 +1,7 @@
 //! What a line of text shows, piece by piece.
 
-ghost use Rattle.std.specs.Prelude.{◌≡◌, ◌++◌, OnOk, string_bytes};
+ghost use Rattle.std.specs.Prelude.{◌≡◌, ◌++◌, OnOk, codes, string_bytes};
+ghost use Rattle.std.specs.Fmt.{decimal};
 ghost use Rattle.std.specs.List.{flat_map};
 ghost use Rattle.tso_report.specs.inner.Pieces.{line_piece};
 
@@ -29,13 +30,37 @@ pub fn write_pieces(text: &mut String, pieces: &[Piece<'_>]) -> Result<(), NoMem
     Ok(())
 }
 
+/// Adds ` x=v`: a name and its value.
+///
+/// Errors: out of memory only; the text may have grown then.
+pub fn write_named(text: &mut String, name: &str, value: u32) -> Result<(), NoMemory>
+    ensures { OnOk result (string_bytes text.new ≡ string_bytes text.old ++ (codes " " ++ (name.now ++ (codes "=" ++ decimal value)))) }
+{
+    let pieces = [
+        Piece::Text(" "),
+        Piece::Text(name),
+        Piece::Text("="),
+        Piece::Number(value as u64),
+    ];
+    write_pieces(text, &pieces)
+}
+
 fn write_piece(text: &mut String, piece: Piece<'_>) -> Result<(), NoMemory>
     ensures { OnOk result (string_bytes text.new ≡ string_bytes text.old ++ line_piece piece.entry) }
 {
     match piece {
-        Piece::Text(characters) => Ok(text.push_str(characters)?),
+        Piece::Text(characters) => write_characters(text, characters),
         Piece::Number(number) => Ok(write!(text, "{number}")?),
-        Piece::Truth(true) => Ok(text.push_str("true")?),
-        Piece::Truth(false) => Ok(text.push_str("false")?),
+        Piece::Truth(true) => write_characters(text, "true"),
+        Piece::Truth(false) => write_characters(text, "false"),
     }
+}
+
+/// Adds these characters.
+///
+/// Errors: out of memory only.
+pub fn write_characters(text: &mut String, characters: &str) -> Result<(), NoMemory>
+    ensures { OnOk result (string_bytes text.new ≡ string_bytes text.old ++ characters.now) }
+{
+    Ok(text.push_str(characters)?)
 }

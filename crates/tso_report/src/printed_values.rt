@@ -6,7 +6,7 @@ ghost use Rattle.tso_report.specs.Tally.{printed_value, printed_values};
 ghost use Rattle.tso_report.specs.inner.Tally.{NameExists};
 
 use crate::named::Named;
-use crate::pieces::{Piece, write_pieces};
+use crate::pieces::{Piece, write_named, write_pieces};
 use tso_model::{NoMemory, Test};
 
 /// ` 0:EAX=v x=v ..`: for each of the names its value; a name or a value that stands alone is left out.
@@ -44,14 +44,6 @@ fn write_value(text: &mut String, test: &Test, named: Named, value: u32) -> Resu
             ];
             write_pieces(text, &pieces)
         }
-        Named::Location(loc) => {
-            let pieces = [
-                Piece::Text(" "),
-                Piece::Text(test.location_name(loc)),
-                Piece::Text("="),
-                Piece::Number(value as u64),
-            ];
-            write_pieces(text, &pieces)
-        }
+        Named::Location(loc) => write_named(text, test.location_name(loc), value),
     }
 }

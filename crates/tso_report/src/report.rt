@@ -5,11 +5,11 @@ ghost use Rattle.std.specs.Prelude.{◌≡◌, ◌++◌, ◌∷◌, [], IfOk, On
 ghost use Rattle.order_builder.specs.PrintedOrder.{printed_order, HasWord};
 ghost use Rattle.tso_report.specs.Shown.{shown_run, IsRunOf};
 ghost use Rattle.tso_report.specs.Report.{report, head, body, line, test_line, machine_line, bus_text};
-ghost use Rattle.tso_report.specs.Report.{printed_register, printed_registers, all_registers, register_line, register_lines};
+ghost use Rattle.tso_report.specs.Report.{printed_register, printed_registers, register_line, register_lines};
 ghost use Rattle.tso_report.specs.Report.{printed_words, memory_line, printed_verdict, condition_line, choices_line};
 ghost use Rattle.tso_report.specs.Report.{printed_quantifier, printed_truth, cache_line, cache_lines};
 
-use crate::pieces::{Piece, write_pieces};
+use crate::pieces::{Piece, write_characters, write_named, write_pieces};
 use crate::run::Run;
 use machine_core::{Bus, Config, Counts};
 use order_builder::write_order;
@@ -134,24 +134,15 @@ fn write_core(text: &mut String, core: usize, values: &[u32; 6]) -> Result<(), N
         text,
         &[Piece::Text("Registers P"), Piece::Number(core as u64)],
     )?;
-    write_all_values(text, values)?;
-    Ok(text.push('\n')?)
-}
-
-#[tactic(auto, unfolding(crate::specs::Report::all_registers))]
-fn write_all_values(text: &mut String, values: &[u32; 6]) -> Result<(), NoMemory>
-    ensures { OnOk result (string_bytes text.new ≡ string_bytes text.old ++ printed_registers values.now all_registers) }
-{
-    write_values(text, values, &Reg::ALL)
+    write_values(text, values, &Reg::ALL)?;
+    write_characters(text, "\n")
 }
 
 fn write_values(text: &mut String, values: &[u32; 6], regs: &[Reg]) -> Result<(), NoMemory>
     ensures { OnOk result (string_bytes text.new ≡ string_bytes text.old ++ printed_registers values.now regs.now) }
 {
     for reg in regs {
-        let name = reg.name();
-        let value = values[reg.index()];
-        write!(text, " {name}={value}")?;
+        write_named(text, reg.name(), values[reg.index()])?;
     }
     Ok(())
 }
@@ -160,14 +151,11 @@ fn write_memory(text: &mut String, test: &Test, memory: &[u32]) -> Result<(), No
     requires { length memory.now ≡ length test.now.locations }
     ensures { OnOk result (string_bytes text.new ≡ string_bytes text.old ++ memory_line test.now memory.now) }
 {
-    text.push_str("Memory")?;
+    write_characters(text, "Memory")?;
     for loc in 0..test.locations() {
-        let name = test.location_name(Loc(loc));
-        let word = memory[loc as usize];
-        write!(text, " {name}={word}")?;
+        write_named(text, test.location_name(Loc(loc)), memory[loc as usize])?;
     }
-    text.push('\n')?;
-    Ok(())
+    write_characters(text, "\n")
 }
 
 fn write_condition(text: &mut String, test: &Test, holds: Option<bool>) -> Result<(), NoMemory>
@@ -184,7 +172,7 @@ fn write_condition(text: &mut String, test: &Test, holds: Option<bool>) -> Resul
             ];
             write_pieces(text, &pieces)
         }
-        _ => Ok(text.push_str("Condition none\n")?),
+        _ => write_characters(text, "Condition none\n"),
     }
 }
 

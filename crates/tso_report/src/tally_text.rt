@@ -8,7 +8,7 @@ ghost use Rattle.tso_report.specs.inner.Counted.{counted_states};
 use crate::counters::Counters;
 use crate::named::Named;
 use crate::observation::write_observed;
-use crate::pieces::{Piece, write_pieces};
+use crate::pieces::{Piece, write_characters, write_pieces};
 use crate::printed_values::write_values;
 use tso_model::{NoMemory, Test};
 
@@ -69,8 +69,7 @@ fn write_state(
 {
     write_pieces(text, &[Piece::Text("State "), Piece::Number(count as u64)])?;
     write_values(text, test, names, values)?;
-    text.push('\n')?;
-    Ok(())
+    write_characters(text, "\n")
 }
 
 /// `Observation NAME Sometimes P Q`, where the test has a condition. Errors: out of memory only.
