@@ -8,7 +8,6 @@ ghost use Rattle.trace_report.specs.Lines.{line_name, names_in_line};
 ghost use Rattle.trace_json.specs.MachineJson.{copy_json, set_json, sets_json};
 ghost use Rattle.trace_json.specs.inner.Looked.{IsMachineOfTest, copy_members};
 
-use crate::made::{push_made, put_made};
 use crate::moment::Moment;
 use crate::texts::line_value;
 use machine_core::CachedLine;
@@ -18,7 +17,7 @@ use std::alloc::Global;
 use trace_report::names::state_name;
 use trace_report::states::line_state;
 use tso_model::{Core, NoMemory, Test};
-use tso_report::members::numbers_value;
+use tso_report::members::{numbers_value, push_made, put_made};
 
 /// The lines of a core's cache, by set.
 ///
@@ -91,11 +90,21 @@ fn put_copy(
     ensures { OnOk result (members_view members.new.entries
         ≡ copy_members (line_name test.now words copy.now.line) state.now (take (length (names_in_line test.now.locations words copy.now.line)) copy.now.words)) }
 {
-    put_made(members, alloc, "line", line_value(alloc, test, words, copy.line))?;
+    put_made(
+        members,
+        alloc,
+        "line",
+        line_value(alloc, test, words, copy.line),
+    )?;
     let state = Value::try_from_str(alloc, state)?;
     put(members, alloc, "state", state)?;
     let count = locations_in(test, words, copy.line);
-    put_made(members, alloc, "words", numbers_value(alloc, &copy.words[..count]))
+    put_made(
+        members,
+        alloc,
+        "words",
+        numbers_value(alloc, &copy.words[..count]),
+    )
 }
 
 /// How many locations a line has.

@@ -10,7 +10,6 @@ ghost use Rattle.trace_json.specs.MachineJson.{core_json, cores_json};
 ghost use Rattle.trace_json.specs.inner.Looked.{IsMachineOfTest, core_members};
 
 use crate::copies::sets_value;
-use crate::made::{push_made, put_made};
 use crate::moment::Moment;
 use crate::texts::store_value;
 use protocol_tables::Protocol;
@@ -18,6 +17,7 @@ use serde_json::{Map, Value, put};
 use std::alloc::Global;
 use tso_model::{Core, NoMemory};
 use tso_report::json::registers_value;
+use tso_report::members::{push_made, put_made};
 
 /// The cores of a machine.
 ///
@@ -69,7 +69,12 @@ fn put_core<P: Protocol>(
     let place = moment.machine.place(core).unwrap_or(0);
     put(members, alloc, "place", Value::from(place))?;
     let registers = moment.machine.registers(core).unwrap_or([0, 0, 0, 0, 0, 0]);
-    put_made(members, alloc, "registers", registers_value(alloc, &registers))
+    put_made(
+        members,
+        alloc,
+        "registers",
+        registers_value(alloc, &registers),
+    )
 }
 
 /// A core's pending stores, the oldest first.

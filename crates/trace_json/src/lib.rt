@@ -7,7 +7,6 @@ mod cores;
 mod following;
 mod limited;
 mod machine;
-mod made;
 pub mod memory_words;
 mod moment;
 mod own_words;

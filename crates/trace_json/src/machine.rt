@@ -9,7 +9,6 @@ ghost use Rattle.trace_json.specs.MachineJson.{words_in_line, words_on_bus, hold
 ghost use Rattle.trace_json.specs.inner.Looked.{IsMachineOfTest, holder_members, machine_members};
 
 use crate::cores::cores_value;
-use crate::made::put_made;
 use crate::moment::Moment;
 use crate::texts::{choice_value, line_value, name_or_null};
 use machine_core::{BusHolder, Machine};
@@ -20,7 +19,7 @@ use trace_report::names::transient_name;
 use trace_report::step::core_of;
 use tso_model::{Loc, NoMemory, Test};
 use tso_report::json::memory_value;
-use tso_report::members::numbers_value;
+use tso_report::members::{numbers_value, put_made};
 
 /// A machine at a moment: the bus, the cores, memory, and the words that a program sees.
 ///
@@ -56,7 +55,12 @@ fn put_machine<P: Protocol>(
     put_made(members, alloc, "cores", cores_value(alloc, moment))?;
     let own = memory_value(alloc, moment.test, moment.memory);
     put_made(members, alloc, "memory", own)?;
-    put_made(members, alloc, "seen", memory_value(alloc, moment.test, seen))
+    put_made(
+        members,
+        alloc,
+        "seen",
+        memory_value(alloc, moment.test, seen),
+    )
 }
 
 /// The words that a program sees, one for each location of the test.
@@ -127,7 +131,12 @@ fn put_holder(
     let core = Value::from(core_of(holder.choice).0);
     put(members, alloc, "core", core)?;
     put_made(members, alloc, "line", line_value(alloc, test, words, line))?;
-    put_made(members, alloc, "state", transient_value(alloc, holder.transient))?;
+    put_made(
+        members,
+        alloc,
+        "state",
+        transient_value(alloc, holder.transient),
+    )?;
     let kept = words_on_bus(holder.transient, words_in_line(words, seen, line));
     put_made(members, alloc, "words", numbers_value(alloc, kept))
 }

@@ -1,16 +1,18 @@
 //! The programs of a test as a value: each instruction as a test's text spells it.
 
-ghost use Rattle.std.specs.Prelude.{◌≡◌, All, IfOk, length};
+ghost use Rattle.std.specs.Prelude.{◌≡◌, ◌++◌, All, IfOk, codes, length};
 ghost use Rattle.serde_json.specs.Data.{string};
 ghost use Rattle.serde_json.specs.View.{view};
 ghost use Rattle.tso_model.specs.Litmus.{KnownLocation};
+ghost use Rattle.tso_model.specs.Registers.{name_of};
+ghost use Rattle.tso_report.specs.inner.Pieces.{line_piece};
 ghost use Rattle.trace_json.specs.Programs.{instruction_text, program_value, programs_value};
 
-use crate::made::push_made;
 use crate::texts::text_value;
 use serde_json::Value;
 use std::alloc::Global;
-use tso_model::{Core, Instr, NoMemory, Test};
+use tso_model::{Core, Instr, NoMemory, Reg, Test};
+use tso_report::members::push_made;
 use tso_report::pieces::Piece;
 
 /// For each core a list of its instructions, each as a text: `MOV [x],$1`.
@@ -21,7 +23,10 @@ pub fn programs_value(alloc: Global, test: &Test) -> Result<Value, NoMemory>
 {
     let mut programs = Vec::new(alloc);
     for core in 0..test.cores() {
-        push_made(&mut programs, program_value(alloc, test, test.program(Core(core))))?;
+        push_made(
+            &mut programs,
+            program_value(alloc, test, test.program(Core(core))),
+        )?;
     }
     Ok(Value::Array(programs))
 }
@@ -45,75 +50,52 @@ fn instruction_value(alloc: Global, test: &Test, instr: &Instr) -> Result<Value,
     ensures { IfOk result (λ value. view value ≡ string (instruction_text test.now instr.now)) }
 {
     match *instr {
-        Instr::StoreImm(loc, value) => text_value(
-            alloc,
-            &[
-                Piece::Text("MOV ["),
-                Piece::Text(test.location_name(loc)),
-                Piece::Text("],$"),
-                Piece::Number(value as u64),
-            ],
-        ),
-        Instr::StoreReg(loc, reg) => text_value(
-            alloc,
-            &[
-                Piece::Text("MOV ["),
-                Piece::Text(test.location_name(loc)),
-                Piece::Text("],"),
-                Piece::Text(reg.name()),
-            ],
-        ),
-        Instr::Load(reg, loc) => text_value(
-            alloc,
-            &[
-                Piece::Text("MOV "),
-                Piece::Text(reg.name()),
-                Piece::Text(",["),
-                Piece::Text(test.location_name(loc)),
-                Piece::Text("]"),
-            ],
-        ),
-        Instr::SetImm(reg, value) => text_value(
-            alloc,
-            &[
-                Piece::Text("MOV "),
-                Piece::Text(reg.name()),
-                Piece::Text(",$"),
-                Piece::Number(value as u64),
-            ],
-        ),
-        Instr::SetReg(reg, from) => text_value(
-            alloc,
-            &[
-                Piece::Text("MOV "),
-                Piece::Text(reg.name()),
-                Piece::Text(","),
-                Piece::Text(from.name()),
-            ],
-        ),
-        Instr::Fence => text_value(
-            alloc,
-            &[
-                Piece::Text("MFENCE"),
-            ],
-        ),
-        Instr::Xchg(loc, reg) => text_value(
-            alloc,
-            &[
-                Piece::Text("XCHG ["),
-                Piece::Text(test.location_name(loc)),
-                Piece::Text("],"),
-                Piece::Text(reg.name()),
-            ],
-        ),
-        Instr::Xadd(loc, reg) => text_value(
-            alloc,
-            &[
-                Piece::Text("LOCK XADD ["),
-                Piece::Text(test.location_name(loc)),
-                Piece::Text("],"),
-                Piece::Text(reg.name()),
-            ],
-        ),
+        Instr::StoreImm(loc, value) => {
+            let value = Piece::Number(value as u64);
+            spelled(alloc, "MOV [", test.location_name(loc), "],$", value, "")
+        }
+        Instr::StoreReg(loc, reg) => with_location(alloc, "MOV [", test.location_name(loc), reg),
+        Instr::Load(reg, loc) => {
+            let name = Piece::Text(test.location_name(loc));
+            spelled(alloc, "MOV ", reg.name(), ",[", name, "]")
+        }
+        Instr::SetImm(reg, value) => {
+            let value = Piece::Number(value as u64);
+            spelled(alloc, "MOV ", reg.name(), ",$", value, "")
+        }
+        Instr::SetReg(reg, from) => {
+            spelled(alloc, "MOV ", reg.name(), ",", Piece::Text(from.name()), "")
+        }
+        Instr::Fence => text_value(alloc, &[Piece::Text("MFENCE")]),
+        Instr::Xchg(loc, reg) => with_location(alloc, "XCHG [", test.location_name(loc), reg),
+        Instr::Xadd(loc, reg) => with_location(alloc, "LOCK XADD [", test.location_name(loc), reg),
     }
+}
+
+/// An instruction of a location and then a register, `MOV [x],EAX`.
+fn with_location(alloc: Global, front: &str, name: &str, reg: Reg) -> Result<Value, NoMemory>
+    ensures { IfOk result (λ value. view value ≡ string (front.now ++ (name.now ++ (codes "]," ++ name_of reg)))) }
+{
+    spelled(alloc, front, name, "],", Piece::Text(reg.name()), "")
+}
+
+/// An instruction of two operands, with what stands before, between and after them.
+fn spelled<'a>(
+    alloc: Global,
+    front: &'a str,
+    first: &'a str,
+    between: &'a str,
+    second: Piece<'a>,
+    end: &'a str,
+) -> Result<Value, NoMemory>
+    ensures { IfOk result (λ value. view value ≡ string (front.now ++ (first.now ++ (between.now ++ (line_piece second.entry ++ end.now))))) }
+{
+    let pieces = [
+        Piece::Text(front),
+        Piece::Text(first),
+        Piece::Text(between),
+        second,
+        Piece::Text(end),
+    ];
+    text_value(alloc, &pieces)
 }

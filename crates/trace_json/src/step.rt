@@ -13,7 +13,6 @@ ghost use Rattle.trace_json.specs.Values.{text_or_null, array_of_texts};
 ghost use Rattle.trace_json.specs.StepJson.{outcome_word, stall_in, step_json};
 ghost use Rattle.trace_json.specs.inner.Stepped.{part_value, with_parts};
 
-use crate::made::{push_made, put_made};
 use crate::supplied::{Source, source_value};
 use crate::texts::{choice_value, line_value, name_or_null, text_value};
 use serde_json::{Map, Value, put};
@@ -24,6 +23,7 @@ use trace_report::text::{write_change, write_line_request};
 use trace_report::{LineRequest, Moved, StateChange, Step};
 use tso_model::{Core, NoMemory, Outcome, Test};
 use tso_report::json::order_value;
+use tso_report::members::{push_made, put_made};
 use tso_report::pieces::Piece;
 
 /// What stands under a key of a step's value.

@@ -13,7 +13,6 @@ ghost use Rattle.trace_json.specs.inner.Observing.{OpensTrace, AddsStep, OpensLa
 
 use crate::following::{Follower, SourcedStep};
 use crate::limited::Limited;
-use crate::made::push_made;
 use machine_core::{Choice, Machine, Outcome};
 use protocol_tables::Protocol;
 use scheduler::Stalls;
@@ -22,6 +21,7 @@ use simulator::{Ending, Observer, Setup, simulate_observed};
 use std::alloc::Global;
 use trace_report::told_runs::traces_tell_their_runs;
 use tso_model::NoMemory;
+use tso_report::members::push_made;
 
 /// How a run left its test, what is told of it as a value, and which choices stalled.
 #[derive(Drop)]

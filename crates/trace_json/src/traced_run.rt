@@ -11,7 +11,6 @@ ghost use Rattle.simulator.specs.Simulation.{FitsEnding};
 ghost use Rattle.trace_json.specs.TracedRun.{most_steps, line_with, ending_members};
 ghost use Rattle.trace_json.specs.inner.Traced.{with_test};
 
-use crate::made::put_made;
 use crate::programs::programs_value;
 use crate::proposition::proposition_value;
 use scheduler::word_of_choice;
@@ -20,6 +19,7 @@ use simulator::{Ending, Setup};
 use std::alloc::Global;
 use tso_model::{NoMemory, Test};
 use tso_report::json::{line_of, run_members, unfinished_members};
+use tso_report::members::put_made;
 
 /// Maximum number of steps of a trace as JSON.
 pub const MAX_STEPS: usize = 1_000;
@@ -86,6 +86,11 @@ fn ending_members(
 fn put_test(members: &mut Map<String, Value>, alloc: Global, test: &Test) -> Result<(), NoMemory>
     ensures { OnOk result (members_view members.new.entries ≡ with_test test.now (members_view members.old.entries)) }
 {
-    put_made(members, alloc, "proposition", proposition_value(alloc, test))?;
+    put_made(
+        members,
+        alloc,
+        "proposition",
+        proposition_value(alloc, test),
+    )?;
     put_made(members, alloc, "programs", programs_value(alloc, test))
 }
