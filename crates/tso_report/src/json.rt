@@ -5,7 +5,7 @@ ghost use Rattle.std.specs.Prelude.{◌≡◌, ◌++◌, ◌∷◌, [], false, I
 ghost use Rattle.serde_json.specs.Data.{Data, string};
 ghost use Rattle.serde_json.specs.Written.{compact_text, has_float};
 ghost use Rattle.serde_json.specs.View.{view, members_view};
-ghost use Rattle.order_builder.specs.PrintedOrder.{HasLocation};
+ghost use Rattle.order_builder.specs.PrintedOrder.{HasLocation, printed_entry};
 ghost use Rattle.tso_report.specs.Shown.{shown_run, IsRunOf};
 ghost use Rattle.tso_report.specs.Report.{line};
 ghost use Rattle.tso_report.specs.Json.{counts_value, cache_value, choices_value, condition_value, machine_value};
@@ -306,9 +306,16 @@ pub fn order_value(alloc: Global, test: &Test, order: &[Entry]) -> Result<Value,
 {
     let mut values = Vec::new(alloc);
     for entry in order {
-        values.push(Value::String(entry_text(alloc, test, entry)?))?;
+        push_made(&mut values, entry_value(alloc, test, entry))?;
     }
     Ok(Value::Array(values))
+}
+
+fn entry_value(alloc: Global, test: &Test, entry: &Entry) -> Result<Value, NoMemory>
+    requires { HasLocation test.now entry.now }
+    ensures { IfOk result (λ value. view value ≡ string (printed_entry test.now entry.now)) }
+{
+    Ok(Value::String(entry_text(alloc, test, entry)?))
 }
 
 fn cores_value(alloc: Global, registers: &[[u32; 6]]) -> Result<Value, NoMemory>
