@@ -178,11 +178,13 @@ fn write_entries(
 fn write_moved(text: &mut String, moved: Option<Moved>) -> Result<(), NoMemory>
     ensures { OnOk result (string_bytes text.new ≡ string_bytes text.old ++ moved_text moved) }
 {
-    if let Some(moved) = moved {
-        text.push(' ')?;
-        write_move(text, moved)?;
+    match moved {
+        None => Ok(()),
+        Some(moved) => {
+            text.push(' ')?;
+            write_move(text, moved)
+        }
     }
-    Ok(())
 }
 
 /// Writes `EAX=5`.
@@ -199,11 +201,13 @@ pub fn write_move(text: &mut String, moved: Moved) -> Result<(), NoMemory>
 fn write_access(text: &mut String, access: Option<AccessKind>) -> Result<(), NoMemory>
     ensures { OnOk result (string_bytes text.new ≡ string_bytes text.old ++ access_text access) }
 {
-    if let Some(kind) = access {
-        let name = access_name(kind);
-        write!(text, " {name}")?;
+    match access {
+        None => Ok(()),
+        Some(kind) => {
+            text.push(' ')?;
+            write_word(text, access_name(kind))
+        }
     }
-    Ok(())
 }
 
 /// What went on the bus and to memory.
@@ -225,11 +229,13 @@ fn write_request(
     requires { IfSome request (λ r. IsLine test.now words r.line) }
     ensures { OnOk result (string_bytes text.new ≡ string_bytes text.old ++ request_text test.now words request) }
 {
-    if let Some(request) = request {
-        text.push(' ')?;
-        write_line_request(text, test, words, request)?;
+    match request {
+        None => Ok(()),
+        Some(request) => {
+            text.push(' ')?;
+            write_line_request(text, test, words, request)
+        }
     }
-    Ok(())
 }
 
 /// Writes `GetS x`.
@@ -244,19 +250,21 @@ pub fn write_line_request(
     requires { IsLine test.now words request.line }
     ensures { OnOk result (string_bytes text.new ≡ string_bytes text.old ++ printed_request test.now words request) }
 {
-    let name = request_name(request.request);
-    write!(text, "{name} ")?;
+    write_word(text, request_name(request.request))?;
+    text.push(' ')?;
     write_line_name(text, test, words, request.line)
 }
 
 fn write_flush(text: &mut String, flushed: Option<Core>) -> Result<(), NoMemory>
     ensures { OnOk result (string_bytes text.new ≡ string_bytes text.old ++ flush_text flushed) }
 {
-    if let Some(core) = flushed {
-        let core = core.0;
-        write!(text, " flush P{core}")?;
+    match flushed {
+        None => Ok(()),
+        Some(core) => {
+            write_word(text, " flush P")?;
+            write_number(text, usize::from(core.0))
+        }
     }
-    Ok(())
 }
 
 fn write_write_back(
@@ -304,10 +312,10 @@ fn write_left(text: &mut String, test: &Test, words: u8, step: &Step) -> Result<
     ensures { OnOk result (string_bytes text.new ≡ string_bytes text.old ++ left_text test.now words (shown_step step.now)) }
 {
     write_changes(text, test, words, &step.changes)?;
-    if let Some(stores) = &step.buffer {
-        write_buffer(text, test, core_of(step.choice), stores)?;
+    match &step.buffer {
+        None => Ok(()),
+        Some(stores) => write_buffer(text, test, core_of(step.choice), stores),
     }
-    Ok(())
 }
 
 fn write_changes(
