@@ -1,5 +1,5 @@
 -- Values in a list, made one after the other.
-use Rattle.trace_json.proofs.Vocabulary.{◌≡◌, ◌∙◌, ℕ, suc, ◌+◌, ◌-◌, ◌<◌, List, [], ◌∷◌, ◌++◌, map, sym, ap, append_assoc, append-nil, arith, rules, Global, Vec, Data, array, view, items_of, Value, the_lemmas, Litmus, core_of, Entry, Configuration, Running, registers_value, store_text, array_of_texts, set_json, sets_json, core_json, cores_json, core_parts, core_members, IsMachineOfTest}
+use Rattle.trace_json.proofs.Vocabulary.{◌≡◌, ◌∙◌, ℕ, suc, ◌+◌, ◌-◌, ◌<◌, List, [], ◌∷◌, ◌++◌, map, sym, ap, append_assoc, append-nil, arith, rules, Global, Vec, Data, array, view, items_of, Value, the_lemmas, Litmus, core_of, Configuration, Running, registers_value, store_text, array_of_texts, set_json, sets_json, core_json, cores_json, core_parts, core_members, IsMachineOfTest}
 use Rattle.serde_json.specs.declared.value.Value.TheVariants.{Array}
 
 -- a list as a value

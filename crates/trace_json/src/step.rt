@@ -4,7 +4,6 @@
 ghost use Rattle.std.specs.Prelude.{◌≡◌, ◌<◌, IfOk, OnOk, IfSome, All, map, option_map};
 ghost use Rattle.serde_json.specs.Data.{string};
 ghost use Rattle.serde_json.specs.View.{view, members_view};
-ghost use Rattle.scheduler.specs.Printed.{printed_choice};
 ghost use Rattle.trace_report.specs.Shown.{shown_step};
 ghost use Rattle.trace_report.specs.Known.{IsLine, StepNamesExist};
 ghost use Rattle.trace_report.specs.Lines.{access_name, stall_name, line_name, printed_core, printed_move};

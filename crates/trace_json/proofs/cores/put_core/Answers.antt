@@ -1,4 +1,4 @@
-use Rattle.trace_json.proofs.Vocabulary.{◌≡◌, ◌∙◌, [], ◌∷◌, map, ap, refl, codes, unwrap_or, put, no_members, array, items_of, members_view, count, core_of, registers_value, store_text, array_of_texts, sets_json, on_ok_weaker}
+use Rattle.trace_json.proofs.Vocabulary.{◌∙◌, [], ◌∷◌, map, ap, refl, codes, unwrap_or, put, array, items_of, members_view, count, core_of, registers_value, store_text, array_of_texts, sets_json, on_ok_weaker}
 use Rattle.trace_report.proofs.Looking.{place-of}
 use Rattle.trace_json.proofs.Looking.{registers-of}
 use Rattle.trace_json.proofs.Listed.{core-made}

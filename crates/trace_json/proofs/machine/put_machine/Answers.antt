@@ -1,4 +1,4 @@
-use Rattle.trace_json.proofs.Vocabulary.{◌≡◌, ◌∙◌, length, ap, sym, codes, Data, put, array, items_of, members_view, no_members, bus_holder_of, memory_value, cores_json, bus_json, Litmus, on_ok_weaker}
+use Rattle.trace_json.proofs.Vocabulary.{◌≡◌, ◌∙◌, length, ap, sym, codes, put, array, items_of, members_view, no_members, bus_holder_of, memory_value, cores_json, bus_json, on_ok_weaker}
 use Rattle.trace_json.proofs.machine.put_machine.Goals as goal
 
 pub returns : goal.returns
