@@ -25,7 +25,7 @@ pub use Rattle.tso_model.specs.Condition.{Claim, NamesExist, truth_of, claim_of,
 pub use Rattle.serde_json.specs.Data.{array, Members, no_members, member, put, object}
 pub use Rattle.serde_json.specs.View.{view, items_of, members_view}
 pub use Rattle.outcome_report.specs.OutcomesJson.{holds_in, state_value, states_value, key_of, value_members, with_holds, observation_value, outcomes_value}
-pub use Rattle.outcome_report.specs.inner.Written.{kept_lines, kept_values}
+pub use Rattle.outcome_report.specs.inner.Written.{kept_lines, kept_values, with_found}
 pub use Rattle.serde_json.specs.Written.{has_float, members_have_float}
 pub use Rattle.outcome_report.specs.Verdict.{outcomes_verdict_value, is_as_claimed}
 pub use Rattle.std.proofs.lemmas.Option.{slice_get-get_or, slice_get_within, get_or_from_slice_get}
@@ -42,3 +42,4 @@ pub use Rattle.tso_model.specs.declared.instruction.Core.{Core}
 pub use Rattle.eager_laws.specs.Dead.{cleared, hidden_of, seen_from, seen, none_hidden}
 pub use Rattle.tso_report.specs.declared.named.Named.TheVariants.{Register, Location}
 pub use Rattle.outcome_report.specs.inner.Hidden.{IsNotHidden}
+pub use Rattle.std.proofs.lemmas.Result.{on_ok_weaker}

@@ -1,7 +1,9 @@
 -- What is written of the states that are kept.
-use Rattle.outcome_report.proofs.Vocabulary.{◌≡◌, ◌∙◌, ℕ, List, [], ◌∷◌, ◌++◌, map, length, Vec, Bor, refl, sym, ap, subst, append_assoc, append-nil, values_of, Global, length-map, map-append, All-head, All-tail, array, view, items_of, Litmus, FinalState, shown_value, Named, Outcome, outcome_of, shown_values, state_line, by_line, outcome_lines, outcomes_line, condition_lines, outcomes_text, holds_in, state_value, states_value, IsOutcomeOf, kept_of, AreShown, kept_lines, kept_values}
+use Rattle.outcome_report.proofs.Vocabulary.{◌≡◌, ◌∙◌, ℕ, Bool, Option, Some, codes, Condition, held_in, failed_in, true_in, printed_numbers, List, [], ◌∷◌, ◌++◌, map, length, Vec, Bor, refl, sym, ap, subst, append_assoc, append-nil, values_of, Global, length-map, map-append, All-head, All-tail, array, view, items_of, Litmus, FinalState, shown_value, Named, Outcome, outcome_of, shown_values, state_line, by_line, outcome_lines, outcomes_line, condition_lines, outcomes_text, holds_in, state_value, states_value, IsOutcomeOf, kept_of, AreShown, kept_lines, kept_values}
 use Rattle.serde_json.specs.declared.value.Value.{Value}
-use Rattle.tso_report.specs.Report.{test_line}
+use Rattle.tso_report.specs.Report.{line, test_line}
+use Rattle.tso_report.specs.Tally.{observed_line}
+use Rattle.outcome_report.specs.Verdict.{is_met, verdict_line}
 use Rattle.outcome_report.proofs.Truths.{Entries, as-many}
 
 abbrev Is : Litmus → List Named → List ℕ × Outcome → Type 0
@@ -39,6 +41,30 @@ text-whole t names depth n es empty first second third all shown many none is_fi
     (is_second ∙ ap (λ k. first ++ outcomes_line depth k) (many ∙ sym (as-many es)))
     (is_third ∙ ap (λ x. second ++ x) (lines-shown t names (kept_of es) shown))
     is
+
+-- what is said of a condition, put together from its parts
+abbrev said : List ℕ → List ℕ → List ℕ → ℕ → ℕ → List ℕ → List ℕ
+said empty numbers name held failed verdict = empty ++ (observed_line name held failed ++ ((codes "True" ++ line numbers) ++ verdict))
+
+said-together : (a b d e g w : List ℕ) → ((((a ++ b) ++ d) ++ e) ++ g) ++ w ≡ a ++ (b ++ ((d ++ (e ++ g)) ++ w))
+said-together a b d e g w = simp append_assoc
+
+pub condition-whole : (t : Litmus) (c : Condition) (o : Option Condition) (outcomes : List Outcome) (name : List ℕ) (held failed : ℕ) (met : Bool)
+    (empty first second third fourth all : List ℕ) → Some c ≡ o → name ≡ t.name → held ≡ held_in c.claim outcomes → failed ≡ failed_in c.claim outcomes
+    → met ≡ is_met c.quantifier held failed → first ≡ empty ++ observed_line name held failed → second ≡ first ++ codes "True"
+    → third ≡ second ++ printed_numbers (true_in c.claim outcomes) → fourth ≡ third ++ (10 ∷ []) → all ≡ fourth ++ verdict_line o met
+    → all ≡ empty ++ condition_lines t.name o outcomes
+condition-whole t c o outcomes name held failed met empty first second third fourth all is n h f m is_first is_second is_third is_fourth is_all =
+    let numbers = printed_numbers (true_in c.claim outcomes) in
+    is_all
+    ∙ (ap (λ z. z ++ verdict_line o met) (is_fourth ∙ ap (λ z. z ++ (10 ∷ [])) (is_third ∙ ap (λ z. z ++ numbers) (is_second ∙ ap (λ z. z ++ codes "True") is_first)))
+    ∙ (said-together empty (observed_line name held failed) (codes "True") numbers (10 ∷ []) (verdict_line o met)
+    ∙ (ap (λ x. said empty numbers name held failed (verdict_line x met)) (sym is)
+    ∙ (ap (λ b. said empty numbers name held failed (verdict_line (Some c) b)) m
+    ∙ (ap (λ x. said empty numbers x held failed (verdict_line (Some c) (is_met c.quantifier held failed))) n
+    ∙ (ap (λ x. said empty numbers t.name x failed (verdict_line (Some c) (is_met c.quantifier x failed))) h
+    ∙ (ap (λ x. said empty numbers t.name (held_in c.claim outcomes) x (verdict_line (Some c) (is_met c.quantifier (held_in c.claim outcomes) x))) f
+    ∙ ap (λ x. empty ++ condition_lines t.name x outcomes) is)))))))
 
 -- ---- the values of one state after the other
 

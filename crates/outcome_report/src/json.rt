@@ -8,12 +8,13 @@ ghost use Rattle.serde_json.specs.View.{view, members_view};
 ghost use Rattle.explorer.specs.declared.final_states.FinalState.{FinalState};
 ghost use Rattle.tso_report.specs.inner.Tally.{NameExists};
 ghost use Rattle.outcome_report.specs.Outcomes.{outcome_of};
-ghost use Rattle.outcome_report.specs.OutcomesJson.{key_of, value_members, state_value, states_value, holds_in};
+ghost use Rattle.outcome_report.specs.OutcomesJson.{value_members, state_value, states_value, holds_in};
 ghost use Rattle.outcome_report.specs.OutcomesJson.{observation_value, outcomes_value, outcomes_json, unfinished_outcomes_json};
 ghost use Rattle.outcome_report.specs.inner.Shown.{AreNamesOf, IsOutcomeOf, kept_of, AreShown};
-ghost use Rattle.outcome_report.specs.inner.Written.{put_holds, with_found};
+ghost use Rattle.outcome_report.specs.inner.Written.{found_value, put_holds, with_found};
 
 use crate::counting::counts_of;
+use crate::keys::key_text;
 use crate::outcomes::Outcomes;
 use crate::verdict::{is_met_in, outcomes_verdict_value};
 use explorer::FinalState;
@@ -26,22 +27,51 @@ use tso_report::members::{Datum, object_of};
 use tso_report::named::Named;
 use tso_report::observation::frequency;
 
+/// The final states of a search that are printed.
+#[derive(Clone, Copy)]
+pub struct Found<'a, 'b> {
+    pub test: &'a Test,
+    pub depth: u8,
+    /// The registers and locations that are shown.
+    pub names: &'a [Named],
+    pub outcomes: &'a Outcomes<'b>,
+}
+
+/// What stands under a key of final states.
+#[derive(Clone, Copy)]
+pub(crate) enum FoundPart {
+    /// The depth of the search.
+    Depth,
+    /// In how many states the condition's proposition is true, and in how many false.
+    Observation,
+    /// The states.
+    States,
+    /// The test's name.
+    Test,
+    /// Whether the condition is as it claims.
+    Verdict,
+}
+
+/// What the final states of a test have, by its keys.
+const FOUND_PARTS: [(&str, FoundPart); 5] = [
+    ("depth", FoundPart::Depth),
+    ("observation", FoundPart::Observation),
+    ("states", FoundPart::States),
+    ("test", FoundPart::Test),
+    ("verdict", FoundPart::Verdict),
+];
+
 /// The final states of a test as JSON: an object of the depth, the observation, the states, the test
 /// and the verdict, printed compact, and a line feed.
 ///
 /// Errors: out of memory only.
-pub fn outcomes_json(
-    alloc: Global,
-    test: &Test,
-    depth: u8,
-    names: &[Named],
-    outcomes: &Outcomes,
-) -> Result<String, NoMemory>
-    requires names { AreNamesOf test.now names.now }
-    requires shown { AreShown test.now names.now (kept_of outcomes.now.entries) }
-    ensures { IfOk result (λ text. string_bytes text ≡ outcomes_json test.now names.now depth (values_of (kept_of outcomes.now.entries))) }
+pub fn outcomes_json(alloc: Global, found: &Found<'_, '_>) -> Result<String, NoMemory>
+    requires names { AreNamesOf found.now.test.now found.now.names.now }
+    requires shown { AreShown found.now.test.now found.now.names.now (kept_of found.now.outcomes.now.entries) }
+    ensures { IfOk result (λ text. string_bytes text
+        ≡ outcomes_json found.now.test.now found.now.names.now found.now.depth (values_of (kept_of found.now.outcomes.now.entries))) }
 {
-    let value = outcomes_value(alloc, test, depth, names, outcomes)?;
+    let value = outcomes_value(alloc, found)?;
     line_of(alloc, &value)
 }
 
@@ -59,45 +89,52 @@ pub fn unfinished_outcomes_json(
     line_of(alloc, &value)
 }
 
-fn outcomes_value(
-    alloc: Global,
-    test: &Test,
-    depth: u8,
-    names: &[Named],
-    outcomes: &Outcomes,
-) -> Result<Value, NoMemory>
-    requires names { AreNamesOf test.now names.now }
-    requires shown { AreShown test.now names.now (kept_of outcomes.now.entries) }
-    ensures { IfOk result (λ value. view value ≡ outcomes_value test.now names.now depth (values_of (kept_of outcomes.now.entries))) }
+fn outcomes_value(alloc: Global, found: &Found<'_, '_>) -> Result<Value, NoMemory>
+    requires names { AreNamesOf found.now.test.now found.now.names.now }
+    requires shown { AreShown found.now.test.now found.now.names.now (kept_of found.now.outcomes.now.entries) }
+    ensures { IfOk result (λ value. view value
+        ≡ outcomes_value found.now.test.now found.now.names.now found.now.depth (values_of (kept_of found.now.outcomes.now.entries))) }
 {
     let mut members = Map::new(alloc);
-    put(&mut members, alloc, "depth", Value::from(depth))?;
-    put_found(&mut members, alloc, test, names, outcomes)?;
+    put_parts(&mut members, alloc, found, &FOUND_PARTS)?;
     Ok(Value::Object(members))
 }
 
-/// Puts the observation, the states, the test's name and the verdict.
-fn put_found(
+/// Puts what stands under each of these keys.
+fn put_parts(
     members: &mut Map<String, Value>,
     alloc: Global,
-    test: &Test,
-    names: &[Named],
-    outcomes: &Outcomes,
+    found: &Found<'_, '_>,
+    parts: &[(&str, FoundPart)],
 ) -> Result<(), NoMemory>
-    requires names { AreNamesOf test.now names.now }
-    requires shown { AreShown test.now names.now (kept_of outcomes.now.entries) }
+    requires names { AreNamesOf found.now.test.now found.now.names.now }
+    requires shown { AreShown found.now.test.now found.now.names.now (kept_of found.now.outcomes.now.entries) }
     ensures { OnOk result (members_view members.new.entries
-        ≡ with_found test.now names.now (values_of (kept_of outcomes.now.entries)) (members_view members.old.entries)) }
+        ≡ with_found found.now.test.now found.now.names.now found.now.depth (values_of (kept_of found.now.outcomes.now.entries)) parts.now (members_view members.old.entries)) }
 {
-    let observation = observation_value(alloc, test, names, outcomes)?;
-    put(members, alloc, "observation", observation)?;
-    let states = states_value(alloc, test, names, outcomes)?;
-    put(members, alloc, "states", states)?;
-    let name = Value::try_from_str(alloc, test.name())?;
-    put(members, alloc, "test", name)?;
-    let verdict = outcomes_verdict_value(alloc, test, is_met_in(test, names, outcomes))?;
-    put(members, alloc, "verdict", verdict)?;
+    for (key, part) in parts {
+        let value = found_value(alloc, found, *part)?;
+        put(members, alloc, key, value)?;
+    }
     Ok(())
+}
+
+fn found_value(alloc: Global, found: &Found<'_, '_>, part: FoundPart) -> Result<Value, NoMemory>
+    requires names { AreNamesOf found.now.test.now found.now.names.now }
+    requires shown { AreShown found.now.test.now found.now.names.now (kept_of found.now.outcomes.now.entries) }
+    ensures { IfOk result (λ value. view value
+        ≡ found_value found.now.test.now found.now.names.now found.now.depth (values_of (kept_of found.now.outcomes.now.entries)) part) }
+{
+    let test = found.test;
+    let names = found.names;
+    let outcomes = found.outcomes;
+    match part {
+        FoundPart::Depth => Ok(Value::from(found.depth)),
+        FoundPart::Observation => observation_value(alloc, test, names, outcomes),
+        FoundPart::States => states_value(alloc, test, names, outcomes),
+        FoundPart::Test => Ok(Value::try_from_str(alloc, test.name())?),
+        FoundPart::Verdict => outcomes_verdict_value(alloc, test, is_met_in(test, names, outcomes)),
+    }
 }
 
 fn observation_value(
@@ -195,24 +232,8 @@ pub fn values_value(
 {
     let mut members = Map::new(alloc);
     for at in (0..names.len()).rev() {
-        let key = key_of(alloc, test, names[at])?;
+        let key = key_text(alloc, test, names[at])?;
         put(&mut members, alloc, &key, Value::from(values[at]))?;
     }
     Ok(Value::Object(members))
-}
-
-/// `c:EAX`, or `x`.
-fn key_of(alloc: Global, test: &Test, named: Named) -> Result<String, NoMemory>
-    requires { NameExists (length test.now.programs) (length test.now.locations) named }
-    ensures { IfOk result (λ key. string_bytes key ≡ key_of test.now named) }
-{
-    let mut key = String::new(alloc);
-    match named {
-        Named::Register(core, reg) => {
-            let (core, name) = (core.0, reg.name());
-            write!(key, "{core}:{name}")?;
-        }
-        Named::Location(loc) => key.push_str(test.location_name(loc))?,
-    }
-    Ok(key)
 }

@@ -9,6 +9,7 @@ pub mod alike_outcomes;
 mod counting;
 pub mod hidden;
 pub mod json;
+pub mod keys;
 mod outcomes;
 pub mod report;
 mod text;

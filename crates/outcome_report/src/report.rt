@@ -8,7 +8,7 @@ ghost use Rattle.shown_values.specs.Shown as shown;
 ghost use Rattle.outcome_report.specs.Printed.{PrintsOutcomes, outcomes_in, unfinished_search_in};
 ghost use Rattle.outcome_report.specs.inner.Shown.{AreNamesOf, AreShown, kept_of};
 
-use crate::json::{outcomes_json, unfinished_outcomes_json};
+use crate::json::{Found, outcomes_json, unfinished_outcomes_json};
 use crate::outcomes::{Outcomes, outcomes_of};
 use crate::text::{outcomes_text, unfinished_text};
 use crate::verdict::{is_as_claimed, is_met_in};
@@ -70,7 +70,13 @@ fn text_of(
     ensures { IfOk result (λ text. string_bytes text ≡ outcomes_in json test.now names.now depth (values_of (kept_of outcomes.now.entries))) }
 {
     if json {
-        outcomes_json(alloc, test, depth, names, outcomes)
+        let found = Found {
+            test,
+            depth,
+            names,
+            outcomes,
+        };
+        outcomes_json(alloc, &found)
     } else {
         outcomes_text(alloc, test, depth, names, outcomes)
     }

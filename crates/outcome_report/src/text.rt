@@ -5,15 +5,15 @@ ghost use Rattle.std.specs.Prelude.{◌≡◌, ◌++◌, IfOk, OnOk, string_byte
 ghost use Rattle.std.specs.Fmt.{decimal};
 ghost use Rattle.tso_model.specs.Condition.{claim_of};
 ghost use Rattle.std.specs.Map.{values_of};
-ghost use Rattle.outcome_report.specs.Outcomes.{outcomes_line, state_line, by_line, observation_line};
-ghost use Rattle.outcome_report.specs.Outcomes.{printed_numbers, true_in, true_line, condition_lines};
+ghost use Rattle.outcome_report.specs.Outcomes.{outcomes_line, state_line, by_line};
+ghost use Rattle.outcome_report.specs.Outcomes.{printed_numbers, true_in, condition_lines};
 ghost use Rattle.outcome_report.specs.Outcomes.{outcomes_text, unfinished_outcomes_line};
 ghost use Rattle.outcome_report.specs.inner.Shown.{AreNamesOf, AllHave, kept_of, AreShown};
 ghost use Rattle.outcome_report.specs.inner.Written.{kept_lines};
 
 use crate::counting::counts_of;
 use crate::outcomes::Outcomes;
-use crate::verdict::{is_met_in, write_verdict};
+use crate::verdict::{is_met, write_verdict};
 use scheduler::write_after;
 use std::alloc::Global;
 use tso_model::{Choice, Cond, NoMemory, Test, cond_holds};
@@ -53,8 +53,13 @@ pub fn outcomes_text(
 pub fn unfinished_text(alloc: Global, limit: usize) -> Result<String, NoMemory>
     ensures { IfOk result (λ text. string_bytes text ≡ unfinished_outcomes_line limit) }
 {
+    let pieces = [
+        Piece::Text("Unfinished states="),
+        Piece::Number(limit as u64),
+        Piece::Text("\n"),
+    ];
     let mut text = String::new(alloc);
-    write!(text, "Unfinished states={limit}\n")?;
+    write_pieces(&mut text, &pieces)?;
     Ok(text)
 }
 
@@ -83,39 +88,31 @@ fn write_states(
     ensures { OnOk result (string_bytes text.new ≡ string_bytes text.old ++ kept_lines test.now names.now (kept_of outcomes.now.entries)) }
 {
     for (values, state) in outcomes.iter() {
-        write_state(text, test, names, values)?;
-        write_by(text, &state.choices)?;
+        write_state(text, test, names, values, &state.choices)?;
     }
     Ok(())
 }
 
-/// `State 0:EAX=v x=v ..`.
+/// `State 0:EAX=v x=v ..`, and `By 0s 1s 0d ..`.
 fn write_state(
     text: &mut String,
     test: &Test,
     names: &[Named],
     values: &[u32],
+    choices: &[Choice],
 ) -> Result<(), NoMemory>
     requires { AreNamesOf test.now names.now }
-    ensures { OnOk result (string_bytes text.new ≡ string_bytes text.old ++ state_line test.now names.now values.now) }
+    ensures { OnOk result (string_bytes text.new
+        ≡ string_bytes text.old ++ (state_line test.now names.now values.now ++ by_line choices.now)) }
 {
     text.push_str("State")?;
     write_values(text, test, names, values)?;
-    text.push('\n')?;
-    Ok(())
-}
-
-/// `By 0s 1s 0d ..`.
-fn write_by(text: &mut String, choices: &[Choice]) -> Result<(), NoMemory>
-    ensures { OnOk result (string_bytes text.new ≡ string_bytes text.old ++ by_line choices.now) }
-{
-    text.push_str("By")?;
+    text.push_str("\nBy")?;
     write_after(text, choices)?;
-    text.push('\n')?;
-    Ok(())
+    Ok(text.push('\n')?)
 }
 
-/// What is said of the condition, where the test has one.
+/// What is said of the condition, where the test has one: `Observation NAME Sometimes P Q`, `True 1 4 7`, and the verdict.
 fn write_condition(
     text: &mut String,
     test: &Test,
@@ -126,48 +123,15 @@ fn write_condition(
     ensures { OnOk result (string_bytes text.new ≡ string_bytes text.old
         ++ condition_lines test.now.name test.now.condition (values_of (kept_of outcomes.now.entries))) }
 {
-    write_observation(text, test, names, outcomes)?;
-    write_true(text, test, names, outcomes)?;
-    write_verdict(text, test, is_met_in(test, names, outcomes))
-}
-
-/// `Observation NAME Sometimes P Q`, where the test has a condition.
-fn write_observation(
-    text: &mut String,
-    test: &Test,
-    names: &[Named],
-    outcomes: &Outcomes,
-) -> Result<(), NoMemory>
-    requires { AreShown test.now names.now (kept_of outcomes.now.entries) }
-    ensures { OnOk result (string_bytes text.new ≡ string_bytes text.old
-        ++ observation_line test.now.name test.now.condition (values_of (kept_of outcomes.now.entries))) }
-{
-    match test.cond() {
-        None => Ok(()),
-        Some(cond) => {
-            let (held, failed) = counts_of(cond, outcomes);
-            write_observed(text, test.name(), held, failed)
-        }
-    }
-}
-
-/// `True 1 4 7`, where the test has a condition.
-fn write_true(
-    text: &mut String,
-    test: &Test,
-    names: &[Named],
-    outcomes: &Outcomes,
-) -> Result<(), NoMemory>
-    requires { AreShown test.now names.now (kept_of outcomes.now.entries) }
-    ensures { OnOk result (string_bytes text.new ≡ string_bytes text.old
-        ++ true_line test.now.condition (values_of (kept_of outcomes.now.entries))) }
-{
-    if let Some(cond) = test.cond() {
-        text.push_str("True")?;
-        write_numbers(text, cond, outcomes)?;
-        text.push('\n')?;
-    }
-    Ok(())
+    let Some(cond) = test.cond() else {
+        return Ok(());
+    };
+    let (held, failed) = counts_of(cond, outcomes);
+    write_observed(text, test.name(), held, failed)?;
+    text.push_str("True")?;
+    write_numbers(text, cond, outcomes)?;
+    text.push('\n')?;
+    write_verdict(text, test, is_met(cond.quantifier, held, failed))
 }
 
 /// ` 1 4 7`: the numbers of the states, from 1, in which the proposition is true.
@@ -189,6 +153,5 @@ fn write_numbers(text: &mut String, cond: &Cond, outcomes: &Outcomes) -> Result<
 fn write_number(text: &mut String, number: usize) -> Result<(), NoMemory>
     ensures { OnOk result (string_bytes text.new ≡ string_bytes text.old ++ (codes " " ++ decimal number)) }
 {
-    write!(text, " {number}")?;
-    Ok(())
+    write_pieces(text, &[Piece::Text(" "), Piece::Number(number as u64)])
 }

@@ -13,6 +13,7 @@ use serde_json::Value;
 use std::alloc::Global;
 use tso_model::{NoMemory, Quantifier, Test};
 use tso_report::named::Named;
+use tso_report::pieces::{Piece, write_pieces};
 
 /// Whether what the test's condition asks for is so in one of the states: of `exists` and `~exists` that its proposition
 /// is true, of `forall` that it is false. Without a condition nothing is asked for.
@@ -29,7 +30,8 @@ pub fn is_met_in(test: &Test, names: &[Named], outcomes: &Outcomes) -> bool
     }
 }
 
-fn is_met(quantifier: Quantifier, held: usize, failed: usize) -> bool
+/// Whether what a condition asks for is so in one of the states, in so many of which its proposition is true, and in so many false.
+pub fn is_met(quantifier: Quantifier, held: usize, failed: usize) -> bool
     ensures { result ≡ spec.is_met quantifier held failed }
 {
     match quantifier {
@@ -75,11 +77,17 @@ fn verdict_word(quantifier: Quantifier, allowed: bool) -> &'static str
 pub fn write_verdict(text: &mut String, test: &Test, allowed: bool) -> Result<(), NoMemory>
     ensures { OnOk result (string_bytes text.new ≡ string_bytes text.old ++ spec.verdict_line test.now.condition allowed) }
 {
-    if let Some(cond) = test.cond() {
-        let word = verdict_word(cond.quantifier, allowed);
-        write!(text, "Verdict {word}\n")?;
+    match test.cond() {
+        None => Ok(()),
+        Some(cond) => {
+            let pieces = [
+                Piece::Text("Verdict "),
+                Piece::Text(verdict_word(cond.quantifier, allowed)),
+                Piece::Text("\n"),
+            ];
+            write_pieces(text, &pieces)
+        }
     }
-    Ok(())
 }
 
 /// `Ok` or `No`, or `null` where the test has no condition.

@@ -1,11 +1,15 @@
 -- What is written of the states that are kept: their values stand beside them, and aren't looked up again.
 use Rattle.std.specs.Prelude.{ℕ, Bool, List, [], ◌∷◌, ◌++◌, map, Option, Some, None, codes}
+use Rattle.std.specs.Borrow.{Bor}
 use Rattle.serde_json.specs.Data.{Data, boolean, string, Members, put}
 use Rattle.tso_model.specs.Litmus.{Litmus}
+use Rattle.tso_report.specs.Json.{count}
 use Rattle.tso_report.specs.declared.named.Named.{Named}
 use Rattle.outcome_report.specs.Outcomes.{Outcome, state_line, by_line, is_met_in}
 use Rattle.outcome_report.specs.OutcomesJson.{state_value, holds_in, states_value, observation_value}
 use Rattle.outcome_report.specs.Verdict.{outcomes_verdict_value}
+use Rattle.outcome_report.specs.declared.json.FoundPart.{FoundPart}
+use Rattle.outcome_report.specs.declared.json.FoundPart.TheVariants as parts
 
 -- both lines of each
 abbrev pub kept_lines : Litmus → List Named → List (List ℕ × Outcome) → List ℕ
@@ -21,10 +25,16 @@ abbrev pub put_holds : Option Bool → Members → Members
 put_holds None members = members
 put_holds (Some holds) members = put (codes "holds") (boolean holds) members
 
--- what was found, put among these members
-abbrev pub with_found : Litmus → List Named → List Outcome → Members → Members
-with_found t names outcomes members =
-    put (codes "verdict") (outcomes_verdict_value t.condition (is_met_in t.condition outcomes))
-    (put (codes "test") (string t.name)
-    (put (codes "states") (states_value t names outcomes)
-    (put (codes "observation") (observation_value t.condition outcomes) members)))
+-- what stands under a key of final states
+abbrev pub found_value : Litmus → List Named → ℕ → List Outcome → FoundPart → Data
+found_value t names depth outcomes parts.Depth = count depth
+found_value t names depth outcomes parts.Observation = observation_value t.condition outcomes
+found_value t names depth outcomes parts.States = states_value t names outcomes
+found_value t names depth outcomes parts.Test = string t.name
+found_value t names depth outcomes parts.Verdict = outcomes_verdict_value t.condition (is_met_in t.condition outcomes)
+
+-- these members, and one for each of these keys
+abbrev pub with_found : Litmus → List Named → ℕ → List Outcome → List (Bor (List ℕ) × FoundPart) → Members → Members
+with_found t names depth outcomes [] members = members
+with_found t names depth outcomes (p ∷ ps) members =
+    with_found t names depth outcomes ps (put p.0.now (found_value t names depth outcomes p.1) members)

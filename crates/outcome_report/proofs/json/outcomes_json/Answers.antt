@@ -4,4 +4,5 @@ use Rattle.outcome_report.proofs.json.outcomes_json.Goals as goal
 
 pub line_of-requires : goal.line_of-requires
 line_of-requires c =
-    ap has_float c.in_ok-value.ensures ∙ outcomes_have_no_float c.args.test.now c.args.names.now c.args.depth (values_of (kept_of c.args.outcomes.now.entries))
+    let found = c.args.found.now in
+    ap has_float c.in_ok-value.ensures ∙ outcomes_have_no_float found.test.now found.names.now found.depth (values_of (kept_of found.outcomes.now.entries))
