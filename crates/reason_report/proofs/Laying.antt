@@ -1,5 +1,5 @@
 -- Tasks and the parts that they are for.
-use Rattle.reason_report.proofs.Vocabulary.{ℕ, suc, zero, ◌+◌, ◌-◌, ◌<◌, ◌==◌, get_or, Option, Some, None, ◌≡◌, ◌≤◌, Bool, true, false, not, cond, List, [], ◌∷◌, ◌++◌, length, drop, map, refl, sym, ap, ◌∙◌, arith, subst, append_assoc, append-nil, drop_all, filter, replicate, flat_map, Litmus, Claim, Known, Model, Part, Branch, ReasonStep, is_leaf, is_closed, branches_with, with_reply, so_steps, case_steps, rest_steps, closed_case, groups, leaf_steps, grown, Reply, reason_step_of, first_part, Task, Passed, Case, So, Endcases, task_of, tasks_of, branch_task, branch_tasks, end_of, as_branch, emit, task_depth, TasksAreWithin, spec_wanted, with_wanted, ended_by, drop-cons}
+use Rattle.reason_report.proofs.Vocabulary.{ℕ, suc, zero, ◌+◌, ◌-◌, ◌<◌, ◌==◌, get_or, Option, Some, None, ◌≡◌, ◌≤◌, Bool, true, false, not, cond, List, [], ◌∷◌, ◌++◌, length, drop, map, refl, sym, ap, ◌∙◌, arith, subst, append_assoc, append-nil, drop_all, filter, replicate, flat_map, Litmus, Claim, Known, Model, Part, Branch, ReasonStep, is_leaf, is_closed, branches_with, with_reply, so_steps, case_steps, rest_steps, closed_case, groups, leaf_steps, grown, Reply, reason_step_of, first_part, Task, Passed, Case, So, Endcases, task_of, tasks_of, branch_task, branch_tasks, end_of, as_branch, emit, depth_below, task_depth, TasksAreWithin, spec_wanted, with_wanted, ended_by, drop-cons}
 use Rattle.std.proofs.lemmas.Bool.Decides.{nat_tests}
 use Rattle.refutation_laws.specs.Refutations as refutations
 use Rattle.reason_report.specs.Steps as spec
@@ -230,6 +230,18 @@ module _ (t : Litmus) (whole : List Part) (p : Part) (ps : List Part) (is : whol
       pushed before after s ((first_part whole).steps d k ++ emit t ts (drop 1 whole)) more
       ∙ (ap (λ x. map reason_step_of before ++ (x ∷ ((first_part whole).steps d k ++ emit t ts (drop 1 whole)))) line
       ∙ ap (λ w. map reason_step_of before ++ emit t (So d reply k ∷ ts) w) (sym (shape whole p ps is)))
+
+  pub answer-laid : (single : Bool) → reason_step_of s ≡ cond single (spec.So d (spec.answer_at t k reply (reply ∷ []))) (spec.Case d (spec.answer_at t k reply (reply ∷ [])))
+      → map reason_step_of after ++ ((first_part whole).steps (depth_below single d) k ++ emit t ts (drop 1 whole))
+      ≡ map reason_step_of before ++ emit t (cond single (So d reply k) (Case d reply k) ∷ ts) whole
+  answer-laid true line = so-laid line
+  answer-laid false line = case-laid line
+
+-- how deep the part of an answer stands, by its task
+pub answered-within : (most : ℕ) (single : Bool) (d : ℕ) (reply : Reply) (k : Known) → task_depth (cond single (So d reply k) (Case d reply k)) ≤ most
+    → depth_below single d ≤ most
+answered-within most true d reply k h = h
+answered-within most false d reply k h = h
 
 -- ---- the tasks of a question
 

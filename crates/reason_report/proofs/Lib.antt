@@ -6,4 +6,5 @@ pub mod Growing
 pub mod Laying
 pub mod Moving
 pub mod NoFloats
+pub mod Sections
 pub mod Shown

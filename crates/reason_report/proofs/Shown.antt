@@ -3,10 +3,10 @@ use Rattle.reason_report.proofs.Vocabulary.{ℕ, suc, zero, ◌+◌, ◌||◌, �
 use Rattle.tso_model.specs.Axioms.{counting, IsTsoExecution}
 use Rattle.relational_model.specs.Candidates.{Candidate, words_left}
 use Rattle.refutation_laws.specs.declared.model.Model.TheVariants.{Tso, Sequential}
-use Rattle.scheduler.specs.Printed.{printed_choices}
+use Rattle.scheduler.specs.Printed.{printed_after, printed_choices}
+use Rattle.tso_report.specs.Tally.{printed_values}
 use Rattle.outcome_report.specs.Outcomes.{by_line, state_line}
 use Rattle.reason_report.specs.ReasonText.{source_text, read_source}
-use Rattle.reason_report.specs.inner.Shown as inner
 use Rattle.reason_report.specs.inner.Shown.{event_of, event_of_write}
 use Rattle.reason_report.specs.declared.steps.Event.{Event}
 
@@ -140,41 +140,62 @@ lines-with model t choices r q v =
     test_line t ++ (codes "Allowed " ++ (line (model_name model) ++ (asked_line t.condition
     ++ (r ++ (q ++ (by_line choices ++ (state_line t (looked_at t) v ++ verdict_line t.condition true)))))))
 
-abbrev value-with : Model → Litmus → List Choice → List Data → Members → List ℕ → Data
-value-with model t choices d m v =
+-- the lines of these parts, and a value of these
+abbrev lines-from : (n m a r q b v w : List ℕ) → List ℕ
+lines-from n m a r q b v w =
+    (codes "Test " ++ line n) ++ (codes "Allowed " ++ (line m ++ (a ++ (r ++ (q ++ ((codes "By" ++ line b) ++ ((codes "State" ++ line v) ++ w)))))))
+
+abbrev value-from : Litmus → List Choice → List ℕ → List ℕ → List Data → Members → Members → Data
+value-from t choices n m d ms vs =
     object (member (codes "answer") (string (codes "allowed"))
     (member (codes "asked") (asked_value t.condition)
     (member (codes "choices") (string (printed_choices choices))
-    (member (codes "coherence") (object m)
-    (member (codes "model") (string (model_name model))
+    (member (codes "coherence") (object ms)
+    (member (codes "model") (string m)
     (member (codes "sources") (array (items_of d))
-    (member (codes "test") (string t.name)
-    (member (codes "values") (object (value_members t (looked_at t) v))
+    (member (codes "test") (string n)
+    (member (codes "values") (object vs)
     (member (codes "verdict") (outcomes_verdict_value t.condition true) no_members)))))))))
 
-joined : (z a b p c d e f g h : List ℕ) → ((((z ++ (a ++ ((b ++ p) ++ c))) ++ d) ++ e) ++ (f ++ g)) ++ h ≡ z ++ (a ++ (b ++ (p ++ (c ++ (d ++ (e ++ (f ++ (g ++ h))))))))
-joined z a b p c d e f g h = simp append_assoc
+joined : (n m a r q b v w : List ℕ)
+    → (codes "Test " ++ n) ++ ((10 ∷ (codes "Allowed " ++ m)) ++ ((10 ∷ a) ++ (r ++ (q ++ ((codes "By" ++ b) ++ ((10 ∷ (codes "State" ++ v)) ++ ((10 ∷ w) ++ [])))))))
+    ≡ lines-from n m a r q b v w
+joined n m a r q b v w = simp (append_assoc, append-nil)
 
 module _ (model : Model) (t : Litmus) (order : List Entry) (xs : List Reading) (vs : List ℕ) (choices : List Choice) (c : Candidate)
-    (shown : IsShown t order xs vs c) where
-  pub text-is : (e0 e1 e2 e3 e4 e5 : List ℕ) → e1 ≡ e0 ++ (test_line t ++ (inner.allowed_line model ++ asked_line t.condition))
-      → e2 ≡ e1 ++ flat_map (reading_line t) xs → e3 ≡ e2 ++ coherence_by t order 0 t.locations
-      → e4 ≡ e3 ++ (by_line choices ++ state_line t (looked_at t) vs) → e5 ≡ e4 ++ verdict_line t.condition true → e5 ≡ e0 ++ allowed_text model t c choices
-  text-is e0 e1 e2 e3 e4 e5 h1 h2 h3 h4 h5 =
-      h5
-      ∙ (ap (λ z. z ++ verdict_line t.condition true) (h4 ∙ ap (λ z. z ++ (by_line choices ++ state_line t (looked_at t) vs))
-      (h3 ∙ ap (λ z. z ++ coherence_by t order 0 t.locations) (h2 ∙ ap (λ z. z ++ flat_map (reading_line t) xs) h1)))
-      ∙ (joined e0 (test_line t) (codes "Allowed ") (line (model_name model)) (asked_line t.condition) (flat_map (reading_line t) xs)
-      (coherence_by t order 0 t.locations) (by_line choices) (state_line t (looked_at t) vs) (verdict_line t.condition true)
-      ∙ ap (λ z. e0 ++ z) (ap (λ r. lines-with model t choices r (coherence_by t order 0 t.locations) vs) (ap (flat_map (reading_line t)) shown.readings ∙ reads-lines t order c shown.coherence (reads_of t c))
-      ∙ (ap (λ q. lines-with model t choices (flat_map (from_line t c) (reads_of t c)) q vs) (locations-lines t order c shown.coherence t.locations 0)
-      ∙ ap (λ v. lines-with model t choices (flat_map (from_line t c) (reads_of t c)) (coherence_lines t c 0 t.locations) v) shown.values))))
+    (shown : IsShown t order xs vs c) (n m : List ℕ) (ns : List Named) (hn : n ≡ t.name) (hm : m ≡ model_name model) (hs : ns ≡ looked_at t) where
+  abbrev a : List ℕ
+  a = asked_line t.condition
 
-  pub value-is : inner.shown_allowed_value model t order xs vs choices ≡ allowed_value model t c choices
+  abbrev q : List ℕ
+  q = coherence_by t order 0 t.locations
+
+  abbrev w : List ℕ
+  w = verdict_line t.condition true
+
+  pub text-is : (codes "Test " ++ n) ++ ((10 ∷ (codes "Allowed " ++ m)) ++ ((10 ∷ asked_line t.condition) ++ (flat_map (reading_line t) xs
+      ++ (coherence_by t order 0 t.locations ++ ((codes "By" ++ printed_after choices) ++ ((10 ∷ (codes "State" ++ printed_values t ns vs))
+      ++ ((10 ∷ verdict_line t.condition true) ++ [])))))))
+      ≡ allowed_text model t c choices
+  text-is =
+      joined n m a (flat_map (reading_line t) xs) q (printed_after choices) (printed_values t ns vs) w
+      ∙ (ap (λ z. lines-from z m a (flat_map (reading_line t) xs) q (printed_after choices) (printed_values t ns vs) w) hn
+      ∙ (ap (λ z. lines-from t.name z a (flat_map (reading_line t) xs) q (printed_after choices) (printed_values t ns vs) w) hm
+      ∙ (ap (λ z. lines-from t.name (model_name model) a (flat_map (reading_line t) xs) q (printed_after choices) (printed_values t z vs) w) hs
+      ∙ (ap (λ r. lines-with model t choices r q vs) (ap (flat_map (reading_line t)) shown.readings ∙ reads-lines t order c shown.coherence (reads_of t c))
+      ∙ (ap (λ p. lines-with model t choices (flat_map (from_line t c) (reads_of t c)) p vs) (locations-lines t order c shown.coherence t.locations 0)
+      ∙ ap (λ v. lines-with model t choices (flat_map (from_line t c) (reads_of t c)) (coherence_lines t c 0 t.locations) v) shown.values)))))
+
+  pub value-is : value-from t choices n m (map (reading_value t) xs) (coherence_members_by t order 0 t.locations) (value_members t ns vs) ≡ allowed_value model t c choices
   value-is =
-      ap (λ (d : List Data). value-with model t choices d (coherence_members_by t order 0 t.locations) vs) (ap (map (reading_value t)) shown.readings ∙ reads-values t order c shown.coherence (reads_of t c))
-      ∙ (ap (λ (m : Members). value-with model t choices (map (from_value t c) (reads_of t c)) m vs) (locations-members t order c shown.coherence t.locations 0)
-      ∙ ap (λ v. value-with model t choices (map (from_value t c) (reads_of t c)) (coherence_members t c 0 t.locations) v) shown.values)
+      ap (λ z. value-from t choices z m (map (reading_value t) xs) (coherence_members_by t order 0 t.locations) (value_members t ns vs)) hn
+      ∙ (ap (λ z. value-from t choices t.name z (map (reading_value t) xs) (coherence_members_by t order 0 t.locations) (value_members t ns vs)) hm
+      ∙ (ap (λ z. value-from t choices t.name (model_name model) (map (reading_value t) xs) (coherence_members_by t order 0 t.locations) (value_members t z vs)) hs
+      ∙ (ap (λ (d : List Data). value-from t choices t.name (model_name model) d (coherence_members_by t order 0 t.locations) (value_members t (looked_at t) vs))
+      (ap (map (reading_value t)) shown.readings ∙ reads-values t order c shown.coherence (reads_of t c))
+      ∙ (ap (λ (ms : Members). value-from t choices t.name (model_name model) (map (from_value t c) (reads_of t c)) ms (value_members t (looked_at t) vs))
+      (locations-members t order c shown.coherence t.locations 0)
+      ∙ ap (λ v. value-from t choices t.name (model_name model) (map (from_value t c) (reads_of t c)) (coherence_members t c 0 t.locations) (value_members t (looked_at t) v)) shown.values))))
 
 -- ---- where no write goes, and where one does
 
@@ -253,15 +274,14 @@ pub tso-of : (model : Model) (t : Litmus) (order : List Entry) → IsExecutionOf
 tso-of Tso t order h = h
 tso-of Sequential t order h = h.execution
 
-pub location-written : (e0 e1 e2 e3 e4 name ws : List ℕ) → e1 ≡ e0 ++ codes "Coherence " → e2 ≡ e1 ++ name → e3 ≡ e2 ++ ws → e4 ≡ e3 ++ (10 ∷ [])
-    → e4 ≡ e0 ++ (codes "Coherence " ++ (name ++ line ws))
-location-written e0 e1 e2 e3 e4 name ws h1 h2 h3 h4 =
-    h4
-    ∙ (ap (λ z. z ++ (10 ∷ [])) (h3 ∙ ap (λ z. z ++ ws) (h2 ∙ ap (λ z. z ++ name) h1))
-    ∙ together e0 (codes "Coherence ") name ws (10 ∷ []))
+pub location-written : (name written ws : List ℕ) → written ≡ name
+    → ((codes "Coherence " ++ written) ++ (ws ++ [])) ++ (10 ∷ []) ≡ codes "Coherence " ++ (name ++ line ws)
+location-written name written ws e = together written ws ∙ ap (λ z. codes "Coherence " ++ (z ++ line ws)) e
   where
-    together : (a b c d e : List ℕ) → (((a ++ b) ++ c) ++ d) ++ e ≡ a ++ (b ++ (c ++ (d ++ e)))
-    together a b c d e = simp append_assoc
+    together : (a b : List ℕ) → ((codes "Coherence " ++ a) ++ (b ++ [])) ++ (10 ∷ []) ≡ codes "Coherence " ++ (a ++ line b)
+    together a b =
+        append_assoc (codes "Coherence " ++ a) (b ++ []) (10 ∷ [])
+        ∙ (append_assoc (codes "Coherence ") a ((b ++ []) ++ (10 ∷ [])) ∙ ap (λ z. codes "Coherence " ++ (a ++ (z ++ (10 ∷ [])))) (append-nil b))
 
 pub known-moved : (a b cores locations : ℕ) (ns names : List Named) → cores ≡ a → locations ≡ b → names ≡ ns → All (NameExists a b) ns
     → All (NameExists cores locations) names
@@ -270,15 +290,12 @@ known-moved a b cores locations ns names ea eb en h =
     (subst (λ (y : ℕ). All (NameExists a y) names) (sym eb) (subst (All (NameExists a b)) (sym en) h))
 
 pub shows : (json : Bool) (model : Model) (t : Litmus) (order : List Entry) (choices : List Choice) (c : Candidate) → IsCandidateOf t order c → LeaveTheSame t order c
-    → (entries : List Entry) → entries ≡ made t order → (xs ys : List Reading) → AreReadings order (filter is_read entries) xs → ys ≡ xs
-    → (rs : List (List ℕ)) → rs ≡ final_registers t order → (ms : List ℕ) → ms ≡ final_words t order → (ns : List Named) → ns ≡ looked_at t
-    → (vs us : List ℕ) → vs ≡ map (shown_value rs ms) ns → us ≡ vs
+    → (xs ys : List Reading) → AreReadings order (filter is_read (made t order)) xs → ys ≡ xs → (ns : List Named) → ns ≡ looked_at t
+    → (vs us : List ℕ) → vs ≡ map (shown_value (final_registers t order) (final_words t order)) ns → us ≡ vs
     → (out : List ℕ) → ((d : Candidate) → IsShown t order ys us d → out ≡ allowed_in json model t d choices) → ShowsExecution json model t order choices out
-shows json model t order choices c of same entries es xs ys are ye rs re ms me ns ne vs us ve ue out f = record {
+shows json model t order choices c of same xs ys are ye ns ne vs us ve ue out f = record {
   candidate = c;
   of_order = of;
-  printed = f c (shown-is t order c of same ys
-      (subst (AreReadings order (filter is_read (made t order))) (sym ye) (subst (λ (zs : List Entry). AreReadings order (filter is_read zs) xs) es are)) us
-      (ue ∙ (ve ∙ (ap (λ r. map (shown_value r ms) ns) re ∙ (ap (λ m. map (shown_value (final_registers t order) m) ns) me
-      ∙ ap (map (shown_value (final_registers t order) (final_words t order))) ne)))));
+  printed = f c (shown-is t order c of same ys (subst (AreReadings order (filter is_read (made t order))) (sym ye) are) us
+      (ue ∙ (ve ∙ ap (map (shown_value (final_registers t order) (final_words t order))) ne)));
 }

@@ -21,7 +21,7 @@ pub use Rattle.reason_report.specs.Views.{reason_step_of, place_of}
 pub use Rattle.reason_report.specs.declared.closed.Closed.{Closed}
 pub use Rattle.reason_report.specs.inner.Closed.{IsClosed, BranchesAreClosed, closed_branch, same_truths, alike, known_alike}
 unfoldable pub use Rattle.reason_report.specs.inner.Closed.{rest_of}
-pub use Rattle.reason_report.specs.inner.Tasks.{Task, Passed, Case, So, Endcases, task_of, tasks_of, branch_task, branch_tasks, end_of, as_branch, emit, task_depth, TasksAreWithin, spec_wanted, with_wanted, ended_by}
+pub use Rattle.reason_report.specs.inner.Tasks.{Task, Passed, Case, So, Endcases, task_of, tasks_of, branch_task, branch_tasks, end_of, as_branch, emit, depth_below, task_of_answered, task_depth, TasksAreWithin, spec_wanted, with_wanted, ended_by}
 pub use Rattle.tso_model.specs.ProgramOrder.{writes_to, is_read, is_before}
 pub use Rattle.tso_model.specs.declared.choice.Choice.{Choice}
 pub use Rattle.tso_model.specs.declared.execution.Entry.{Entry}
@@ -29,7 +29,7 @@ pub use Rattle.order_builder.specs.PrintedOrder.{printed_entry}
 pub use Rattle.outcome_report.specs.OutcomesJson.{value_members, key_of}
 pub use Rattle.outcome_report.specs.Verdict.{outcomes_verdict_value, verdict_line}
 pub use Rattle.reason_report.specs.declared.readings.Reading.{Reading}
-pub use Rattle.reason_report.specs.inner.Shown.{reading_value, coherence_members_by, shown_allowed_value, last_or, ReadsIt, AreIn, AreReadings, IsShown, read_with_source, reading_line, coherence_by}
+pub use Rattle.reason_report.specs.inner.Shown.{reading_value, coherence_members_by, last_or, ReadsIt, AreIn, AreReadings, IsShown, read_with_source, reading_line, coherence_by}
 pub use Rattle.reason_report.specs.ReasonJson.{with_coherence, edge_value, edges_value, answer_value, place_members, closing_value, step_value, asked_value, never_value_of, from_value, coherence_members, allowed_value}
 pub use Rattle.serde_json.specs.Data.{Data, string, array, Members, no_members, member, put, object}
 pub use Rattle.serde_json.specs.View.{items_of, view, members_view}

@@ -1,21 +1,55 @@
-//! The steps of a refutation as JSON, for programs to read. It is one line, and its objects have their keys in the order of
-//! their bytes.
+//! A report as JSON, for programs to read. It is one line, and its objects have their keys in the order of their bytes.
 
-ghost use Rattle.std.specs.Prelude.{◌≡◌, [], IfOk, OnOk, string_bytes, map};
-ghost use Rattle.serde_json.specs.Data.{object, array};
+ghost use Rattle.std.specs.Prelude.{◌≡◌, ◌<◌, [], IfOk, OnOk, string_bytes, length, filter, map, slice_index_or};
+ghost use Rattle.serde_json.specs.Data.{object, array, no_members};
 ghost use Rattle.serde_json.specs.View.{view, members_view, items_of};
+ghost use Rattle.serde_json.specs.Written.{compact_text};
+ghost use Rattle.tso_model.specs.ProgramOrder as program_order;
+ghost use Rattle.tso_report.specs.Report.{line};
 ghost use Rattle.reason_report.specs.ReasonJson as spec;
-ghost use Rattle.reason_report.specs.Views.{answer_of, closing_of, reason_step_of};
+ghost use Rattle.reason_report.specs.Views.{reason_step_of};
+ghost use Rattle.reason_report.specs.inner.Pieces.{with_fields, with_sections, section_value, IsKnown, SectionsAreKnown};
+ghost use Rattle.reason_report.specs.inner.Shown.{reading_value, coherence_members_by};
 
-use crate::asked::model_name;
-use crate::pieces::Piece;
-use crate::pieces_json::{object_of, put_fields};
-use crate::steps::{Answer, Closing, Step, leaves_in};
+use crate::as_text::has_write;
+use crate::asked::asked_value;
+use crate::fields::{never_sections, reading_fields, step_fields};
+use crate::pieces::{Field, Piece, Section, Titled};
+use crate::pieces_json::{is_nothing, piece_value};
+use crate::readings::Reading;
+use crate::steps::Step;
+use outcome_report::json::values_value;
+use outcome_report::verdict::outcomes_verdict_value;
 use refutation_laws::Model;
+use scheduler::choices_text;
 use serde_json::{Map, Value, put};
 use std::alloc::Global;
-use tso_model::{NoMemory, Test};
+use tso_model::{Entry, Loc, NoMemory, Test};
 use tso_report::json::{line_of, unfinished_search_value};
+
+/// A report of these sections as JSON: one line.
+///
+/// Errors: out of memory only.
+pub fn sections_json(
+    alloc: Global,
+    test: &Test,
+    sections: &[Titled<'_>],
+) -> Result<String, NoMemory>
+    requires { SectionsAreKnown test.now sections.now }
+    ensures { IfOk result (λ text. string_bytes text ≡ line (compact_text (object (with_sections test.now sections.now no_members)))) }
+{
+    let value = sections_value(alloc, test, sections)?;
+    line_of(alloc, &value)
+}
+
+fn sections_value(alloc: Global, test: &Test, sections: &[Titled<'_>]) -> Result<Value, NoMemory>
+    requires { SectionsAreKnown test.now sections.now }
+    ensures { IfOk result (λ value. view value ≡ object (with_sections test.now sections.now no_members)) }
+{
+    let mut members = Map::new(alloc);
+    put_sections(&mut members, alloc, test, sections)?;
+    Ok(Value::Object(members))
+}
 
 /// A refutation of what the test asks, as JSON: one line.
 ///
@@ -28,8 +62,8 @@ pub fn never_json(
 ) -> Result<String, NoMemory>
     ensures { IfOk result (λ line. string_bytes line ≡ spec.never_json_line model test.now (map reason_step_of steps.now)) }
 {
-    let value = never_value(alloc, test, model, steps)?;
-    line_of(alloc, &value)
+    let sections = never_sections(test, model, steps);
+    sections_json(alloc, test, &sections)
 }
 
 /// The line of a search that met its limit, as JSON: the test, and how many cases that is.
@@ -42,34 +76,64 @@ pub fn unfinished_reason_json(alloc: Global, test: &Test, limit: u32) -> Result<
     line_of(alloc, &value)
 }
 
-fn never_value(alloc: Global, test: &Test, model: Model, steps: &[Step]) -> Result<Value, NoMemory>
-    ensures { IfOk result (λ value. view value ≡ spec.never_value_of model test.now (map reason_step_of steps.now)) }
-{
-    let mut members = Map::new(alloc);
-    put_never(&mut members, alloc, test, model, steps)?;
-    Ok(Value::Object(members))
-}
-
-fn put_never(
+fn put_sections(
     members: &mut Map<String, Value>,
     alloc: Global,
     test: &Test,
-    model: Model,
-    steps: &[Step],
+    sections: &[Titled<'_>],
 ) -> Result<(), NoMemory>
-    requires { members.old.entries ≡ [] }
-    ensures { OnOk result (object (members_view members.new.entries) ≡ spec.never_value_of model test.now (map reason_step_of steps.now)) }
+    requires { SectionsAreKnown test.now sections.now }
+    ensures { OnOk result (members_view members.new.entries ≡ with_sections test.now sections.now (members_view members.old.entries)) }
 {
-    let fields = [
-        ("answer", Piece::Text("never")),
-        ("asked", Piece::Asked),
-        ("leaves", Piece::Number(leaves_in(steps))),
-        ("model", Piece::Text(model_name(model))),
-        ("test", Piece::Text(test.name())),
-        ("verdict", Piece::Verdict(false)),
-    ];
-    put_fields(members, alloc, test, &fields)?;
-    put(members, alloc, "steps", steps_value(alloc, test, steps)?)?;
+    for (_before, key, section) in sections {
+        let value = section_value(alloc, test, *section)?;
+        put(members, alloc, key, value)?;
+    }
+    Ok(())
+}
+
+fn section_value(alloc: Global, test: &Test, section: Section<'_>) -> Result<Value, NoMemory>
+    requires { IsKnown test.now section }
+    ensures { IfOk result (λ value. view value ≡ section_value test.now section.entry) }
+{
+    match section {
+        Section::Text(word) | Section::Answer(word) => Ok(Value::try_from_str(alloc, word)?),
+        Section::Number(number) => Ok(Value::from(number)),
+        Section::Asked => asked_value(alloc, test),
+        Section::Verdict(allowed) => outcomes_verdict_value(alloc, test, allowed),
+        Section::Steps(steps) => steps_value(alloc, test, steps),
+        Section::Readings(readings) => readings_value(alloc, test, readings),
+        Section::Coherence(order) => coherence_value(alloc, test, order),
+        Section::Choices(choices) => Ok(Value::String(choices_text(alloc, choices)?)),
+        Section::Values(names, values) => values_value(alloc, test, names, values),
+    }
+}
+
+/// An object with what stands under each of these keys.
+fn object_of(alloc: Global, test: &Test, fields: &[Field<'_>]) -> Result<Value, NoMemory>
+    ensures { IfOk result (λ value. view value ≡ object (with_fields test.now fields.now no_members)) }
+{
+    let mut members = Map::new(alloc);
+    put_fields(&mut members, alloc, test, fields)?;
+    Ok(Value::Object(members))
+}
+
+/// Puts what stands under each of these keys.
+fn put_fields(
+    members: &mut Map<String, Value>,
+    alloc: Global,
+    test: &Test,
+    fields: &[Field<'_>],
+) -> Result<(), NoMemory>
+    ensures { OnOk result (members_view members.new.entries
+        ≡ with_fields test.now fields.now (members_view members.old.entries)) }
+{
+    for (_before, key, piece) in fields {
+        if !is_nothing(*piece) {
+            let value = piece_value(alloc, test, *piece)?;
+            put(members, alloc, key, value)?;
+        }
+    }
     Ok(())
 }
 
@@ -78,101 +142,45 @@ fn steps_value(alloc: Global, test: &Test, steps: &[Step]) -> Result<Value, NoMe
 {
     let mut values = Vec::new(alloc);
     for step in steps {
-        values.push(step_value(alloc, test, step)?)?;
+        values.push(object_of(alloc, test, &step_fields(step))?)?;
     }
     Ok(Value::Array(values))
 }
 
-fn step_value(alloc: Global, test: &Test, step: &Step) -> Result<Value, NoMemory>
-    ensures { IfOk result (λ value. view value ≡ spec.step_value test.now (reason_step_of step.now)) }
+fn readings_value(alloc: Global, test: &Test, readings: &[Reading]) -> Result<Value, NoMemory>
+    ensures { IfOk result (λ value. view value ≡ array (items_of (map (reading_value test.now) readings.now))) }
 {
-    match step {
-        Step::Case(depth, answer) => answer_value(alloc, test, "case", *depth, answer),
-        Step::So(depth, answer) => answer_value(alloc, test, "so", *depth, answer),
-        Step::Leaf(depth, closing) => closing_value(alloc, test, *depth, closing),
-        Step::Endcases(depth) => {
-            let fields = [
-                ("depth", Piece::Depth(*depth)),
-                ("step", Piece::Text("endcases")),
-            ];
-            object_of(alloc, test, &fields)
-        }
+    let mut values = Vec::new(alloc);
+    for reading in readings {
+        values.push(object_of(alloc, test, &reading_fields(reading))?)?;
     }
+    Ok(Value::Array(values))
 }
 
-fn answer_value<'a>(
-    alloc: Global,
-    test: &Test,
-    step: &'a str,
-    depth: usize,
-    answer: &'a Answer,
-) -> Result<Value, NoMemory>
-    ensures { IfOk result (λ value. view value ≡ spec.answer_value test.now step.now depth (answer_of answer.now)) }
+fn coherence_value(alloc: Global, test: &Test, order: &[Entry]) -> Result<Value, NoMemory>
+    ensures { IfOk result (λ value. view value ≡ object (coherence_members_by test.now order.now 0 test.now.locations)) }
 {
-    match answer {
-        Answer::From(read, writes) => {
-            let fields = [
-                ("depth", Piece::Depth(depth)),
-                ("from", Piece::Sources(writes)),
-                ("read", Piece::Event(read)),
-                ("step", Piece::Text(step)),
-            ];
-            object_of(alloc, test, &fields)
-        }
-        Answer::Before(first, second) => {
-            let fields = [
-                ("depth", Piece::Depth(depth)),
-                ("first", Piece::Event(first)),
-                ("second", Piece::Event(second)),
-                ("step", Piece::Text(step)),
-            ];
-            object_of(alloc, test, &fields)
-        }
+    let mut members = Map::new(alloc);
+    for loc in (0..test.locations()).rev() {
+        put_location(&mut members, alloc, test, order, Loc(loc))?;
     }
+    Ok(Value::Object(members))
 }
 
-fn closing_value(
+fn put_location(
+    members: &mut Map<String, Value>,
     alloc: Global,
     test: &Test,
-    depth: usize,
-    closing: &Closing,
-) -> Result<Value, NoMemory>
-    ensures { IfOk result (λ value. view value ≡ spec.closing_value test.now depth (closing_of closing.now)) }
+    order: &[Entry],
+    loc: Loc,
+) -> Result<(), NoMemory>
+    requires { loc.0 < length test.now.locations }
+    ensures { OnOk result (members_view members.new.entries ≡ spec.with_coherence test.now (slice_index_or test.now.locations loc.0 [])
+        (filter (program_order.writes_to loc.0) order.now) (members_view members.old.entries)) }
 {
-    match closing {
-        Closing::Uniproc(edges) => {
-            let fields = [
-                ("cycle", Piece::Cycle(edges)),
-                ("depth", Piece::Depth(depth)),
-                ("step", Piece::Text("uniproc")),
-            ];
-            object_of(alloc, test, &fields)
-        }
-        Closing::Cycle(edges) => {
-            let fields = [
-                ("cycle", Piece::Cycle(edges)),
-                ("depth", Piece::Depth(depth)),
-                ("step", Piece::Text("cycle")),
-            ];
-            object_of(alloc, test, &fields)
-        }
-        Closing::Between(read, between, write) => {
-            let fields = [
-                ("between", Piece::Event(between)),
-                ("depth", Piece::Depth(depth)),
-                ("read", Piece::Event(read)),
-                ("step", Piece::Text("between")),
-                ("write", Piece::Event(write)),
-            ];
-            object_of(alloc, test, &fields)
-        }
-        Closing::False(places) => {
-            let fields = [
-                ("depth", Piece::Depth(depth)),
-                ("places", Piece::Places(places)),
-                ("step", Piece::Text("false")),
-            ];
-            object_of(alloc, test, &fields)
-        }
+    if !has_write(order, loc) {
+        return Ok(());
     }
+    let fields = [("", test.location_name(loc), Piece::Writes(order, loc))];
+    put_fields(members, alloc, test, &fields)
 }

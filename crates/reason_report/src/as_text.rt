@@ -1,19 +1,43 @@
-//! The steps of a refutation as lines of text.
+//! A report as lines of text.
 
-ghost use Rattle.std.specs.Prelude.{◌≡◌, ◌++◌, ◌∷◌, OnOk, IfOk, string_bytes, map, []};
-ghost use Rattle.std.specs.List.{flat_map};
-ghost use Rattle.tso_report.specs.Report.{test_line};
+ghost use Rattle.std.specs.Prelude.{◌≡◌, ◌++◌, ◌∷◌, ◌<◌, [], OnOk, IfOk, string_bytes, length, map, filter, slice_index_or};
+ghost use Rattle.std.specs.List.{flat_map, list_any};
+ghost use Rattle.tso_model.specs.ProgramOrder as program_order;
 ghost use Rattle.reason_report.specs.ReasonText as spec;
-ghost use Rattle.reason_report.specs.Views.{answer_of, closing_of, reason_step_of};
+ghost use Rattle.reason_report.specs.Views.{reason_step_of};
+ghost use Rattle.reason_report.specs.inner.Pieces.{field_text, titled_text, section_text, IsKnown, SectionsAreKnown};
+ghost use Rattle.reason_report.specs.inner.Shown.{reading_line, coherence_by};
 
-use crate::asked::model_name;
-use crate::pieces::Piece;
-use crate::pieces_text::write_pieces;
-use crate::steps::{Answer, Closing, Step, leaves_in};
+use crate::asked::write_asked;
+use crate::fields::{never_sections, reading_fields, step_fields};
+use crate::pieces::{Field, Piece, Section, Titled};
+use crate::pieces_text::write_piece;
+use crate::readings::Reading;
+use crate::steps::Step;
 use outcome_report::verdict::write_verdict;
 use refutation_laws::Model;
+use refutations::events::writes_to;
+use scheduler::write_after;
 use std::alloc::Global;
-use tso_model::{NoMemory, Test};
+use tso_model::{Entry, Loc, NoMemory, Test};
+use tso_report::pieces::{Piece as Printed, write_pieces};
+use tso_report::printed_values::write_values;
+
+/// A report of these sections as lines of text.
+///
+/// Errors: out of memory only.
+pub fn sections_text(
+    alloc: Global,
+    test: &Test,
+    sections: &[Titled<'_>],
+) -> Result<String, NoMemory>
+    requires { SectionsAreKnown test.now sections.now }
+    ensures { IfOk result (λ text. string_bytes text ≡ flat_map (titled_text test.now) sections.now) }
+{
+    let mut text = String::new(alloc);
+    write_sections(&mut text, test, sections)?;
+    Ok(text)
+}
 
 /// A refutation of what the test asks, as lines of text: the test; that it is refuted, and in how many leaves; what is asked; the
 /// steps; and herd's verdict.
@@ -27,11 +51,8 @@ pub fn never_text(
 ) -> Result<String, NoMemory>
     ensures { IfOk result (λ text. string_bytes text ≡ spec.never_lines model test.now (map reason_step_of steps.now)) }
 {
-    let mut text = String::new(alloc);
-    write_never(&mut text, test, model, leaves_in(steps))?;
-    write_steps(&mut text, test, steps)?;
-    write_verdict(&mut text, test, false)?;
-    Ok(text)
+    let sections = never_sections(test, model, steps);
+    sections_text(alloc, test, &sections)
 }
 
 /// The line of a search that met its limit.
@@ -40,142 +61,107 @@ pub fn never_text(
 pub fn unfinished_text(alloc: Global, limit: u32) -> Result<String, NoMemory>
     ensures { IfOk result (λ text. string_bytes text ≡ spec.unfinished_reason_line limit) }
 {
+    let pieces = [
+        Printed::Text("Unfinished cases="),
+        Printed::Number(limit as u64),
+        Printed::Text("\n"),
+    ];
     let mut text = String::new(alloc);
-    write!(text, "Unfinished cases={limit}\n")?;
+    write_pieces(&mut text, &pieces)?;
     Ok(text)
 }
 
-/// `Test sb`, `Never tso leaves=3`, and what is asked.
-fn write_never(text: &mut String, test: &Test, model: Model, leaves: usize) -> Result<(), NoMemory>
-    ensures { OnOk result (string_bytes text.new
-        ≡ string_bytes text.old ++ (test_line test.now ++ (spec.never_line model leaves ++ spec.asked_line test.now.condition))) }
+fn write_sections(text: &mut String, test: &Test, sections: &[Titled<'_>]) -> Result<(), NoMemory>
+    requires { SectionsAreKnown test.now sections.now }
+    ensures { OnOk result (string_bytes text.new ≡ string_bytes text.old ++ flat_map (titled_text test.now) sections.now) }
 {
-    let pieces = [
-        Piece::Text("Test "),
-        Piece::Text(test.name()),
-        Piece::Text("\nNever "),
-        Piece::Text(model_name(model)),
-        Piece::Text(" leaves="),
-        Piece::Number(leaves),
-        Piece::Text("\n"),
-        Piece::Asked,
-    ];
-    write_pieces(text, test, &pieces)
+    for (before, _key, section) in sections {
+        text.push_str(before)?;
+        write_section(text, test, *section)?;
+    }
+    Ok(())
+}
+
+fn write_section(text: &mut String, test: &Test, section: Section<'_>) -> Result<(), NoMemory>
+    requires { IsKnown test.now section }
+    ensures { OnOk result (string_bytes text.new ≡ string_bytes text.old ++ section_text test.now section.entry) }
+{
+    match section {
+        Section::Text(characters) => Ok(text.push_str(characters)?),
+        Section::Answer(_) => Ok(()),
+        Section::Number(number) => write_pieces(text, &[Printed::Number(number as u64)]),
+        Section::Asked => write_asked(text, test),
+        Section::Verdict(allowed) => write_verdict(text, test, allowed),
+        Section::Steps(steps) => write_steps(text, test, steps),
+        Section::Readings(readings) => write_readings(text, test, readings),
+        Section::Coherence(order) => write_coherence(text, test, order),
+        Section::Choices(choices) => write_after(text, choices),
+        Section::Values(names, values) => write_values(text, test, names, values),
+    }
+}
+
+/// Adds a line.
+fn write_line(text: &mut String, test: &Test, fields: &[Field<'_>]) -> Result<(), NoMemory>
+    ensures { OnOk result (string_bytes text.new ≡ string_bytes text.old ++ (flat_map (field_text test.now) fields.now ++ (10 ∷ []))) }
+{
+    for (before, _key, piece) in fields {
+        text.push_str(before)?;
+        write_piece(text, test, *piece)?;
+    }
+    Ok(text.push('\n')?)
 }
 
 fn write_steps(text: &mut String, test: &Test, steps: &[Step]) -> Result<(), NoMemory>
     ensures { OnOk result (string_bytes text.new ≡ string_bytes text.old ++ flat_map (spec.reason_step_line test.now) (map reason_step_of steps.now)) }
 {
     for step in steps {
-        write_step(text, test, step)?;
+        write_line(text, test, &step_fields(step))?;
     }
     Ok(())
 }
 
-fn write_step(text: &mut String, test: &Test, step: &Step) -> Result<(), NoMemory>
-    ensures { OnOk result (string_bytes text.new ≡ string_bytes text.old ++ spec.reason_step_line test.now (reason_step_of step.now)) }
+fn write_readings(text: &mut String, test: &Test, readings: &[Reading]) -> Result<(), NoMemory>
+    ensures { OnOk result (string_bytes text.new ≡ string_bytes text.old ++ flat_map (reading_line test.now) readings.now) }
 {
-    match step {
-        Step::Case(depth, answer) => write_answer(text, test, *depth, "Case ", answer),
-        Step::So(depth, answer) => write_answer(text, test, *depth, "So ", answer),
-        Step::Leaf(depth, closing) => write_closing(text, test, *depth, closing),
-        Step::Endcases(depth) => {
-            write_pieces(
-                text,
-                test,
-                &[Piece::Depth(*depth), Piece::Text("Endcases\n")],
-            )
-        }
+    for reading in readings {
+        write_line(text, test, &reading_fields(reading))?;
     }
+    Ok(())
 }
 
-/// `Case P1:0 R y=1 from P0:1 W y=1`, or `So P0:0 W x=1 before P1:0 W x=2`.
-fn write_answer<'a>(
-    text: &mut String,
-    test: &Test,
-    depth: usize,
-    word: &'a str,
-    answer: &'a Answer,
-) -> Result<(), NoMemory>
-    ensures { OnOk result (string_bytes text.new
-        ≡ string_bytes text.old ++ (spec.blanks depth ++ (word.now ++ (spec.answer_text test.now (answer_of answer.now) ++ 10 ∷ [])))) }
+fn write_coherence(text: &mut String, test: &Test, order: &[Entry]) -> Result<(), NoMemory>
+    ensures { OnOk result (string_bytes text.new ≡ string_bytes text.old ++ coherence_by test.now order.now 0 test.now.locations) }
 {
-    match answer {
-        Answer::From(read, writes) => {
-            let pieces = [
-                Piece::Depth(depth),
-                Piece::Text(word),
-                Piece::Event(read),
-                Piece::Text(" from "),
-                Piece::Sources(writes),
-                Piece::Text("\n"),
-            ];
-            write_pieces(text, test, &pieces)
-        }
-        Answer::Before(first, second) => {
-            let pieces = [
-                Piece::Depth(depth),
-                Piece::Text(word),
-                Piece::Event(first),
-                Piece::Text(" before "),
-                Piece::Event(second),
-                Piece::Text("\n"),
-            ];
-            write_pieces(text, test, &pieces)
-        }
+    for loc in 0..test.locations() {
+        write_location(text, test, order, Loc(loc))?;
     }
+    Ok(())
 }
 
-/// `Cycle P0:0 W x=1 po ..`, `Between P0:0 LR x=0 P1:0 W x=1 P0:0 LW x=0`, or `False 1:EAX=0`.
-fn write_closing(
-    text: &mut String,
-    test: &Test,
-    depth: usize,
-    closing: &Closing,
-) -> Result<(), NoMemory>
-    ensures { OnOk result (string_bytes text.new
-        ≡ string_bytes text.old ++ (spec.blanks depth ++ (spec.closing_text test.now (closing_of closing.now) ++ 10 ∷ []))) }
+/// `Coherence x P0:0 W x=1 ..`; nothing where no write goes.
+fn write_location(text: &mut String, test: &Test, order: &[Entry], loc: Loc) -> Result<(), NoMemory>
+    requires { loc.0 < length test.now.locations }
+    ensures { OnOk result (string_bytes text.new ≡ string_bytes text.old
+        ++ spec.coherence_line test.now (slice_index_or test.now.locations loc.0 []) (filter (program_order.writes_to loc.0) order.now)) }
 {
-    match closing {
-        Closing::Uniproc(edges) => {
-            let pieces = [
-                Piece::Depth(depth),
-                Piece::Text("Uniproc"),
-                Piece::Cycle(edges),
-                Piece::Text("\n"),
-            ];
-            write_pieces(text, test, &pieces)
-        }
-        Closing::Cycle(edges) => {
-            let pieces = [
-                Piece::Depth(depth),
-                Piece::Text("Cycle"),
-                Piece::Cycle(edges),
-                Piece::Text("\n"),
-            ];
-            write_pieces(text, test, &pieces)
-        }
-        Closing::Between(read, between, write) => {
-            let pieces = [
-                Piece::Depth(depth),
-                Piece::Text("Between "),
-                Piece::Event(read),
-                Piece::Text(" "),
-                Piece::Event(between),
-                Piece::Text(" "),
-                Piece::Event(write),
-                Piece::Text("\n"),
-            ];
-            write_pieces(text, test, &pieces)
-        }
-        Closing::False(places) => {
-            let pieces = [
-                Piece::Depth(depth),
-                Piece::Text("False"),
-                Piece::Places(places),
-                Piece::Text("\n"),
-            ];
-            write_pieces(text, test, &pieces)
+    if !has_write(order, loc) {
+        return Ok(());
+    }
+    let fields = [
+        ("Coherence ", "", Piece::Word(test.location_name(loc), "")),
+        ("", "", Piece::Writes(order, loc)),
+    ];
+    write_line(text, test, &fields)
+}
+
+/// Whether an entry of the order writes to the location.
+pub fn has_write(order: &[Entry], loc: Loc) -> bool
+    ensures { result ≡ list_any (program_order.writes_to loc.0) order.now }
+{
+    for e in order {
+        if writes_to(loc.0, e) {
+            return true;
         }
     }
+    false
 }

@@ -10,7 +10,7 @@ ghost use Rattle.reason_report.specs.declared.closed.Closed as declared;
 ghost use Rattle.reason_report.specs.inner.Parts.{IsLayoutReady, root_at};
 ghost use Rattle.reason_report.specs.inner.Closed.{IsGiven, IsLeaf, IsClosed, BranchesAreClosed, closed_branch, alike, known_alike, rest_of};
 
-use crate::closed::{Closed, Given, Leaf, are_alike, is_alike_to_some};
+use crate::closed::{Closed, Given, Leaf, Standing, are_alike, is_alike_to_some};
 use crate::closing::{answer_at, why_closed};
 use crate::parts::Refutation;
 use crate::replies::Reply;
@@ -88,23 +88,22 @@ fn add_case(
     alloc: Global,
     tree: Refutation<'_>,
     steps: &mut Vec<Step>,
-    depth: usize,
-    question: &Given,
+    question: &Standing,
     first: &Closed,
     others: &[Closed],
 ) -> Result<(), NoMemory>
     requires tree { IsLayoutReady tree }
-    requires depth { depth < 2 ^ 64 - 1 }
-    requires question { IsGiven tree.test.now question.now }
+    requires depth { question.now.depth < 2 ^ 64 - 1 }
+    requires question { IsGiven tree.test.now question.now.given }
     requires first { IsClosed tree first.now }
     requires others { BranchesAreClosed tree others.now }
     ensures { OnOk result (map reason_step_of steps.new.items ≡ map reason_step_of steps.old.items
-        ++ spec.closed_case tree.entry.model tree.entry.test.now (asked_claim tree.entry.test.now.condition) depth (known_of question.now.answers)
+        ++ spec.closed_case tree.entry.model tree.entry.test.now (asked_claim tree.entry.test.now.condition) question.now.depth (known_of question.now.given.answers)
         (closed_branch tree.entry first.now ∷ rest_of tree.entry first.now others.now)) }
 {
-    let answer = case_answer(alloc, tree, question, first, others)?;
-    steps.push(Step::Case(depth, answer))?;
-    add_leaf(alloc, tree, steps, depth + 1, &first.leaf, others)
+    let answer = case_answer(alloc, tree, &question.given, first, others)?;
+    steps.push(Step::Case(question.depth, answer))?;
+    add_leaf(alloc, tree, steps, question.depth + 1, &first.leaf, others)
 }
 
 /// Adds the lines of all cases of a question that a leaf closes at once. Those that are alike stand with the first of them.
@@ -114,30 +113,21 @@ pub fn add_closed(
     alloc: Global,
     tree: Refutation<'_>,
     steps: &mut Vec<Step>,
-    depth: usize,
-    question: &Given,
+    question: &Standing,
     closed: &[Closed],
 ) -> Result<(), NoMemory>
     requires tree { IsLayoutReady tree }
-    requires depth { depth < 2 ^ 64 - 1 }
-    requires question { IsGiven tree.test.now question.now }
+    requires depth { question.now.depth < 2 ^ 64 - 1 }
+    requires question { IsGiven tree.test.now question.now.given }
     requires closed { BranchesAreClosed tree closed.now }
     ensures { OnOk result (map reason_step_of steps.new.items ≡ map reason_step_of steps.old.items
-        ++ flat_map (spec.closed_case tree.entry.model tree.entry.test.now (asked_claim tree.entry.test.now.condition) depth (known_of question.now.answers))
+        ++ flat_map (spec.closed_case tree.entry.model tree.entry.test.now (asked_claim tree.entry.test.now.condition) question.now.depth (known_of question.now.given.answers))
         (spec.groups tree.entry.test.now (asked_claim tree.entry.test.now.condition) [] (map (closed_branch tree.entry) closed.now))) }
 {
     for at in 0..closed.len() {
         let first = &closed[at];
         if !is_alike_to_some(&first.leaf, &closed[..at]) {
-            add_case(
-                alloc,
-                tree,
-                steps,
-                depth,
-                question,
-                first,
-                &closed[at + 1..],
-            )?;
+            add_case(alloc, tree, steps, question, first, &closed[at + 1..])?;
         }
     }
     Ok(())

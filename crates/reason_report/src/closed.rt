@@ -23,6 +23,17 @@ pub struct Given {
     pub facts: Facts,
 }
 
+/// A node where it stands.
+#[derive(Drop)]
+pub struct Standing {
+    /// Its place among the nodes.
+    pub at: usize,
+    /// How many steps deeper its lines stand than the first one.
+    pub depth: usize,
+    /// What is given there.
+    pub given: Given,
+}
+
 /// A case that a leaf closes.
 #[derive(Drop)]
 pub struct Leaf {
@@ -166,5 +177,10 @@ pub fn are_alike(leaf: &Leaf, other: &Leaf) -> bool
 pub fn is_alike_to_some(leaf: &Leaf, some: &[Closed]) -> bool
     ensures { result ≡ list_any (λ (c : declared.Closed). alike leaf.now c.leaf) some.now }
 {
-    some.iter().any(|closed| are_alike(leaf, &closed.leaf))
+    for closed in some {
+        if are_alike(leaf, &closed.leaf) {
+            return true;
+        }
+    }
+    false
 }

@@ -40,20 +40,15 @@ pub fn answer_at(
     match reply {
         Reply::Reads(read, _) => {
             let writes = writes_in(alloc, tree, given, all)?;
-            Ok(Answer::From(shown(tree, given, &read), writes))
+            Ok(Answer::From(event_at(tree, given, &read), writes))
         }
         Reply::First(first, second) => {
-            Ok(Answer::Before(shown(tree, given, &first), shown(tree, given, &second)))
+            Ok(Answer::Before(
+                event_at(tree, given, &first),
+                event_at(tree, given, &second),
+            ))
         }
     }
-}
-
-fn shown(tree: Refutation<'_>, given: &Given, e: &Entry) -> Event
-    requires tree { IsLayoutReady tree }
-    requires given { IsGiven tree.test.now given.now }
-    ensures { result ≡ spec.event_at tree.entry.test.now (known_of given.now.answers) e.now }
-{
-    event_at(tree.test, tree.events, &given.answers, &given.facts, e)
 }
 
 fn writes_in(
@@ -79,7 +74,7 @@ fn write_of_answer(tree: Refutation<'_>, given: &Given, reply: Reply) -> Option<
     ensures { result ≡ spec.write_of_answer tree.entry.test.now (known_of given.now.answers) reply }
 {
     match reply {
-        Reply::Reads(_, Some(write)) => Some(shown(tree, given, &write)),
+        Reply::Reads(_, Some(write)) => Some(event_at(tree, given, &write)),
         Reply::Reads(_, None) | Reply::First(..) => None,
     }
 }
@@ -181,9 +176,9 @@ pub fn why_closed(
         }
         Node::Between(read, between, write) => {
             Closing::Between(
-                shown(tree, given, read),
-                shown(tree, given, between),
-                shown(tree, given, write),
+                event_at(tree, given, read),
+                event_at(tree, given, between),
+                event_at(tree, given, write),
             )
         }
         Node::FalseClaim => Closing::False(places_in(alloc, tree, leaf, others)?),

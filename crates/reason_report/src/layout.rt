@@ -1,6 +1,6 @@
 //! A refutation laid out in steps: it goes over the nodes as they stand, with a stack of what is still to be laid out.
 
-ghost use Rattle.std.specs.Prelude.{ℕ, ◌≡◌, ◌≤◌, ◌<◌, ◌+◌, ◌∷◌, ◌++◌, List, [], false, IfOk, OnOk, map, filter, length, drop, replicate, not};
+ghost use Rattle.std.specs.Prelude.{ℕ, ◌≡◌, ◌≤◌, ◌<◌, ◌+◌, ◌^◌, ◌∷◌, ◌++◌, List, [], false, if◌then◌else◌, IfOk, OnOk, map, filter, length, drop, replicate, not};
 ghost use Rattle.tso_model.specs.Litmus.{Litmus};
 ghost use Rattle.refutation_laws.specs.Known.{Known};
 ghost use Rattle.refutation_laws.specs.Refutations.{asked_claim};
@@ -11,10 +11,10 @@ ghost use Rattle.reason_report.specs.Views as views;
 ghost use Rattle.reason_report.specs.Views.{reason_step_of};
 ghost use Rattle.reason_report.specs.inner.Parts.{AreBelow, IsLayoutReady, first_part, root_at, parts_of_refutation, branch_in};
 ghost use Rattle.reason_report.specs.inner.Closed.{IsGiven};
-ghost use Rattle.reason_report.specs.inner.Tasks.{TasksAreWithin, IsUsed, Passed, spec_wanted, task_of, with_wanted, ended_by, tasks_of, branch_task, branch_tasks, emit};
+ghost use Rattle.reason_report.specs.inner.Tasks.{TasksAreWithin, IsUsed, Passed, spec_wanted, task_of, with_wanted, ended_by, tasks_of, branch_task, branch_tasks, depth_below, emit, task_of_answered};
 
 use crate::cases::{add_closed, add_leaf};
-use crate::closed::{Given, Leaf, closed_among, give, is_leaf};
+use crate::closed::{Given, Leaf, Standing, closed_among, give, is_leaf};
 use crate::closing::answer_at;
 use crate::parts::{Refutation, branches, next_parts, node_at};
 use crate::replies::{Branch, Reply, reply_count, with_reply};
@@ -30,10 +30,20 @@ use tso_report::named::looked_at;
 pub enum Wanted {
     /// Not at all, since its lines stand already: a leaf that closed its case at once.
     Passed,
-    /// As that of an answer, under all answers that are given then; it stands one step deeper than the answer.
-    Case(usize, Reply, Answers),
-    /// As that of the only answer that is left; it stands as deep as the answer.
-    So(usize, Reply, Answers),
+    /// As that of an answer.
+    Answered(Answered),
+}
+
+/// An answer whose part is to be laid out.
+#[derive(Drop)]
+pub struct Answered {
+    /// Whether it is the only answer that is left: its part stands as deep as the answer then, else one step deeper.
+    pub is_only: bool,
+    /// How deep the answer stands.
+    pub depth: usize,
+    pub reply: Reply,
+    /// All answers that are given then.
+    pub answers: Answers,
 }
 
 /// What is still to be done.
@@ -152,25 +162,73 @@ fn lay_part(
     match wanted {
         None => {
             let given = give(alloc, tree, no_answers(alloc))?;
-            lay_node(alloc, tree, steps, tasks, at, 0, given)
+            let node = Standing {
+                at,
+                depth: 0,
+                given,
+            };
+            lay_node(alloc, tree, steps, tasks, node)
         }
         Some(Wanted::Passed) => {
             let count = reply_count(tree.test, tree.events, node_at(tree.nodes, at));
             pass(tasks, count)
         }
-        Some(Wanted::Case(depth, reply, answers)) => {
-            let given = give(alloc, tree, answers)?;
-            let answer = answer_of(alloc, tree, &given, reply)?;
-            steps.push(Step::Case(depth, answer))?;
-            lay_node(alloc, tree, steps, tasks, at, depth + 1, given)
-        }
-        Some(Wanted::So(depth, reply, answers)) => {
-            let given = give(alloc, tree, answers)?;
-            let answer = answer_of(alloc, tree, &given, reply)?;
-            steps.push(Step::So(depth, answer))?;
-            lay_node(alloc, tree, steps, tasks, at, depth, given)
-        }
+        Some(Wanted::Answered(answered)) => lay_answer(alloc, tree, steps, tasks, at, answered),
     }
+}
+
+/// Lays out an answer, and the part that begins here as its part.
+///
+/// Errors: out of memory only.
+fn lay_answer(
+    alloc: Global,
+    tree: Refutation<'_>,
+    steps: &mut Vec<Step>,
+    tasks: &mut Vec<Task>,
+    at: usize,
+    answered: Answered,
+) -> Result<(), NoMemory>
+    requires tree { IsLayoutReady tree }
+    requires at { at < length tree.nodes.now }
+    requires depth { depth_below answered.is_only answered.depth ≤ at }
+    requires within { TasksAreWithin at (tasks_of tasks.old.items) }
+    ensures left { OnOk result (map reason_step_of steps.new.items ++ emit tree.entry.test.now (tasks_of tasks.new.items) (parts_of_refutation tree.entry (at + 1))
+        ≡ map reason_step_of steps.old.items ++ emit tree.entry.test.now (task_of_answered answered ∷ tasks_of tasks.old.items) (parts_of_refutation tree.entry at)) }
+    ensures within { OnOk result (TasksAreWithin (at + 1) (tasks_of tasks.new.items)) }
+{
+    let Answered {
+        is_only,
+        depth,
+        reply,
+        answers,
+    } = answered;
+    let given = give(alloc, tree, answers)?;
+    let answer = answer_of(alloc, tree, &given, reply)?;
+    steps.push(step_of(is_only, depth, answer))?;
+    let node = Standing {
+        at,
+        depth: depth_below(is_only, depth),
+        given,
+    };
+    lay_node(alloc, tree, steps, tasks, node)
+}
+
+fn step_of(is_only: bool, depth: usize, answer: Answer) -> Step
+    ensures { reason_step_of result ≡ (if is_only then spec.So depth (views.answer_of answer) else spec.Case depth (views.answer_of answer)) }
+{
+    if is_only {
+        Step::So(depth, answer)
+    } else {
+        Step::Case(depth, answer)
+    }
+}
+
+/// How deep the part of an answer stands.
+fn depth_below(is_only: bool, depth: usize) -> usize
+    requires { depth_below is_only depth < 2 ^ 64 }
+    ensures { result ≡ depth_below is_only depth }
+{
+    if is_only { depth } else { depth + 1 }
 }
 
 /// What is shown of one answer.
@@ -203,7 +261,7 @@ fn pass(tasks: &mut Vec<Task>, count: usize) -> Result<(), NoMemory>
     Ok(())
 }
 
-/// Lays out a node, where this is given, as deep as it stands.
+/// Lays out a node where it stands.
 ///
 /// Errors: out of memory only.
 fn lay_node(
@@ -211,30 +269,28 @@ fn lay_node(
     tree: Refutation<'_>,
     steps: &mut Vec<Step>,
     tasks: &mut Vec<Task>,
-    at: usize,
-    depth: usize,
-    given: Given,
+    node: Standing,
 ) -> Result<(), NoMemory>
     requires tree { IsLayoutReady tree }
-    requires at { at < length tree.nodes.now }
-    requires depth { depth ≤ at }
-    requires given { IsGiven tree.test.now given }
-    requires within { TasksAreWithin at (tasks_of tasks.old.items) }
-    ensures left { OnOk result (map reason_step_of steps.new.items ++ emit tree.entry.test.now (tasks_of tasks.new.items) (parts_of_refutation tree.entry (at + 1))
-        ≡ map reason_step_of steps.old.items ++ ((first_part (parts_of_refutation tree.entry at)).steps depth (known_of given.answers)
-        ++ emit tree.entry.test.now (tasks_of tasks.old.items) (drop 1 (parts_of_refutation tree.entry at)))) }
-    ensures within { OnOk result (TasksAreWithin (at + 1) (tasks_of tasks.new.items)) }
+    requires at { node.at < length tree.nodes.now }
+    requires depth { node.depth ≤ node.at }
+    requires given { IsGiven tree.test.now node.given }
+    requires within { TasksAreWithin node.at (tasks_of tasks.old.items) }
+    ensures left { OnOk result (map reason_step_of steps.new.items ++ emit tree.entry.test.now (tasks_of tasks.new.items) (parts_of_refutation tree.entry (node.at + 1))
+        ≡ map reason_step_of steps.old.items ++ ((first_part (parts_of_refutation tree.entry node.at)).steps node.depth (known_of node.given.answers)
+        ++ emit tree.entry.test.now (tasks_of tasks.old.items) (drop 1 (parts_of_refutation tree.entry node.at)))) }
+    ensures within { OnOk result (TasksAreWithin (node.at + 1) (tasks_of tasks.new.items)) }
 {
-    if is_leaf(node_at(tree.nodes, at)) {
+    if is_leaf(node_at(tree.nodes, node.at)) {
         let leaf = Leaf {
-            at,
-            given,
+            at: node.at,
+            given: node.given,
             shares: false,
             named: Vec::new(alloc),
         };
-        add_leaf(alloc, tree, steps, depth, &leaf, &[])
+        add_leaf(alloc, tree, steps, node.depth, &leaf, &[])
     } else {
-        lay_question(alloc, tree, steps, tasks, at, depth, &given)
+        lay_question(alloc, tree, steps, tasks, &node)
     }
 }
 
@@ -243,26 +299,24 @@ fn lay_question(
     tree: Refutation<'_>,
     steps: &mut Vec<Step>,
     tasks: &mut Vec<Task>,
-    at: usize,
-    depth: usize,
-    given: &Given,
+    question: &Standing,
 ) -> Result<(), NoMemory>
     requires tree { IsLayoutReady tree }
-    requires at { at < length tree.nodes.now }
-    requires depth { depth ≤ at }
-    requires given { IsGiven tree.test.now given.now }
-    requires within { TasksAreWithin at (tasks_of tasks.old.items) }
-    requires question { spec.is_leaf (root_at tree at) ≡ false }
-    ensures left { OnOk result (map reason_step_of steps.new.items ++ emit tree.entry.test.now (tasks_of tasks.new.items) (parts_of_refutation tree.entry (at + 1))
-        ≡ map reason_step_of steps.old.items ++ ((first_part (parts_of_refutation tree.entry at)).steps depth (known_of given.now.answers)
-        ++ emit tree.entry.test.now (tasks_of tasks.old.items) (drop 1 (parts_of_refutation tree.entry at)))) }
-    ensures within { OnOk result (TasksAreWithin (at + 1) (tasks_of tasks.new.items)) }
+    requires at { question.now.at < length tree.nodes.now }
+    requires depth { question.now.depth ≤ question.now.at }
+    requires given { IsGiven tree.test.now question.now.given }
+    requires within { TasksAreWithin question.now.at (tasks_of tasks.old.items) }
+    requires question { spec.is_leaf (root_at tree question.now.at) ≡ false }
+    ensures left { OnOk result (map reason_step_of steps.new.items ++ emit tree.entry.test.now (tasks_of tasks.new.items) (parts_of_refutation tree.entry (question.now.at + 1))
+        ≡ map reason_step_of steps.old.items ++ ((first_part (parts_of_refutation tree.entry question.now.at)).steps question.now.depth (known_of question.now.given.answers)
+        ++ emit tree.entry.test.now (tasks_of tasks.old.items) (drop 1 (parts_of_refutation tree.entry question.now.at)))) }
+    ensures within { OnOk result (TasksAreWithin (question.now.at + 1) (tasks_of tasks.new.items)) }
 {
-    let branches = branches(alloc, tree, at)?;
-    let closed = closed_among(alloc, tree, given, &branches)?;
-    add_closed(alloc, tree, steps, depth, given, &closed)?;
+    let branches = branches(alloc, tree, question.at)?;
+    let closed = closed_among(alloc, tree, &question.given, &branches)?;
+    add_closed(alloc, tree, steps, question, &closed)?;
     let single = open_count(tree, &branches) == 1;
-    add_tasks(alloc, tree, tasks, depth, &given.answers, &branches, single)
+    add_tasks(alloc, tree, tasks, question, &branches, single)
 }
 
 /// How many of the branches no leaf closes at once.
@@ -286,21 +340,20 @@ fn add_tasks(
     alloc: Global,
     tree: Refutation<'_>,
     tasks: &mut Vec<Task>,
-    depth: usize,
-    answers: &Answers,
+    question: &Standing,
     branches: &[Branch],
     single: bool,
 ) -> Result<(), NoMemory>
     requires { AreBelow (length tree.nodes.now) branches.now }
     ensures { OnOk result (tasks_of tasks.new.items
-        ≡ branch_tasks single depth (map (branch_in tree.entry (known_of answers.now)) branches.now) ++ tasks_of tasks.old.items) }
+        ≡ branch_tasks single question.now.depth (map (branch_in tree.entry (known_of question.now.given.answers)) branches.now) ++ tasks_of tasks.old.items) }
 {
     if !single {
-        tasks.push(Task::Endcases(depth))?;
+        tasks.push(Task::Endcases(question.depth))?;
     }
     for i in (0..branches.len()).rev() {
         let branch = &branches[i];
-        let wanted = wanted_of(alloc, tree, depth, answers, branch, single)?;
+        let wanted = wanted_of(alloc, tree, question, branch, single)?;
         tasks.push(Task::Part(wanted))?;
     }
     Ok(())
@@ -309,21 +362,21 @@ fn add_tasks(
 fn wanted_of(
     alloc: Global,
     tree: Refutation<'_>,
-    depth: usize,
-    answers: &Answers,
+    question: &Standing,
     branch: &Branch,
     single: bool,
 ) -> Result<Wanted, NoMemory>
     requires { branch.now.at < length tree.nodes.now }
-    ensures { IfOk result (λ wanted. spec_wanted wanted ≡ branch_task single depth (branch_in tree.entry (known_of answers.now) branch.now)) }
+    ensures { IfOk result (λ wanted. spec_wanted wanted
+        ≡ branch_task single question.now.depth (branch_in tree.entry (known_of question.now.given.answers) branch.now)) }
 {
     if is_leaf(node_at(tree.nodes, branch.at)) {
         return Ok(Wanted::Passed);
     }
-    let answers = with_reply(alloc, answers, branch.reply)?;
-    if single {
-        Ok(Wanted::So(depth, branch.reply, answers))
-    } else {
-        Ok(Wanted::Case(depth, branch.reply, answers))
-    }
+    Ok(Wanted::Answered(Answered {
+        is_only: single,
+        depth: question.depth,
+        reply: branch.reply,
+        answers: with_reply(alloc, &question.given.answers, branch.reply)?,
+    }))
 }

@@ -9,19 +9,19 @@ ghost use Rattle.reason_report.specs.Steps as spec;
 use crate::closed::Given;
 use crate::parts::Refutation;
 use crate::steps::{Edge, Event};
-use refutations::{Acyclic, Answers, Branch, Facts, first_relation, value_known};
+use refutations::{Acyclic, Branch, first_relation, value_known};
 use std::alloc::Global;
-use tso_model::{Entry, NoMemory, Test};
+use tso_model::{Entry, NoMemory};
 
-/// An event, with its value where the answers tell it.
-pub fn event_at(test: &Test, events: &[Entry], answers: &Answers, facts: &Facts, e: &Entry) -> Event
-    requires events { events.now ≡ events_of test.now }
-    requires facts { AreFacts test.now (known_of answers.now) facts.now }
-    ensures { result ≡ spec.event_at test.now (known_of answers.now) e.now }
+/// An event, with its value where what is given tells it.
+pub fn event_at(tree: Refutation<'_>, given: &Given, e: &Entry) -> Event
+    requires events { tree.events.now ≡ events_of tree.test.now }
+    requires facts { AreFacts tree.test.now (known_of given.now.answers) given.now.facts }
+    ensures { result ≡ spec.event_at tree.entry.test.now (known_of given.now.answers) e.now }
 {
     Event {
         entry: *e,
-        value: value_known(test, events, answers, facts, e),
+        value: value_known(tree.test, tree.events, &given.answers, &given.facts, e),
     }
 }
 
@@ -30,16 +30,15 @@ fn edge_at(tree: Refutation<'_>, given: &Given, acyclic: Acyclic, x: &Entry, y: 
     requires facts { AreFacts tree.test.now (known_of given.now.answers) given.now.facts }
     ensures { result ≡ spec.edge_at tree.entry.test.now (known_of given.now.answers) (relations_of acyclic) x.now y.now }
 {
-    let answers = &given.answers;
     let branch = Branch {
         test: tree.test,
         events: tree.events,
-        answers,
+        answers: &given.answers,
     };
     Edge {
-        source: event_at(tree.test, tree.events, answers, &given.facts, x),
+        source: event_at(tree, given, x),
         relation: first_relation(branch, acyclic, x, y),
-        target: event_at(tree.test, tree.events, answers, &given.facts, y),
+        target: event_at(tree, given, y),
     }
 }
 

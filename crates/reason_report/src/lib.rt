@@ -5,14 +5,13 @@
 //! that a leaf closes at once, so that most reasons read as a chain.
 #![tactic(auto)]
 
-pub mod allowed_json;
-pub mod allowed_text;
 pub mod as_json;
 pub mod as_text;
 pub mod asked;
 pub mod cases;
 pub mod closed;
 pub mod closing;
+pub mod fields;
 pub mod layout;
 pub mod leaves;
 pub mod parts;

@@ -1,71 +1,48 @@
-//! Pieces as JSON values: events, cycles, places and the like, and the objects that have them.
+//! Pieces as JSON values: events, cycles, places and the like.
 
-ghost use Rattle.std.specs.Prelude.{◌≡◌, [], IfOk, OnOk, map};
-ghost use Rattle.serde_json.specs.Data as values;
-ghost use Rattle.serde_json.specs.Data.{object, array, string, no_members};
+ghost use Rattle.std.specs.Prelude.{◌≡◌, IfOk, OnOk, filter, map};
+ghost use Rattle.serde_json.specs.Data.{object, array, string};
 ghost use Rattle.serde_json.specs.View.{view, members_view, items_of};
+ghost use Rattle.tso_model.specs.ProgramOrder as program_order;
+ghost use Rattle.order_builder.specs.PrintedOrder.{printed_entry};
 ghost use Rattle.reason_report.specs.ReasonText as text;
 ghost use Rattle.reason_report.specs.ReasonJson as spec;
 ghost use Rattle.reason_report.specs.inner.Pieces as pieces;
-ghost use Rattle.reason_report.specs.inner.Pieces.{with_fields};
 ghost use Rattle.reason_report.specs.Views.{place_of};
 
-use crate::asked::asked_value;
 use crate::pieces::Piece;
-use crate::pieces_text::{key_text, relation_text, write_piece};
+use crate::pieces_text::{relation_text, write_piece};
+use crate::readings::event_of;
 use crate::steps::{Edge, Event, Place};
-use outcome_report::verdict::outcomes_verdict_value;
+use outcome_report::keys::key_text;
+use refutations::events::writes_to;
 use serde_json::{Map, Value, put};
 use std::alloc::Global;
-use tso_model::{NoMemory, Test};
+use tso_model::{Entry, Loc, NoMemory, Test};
 use tso_report::members::numbers_value;
 
-/// An object with what stands under each of these keys.
-///
-/// Errors: out of memory only.
-pub fn object_of(
-    alloc: Global,
-    test: &Test,
-    fields: &[(&str, Piece<'_>)],
-) -> Result<Value, NoMemory>
-    ensures { IfOk result (λ value. view value ≡ object (with_fields test.now fields.now no_members)) }
+/// Whether a piece is nothing.
+pub fn is_nothing(piece: Piece<'_>) -> bool
+    ensures { result ≡ pieces.is_nothing piece.entry }
 {
-    let mut members = Map::new(alloc);
-    put_fields(&mut members, alloc, test, fields)?;
-    Ok(Value::Object(members))
+    matches!(piece, Piece::Nothing)
 }
 
-/// Puts what stands under each of these keys.
+/// What stands under a key.
 ///
 /// Errors: out of memory only.
-pub fn put_fields(
-    members: &mut Map<String, Value>,
-    alloc: Global,
-    test: &Test,
-    fields: &[(&str, Piece<'_>)],
-) -> Result<(), NoMemory>
-    ensures { OnOk result (members_view members.new.entries
-        ≡ with_fields test.now fields.now (members_view members.old.entries)) }
-{
-    for (key, piece) in fields {
-        let value = piece_value(alloc, test, *piece)?;
-        put(members, alloc, key, value)?;
-    }
-    Ok(())
-}
-
-fn piece_value(alloc: Global, test: &Test, piece: Piece<'_>) -> Result<Value, NoMemory>
+pub fn piece_value(alloc: Global, test: &Test, piece: Piece<'_>) -> Result<Value, NoMemory>
     ensures { IfOk result (λ value. view value ≡ pieces.piece_value test.now piece.entry) }
 {
     match piece {
-        Piece::Text(_) | Piece::Event(_) | Piece::Source(_) => text_value(alloc, test, piece),
-        Piece::Number(number) => Ok(Value::from(number)),
+        Piece::Word(_, word) => Ok(Value::try_from_str(alloc, word)?),
         Piece::Depth(depth) => Ok(Value::from(depth)),
-        Piece::Asked => asked_value(alloc, test),
-        Piece::Verdict(allowed) => outcomes_verdict_value(alloc, test, allowed),
+        Piece::Event(_) | Piece::Source(_) => text_value(alloc, test, piece),
         Piece::Sources(writes) => sources_value(alloc, test, writes),
         Piece::Cycle(edges) => edges_value(alloc, test, edges),
         Piece::Places(places) => places_value(alloc, test, places),
+        Piece::Writes(order, loc) => writes_value(alloc, test, order, loc),
+        Piece::Nothing => Ok(Value::Null),
     }
 }
 
@@ -79,30 +56,27 @@ fn sources_value(alloc: Global, test: &Test, writes: &[Option<Event>]) -> Result
     Ok(Value::Array(values))
 }
 
+fn writes_value(alloc: Global, test: &Test, order: &[Entry], loc: Loc) -> Result<Value, NoMemory>
+    ensures { IfOk result (λ value. view value
+        ≡ array (items_of (map (λ v. string (printed_entry test.now v)) (filter (program_order.writes_to loc.0) order.now)))) }
+{
+    let mut values = Vec::new(alloc);
+    for entry in order {
+        if writes_to(loc.0, entry) {
+            let write = event_of(entry);
+            values.push(text_value(alloc, test, Piece::Event(&write))?)?;
+        }
+    }
+    Ok(Value::Array(values))
+}
+
 /// A piece as it stands in a line, as a string.
-///
-/// Errors: out of memory only.
-pub fn text_value(alloc: Global, test: &Test, piece: Piece<'_>) -> Result<Value, NoMemory>
+fn text_value(alloc: Global, test: &Test, piece: Piece<'_>) -> Result<Value, NoMemory>
     ensures { IfOk result (λ value. view value ≡ string (pieces.piece_text test.now piece.entry)) }
 {
     let mut text = String::new(alloc);
     write_piece(&mut text, test, piece)?;
     Ok(Value::String(text))
-}
-
-fn put_text(
-    members: &mut Map<String, Value>,
-    alloc: Global,
-    test: &Test,
-    key: &str,
-    piece: Piece<'_>,
-) -> Result<(), NoMemory>
-    ensures { OnOk result (members_view members.new.entries
-        ≡ values.put key.now (string (pieces.piece_text test.now piece.entry)) (members_view members.old.entries)) }
-{
-    let value = text_value(alloc, test, piece)?;
-    put(members, alloc, key, value)?;
-    Ok(())
 }
 
 fn edges_value(alloc: Global, test: &Test, edges: &[Edge]) -> Result<Value, NoMemory>
@@ -118,24 +92,31 @@ fn edges_value(alloc: Global, test: &Test, edges: &[Edge]) -> Result<Value, NoMe
 fn edge_value(alloc: Global, test: &Test, edge: &Edge) -> Result<Value, NoMemory>
     ensures { IfOk result (λ value. view value ≡ spec.edge_value test.now edge.now) }
 {
+    let relation = relation_text(edge.relation);
+    let texts = [
+        ("from", Piece::Event(&edge.source)),
+        ("relation", Piece::Word(relation, relation)),
+        ("to", Piece::Event(&edge.target)),
+    ];
     let mut members = Map::new(alloc);
-    put_edge(&mut members, alloc, test, edge)?;
+    put_texts(&mut members, alloc, test, &texts)?;
     Ok(Value::Object(members))
 }
 
-fn put_edge(
+/// Puts pieces as they stand in a line under their keys.
+fn put_texts(
     members: &mut Map<String, Value>,
     alloc: Global,
     test: &Test,
-    edge: &Edge,
+    texts: &[(&str, Piece<'_>)],
 ) -> Result<(), NoMemory>
-    requires { members.old.entries ≡ [] }
-    ensures { OnOk result (object (members_view members.new.entries) ≡ spec.edge_value test.now edge.now) }
+    ensures { OnOk result (members_view members.new.entries ≡ pieces.with_texts test.now texts.now (members_view members.old.entries)) }
 {
-    let relation = relation_text(edge.relation);
-    put_text(members, alloc, test, "from", Piece::Event(&edge.source))?;
-    put_text(members, alloc, test, "relation", Piece::Text(relation))?;
-    put_text(members, alloc, test, "to", Piece::Event(&edge.target))
+    for (key, piece) in texts {
+        let value = text_value(alloc, test, *piece)?;
+        put(members, alloc, key, value)?;
+    }
+    Ok(())
 }
 
 fn places_value(alloc: Global, test: &Test, places: &[Place]) -> Result<Value, NoMemory>

@@ -14,12 +14,12 @@ ghost use Rattle.reason_report.specs.inner.Parts.{IsLayoutReady};
 ghost use Rattle.reason_report.specs.inner.Closed.{IsGiven};
 ghost use Rattle.reason_report.specs.inner.Views.{with_new_word};
 
+use crate::asked::truth_asked;
 use crate::closed::Given;
 use crate::parts::Refutation;
 use refutations::propositions::{allows, register_at_end, words_at_end};
-use refutations::{Answers, Facts};
 use std::alloc::Global;
-use tso_model::{Core, Entry, Loc, NoMemory, Prop, Quantifier, Reg, Test};
+use tso_model::{Core, Loc, NoMemory, Prop, Reg};
 use tso_report::named::Named;
 
 fn is_register(core: Core, reg: Reg, value: u32, place: Named) -> bool
@@ -60,20 +60,12 @@ fn either(first: Judged, second: Judged) -> Judged
 
 /// Judges a proposition, and each of its parts once: which part of a `/\` tells that it is false depends on whether those before it
 /// can be true.
-fn judge(
-    test: &Test,
-    events: &[Entry],
-    answers: &Answers,
-    facts: &Facts,
-    prop: &Prop,
-    truth: bool,
-    place: Named,
-) -> Judged
-    requires events { events.now ≡ events_of test.now }
-    requires facts { AreFacts test.now (known_of answers.now) facts.now }
-    requires names { NamesExist (length test.now.programs) (length test.now.words) (claim_of prop.now) }
-    ensures allowed { result.is_allowed ≡ values.allows test.now (known_of answers.now) (claim_of prop.now) truth }
-    ensures told { result.is_told ≡ spec.tells test.now (known_of answers.now) (claim_of prop.now) truth place }
+fn judge(tree: Refutation<'_>, given: &Given, prop: &Prop, truth: bool, place: Named) -> Judged
+    requires events { tree.events.now ≡ events_of tree.test.now }
+    requires facts { AreFacts tree.test.now (known_of given.now.answers) given.now.facts }
+    requires names { NamesExist (length tree.test.now.programs) (length tree.test.now.words) (claim_of prop.now) }
+    ensures allowed { result.is_allowed ≡ values.allows tree.entry.test.now (known_of given.now.answers) (claim_of prop.now) truth }
+    ensures told { result.is_told ≡ spec.tells tree.entry.test.now (known_of given.now.answers) (claim_of prop.now) truth place }
 {
     match prop {
         Prop::Truth(value) => Judged {
@@ -81,53 +73,57 @@ fn judge(
             is_told: false,
         },
         Prop::RegIs(core, reg, value) => Judged {
-            is_allowed: allows(test, events, answers, facts, prop, truth),
+            is_allowed: allows(
+                tree.test,
+                tree.events,
+                &given.answers,
+                &given.facts,
+                prop,
+                truth,
+            ),
             is_told: is_register(*core, *reg, *value, place),
         },
         Prop::LocIs(loc, value) => Judged {
-            is_allowed: allows(test, events, answers, facts, prop, truth),
+            is_allowed: allows(
+                tree.test,
+                tree.events,
+                &given.answers,
+                &given.facts,
+                prop,
+                truth,
+            ),
             is_told: is_location(*loc, *value, place),
         },
-        Prop::Not(inner) => judge(test, events, answers, facts, inner, !truth, place),
+        Prop::Not(inner) => judge(tree, given, inner, !truth, place),
         Prop::And(left, right) => {
-            let first = judge(test, events, answers, facts, left, truth, place);
+            let first = judge(tree, given, left, truth, place);
             if truth && !first.is_allowed {
                 return first;
             }
-            let second = judge(test, events, answers, facts, right, truth, place);
+            let second = judge(tree, given, right, truth, place);
             if truth { second } else { either(first, second) }
         }
         Prop::Or(left, right) => {
-            let first = judge(test, events, answers, facts, left, truth, place);
+            let first = judge(tree, given, left, truth, place);
             if !truth && !first.is_allowed {
                 return first;
             }
-            let second = judge(test, events, answers, facts, right, truth, place);
+            let second = judge(tree, given, right, truth, place);
             if truth { either(first, second) } else { second }
         }
     }
 }
 
 /// Whether the place tells that what the test asks is false.
-fn tells_asked(
-    test: &Test,
-    events: &[Entry],
-    answers: &Answers,
-    facts: &Facts,
-    place: Named,
-) -> bool
-    requires events { events.now ≡ events_of test.now }
-    requires facts { AreFacts test.now (known_of answers.now) facts.now }
-    ensures { result ≡ spec.tells test.now (known_of answers.now) (asked_claim test.now.condition) true place }
+fn tells_asked(tree: Refutation<'_>, given: &Given, place: Named) -> bool
+    requires events { tree.events.now ≡ events_of tree.test.now }
+    requires facts { AreFacts tree.test.now (known_of given.now.answers) given.now.facts }
+    ensures { result ≡ spec.tells tree.entry.test.now (known_of given.now.answers) (asked_claim tree.entry.test.now.condition) true place }
 {
-    let Some(cond) = test.cond() else {
+    let Some(cond) = tree.test.cond() else {
         return false;
     };
-    let truth = match cond.quantifier {
-        Quantifier::Exists | Quantifier::NotExists => true,
-        Quantifier::Forall => false,
-    };
-    judge(test, events, answers, facts, &cond.prop, truth, place).is_told
+    judge(tree, given, &cond.prop, truth_asked(cond.quantifier), place).is_told
 }
 
 /// What a register holds at the end, or the words that a location may have; none of what isn't known.
@@ -147,9 +143,8 @@ pub fn words_at(
     let (answers, facts) = (&given.answers, &given.facts);
     match place {
         Named::Register(core, reg) => {
-            let mut words = Vec::new(alloc);
-            words.push(register_at_end(tree.test, answers, facts, core, reg))?;
-            Ok(words)
+            let word = register_at_end(tree.test, answers, facts, core, reg);
+            Ok(Vec::from_slice(alloc, &[word])?)
         }
         Named::Location(loc) => { words_at_end(alloc, tree.test, tree.events, answers, facts, loc) }
     }
@@ -167,7 +162,12 @@ fn are_known(words: &[Option<u32>]) -> bool
 fn are_all_known(words: &[Option<u32>]) -> bool
     ensures { result ≡ list_all is_some words.now }
 {
-    words.iter().all(|w| w.is_some())
+    for w in words {
+        if w.is_none() {
+            return false;
+        }
+    }
+    true
 }
 
 /// Whether the place is named: it tells that what the test asks is false, and what stands there is known.
@@ -184,7 +184,7 @@ pub fn suffices(
     requires place { NameExists (length tree.test.now.programs) (length tree.test.now.locations) place }
     ensures { IfOk result (λ b. b ≡ spec.suffices tree.entry.test.now (asked_claim tree.entry.test.now.condition) (known_of given.now.answers) place) }
 {
-    if !tells_asked(tree.test, tree.events, &given.answers, &given.facts, place) {
+    if !tells_asked(tree, given, place) {
         return Ok(false);
     }
     let words = words_at(alloc, tree, given, place)?;
@@ -239,5 +239,10 @@ fn add_word(values: &mut Vec<u32>, value: u32) -> Result<(), NoMemory>
 fn is_among(values: &[u32], value: u32) -> bool
     ensures { result ≡ list_any (λ v. v == value) values.now }
 {
-    values.iter().any(|v| *v == value)
+    for v in values {
+        if *v == value {
+            return true;
+        }
+    }
+    false
 }

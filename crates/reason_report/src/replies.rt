@@ -72,10 +72,8 @@ pub fn replies(
     match node {
         Node::ReadsFrom(read) => sources(alloc, test, events, *read),
         Node::ComesFirst(first, second) => {
-            let mut all = Vec::new(alloc);
-            all.push(Reply::First(*first, *second))?;
-            all.push(Reply::First(*second, *first))?;
-            Ok(all)
+            let both = [Reply::First(*first, *second), Reply::First(*second, *first)];
+            Ok(Vec::from_slice(alloc, &both)?)
         }
         _ => Ok(Vec::new(alloc)),
     }

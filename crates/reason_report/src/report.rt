@@ -1,23 +1,30 @@
 //! What is printed of a refutation, of an execution, or of a search that met its limit: lines of text, or a JSON value on one line.
 
-ghost use Rattle.std.specs.Prelude.{◌≡◌, IfOk, map, string_bytes};
+ghost use Rattle.std.specs.Prelude.{◌≡◌, All, IfOk, filter, length, map, string_bytes};
+ghost use Rattle.tso_model.specs.FinalState.{final_registers, final_words};
+ghost use Rattle.tso_model.specs.ProgramEntries.{made};
+ghost use Rattle.tso_model.specs.ProgramOrder.{is_read};
+ghost use Rattle.relational_model.specs.Candidates.{Candidate};
 ghost use Rattle.refutation_laws.specs.Models.{IsExecutionOf};
 ghost use Rattle.refutations.specs.Trees.{node_of};
-ghost use Rattle.reason_report.specs.Printed.{refutation_in, unfinished_cases_in, ShowsExecution};
+ghost use Rattle.tso_report.specs.Tally.{looked_at, shown_value};
+ghost use Rattle.tso_report.specs.inner.Tally.{NameExists};
+ghost use Rattle.reason_report.specs.Printed.{allowed_in, refutation_in, unfinished_cases_in, ShowsExecution};
+ghost use Rattle.reason_report.specs.inner.Shown.{AreIn, AreReadings, IsShown};
 
-use crate::allowed_json::allowed_json;
-use crate::allowed_text::allowed_text;
-use crate::as_json::{never_json, unfinished_reason_json};
-use crate::as_text::{never_text, unfinished_text};
+use crate::as_json::{never_json, sections_json, unfinished_reason_json};
+use crate::as_text::{never_text, sections_text, unfinished_text};
+use crate::asked::model_name;
 use crate::layout::steps_of;
-use crate::readings::readings;
+use crate::pieces::Section;
+use crate::readings::{Reading, readings};
 use execution_check::final_state::{entries_made, registers_left, words_left};
 use refutation_laws::Model;
 use refutations::Node;
 use relational_model::{candidates_of_executions_are_allowed, executions_have_candidates};
 use std::alloc::Global;
-use tso_model::{Choice, Execution, NoMemory, Test};
-use tso_report::named::{looked_at, values_at};
+use tso_model::{Choice, Entry, Execution, NoMemory, Test};
+use tso_report::named::{Named, looked_at, values_at};
 
 /// What is printed of a refutation of what the test asks, as lines of text or with `json` as a JSON value: its cases, step by step,
 /// and what closes each.
@@ -40,6 +47,20 @@ pub fn refutation_report(
     }
 }
 
+/// An execution as it is shown.
+#[derive(Clone, Copy)]
+struct Shown<'a> {
+    order: &'a [Entry],
+    /// What each read reads from.
+    readings: &'a [Reading],
+    /// What is looked at.
+    names: &'a [Named],
+    /// The values that it has at the end.
+    values: &'a [u32],
+    /// Choices that lead there.
+    choices: &'a [Choice],
+}
+
 /// What is printed of an execution of the model in which what the test asks is so, and of choices that lead there, as lines of text
 /// or with `json` as a JSON value: what each read reads from, the writes to each location in their order, and the values that are
 /// looked at.
@@ -58,22 +79,78 @@ pub fn allowed_report(
 {
     executions_have_candidates();
     candidates_of_executions_are_allowed();
-    test.know_limits();
     let order = execution.order.as_slice();
+    let readings = readings_of(alloc, test, order)?;
+    let names = looked_at(alloc, test)?;
+    let values = values_left(alloc, test, order, &names)?;
+    let shown = Shown {
+        order,
+        readings: &readings,
+        names: &names,
+        values: &values,
+        choices,
+    };
+    shown_report(alloc, test, model, shown, json)
+}
+
+/// What each read of the order reads from.
+fn readings_of(alloc: Global, test: &Test, order: &[Entry]) -> Result<Vec<Reading>, NoMemory>
+    requires { AreIn order.now (made test.now order.now) }
+    ensures { IfOk result (λ all. AreReadings order.now (filter is_read (made test.now order.now)) all.items) }
+{
     let entries = entries_made(alloc, test, order)?;
-    let readings = readings(alloc, order, &entries)?;
+    readings(alloc, order, &entries)
+}
+
+/// The values that an order leaves where these names are.
+fn values_left(
+    alloc: Global,
+    test: &Test,
+    order: &[Entry],
+    names: &[Named],
+) -> Result<Vec<u32>, NoMemory>
+    requires { All (NameExists (length test.now.programs) (length test.now.locations)) names.now }
+    ensures { IfOk result (λ values. values.items ≡ map (shown_value (final_registers test.now order.now) (final_words test.now order.now)) names.now) }
+{
+    test.know_limits();
     let registers = registers_left(alloc, test, order)?;
     let words = words_left(alloc, test, order)?;
-    let names = looked_at(alloc, test)?;
-    let values = values_at(alloc, &names, &registers, &words)?;
+    values_at(alloc, names, &registers, &words)
+}
+
+/// What is printed of an execution as it is shown.
+fn shown_report<'a>(
+    alloc: Global,
+    test: &'a Test,
+    model: Model,
+    shown: Shown<'a>,
+    json: bool,
+) -> Result<String, NoMemory>
+    requires known { All (NameExists (length test.now.programs) (length test.now.locations)) shown.names.now }
+    requires names { shown.names.now ≡ looked_at test.now }
+    requires values { length shown.values.now ≡ length shown.names.now }
+    ensures { IfOk result (λ text. (c : Candidate) → IsShown test.now shown.entry.order.now shown.entry.readings.now shown.entry.values.now c
+        → string_bytes text ≡ allowed_in json model test.now c shown.entry.choices.now) }
+{
+    let sections = [
+        ("Test ", "test", Section::Text(test.name())),
+        ("\nAllowed ", "model", Section::Text(model_name(model))),
+        ("\n", "asked", Section::Asked),
+        ("", "answer", Section::Answer("allowed")),
+        ("", "sources", Section::Readings(shown.readings)),
+        ("", "coherence", Section::Coherence(shown.order)),
+        ("By", "choices", Section::Choices(shown.choices)),
+        (
+            "\nState",
+            "values",
+            Section::Values(shown.names, shown.values),
+        ),
+        ("\n", "verdict", Section::Verdict(true)),
+    ];
     if json {
-        allowed_json(
-            alloc, test, model, order, &readings, &names, &values, choices,
-        )
+        sections_json(alloc, test, &sections)
     } else {
-        allowed_text(
-            alloc, test, model, order, &readings, &names, &values, choices,
-        )
+        sections_text(alloc, test, &sections)
     }
 }
 

@@ -1,10 +1,10 @@
 -- An execution as the code shows it: what its reads read from, by its order.
 use Rattle.std.specs.Prelude.{ℕ, ◌+◌, ◌≡◌, true, List, [], ◌∷◌, ◌++◌, map, filter, Option, Some, None, codes}
-use Rattle.reason_report.specs.Vocabulary.{array, Candidate, Choice, Data, Entry, items_of, last_in, line, Litmus, looked_at, member, Members, Model, Named, no_members, object, outcomes_verdict_value, printed_choices, put, string, value_members, writes_to}
+use Rattle.reason_report.specs.Vocabulary.{Candidate, Data, Entry, last_in, line, Litmus, member, Members, no_members, object, string, writes_to}
 use Rattle.tso_model.specs.Axioms.{counting}
 use Rattle.relational_model.specs.Events.{IsIn}
-use Rattle.reason_report.specs.ReasonText.{model_name, event_text, source_text, reads_of, coherence_line, values_left}
-use Rattle.reason_report.specs.ReasonJson.{asked_value, event_value, with_coherence}
+use Rattle.reason_report.specs.ReasonText.{event_text, source_text, reads_of, coherence_line, values_left}
+use Rattle.reason_report.specs.ReasonJson.{event_value, with_coherence}
 use Rattle.reason_report.specs.declared.readings.Reading.{Reading}
 use Rattle.reason_report.specs.declared.steps.Event.{Event}
 
@@ -48,10 +48,6 @@ pub record IsShown (t : Litmus) (order : List Entry) (xs : List Reading) (vs : L
   pub coherence : (loc : ℕ) → c.coherence loc ≡ filter (writes_to loc) order
   pub values : vs ≡ values_left t c
 
--- `Allowed tso`
-abbrev pub allowed_line : Model → List ℕ
-allowed_line model = codes "Allowed " ++ line (model_name model)
-
 -- `From P0:1 R y=0 initial`
 abbrev pub reading_line : Litmus → Reading → List ℕ
 reading_line t x = codes "From " ++ (event_text t x.read ++ (codes " " ++ line (source_text t x.write)))
@@ -70,33 +66,3 @@ abbrev pub coherence_members_by : Litmus → List Entry → ℕ → List (List �
 coherence_members_by t order loc [] = no_members
 coherence_members_by t order loc (name ∷ names) =
     with_coherence t name (filter (writes_to loc) order) (coherence_members_by t order (loc + 1) names)
-
--- these members, and what is answered to what the test asks, with choices that lead there
-abbrev pub with_answer : Model → Litmus → List ℕ → Members → Members
-with_answer model t choices members =
-    put (codes "verdict") (outcomes_verdict_value t.condition true)
-    (put (codes "test") (string t.name)
-    (put (codes "model") (string (model_name model))
-    (put (codes "choices") (string choices)
-    (put (codes "asked") (asked_value t.condition)
-    (put (codes "answer") (string (codes "allowed")) members)))))
-
--- and what each read reads from, the writes to each location, and the values at these
-abbrev pub with_execution : Litmus → List Entry → List Reading → List Named → List ℕ → Members → Members
-with_execution t order readings names values members =
-    put (codes "values") (object (value_members t names values))
-    (put (codes "sources") (array (items_of (map (reading_value t) readings)))
-    (put (codes "coherence") (object (coherence_members_by t order 0 t.locations)) members))
-
--- all of it, as `allowed_value` has it of a candidate
-abbrev pub shown_allowed_value : Model → Litmus → List Entry → List Reading → List ℕ → List Choice → Data
-shown_allowed_value model t order readings values choices =
-    object (member (codes "answer") (string (codes "allowed"))
-    (member (codes "asked") (asked_value t.condition)
-    (member (codes "choices") (string (printed_choices choices))
-    (member (codes "coherence") (object (coherence_members_by t order 0 t.locations))
-    (member (codes "model") (string (model_name model))
-    (member (codes "sources") (array (items_of (map (reading_value t) readings)))
-    (member (codes "test") (string t.name)
-    (member (codes "values") (object (value_members t (looked_at t) values))
-    (member (codes "verdict") (outcomes_verdict_value t.condition true) no_members)))))))))

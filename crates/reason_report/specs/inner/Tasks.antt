@@ -1,9 +1,10 @@
 -- What is still to be laid out, as the code keeps it: tasks, of which the first stands for the next part.
-use Rattle.std.specs.Prelude.{ℕ, ◌≡◌, ◌+◌, ◌≤◌, Bool, if◌then◌else◌, List, [], ◌∷◌, ◌++◌, Option, Some, None}
+use Rattle.std.specs.Prelude.{ℕ, ◌≡◌, ◌+◌, ◌≤◌, Bool, true, false, if◌then◌else◌, List, [], ◌∷◌, ◌++◌, Option, Some, None}
 use Rattle.std.specs.List.{flat_map}
 use Rattle.reason_report.specs.Vocabulary.{Known, known_of, Litmus, nothing}
 use Rattle.reason_report.specs.Steps as spec
 use Rattle.reason_report.specs.declared.replies.Reply.{Reply}
+use Rattle.reason_report.specs.declared.layout.Answered.{Answered}
 use Rattle.reason_report.specs.declared.layout.Wanted.{Wanted}
 use Rattle.reason_report.specs.declared.layout.Wanted.TheVariants as wanted
 use Rattle.reason_report.specs.declared.layout.Task as declared
@@ -19,10 +20,12 @@ pub data Task : Type 0 where
   -- no part, but the end of cases
   Endcases : ℕ → Task
 
+abbrev pub task_of_answered : Answered → Task
+task_of_answered a = if a.is_only then So a.depth a.reply (known_of a.answers) else Case a.depth a.reply (known_of a.answers)
+
 abbrev pub spec_wanted : Wanted → Task
 spec_wanted wanted.Passed = Passed
-spec_wanted (wanted.Case depth reply answers) = Case depth reply (known_of answers)
-spec_wanted (wanted.So depth reply answers) = So depth reply (known_of answers)
+spec_wanted (wanted.Answered a) = task_of_answered a
 
 abbrev pub task_of : declared.Task → Task
 task_of (code.Part w) = spec_wanted w
@@ -62,6 +65,11 @@ emit t (_ ∷ ts) [] = emit t ts []
 emit t (Passed ∷ ts) (p ∷ ps) = emit t ts ps
 emit t (Case depth reply k ∷ ts) (p ∷ ps) = spec.case_steps t depth (as_branch reply k p) ++ emit t ts ps
 emit t (So depth reply k ∷ ts) (p ∷ ps) = spec.so_steps t depth (as_branch reply k p) ++ emit t ts ps
+
+-- how deep the part of an answer stands, of the only one that is left or of one of several
+abbrev pub depth_below : Bool → ℕ → ℕ
+depth_below true depth = depth
+depth_below false depth = depth + 1
 
 -- how deep the lines of a task stand at most
 abbrev pub task_depth : Task → ℕ

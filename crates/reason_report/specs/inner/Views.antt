@@ -1,6 +1,5 @@
 -- Steps as the code holds them, and the definitions' own that they stand for.
-use Rattle.std.specs.Prelude.{ℕ, ◌==◌, if◌then◌else◌, ◌++◌, List, [], ◌∷◌, Option, Some, None, codes}
-use Rattle.std.specs.Fmt.{decimal}
+use Rattle.std.specs.Prelude.{ℕ, ◌==◌, if◌then◌else◌, ◌++◌, List, [], ◌∷◌, Option, Some, None}
 use Rattle.std.specs.List.{list_any}
 use Rattle.reason_report.specs.Vocabulary.{Kind, Litmus, printed_access}
 use Rattle.reason_report.specs.declared.steps.Closing.{Closing}
@@ -12,11 +11,6 @@ use Rattle.reason_report.specs.Views.{closing_of}
 abbrev pub known_access : Litmus → Kind → ℕ → Option ℕ → List ℕ
 known_access t kind loc None = location_text t kind loc
 known_access t kind loc (Some value) = printed_access t kind loc value
-
--- `=v`
-abbrev pub value_text : Option ℕ → List ℕ
-value_text None = []
-value_text (Some value) = codes "=" ++ decimal value
 
 -- the line of a leaf, if there is one
 abbrev pub leaf_of : ℕ → Option Closing → List spec.ReasonStep

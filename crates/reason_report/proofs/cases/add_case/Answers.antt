@@ -8,7 +8,7 @@ returns c =
     let t = c.args.tree.test.now in
     on_ok_weaker c.add_leaf.result
     (λ e. case-added c.args.steps.now.items c.push.new.self.items _ _ _ _ _ c.in_ok-push.ensures.items
-    (ap (spec.Case c.args.depth) c.in_ok-answer.ensures)
-    (ap (λ ks. spec.leaf_steps c.args.tree.model t (asked_claim t.condition) (c.args.depth + 1) (known_of c.args.first.now.leaf.given.answers) ks
+    (ap (spec.Case c.args.question.now.depth) c.in_ok-answer.ensures)
+    (ap (λ ks. spec.leaf_steps c.args.tree.model t (asked_claim t.condition) (c.args.question.now.depth + 1) (known_of c.args.first.now.leaf.given.answers) ks
     (root_at c.args.tree c.args.first.now.leaf.at))
     (known-is c.args.tree c.requires.tree.places c.args.first.now c.requires.first c.args.others.now c.requires.others)) e) c.add_leaf.ensures

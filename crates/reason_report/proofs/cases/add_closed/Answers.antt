@@ -18,7 +18,7 @@ loop-at-preserved c =
     let tree = c.args.tree in
     let t = tree.test.now in
     let i = c.loop-at.at in
-    let f = spec.closed_case tree.model t (asked_claim t.condition) c.args.depth (known_of c.args.question.now.answers) in
+    let f = spec.closed_case tree.model t (asked_claim t.condition) c.args.question.now.depth (known_of c.args.question.now.given.answers) in
     elim c.if-not-is_alike_to_some.branch [
       | then-not-is_alike_to_some+in_ok-add_case w ↦
           one-more-group f (map reason_step_of c.loop-at.steps.items) (map reason_step_of c.if-not-is_alike_to_some.steps.items) _

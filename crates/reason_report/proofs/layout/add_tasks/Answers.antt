@@ -8,10 +8,10 @@ pub loop-i-init : goal.loop-i-init
 loop-i-init c =
     elim c.if-not-single.branch [
       | then-not-single+in_ok-push w ↦
-          started-some (branch_in c.args.tree (known_of c.args.answers.now)) c.args.branches.now c.args.depth c.args.single c.args.tasks.now.items c.if-not-single.tasks.items
+          started-some (branch_in c.args.tree (known_of c.args.question.now.given.answers)) c.args.branches.now c.args.question.now.depth c.args.single c.args.tasks.now.items c.if-not-single.tasks.items
           w.if-not-single.true (ap (λ v. v.items) w.tasks-is ∙ w.in_ok-push.ensures.items)
       | else-not-single w ↦
-          started-none (branch_in c.args.tree (known_of c.args.answers.now)) c.args.branches.now c.args.depth c.args.single c.args.tasks.now.items c.if-not-single.tasks.items
+          started-none (branch_in c.args.tree (known_of c.args.question.now.given.answers)) c.args.branches.now c.args.question.now.depth c.args.single c.args.tasks.now.items c.if-not-single.tasks.items
           w.if-not-single.false (ap (λ v. v.items) w.tasks-is)
     ]
 
@@ -20,6 +20,6 @@ wanted_of-requires c = below-get _ c.args.branches.now (c.loop-i.i - 1) _ (omega
 
 pub loop-i-preserved : goal.loop-i-preserved
 loop-i-preserved c =
-    tasks-more (branch_in c.args.tree (known_of c.args.answers.now)) c.args.branches.now c.args.depth c.args.single c.loop-i.i (c.loop-i.i - 1) _
+    tasks-more (branch_in c.args.tree (known_of c.args.question.now.given.answers)) c.args.branches.now c.args.question.now.depth c.args.single c.loop-i.i (c.loop-i.i - 1) _
     (omega (arith, c.loop-i-test.true)) (omega (arith, c.loop-i.auto.i)) refl c.in_ok-wanted.wanted c.in_ok-wanted.ensures c.loop-i.tasks.items c.push-in-loop-i.new.self.items
     _ c.loop-i.invariant c.in_ok-push-2.ensures.items

@@ -1,0 +1,131 @@
+//! What a step, a reading and a refutation show, once for lines of text and for JSON.
+
+ghost use Rattle.std.specs.Prelude.{◌≡◌, ◌++◌, ◌∷◌, [], map};
+ghost use Rattle.std.specs.List.{flat_map};
+ghost use Rattle.serde_json.specs.Data.{object, no_members};
+ghost use Rattle.tso_model.specs.Litmus.{Litmus};
+ghost use Rattle.reason_report.specs.ReasonText as text;
+ghost use Rattle.reason_report.specs.ReasonJson as json;
+ghost use Rattle.reason_report.specs.Views.{answer_of, closing_of, reason_step_of};
+ghost use Rattle.reason_report.specs.inner.Pieces.{field_text, titled_text, with_fields, with_sections, SectionsAreKnown};
+ghost use Rattle.reason_report.specs.inner.Shown.{reading_line, reading_value};
+
+use crate::asked::model_name;
+use crate::pieces::{Field, Piece, Section, Titled};
+use crate::readings::Reading;
+use crate::steps::{Answer, Closing, Step, leaves_in};
+use refutation_laws::Model;
+use tso_model::Test;
+
+/// What a step shows.
+pub fn step_fields(step: &Step) -> [Field<'_>; 5]
+    ensures line { (t : Litmus) → flat_map (field_text t) result ++ (10 ∷ []) ≡ text.reason_step_line t (reason_step_of step.now) }
+    ensures value { (t : Litmus) → object (with_fields t result no_members) ≡ json.step_value t (reason_step_of step.now) }
+{
+    match step {
+        Step::Case(depth, answer) => answer_fields(*depth, "Case ", "case", answer),
+        Step::So(depth, answer) => answer_fields(*depth, "So ", "so", answer),
+        Step::Leaf(depth, closing) => closing_fields(*depth, closing),
+        Step::Endcases(depth) => [
+            ("", "depth", Piece::Depth(*depth)),
+            ("", "step", Piece::Word("Endcases", "endcases")),
+            ("", "", Piece::Nothing),
+            ("", "", Piece::Nothing),
+            ("", "", Piece::Nothing),
+        ],
+    }
+}
+
+/// `Case P1:0 R y=1 from P0:1 W y=1`, or `So P0:0 W x=1 before P1:0 W x=2`.
+fn answer_fields<'a>(
+    depth: usize,
+    word: &'a str,
+    step: &'a str,
+    answer: &'a Answer,
+) -> [Field<'a>; 5]
+    ensures line { (t : Litmus) → flat_map (field_text t) result
+        ≡ text.blanks depth ++ (word.now ++ text.answer_text t (answer_of answer.now)) }
+    ensures value { (t : Litmus) → object (with_fields t result no_members) ≡ json.answer_value t step.now depth (answer_of answer.now) }
+{
+    match answer {
+        Answer::From(read, writes) => [
+            ("", "depth", Piece::Depth(depth)),
+            ("", "step", Piece::Word(word, step)),
+            ("", "read", Piece::Event(read)),
+            (" from ", "from", Piece::Sources(writes)),
+            ("", "", Piece::Nothing),
+        ],
+        Answer::Before(first, second) => [
+            ("", "depth", Piece::Depth(depth)),
+            ("", "step", Piece::Word(word, step)),
+            ("", "first", Piece::Event(first)),
+            (" before ", "second", Piece::Event(second)),
+            ("", "", Piece::Nothing),
+        ],
+    }
+}
+
+/// `Cycle P0:0 W x=1 po ..`, `Between P0:0 LR x=0 P1:0 W x=1 P0:0 LW x=0`, or `False 1:EAX=0`.
+fn closing_fields(depth: usize, closing: &Closing) -> [Field<'_>; 5]
+    ensures line { (t : Litmus) → flat_map (field_text t) result ≡ text.blanks depth ++ text.closing_text t (closing_of closing.now) }
+    ensures value { (t : Litmus) → object (with_fields t result no_members) ≡ json.closing_value t depth (closing_of closing.now) }
+{
+    match closing {
+        Closing::Uniproc(edges) => [
+            ("", "depth", Piece::Depth(depth)),
+            ("", "step", Piece::Word("Uniproc", "uniproc")),
+            ("", "cycle", Piece::Cycle(edges)),
+            ("", "", Piece::Nothing),
+            ("", "", Piece::Nothing),
+        ],
+        Closing::Cycle(edges) => [
+            ("", "depth", Piece::Depth(depth)),
+            ("", "step", Piece::Word("Cycle", "cycle")),
+            ("", "cycle", Piece::Cycle(edges)),
+            ("", "", Piece::Nothing),
+            ("", "", Piece::Nothing),
+        ],
+        Closing::Between(read, between, write) => [
+            ("", "depth", Piece::Depth(depth)),
+            ("", "step", Piece::Word("Between ", "between")),
+            ("", "read", Piece::Event(read)),
+            (" ", "between", Piece::Event(between)),
+            (" ", "write", Piece::Event(write)),
+        ],
+        Closing::False(places) => [
+            ("", "depth", Piece::Depth(depth)),
+            ("", "step", Piece::Word("False", "false")),
+            ("", "places", Piece::Places(places)),
+            ("", "", Piece::Nothing),
+            ("", "", Piece::Nothing),
+        ],
+    }
+}
+
+/// `From P0:1 R y=0 initial`.
+pub fn reading_fields(reading: &Reading) -> [Field<'_>; 2]
+    ensures line { (t : Litmus) → flat_map (field_text t) result ++ (10 ∷ []) ≡ reading_line t reading.now }
+    ensures value { (t : Litmus) → object (with_fields t result no_members) ≡ reading_value t reading.now }
+{
+    [
+        ("From ", "read", Piece::Event(&reading.read)),
+        (" ", "write", Piece::Source(&reading.write)),
+    ]
+}
+
+/// What a refutation with these steps shows.
+pub fn never_sections<'a>(test: &'a Test, model: Model, steps: &'a [Step]) -> [Titled<'a>; 7]
+    ensures known { SectionsAreKnown test.now result }
+    ensures lines { flat_map (titled_text test.now) result ≡ text.never_lines model test.now (map reason_step_of steps.now) }
+    ensures value { object (with_sections test.now result no_members) ≡ json.never_value_of model test.now (map reason_step_of steps.now) }
+{
+    [
+        ("Test ", "test", Section::Text(test.name())),
+        ("\nNever ", "model", Section::Text(model_name(model))),
+        (" leaves=", "leaves", Section::Number(leaves_in(steps))),
+        ("\n", "asked", Section::Asked),
+        ("", "answer", Section::Answer("never")),
+        ("", "steps", Section::Steps(steps)),
+        ("", "verdict", Section::Verdict(false)),
+    ]
+}
