@@ -11,7 +11,6 @@ use crate::fault::{Fault, ReadError, Why};
 use crate::form::{Form, form_of};
 use crate::location::located;
 use crate::numbers::word_at;
-use indexmap::IndexSet;
 use litmus_tokens::Token;
 use tso_model::Instr;
 use tso_model::limits::MAX_INSTRUCTIONS;
@@ -28,11 +27,11 @@ pub struct CoreInstr {
 /// `BadNumber` for a value over a word, `TooLarge` for a location too many, both at `remaining`.
 #[tactic(auto, unfolding(crate::specs::Cells::instr_of))]
 fn instr_of<'a>(
-    names: &mut IndexSet<&'a [u8]>,
+    names: &mut Vec<&'a [u8]>,
     remaining: usize,
     form: Form<'a>,
 ) -> Result<Instr, ReadError>
-    ensures { GivesNamed (λ i. i) result names.new.keys (spec.instr_of remaining (texts names.old.keys) (shape_of form.entry)) }
+    ensures { GivesNamed (λ i. i) result names.new.items (spec.instr_of remaining (texts names.old.items) (shape_of form.entry)) }
 {
     match form {
         Form::StoreImm(name, digits) => {
@@ -78,10 +77,10 @@ fn count_of(core: usize, instrs: &[CoreInstr]) -> usize
 pub fn read_cell<'a>(
     core: usize,
     instrs: &mut Vec<CoreInstr>,
-    names: &mut IndexSet<&'a [u8]>,
+    names: &mut Vec<&'a [u8]>,
     cell: &[Token<'a>],
 ) -> Result<(), ReadError>
-    ensures { GivesCells (spec.cell_in core) instrs.old.items names.old.keys cell.now result instrs.new.items names.new.keys }
+    ensures { GivesCells (spec.cell_in core) instrs.old.items names.old.items cell.now result instrs.new.items names.new.items }
 {
     let Some(first) = cell.first() else {
         return Ok(());

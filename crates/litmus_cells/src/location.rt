@@ -1,32 +1,43 @@
 //! Locations by their names, each with its number: by first appearance in the text. One over the limit is refused where it
 //! appears.
 
-ghost use Rattle.std.specs.Prelude.{◌≡◌, OnOk};
+ghost use Rattle.std.specs.Prelude.{◌≡◌, OnOk, position};
+ghost use Rattle.std.specs.Str.{bytes_eq};
 ghost use Rattle.litmus_cells.specs.inner.Faults.{Gives};
 ghost use Rattle.litmus_cells.specs.Locations as spec;
 ghost use Rattle.litmus_cells.specs.Locations.{texts};
 ghost use Rattle.litmus_cells.specs.GrammarNames as grammar;
 
 use crate::fault::{Fault, ReadError, Why};
-use indexmap::IndexSet;
 use tso_model::limits::MAX_LOCATIONS;
 use tso_model::{Loc, NoMemory};
 
-/// The number of a name: its own, or the next.
-fn number_of(names: &IndexSet<&[u8]>, name: &[u8]) -> usize
-    ensures { result ≡ grammar.number_of (texts names.now.keys) name.now }
+/// Where a name stands among the others, if it does. They are few, so each is looked at.
+fn place_of(names: &[&[u8]], name: &[u8]) -> Option<usize>
+    ensures { result ≡ position (λ known. bytes_eq name.now known.now) names.now }
 {
-    match names.get_index_of(name) {
+    names.iter().position(|known| name == *known)
+}
+
+/// The number of a name: its own, or the next.
+fn number_of(names: &[&[u8]], name: &[u8]) -> usize
+    ensures { result ≡ grammar.number_of (texts names.now) name.now }
+{
+    match place_of(names, name) {
         Some(number) => number,
         None => names.len(),
     }
 }
 
-/// Puts a name after the others where it is new.
-fn note<'a>(names: &mut IndexSet<&'a [u8]>, name: &'a [u8]) -> Result<(), NoMemory>
-    ensures { OnOk result (texts names.new.keys ≡ grammar.with_name (texts names.old.keys) name.now) }
+/// Puts a name, whose number this is, after the others where it is new.
+#[tactic(auto, using(crate::proofs::Numbering::noted_new, crate::proofs::Numbering::noted_known))]
+fn note<'a>(names: &mut Vec<&'a [u8]>, number: usize, name: &'a [u8]) -> Result<(), NoMemory>
+    requires { number ≡ grammar.number_of (texts names.old.items) name.now }
+    ensures { OnOk result (texts names.new.items ≡ grammar.with_name (texts names.old.items) name.now) }
 {
-    names.insert(name)?;
+    if number == names.len() {
+        names.push(name)?;
+    }
     Ok(())
 }
 
@@ -35,11 +46,11 @@ fn note<'a>(names: &mut IndexSet<&'a [u8]>, name: &'a [u8]) -> Result<(), NoMemo
 /// `TooLarge` at `remaining` for one location too many.
 #[tactic(auto, unfolding(crate::specs::Locations::located))]
 pub fn located<'a>(
-    names: &mut IndexSet<&'a [u8]>,
+    names: &mut Vec<&'a [u8]>,
     remaining: usize,
     name: &'a [u8],
 ) -> Result<Loc, ReadError>
-    ensures { Gives (λ loc. (loc, texts names.new.keys)) result (spec.located remaining (texts names.old.keys) name.now) }
+    ensures { Gives (λ loc. (loc, texts names.new.items)) result (spec.located remaining (texts names.old.items) name.now) }
 {
     let number = number_of(names, name);
     if number >= MAX_LOCATIONS {
@@ -48,6 +59,6 @@ pub fn located<'a>(
             remaining,
         }));
     }
-    note(names, name)?;
+    note(names, number, name)?;
     Ok(Loc(number as u8))
 }

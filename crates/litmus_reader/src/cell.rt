@@ -9,7 +9,6 @@ ghost use Rattle.litmus_reader.specs.inner.Cells as spec;
 ghost use Rattle.litmus_reader.specs.inner.Cells.{cells_after};
 ghost use Rattle.litmus_reader.specs.Cells.{cells_of};
 
-use indexmap::IndexSet;
 use litmus_cells::{CoreInstr, ReadError, read_cell};
 use litmus_tokens::{Symbol, Token, is_symbol};
 
@@ -34,10 +33,10 @@ fn first_cell<'a, 'b>(row: &'b [Token<'a>]) -> (&'b [Token<'a>], Option<&'b [Tok
 /// Reads the cells of a row from left to right.
 pub fn read_cells<'a>(
     instrs: &mut Vec<CoreInstr>,
-    names: &mut IndexSet<&'a [u8]>,
+    names: &mut Vec<&'a [u8]>,
     row: &[Token<'a>],
 ) -> Result<(), ReadError>
-    ensures { GivesCells spec.row_cells instrs.old.items names.old.keys row.now result instrs.new.items names.new.keys }
+    ensures { GivesCells spec.row_cells instrs.old.items names.old.items row.now result instrs.new.items names.new.items }
 {
     let mut core = 0;
     let mut remaining = Some(row);

@@ -19,7 +19,6 @@ use crate::fault::{part_of, remaining_of};
 use crate::keyword::after_word;
 use crate::limits::MAX_OPEN;
 use crate::setting::{SpelledSetting, core_of, setting_at};
-use indexmap::IndexSet;
 use litmus_cells::{Fault, ReadError, Why, located, word_at};
 use litmus_tokens::{Stop, Symbol, Token, after_symbol};
 use std::alloc::Global;
@@ -33,11 +32,11 @@ use tso_model::{Cond, Prop, Quantifier};
 fn prop_of<'a>(
     cores: usize,
     remaining: usize,
-    names: &mut IndexSet<&'a [u8]>,
+    names: &mut Vec<&'a [u8]>,
     item: SpelledSetting<'a>,
 ) -> Result<Prop, ReadError>
     requires { cores ≤ most_cores }
-    ensures { GivesNamed (λ p. claim_of p) result names.new.keys (inner.claim_in cores remaining (texts names.old.keys) (setting_of item.entry)) }
+    ensures { GivesNamed (λ p. claim_of p) result names.new.items (inner.claim_in cores remaining (texts names.old.items) (setting_of item.entry)) }
 {
     match item {
         SpelledSetting::Register(digits, reg, value) => {
@@ -86,11 +85,11 @@ fn setting_atom<'a, 'b>(
     stop: Stop,
     cores: usize,
     atoms: &mut usize,
-    names: &mut IndexSet<&'a [u8]>,
+    names: &mut Vec<&'a [u8]>,
     tokens: &'b [Token<'a>],
 ) -> Result<(Prop, &'b [Token<'a>]), ReadError>
     requires { cores ≤ most_cores }
-    ensures value { GivesClaim (inner.setting_atom stop cores) atoms.old names.old.keys tokens.now result atoms.new names.new.keys }
+    ensures value { GivesClaim (inner.setting_atom stop cores) atoms.old names.old.items tokens.now result atoms.new names.new.items }
     ensures shorter { IfOk result (λ x. length x.1.now < length tokens.now) }
 {
     let remaining = remaining_of(tokens);
@@ -109,11 +108,11 @@ fn atom_at<'a, 'b>(
     stop: Stop,
     cores: usize,
     atoms: &mut usize,
-    names: &mut IndexSet<&'a [u8]>,
+    names: &mut Vec<&'a [u8]>,
     tokens: &'b [Token<'a>],
 ) -> Result<(Prop, &'b [Token<'a>]), ReadError>
     requires { cores ≤ most_cores }
-    ensures value { GivesClaim (inner.atom_at stop cores) atoms.old names.old.keys tokens.now result atoms.new names.new.keys }
+    ensures value { GivesClaim (inner.atom_at stop cores) atoms.old names.old.items tokens.now result atoms.new names.new.items }
     ensures shorter { IfOk result (λ x. length x.1.now < length tokens.now) }
 {
     if let Some((truth, rest)) = truth_at(tokens) {
@@ -182,11 +181,11 @@ fn unit_at<'a, 'b>(
     around: Surroundings,
     opens: usize,
     atoms: &mut usize,
-    names: &mut IndexSet<&'a [u8]>,
+    names: &mut Vec<&'a [u8]>,
     tokens: &'b [Token<'a>],
 ) -> Result<(Prop, &'b [Token<'a>]), ReadError>
     requires { around.cores ≤ most_cores }
-    ensures value { GivesClaim (inner.unit_at around.stop around.cores opens) atoms.old names.old.keys tokens.now result atoms.new names.new.keys }
+    ensures value { GivesClaim (inner.unit_at around.stop around.cores opens) atoms.old names.old.items tokens.now result atoms.new names.new.items }
     ensures shorter { IfOk result (λ x. length x.1.now < length tokens.now) }
 {
     if opens == 0 {
@@ -220,11 +219,11 @@ fn conjunction_at<'a, 'b>(
     around: Surroundings,
     opens: usize,
     atoms: &mut usize,
-    names: &mut IndexSet<&'a [u8]>,
+    names: &mut Vec<&'a [u8]>,
     tokens: &'b [Token<'a>],
 ) -> Result<(Prop, &'b [Token<'a>]), ReadError>
     requires { around.cores ≤ most_cores }
-    ensures value { GivesClaim (spec.conjunction_at around.stop around.cores opens) atoms.old names.old.keys tokens.now result atoms.new names.new.keys }
+    ensures value { GivesClaim (spec.conjunction_at around.stop around.cores opens) atoms.old names.old.items tokens.now result atoms.new names.new.items }
     ensures shorter { IfOk result (λ x. length x.1.now < length tokens.now) }
 {
     let (mut prop, mut rest) = unit_at(alloc, around, opens, atoms, names, tokens)?;
@@ -243,11 +242,11 @@ fn proposition_at<'a, 'b>(
     around: Surroundings,
     opens: usize,
     atoms: &mut usize,
-    names: &mut IndexSet<&'a [u8]>,
+    names: &mut Vec<&'a [u8]>,
     tokens: &'b [Token<'a>],
 ) -> Result<(Prop, &'b [Token<'a>]), ReadError>
     requires { around.cores ≤ most_cores }
-    ensures value { GivesClaim (spec.proposition_at around.stop around.cores opens) atoms.old names.old.keys tokens.now result atoms.new names.new.keys }
+    ensures value { GivesClaim (spec.proposition_at around.stop around.cores opens) atoms.old names.old.items tokens.now result atoms.new names.new.items }
     ensures shorter { IfOk result (λ x. length x.1.now < length tokens.now) }
 {
     let (mut prop, mut rest) = conjunction_at(alloc, around, opens, atoms, names, tokens)?;
@@ -266,11 +265,11 @@ fn quantified<'a, 'b>(
     stop: Stop,
     cores: usize,
     quantifier: Quantifier,
-    names: &mut IndexSet<&'a [u8]>,
+    names: &mut Vec<&'a [u8]>,
     tokens: &'b [Token<'a>],
 ) -> Result<(Option<Cond>, &'b [Token<'a>]), ReadError>
     requires { cores ≤ most_cores }
-    ensures { GivesCondition result names.new.keys (inner.quantified stop cores quantifier (texts names.old.keys) (pieces tokens.now)) }
+    ensures { GivesCondition result names.new.items (inner.quantified stop cores quantifier (texts names.old.items) (pieces tokens.now)) }
 {
     let mut atoms = 0;
     let around = Surroundings { stop, cores };
@@ -286,11 +285,11 @@ pub fn condition_at<'a, 'b>(
     alloc: Global,
     stop: Stop,
     cores: usize,
-    names: &mut IndexSet<&'a [u8]>,
+    names: &mut Vec<&'a [u8]>,
     tokens: &'b [Token<'a>],
 ) -> Result<(Option<Cond>, &'b [Token<'a>]), ReadError>
     requires { cores ≤ most_cores }
-    ensures { GivesCondition result names.new.keys (inner.condition_at stop cores (texts names.old.keys) (pieces tokens.now)) }
+    ensures { GivesCondition result names.new.items (inner.condition_at stop cores (texts names.old.items) (pieces tokens.now)) }
 {
     if let Some(rest) = after_word(b"exists", tokens) {
         return quantified(alloc, stop, cores, Quantifier::Exists, names, rest);

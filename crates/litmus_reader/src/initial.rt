@@ -87,12 +87,12 @@ fn note_register<'a>(state: &mut Initial<'a>, word: RegisterWord<'a>) -> Result<
 fn note_item<'a>(
     remaining: usize,
     state: &mut Initial<'a>,
-    names: &mut IndexSet<&'a [u8]>,
+    names: &mut Vec<&'a [u8]>,
     item: SpelledSetting<'a>,
 ) -> Result<(), ReadError>
     requires { KnowsGiven state.old }
     ensures knows { OnOk result (KnowsGiven state.new) }
-    ensures value { GivesJudged remaining (setting_of item.entry) names.old.keys state.old result names.new.keys state.new }
+    ensures value { GivesJudged remaining (setting_of item.entry) names.old.items state.old result names.new.items state.new }
 {
     let twice = Fault {
         why: Why::TwiceInit,
@@ -145,12 +145,12 @@ fn read_item<'a>(
     remaining: usize,
     stop: Stop,
     state: &mut Initial<'a>,
-    names: &mut IndexSet<&'a [u8]>,
+    names: &mut Vec<&'a [u8]>,
     tokens: &[Token<'a>],
 ) -> Result<bool, ReadError>
     requires { KnowsGiven state.old }
     ensures knows { OnOk result (KnowsGiven state.new) }
-    ensures value { GivesItem result names.new.keys state.new (inner.item_in (places.in_initial remaining stop) (so_far names.old.keys state.old) (pieces tokens.now)) }
+    ensures value { GivesItem result names.new.items state.new (inner.item_in (places.in_initial remaining stop) (so_far names.old.items state.old) (pieces tokens.now)) }
 {
     if let Some(is_last) = item_end(tokens) {
         return Ok(is_last);
@@ -184,13 +184,13 @@ pub fn nothing_given<'a>(alloc: Global) -> Initial<'a>
 pub fn read_initial<'a>(
     alloc: Global,
     state: &mut Initial<'a>,
-    names: &mut IndexSet<&'a [u8]>,
+    names: &mut Vec<&'a [u8]>,
     text: &'a [u8],
 ) -> Result<&'a [u8], ReadError>
     requires words { state.old.words.items ≡ [] }
     requires registers { state.old.registers.items ≡ [] }
     requires knows { KnowsGiven state.old }
-    ensures value { GivesInitial result names.new.keys state.new (inner.initial_at (stop_of text.now) (texts names.old.keys) (tokens_in text.now)) }
+    ensures value { GivesInitial result names.new.items state.new (inner.initial_at (stop_of text.now) (texts names.old.items) (tokens_in text.now)) }
     ensures stop { IfOk result (λ x. stop_of x.now ≡ stop_of text.now) }
 {
     let (remaining, mut rest) = after_opening(Symbol::OpenCurly, Why::Unclosed, text)?;

@@ -30,7 +30,6 @@ use crate::information::braces_at;
 use crate::initial::{Initial, nothing_given, read_initial};
 use crate::observed::after_observed;
 use crate::row::read_table;
-use indexmap::IndexSet;
 use litmus_cells::{Fault, ReadError, Why};
 use litmus_tokens::{Stop, Token, line_of, tokens_of};
 use std::alloc::Global;
@@ -66,11 +65,11 @@ fn tail_at<'a>(
     alloc: Global,
     text: &'a [u8],
     cores: usize,
-    names: &mut IndexSet<&'a [u8]>,
+    names: &mut Vec<&'a [u8]>,
     rest: &'a [u8],
 ) -> Result<Option<Cond>, ReadError>
     requires cores { cores ≤ most_cores }
-    ensures { GivesEnding result names.new.keys (inner.tail_at text.now (stop_of rest.now) cores (texts names.old.keys) (tokens_in rest.now)) }
+    ensures { GivesEnding result names.new.items (inner.tail_at text.now (stop_of rest.now) cores (texts names.old.items) (tokens_in rest.now)) }
 {
     let bytes = after_observed(text, rest)?;
     let tokens = tokens_of(alloc, bytes)?;
@@ -85,11 +84,11 @@ fn body_with<'a>(
     alloc: Global,
     name: &[u8],
     text: &'a [u8],
-    names: &mut IndexSet<&'a [u8]>,
+    names: &mut Vec<&'a [u8]>,
     initial: &mut Initial<'a>,
 ) -> Result<TestParts, ReadError>
     requires name { IsUtf8 name.now }
-    requires names { texts names.old.keys ≡ [] }
+    requires names { texts names.old.items ≡ [] }
     requires words { initial.old.words.items ≡ [] }
     requires registers { initial.old.registers.items ≡ [] }
     requires knows { KnowsGiven initial.old }
@@ -108,7 +107,7 @@ fn body_of(alloc: Global, name: &[u8], text: &[u8]) -> Result<TestParts, ReadErr
     requires { IsUtf8 name.now }
     ensures { Gives (λ parts. litmus_of parts) result (inner.body_of name.now text.now (stop_of text.now) (tokens_in text.now)) }
 {
-    let mut names = IndexSet::new(alloc);
+    let mut names = Vec::new(alloc);
     let mut initial = nothing_given(alloc);
     body_with(alloc, name, text, &mut names, &mut initial)
 }

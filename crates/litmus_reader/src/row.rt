@@ -21,7 +21,6 @@ use crate::columns::columns_at;
 use crate::fault::{at_stop, remaining_of};
 use crate::initial::{RegisterWord, registers_of};
 use crate::section::read_row_tokens;
-use indexmap::IndexSet;
 use litmus_cells::{CoreInstr, Fault, ReadError, Why};
 use litmus_tokens::{Lexeme, Stop, Symbol, Token, is_symbol, token_at};
 use std::alloc::Global;
@@ -60,10 +59,10 @@ fn read_row<'a>(
     cores: usize,
     stop: Stop,
     instrs: &mut Vec<CoreInstr>,
-    names: &mut IndexSet<&'a [u8]>,
+    names: &mut Vec<&'a [u8]>,
     tokens: &[Token<'a>],
 ) -> Result<(), ReadError>
-    ensures { GivesCells (spec.row_in cores stop) instrs.old.items names.old.keys tokens.now result instrs.new.items names.new.keys }
+    ensures { GivesCells (spec.row_in cores stop) instrs.old.items names.old.items tokens.now result instrs.new.items names.new.items }
 {
     let row = row_at(stop, tokens)?;
     if cell_count(row) != cores {
@@ -117,10 +116,10 @@ pub struct Table {
 pub fn read_table<'a>(
     alloc: Global,
     given: &[RegisterWord<'a>],
-    names: &mut IndexSet<&'a [u8]>,
+    names: &mut Vec<&'a [u8]>,
     text: &'a [u8],
 ) -> Result<(Table, &'a [u8]), ReadError>
-    ensures value { GivesTable (spec.table_at (stop_of text.now) (map given_of given.now)) names.old.keys text.now result names.new.keys }
+    ensures value { GivesTable (spec.table_at (stop_of text.now) (map given_of given.now)) names.old.items text.now result names.new.items }
     ensures cores { IfOk result (λ x. x.0.cores ≤ most_cores) }
     ensures stop { IfOk result (λ x. stop_of x.1.now ≡ stop_of text.now) }
 {

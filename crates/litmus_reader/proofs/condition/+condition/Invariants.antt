@@ -13,7 +13,7 @@ decreases-proposition_at l = 3 * l.opens + 2
 
 abbrev pub invariant-conjunction_at-loop-next : goal.invariant-conjunction_at-loop-next
 invariant-conjunction_at-loop-next l = record {
-  chain : ChainAfter And AndClaim (unit_at l.around.stop l.around.cores l.opens) (claimed (claim_of l.prop) l.atoms (texts l.names.keys) (pieces l.rest)) (conjunction (unit_at l.around.stop l.around.cores l.opens) l.fn.atoms (texts l.fn.names.keys) (pieces l.fn.tokens));
+  chain : ChainAfter And AndClaim (unit_at l.around.stop l.around.cores l.opens) (claimed (claim_of l.prop) l.atoms (texts l.names.items) (pieces l.rest)) (conjunction (unit_at l.around.stop l.around.cores l.opens) l.fn.atoms (texts l.fn.names.items) (pieces l.fn.tokens));
   within : length l.rest < length l.fn.tokens;
 }
 
@@ -22,7 +22,7 @@ decreases-conjunction_at-loop-next l = length l.rest
 
 abbrev pub invariant-proposition_at-loop-next : goal.invariant-proposition_at-loop-next
 invariant-proposition_at-loop-next l = record {
-  chain : ChainAfter Or OrClaim (conjunction (unit_at l.around.stop l.around.cores l.opens)) (claimed (claim_of l.prop) l.atoms (texts l.names.keys) (pieces l.rest)) (proposition_at l.around.stop l.around.cores l.opens l.fn.atoms (texts l.fn.names.keys) (pieces l.fn.tokens));
+  chain : ChainAfter Or OrClaim (conjunction (unit_at l.around.stop l.around.cores l.opens)) (claimed (claim_of l.prop) l.atoms (texts l.names.items) (pieces l.rest)) (proposition_at l.around.stop l.around.cores l.opens l.fn.atoms (texts l.fn.names.items) (pieces l.fn.tokens));
   within : length l.rest < length l.fn.tokens;
 }
 
