@@ -1,10 +1,9 @@
 -- Searches of a list, seen through a map.
-use Rattle.std.proofs.Common.{◌≡◌, ℕ, ◌+◌, Bool, true, false, cond, ltb, not, ◌||◌, List, [], ◌∷◌, ◌++◌, length, map, Some, None, refl, sym, ap, ◌∙◌, ◌⊎◌, inl, inr, arith}
+use Rattle.std.proofs.Common.{◌≡◌, ℕ, ◌+◌, Bool, cond, ltb, not, ◌||◌, List, [], ◌∷◌, length, map, Some, None, refl, sym, ap, inl, inr, arith}
 use Rattle.std.specs.Prelude.{position}
 use Rattle.std.specs.List.{position_or_len, prefix_len, list_any}
 use Rattle.std.proofs.lemmas.Bool.{ltb-false}
 use Rattle.std.proofs.lemmas.List.Sums.{prefix_len-le-length}
-use Rattle.std.proofs.lemmas.List.{map-append}
 use Rattle.litmus_tokens.proofs.Gaps.{chosen}
 
 pub prefix_len-map : {X Y : Type 0} (p : Y → Bool) (f : X → Y) (xs : List X) → prefix_len p (map f xs) ≡ prefix_len (λ x. p (f x)) xs
@@ -17,15 +16,6 @@ position_or_len-map p f xs = prefix_len-map (λ y. not (p y)) f xs
 pub list_any_map : {X Y : Type 0} (p : Y → Bool) (f : X → Y) (xs : List X) → list_any p (map f xs) ≡ list_any (λ x. p (f x)) xs
 list_any_map p f [] = refl
 list_any_map p f (x ∷ xs) = ap (λ b. p (f x) || b) (list_any_map p f xs)
-
--- putting an item after the others where it is new
-pub with-map : {X Y : Type 0} (p : Y → Bool) (f : X → Y) (xs : List X) (x : X) →
-    map f (cond (list_any (λ x. p (f x)) xs) xs (xs ++ x ∷ [])) ≡ cond (list_any p (map f xs)) (map f xs) (map f xs ++ f x ∷ [])
-with-map p f xs x = ap (map f) (ap (λ b. cond b xs (xs ++ x ∷ [])) (sym (list_any_map p f xs))) ∙ by_test (list_any p (map f xs))
-  where
-    by_test : (b : Bool) → map f (cond b xs (xs ++ x ∷ [])) ≡ cond b (map f xs) (map f xs ++ f x ∷ [])
-    by_test true = refl
-    by_test false = map-append f xs (x ∷ [])
 
 -- the place that a search finds, and the length where it finds none
 pub position_found : {X : Type 0} (p : X → Bool) (xs : List X) (n : ℕ) → Some n ≡ position p xs → n ≡ position_or_len p xs
