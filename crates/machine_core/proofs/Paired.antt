@@ -1,6 +1,6 @@
 -- Where nobody holds the bus, the load parts of locked instructions have their store parts.
 use Rattle.machine_core.proofs.Vocabulary.{◌≡◌, ◌≢◌, ℕ, ◌==◌, inl, inr, true, false, List, [], ◌∷◌, refl, arith, nat_tests, same_kind, Free, Entry, Kind, LR, IsAnswered, ArePaired, cases_Bool}
-use Rattle.order_builder.specs.Pairs.{IsPaired, has_its_store_part}
+use Rattle.commit_order.specs.Pairs.{IsPaired, has_its_store_part}
 
 same-number : (m n : ℕ) → m ≡ n → (m == n) ≡ true
 same-number m n h = grind (arith, nat_tests, h)

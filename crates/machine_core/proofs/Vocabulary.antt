@@ -22,7 +22,7 @@ pub use Rattle.machine_core.specs.Caches.{Caches, caches_of, not_through, load_a
 pub use Rattle.machine_core.specs.Effects.{HasUsed, ChoiceAnswer, HasEffect}
 pub use Rattle.basic_laws.proofs.WithPending.{drain_with, fenced_with, locked_with}
 pub use Rattle.tso_model.specs.MemoryAccess.{MemoryAccess, NoAccess, Writes, drain_access, store_access, Reads, load_access, locked_access, Locks, access_of, access_by, step_access}
-pub use Rattle.order_builder.specs.inner.Noted.{Noted}
+pub use Rattle.commit_order.specs.inner.Noted.{Noted}
 pub use Rattle.machine_core.specs.declared.turn.Way.{Way}
 pub use Rattle.machine_core.specs.declared.turn.Way.TheVariants.{Whole, Asked}
 pub use Rattle.machine_core.specs.declared.turn.Turn.{Turn}

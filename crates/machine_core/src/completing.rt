@@ -26,7 +26,7 @@ use crate::hardware::{Hardware, act, core_of, instruction_at};
 use crate::processor::{Processor, advance};
 use crate::split::access_of;
 use crate::turn::Way;
-use order_builder::Commits;
+use commit_order::Commits;
 use protocol_tables::Protocol;
 use snoop_bus::{Access, SnoopBus};
 use tso_model::{Action, Choice, Core, Entry, Kind, Loc, NoMemory, Outcome, Reg, Test};

@@ -28,7 +28,7 @@ use crate::pending_stores::PendingStores;
 use crate::processor::{Processor, drain, step as step_core};
 use crate::split::act_on_split;
 use crate::turn::{Turn, Way};
-use order_builder::Commits;
+use commit_order::Commits;
 use protocol_tables::Protocol;
 use snoop_bus::SnoopBus;
 use std::alloc::Global;

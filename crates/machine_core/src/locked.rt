@@ -13,7 +13,7 @@ ghost use Rattle.machine_core.specs.inner.OneCore.{Acts, SucceedsUnlessCommittin
 use crate::accesses::CacheUse;
 use crate::entries::entry;
 use crate::processor::{Processor, advance};
-use order_builder::Commits;
+use commit_order::Commits;
 use protocol_tables::Protocol;
 use snoop_bus::{SnoopBus, Updated};
 use tso_model::{Core, Kind, Loc, NoMemory, Outcome, Reg, Stall, Update};

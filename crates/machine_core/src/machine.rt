@@ -15,7 +15,7 @@ use crate::counts::Counts;
 use crate::ending::{FinalState, final_state};
 use crate::hardware::{Hardware, are_done, begin, know_line_is_alone, make_choice};
 use crate::restarting::restart;
-use order_builder::build;
+use commit_order::build;
 use protocol_tables::Protocol;
 use split_laws::{
     attempts_lead_from_state_to_state, stalls_on_either_bus_change_nothing,

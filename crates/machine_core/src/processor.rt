@@ -25,7 +25,7 @@ use crate::entries::{entry, store_entry};
 use crate::locked::{Locked, read_and_write};
 use crate::pending_stores::PendingStores;
 use crate::turn::{Turn, Way};
-use order_builder::Commits;
+use commit_order::Commits;
 use protocol_tables::Protocol;
 use snoop_bus::{Access, SnoopBus};
 use store_buffer::Pending;

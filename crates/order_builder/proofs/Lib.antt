@@ -1,6 +1,4 @@
 pub mod Vocabulary
-pub mod Pairing
-pub mod Together
 pub mod Choosing
 pub mod LineLemmas
 pub mod PrintLemmas

@@ -1,5 +1,5 @@
 -- The names that the proofs of this crate bring in from definitions and from crates below; each file takes its own from here.
-pub use Rattle.std.proofs.Common.{◌≡◌, ◌≢◌, ℕ, ◌^◌, ◌<◌, List, length, Some, None, Result, Ok, Err, All, ◌⊎◌, inl, inr, refl, subst, suc, ◌+◌, false, eqb, [], ◌∷◌, ◌++◌, map, ap, ◌∙◌, arith, zero, Bool, true, not, ◌||◌, get_or, sym, ◌≤◌, leb, rules, Option, ◌-◌, ◌/◌, ◌%◌, ltb, take, cond, drop, ◌==◌, ◌&&◌, if◌then◌else◌, drop-cons, add-one, slice_index_or, slice_get, string_bytes}
+pub use Rattle.std.proofs.Common.{◌≡◌, ◌≢◌, ℕ, ◌^◌, ◌<◌, List, length, Some, None, Result, Ok, Err, All, ◌⊎◌, inl, inr, refl, subst, suc, ◌+◌, false, eqb, [], ◌∷◌, ◌++◌, map, ap, ◌∙◌, arith, zero, Bool, true, not, ◌||◌, get_or, sym, ◌≤◌, leb, rules, Option, ◌-◌, ◌/◌, ◌%◌, ltb, take, cond, drop, slice_index_or, string_bytes}
 pub use Rattle.std.specs.Prelude.{IfOk, IfErr, codes}
 pub use Rattle.tso_model.specs.Litmus.{Litmus, IsTest, are_distinct}
 pub use Rattle.tso_model.specs.declared.execution.Entry.{Entry}
@@ -35,13 +35,7 @@ unfoldable pub use Rattle.order_builder.specs.inner.Numbers.{number_within}
 pub use Rattle.std.proofs.lemmas.List.{append_assoc, append-nil, length-append, length-map, take_all, take_more, take-append-drop, take_at, drop_at, length-take, get_or-take, get_or_at, get_or_append_left, length_push, drop_more, nil_from_length}
 pub use Rattle.std.specs.Str.Lines.{strip_carriage_return}
 pub use Rattle.std.proofs.lemmas.List.Folds.{list_all-append}
-pub use Rattle.tso_model.specs.ProgramOrder.{same_kind, IsStorePart}
-pub use Rattle.tso_model.specs.ProgramEntries.{is_at}
-pub use Rattle.tso_model.specs.Together.{put_before, put_together}
-pub use Rattle.order_builder.specs.Pairs.{has_its_store_part, are_answered, IsPaired}
-pub use Rattle.order_builder.specs.inner.Waiting.{all_put, first_of_core, others_of, IsNoneOf, AreWaiting, IsBuiltSoFar}
 pub use Rattle.std.specs.Option.{option_map}
 pub use Rattle.std.proofs.lemmas.List.Sums.{position_or_len_is, fails_before_first, count_by-le-length}
 pub use Rattle.std.proofs.lemmas.List.Splits.{slice_split_none, slice_split_at, length-slice_split}
 pub use Rattle.std.proofs.lemmas.Slice.Eq.{bytes_eq-Decides}
-pub use Rattle.tso_model.specs.Axioms.{IsAdjacent}

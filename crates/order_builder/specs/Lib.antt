@@ -1,4 +1,3 @@
-pub mod Pairs
 pub mod PrintedOrder
 pub mod Lines
 pub mod Numbers

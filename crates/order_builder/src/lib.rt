@@ -2,8 +2,6 @@
 //! an order has to be read as that order again: so any run can be checked by its text.
 #![tactic(auto)]
 
-mod building;
-pub mod commits;
 mod entries;
 pub mod fault;
 mod lines;
@@ -12,8 +10,7 @@ pub mod order_texts;
 pub mod printing;
 pub mod reading;
 
-pub use building::build;
-pub use commits::Commits;
+pub use commit_order::{Commits, build};
 pub use fault::OrderFault;
 pub use printing::{entry_text, letters_of, order_text, write_order};
 pub use reading::read_order;

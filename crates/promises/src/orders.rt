@@ -3,7 +3,7 @@
 ghost use Rattle.std.specs.Prelude.{◌≡◌, ℕ, ◌+◌, ◌++◌, Some, IfOk, OnOk, All, slice_get, string_bytes};
 ghost use Rattle.tso_model.specs.ProgramOrder.{IsStorePart};
 ghost use Rattle.basic_laws.specs.Types.{Entry, LR};
-ghost use Rattle.order_builder.specs.Pairs.{IsPaired};
+ghost use Rattle.commit_order.specs.Pairs.{IsPaired};
 ghost use Rattle.order_builder.specs.PrintedOrder.{printed_order, HasLocation, HasWord};
 
 use order_builder::{Commits, build, order_text};

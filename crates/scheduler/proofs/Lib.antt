@@ -9,7 +9,4 @@ pub mod Capped
 pub mod Stopping
 pub mod Cores
 mod FirstWord
-mod Counted
-mod AlongLemmas
-mod Fitting
 mod PrintedWords

@@ -1,6 +1,5 @@
 -- Words of contracts inside the project.
 pub mod Coming
 pub mod ItemsRead
-pub mod Passed
 pub mod Reading
 pub mod TooMany

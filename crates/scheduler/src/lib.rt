@@ -2,17 +2,14 @@
 //! order. By them alone a run on the machine is decided. Here too: the seeds of a sweep, and which choices of a run stalled.
 #![tactic(auto)]
 
-mod along;
 pub mod choice_texts;
 mod choices;
 pub mod coming;
-mod depth;
 pub mod fault;
 mod item;
 mod placing;
 pub mod plan;
 mod printing;
-mod reaching;
 mod seeds;
 mod stalls;
 mod words;
@@ -20,10 +17,10 @@ mod words;
 pub use choice_texts::{printed_choices_are_spelled, spelled_cores_exist, texts_are_decided};
 pub use choices::{MAX_CHOICES, read_choices};
 pub use coming::{Choices, Listed, Seeded};
-pub use fault::{ChoiceFault, WitnessFault};
+pub use fault::ChoiceFault;
 pub use placing::word_of_choice;
 pub use plan::SweepPlan;
 pub use printing::{choices_text, write_after};
-pub use reaching::witness;
 pub use seeds::seeded_choices;
 pub use stalls::{FirstStall, Stalls};
+pub use witnesses::{WitnessFault, witness};

@@ -3,7 +3,7 @@
 use Rattle.std.specs.Prelude.{◌≡◌, ◌≢◌, ◌++◌, ◌∷◌, [], ℕ, Bool, List, None, Result, IsOk, length, slice_set}
 use Rattle.machine_core.specs.Vocabulary.{BusModel, cores_of, Effect, holder_of, memory_after, MemoryAccess, Pending, words_of}
 use Rattle.basic_laws.specs.Types.{NoMemory, Loc, Entry, Outcome, Committed}
-use Rattle.order_builder.specs.inner.Noted.{Noted}
+use Rattle.commit_order.specs.inner.Noted.{Noted}
 use Rattle.machine_core.specs.declared.accesses.CacheUse.TheVariants.{Through}
 use Rattle.machine_core.specs.declared.processor.Processor.{Processor}
 use Rattle.machine_core.specs.declared.turn.Way.{Way}

@@ -1,0 +1,3 @@
+-- Words of contracts inside the project.
+pub mod Noted
+pub mod Waiting

@@ -1,5 +1,0 @@
-use Rattle.order_builder.proofs.Vocabulary.{drop, IsBuiltSoFar}
-use Rattle.order_builder.proofs.building.build.Given as goal
-
-abbrev pub invariant-loop-entry : goal.invariant-loop-entry
-invariant-loop-entry l = IsBuiltSoFar l.order.items l.waiting.items (drop l.entry-index l.entry-items) l.entry-items

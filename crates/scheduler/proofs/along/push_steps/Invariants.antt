@@ -1,5 +1,0 @@
-use Rattle.scheduler.proofs.Vocabulary.{◌≡◌, ◌++◌, steps}
-use Rattle.scheduler.proofs.along.push_steps.Given as goal
-
-abbrev pub invariant-loop-step : goal.invariant-loop-step
-invariant-loop-step l = l.choices.items ≡ l.fn.choices.items ++ steps l.fn.core.0 l._step

@@ -1,0 +1,4 @@
+pub mod Vocabulary
+pub mod AlongLemmas
+pub mod Counted
+pub mod Fitting

@@ -1,0 +1,18 @@
+-- Which orders no choices reach at a depth. An order in which many stores stand after a later load needs a store buffer for
+-- as many. (This project's profile.)
+use Rattle.std.specs.Prelude.{ℕ, ◌≡◌, ◌≢◌, ◌<◌, List}
+use Rattle.tso_model.specs.Litmus.{Litmus}
+use Rattle.tso_model.specs.Runs.{run}
+use Rattle.tso_model.specs.declared.execution.Entry.{Entry}
+use Rattle.tso_model.specs.declared.choice.Choice.{Choice}
+use Rattle.tso_laws.specs.Depth.{needed}
+use Rattle.witnesses.specs.declared.fault.WitnessFault.{WitnessFault}
+use Rattle.witnesses.specs.declared.fault.WitnessFault.TheVariants.{Depth}
+
+-- the order needs more than this depth, and the fault names what it needs
+abbrev pub NamesDepth : ℕ → List Entry → WitnessFault → Type 0
+NamesDepth depth order fault = (fault ≡ Depth (needed order)) × (depth < needed order)
+
+-- no choices at this depth end with the order
+abbrev pub IsOutOfReach : Litmus → ℕ → List Entry → Type 0
+IsOutOfReach t depth order = (choices : List Choice) → (run t depth choices).commits ≢ order

@@ -1,0 +1,2 @@
+-- Words of contracts inside the project.
+pub mod Passed
