@@ -1,8 +1,6 @@
 -- The names that the proofs of this crate bring in from definitions and from crates below; each file takes its own from here.
 pub use Rattle.std.proofs.Common.{◌≡◌, ◌≢◌, ℕ, ◌<◌, List, length, Some, None, refl, subst, suc, ◌+◌, false, [], ◌∷◌, ◌++◌, ap, ◌∙◌, arith, zero, Bool, true, sym, take, drop, ◌==◌, ◌&&◌, if◌then◌else◌, drop-cons, add-one, slice_index_or, slice_get}
-pub use Rattle.tso_model.specs.declared.execution.Entry.{Entry}
-pub use Rattle.tso_model.specs.declared.execution.Kind.{Kind}
-pub use Rattle.tso_model.specs.declared.execution.Kind.TheVariants.{LR, LW}
+pub use Rattle.basic_laws.specs.Types.{Entry, Kind, LR, LW}
 pub use Rattle.std.proofs.lemmas.Bool.Decides.{nat_tests}
 pub use Rattle.tso_model.specs.ProgramOrder.{same_kind, IsStorePart}
 pub use Rattle.tso_model.specs.ProgramEntries.{is_at}

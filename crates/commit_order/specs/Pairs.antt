@@ -3,8 +3,7 @@
 use Rattle.std.specs.Prelude.{◌==◌, ◌&&◌, Bool, true, false, IsTrue, if◌then◌else◌, List, [], ◌∷◌}
 use Rattle.tso_model.specs.ProgramOrder.{same_kind}
 use Rattle.tso_model.specs.ProgramEntries.{is_at}
-use Rattle.tso_model.specs.declared.execution.Entry.{Entry}
-use Rattle.tso_model.specs.declared.execution.Kind.TheVariants.{LR, LW}
+use Rattle.basic_laws.specs.Types.{Entry, LR, LW}
 
 -- whether, of these entries, the first of the load part's core is its store part
 abbrev pub has_its_store_part : Entry → List Entry → Bool

@@ -5,8 +5,7 @@ use Rattle.std.specs.Int.{w64, to_le_bytes}
 use Rattle.std.proofs.lemmas.Nat.{from_le_bytes-to_le_bytes_8}
 use Rattle.std.proofs.lemmas.List.{take_more_set, take_all}
 use Rattle.std.proofs.lemmas.Bool.{lt-ltb, le-ltb}
-use Rattle.tso_model.specs.declared.execution.Kind.{Kind}
-use Rattle.tso_model.specs.declared.execution.Kind.TheVariants.{R, W, F, LR, LW}
+use Rattle.basic_laws.specs.Types.{Kind, R, W, F, LR, LW}
 use Rattle.explorer.specs.inner.Packed.{number_bytes, kind_byte, all_bytes, list_bytes, entry_bytes, core_bytes, state_bytes, read_byte, read_long, read_number, word_or_zero, read_word, kind_of_byte, read_all, read_list, read_entry, read_registers, read_core, state_of_bytes, Packs}
 
 -- ---- numbers

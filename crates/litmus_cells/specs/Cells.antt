@@ -1,8 +1,6 @@
 -- A cell of a row: its instruction, its location's number, and the first fault in it.
 use Rattle.std.specs.Prelude.{ℕ, List, [], ◌∷◌, ◌++◌, count_by, Result, Ok, Err, nat_lt, ◌==◌, if◌then◌else◌}
-use Rattle.tso_model.specs.declared.instruction.Instr.{Instr}
-use Rattle.tso_model.specs.declared.instruction.Loc.{Loc}
-use Rattle.tso_model.specs.declared.instruction.Instr.TheVariants.{StoreImm, StoreReg, Load, SetImm, SetReg, Fence, Xchg, Xadd}
+use Rattle.basic_laws.specs.Types.{Instr, Loc, StoreImm, StoreReg, Load, SetImm, SetReg, Fence, Xchg, Xadd}
 use Rattle.tso_model.specs.Limits.{most_instructions}
 use Rattle.litmus_tokens.specs.Pieces.{Piece}
 use Rattle.litmus_cells.specs.declared.fault.Why.TheVariants.{BadInstruction, TooLarge}

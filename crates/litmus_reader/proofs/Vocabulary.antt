@@ -32,7 +32,7 @@ unfoldable pub use Rattle.litmus_reader.specs.Initial.{item_end, item_in, items_
 pub use Rattle.litmus_reader.specs.Places.{unfit, remaining_of, in_initial, at_stop, part_of, from_place}
 pub use Rattle.std.specs.Str.{bytes_eq, IsUtf8}
 pub use Rattle.tso_model.specs.Registers.{index_of, IsWord, same_letters, AreRegisters, register_named}
-pub use Rattle.tso_model.specs.declared.register.Reg.{Reg}
+pub use Rattle.basic_laws.specs.Types.{Reg, Instr, Loc, StoreImm, StoreReg, Load, SetImm, SetReg, Fence, Xchg, Xadd, Quantifier, Exists, NotExists, Forall, Eax, Ebx, Ecx, Edx, Esi, Edi}
 pub use Rattle.litmus_cells.specs.declared.fault.Why.TheVariants.{TwiceInit, TooLarge, Unclosed, NoSuchCore, WrongCells, BadHeaderRow, BadCondition, BadInstruction, BadNumber, NoMemory}
 pub use Rattle.litmus_cells.specs.Numbers.{word_at}
 pub use Rattle.litmus_reader.specs.inner.Initial.{given, initial, given_of, named_by_key, named_by_word, KnowsGiven, with_register, items_at, words_of}
@@ -64,7 +64,6 @@ pub use Rattle.litmus_reader.specs.Conditions.{Claimed, Proposition, one_more, d
 pub use Rattle.litmus_reader.specs.inner.Conditions.{claimed, conditioned, conjunction, proposition_at}
 unfoldable pub use Rattle.litmus_reader.specs.Conditions.{chain, chain_of, opens_unit, atom_at, unit_by, unit_at, claim_in, truth_at, setting_atom, negation_at, quantified, condition_at}
 pub use Rattle.std.proofs.Math.Seq.{take-suc, drop-append_seam}
-pub use Rattle.tso_model.specs.declared.instruction.Instr.{Instr}
 pub use Rattle.litmus_cells.specs.Locations.{texts}
 unfoldable pub use Rattle.litmus_cells.specs.Locations.{located}
 pub use Rattle.litmus_reader.specs.Reading.{program_of, test_of, refusal}
@@ -78,13 +77,9 @@ unfoldable pub use Rattle.litmus_cells.specs.Forms.{locked_at, spelled_in}
 pub use Rattle.litmus_cells.specs.Shapes.{Shape, store_imm, store_reg, load, set_imm, set_reg, fence, xchg, xadd}
 pub use Rattle.std.proofs.lemmas.List.Elements.{All-nil, All-head, All-tail, All-weaker, All-map, All-cons}
 pub use Rattle.tso_model.specs.Litmus.{are_distinct, KnownLocation, ConstantIsWord, IsProgram, Litmus, IsTest}
-pub use Rattle.tso_model.specs.declared.instruction.Loc.{Loc}
 pub use Rattle.litmus_cells.specs.GrammarNames.{number_of, location, with_name}
 unfoldable pub use Rattle.litmus_cells.specs.GrammarNames.{numbered}
 pub use Rattle.tso_model.specs.Thread.{with_value}
-pub use Rattle.tso_model.specs.declared.instruction.Instr.TheVariants.{StoreImm, StoreReg, Load, SetImm, SetReg, Fence, Xchg, Xadd}
-pub use Rattle.tso_model.specs.declared.condition.Quantifier.{Quantifier}
-pub use Rattle.tso_model.specs.declared.condition.Quantifier.TheVariants.{Exists, NotExists, Forall}
 pub use Rattle.litmus_reader.specs.Keywords.{is_word}
 unfoldable pub use Rattle.litmus_reader.specs.Keywords.{word_after}
 pub use Rattle.std.proofs.lemmas.Bool.Decides.{nat_tests}
@@ -101,7 +96,6 @@ pub use Rattle.litmus_reader.specs.GrammarColumns.{IsHeaderRow, core_name}
 pub use Rattle.std.proofs.lemmas.List.Folds.{list_all-append, list_any-append}
 pub use Rattle.litmus_reader.specs.GrammarRows.{IsField, empty, full, AreFields, IsRow, row}
 pub use Rattle.std.proofs.lemmas.List.FromFn.{length-map-range_with_len, get_or-map-range_with_len}
-pub use Rattle.tso_model.specs.declared.register.Reg.TheVariants.{Eax, Ebx, Ecx, Edx, Esi, Edi}
 pub use Rattle.litmus_tokens.specs.declared.token.Stop.TheVariants.{End}
 pub use Rattle.litmus_reader.specs.GrammarEnding.{MayAsk, nothing, a_condition, IsEnding, at_once, after_locations, names_asked, condition_of, IsAskedWithin}
 pub use Rattle.litmus_cells.specs.declared.fault.Why.{Why}

@@ -4,8 +4,7 @@ use Rattle.std.specs.Prelude.{◌≡◌, Option, Result, IfOk}
 use Rattle.std.specs.Option.{option_map}
 use Rattle.tso_model.specs.Condition.{Condition, condition_of}
 use Rattle.litmus_reader.specs.Vocabulary.{Cond, Litmus}
-use Rattle.tso_model.specs.declared.out_of_memory.NoMemory.{NoMemory}
-use Rattle.tso_model.specs.declared.litmus.TestParts.{TestParts}
+use Rattle.basic_laws.specs.Types.{NoMemory, TestParts}
 use Rattle.tso_model.specs.LitmusParts.{litmus_of}
 
 -- a condition, if there is one

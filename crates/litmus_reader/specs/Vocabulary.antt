@@ -5,11 +5,7 @@ pub use Rattle.tso_model.specs.Litmus.{Litmus}
 pub use Rattle.tso_model.specs.Names.{is_location_name, is_printable, is_test_name}
 pub use Rattle.tso_model.specs.Registers.{index_of, register_named, same_letters}
 pub use Rattle.tso_model.specs.Thread.{with_value}
-pub use Rattle.tso_model.specs.declared.condition.Cond.{Cond}
-pub use Rattle.tso_model.specs.declared.condition.Quantifier.{Quantifier}
-pub use Rattle.tso_model.specs.declared.condition.Quantifier.TheVariants.{Exists, Forall, NotExists}
-pub use Rattle.tso_model.specs.declared.instruction.Instr.{Instr}
-pub use Rattle.tso_model.specs.declared.register.Reg.{Reg}
+pub use Rattle.basic_laws.specs.Types.{Cond, Quantifier, Exists, Forall, NotExists, Instr, Reg}
 pub use Rattle.decimals.specs.Decimals.{decimal_value}
 pub use Rattle.litmus_tokens.specs.Front.{is_symbol, is_symbol_term, name_at, number_at, symbol_at}
 pub use Rattle.litmus_tokens.specs.Gap.{gap_end}

@@ -2,13 +2,10 @@
 pub use Rattle.std.proofs.Common.{◌≡◌, ◌≢◌, ℕ, ◌^◌, ◌<◌, List, length, Some, None, Result, Ok, Err, All, ◌⊎◌, inl, inr, refl, subst, suc, ◌+◌, false, eqb, [], ◌∷◌, ◌++◌, map, ap, ◌∙◌, arith, zero, Bool, true, not, ◌||◌, get_or, sym, ◌≤◌, leb, rules, Option, ◌-◌, ◌/◌, ◌%◌, ltb, take, cond, drop, slice_index_or, string_bytes}
 pub use Rattle.std.specs.Prelude.{IfOk, IfErr, codes}
 pub use Rattle.tso_model.specs.Litmus.{Litmus, IsTest, are_distinct}
-pub use Rattle.tso_model.specs.declared.execution.Entry.{Entry}
-pub use Rattle.tso_model.specs.declared.execution.Execution.{Execution}
+pub use Rattle.basic_laws.specs.Types.{Entry, Execution, Kind, R, W, F, LR, LW}
 pub use Rattle.order_builder.specs.Spelling.{HasAccess, IsEntryFor, IsOrderFor, SpellsOrder, HasFault, BeginsOrder, IsNoEntry, IsNoEnd, HasNoCount, IsNotOrderLine, IsLineBeforeOrder}
 pub use Rattle.order_builder.specs.PrintedOrder.{IsLocationFor, HasLocation, printed_entry, printed_end, order_lines, letters_of, printed_access, printed_lines, printed_order, HasWord}
 pub use Rattle.std.proofs.lemmas.List.Elements.{All-weaker, All-cons, All-nil, All-head, All-tail, All-get_or, All-append, All-from_get_or}
-pub use Rattle.tso_model.specs.declared.execution.Kind.{Kind}
-pub use Rattle.tso_model.specs.declared.execution.Kind.TheVariants.{R, W, F, LR, LW}
 pub use Rattle.order_builder.specs.Reading.{entries_of_order, Gives}
 pub use Rattle.order_builder.specs.inner.Reading.{onto, ◌>>=◌, entry_at, numeral, halves_at}
 unfoldable pub use Rattle.order_builder.specs.inner.Reading.{order_of, order_start, entries_in, entry_in, end_in, location_named, split_once, without_prefix, kind_of, place_in, access_in, action_in}

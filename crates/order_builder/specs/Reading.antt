@@ -1,8 +1,7 @@
 -- How what was answered is held against the reading of an order's text: it is what reading gives, or its fault; out of
 -- memory says nothing of the text.
 use Rattle.std.specs.Prelude.{◌≡◌, List, Result, Ok, Err}
-use Rattle.tso_model.specs.declared.execution.Entry.{Entry}
-use Rattle.tso_model.specs.declared.execution.Execution.{Execution}
+use Rattle.basic_laws.specs.Types.{Entry, Execution}
 use Rattle.order_builder.specs.declared.fault.OrderFault.{OrderFault}
 use Rattle.order_builder.specs.declared.fault.OrderFault.TheVariants.{NoOrder, BadLine, BadCount, NoMemory}
 

@@ -32,13 +32,11 @@ pub use Rattle.std.proofs.lemmas.Option.{slice_get-get_or, slice_get_within, get
 pub use Rattle.explorer.specs.FinalStates.{AreReached, Have}
 pub use Rattle.outcome_report.specs.Printed.{outcomes_in, PrintsOutcomes}
 pub use Rattle.tso_model.specs.Registers.{index_of}
-pub use Rattle.tso_model.specs.declared.register.Reg.{Reg}
-pub use Rattle.tso_model.specs.declared.register.Reg.TheVariants.{Eax, Ebx, Ecx, Edx, Esi, Edi}
+pub use Rattle.basic_laws.specs.Types.{Reg, Eax, Ebx, Ecx, Edx, Esi, Edi, Core}
 pub use Rattle.shown_values.specs.Shown.{is_added, is_shown, names_shown, values_at}
 pub use Rattle.shown_values.specs.declared.show.Show.{Show}
 pub use Rattle.outcome_report.specs.Laws.{TruthIsShown, OutcomesAreAlike, OutcomesOfTheSameValuesAreAlike, OutcomesAreOneButForChoices}
 pub use Rattle.outcome_report.specs.Hidden.{AreNotShown, IsHidden}
-pub use Rattle.tso_model.specs.declared.instruction.Core.{Core}
 pub use Rattle.eager_laws.specs.Dead.{cleared, hidden_of, seen_from, seen, none_hidden}
 pub use Rattle.tso_report.specs.declared.named.Named.TheVariants.{Register, Location}
 pub use Rattle.outcome_report.specs.inner.Hidden.{IsNotHidden}

@@ -2,8 +2,7 @@
 use Rattle.std.specs.Prelude.{ℕ, ◌==◌, Bool, true, false, not, List, [], ◌++◌, Option, Some, None, codes}
 use Rattle.serde_json.specs.Data.{Data, null, string}
 use Rattle.tso_model.specs.Condition.{Condition}
-use Rattle.tso_model.specs.declared.condition.Quantifier.{Quantifier}
-use Rattle.tso_model.specs.declared.condition.Quantifier.TheVariants.{Exists, NotExists, Forall}
+use Rattle.basic_laws.specs.Types.{Quantifier, Exists, NotExists, Forall}
 use Rattle.tso_report.specs.Report.{line}
 
 -- whether what a condition asks for is so in one of the states, in so many of which its proposition is true, and in so many false:

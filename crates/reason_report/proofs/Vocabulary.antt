@@ -23,8 +23,7 @@ pub use Rattle.reason_report.specs.inner.Closed.{IsClosed, BranchesAreClosed, cl
 unfoldable pub use Rattle.reason_report.specs.inner.Closed.{rest_of}
 pub use Rattle.reason_report.specs.inner.Tasks.{Task, Passed, Case, So, Endcases, task_of, tasks_of, branch_task, branch_tasks, end_of, as_branch, emit, depth_below, task_of_answered, task_depth, TasksAreWithin, spec_wanted, with_wanted, ended_by}
 pub use Rattle.tso_model.specs.ProgramOrder.{writes_to, is_read, is_before}
-pub use Rattle.tso_model.specs.declared.choice.Choice.{Choice}
-pub use Rattle.tso_model.specs.declared.execution.Entry.{Entry}
+pub use Rattle.basic_laws.specs.Types.{Choice, Entry}
 pub use Rattle.order_builder.specs.PrintedOrder.{printed_entry}
 pub use Rattle.outcome_report.specs.OutcomesJson.{value_members, key_of}
 pub use Rattle.outcome_report.specs.Verdict.{outcomes_verdict_value, verdict_line}

@@ -5,12 +5,7 @@ pub use Rattle.tso_model.specs.Condition.{AndClaim, Claim, Condition, LocClaim, 
 pub use Rattle.tso_model.specs.Litmus.{Litmus}
 pub use Rattle.tso_model.specs.ProgramOrder.{is_read, writes_to}
 pub use Rattle.tso_model.specs.Thread.{entry}
-pub use Rattle.tso_model.specs.declared.choice.Choice.{Choice}
-pub use Rattle.tso_model.specs.declared.condition.Quantifier.{Quantifier}
-pub use Rattle.tso_model.specs.declared.condition.Quantifier.TheVariants.{Exists, Forall, NotExists}
-pub use Rattle.tso_model.specs.declared.execution.Entry.{Entry}
-pub use Rattle.tso_model.specs.declared.execution.Kind.{Kind}
-pub use Rattle.tso_model.specs.declared.execution.Kind.TheVariants.{F, W}
+pub use Rattle.basic_laws.specs.Types.{Choice, Quantifier, Exists, Forall, NotExists, Entry, Kind, F, W}
 pub use Rattle.relational_model.specs.Candidates.{Candidate}
 pub use Rattle.relational_model.specs.CandidatesOfOrders.{IsCandidateOf, last_in}
 pub use Rattle.refutation_laws.specs.Known.{events_of, Known, nothing, with_pair, with_source}

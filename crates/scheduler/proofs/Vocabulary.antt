@@ -5,10 +5,9 @@ pub use Rattle.std.specs.Prelude.{codes, nat_lt, MatchResult, IfOk, IfErr, IfSom
 pub use Rattle.std.proofs.lemmas.Bool.{le-leb, lt-leb, leb-true, and_parts, eqb-true, cases_lt, false≢true, lt-ltb, ne_eqb}
 pub use Rattle.std.proofs.lemmas.List.{take_more, append-nil, length-append, length-map, length-drop, length-take, take-append-drop, drop-drop, take_at, get_or_at}
 pub use Rattle.tso_model.specs.FlatMachine.{chosen}
-pub use Rattle.tso_model.specs.declared.choice.Choice.{Choice}
+pub use Rattle.basic_laws.specs.Types.{Choice, Step, Drain}
 pub use Rattle.scheduler.specs.declared.fault.ChoiceFault.TheVariants.{BadWord, NoSuchCore, TooMany, NoMemory}
 pub use Rattle.scheduler.specs.declared.item.ChoiceKind.{ChoiceKind}
-pub use Rattle.tso_model.specs.declared.choice.Choice.TheVariants.{Step, Drain}
 pub use Rattle.scheduler.specs.declared.item.ChoiceItem.TheVariants.{One, Seeded}
 pub use Rattle.decimals.specs.Decimals.{decimal_value}
 unfoldable pub use Rattle.decimals.specs.Decimals.{decimal_from}

@@ -2,8 +2,7 @@
 -- project's profile.)
 use Rattle.std.specs.Prelude.{◌<◌, ◌≤◌, ◌^◌, ◌++◌, ℕ, List, [], ◌∷◌, length, codes, IsTrue}
 use Rattle.tso_model.specs.FlatMachine.{chosen}
-use Rattle.tso_model.specs.declared.choice.Choice.{Choice}
-use Rattle.tso_model.specs.declared.choice.Choice.TheVariants.{Step, Drain}
+use Rattle.basic_laws.specs.Types.{Choice, Step, Drain}
 use Rattle.scheduler.specs.Limits.{most_choices}
 use Rattle.decimals.specs.Decimals.{decimal_value}
 use Rattle.scheduler.specs.Words.{words_of_text, is_numeral}

@@ -1,8 +1,7 @@
 -- The printed text of choices, in the form in which choices are read: what one command prints another can be given.
 use Rattle.std.specs.Prelude.{ℕ, List, [], ◌∷◌, ◌++◌, codes}
 use Rattle.std.specs.Fmt.{decimal}
-use Rattle.tso_model.specs.declared.choice.Choice.{Choice}
-use Rattle.tso_model.specs.declared.choice.Choice.TheVariants.{Step, Drain}
+use Rattle.basic_laws.specs.Types.{Choice, Step, Drain}
 
 -- a choice: `0s` for a step of core 0, `0d` for its drain
 abbrev pub printed_choice : Choice → List ℕ

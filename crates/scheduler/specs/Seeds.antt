@@ -3,8 +3,7 @@ use Rattle.std.specs.Prelude.{ℕ, zero, suc, ◌*◌, ◌/◌, ◌%◌, List, [
 use Rattle.rand_core.specs.Pcg32Seed.{pcg32_seed}
 use Rattle.rand_pcg.specs.Lcg.{Lcg}
 use Rattle.rand_pcg.specs.Pcg.{pcg32, pcg32_of_seed}
-use Rattle.tso_model.specs.declared.choice.Choice.{Choice}
-use Rattle.tso_model.specs.declared.choice.Choice.TheVariants.{Step, Drain}
+use Rattle.basic_laws.specs.Types.{Choice, Step, Drain}
 
 -- the generator that a seed makes: its 16 bytes are those of `seed_from_u64`
 abbrev pub generator : ℕ → Lcg

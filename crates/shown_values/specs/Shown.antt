@@ -5,9 +5,7 @@ use Rattle.std.specs.List.{list_any}
 use Rattle.tso_model.specs.Litmus.{Litmus}
 use Rattle.tso_model.specs.Registers.{index_of}
 use Rattle.tso_model.specs.Actions.{action_of}
-use Rattle.tso_model.specs.declared.register.Reg.{Reg}
-use Rattle.tso_model.specs.declared.instruction.Instr.{Instr}
-use Rattle.tso_model.specs.declared.action.Action.{Action}
+use Rattle.basic_laws.specs.Types.{Reg, Instr, Action}
 use Rattle.tso_model.specs.declared.action.Action.TheVariants.{Store, Load, Move, Fence, Lock}
 use Rattle.tso_report.specs.Tally.{is_looked_at, named_registers, named_locations, shown_value}
 use Rattle.tso_report.specs.declared.named.Named.{Named}

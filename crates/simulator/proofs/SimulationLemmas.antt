@@ -3,8 +3,7 @@ use Rattle.simulator.proofs.Vocabulary.{◌≡◌, ◌<◌, ◌-◌, ◌+◌, �
 use Rattle.std.specs.Option.{option_map}
 use Rattle.tso_model.specs.Standing.{StandsIn}
 use Rattle.tso_model.specs.Runs as flat
-use Rattle.tso_model.specs.declared.execution.Kind.{Kind}
-use Rattle.tso_model.specs.declared.execution.Kind.TheVariants.{R, W, F, LR, LW}
+use Rattle.basic_laws.specs.Types.{Kind, R, W, F, LR, LW}
 use Rattle.tso_laws.specs.Counting.{instructions, stores_of_all}
 use Rattle.tso_laws.specs.Entries.{FitsTest}
 use Rattle.tso_laws.specs.Rounds.{CanBeCutIntoRounds}

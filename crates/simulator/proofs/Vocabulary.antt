@@ -8,10 +8,7 @@ pub use Rattle.tso_model.specs.Runs.{Run, has_ended, run, stall_count, CoresExis
 pub use Rattle.tso_model.specs.SplitMachine.{Attempt, Free, Holder}
 pub use Rattle.tso_model.specs.EitherBus.{BusState, run_on, choices_in, BusRun, unheld, after_on, HitsFit, effect_on, then_on, resting_on, HitFits}
 pub use Rattle.tso_model.specs.Together.{put_together, together}
-pub use Rattle.tso_model.specs.declared.choice.Bus.{Bus}
-pub use Rattle.tso_model.specs.declared.choice.Bus.TheVariants.{Atomic, Split}
-pub use Rattle.tso_model.specs.declared.choice.Choice.{Choice}
-pub use Rattle.tso_model.specs.declared.execution.Entry.{Entry}
+pub use Rattle.basic_laws.specs.Types.{Bus, Atomic, Split, Choice, Entry}
 pub use Rattle.tso_laws.specs.EndedRuns.{End, IsExecution}
 pub use Rattle.split_laws.specs.BusRuns.{EndOn, waiting, IsFlatRun, left_by}
 pub use Rattle.split_laws.specs.inner.BusRuns.{StopsAtTheEndOn, ChangesNothingOn}

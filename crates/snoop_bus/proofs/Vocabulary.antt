@@ -31,7 +31,7 @@ pub use Rattle.std.proofs.Math.ListN.{get_or-map}
 pub use Rattle.std.proofs.Math.Seq.{map-set_same, drop-cons, drop-length}
 pub use Rattle.snoop_bus.specs.inner.Copies.{ways_of, OnlyAt, AtHome, emptied, copy_state_in}
 pub use Rattle.std.specs.Option.{option_or, option_copied}
-pub use Rattle.tso_model.specs.declared.instruction.Core.{Core}
+pub use Rattle.basic_laws.specs.Types.{Core, Loc}
 pub use Rattle.tso_model.specs.Limits.{most_cores}
 pub use Rattle.snoop_bus.specs.declared.access.AccessKind.TheVariants.{Hit, Miss}
 pub use Rattle.snoop_bus.specs.MemoryAfter.{victim_at, written_back, flushed, sent_words, sent_of}
@@ -54,7 +54,6 @@ pub use Rattle.snoop_bus.specs.inner.Tags.{clean, cleaned}
 pub use Rattle.protocol_tables.specs.declared.requests.Transient.TheVariants.{IsD, ImD, SmD}
 pub use Rattle.snoop_bus.specs.inner.Asks.{transaction_of, transaction_at}
 unfoldable pub use Rattle.snoop_bus.specs.inner.Asks.{transacting}
-pub use Rattle.tso_model.specs.declared.instruction.Loc.{Loc}
 pub use Rattle.protocol_tables.specs.Transients.{transient_of}
 pub use Rattle.protocol_tables.specs.declared.requests.Transient.{Transient}
 pub use Rattle.snoop_bus.specs.declared.holding.Transaction.{Transaction}

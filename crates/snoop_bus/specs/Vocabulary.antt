@@ -1,7 +1,6 @@
 -- The words of the crates below that the definitions of this crate use, in one place: each file takes its own from here.
 pub use Rattle.tso_model.specs.Limits.{most_cores, most_locations}
-pub use Rattle.tso_model.specs.declared.instruction.Core.{Core}
-pub use Rattle.tso_model.specs.declared.instruction.Loc.{Loc}
+pub use Rattle.basic_laws.specs.Types.{Core, Loc}
 pub use Rattle.protocol_tables.specs.Laws.{in_place, is_dirty, WritesInPlace}
 pub use Rattle.protocol_tables.specs.Tables.{snoop, Table}
 pub use Rattle.protocol_tables.specs.declared.requests.Request.{Request}

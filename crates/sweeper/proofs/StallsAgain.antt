@@ -2,8 +2,7 @@
 use Rattle.sweeper.proofs.Vocabulary.{◌≡◌, ◌<◌, ◌≤◌, ◌⊎◌, inl, inr, ℕ, List, length, Option, Some, None, sym, ap, subst, ◌∙◌, arith, slice_index_or, slice_set, Choice, Running}
 use Rattle.std.proofs.lemmas.Bool.Decides.{eqb_tells}
 use Rattle.std.proofs.lemmas.List.{get_or-set_same, get_or-set_other, get_or_past, length-set}
-use Rattle.tso_model.specs.declared.choice.Choice.TheVariants.{Step, Drain}
-use Rattle.tso_model.specs.declared.choice.Stall.{Stall}
+use Rattle.basic_laws.specs.Types.{Step, Drain, Stall}
 use Rattle.sweeper.specs.declared.stalling.Stalling.{Stalling}
 use Rattle.sweeper.specs.inner.Stalling.{place_of_choice, noted_at, Stalls, AllStall}
 

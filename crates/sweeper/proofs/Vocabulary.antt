@@ -13,9 +13,7 @@ pub use Rattle.simulator.specs.Simulation.{verdict}
 pub use Rattle.sweeper.specs.Counting.{choices_of, with_one_run, AnswersFitFrom, seeded_run, counts_from}
 pub use Rattle.std.specs.List.{list_any, AllByRecursion}
 pub use Rattle.tso_model.specs.EitherBus.{BusState, effect_on, after_on, unheld, HitsFit}
-pub use Rattle.tso_model.specs.declared.choice.Bus.{Bus}
-pub use Rattle.tso_model.specs.declared.choice.Bus.TheVariants.{Atomic, Split}
-pub use Rattle.tso_model.specs.declared.choice.Choice.{Choice}
+pub use Rattle.basic_laws.specs.Types.{Bus, Atomic, Split, Choice}
 pub use Rattle.protocol_tables.specs.Tables.{Table, table_of}
 pub use Rattle.machine_core.specs.Running.{Running, new_machine, restarted, table_in, configuration_of}
 pub use Rattle.simulator.specs.inner.Runs.{machine_run, AnswersFitOn}

@@ -2,8 +2,7 @@
 use Rattle.trace_json.proofs.Vocabulary.{◌≡◌, ◌∙◌, ℕ, suc, ◌+◌, ◌≤◌, Bool, false, List, ◌∷◌, length, refl, sym, ap, subst, arith, Litmus, Choice, table_of, Table, ProtocolKind, Configuration, Running, new_machine, machine_after}
 use Rattle.tso_model.specs.EitherBus.{run_on}
 use Rattle.tso_model.specs.Together.{together}
-use Rattle.tso_model.specs.declared.choice.Bus.{Bus}
-use Rattle.tso_model.specs.declared.choice.Bus.TheVariants.{Atomic, Split}
+use Rattle.basic_laws.specs.Types.{Bus, Atomic, Split}
 use Rattle.machine_core.specs.Answered.{answered}
 use Rattle.simulator.specs.Runs.{run_by, run_under}
 use Rattle.simulator.specs.inner.Observed.{Watched, none_left, over, next, IsWatched}

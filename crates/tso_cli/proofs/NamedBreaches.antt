@@ -2,9 +2,7 @@
 use Rattle.tso_cli.proofs.Vocabulary.{◌≡◌, ◌≢◌, ℕ, ◌<◌, List, length, Some, slice_get, All, subst, get_or_from_slice_get, slice_get_within, Litmus}
 use Rattle.tso_model.specs.ProgramEntries.{made}
 use Rattle.tso_model.specs.Standing.{StandsIn}
-use Rattle.tso_model.specs.declared.execution.Entry.{Entry}
-use Rattle.tso_model.specs.declared.execution.Kind.{Kind}
-use Rattle.tso_model.specs.declared.execution.Kind.TheVariants.{R, W, F, LR, LW}
+use Rattle.basic_laws.specs.Types.{Entry, Kind, R, W, F, LR, LW}
 use Rattle.tso_laws.specs.Entries.{FitsTest}
 use Rattle.order_builder.specs.PrintedOrder.{HasLocation, IsLocationFor}
 use Rattle.axiom_checker.specs.FirstBreach.{IsFirstBreach}

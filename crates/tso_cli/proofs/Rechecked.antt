@@ -3,8 +3,7 @@ use Rattle.tso_cli.proofs.Vocabulary.{◌≡◌, ◌+◌, ◌-◌, ◌*◌, ◌�
 use Rattle.tso_model.specs.Thread.{entries_of, with_value, value_in}
 use Rattle.tso_model.specs.SplitMachine.{Attempt}
 use Rattle.tso_model.specs.EitherBus.{BusState, unheld, effect_on, after_on, run_on_from, resting_on, then_on}
-use Rattle.tso_model.specs.declared.choice.Outcome.{Outcome}
-use Rattle.tso_model.specs.declared.choice.Outcome.TheVariants.{Committed}
+use Rattle.basic_laws.specs.Types.{Outcome, Committed}
 use Rattle.litmus_reader.specs.Spelling.{IsRefused as IsRefusedTest}
 use Rattle.tso_report.specs.Limits.{longest_report, IsSmall}
 use Rattle.tso_cli.specs.Answers.{refused}

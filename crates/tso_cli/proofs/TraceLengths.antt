@@ -3,8 +3,7 @@ use Rattle.tso_cli.proofs.Vocabulary.{◌≡◌, ◌≤◌, ◌<◌, ℕ, Bool, 
 use Rattle.std.specs.Prelude.{IsSome, IfSome, if◌then◌else◌}
 use Rattle.tso_model.specs.EitherBus.{BusState, unheld, effect_on, after_on, resting_on, then_on, run_on_from}
 use Rattle.tso_model.specs.SplitMachine.{Attempt}
-use Rattle.tso_model.specs.declared.choice.Bus.{Bus}
-use Rattle.tso_model.specs.declared.choice.Bus.TheVariants.{Atomic, Split}
+use Rattle.basic_laws.specs.Types.{Bus, Atomic, Split}
 use Rattle.tso_laws.proofs.Beginnings.{run-begins}
 use Rattle.scheduler.specs.WordOfChoice.{IsWordOfChoice}
 use Rattle.scheduler.specs.declared.fault.ChoiceFault.{ChoiceFault}

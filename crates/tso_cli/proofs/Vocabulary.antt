@@ -10,9 +10,7 @@ pub use Rattle.tso_model.specs.SequentialConsistency.{KeepsAllOrder}
 pub use Rattle.tso_model.specs.Condition.{Condition, truth_of, Claim, NamesExist, claim_of, condition_of}
 pub use Rattle.tso_model.specs.FinalState.{final_words, final_registers, registers_from, words_from}
 pub use Rattle.tso_model.specs.Runs.{Run, run, CoresExist, has_ended, stall_count}
-pub use Rattle.tso_model.specs.declared.choice.Bus.TheVariants.{Atomic, Split}
-pub use Rattle.tso_model.specs.declared.choice.Choice.{Choice}
-pub use Rattle.tso_model.specs.declared.execution.Entry.{Entry}
+pub use Rattle.basic_laws.specs.Types.{Atomic, Split, Choice, Entry, Instr, StoreImm, StoreReg, Load, SetImm, SetReg, Fence, Xchg, Xadd, Bus}
 pub use Rattle.tso_laws.specs.EndedRuns.{IsExecution, End}
 pub use Rattle.protocol_tables.specs.declared.kind.ProtocolKind.{ProtocolKind}
 pub use Rattle.machine_core.specs.Configuration.{Configuration, IsConfigurationWithinLimits}
@@ -41,8 +39,6 @@ pub use Rattle.tso_cli.specs.inner.ReadOneWay.{AreReadOneWay}
 pub use Rattle.std.specs.List.{list_all, starts_with, AllByRecursion}
 pub use Rattle.std.proofs.lemmas.List.Elements.{All-head, All-tail, All-weaker, All-contains, All-map, All-cons, All-nil}
 pub use Rattle.tso_model.specs.Limits.{most_depth}
-pub use Rattle.tso_model.specs.declared.instruction.Instr.{Instr}
-pub use Rattle.tso_model.specs.declared.instruction.Instr.TheVariants.{StoreImm, StoreReg, Load, SetImm, SetReg, Fence, Xchg, Xadd}
 pub use Rattle.tso_laws.specs.Along.{choices_along, LeadTo}
 pub use Rattle.tso_laws.specs.Depth.{needed}
 pub use Rattle.scheduler.specs.Grammar.{SpellsChoices}
@@ -68,7 +64,6 @@ pub use Rattle.outcome_report.specs.Verdict.{verdict_line, outcomes_verdict_valu
 pub use Rattle.outcome_report.specs.Printed.{outcomes_in, PrintsOutcomes, unfinished_search_in}
 pub use Rattle.outcome_report.specs.Laws.{OutcomesAreAlike, OutcomesOfTheSameValuesAreAlike}
 pub use Rattle.tso_model.specs.Standing.{StandsIn}
-pub use Rattle.tso_model.specs.declared.choice.Bus.{Bus}
 pub use Rattle.tso_laws.specs.Entries.{FitsTest}
 pub use Rattle.order_builder.specs.Spelling.{IsOrderFor, SpellsOrder, HasAccess, IsEntryFor, HasFault}
 pub use Rattle.protocol_tables.specs.Tables.{Table, table_of}

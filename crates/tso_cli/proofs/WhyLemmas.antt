@@ -1,7 +1,6 @@
 -- What the answer of `why` means.
 use Rattle.tso_cli.proofs.Vocabulary.{◌≡◌, ℕ, Bool, true, false, not, List, [], length, Option, Some, None, refl, sym, ap, subst, arith, append-nil, Litmus, IsTest, Claim, Condition, NamesExist, truth_of, final_words, final_registers, registers_in, run, Choice, Entry, LeadTo, End, IsExecutionOf, depth_of, SpellsChoices, printed_choices, Explanation, IsWhyAnswer, Status, PrintsRefutation, PrintsExecutionOf, HeadlineOfReasons}
-use Rattle.tso_model.specs.declared.condition.Quantifier.{Quantifier}
-use Rattle.tso_model.specs.declared.condition.Quantifier.TheVariants.{Forall}
+use Rattle.basic_laws.specs.Types.{Quantifier, Forall}
 use Rattle.refutation_laws.specs.Refutations.{Node, asked_claim, refutes}
 use Rattle.refutation_laws.specs.declared.model.Model.{Model}
 use Rattle.refutation_laws.specs.declared.model.Model.TheVariants.{Tso, Sequential}

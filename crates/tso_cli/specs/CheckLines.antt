@@ -2,8 +2,7 @@
 use Rattle.std.specs.Prelude.{ℕ, List, [], ◌++◌, slice_index_or, codes}
 use Rattle.std.specs.Fmt.{decimal}
 use Rattle.tso_cli.specs.Vocabulary.{Breach, Entry, Extra, letters_of, Litmus, Missing, NoMemory, NotAdjacent, OrderFault, printed_entry, ProgramOrder, ReadValue, Twice, WrongValue}
-use Rattle.tso_model.specs.declared.execution.Kind.{Kind}
-use Rattle.tso_model.specs.declared.execution.Kind.TheVariants.{F}
+use Rattle.basic_laws.specs.Types.{Kind, F}
 use Rattle.tso_report.specs.Report.{line}
 use Rattle.order_builder.specs.declared.fault.OrderFault.TheVariants as orders
 

@@ -5,9 +5,7 @@ pub use Rattle.tso_model.specs.FinalState.{final_registers, final_words}
 pub use Rattle.tso_model.specs.Litmus.{IsTest, Litmus}
 pub use Rattle.tso_model.specs.Runs.{run, Run}
 pub use Rattle.tso_model.specs.SequentialConsistency.{KeepsAllOrder}
-pub use Rattle.tso_model.specs.declared.choice.Bus.TheVariants.{Atomic, Split}
-pub use Rattle.tso_model.specs.declared.choice.Choice.{Choice}
-pub use Rattle.tso_model.specs.declared.execution.Entry.{Entry}
+pub use Rattle.basic_laws.specs.Types.{Atomic, Split, Choice, Entry}
 pub use Rattle.tso_laws.specs.Along.{choices_along, LeadTo}
 pub use Rattle.outcome_laws.specs.Outcomes.{IsEnd, LeadToEnd}
 pub use Rattle.refutation_laws.specs.declared.model.Model.{Model}

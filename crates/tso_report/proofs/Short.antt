@@ -3,11 +3,7 @@ use Rattle.tso_report.proofs.Vocabulary.{inl, inr, ◌≡◌, ℕ, ◌+◌, ◌-
 use Rattle.std.specs.Prelude.{codes}
 use Rattle.tso_model.specs.Registers.{IsWord, AreRegisters, index_of, name_of}
 use Rattle.tso_model.specs.Thread.{value_in}
-use Rattle.tso_model.specs.declared.register.Reg.TheVariants.{Eax}
-use Rattle.tso_model.specs.declared.condition.Quantifier.{Quantifier}
-use Rattle.tso_model.specs.declared.condition.Quantifier.TheVariants.{Exists}
-use Rattle.tso_model.specs.declared.execution.Kind.{Kind}
-use Rattle.tso_model.specs.declared.execution.Kind.TheVariants.{R, F}
+use Rattle.basic_laws.specs.Types.{Eax, Quantifier, Exists, Kind, R, F}
 use Rattle.snoop_bus.specs.Geometry.{IsShapeWithinLimits as IsShape}
 use Rattle.machine_core.specs.Keeping.{IsAtMost}
 use Rattle.tso_report.specs.Limits.{longest_report, IsSmall}

@@ -6,12 +6,7 @@ use Rattle.tso_model.specs.Litmus.{Litmus}
 use Rattle.tso_model.specs.Condition.{Condition}
 use Rattle.tso_model.specs.Registers.{name_of}
 use Rattle.tso_model.specs.Thread.{value_in}
-use Rattle.tso_model.specs.declared.register.Reg.{Reg}
-use Rattle.tso_model.specs.declared.register.Reg.TheVariants.{Eax, Ebx, Ecx, Edx, Esi, Edi}
-use Rattle.tso_model.specs.declared.choice.Bus.{Bus}
-use Rattle.tso_model.specs.declared.choice.Bus.TheVariants.{Atomic, Split}
-use Rattle.tso_model.specs.declared.condition.Quantifier.{Quantifier}
-use Rattle.tso_model.specs.declared.condition.Quantifier.TheVariants.{Exists, NotExists, Forall}
+use Rattle.basic_laws.specs.Types.{Reg, Eax, Ebx, Ecx, Edx, Esi, Edi, Bus, Atomic, Split, Quantifier, Exists, NotExists, Forall}
 use Rattle.order_builder.specs.PrintedOrder.{printed_order}
 use Rattle.protocol_tables.specs.Names.{protocol_name}
 pub use Rattle.protocol_tables.specs.PrintedTable.{line}

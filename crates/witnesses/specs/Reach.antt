@@ -3,8 +3,7 @@
 use Rattle.std.specs.Prelude.{ℕ, ◌≡◌, ◌≢◌, ◌<◌, List}
 use Rattle.tso_model.specs.Litmus.{Litmus}
 use Rattle.tso_model.specs.Runs.{run}
-use Rattle.tso_model.specs.declared.execution.Entry.{Entry}
-use Rattle.tso_model.specs.declared.choice.Choice.{Choice}
+use Rattle.basic_laws.specs.Types.{Entry, Choice}
 use Rattle.tso_laws.specs.Depth.{needed}
 use Rattle.witnesses.specs.declared.fault.WitnessFault.{WitnessFault}
 use Rattle.witnesses.specs.declared.fault.WitnessFault.TheVariants.{Depth}

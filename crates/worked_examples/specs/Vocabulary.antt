@@ -5,8 +5,7 @@ pub use Rattle.tso_model.specs.FlatMachine.{CoreState, Effect, effect_of, start}
 pub use Rattle.tso_model.specs.Litmus.{Litmus}
 pub use Rattle.tso_model.specs.Runs.{run}
 pub use Rattle.tso_model.specs.SplitMachine.{Attempt, BusEffect, Holder}
-pub use Rattle.tso_model.specs.declared.instruction.Core.{Core}
-pub use Rattle.basic_laws.specs.Types.{Entry, LR, LW, R, W}
+pub use Rattle.basic_laws.specs.Types.{Entry, LR, LW, R, W, Core}
 pub use Rattle.protocol_tables.specs.Tables.{msi, Table}
 pub use Rattle.protocol_tables.specs.declared.state.State.{State}
 pub use Rattle.protocol_tables.specs.declared.state.State.TheVariants.{E, I, M, O, S}

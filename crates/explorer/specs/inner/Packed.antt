@@ -3,9 +3,7 @@
 use Rattle.std.specs.Prelude.{ℕ, ◌≡◌, nat_lt, nat_le, if◌then◌else◌, List, [], ◌∷◌, ◌++◌, length, take, drop, zero, suc}
 use Rattle.std.specs.Int.{w64, to_le_bytes, from_le_bytes}
 use Rattle.tso_model.specs.FlatMachine.{State, CoreState}
-use Rattle.tso_model.specs.declared.execution.Entry.{Entry}
-use Rattle.tso_model.specs.declared.execution.Kind.{Kind}
-use Rattle.tso_model.specs.declared.execution.Kind.TheVariants.{R, W, F, LR, LW}
+use Rattle.basic_laws.specs.Types.{Entry, Kind, R, W, F, LR, LW}
 use Rattle.explorer.specs.declared.packed.Packed.{Packed}
 
 -- ---- what is written

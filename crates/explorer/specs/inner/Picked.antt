@@ -3,8 +3,7 @@ use Rattle.std.specs.Prelude.{ℕ, ◌<◌, ◌≡◌, true, Some, slice_get}
 use Rattle.tso_model.specs.Actions.{action_of}
 use Rattle.tso_model.specs.Litmus.{Litmus}
 use Rattle.tso_model.specs.FlatMachine.{State, program_of, core_of}
-use Rattle.tso_model.specs.declared.action.Action.{Action}
-use Rattle.tso_model.specs.declared.instruction.Instr.{Instr}
+use Rattle.basic_laws.specs.Types.{Action, Instr}
 use Rattle.eager_laws.specs.Stubborn.{ChoiceSet, has_step, has_drain, IsApartStep, IsApartDrain}
 use Rattle.explorer.specs.declared.stubborn.Picked.{Picked}
 

@@ -1,9 +1,6 @@
 -- Choices of a run that stalled since its machine last changed, and so stall again.
 use Rattle.std.specs.Prelude.{ℕ, ◌≡◌, Option, Some, None, slice_set, slice_index_or, ◌+◌, ◌*◌}
-use Rattle.tso_model.specs.declared.choice.Choice.{Choice}
-use Rattle.tso_model.specs.declared.choice.Choice.TheVariants.{Step, Drain}
-use Rattle.tso_model.specs.declared.choice.Stall.{Stall}
-use Rattle.tso_model.specs.declared.choice.Outcome.TheVariants.{Stalled}
+use Rattle.basic_laws.specs.Types.{Choice, Step, Drain, Stall, Stalled}
 use Rattle.machine_core.specs.Running.{Running, machine_effect, machine_after, AnswerFits}
 use Rattle.sweeper.specs.declared.stalling.Stalling.{Stalling}
 

@@ -1,5 +1,4 @@
-use Rattle.explorer.proofs.Vocabulary.{map, subst, on-ok, core_of_processor, state_of_snapshot}
-use Rattle.explorer.specs.inner.Packed.{Packs, number_bytes, core_bytes, list_bytes, read_word, read_core, read_list}
+use Rattle.explorer.proofs.Vocabulary.{map, subst, on-ok, core_of_processor, state_of_snapshot, Packs, number_bytes, core_bytes, list_bytes, read_word, read_core, read_list}
 use Rattle.explorer.proofs.ReadBack.{packs-state}
 use Rattle.explorer.proofs.packing.pack.Goals as goal
 

@@ -1,5 +1,4 @@
-use Rattle.explorer.proofs.Vocabulary.{on-ok, subst, core_of_processor}
-use Rattle.explorer.specs.inner.Packed.{Packs, entry_bytes, list_bytes, read_entry, read_list}
+use Rattle.explorer.proofs.Vocabulary.{on-ok, subst, core_of_processor, Packs, entry_bytes, list_bytes, read_entry, read_list}
 use Rattle.explorer.proofs.ReadBack.{packs-core}
 use Rattle.explorer.proofs.packing.push_core.Goals as goal
 

@@ -1,5 +1,4 @@
-use Rattle.explorer.proofs.Vocabulary.{◌∷◌, [], ◌++◌, take_more, map-append, take, map, ◌+◌, ◌∙◌, subst, sym, ap, core_of_processor}
-use Rattle.explorer.specs.inner.Packed.{Packs, core_bytes, all_bytes, read_core, read_all}
+use Rattle.explorer.proofs.Vocabulary.{◌∷◌, [], ◌++◌, take_more, map-append, take, map, ◌+◌, ◌∙◌, subst, sym, ap, core_of_processor, Packs, core_bytes, all_bytes, read_core, read_all}
 use Rattle.explorer.proofs.ReadBack.{packs-more}
 use Rattle.explorer.proofs.packing.push_cores.Goals as goal
 

@@ -1,5 +1,4 @@
-use Rattle.explorer.proofs.Vocabulary.{take, map, core_of_processor}
-use Rattle.explorer.specs.inner.Packed.{Packs, core_bytes, all_bytes, read_core, read_all}
+use Rattle.explorer.proofs.Vocabulary.{take, map, core_of_processor, Packs, core_bytes, all_bytes, read_core, read_all}
 use Rattle.explorer.proofs.packing.push_cores.Given as goal
 
 abbrev pub invariant-loop-core : goal.invariant-loop-core

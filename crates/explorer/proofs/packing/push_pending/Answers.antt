@@ -1,5 +1,4 @@
-use Rattle.explorer.proofs.Vocabulary.{take_more, ◌+◌, subst, sym}
-use Rattle.explorer.specs.inner.Packed.{Packs, entry_bytes, all_bytes, read_entry, read_all}
+use Rattle.explorer.proofs.Vocabulary.{take_more, ◌+◌, subst, sym, Packs, entry_bytes, all_bytes, read_entry, read_all}
 use Rattle.explorer.proofs.ReadBack.{packs-more}
 use Rattle.explorer.proofs.packing.push_pending.Goals as goal
 

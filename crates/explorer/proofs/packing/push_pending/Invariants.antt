@@ -1,5 +1,4 @@
-use Rattle.explorer.proofs.Vocabulary.{take}
-use Rattle.explorer.specs.inner.Packed.{Packs, entry_bytes, all_bytes, read_entry, read_all}
+use Rattle.explorer.proofs.Vocabulary.{take, Packs, entry_bytes, all_bytes, read_entry, read_all}
 use Rattle.explorer.proofs.packing.push_pending.Given as goal
 
 abbrev pub invariant-loop-entry : goal.invariant-loop-entry

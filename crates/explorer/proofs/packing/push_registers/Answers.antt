@@ -1,6 +1,5 @@
-use Rattle.explorer.proofs.Vocabulary.{◌≡◌, length, subst, rules}
+use Rattle.explorer.proofs.Vocabulary.{◌≡◌, length, subst, rules, Packs, number_bytes, all_bytes, read_word, read_all, read_registers}
 use Rattle.std.proofs.Common.{OnOk}
-use Rattle.explorer.specs.inner.Packed.{Packs, number_bytes, all_bytes, read_word, read_all, read_registers}
 use Rattle.explorer.proofs.packing.push_registers.Goals as goal
 
 pub returns : goal.returns

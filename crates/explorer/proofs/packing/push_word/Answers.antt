@@ -1,5 +1,4 @@
-use Rattle.explorer.proofs.Vocabulary.{on-ok, subst, arith}
-use Rattle.explorer.specs.inner.Packed.{Packs, number_bytes, read_number}
+use Rattle.explorer.proofs.Vocabulary.{on-ok, subst, arith, Packs, number_bytes, read_number}
 use Rattle.explorer.proofs.ReadBack.{packs-word}
 use Rattle.explorer.proofs.packing.push_word.Goals as goal
 

@@ -1,5 +1,4 @@
-use Rattle.explorer.proofs.Vocabulary.{take_more, ◌+◌, subst, sym}
-use Rattle.explorer.specs.inner.Packed.{Packs, number_bytes, all_bytes, read_word, read_all}
+use Rattle.explorer.proofs.Vocabulary.{take_more, ◌+◌, subst, sym, Packs, number_bytes, all_bytes, read_word, read_all}
 use Rattle.explorer.proofs.ReadBack.{packs-more}
 use Rattle.explorer.proofs.packing.push_words.Goals as goal
 

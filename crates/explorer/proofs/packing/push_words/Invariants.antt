@@ -1,5 +1,4 @@
-use Rattle.explorer.proofs.Vocabulary.{take}
-use Rattle.explorer.specs.inner.Packed.{Packs, number_bytes, all_bytes, read_word, read_all}
+use Rattle.explorer.proofs.Vocabulary.{take, Packs, number_bytes, all_bytes, read_word, read_all}
 use Rattle.explorer.proofs.packing.push_words.Given as goal
 
 abbrev pub invariant-loop-word : goal.invariant-loop-word

@@ -1,5 +1,4 @@
-use Rattle.explorer.proofs.Vocabulary.{length, ap, sym, ◌∙◌, on-ok, core_of_processor, length-map}
-use Rattle.explorer.specs.inner.Packed.{state_of_bytes}
+use Rattle.explorer.proofs.Vocabulary.{length, ap, sym, ◌∙◌, on-ok, core_of_processor, length-map, state_of_bytes}
 use Rattle.explorer.proofs.ReadBack.{state-cores, state-read}
 use Rattle.explorer.proofs.unpacking.unpack.Goals as goal
 

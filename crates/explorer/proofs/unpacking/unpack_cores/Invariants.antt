@@ -1,5 +1,4 @@
-use Rattle.explorer.proofs.Vocabulary.{◌≡◌, take, map, length, core_of_processor}
-use Rattle.explorer.specs.inner.Packed.{read_core, read_all}
+use Rattle.explorer.proofs.Vocabulary.{◌≡◌, take, map, length, core_of_processor, read_core, read_all}
 use Rattle.explorer.proofs.unpacking.unpack_cores.Given as goal
 
 abbrev pub invariant-loop-at : goal.invariant-loop-at

@@ -1,5 +1,4 @@
-use Rattle.explorer.proofs.Vocabulary.{[], ap, sym, ◌∙◌, arith}
-use Rattle.explorer.specs.inner.Packed.{read_word}
+use Rattle.explorer.proofs.Vocabulary.{[], ap, sym, ◌∙◌, arith, read_word}
 use Rattle.explorer.proofs.ReadBack.{read-one-more, list-read}
 use Rattle.explorer.proofs.unpacking.unpack_memory.Goals as goal
 

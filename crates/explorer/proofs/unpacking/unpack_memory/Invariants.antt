@@ -1,5 +1,4 @@
-use Rattle.explorer.proofs.Vocabulary.{◌≡◌}
-use Rattle.explorer.specs.inner.Packed.{read_word, read_all}
+use Rattle.explorer.proofs.Vocabulary.{◌≡◌, read_word, read_all}
 use Rattle.explorer.proofs.unpacking.unpack_memory.Given as goal
 
 abbrev pub invariant-loop-at : goal.invariant-loop-at

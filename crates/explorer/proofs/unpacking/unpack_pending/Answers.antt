@@ -1,5 +1,4 @@
-use Rattle.explorer.proofs.Vocabulary.{[], ap, sym, ◌∙◌, arith}
-use Rattle.explorer.specs.inner.Packed.{read_entry}
+use Rattle.explorer.proofs.Vocabulary.{[], ap, sym, ◌∙◌, arith, read_entry}
 use Rattle.explorer.proofs.ReadBack.{read-one-more, list-read}
 use Rattle.explorer.proofs.unpacking.unpack_pending.Goals as goal
 

@@ -1,6 +1,5 @@
-use Rattle.explorer.proofs.Vocabulary.{◌≡◌, ap, sym, ◌∙◌, arith, length-set}
+use Rattle.explorer.proofs.Vocabulary.{◌≡◌, ap, sym, ◌∙◌, arith, length-set, read_word, read_all, read_registers}
 use Rattle.std.proofs.lemmas.List.{take_all}
-use Rattle.explorer.specs.inner.Packed.{read_word, read_all, read_registers}
 use Rattle.explorer.proofs.ReadBack.{next-read}
 use Rattle.explorer.proofs.unpacking.unpack_registers.Goals as goal
 
