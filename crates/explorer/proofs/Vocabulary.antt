@@ -28,7 +28,8 @@ pub use Rattle.explorer.specs.Settled.{LeadsBy, IsSettled, LeadsToForgotten}
 pub use Rattle.explorer.specs.inner.Settled.{Grows, IsKeptState, HaveCores, IsCurrent, LeadOn, IsReachedByChoice, IsVisited, ArePicksVisited, AreLinked, LeadByTurns, IsLinked, IsPath, GoBack, LeadToExchanged, IsInOrder}
 pub use Rattle.flat_machine.specs.declared.snapshot.Snapshot.{Snapshot}
 pub use Rattle.explorer.specs.declared.packed.Packed.{Packed}
-pub use Rattle.explorer.specs.inner.Packed.{state_bytes, state_of_bytes, state_of_packed, IsPacked, Packs, number_bytes, core_bytes, list_bytes, read_word, read_core, read_list, entry_bytes, read_entry, all_bytes, read_all, read_registers, read_number}
+pub use Rattle.explorer.specs.inner.Packed.{state_bytes, state_of_bytes, state_of_packed, IsPacked, Packs, number_bytes, core_bytes, list_bytes, read_word, read_core, read_list, entry_bytes, read_entry, all_bytes, read_all, read_number}
+unfoldable pub use Rattle.explorer.specs.inner.Packed.{read_registers}
 pub use Rattle.explorer.specs.declared.link.Link.{Link}
 pub use Rattle.explorer.specs.declared.link.Turn.TheVariants.{Made, Exchanged}
 pub use Rattle.std.proofs.lemmas.Map.Keys.{IsDistinct-head, IsDistinct-tail, IsDistinct-cons}
