@@ -6,7 +6,7 @@
 `outcomes` searches a test of which it keeps more than 750,000 states, once to its end and once to the limit of --states. Standard
 output and the status are the same where standard error is a terminal and where it is a pipe. At the terminal a line says how many
 states are kept, at each 250,000 once, and how many final states were met. Each is written over the one before, and at the end what
-stands there is what stands on the pipe. A further program, which may be built without much care for speed, is asked up to the limit alone.
+stands there is what stands on the pipe. A further program, which may be built without much care for speed, is asked for fewer states.
 
 The last line is 'N passed, M failed'.
 """
@@ -28,8 +28,11 @@ PAGE = 65_536
 LINE = re.compile(rb"\rsearching: (\d+) states kept, (\d+) final states met")
 
 # Which runs are looked at: the words, their status, and at least how often a line comes.
-TO_THE_END = ["outcomes", "--states", "10000000"], judging.ENDED, 3
-TO_THE_LIMIT = ["outcomes", "--states", "260000"], judging.UNFINISHED, 1
+RUNS = [
+    (["outcomes", "--states", "10000000"], judging.ENDED, 3),
+    (["outcomes", "--states", "600000"], judging.UNFINISHED, 2),
+]
+SHORT_RUNS = [(["outcomes", "--states", "260000"], judging.UNFINISHED, 1)]
 
 
 def great_test():
@@ -111,7 +114,7 @@ def main():
     programs = judging.programs_in(judging.with_programs(__doc__, with_part=False).parse_args())
     tally = judging.Tally()
     for number, program in enumerate(programs):
-        for words, status, least in [TO_THE_END, TO_THE_LIMIT] if number == 0 else [TO_THE_LIMIT]:
+        for words, status, least in RUNS if number == 0 else SHORT_RUNS:
             tally.add("progress", [(" ".join(words), faults_of(program, words, status, least))])
     return tally.end()
 
