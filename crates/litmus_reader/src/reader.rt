@@ -160,7 +160,7 @@ fn read_whole(alloc: Global, text: &[u8]) -> Result<Test, ReadError>
     ensures { Gives (λ test. test) result (inner.reading_of text.now) }
 {
     let parts = read_parts(alloc, text)?;
-    Ok(Test::new(parts).unwrap())
+    Ok(Test::from_valid_parts(parts))
 }
 
 /// What a reading of a text answers, with the line of a refusal.

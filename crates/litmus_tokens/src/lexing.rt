@@ -142,6 +142,7 @@ fn lexeme_at(bytes: &[u8]) -> Result<(Lexeme<'_>, &[u8]), Stop>
 /// The next token after white space and comments, and what stands after it.
 ///
 /// The stop says why no token stands there.
+#[inline(always)]
 #[tactic(auto, unfolding(crate::specs::Pieces::piece_at))]
 pub fn token_at(bytes: &[u8]) -> Result<(Token<'_>, &[u8]), Stop>
     ensures value { mapped (λ x. (piece_of x.0, x.1.now)) result ≡ spec.piece_at bytes.now }

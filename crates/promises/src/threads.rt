@@ -1,11 +1,21 @@
-//! What a test begins with, and what its programs leave by the values that their reads return.
+//! Of which parts a test is made, what it begins with, and what its programs leave by the values that their reads return.
 
-ghost use Rattle.std.specs.Prelude.{◌≡◌, ◌<◌, [], IfOk, length, slice_index, slice_index_or};
+ghost use Rattle.std.specs.Prelude.{◌≡◌, ◌<◌, ◌↔◌, [], IfOk, IfSome, IsSome, length, slice_index, slice_index_or};
+ghost use Rattle.tso_model.specs.Litmus.{IsTest};
+ghost use Rattle.tso_model.specs.LitmusParts.{litmus_of};
 ghost use Rattle.tso_model.specs.Registers.{index_of};
 ghost use Rattle.tso_model.specs.Thread.{reads_in, registers_with};
 
 use std::alloc::Global;
-use tso_model::{Core, Loc, NoMemory, Reg, Test, Thread, thread_entries};
+use tso_model::{Core, Loc, NoMemory, Reg, Test, TestParts, Thread, thread_entries};
+
+/// A test is made of exactly those parts that keep each limit, and is what they say.
+pub fn a_test_within_limits_is_made(parts: TestParts) -> Option<Test>
+    ensures made { IsSome result ↔ IsTest (litmus_of parts) }
+    ensures test { IfSome result (λ t. t ≡ litmus_of parts) }
+{
+    Test::new(parts)
+}
 
 /// A location's first word is the test's.
 pub fn a_first_word(test: &Test, loc: Loc) -> u32

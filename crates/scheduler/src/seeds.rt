@@ -61,6 +61,10 @@ pub fn push_seeded(
     requires { 0 < cores }
     ensures { OnOk result (choices.new.items ≡ choices.old.items ++ seeded_choices cores seed count) }
 {
+    // A generator costs as much as many choices, so none is made for no choice.
+    if count == 0 {
+        return Ok(());
+    }
     let mut drawn = Seeded::new(cores, seed, count);
     while let Some(choice) = drawn.next() {
         choices.push(choice)?;

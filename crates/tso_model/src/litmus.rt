@@ -69,6 +69,15 @@ impl Test {
         }
     }
 
+    /// The test that these parts make, for whoever knows already that they keep every limit, as a reader does that
+    /// judged them one by one: nothing is looked at again.
+    pub fn from_valid_parts(parts: TestParts) -> Test
+        requires { IsTest (litmus_of parts) }
+        ensures { result ≡ litmus_of parts }
+    {
+        Test { parts }
+    }
+
     /// The test's name.
     pub fn name(&self) -> &str
         ensures { result.now ≡ self.now.name }

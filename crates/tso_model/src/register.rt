@@ -50,20 +50,21 @@ impl Reg {
     pub fn from_name(name: &[u8]) -> Option<Reg>
         ensures { result ≡ register_named name.now }
     {
-        if name.eq_ignore_ascii_case(b"EAX") {
-            Some(Reg::Eax)
-        } else if name.eq_ignore_ascii_case(b"EBX") {
-            Some(Reg::Ebx)
-        } else if name.eq_ignore_ascii_case(b"ECX") {
-            Some(Reg::Ecx)
-        } else if name.eq_ignore_ascii_case(b"EDX") {
-            Some(Reg::Edx)
-        } else if name.eq_ignore_ascii_case(b"ESI") {
-            Some(Reg::Esi)
-        } else if name.eq_ignore_ascii_case(b"EDI") {
-            Some(Reg::Edi)
-        } else {
-            None
+        let [first, second, third] = name else {
+            return None;
+        };
+        match [
+            first.to_ascii_lowercase(),
+            second.to_ascii_lowercase(),
+            third.to_ascii_lowercase(),
+        ] {
+            [b'e', b'a', b'x'] => Some(Reg::Eax),
+            [b'e', b'b', b'x'] => Some(Reg::Ebx),
+            [b'e', b'c', b'x'] => Some(Reg::Ecx),
+            [b'e', b'd', b'x'] => Some(Reg::Edx),
+            [b'e', b's', b'i'] => Some(Reg::Esi),
+            [b'e', b'd', b'i'] => Some(Reg::Edi),
+            _ => None,
         }
     }
 }

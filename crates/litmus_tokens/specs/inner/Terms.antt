@@ -1,5 +1,4 @@
 -- The token of a word: what a lexeme of the code says, without where it lies in memory.
-use Rattle.litmus_tokens.specs.declared.token.Symbol.{Symbol}
 use Rattle.litmus_tokens.specs.declared.token.Lexeme.{Lexeme}
 use Rattle.litmus_tokens.specs.Terms.{Term, name, number, symbol}
 use Rattle.litmus_tokens.specs.declared.token.Lexeme.TheVariants as code
