@@ -11,11 +11,11 @@ locked-made : (core : ℕ) (s : CoreState) (loc : Loc) (reg : Reg) (word value :
 locked-made core s loc reg word value [] h = refl
 locked-made core s loc reg word value (p ∷ ps) h = absurd (let z : ⊥ = cc in z)
 
-pub acts-locks : (core : Core) (loc : Loc) (reg : Reg) (update : Update) (p q : Processor) (b b' : BusModel) (noted mid noted' : Noted) (value : ℕ) (u : Updated) → p.stores.items ≡ [] → value ≡ value_in p.registers reg
+pub acts-locks : (core : Core) (loc : Loc) (reg : Reg) (update : Update) (p q : Processor) (b b' : BusModel) (value : ℕ) (u : Updated) → p.stores.items ≡ [] → value ≡ value_in p.registers reg
     → IsCurrentWord b loc.0 u.before → u.after ≡ updated update u.before value → WritesAt b b' core.0 loc.0 u.after u.access → IsSameMachine b b'
-    → mid.entries ≡ noted.entries → noted'.entries ≡ mid.entries ++ both_parts core.0 p.place loc u.before u.after
+    → (noted mid noted' : Noted) → mid.entries ≡ noted.entries → noted'.entries ≡ mid.entries ++ both_parts core.0 p.place loc u.before u.after
     → q ≡ at_next p (with_value p.registers reg u.before) → Acts (whole core) (locked_access loc (pending_in core.0 p)) (effect_of_lock loc reg update) p q b b' noted noted' (Committed, Through u.access)
-acts-locks core loc reg update p q b b' noted mid noted' value u none value_is before after done machine room notes next =
+acts-locks core loc reg update p q b b' value u none value_is before after done machine noted mid noted' room notes next =
     subst (λ f. HasActed Whole (locked_access loc (pending_in core.0 p)) core.0 p q b b' noted noted' f (Committed, Through u.access)) (sym effect) (record {
       outcome = refl;
       after = rw next refl;

@@ -1,4 +1,4 @@
-use Rattle.machine_core.proofs.Vocabulary.{◌++◌, [], ◌∷◌, refl, sym, ap, ◌∙◌, chosen, Write, memory_access_in}
+use Rattle.machine_core.proofs.Vocabulary.{◌++◌, [], ◌∷◌, refl, sym, ap, ◌∙◌, subst, length, All, chosen, Write, IsCore, memory_access_in}
 use Rattle.machine_core.proofs.ChoiceEffects.{within-cores}
 use Rattle.machine_core.proofs.Completions.{performs-first, uses-first}
 use Rattle.machine_core.proofs.Splitting.{held-with}
@@ -18,4 +18,14 @@ returns-in_ok-entry-in-Lock-clause-makes g c =
           (c.in_ok-entry-in-Lock.ensures.commits ∙ ap (λ x. m.commits.entries ++ x ∷ []) (sym c.in_ok-entry-in-Lock.ensures.entry)) (ap (held-with (Write e)) c.in_ok-entry-in-Lock.ensures.held);
       caches = uses-first t m c.read_first.new.bus c.args.choice c.in-Lock.loc p c.in_ok-entry-in-Lock.access c.requires.asked locks within at
           (rw c.core_of-core.ensures.chosen at c.in_ok-entry-in-Lock.ensures.caches);
+    }
+
+pub returns-in_ok-entry-in-Lock-clause-of_test : goal.returns-in_ok-entry-in-Lock-clause-of_test
+returns-in_ok-entry-in-Lock-clause-of_test g c =
+    let m = c.args.hardware.now in
+    let fits = c.requires.consistent.fits in
+    let made = c.in_ok-entry-in-Lock.ensures in
+    record {
+      fits = record { cores = fits.cores; on_bus = made.cores ∙ fits.on_bus; words = ap length made.words ∙ fits.words; each = subst (λ ws. All (IsCore m.config.depth (length ws)) m.processors.items) (sym made.words) fits.each };
+      held = rw (made.held, made.entry) refl;
     }

@@ -1,5 +1,4 @@
-use Rattle.machine_core.proofs.Vocabulary.{◌∙◌, refl, sym, ap, subst, slice_get, slice_set, length, Free, acts, Step, Committed, Unused, words_of, holder_of, Processor, core_state, AreKnown, state_of_cores, held_as, state_in, pending_in, HasUsed, writes_last_in}
-use Rattle.std.proofs.lemmas.List.{length-set}
+use Rattle.machine_core.proofs.Vocabulary.{◌∙◌, refl, sym, ap, subst, slice_get, slice_set, length, length-set, Free, acts, Step, Committed, Unused, words_of, holder_of, Processor, core_state, AreKnown, state_of_cores, held_as, state_in, pending_in, HasUsed, writes_last_in}
 use Rattle.machine_core.proofs.ChoiceEffects.{Performs-by, within-cores, IsCore-at, PartsFitTest-next}
 use Rattle.machine_core.proofs.StepCompletions.{next-some, place-within, IsNext, is-next, access-next}
 use Rattle.machine_core.proofs.LastWrites.{has-read, locks-some, is-lock, last_part, writes-last, use-last, rests-last}
@@ -29,9 +28,7 @@ advance-requires g c =
     place-within c.program.result.now c.instruction_at.result c.unwrap-instr.result c.index_mut-processor.result.now.place c.instruction_at.ensures c.unwrap-instr.ensures c.program.ensures.size
 
 pub complete_write-requires : goal.complete_write-requires
-complete_write-requires g c = record {
-  holds = c.requires.consistent.held ∙ ap (held_as c.args.test.now c.args.hardware.now.config.depth (state_in c.args.hardware.now).flat) c.requires.between;
-}
+complete_write-requires g c = record { holds = c.requires.consistent.held ∙ ap (held_as c.args.test.now c.args.hardware.now.config.depth (state_in c.args.hardware.now).flat) c.requires.between }
 
 pub returns-in_err-note-clause-commits_at_once : goal.returns-in_err-note-clause-commits_at_once
 returns-in_err-note-clause-commits_at_once g c =
@@ -67,27 +64,18 @@ returns-clause-of_test g c =
     }
 
 pub returns-clause-makes : goal.returns-clause-makes
-returns-clause-makes g c = record {
-  ok =
-      let p = c.index_mut-processor.result.now in
-      let e = c.args.read in
-      let read = has-read c.args.test.now c.args.hardware.now e c.requires.consistent.holder c.requires.between in
-      let next : IsNext c.args.test.now c.args.hardware.now e.core p c.action.result =
-      is-next c.args.test.now c.args.hardware.now e.core p c.program.result.now c.instruction_at.result c.unwrap-instr.result c.action.result c.action.result c.requires.consistent.fits c.requires.core c.index_mut-processor.ensures.value
-      c.program.ensures.value c.instruction_at.ensures c.unwrap-instr.ensures c.action.ensures refl in
-      Performs-by c.args.hardware.now _ (Step e.core) Committed c.advance.new.processor (writes_last_in c.args.test.now c.args.hardware.now e)
-      (acts (last_part e.core.0 e.place (core_state e.core.0 p) e.loc c.written-reg.result.0 e.value c.written-reg.result.1) Free)
-      (writes-last c.args.test.now c.args.hardware.now e p c.action.result c.written-reg.result.0 c.written-reg.result.1 next read c.written-reg.ensures) refl
-      (ap (core_state e.core.0) c.advance.ensures) c.complete_write.ensures.words (rw c.entry.ensures at c.in_ok-note.ensures.ok) (ap (held-with c.args.hardware.now.next) c.complete_write.ensures.free) refl;
-  caches =
-      let p = c.index_mut-processor.result.now in
-      let e = c.args.read in
-      let read = has-read c.args.test.now c.args.hardware.now e c.requires.consistent.holder c.requires.between in
-      let next : IsNext c.args.test.now c.args.hardware.now e.core p c.action.result =
-      is-next c.args.test.now c.args.hardware.now e.core p c.program.result.now c.instruction_at.result c.unwrap-instr.result c.action.result c.action.result c.requires.consistent.fits c.requires.core c.index_mut-processor.ensures.value
-      c.program.ensures.value c.instruction_at.ensures c.unwrap-instr.ensures c.action.ensures refl in
-      let writes = writes-last c.args.test.now c.args.hardware.now e p c.action.result c.written-reg.result.0 c.written-reg.result.1 next read c.written-reg.ensures in
-      let same = use-last c.args.test.now c.args.hardware.now e (writes_last_in c.args.test.now c.args.hardware.now e) p c.written-reg.result.0 c.written-reg.result.1 c.requires.between writes in
-      subst (λ u. HasUsed u c.complete_write.new.self Unused) (sym same)
-      (rests-last c.args.hardware.now.bus c.complete_write.new.self c.complete_write.ensures.contents c.complete_write.ensures.machine c.complete_write.ensures.free c.complete_write.ensures.nothing_awaited);
-}
+returns-clause-makes g c =
+    let p = c.index_mut-processor.result.now in
+    let e = c.args.read in
+    let read = has-read c.args.test.now c.args.hardware.now e c.requires.consistent.holder c.requires.between in
+    let next : IsNext c.args.test.now c.args.hardware.now e.core p c.action.result =
+    is-next c.args.test.now c.args.hardware.now e.core p c.program.result.now c.instruction_at.result c.unwrap-instr.result c.action.result c.action.result c.requires.consistent.fits c.requires.core c.index_mut-processor.ensures.value
+    c.program.ensures.value c.instruction_at.ensures c.unwrap-instr.ensures c.action.ensures refl in
+    let writes = writes-last c.args.test.now c.args.hardware.now e p c.action.result c.written-reg.result.0 c.written-reg.result.1 next read c.written-reg.ensures in
+    record {
+      ok = Performs-by c.args.hardware.now _ (Step e.core) Committed c.advance.new.processor (writes_last_in c.args.test.now c.args.hardware.now e)
+          (acts (last_part e.core.0 e.place (core_state e.core.0 p) e.loc c.written-reg.result.0 e.value c.written-reg.result.1) Free) writes refl
+          (ap (core_state e.core.0) c.advance.ensures) c.complete_write.ensures.words (rw c.entry.ensures at c.in_ok-note.ensures.ok) (ap (held-with c.args.hardware.now.next) c.complete_write.ensures.free) refl;
+      caches = subst (λ u. HasUsed u c.complete_write.new.self Unused) (sym (use-last c.args.test.now c.args.hardware.now e (writes_last_in c.args.test.now c.args.hardware.now e) p c.written-reg.result.0 c.written-reg.result.1 c.requires.between writes))
+          (rests-last c.args.hardware.now.bus c.complete_write.new.self c.complete_write.ensures.contents c.complete_write.ensures.machine c.complete_write.ensures.free c.complete_write.ensures.nothing_awaited);
+    }

@@ -1,6 +1,5 @@
-use Rattle.machine_core.proofs.Vocabulary.{◌≡◌, ap, sym, length, ◌∙◌, refl, subst, slice_get, None, Some, Ok, program_of, stalled, NoAccess, step_access, Step, Stalled, words_of, Unused, core_state, pending_in, own_access, step_by, SucceedsUnlessCommitting, action_of}
+use Rattle.machine_core.proofs.Vocabulary.{◌≡◌, ap, sym, length, ◌∙◌, refl, subst, slice_get, None, Some, Ok, program_of, stalled, NoAccess, step_access, Step, Stalled, words_of, Unused, core_state, pending_in, own_access, step_by, SucceedsUnlessCommitting, KnownLocation, action_of}
 use Rattle.tso_model.specs.declared.choice.Stall.TheVariants as stall
-use Rattle.tso_model.specs.Litmus.{KnownLocation}
 use Rattle.machine_core.proofs.ActedLemmas.{acts-stalls}
 use Rattle.machine_core.proofs.ChoiceEffects.{access_of-step, access_of-done, effect_in-step, effect_in-done, may-make, whole-done, IfOk-Makes, PartsFitTest-next, IsCore-at, within-cores}
 use Rattle.machine_core.proofs.Finishing.{All-got}

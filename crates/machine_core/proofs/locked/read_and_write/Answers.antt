@@ -1,5 +1,4 @@
 use Rattle.machine_core.proofs.Vocabulary.{arith, refl, locked_access, words_of, pending_in, effect_of_lock, Whole}
-use Rattle.tso_model.specs.declared.choice.Stall.TheVariants as stall
 use Rattle.machine_core.proofs.CoreLemmas.{lock-waits}
 use Rattle.machine_core.proofs.Locking.{acts-locks, lock-commits, may-lock}
 use Rattle.machine_core.proofs.ActedLemmas.{acts-stalls}
@@ -9,14 +8,14 @@ pub returns-then-not-is_empty-clause-acts : goal.returns-then-not-is_empty-claus
 returns-then-not-is_empty-clause-acts g c =
     let p = c.args.processor.now in
     let words = words_of c.args.bus.now in
-    acts-stalls Whole (locked_access c.args.locked.loc (pending_in c.args.core.0 p)) c.args.core.0 p c.args.bus.now c.args.commits.now (effect_of_lock c.args.locked.loc c.args.locked.reg c.args.locked.update c.args.core.0 p words) stall.Lock refl
+    acts-stalls Whole (locked_access c.args.locked.loc (pending_in c.args.core.0 p)) c.args.core.0 p c.args.bus.now c.args.commits.now (effect_of_lock c.args.locked.loc c.args.locked.reg c.args.locked.update c.args.core.0 p words) _ refl
     (lock-waits c.args.core.0 p words c.args.locked.loc c.args.locked.reg c.args.locked.update c.is_empty.result c.is_empty.ensures.1 c.if-not-is_empty.true)
 
 pub returns-clause-acts : goal.returns-clause-acts
 returns-clause-acts g c =
-    acts-locks c.args.core c.args.locked.loc c.args.locked.reg c.args.locked.update c.args.processor.now c.advance.new.processor c.args.bus.now c.update.new.self c.args.commits.now c.make_room.new.self c.note_locked.new.commits
+    acts-locks c.args.core c.args.locked.loc c.args.locked.reg c.args.locked.update c.args.processor.now c.advance.new.processor c.args.bus.now c.update.new.self
     c.register-value.result c.in_ok-updated.updated (c.is_empty.ensures.0 c.if-not-is_empty.false) c.register-value.ensures c.in_ok-updated.ensures.before c.in_ok-updated.ensures.after c.in_ok-updated.ensures.done c.update.ensures.machine
-    c.make_room.ensures.same c.in_ok-note_locked.ensures.ok
+    c.args.commits.now c.make_room.new.self c.note_locked.new.commits c.make_room.ensures.same c.in_ok-note_locked.ensures.ok
     c.advance.ensures
 
 pub returns-in_err-make_room-clause-succeeds : goal.returns-in_err-make_room-clause-succeeds

@@ -1,5 +1,4 @@
 use Rattle.machine_core.proofs.Vocabulary.{◌≡◌, ◌<◌, ap, sym, length, drop, subst, All, All-drop, words_of, drain_access, core_state, pending_in, effect_of_drain, MayMake}
-use Rattle.tso_model.specs.declared.choice.Stall.TheVariants as stall
 use Rattle.machine_core.proofs.CoreLemmas.{drain_of-nothing}
 use Rattle.machine_core.proofs.ActedLemmas.{whole-none, acts-stalls, acts-drains}
 use Rattle.machine_core.proofs.Acting.{writes-nothing, writes-oldest}
@@ -12,7 +11,7 @@ returns-in-None-clause-acts g c =
     let core = c.args.turn.core.0 in
     let access = drain_access (pending_in core p) in
     let whole = whole-none c.args.turn c.args.bus.now access (writes-nothing core p.stores.items (sym c.in-None.ensures)) c.requires.free in
-    acts-stalls c.args.turn.way access core p c.args.bus.now c.args.commits.now (effect_of_drain core p (words_of c.args.bus.now)) stall.Empty whole
+    acts-stalls c.args.turn.way access core p c.args.bus.now c.args.commits.now (effect_of_drain core p (words_of c.args.bus.now)) _ whole
     (sym (drain_of-nothing core (core_state core p) p.stores.items (sym c.in-None.ensures)))
 
 pub returns-in_ok-access-in-Some-clause-stores : goal.returns-in_ok-access-in-Some-clause-stores

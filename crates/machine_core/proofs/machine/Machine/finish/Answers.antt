@@ -1,5 +1,4 @@
-use Rattle.machine_core.proofs.Vocabulary.{ap, ◌∙◌, length, map, sym, subst, IsTrue, ArePaired, is_ended, state_in, Processor}
-use Rattle.std.proofs.lemmas.List.{length-map}
+use Rattle.machine_core.proofs.Vocabulary.{ap, ◌∙◌, length, length-map, map, sym, subst, IsTrue, ArePaired, is_ended, state_in, Processor}
 use Rattle.machine_core.proofs.RunningLemmas.{has-ended, free-bus}
 use Rattle.machine_core.proofs.Paired.{paired}
 use Rattle.machine_core.proofs.CoreLemmas.{registers-core_states}
