@@ -26,7 +26,7 @@ pub use Rattle.std.proofs.lemmas.List.{map-append, get_or-set_same, get_or-set_o
 pub use Rattle.std.specs.Option.{is_some, unwrap_or}
 pub use Rattle.axiom_checker.specs.inner.Progress.{reached, reached_but_for_loads, words_with, is_late}
 pub use Rattle.axiom_checker.specs.inner.Sources.{own_write, noted_write, IsSource, IsLastOwn, TellsSources}
-pub use Rattle.std.proofs.lemmas.Bool.Decides.{leb_tells}
+pub use Rattle.std.proofs.lemmas.Bool.Decides.{leb_tells, nat_tests}
 pub use Rattle.axiom_checker.specs.inner.Passing.{due_from, IsFound, HasMet, IsFirstWrongWrite, IsFirstWrongRead, NamesWrongWrite, NamesWrongRead, IsDueFrom, AreOfPrograms, first_of_two, IsMatched}
 pub use Rattle.axiom_checker.specs.declared.passing.Met.{Met}
 pub use Rattle.axiom_checker.specs.inner.FirstBreach.{TellsFirstBreach}

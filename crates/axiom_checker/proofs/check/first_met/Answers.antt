@@ -1,10 +1,9 @@
-use Rattle.axiom_checker.proofs.Vocabulary.{refl}
 use Rattle.axiom_checker.proofs.Judging.{names-met-late, late-has-one, names-met-separated, names-met-read, names-met-none}
 use Rattle.axiom_checker.proofs.check.first_met.Goals as goal
 
 pub returns-in_err-b-clause-none : goal.returns-in_err-b-clause-none
 returns-in_err-b-clause-none g c t matched met _ =
-    absurd (late-has-one t c.args.order.now.order c.args.met matched met c.in-Some-late.at c.in-Some-late.a c.in-Some-late.is (c.in_err-b.ensures.none refl))
+    absurd (late-has-one t c.args.order.now.order c.args.met matched met c.in-Some-late.at c.in-Some-late.a c.in-Some-late.is (c.in_err-b.ensures.none (cc)))
 
 pub returns-in-Some-late-clause-found : goal.returns-in-Some-late-clause-found
 returns-in-Some-late-clause-found g c t matched met =

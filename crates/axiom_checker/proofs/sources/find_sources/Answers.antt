@@ -1,4 +1,4 @@
-use Rattle.axiom_checker.proofs.Vocabulary.{◌+◌, length, length-append, ap, ◌∙◌, arith, kept_in}
+use Rattle.axiom_checker.proofs.Vocabulary.{◌+◌, length, length-append, ap, ◌∙◌, arith, slice_get_within, kept_in}
 use Rattle.axiom_checker.proofs.OwnWrites.{sources-step, latest-step, latest-none, none-sooner, known-here}
 use Rattle.axiom_checker.proofs.sources.find_sources.Goals as goal
 
@@ -24,3 +24,6 @@ loop-e-preserved c =
           inv.count c.own_write.result c.own_write.ensures items inv.sources;
       count = ap length items ∙ length-append c.loop-e.sources.items _ ∙ ap (λ n. n + 1) inv.count;
     }
+
+pub returns : goal.returns
+returns c k e f = c.loop-e.invariant.sources k e (let here = slice_get_within c.args.made.now k e f in omega (arith, here, c.loop-e-test.false)) f
