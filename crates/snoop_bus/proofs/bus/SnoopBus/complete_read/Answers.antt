@@ -1,4 +1,4 @@
-use Rattle.snoop_bus.proofs.Vocabulary.{Some, Write}
+use Rattle.snoop_bus.proofs.Vocabulary.{Some, ap, Write}
 use Rattle.snoop_bus.proofs.Completed.{word_due, words_beside, locked, same_machine, completes}
 use Rattle.snoop_bus.proofs.bus.SnoopBus.complete_read.Goals as goal
 
@@ -29,3 +29,6 @@ pub returns-clause-done : goal.returns-clause-done
 returns-clause-done g c = completes (g.P.Protocol.table c.self.inside.protocol) c.self.inside.shape c.self.inside.locations c.self.inside.held c.args.self.now c.self.inside.hierarchy c.complete_read-done.new.self c.unwrap-held.result c.args.core c.args.loc Write c.target_of-target.result
     (record { now_is = c.self.view_is; bus = c.self.invariant; holds = c.requires.holds; found = c.unwrap-held.ensures; target_is = c.target_of-target.ensures.value; ways = c.complete_read-done.ensures.ways })
     c.complete_read-done.result.1 (Some c.held_at.result) c.complete_read-done.ensures.ok
+
+pub returns-clause-holds : goal.returns-clause-holds
+returns-clause-holds g c = ap (λ held. Some held.holder) c.held_at.ensures

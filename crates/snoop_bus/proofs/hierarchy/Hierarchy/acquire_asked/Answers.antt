@@ -35,3 +35,12 @@ pub returns-in-None-clause-own : goal.returns-in-None-clause-own
 returns-in-None-clause-own g c =
     rw c.in-None.is (hit_acquired c.args.self.now.caches.items c.enter.new.self.caches.items c.args.self.now.memory.items c.args.core c.args.line
     (rw c.in-None.is at c.requires.awaited.coherent) c.requires.awaited.line_in (rw c.in-None.is at c.requires.awaited.awaits) c.enter.ensures.copies c.enter.ensures.ways).0
+
+pub returns-in-None-clause-ok : goal.returns-in-None-clause-ok
+returns-in-None-clause-ok g c = rw c.in-None.is (record { access_is = c.quiet.ensures; tags = c.enter.ensures.tags; memory = c.enter.ensures.memory })
+
+pub returns-in-SmD-clause-ok : goal.returns-in-SmD-clause-ok
+returns-in-SmD-clause-ok g c =
+    let awaits = rw c.in-Some.is at c.requires.awaited.awaits in
+    let asked = rw c.in-SmD.is at awaits.1 in
+    rw (c.in-Some.is, c.in-SmD.is, asked.1) (record { access_is = c.quiet-in-SmD.ensures; tags = c.enter-in-SmD.ensures.tags; memory = c.enter-in-SmD.ensures.memory })

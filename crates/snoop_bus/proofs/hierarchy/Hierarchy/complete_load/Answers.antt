@@ -16,3 +16,8 @@ returns-clause-words g c = rw c.unwrap-transaction.ensures c.fill_asked-access.e
 
 pub returns-clause-ways : goal.returns-clause-ways
 returns-clause-ways g c = c.fill_asked-access.ensures.ways
+
+pub returns-clause-ok : goal.returns-clause-ok
+returns-clause-ok g c =
+    let awaits = rw c.unwrap-transaction.ensures at c.requires.awaited.awaits in
+    rw (c.unwrap-transaction.ensures, awaits.0) (record { access_is = c.fill_asked-access.ensures.access; tags = c.fill_asked-access.ensures.tags; memory = c.fill_asked-access.ensures.memory })

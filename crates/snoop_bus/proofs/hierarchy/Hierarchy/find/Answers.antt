@@ -1,5 +1,4 @@
-use Rattle.snoop_bus.proofs.Vocabulary.{arith, ◌≡◌, ◌<◌, ℕ, [], length, ap, subst, sym, ◌∙◌, get_or_default, snoop_column, Sets, copy_in, copy_at}
-use Rattle.std.proofs.Common.{option_copied}
+use Rattle.snoop_bus.proofs.Vocabulary.{arith, ◌≡◌, ◌<◌, ℕ, [], length, ap, subst, sym, ◌∙◌, get_or_default, snoop_column, Sets, copy_in, copy_at, option_copied}
 use Rattle.snoop_bus.proofs.FindLemmas.{FoundBelow, nothing-found, passed-by, noted, words-found, shared-found, flushed-found, states-found}
 use Rattle.snoop_bus.proofs.hierarchy.Hierarchy.find.Goals as goal
 use Rattle.snoop_bus.proofs.hierarchy.Hierarchy.find.Goals.{in-Some, in_default}
