@@ -6,50 +6,20 @@ use Rattle.tso_model.specs.declared.execution.Kind.TheVariants.{W, LR, LW}
 use Rattle.tso_model.proofs.ThreadLemmas.{entries-by, registers-by, with-register, values-behind, noted-twice}
 use Rattle.tso_model.proofs.thread.run_instruction.Goals as goal
 
-pub returns-in_err-note-in-Store-clause-entries : goal.returns-in_err-note-in-Store-clause-entries
-returns-in_err-note-in-Store-clause-entries c = IfOk-from_err c.from_residual.result _ c.from_residual.ensures.0
+pub returns-in_err-note-in-Store : goal.returns-in_err-note-in-Store
+returns-in_err-note-in-Store c = record { entries = IfOk-from_err c.from_residual.result _ c.from_residual.ensures.0; registers = IfOk-from_err c.from_residual.result _ c.from_residual.ensures.0; left = IfOk-from_err c.from_residual.result _ c.from_residual.ensures.0 }
 
-pub returns-in_err-note-in-Store-clause-registers : goal.returns-in_err-note-in-Store-clause-registers
-returns-in_err-note-in-Store-clause-registers c = IfOk-from_err c.from_residual.result _ c.from_residual.ensures.0
+pub returns-in_err-note-in-Load : goal.returns-in_err-note-in-Load
+returns-in_err-note-in-Load c = record { entries = IfOk-from_err c.from_residual-in_err-note-in-Load.result _ c.from_residual-in_err-note-in-Load.ensures.0; registers = IfOk-from_err c.from_residual-in_err-note-in-Load.result _ c.from_residual-in_err-note-in-Load.ensures.0; left = IfOk-from_err c.from_residual-in_err-note-in-Load.result _ c.from_residual-in_err-note-in-Load.ensures.0 }
 
-pub returns-in_err-note-in-Store-clause-left : goal.returns-in_err-note-in-Store-clause-left
-returns-in_err-note-in-Store-clause-left c = IfOk-from_err c.from_residual.result _ c.from_residual.ensures.0
+pub returns-in_err-note-in-Fence : goal.returns-in_err-note-in-Fence
+returns-in_err-note-in-Fence c = record { entries = IfOk-from_err c.from_residual-in_err-note-in-Fence.result _ c.from_residual-in_err-note-in-Fence.ensures.0; registers = IfOk-from_err c.from_residual-in_err-note-in-Fence.result _ c.from_residual-in_err-note-in-Fence.ensures.0; left = IfOk-from_err c.from_residual-in_err-note-in-Fence.result _ c.from_residual-in_err-note-in-Fence.ensures.0 }
 
-pub returns-in_err-note-in-Load-clause-entries : goal.returns-in_err-note-in-Load-clause-entries
-returns-in_err-note-in-Load-clause-entries c = IfOk-from_err c.from_residual-in_err-note-in-Load.result _ c.from_residual-in_err-note-in-Load.ensures.0
+pub returns-in_err-note-in-Lock : goal.returns-in_err-note-in-Lock
+returns-in_err-note-in-Lock c = record { entries = IfOk-from_err c.from_residual-in_err-note-in-Lock.result _ c.from_residual-in_err-note-in-Lock.ensures.0; registers = IfOk-from_err c.from_residual-in_err-note-in-Lock.result _ c.from_residual-in_err-note-in-Lock.ensures.0; left = IfOk-from_err c.from_residual-in_err-note-in-Lock.result _ c.from_residual-in_err-note-in-Lock.ensures.0 }
 
-pub returns-in_err-note-in-Load-clause-registers : goal.returns-in_err-note-in-Load-clause-registers
-returns-in_err-note-in-Load-clause-registers c = IfOk-from_err c.from_residual-in_err-note-in-Load.result _ c.from_residual-in_err-note-in-Load.ensures.0
-
-pub returns-in_err-note-in-Load-clause-left : goal.returns-in_err-note-in-Load-clause-left
-returns-in_err-note-in-Load-clause-left c = IfOk-from_err c.from_residual-in_err-note-in-Load.result _ c.from_residual-in_err-note-in-Load.ensures.0
-
-pub returns-in_err-note-in-Fence-clause-entries : goal.returns-in_err-note-in-Fence-clause-entries
-returns-in_err-note-in-Fence-clause-entries c = IfOk-from_err c.from_residual-in_err-note-in-Fence.result _ c.from_residual-in_err-note-in-Fence.ensures.0
-
-pub returns-in_err-note-in-Fence-clause-registers : goal.returns-in_err-note-in-Fence-clause-registers
-returns-in_err-note-in-Fence-clause-registers c = IfOk-from_err c.from_residual-in_err-note-in-Fence.result _ c.from_residual-in_err-note-in-Fence.ensures.0
-
-pub returns-in_err-note-in-Fence-clause-left : goal.returns-in_err-note-in-Fence-clause-left
-returns-in_err-note-in-Fence-clause-left c = IfOk-from_err c.from_residual-in_err-note-in-Fence.result _ c.from_residual-in_err-note-in-Fence.ensures.0
-
-pub returns-in_err-note-in-Lock-clause-entries : goal.returns-in_err-note-in-Lock-clause-entries
-returns-in_err-note-in-Lock-clause-entries c = IfOk-from_err c.from_residual-in_err-note-in-Lock.result _ c.from_residual-in_err-note-in-Lock.ensures.0
-
-pub returns-in_err-note-in-Lock-clause-registers : goal.returns-in_err-note-in-Lock-clause-registers
-returns-in_err-note-in-Lock-clause-registers c = IfOk-from_err c.from_residual-in_err-note-in-Lock.result _ c.from_residual-in_err-note-in-Lock.ensures.0
-
-pub returns-in_err-note-in-Lock-clause-left : goal.returns-in_err-note-in-Lock-clause-left
-returns-in_err-note-in-Lock-clause-left c = IfOk-from_err c.from_residual-in_err-note-in-Lock.result _ c.from_residual-in_err-note-in-Lock.ensures.0
-
-pub returns-in_err-note-in-Lock-2-clause-entries : goal.returns-in_err-note-in-Lock-2-clause-entries
-returns-in_err-note-in-Lock-2-clause-entries c = IfOk-from_err c.from_residual-in_err-note-in-Lock-2.result _ c.from_residual-in_err-note-in-Lock-2.ensures.0
-
-pub returns-in_err-note-in-Lock-2-clause-registers : goal.returns-in_err-note-in-Lock-2-clause-registers
-returns-in_err-note-in-Lock-2-clause-registers c = IfOk-from_err c.from_residual-in_err-note-in-Lock-2.result _ c.from_residual-in_err-note-in-Lock-2.ensures.0
-
-pub returns-in_err-note-in-Lock-2-clause-left : goal.returns-in_err-note-in-Lock-2-clause-left
-returns-in_err-note-in-Lock-2-clause-left c = IfOk-from_err c.from_residual-in_err-note-in-Lock-2.result _ c.from_residual-in_err-note-in-Lock-2.ensures.0
+pub returns-in_err-note-in-Lock-2 : goal.returns-in_err-note-in-Lock-2
+returns-in_err-note-in-Lock-2 c = record { entries = IfOk-from_err c.from_residual-in_err-note-in-Lock-2.result _ c.from_residual-in_err-note-in-Lock-2.ensures.0; registers = IfOk-from_err c.from_residual-in_err-note-in-Lock-2.result _ c.from_residual-in_err-note-in-Lock-2.ensures.0; left = IfOk-from_err c.from_residual-in_err-note-in-Lock-2.result _ c.from_residual-in_err-note-in-Lock-2.ensures.0 }
 
 pub returns-in_ok-note-in-Store-clause-entries : goal.returns-in_ok-note-in-Store-clause-entries
 returns-in_ok-note-in-Store-clause-entries c =
