@@ -49,3 +49,8 @@ has-ended true ended h = absurd (let z : ⊥ = cc in z)
 
 pub free-bus : {P : Type 0} (t : Litmus) (m : Hardware P) → IsHeldForAccess t m → (state_in m).holder ≡ Free → IsFree m.bus
 free-bus t m held free = held ∙ ap (held_as t m.config.depth (state_in m).flat) free
+
+-- what follows of a result, if there is one
+pub if-ok : {T E : Type 0} (r : Result T E) (P Q : T → Type 0) → ((x : T) → P x → Q x) → IfOk r P → IfOk r Q
+if-ok (Ok x) P Q f p = f x p
+if-ok (Err e) P Q f p = tt

@@ -19,3 +19,6 @@ index_of-requires-clause-within g c =
       subst (λ n. EntriesAreWithin n (length t.locations) c.deref.result.now) (sym c.cores.ensures.value)
           (subst (EntriesAreWithin (length t.programs) (length t.locations)) (sym (c.deref.ensures.value ∙ c.in_ok-shape.ensures)) (reading-within t c.know_limits.ensures _)),
     )
+
+pub breach_by_shape-requires-clause-shape : goal.breach_by_shape-requires-clause-shape
+breach_by_shape-requires-clause-shape g c = (_, c.deref-2.ensures.value ∙ c.in_ok-shape.ensures)

@@ -1,4 +1,4 @@
-use Rattle.machine_core.proofs.Vocabulary.{◌++◌, [], ◌∷◌, refl, sym, ap, ◌∙◌, subst, length, All, chosen, Write, IsCore, memory_access_in}
+use Rattle.machine_core.proofs.Vocabulary.{◌++◌, [], ◌∷◌, refl, sym, ap, ◌∙◌, subst, length, All, chosen, completes, Write, IsCore, state_in, memory_access_in}
 use Rattle.machine_core.proofs.ChoiceEffects.{within-cores}
 use Rattle.machine_core.proofs.Completions.{performs-first, uses-first}
 use Rattle.machine_core.proofs.Splitting.{held-with}
@@ -29,3 +29,11 @@ returns-in_ok-entry-in-Lock-clause-of_test g c =
       fits = record { cores = fits.cores; on_bus = made.cores ∙ fits.on_bus; words = ap length made.words ∙ fits.words; each = subst (λ ws. All (IsCore m.config.depth (length ws)) m.processors.items) (sym made.words) fits.each };
       held = rw (made.held, made.entry) refl;
     }
+
+pub returns-in_ok-entry-in-Lock-clause-commits_at_once : goal.returns-in_ok-entry-in-Lock-clause-commits_at_once
+returns-in_ok-entry-in-Lock-clause-commits_at_once g c = sym (returns-in_ok-entry-in-Lock-clause-makes g c).ok.outcome
+
+pub returns-in_err-entry-in-Lock-clause-commits_at_once : goal.returns-in_err-entry-in-Lock-clause-commits_at_once
+returns-in_err-entry-in-Lock-clause-commits_at_once g c =
+    let m = c.args.hardware.now in
+    ap (λ access. (completes c.args.test.now m.config.depth (state_in m).flat c.args.choice access).effect.outcome) (sym c.access_of.ensures.value ∙ ap memory_access_in c.in-Lock.is)

@@ -1,4 +1,4 @@
-use Rattle.machine_core.proofs.Vocabulary.{arith, refl, locked_access, words_of, pending_in, effect_of_lock, Whole}
+use Rattle.machine_core.proofs.Vocabulary.{refl, ap, ◌∙◌, length, length-set, locked_access, words_of, pending_in, effect_of_lock, Whole}
 use Rattle.machine_core.proofs.CoreLemmas.{lock-waits}
 use Rattle.machine_core.proofs.Locking.{acts-locks, lock-commits, may-lock}
 use Rattle.machine_core.proofs.ActedLemmas.{acts-stalls}
@@ -40,3 +40,12 @@ returns-in_err-note_locked-clause-err g c =
     let ok = c.note_locked.ensures.succeeds c.in_ok-make_room.ensures.ok in
     let wrong = rw c.in_err-note_locked.was at ok in
     absurd (let z : ⊥ = cc in z)
+
+pub returns-clause-sizes : goal.returns-clause-sizes
+returns-clause-sizes g c = record {
+  cores = c.update.ensures.machine.cores;
+  count = ap length c.in_ok-updated.ensures.done.words ∙ length-set (words_of c.args.bus.now) c.args.locked.loc.0 c.in_ok-updated.updated.after;
+}
+
+pub returns-clause-stores : goal.returns-clause-stores
+returns-clause-stores g c = ap (λ p. p.stores) c.advance.ensures

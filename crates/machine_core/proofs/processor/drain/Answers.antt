@@ -33,3 +33,9 @@ write-requires g c = record {
     known = All-got (λ s. s.loc.0 < length (words_of c.args.bus.now)) c.args.processor.now.stores.items 0 c.in-Some.store c.requires.stores (sym c.in-Some.ensures);
   };
 }
+
+pub returns-in_ok-access-in-Some-clause-depth : goal.returns-in_ok-access-in-Some-clause-depth
+returns-in_ok-access-in-Some-clause-depth g c = ap (λ s. s.depth) c.take_oldest.ensures.rest
+
+pub returns-in_ok-access-in-Some-clause-sizes : goal.returns-in_ok-access-in-Some-clause-sizes
+returns-in_ok-access-in-Some-clause-sizes g c = c.write.ensures.sizes

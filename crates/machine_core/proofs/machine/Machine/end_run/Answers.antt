@@ -1,7 +1,7 @@
-use Rattle.machine_core.proofs.Vocabulary.{◌≡◌, [], false, IsTrue, IfOk, map, refl, ap, ◌∙◌, sym, subst, length, start, unheld, table_of_rows, restarted, is_ended, state_in, statistics_in, no_statistics}
+use Rattle.machine_core.proofs.Vocabulary.{◌≡◌, [], false, IsTrue, IfOk, map, refl, ap, ◌∙◌, sym, subst, length, length-map, start, unheld, table_of_rows, restarted, is_ended, state_in, statistics_in, no_statistics}
 use Rattle.machine_core.proofs.Beginning.{possible-first}
 use Rattle.machine_core.proofs.CoreLemmas.{registers-core_states}
-use Rattle.machine_core.proofs.RunningLemmas.{Running-same, has-ended, free-bus}
+use Rattle.machine_core.proofs.RunningLemmas.{Running-same, has-ended, free-bus, if-ok}
 use Rattle.machine_core.proofs.machine.Machine.end_run.Goals as goal
 
 pub final_state-state-requires-clause-free : goal.final_state-state-requires-clause-free
@@ -46,3 +46,17 @@ returns-clause-restarted g c =
     Running-same _ t old.config.bus new.config.bus old.config.depth new.config.depth (unheld (start t)) (state_in new) [] new.commits.entries _ (statistics_in new) false false
     refl (ap (λ config. config.bus) config) (ap (λ config. config.depth) config) r.begun.state r.begun.commits statistics refl
     ∙ ap restarted c.self.view_is
+
+pub returns-clause-memory : goal.returns-clause-memory
+returns-clause-memory g c =
+    subst (λ words. IfOk c.final_state-state.result (λ f. f.memory.items ≡ words)) (ap (λ m. m.state.flat.memory) c.self.view_is) c.final_state-state.ensures.memory
+
+pub returns-clause-cores : goal.returns-clause-cores
+returns-clause-cores g c =
+    let cores = c.self.invariant.fits.cores ∙ ap (λ m. length m.test.programs) c.self.view_is in
+    if-ok c.final_state-state.result _ _ (λ f is. ap length is ∙ length-map c.self.inside.hardware.processors.items (λ p. p.registers) ∙ cores) c.final_state-state.ensures.registers
+
+pub returns-clause-locations : goal.returns-clause-locations
+returns-clause-locations g c =
+    let words = c.self.invariant.fits.words ∙ ap (λ m. length m.test.locations) c.self.view_is in
+    if-ok c.final_state-state.result _ _ (λ f is. ap length is ∙ words) c.final_state-state.ensures.memory

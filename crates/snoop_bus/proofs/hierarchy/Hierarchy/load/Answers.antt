@@ -29,3 +29,6 @@ load_miss-requires g c =
       offset = c.requires.offset;
       absent = own_absent c.args.self.now.caches.items c.args.target.core c.args.target.line c.index.result.now (option_copied c.look.result) c.requires.ready.core_in c.index.ensures c.look.ensures.found c.in_default.ensures;
     }
+
+pub returns-clause-ok : goal.returns-clause-ok
+returns-clause-ok g c = rw (is_free c.args.held c.if-prove.ensures) c.load_miss.ensures.ok
