@@ -25,17 +25,14 @@ loop-at-init g c =
       met = λ t w m. nothing-met t order;
     }
 
-pub late-requires-clause-reached : goal.late-requires-clause-reached
-late-requires-clause-reached g c =
+pub late-requires : goal.late-requires
+late-requires g c =
     let order = c.args.order.now.order in
     let inside : c.loop-at.at < length order = subst (λ n. c.loop-at.at < n) (c.len-at-end.ensures ∙ ap (λ s. length s.order) c.look-x.ensures.counted) c.loop-at-test.true in
-    core-within c.args.programs.made.now _ _ order c.requires.of_programs c.loop-at.at c.loop-at.x (c.loop-at.invariant.here inside) (length c.loop-at.reached) c.loop-at.auto.reached
-
-pub late-requires-clause-settled : goal.late-requires-clause-settled
-late-requires-clause-settled g c =
-    let order = c.args.order.now.order in
-    let inside : c.loop-at.at < length order = subst (λ n. c.loop-at.at < n) (c.len-at-end.ensures ∙ ap (λ s. length s.order) c.look-x.ensures.counted) c.loop-at-test.true in
-    core-within c.args.programs.made.now _ _ order c.requires.of_programs c.loop-at.at c.loop-at.x (c.loop-at.invariant.here inside) (length c.loop-at.settled) (c.loop-at.auto.settled ∙ c.requires.settled)
+    record {
+      reached = core-within c.args.programs.made.now _ _ order c.requires.of_programs c.loop-at.at c.loop-at.x (c.loop-at.invariant.here inside) (length c.loop-at.reached) c.loop-at.auto.reached;
+      settled = core-within c.args.programs.made.now _ _ order c.requires.of_programs c.loop-at.at c.loop-at.x (c.loop-at.invariant.here inside) (length c.loop-at.settled) (c.loop-at.auto.settled ∙ c.requires.settled);
+    }
 
 pub reach-requires : goal.reach-requires
 reach-requires g c =

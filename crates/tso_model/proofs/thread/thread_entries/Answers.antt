@@ -18,11 +18,8 @@ loop-instr-init c =
 pub run_instruction-requires : goal.run_instruction-requires
 run_instruction-requires c = reads-here c.program-instr-items.result.now c.loop-instr.instr-index _ c.loop-instr-test.true (length c.loop-instr.left.now) c.loop-instr.invariant.reads
 
-pub returns-in_err-left-clause-entries : goal.returns-in_err-left-clause-entries
-returns-in_err-left-clause-entries c = IfOk-from_err c.from_residual.result _ c.from_residual.ensures.0
-
-pub returns-in_err-left-clause-registers : goal.returns-in_err-left-clause-registers
-returns-in_err-left-clause-registers c = IfOk-from_err c.from_residual.result _ c.from_residual.ensures.0
+pub returns-in_err-left : goal.returns-in_err-left
+returns-in_err-left c = record { entries = IfOk-from_err c.from_residual.result _ c.from_residual.ensures.0; registers = IfOk-from_err c.from_residual.result _ c.from_residual.ensures.0 }
 
 pub loop-instr-preserved : goal.loop-instr-preserved
 loop-instr-preserved c =

@@ -3,20 +3,13 @@ use Rattle.snoop_bus.proofs.AcquireCalls.{own_found, own_absent, is_free, ready_
 use Rattle.snoop_bus.proofs.HitLemmas.{load_hit}
 use Rattle.snoop_bus.proofs.hierarchy.Hierarchy.load.Goals as goal
 
-pub returns-in-Some-clause-ok : goal.returns-in-Some-clause-ok
-returns-in-Some-clause-ok g c =
+pub returns-in-Some : goal.returns-in-Some
+returns-in-Some g c =
     let here = c.index_mut-cache.ensures.value ∙ get_or_default c.args.self.now.caches.items c.args.target.core c.index_mut-cache.result.now [] c.requires.ready.core_in in
     let found : copy_at c.args.self.now.caches.items c.args.target.core c.args.target.line ≡ Some c.in-Some.copy = own_found c.args.self.now.caches.items c.args.target.core c.args.target.line c.index.result.now (option_copied c.look.result) c.requires.ready.core_in c.index.ensures c.look.ensures.found c.in-Some.copy c.in-Some.ensures in
-    rw (c.from.ensures, c.quiet.ensures)
-    (load_hit (g.P.Protocol.table c.args.protocol.now) c.args.held c.args.self.now.caches.items c.args.self.now.memory.items c.args.target.core c.args.target.line c.args.target.offset c.in-Some.copy c.touch.new.self c.requires.ready.coherent c.requires.ready.awaited c.requires.ready.core_in c.requires.ready.line_in found
-    (rw here at c.touch.ensures.exact) (rw here at c.touch.ensures.copies) (rw here at c.touch.ensures.ways)).0
-
-pub returns-in-Some-clause-kept : goal.returns-in-Some-clause-kept
-returns-in-Some-clause-kept g c =
-    let here = c.index_mut-cache.ensures.value ∙ get_or_default c.args.self.now.caches.items c.args.target.core c.index_mut-cache.result.now [] c.requires.ready.core_in in
-    let found : copy_at c.args.self.now.caches.items c.args.target.core c.args.target.line ≡ Some c.in-Some.copy = own_found c.args.self.now.caches.items c.args.target.core c.args.target.line c.index.result.now (option_copied c.look.result) c.requires.ready.core_in c.index.ensures c.look.ensures.found c.in-Some.copy c.in-Some.ensures in
-    (load_hit (g.P.Protocol.table c.args.protocol.now) c.args.held c.args.self.now.caches.items c.args.self.now.memory.items c.args.target.core c.args.target.line c.args.target.offset c.in-Some.copy c.touch.new.self c.requires.ready.coherent c.requires.ready.awaited c.requires.ready.core_in c.requires.ready.line_in found
-    (rw here at c.touch.ensures.exact) (rw here at c.touch.ensures.copies) (rw here at c.touch.ensures.ways)).1
+    let hit = load_hit (g.P.Protocol.table c.args.protocol.now) c.args.held c.args.self.now.caches.items c.args.self.now.memory.items c.args.target.core c.args.target.line c.args.target.offset c.in-Some.copy c.touch.new.self c.requires.ready.coherent c.requires.ready.awaited c.requires.ready.core_in c.requires.ready.line_in found
+    (rw here at c.touch.ensures.exact) (rw here at c.touch.ensures.copies) (rw here at c.touch.ensures.ways) in
+    record { ok = rw (c.from.ensures, c.quiet.ensures) hit.0; kept = hit.1 }
 
 pub returns-clause-kept : goal.returns-clause-kept
 returns-clause-kept g c = kept_alone c.args.held (is_free c.args.held c.if-prove.ensures) c.args.self.now.caches.items c.load_miss.new.self.caches.items c.args.self.now.memory.items c.load_miss.new.self.memory.items c.load_miss.ensures.words
