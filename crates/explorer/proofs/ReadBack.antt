@@ -1,5 +1,5 @@
 -- What is written for a state is read back as that state.
-use Rattle.explorer.proofs.Vocabulary.{◌≡◌, ◌<◌, ◌≤◌, ℕ, ◌+◌, zero, suc, Bool, true, false, List, [], ◌∷◌, ◌++◌, length, map, take, slice_set, core_of_processor, Processor, if◌then◌else◌, arith, ap, sym, ◌∙◌, refl, append_assoc, append-nil, map-append, CoreState, State, Entry}
+use Rattle.explorer.proofs.Vocabulary.{◌≡◌, ◌<◌, ◌≤◌, ℕ, ◌+◌, zero, suc, Bool, true, false, List, [], ◌∷◌, ◌++◌, length, map, take, slice_set, core_of_processor, Processor, if◌then◌else◌, arith, ap, sym, ◌∙◌, refl, subst, append_assoc, append-nil, map-append, CoreState, State, Entry}
 use Rattle.std.specs.Prelude.{nat_lt, ◌^◌}
 use Rattle.std.specs.Int.{w64, to_le_bytes}
 use Rattle.std.proofs.lemmas.Nat.{from_le_bytes-to_le_bytes_8}
@@ -95,6 +95,12 @@ module _ {A : Type 0} (bytes : A → List ℕ) (read : List ℕ → A × List �
         (ap (λ z. read_all read n (z ++ rest)) (all-append xs x) ∙ ap (read_all read n) (append_assoc (all_bytes bytes xs) (bytes x) rest) ∙ h.read_back (bytes x ++ rest))
         (k.read_back rest);
   }
+
+  -- all of them
+  pub all-packed : (xs : List A) (n : ℕ) (old new : List ℕ) → length xs ≤ n → n ≤ length xs → Packs (all_bytes bytes) (read_all read n) (take n xs) old new
+      → Packs (all_bytes bytes) (read_all read (length xs)) xs old new
+  all-packed xs n old new l m h =
+      subst (λ k. Packs (all_bytes bytes) (read_all read k) xs old new) (omega (arith, l, m)) (subst (λ z. Packs (all_bytes bytes) (read_all read n) z old new) (take_all n xs l) h)
 
   -- how many there are, and then each
   pub packs-list : (xs : List A) (old now new : List ℕ) → Packs number_bytes read_number (length xs) old now → Packs (all_bytes bytes) (read_all read (length xs)) xs now new

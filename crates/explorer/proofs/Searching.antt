@@ -1,7 +1,7 @@
 -- What the search keeps, step by step.
-use Rattle.explorer.proofs.Vocabulary.{◌≡◌, ◌<◌, ◌≤◌, ℕ, ◌+◌, zero, suc, Bool, true, false, List, [], ◌∷◌, ◌++◌, length, map, Some, slice_get, if◌then◌else◌, ◌⊎◌, inl, inr, arith, ap, sym, ◌∙◌, subst, refl, append_assoc, length-append, ◌||◌, list_any, insert_key, lt-or, append-nil, Litmus, State, after_choice, effect_of, start, chosen, step, drain, Choice, Step, Drain, stall_count, IsEager, LeadsEagerly, IsAmongStates, IsCovered, IsExpandedEnough, ArePartlyClosed, ChoiceSet, has_choice, IsStubborn, HasEvery, ArePicksVisited, forgotten, exchanged_by, state_bytes, state_of_bytes, state_of_packed, state_of_snapshot, core_of_processor, length-map, LeadsBy, IsSettled, Grows, IsKeptState, HaveCores, IsCurrent, IsReachedByChoice, IsVisited, AreLinked, LeadToExchanged, Snapshot, Packed}
+use Rattle.explorer.proofs.Vocabulary.{◌≡◌, ◌<◌, ◌≤◌, ℕ, ◌+◌, zero, suc, Bool, true, false, List, [], ◌∷◌, ◌++◌, length, map, Some, slice_get, if◌then◌else◌, ◌⊎◌, inl, inr, arith, ap, sym, ◌∙◌, subst, refl, append_assoc, ◌||◌, list_any, insert_key, lt-or, append-nil, Litmus, State, after_choice, effect_of, start, chosen, step, drain, Choice, Step, Drain, stall_count, IsEager, LeadsEagerly, IsAmongStates, IsCovered, IsExpandedEnough, ArePartlyClosed, ChoiceSet, has_choice, IsStubborn, HasEvery, ArePicksVisited, forgotten, exchanged_by, state_bytes, state_of_bytes, state_of_packed, state_of_snapshot, core_of_processor, length-map, LeadsBy, IsSettled, Grows, IsKeptState, HaveCores, IsCurrent, IsVisited, AreLinked, LeadToExchanged, Snapshot, Packed}
 use Rattle.explorer.proofs.Exchanging.{none-alike}
-use Rattle.explorer.proofs.Linking.{get-left, get-back, get-within, get-one, kept-at, leads-append}
+use Rattle.explorer.proofs.Linking.{get-left, get-back, get-one, leads-append}
 
 -- ---- eager choices, one more
 
@@ -97,12 +97,6 @@ packed-kept t x room s e b q n = record {
 
 -- ---- the state that is gone through
 
-pub current-within : (xs : List Packed) (at : ℕ) (s : Snapshot) → IsCurrent xs at s → at < length xs
-current-within xs at s c = get-within xs at c.kept c.stands
-
-pub current-cores : (t : Litmus) (xs : List Packed) (at : ℕ) (s : Snapshot) → HaveCores t xs → IsCurrent xs at s → length s.cores.items ≡ length t.programs
-current-cores t xs at s h c = sym (length-map s.cores.items core_of_processor) ∙ ap (λ z. length z.cores) (sym c.state_is) ∙ (kept-at t xs at c.kept h c.stands).cores
-
 pub current-grown : (xs ys : List Packed) (at : ℕ) (s u : Snapshot) → Grows xs ys → u ≡ s → IsCurrent xs at s → IsCurrent ys at u
 current-grown xs ys at s u g e c = record { kept = c.kept; stands = get-grown xs ys at c.kept g c.stands; state_is = c.state_is ∙ ap state_of_snapshot (sym e) }
 
@@ -149,9 +143,6 @@ closes d t hidden pairs xs n l first each = record {
       subst (λ z. IsExpandedEnough d t hidden pairs (map state_of_packed xs) z) r.2 (each m.0 r.0 (omega (arith, l, k)) r.1);
 }
 
-pub grown-within : (xs ys : List Packed) (i : ℕ) → Grows xs ys → i < length xs → i < length ys
-grown-within xs ys i g l = let q = ap length g.1 in let n = length-append xs g.0 in omega (arith, q, n, l)
-
 -- one state more is expanded
 pub expanded-more : (d : ℕ) (t : Litmus) (hidden : List (List Bool)) (pairs : List (ℕ × ℕ)) (xs ys : List Packed) (n : ℕ) → n < length xs → Grows xs ys
     → ((i : ℕ) (x : Packed) → i < n → slice_get xs i ≡ Some x → IsExpandedEnough d t hidden pairs (map state_of_packed xs) (state_of_packed x))
@@ -174,18 +165,6 @@ among eq sound (y ∷ ys) x q = go (eq x y) refl (λ r. among eq sound ys x r) q
     go : (b : Bool) → eq x y ≡ b → (list_any (eq x) ys ≡ true → IsAmongStates (map state_of_packed ys) (state_of_packed x)) → (b || list_any (eq x) ys) ≡ true → IsAmongStates (map state_of_packed (y ∷ ys)) (state_of_packed x)
     go true e later r = (0, ap Some (sym (sound x y e)))
     go false e later r = let m = later r in (suc m.0, m.1)
-
--- what a choice leads to is covered where it is in the set
-pub visits : (d : ℕ) (t : Litmus) (hidden : List (List Bool)) (pairs : List (ℕ × ℕ)) (keys : List Packed) (s kept : State) (c : Choice) (choices : List Choice) (exchanges : List (ℕ × ℕ))
-    → IsReachedByChoice d t hidden pairs s c choices exchanges kept → IsAmongStates (map state_of_packed keys) kept → IsVisited d t hidden pairs keys s c
-visits d t hidden pairs keys s kept c choices exchanges h m = inr (record {
-  eager = h.later;
-  last = h.last;
-  leads = h.eager;
-  exchanges = exchanges;
-  of_pairs = h.of_pairs;
-  among = subst (IsAmongStates (map state_of_packed keys)) (sym h.kept_is) m;
-})
 
 -- a state that isn't in the set is added at its end
 pub added : (eq : Packed → Packed → Bool) (xs new : List Packed) (x : Packed) → list_any (eq x) xs ≡ false → new ≡ insert_key eq xs x → new ≡ xs ++ x ∷ []

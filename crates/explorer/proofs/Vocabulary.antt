@@ -28,15 +28,15 @@ pub use Rattle.explorer.specs.Settled.{LeadsBy, IsSettled, LeadsToForgotten}
 pub use Rattle.explorer.specs.inner.Settled.{Grows, IsKeptState, HaveCores, IsCurrent, LeadOn, IsReachedByChoice, IsVisited, ArePicksVisited, AreLinked, LeadByTurns, IsLinked, IsPath, GoBack, LeadToExchanged, IsInOrder}
 pub use Rattle.flat_machine.specs.declared.snapshot.Snapshot.{Snapshot}
 pub use Rattle.explorer.specs.declared.packed.Packed.{Packed}
-pub use Rattle.explorer.specs.inner.Packed.{state_bytes, state_of_bytes, state_of_packed, IsPacked, Packs, number_bytes, core_bytes, list_bytes, read_word, read_core, read_list, entry_bytes, read_entry, all_bytes, read_all, read_number}
+pub use Rattle.explorer.specs.inner.Packed.{state_bytes, state_of_bytes, state_of_packed, Packs, number_bytes, core_bytes, list_bytes, read_word, read_core, read_list, entry_bytes, read_entry, all_bytes, read_all, read_number}
 unfoldable pub use Rattle.explorer.specs.inner.Packed.{read_registers}
 pub use Rattle.explorer.specs.declared.link.Link.{Link}
 pub use Rattle.explorer.specs.declared.link.Turn.TheVariants.{Made, Exchanged}
-pub use Rattle.std.proofs.lemmas.Map.Keys.{IsDistinct-head, IsDistinct-tail, IsDistinct-cons}
+pub use Rattle.std.proofs.lemmas.Map.Keys.{IsDistinct-head, IsDistinct-tail}
 pub use Rattle.tso_model.specs.Actions.{action_of}
 pub use Rattle.std.specs.Cmp.Lexicographic.{pointwise}
 pub use Rattle.std.proofs.lemmas.Bool.{eqb-true, eq-eqb, both_ways}
-pub use Rattle.std.specs.Prelude.{not, replicate, ◌⊎◌}
+pub use Rattle.std.specs.Prelude.{replicate, ◌⊎◌}
 pub use Rattle.std.proofs.lemmas.List.{map-append, take_more, length-map}
 pub use Rattle.tso_laws.specs.Choices.{state_after}
 pub use Rattle.std.proofs.Math.ListN.{length-set}
@@ -46,6 +46,5 @@ pub use Rattle.tso_laws.specs.inner.Laws.{RunsStopWhereTheyEnd}
 pub use Rattle.explorer.specs.inner.Collected.{IsFinalOf, IsMadeOf, AreFinalsOf, MissesNoEnd}
 pub use Rattle.std.specs.declared.vec.Vec.{Vec}
 pub use Rattle.std.specs.declared.alloc.Global.{Global}
-pub use Rattle.eager_laws.specs.Stubborn.{ChoiceSet, has_step, has_drain, has_choice, HasPending, HasNonePending, IsHeldBack, OthersAreHeldBack, IsApartBy, IsApartStep, IsApartDrain, IsStubborn, away, by_drain, by_step}
-pub use Rattle.explorer.specs.inner.Picked.{set_of, HasEvery, ArePicksApart, IsNextAction}
-pub use Rattle.explorer.specs.declared.stubborn.Picked.{Picked}
+pub use Rattle.eager_laws.specs.Stubborn.{ChoiceSet, has_step, has_drain, has_choice, IsHeldBack, IsApartBy, IsApartStep, IsApartDrain, IsStubborn, away, by_drain, by_step}
+pub use Rattle.explorer.specs.inner.Picked.{set_of, HasEvery, ArePicksApart}

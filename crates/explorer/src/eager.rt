@@ -20,7 +20,6 @@ const MOST_CHOICES: usize = 512;
 /// Whether what the other cores have still to do keeps away from the location. Of their choices none is picked, so nothing
 /// else holds them back.
 fn others_avoid(at: &Situation, core: Core, meeting: Meeting) -> bool
-    requires { length at.now.state.now.cores.items ≡ length at.now.test.now.programs }
     ensures { result ≡ true → OthersAvoid meeting.loads meeting.loc.0 at.now.test.now (state_of_snapshot at.now.state.now) core.0 }
 {
     others_are_held_back(at, &NOTHING, core, meeting)
@@ -28,8 +27,7 @@ fn others_avoid(at: &Situation, core: Core, meeting: Meeting) -> bool
 
 /// Whether the core may make this action, its next, at once.
 fn is_eager_action(at: &Situation, core: Core, action: Action) -> bool
-    requires cores { length at.now.state.now.cores.items ≡ length at.now.test.now.programs }
-    requires core { core.0 < length at.now.test.now.programs }
+    requires { core.0 < length at.now.test.now.programs }
     ensures { result ≡ true → IsEagerBy at.now.depth at.now.test.now (state_of_snapshot at.now.state.now) core.0 action }
 {
     let pending = at.pending(core);
@@ -45,8 +43,7 @@ fn is_eager_action(at: &Situation, core: Core, action: Action) -> bool
 }
 
 fn is_eager_step(at: &Situation, core: Core) -> bool
-    requires cores { length at.now.state.now.cores.items ≡ length at.now.test.now.programs }
-    requires core { core.0 < length at.now.test.now.programs }
+    requires { core.0 < length at.now.test.now.programs }
     ensures { result ≡ true → IsEager at.now.depth at.now.test.now (state_of_snapshot at.now.state.now) (Choice.Step core) }
 {
     match at.next_action(core) {
@@ -56,8 +53,7 @@ fn is_eager_step(at: &Situation, core: Core) -> bool
 }
 
 fn is_eager_drain(at: &Situation, core: Core) -> bool
-    requires cores { length at.now.state.now.cores.items ≡ length at.now.test.now.programs }
-    requires core { core.0 < length at.now.test.now.programs }
+    requires { core.0 < length at.now.test.now.programs }
     ensures { result ≡ true → IsEager at.now.depth at.now.test.now (state_of_snapshot at.now.state.now) (Choice.Drain core) }
 {
     if at.depth == 0 {

@@ -40,8 +40,7 @@ fn drain_bit(core: u8) -> u16 {
 /// The choice of a core that comes before all of its accesses that meet one: its drain while it has a store to the location
 /// pending, else its step if an instruction to come makes such an access.
 fn first_to_meet(at: &Situation, core: Core, meeting: Meeting) -> u16
-    requires cores { length at.now.state.now.cores.items ≡ length at.now.test.now.programs }
-    requires core { core.0 < length at.now.test.now.programs }
+    requires { core.0 < length at.now.test.now.programs }
 {
     let processor = at.processor(core);
     if !has_none_pending(processor, meeting.loc) {
@@ -54,9 +53,7 @@ fn first_to_meet(at: &Situation, core: Core, meeting: Meeting) -> u16
 }
 
 /// Those choices of all other cores.
-fn all_to_meet(at: &Situation, core: Core, meeting: Meeting) -> u16
-    requires { length at.now.state.now.cores.items ≡ length at.now.test.now.programs }
-{
+fn all_to_meet(at: &Situation, core: Core, meeting: Meeting) -> u16 {
     let mut set = 0u16;
     for other in 0..at.test.cores() {
         if other != core.0 {
@@ -69,8 +66,7 @@ fn all_to_meet(at: &Situation, core: Core, meeting: Meeting) -> u16
 /// What a core's step needs. One that stalls needs the core's drain: where no choice is left that need not wait, a fence has
 /// something pending before it, and a store that isn't made at once finds the buffer full.
 fn step_needs(at: &Situation, core: Core) -> u16
-    requires cores { length at.now.state.now.cores.items ≡ length at.now.test.now.programs }
-    requires core { core.0 < length at.now.test.now.programs }
+    requires { core.0 < length at.now.test.now.programs }
 {
     let Some(action) = at.next_action(core) else {
         return EVERY;
@@ -87,8 +83,7 @@ fn step_needs(at: &Situation, core: Core) -> u16
 
 /// What a core's drain needs.
 fn drain_needs(at: &Situation, core: Core) -> u16
-    requires cores { length at.now.state.now.cores.items ≡ length at.now.test.now.programs }
-    requires core { core.0 < length at.now.test.now.programs }
+    requires { core.0 < length at.now.test.now.programs }
 {
     let Some((oldest, _later)) = at.pending(core).split_first() else {
         return EVERY;
@@ -113,9 +108,7 @@ fn open_bits(core: u8, step: u16, drain: u16) -> u16 {
 }
 
 /// What each choice needs.
-fn needs_of(at: &Situation) -> Needs
-    requires { length at.now.state.now.cores.items ≡ length at.now.test.now.programs }
-{
+fn needs_of(at: &Situation) -> Needs {
     let mut needs = Needs {
         steps: [EVERY; 8],
         drains: [EVERY; 8],

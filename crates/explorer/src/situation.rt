@@ -11,16 +11,19 @@ use tso_model::{Action, Core, Entry, Instr, Test};
 /// A state of a test, where each core's store buffer has this depth.
 #[derive(Clone, Copy)]
 pub struct Situation<'a> {
+    /// How far the test has come.
     pub state: &'a Snapshot,
+    /// The test whose programs the state's cores run.
     pub test: &'a Test,
+    /// How many stores each core's buffer holds.
     pub depth: u8,
+    ghost cores: { length state.now.cores.items ≡ length test.now.programs },
 }
 
 impl<'a> Situation<'a> {
     /// The core of this number.
     pub fn processor(&self, core: Core) -> &'a Processor
-        requires cores { length self.now.state.now.cores.items ≡ length self.now.test.now.programs }
-        requires core { core.0 < length self.now.test.now.programs }
+        requires { core.0 < length self.now.test.now.programs }
         ensures { core_of_processor result.now ≡ core_of (state_of_snapshot self.now.state.now) core.0 }
     {
         &self.state.cores[usize::from(core.0)]
@@ -28,8 +31,7 @@ impl<'a> Situation<'a> {
 
     /// What the core has pending, the oldest first.
     pub fn pending(&self, core: Core) -> &'a [Entry]
-        requires cores { length self.now.state.now.cores.items ≡ length self.now.test.now.programs }
-        requires core { core.0 < length self.now.test.now.programs }
+        requires { core.0 < length self.now.test.now.programs }
         ensures { result.now ≡ (core_of (state_of_snapshot self.now.state.now) core.0).pending }
     {
         &self.processor(core).pending
@@ -37,8 +39,7 @@ impl<'a> Situation<'a> {
 
     /// The core's next action, if it has one.
     pub fn next_action(&self, core: Core) -> Option<Action>
-        requires cores { length self.now.state.now.cores.items ≡ length self.now.test.now.programs }
-        requires core { core.0 < length self.now.test.now.programs }
+        requires { core.0 < length self.now.test.now.programs }
         ensures { IfSome result (λ action. IsNextAction self.now.test.now (state_of_snapshot self.now.state.now) core.0 action) }
     {
         let program = self.test.program(core);

@@ -35,8 +35,7 @@ pub fn is_marked(marks: &[bool], core: u8) -> bool
 
 /// Whether the core meets the location not at all, or only after one of its choices that are picked.
 fn is_held_back(at: &Situation, picked: &Picked, core: Core, meeting: Meeting) -> bool
-    requires cores { length at.now.state.now.cores.items ≡ length at.now.test.now.programs }
-    requires core { core.0 < length at.now.test.now.programs }
+    requires { core.0 < length at.now.test.now.programs }
     ensures { result ≡ true → IsHeldBack at.now.depth meeting.loads meeting.loc.0 (program_of at.now.test.now core.0) (core_of (state_of_snapshot at.now.state.now) core.0)
         (has_step (set_of picked.now) core.0) (has_drain (set_of picked.now) core.0) }
 {
@@ -60,8 +59,7 @@ fn stays_held_back(
     other: Core,
     meeting: Meeting,
 ) -> bool
-    requires cores { length at.now.state.now.cores.items ≡ length at.now.test.now.programs }
-    requires other { other.0 < length at.now.test.now.programs }
+    requires { other.0 < length at.now.test.now.programs }
     ensures { result ≡ true → other.0 ≢ core.0 → IsHeldBack at.now.depth meeting.loads meeting.loc.0 (program_of at.now.test.now other.0)
         (core_of (state_of_snapshot at.now.state.now) other.0) (has_step (set_of picked.now) other.0) (has_drain (set_of picked.now) other.0) }
 {
@@ -70,7 +68,6 @@ fn stays_held_back(
 
 /// Whether that is so of every other core.
 pub fn others_are_held_back(at: &Situation, picked: &Picked, core: Core, meeting: Meeting) -> bool
-    requires { length at.now.state.now.cores.items ≡ length at.now.test.now.programs }
     ensures { result ≡ true → OthersAreHeldBack at.now.depth meeting.loads meeting.loc.0 at.now.test.now (set_of picked.now) (state_of_snapshot at.now.state.now) core.0 }
 {
     for other in 0..at.test.cores() {
@@ -83,8 +80,7 @@ pub fn others_are_held_back(at: &Situation, picked: &Picked, core: Core, meeting
 
 /// Whether the core has nothing pending, and nothing that isn't picked meets a write of it to the location.
 fn is_apart_write(at: &Situation, picked: &Picked, core: Core, loc: Loc) -> bool
-    requires cores { length at.now.state.now.cores.items ≡ length at.now.test.now.programs }
-    requires core { core.0 < length at.now.test.now.programs }
+    requires { core.0 < length at.now.test.now.programs }
     ensures { result ≡ true → ((core_of (state_of_snapshot at.now.state.now) core.0).pending ≡ [])
         × OthersAreHeldBack at.now.depth true loc.0 at.now.test.now (set_of picked.now) (state_of_snapshot at.now.state.now) core.0 }
 {
@@ -96,8 +92,7 @@ fn is_apart_write(at: &Situation, picked: &Picked, core: Core, loc: Loc) -> bool
 
 /// Whether nothing that isn't picked meets this action, the core's next, or it waits for the core's drain, which is picked.
 fn is_apart_action(at: &Situation, picked: &Picked, core: Core, action: Action) -> bool
-    requires cores { length at.now.state.now.cores.items ≡ length at.now.test.now.programs }
-    requires core { core.0 < length at.now.test.now.programs }
+    requires { core.0 < length at.now.test.now.programs }
     ensures { result ≡ true → IsApartBy at.now.depth at.now.test.now (set_of picked.now) (state_of_snapshot at.now.state.now) core.0 action }
 {
     let drain = is_marked(&picked.drains, core.0);
@@ -114,8 +109,7 @@ fn is_apart_action(at: &Situation, picked: &Picked, core: Core, action: Action) 
 }
 
 fn is_apart_step(at: &Situation, picked: &Picked, core: Core) -> bool
-    requires cores { length at.now.state.now.cores.items ≡ length at.now.test.now.programs }
-    requires core { core.0 < length at.now.test.now.programs }
+    requires { core.0 < length at.now.test.now.programs }
     ensures { result ≡ true → IsApartStep at.now.depth at.now.test.now (set_of picked.now) (state_of_snapshot at.now.state.now) core.0 }
 {
     match at.next_action(core) {
@@ -125,8 +119,7 @@ fn is_apart_step(at: &Situation, picked: &Picked, core: Core) -> bool
 }
 
 fn is_apart_drain(at: &Situation, picked: &Picked, core: Core) -> bool
-    requires cores { length at.now.state.now.cores.items ≡ length at.now.test.now.programs }
-    requires core { core.0 < length at.now.test.now.programs }
+    requires { core.0 < length at.now.test.now.programs }
     ensures { result ≡ true → IsApartDrain at.now.depth at.now.test.now (set_of picked.now) (state_of_snapshot at.now.state.now) core.0 }
 {
     if at.depth == 0 {
@@ -144,8 +137,7 @@ fn is_apart_drain(at: &Situation, picked: &Picked, core: Core) -> bool
 
 /// Whether the core's step, if it is picked, is so.
 fn is_step_fine(at: &Situation, picked: &Picked, core: Core) -> bool
-    requires cores { length at.now.state.now.cores.items ≡ length at.now.test.now.programs }
-    requires core { core.0 < length at.now.test.now.programs }
+    requires { core.0 < length at.now.test.now.programs }
     ensures { result ≡ true → has_step (set_of picked.now) core.0 ≡ true → IsApartStep at.now.depth at.now.test.now (set_of picked.now) (state_of_snapshot at.now.state.now) core.0 }
 {
     !is_marked(&picked.steps, core.0) || is_apart_step(at, picked, core)
@@ -153,8 +145,7 @@ fn is_step_fine(at: &Situation, picked: &Picked, core: Core) -> bool
 
 /// Whether the core's drain, if it is picked, is so.
 fn is_drain_fine(at: &Situation, picked: &Picked, core: Core) -> bool
-    requires cores { length at.now.state.now.cores.items ≡ length at.now.test.now.programs }
-    requires core { core.0 < length at.now.test.now.programs }
+    requires { core.0 < length at.now.test.now.programs }
     ensures { result ≡ true → has_drain (set_of picked.now) core.0 ≡ true → IsApartDrain at.now.depth at.now.test.now (set_of picked.now) (state_of_snapshot at.now.state.now) core.0 }
 {
     !is_marked(&picked.drains, core.0) || is_apart_drain(at, picked, core)
@@ -162,7 +153,6 @@ fn is_drain_fine(at: &Situation, picked: &Picked, core: Core) -> bool
 
 /// Whether what is picked of each core is so.
 fn are_cores_fine(at: &Situation, picked: &Picked) -> bool
-    requires { length at.now.state.now.cores.items ≡ length at.now.test.now.programs }
     ensures { result ≡ true → ArePicksApart at.now.depth at.now.test.now (set_of picked.now) (state_of_snapshot at.now.state.now) (length at.now.test.now.programs) }
 {
     for core in 0..at.test.cores() {
@@ -205,7 +195,6 @@ fn first_picked(picked: &Picked) -> Option<Choice>
 
 /// Whether each choice that is picked is so.
 fn are_picks_fine(at: &Situation, picked: &Picked) -> bool
-    requires { length at.now.state.now.cores.items ≡ length at.now.test.now.programs }
     ensures { result ≡ true → (count : ℕ) → ArePicksApart at.now.depth at.now.test.now (set_of picked.now) (state_of_snapshot at.now.state.now) count }
 {
     if !are_none_marked(&picked.steps, at.test.cores()) {
@@ -219,7 +208,6 @@ fn are_picks_fine(at: &Situation, picked: &Picked) -> bool
 
 /// Whether the picked choices are a stubborn set.
 pub fn is_stubborn(at: &Situation, picked: &Picked) -> bool
-    requires { length at.now.state.now.cores.items ≡ length at.now.test.now.programs }
     ensures { result ≡ true → IsStubborn at.now.depth at.now.test.now (set_of picked.now) (state_of_snapshot at.now.state.now) }
 {
     match first_picked(picked) {

@@ -1,5 +1,5 @@
 use Rattle.explorer.proofs.Vocabulary.{◌∷◌, [], ◌++◌, take_more, map-append, take, map, ◌+◌, ◌∙◌, subst, sym, ap, core_of_processor, Packs, core_bytes, all_bytes, read_core, read_all}
-use Rattle.explorer.proofs.ReadBack.{packs-more}
+use Rattle.explorer.proofs.ReadBack.{packs-more, packs-none}
 use Rattle.explorer.proofs.packing.push_cores.Goals as goal
 
 pub loop-core-preserved : goal.loop-core-preserved
@@ -9,3 +9,6 @@ loop-core-preserved c =
     ∙ map-append core_of_processor (take c.loop-core.core-index c.args.cores.now) _
     ∙ ap (λ z. map core_of_processor (take c.loop-core.core-index c.args.cores.now) ++ core_of_processor z ∷ []) (sym c.core-item.is)))
     (packs-more core_bytes read_core c.loop-core.core-index _ _ _ _ _ c.loop-core.invariant c.in_ok-push_core.ensures)
+
+pub loop-core-init : goal.loop-core-init
+loop-core-init c = packs-none core_bytes read_core c.push_number.new.bytes.items

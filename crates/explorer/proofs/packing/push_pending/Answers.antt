@@ -1,5 +1,5 @@
 use Rattle.explorer.proofs.Vocabulary.{take_more, ◌+◌, subst, sym, Packs, entry_bytes, all_bytes, read_entry, read_all}
-use Rattle.explorer.proofs.ReadBack.{packs-more}
+use Rattle.explorer.proofs.ReadBack.{packs-more, packs-none, packs-list, all-packed}
 use Rattle.explorer.proofs.packing.push_pending.Goals as goal
 
 pub loop-entry-preserved : goal.loop-entry-preserved
@@ -7,3 +7,11 @@ loop-entry-preserved c =
     subst (λ z. Packs (all_bytes entry_bytes) (read_all read_entry (c.loop-entry.entry-index + 1)) z c.push_number.new.bytes.items c.push_entry.new.bytes.items)
     (sym (take_more c.args.pending.now c.loop-entry.entry-index _ c.loop-entry-test.true))
     (packs-more entry_bytes read_entry c.loop-entry.entry-index _ _ _ _ _ c.loop-entry.invariant c.in_ok-push_entry.ensures)
+
+pub loop-entry-init : goal.loop-entry-init
+loop-entry-init c = packs-none entry_bytes read_entry c.push_number.new.bytes.items
+
+pub returns : goal.returns
+returns c =
+    packs-list entry_bytes read_entry c.args.pending.now _ _ _ c.in_ok-push_number.ensures
+    (all-packed entry_bytes read_entry c.args.pending.now c.loop-entry.entry-index _ _ c.loop-entry-test.false c.loop-entry.auto.entry-index-end c.loop-entry.invariant)

@@ -1,5 +1,5 @@
 use Rattle.explorer.proofs.Vocabulary.{step, drain, on-ok, on-ok-2, ap, ◌∙◌, subst, state_of_snapshot, IsVisited}
-use Rattle.explorer.proofs.Searching.{current-grown, visited-grown}
+use Rattle.explorer.proofs.Searching.{current-grown, grows-on, visited-grown}
 use Rattle.explorer.proofs.search.visit_picked.Goals as goal
 
 pub visit_if-requires-2-clause-current : goal.visit_if-requires-2-clause-current
@@ -16,3 +16,9 @@ returns-clause-visited c =
           (ap state_of_snapshot c.in_ok-visit_if.ensures.current) (v (c.is_marked-is_drain_picked.ensures ∙ q)),
     ))
     c.visit_if-2.ensures.grows c.visit_if-2.ensures.visited
+
+pub returns-clause-grows : goal.returns-clause-grows
+returns-clause-grows c = on-ok c.visit_if-2.result (λ g. grows-on _ _ _ c.in_ok-visit_if.ensures.grows g) c.visit_if-2.ensures.grows
+
+pub returns-clause-found : goal.returns-clause-found
+returns-clause-found c = c.visit_if-2.ensures.found

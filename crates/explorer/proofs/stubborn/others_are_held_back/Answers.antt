@@ -13,6 +13,6 @@ loop-other-preserved c = λ j l n. elim (lt-or c.loop-other.other j) [
 pub returns : goal.returns
 returns c = λ q j n. elim (lt-or c.loop-other.other j) [
   | inl l ↦ c.loop-other.invariant j l n
-  | inr l ↦ let m = c.requires in let k = c.loop-other-test.false in let r = c.cores-other-end.ensures.value in
+  | inr l ↦ let m = c.args.at.now.cores in let k = c.loop-other-test.false in let r = c.cores-other-end.ensures.value in
       away (avoids-absent c.args.meeting.loads c.args.meeting.loc.0 c.args.at.now.test.now c.args.at.now.state.now j (omega (arith, m, k, r, l)) (omega (arith, k, r, l)))
 ]
