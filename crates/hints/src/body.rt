@@ -7,13 +7,12 @@ use litmus_tokens::{Lexeme, Stop, Token, Tokens, after_gap};
 
 /// What stands from the initial state of a test on, or nothing where none begins.
 pub fn body_of(text: &[u8]) -> &[u8] {
-    match header_at(text) {
-        Ok((_, rest)) => match braces_at(rest) {
-            Ok(body) => body,
-            Err(_) => &[],
-        },
-        Err(_) => &[],
+    if let Ok((_, rest)) = header_at(text)
+        && let Ok(body) = braces_at(rest)
+    {
+        return body;
     }
+    &[]
 }
 
 /// What stands from the last `exists` or `forall` on, which begins the condition, or nothing where there is

@@ -4,7 +4,7 @@
 use crate::orders::{from_line_at_fault, names_no_location};
 use crate::reader::Reader;
 use crate::search_end::SearchEnd;
-use crate::unended::{count_instructions, count_plain_stores, has_no_choices};
+use crate::unended::{count_instructions, has_no_choices};
 use crate::unused::unused_location;
 use litmus_reader::Fault;
 use order_builder::OrderFault;
@@ -128,12 +128,12 @@ impl Cause {
             return Cause::NoChoices;
         }
         let drains = if is_buffered {
-            count_plain_stores(test)
+            count_instructions(test, true)
         } else {
             0
         };
         Cause::TooFewChoices {
-            steps: count_instructions(test),
+            steps: count_instructions(test, false),
             drains,
             stalls,
         }

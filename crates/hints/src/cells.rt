@@ -101,10 +101,7 @@ fn bad_operands(line: &mut Line, forms: &str, tokens: &[Token<'_>]) {
 }
 
 fn is_zero(token: &Token<'_>) -> bool {
-    match token.lexeme {
-        Lexeme::Number(digits) => digits.is_empty(),
-        _ => false,
-    }
+    matches!(token.lexeme, Lexeme::Number(digits) if digits.is_empty())
 }
 
 /// What is said of a name that is no operand, in brackets or without.

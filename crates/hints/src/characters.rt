@@ -8,52 +8,37 @@ use crate::tables::{Alike, said_of_front};
 
 /// Characters of a test's signs, and what stands for them.
 static SIGNS: [Alike; 7] = [
-    Alike {
-        words: &["\u{2227}"],
-        said: "write /\\",
-    },
-    Alike {
-        words: &["\u{2228}"],
-        said: "write \\/",
-    },
-    Alike {
-        words: &["\u{ac}"],
-        said: "write ~",
-    },
-    Alike {
-        words: &["\u{2203}"],
-        said: "write exists",
-    },
-    Alike {
-        words: &["\u{2200}"],
-        said: "write forall",
-    },
-    Alike {
-        words: &["\u{201c}", "\u{201d}", "\u{201e}", "\u{ab}", "\u{bb}"],
-        said: "write \" here and at its other end",
-    },
-    Alike {
-        words: &["\u{2212}", "\u{2010}", "\u{2011}", "\u{2013}", "\u{2014}"],
-        said: "a number has no sign: write -1 as 4294967295",
-    },
+    Alike(&["\u{2227}"], "write /\\"),
+    Alike(&["\u{2228}"], "write \\/"),
+    Alike(&["\u{ac}"], "write ~"),
+    Alike(&["\u{2203}"], "write exists"),
+    Alike(&["\u{2200}"], "write forall"),
+    Alike(
+        &["\u{201c}", "\u{201d}", "\u{201e}", "\u{ab}", "\u{bb}"],
+        "write \" here and at its other end",
+    ),
+    Alike(
+        &["\u{2212}", "\u{2010}", "\u{2011}", "\u{2013}", "\u{2014}"],
+        "a number has no sign: write -1 as 4294967295",
+    ),
 ];
 
 /// Characters that look like a space or like nothing, and what stands for them, in any text.
 static BLANKS: [Alike; 2] = [
-    Alike {
-        words: &[
+    Alike(
+        &[
             "\u{a0}", "\u{2002}", "\u{2003}", "\u{2009}", "\u{202f}", "\u{3000}",
         ],
-        said: "write a space",
-    },
-    Alike {
-        words: &["\u{feff}", "\u{200b}", "\u{200c}", "\u{200d}", "\u{2060}"],
-        said: "leave it out, since it is invisible",
-    },
+        "write a space",
+    ),
+    Alike(
+        &["\u{feff}", "\u{200b}", "\u{200c}", "\u{200d}", "\u{2060}"],
+        "leave it out, since it is invisible",
+    ),
 ];
 
 /// Says of a byte that isn't printable, and of the character that it begins.
-pub fn say_character(line: &mut Line, place: Place<'_>, byte: u8) {
+pub fn say_character(line: &mut Line, place: &Place<'_>, byte: u8) {
     let said = said_of_front(&SIGNS, place.rest).unwrap_or("it may stand only in a comment");
     if !says_foreign_at(line, place, said) {
         line.say_number("the byte {} can't stand here", usize::from(byte));
@@ -65,14 +50,14 @@ pub fn say_character(line: &mut Line, place: Place<'_>, byte: u8) {
 pub fn says_foreign(line: &mut Line, text: &[u8], said: &str) -> bool {
     for at in 0..text.len() {
         if !text[at].is_ascii() {
-            return says_foreign_at(line, Place::new(text, text.len() - at), said);
+            return says_foreign_at(line, &Place::new(text, text.len() - at), said);
         }
     }
     false
 }
 
 /// Says of a character that isn't ASCII what stands for it where it is blank, and else this. Whether one stands there.
-fn says_foreign_at(line: &mut Line, place: Place<'_>, said: &str) -> bool {
+fn says_foreign_at(line: &mut Line, place: &Place<'_>, said: &str) -> bool {
     let Some(character) = character_at(place.rest) else {
         return false;
     };

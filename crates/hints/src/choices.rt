@@ -119,11 +119,16 @@ fn bad_first(line: &mut Line, word: &[u8]) {
 
 fn other_first(line: &mut Line, word: &[u8]) {
     match word.split_last() {
-        Some((b'S', digits)) if is_all_digits(digits) => {
-            in_small(line, "{}: write {}s, in small letters", word, digits);
-        }
-        Some((b'D', digits)) if is_all_digits(digits) => {
-            in_small(line, "{}: write {}d, in small letters", word, digits);
+        Some((letter, digits)) if matches!(letter, b'S' | b'D') && is_all_digits(digits) => {
+            let letter = [letter.to_ascii_lowercase()];
+            line.say_with(
+                "{}: write {}{}, in small letters",
+                &[
+                    Piece::Named(word),
+                    Piece::Shown(digits),
+                    Piece::Shown(&letter),
+                ],
+            );
         }
         _ if word.contains(&b',') || word.contains(&b';') => line.say_of(
             "{}: only spaces and line ends stand between choices",
@@ -134,10 +139,6 @@ fn other_first(line: &mut Line, word: &[u8]) {
             word,
         ),
     }
-}
-
-fn in_small(line: &mut Line, sentence: &str, word: &[u8], digits: &[u8]) {
-    line.say_with(sentence, &[Piece::Named(word), Piece::Shown(digits)]);
 }
 
 /// Says of a number alone that a letter belongs to it.

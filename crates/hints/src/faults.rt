@@ -36,7 +36,7 @@ pub fn say_fault(
     alloc: Global,
     line: &mut Line,
     asked: Asked,
-    place: Place<'_>,
+    place: &Place<'_>,
     why: Why,
 ) -> Result<(), NoMemory> {
     line.say_number("line {}: ", line_of_fault(place, why));
@@ -70,7 +70,7 @@ pub fn say_fault(
 }
 
 /// The line of a fault; of an input without a test, one that is there.
-fn line_of_fault(place: Place<'_>, why: Why) -> usize {
+fn line_of_fault(place: &Place<'_>, why: Why) -> usize {
     match why {
         Why::NoHeader => place.line_with_bytes(),
         _ => place.line(),
@@ -78,7 +78,7 @@ fn line_of_fault(place: Place<'_>, why: Why) -> usize {
 }
 
 /// Of a line that is no part of a test as it is read, whatever is at fault in it.
-fn foreign_line(place: Place<'_>, why: Why) -> Option<&'static str> {
+fn foreign_line(place: &Place<'_>, why: Why) -> Option<&'static str> {
     if matches!(why, Why::NoHeader | Why::TooLarge) {
         None
     } else if place.from_line().starts_with(b";;") {
@@ -90,7 +90,7 @@ fn foreign_line(place: Place<'_>, why: Why) -> Option<&'static str> {
     }
 }
 
-fn trailing(line: &mut Line, asked: Asked, place: Place<'_>) {
+fn trailing(line: &mut Line, asked: Asked, place: &Place<'_>) {
     if !says_missing_divider(line, asked, place.rest) && !says_foreign_form(line, place) {
         line.say_of(
             "{} stands after the end of the test: leave it out",
@@ -103,7 +103,7 @@ const FORM: &str =
     ": a condition is exists, ~exists or forall, and then atoms as 0:EAX=1, x=1 or true, joined by /\\ and \\/";
 
 /// Says what doesn't fit in a condition.
-fn bad_condition(line: &mut Line, place: Place<'_>) {
+fn bad_condition(line: &mut Line, place: &Place<'_>) {
     if says_foreign_form(line, place) || says_foreign_register(line, place) {
         return;
     }
@@ -116,7 +116,7 @@ fn bad_condition(line: &mut Line, place: Place<'_>) {
 }
 
 /// Says of a number or a connective of another form, within a condition or after it. Whether one stands there.
-fn says_foreign_form(line: &mut Line, place: Place<'_>) -> bool {
+fn says_foreign_form(line: &mut Line, place: &Place<'_>) -> bool {
     if place.is_hexadecimal() {
         line.say_of(DECIMAL, place.with_last_byte());
         true
@@ -128,14 +128,14 @@ fn says_foreign_form(line: &mut Line, place: Place<'_>) -> bool {
     }
 }
 
-fn is_connective(place: Place<'_>) -> bool {
+fn is_connective(place: &Place<'_>) -> bool {
     let token = place.token();
     is_one_of(&["|", "and", "or"], token)
         || (is_exactly_one_of(&["="], token) && is_exactly_one_of(&["="], place.last_word()))
 }
 
 /// Says of a register of another form: of one that isn't read, or of the `P` of its core. Whether one stands there.
-pub fn says_foreign_register(line: &mut Line, place: Place<'_>) -> bool {
+pub fn says_foreign_register(line: &mut Line, place: &Place<'_>) -> bool {
     let last = place.last_word();
     if place.is_register() {
         line.say_of(

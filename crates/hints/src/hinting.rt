@@ -50,7 +50,7 @@ fn say_cause(alloc: Global, line: &mut Line, cause: &Cause, input: &[u8]) -> Res
                 is_divided: *length < input.len(),
             };
             let place = Place::new(first_bytes(input, *length), fault.remaining);
-            return say_fault(alloc, line, asked, place, fault.why);
+            return say_fault(alloc, line, asked, &place, fault.why);
         }
         Cause::Choices {
             length,

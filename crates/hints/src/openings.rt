@@ -16,52 +16,37 @@ use tso_model::names::{continues_name, is_location_name};
 
 /// Words that begin a test of another kind.
 static HEADERS: [Alike; 4] = [
-    Alike {
-        words: &["X86"],
-        said: "{}: write X86, in capitals",
-    },
-    Alike {
-        words: &["X86_64"],
-        said: "{} tests aren't read: tools/import turns them into X86 tests; if you do so by hand, begin with X86 and a name, and use EAX, EBX, ECX, EDX, ESI, EDI",
-    },
-    Alike {
-        words: &[
+    Alike(&["X86"], "{}: write X86, in capitals"),
+    Alike(
+        &["X86_64"],
+        "{} tests aren't read: tools/import turns them into X86 tests; if you do so by hand, begin with X86 and a name, and use EAX, EBX, ECX, EDX, ESI, EDI",
+    ),
+    Alike(
+        &[
             "AArch64", "ARM", "PPC", "Power", "MIPS", "RISCV", "RISC-V", "S390", "Alpha", "SPARC",
         ],
-        said: "{} is another processor: a test begins with X86, a space and its name; tools/import turns an X86_64 test into an X86 test",
-    },
-    Alike {
-        words: &["C", "CPP", "C11", "LISA", "Bell", "LLVM", "JAVA", "ASL"],
-        said: "{} is a language: a test begins with X86, a space and its name; tools/import turns an X86_64 test into an X86 test",
-    },
+        "{} is another processor: a test begins with X86, a space and its name; tools/import turns an X86_64 test into an X86 test",
+    ),
+    Alike(
+        &["C", "CPP", "C11", "LISA", "Bell", "LLVM", "JAVA", "ASL"],
+        "{} is a language: a test begins with X86, a space and its name; tools/import turns an X86_64 test into an X86 test",
+    ),
 ];
 
 /// Words that stand after the rows of a test as it isn't read.
 static KEYWORDS: [Alike; 6] = [
-    Alike {
-        words: &["exist", "exists"],
-        said: "{} is no instruction: write exists",
-    },
-    Alike {
-        words: &["forall"],
-        said: "{} is no instruction: write forall",
-    },
-    Alike {
-        words: &["location", "locations"],
-        said: "{} is no instruction: write locations",
-    },
-    Alike {
-        words: &["not"],
-        said: "{} exists isn't read: write ~exists",
-    },
-    Alike {
-        words: &["forbidden"],
-        said: "{} isn't read: write ~exists",
-    },
-    Alike {
-        words: &["filter", "final"],
-        said: "{} isn't read: a condition is exists, ~exists or forall",
-    },
+    Alike(&["exist", "exists"], "{} is no instruction: write exists"),
+    Alike(&["forall"], "{} is no instruction: write forall"),
+    Alike(
+        &["location", "locations"],
+        "{} is no instruction: write locations",
+    ),
+    Alike(&["not"], "{} exists isn't read: write ~exists"),
+    Alike(&["forbidden"], "{} isn't read: write ~exists"),
+    Alike(
+        &["filter", "final"],
+        "{} isn't read: a condition is exists, ~exists or forall",
+    ),
 ];
 
 /// Types of items in tests of other programs.
@@ -80,42 +65,27 @@ const TYPES: [&str; 10] = [
 
 /// What has no end, by what it begins with.
 static OPENERS: [Alike; 4] = [
-    Alike {
-        words: &["(*"],
-        said: "no *) ends the comment that begins here",
-    },
-    Alike {
-        words: &["\""],
-        said: "no \" ends the quotation that begins here",
-    },
-    Alike {
-        words: &["{"],
-        said: "no } ends the initial state",
-    },
-    Alike {
-        words: &["["],
-        said: "no ] ends locations [",
-    },
+    Alike(&["(*"], "no *) ends the comment that begins here"),
+    Alike(&["\""], "no \" ends the quotation that begins here"),
+    Alike(&["{"], "no } ends the initial state"),
+    Alike(&["["], "no ] ends locations ["),
 ];
 
 /// What begins no token, and what is meant by it.
 static SIGNS: [Alike; 3] = [
-    Alike {
-        words: &["--", ".."],
-        said: "the dividing line between a test and its choices is ==== alone",
-    },
-    Alike {
-        words: &["//"],
-        said: COMMENT,
-    },
-    Alike {
-        words: &["*)"],
-        said: "*) ends no comment here: a comment ends at its first *) and can't contain another comment",
-    },
+    Alike(
+        &["--", ".."],
+        "the dividing line between a test and its choices is ==== alone",
+    ),
+    Alike(&["//"], COMMENT),
+    Alike(
+        &["*)"],
+        "*) ends no comment here: a comment ends at its first *) and can't contain another comment",
+    ),
 ];
 
 /// Of a header line.
-pub fn no_header(line: &mut Line, asked: Reader, place: Place<'_>) {
+pub fn no_header(line: &mut Line, asked: Reader, place: &Place<'_>) {
     let rest = place.rest;
     if rest.is_empty() {
         line.say_with(
@@ -142,7 +112,7 @@ fn other_header(line: &mut Line, word: &[u8]) {
 }
 
 /// Of what doesn't end.
-pub fn unclosed(line: &mut Line, asked: Asked, place: Place<'_>) {
+pub fn unclosed(line: &mut Line, asked: Asked, place: &Place<'_>) {
     let token = place.token();
     if place.rest.is_empty() {
         line.say(
@@ -158,7 +128,7 @@ pub fn unclosed(line: &mut Line, asked: Asked, place: Place<'_>) {
 }
 
 /// Of what begins no token, or stands where it can't before the initial state.
-pub fn bad_token(line: &mut Line, place: Place<'_>) {
+pub fn bad_token(line: &mut Line, place: &Place<'_>) {
     let token = place.token();
     if is_exactly_one_of(&["locations"], place.last_word()) {
         return no_brackets(line, token);
@@ -204,14 +174,10 @@ fn begins_token(text: &[u8]) -> bool {
     }
 }
 
-fn bad_byte(line: &mut Line, place: Place<'_>, byte: u8) {
-    match said_of_front(&SIGNS, place.rest) {
-        Some(said) => line.say(said),
-        None => other_byte(line, place, byte),
+fn bad_byte(line: &mut Line, place: &Place<'_>, byte: u8) {
+    if let Some(said) = said_of_front(&SIGNS, place.rest) {
+        return line.say(said);
     }
-}
-
-fn other_byte(line: &mut Line, place: Place<'_>, byte: u8) {
     match byte {
         b'-' => line.say_number("a number has no sign: values are 0 to {}", GREATEST),
         b'#' if is_exactly_one_of(&[","], place.last_word()) => {
@@ -226,7 +192,7 @@ fn other_byte(line: &mut Line, place: Place<'_>, byte: u8) {
 }
 
 /// Of an item of the initial state.
-pub fn bad_init(line: &mut Line, place: Place<'_>) {
+pub fn bad_init(line: &mut Line, place: &Place<'_>) {
     let last = place.last_word();
     if place.is_hexadecimal() {
         line.say_of(DECIMAL, place.with_last_byte());

@@ -83,13 +83,11 @@ fn from_line(text: &[u8], number: usize) -> &[u8] {
 
 fn bad_line(line: &mut Line, unknown_location: bool, entry: &[u8]) {
     if entry.is_empty() {
-        line.say("an empty line stands in the order");
-    } else if !says_foreign(line, entry, "an order, as run prints it, is in ASCII") {
-        bad_entry(line, unknown_location, entry);
+        return line.say("an empty line stands in the order");
     }
-}
-
-fn bad_entry(line: &mut Line, unknown_location: bool, entry: &[u8]) {
+    if says_foreign(line, entry, "an order, as run prints it, is in ASCII") {
+        return;
+    }
     if entry.starts_with(b"Endorder") {
         line.say_of(
             "{}: the order ends with Endorder, one space and the number of entries",

@@ -24,7 +24,7 @@ pub enum Limit {
 /// The limit that what stands at a place passes, by what stands before it from the initial state on.
 ///
 /// Errors: out of memory only.
-pub fn limit_at(alloc: Global, place: Place<'_>) -> Result<Limit, NoMemory> {
+pub fn limit_at(alloc: Global, place: &Place<'_>) -> Result<Limit, NoMemory> {
     let body = body_of(place.before);
     let tokens = tokens_of(alloc, body)?;
     let ending = tokens_of(alloc, ending_of(body, &tokens))?;

@@ -14,7 +14,7 @@ use tso_model::limits::{
 };
 
 /// Of the row of cores.
-pub fn bad_header_row(line: &mut Line, place: Place<'_>) {
+pub fn bad_header_row(line: &mut Line, place: &Place<'_>) {
     if place.rest.is_empty() {
         line.say("the test ends within a row");
     } else {
@@ -41,7 +41,7 @@ pub fn wrong_cells(line: &mut Line, rest: &[u8]) {
 /// Of what passes a limit.
 ///
 /// Errors: out of memory only.
-pub fn too_large(alloc: Global, line: &mut Line, place: Place<'_>) -> Result<(), NoMemory> {
+pub fn too_large(alloc: Global, line: &mut Line, place: &Place<'_>) -> Result<(), NoMemory> {
     let token = place.token();
     let length = place.text.len();
     if length > MAX_TEXT {
@@ -51,7 +51,7 @@ pub fn too_large(alloc: Global, line: &mut Line, place: Place<'_>) -> Result<(),
         );
     } else if begins_text(place) {
         line.say_number("the test's name has more than {} bytes", MAX_TEST_NAME);
-    } else if opens(token) {
+    } else if is_exactly_one_of(&["(", "~", "not"], token) {
         line.say_of_number(
             "{} is one too many: at most {} brackets and negations may be open at once",
             token,
@@ -63,7 +63,7 @@ pub fn too_large(alloc: Global, line: &mut Line, place: Place<'_>) -> Result<(),
     Ok(())
 }
 
-fn one_too_many(line: &mut Line, place: Place<'_>, limit: Limit) {
+fn one_too_many(line: &mut Line, place: &Place<'_>, limit: Limit) {
     let (sentence, most) = match limit {
         Limit::Cores => ("{}: a test has at most {} cores", MAX_CORES),
         Limit::Locations => (
@@ -87,15 +87,8 @@ fn one_too_many(line: &mut Line, place: Place<'_>, limit: Limit) {
 }
 
 /// Whether nothing stands before a place but white space and comments.
-fn begins_text(place: Place<'_>) -> bool {
-    match after_gap(place.text) {
-        Ok(rest) => rest.len() == place.rest.len(),
-        Err(_) => false,
-    }
-}
-
-fn opens(token: &[u8]) -> bool {
-    is_exactly_one_of(&["(", "~", "not"], token)
+fn begins_text(place: &Place<'_>) -> bool {
+    matches!(after_gap(place.text), Ok(rest) if rest.len() == place.rest.len())
 }
 
 /// What stands before the end of a cell, of an item or of an atom.

@@ -99,17 +99,8 @@ fn stall_words(reason: Stall) -> &'static str {
     }
 }
 
-/// How many instructions the cores have.
-pub fn count_instructions(test: &Test) -> usize {
-    count(test, false)
-}
-
-/// How many plain stores the cores have.
-pub fn count_plain_stores(test: &Test) -> usize {
-    count(test, true)
-}
-
-fn count(test: &Test, only_stores: bool) -> usize {
+/// How many instructions the cores have, or how many plain stores alone.
+pub fn count_instructions(test: &Test, only_stores: bool) -> usize {
     let mut all = 0usize;
     for core in 0..test.cores() {
         all = all.saturating_add(count_in(test.program(Core(core)), only_stores));
