@@ -1,5 +1,6 @@
 -- Last writes: which writes an answer puts before another one, and the words that the others leave.
-use Rattle.refutations.proofs.Vocabulary.{◌≡◌, ◌&&◌, ◌||◌, cond, Bool, true, false, List, [], ◌∷◌, Option, map, if◌then◌else◌, refl, sym, ap, ◌∙◌, ℕ, filter, list_any, Entry, Known, same_event, comes_before, Litmus, writes_to, events_of, all_known, value_among, can_be_last, words_at_end, Pair}
+use Rattle.refutations.proofs.Vocabulary.{◌≡◌, ◌&&◌, ◌||◌, cond, Bool, true, false, List, [], ◌∷◌, Option, map, if◌then◌else◌, refl, sym, ap, ◌∙◌, ℕ, filter, list_any, Entry, Known, same_event, comes_before, Litmus, writes_to, events_of, all_known, value_among, can_be_last, words_at_end, Pair, ◌<◌, ◌≤◌, ◌+◌, ◌++◌, length, get_or, drop, Some, append-nil, slice_index}
+use Rattle.refutations.proofs.Walking.{appended, all-appended}
 
 any-none : (xs : List Entry) → list_any (λ (v : Entry). false) xs ≡ false
 any-none [] = refl
@@ -59,3 +60,29 @@ words-kept t k loc p h =
 
 pub among : (es : List Entry) (t : Litmus) (p : Entry → Bool) → es ≡ events_of t → list_any p es ≡ list_any p (events_of t)
 among es t p e = ap (list_any p) e
+
+-- what the next event adds to the words that are kept: its value, or nothing
+module _ (q : Entry → Bool) (writes : List Entry) (events : List Entry) (i : ℕ) (d : Entry) (within : i < length events) (before after whole : List (Option ℕ))
+    (so : whole ≡ before ++ map (value_among writes) (filter q (drop i events))) where
+  pub one-kept : (v : Option ℕ) (known : List Entry) → q (get_or events i d) ≡ true → v ≡ value_among known (get_or events i d) → known ≡ writes
+      → after ≡ before ++ (v ∷ []) → whole ≡ after ++ map (value_among writes) (filter q (drop (i + 1) events))
+  one-kept v known h is same more =
+      appended (λ ys. map (value_among writes) (filter q ys)) events i d (value_among writes (get_or events i d) ∷ []) before after whole within
+      (ap (λ b. map (value_among writes) (cond b (get_or events i d ∷ filter q (drop (i + 1) events)) (filter q (drop (i + 1) events)))) h)
+      (more ∙ ap (λ z. before ++ (z ∷ [])) (is ∙ ap (λ ws. value_among ws (get_or events i d)) same)) so
+
+  pub none-kept : q (get_or events i d) ≡ false → after ≡ before → whole ≡ after ++ map (value_among writes) (filter q (drop (i + 1) events))
+  none-kept h same =
+      appended (λ ys. map (value_among writes) (filter q ys)) events i d [] before after whole within
+      (ap (λ b. map (value_among writes) (cond b (get_or events i d ∷ filter q (drop (i + 1) events)) (filter q (drop (i + 1) events)))) h)
+      (same ∙ sym (append-nil before)) so
+
+-- all of them, where writes go to the location
+pub all-kept : (t : Litmus) (k : Known) (loc : ℕ) (events : List Entry) → events ≡ events_of t → list_any (writes_to loc) events ≡ true
+    → (i : ℕ) (words : List (Option ℕ)) → length events ≤ i
+    → map (value_among (all_known t k)) (filter (can_be_last t k loc) events) ≡ words ++ map (value_among (all_known t k)) (filter (can_be_last t k loc) (drop i events))
+    → words ≡ words_at_end t k loc
+all-kept t k loc events e h i words all so =
+    let kept : List Entry → List (Option ℕ) = λ es. map (value_among (all_known t k)) (filter (can_be_last t k loc) es) in
+    all-appended kept events i words _ all refl so
+    ∙ (ap kept e ∙ ap (λ b. if b then kept (events_of t) else Some (slice_index t.words loc) ∷ []) (sym (ap (list_any (writes_to loc)) (sym e) ∙ h)))

@@ -1,5 +1,4 @@
 -- Answers and trees as the code holds them, and the definitions' own that they stand for.
-use Rattle.refutations.specs.declared.edges.Acyclic.TheVariants.{OnLocation, Globally}
 use Rattle.refutations.specs.declared.tree.Node.{Node}
 use Rattle.refutation_laws.specs.Refutations as spec
 use Rattle.refutations.specs.declared.tree.Node.TheVariants as code

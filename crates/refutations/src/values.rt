@@ -105,14 +105,26 @@ fn word_given(reads: Reads<'_>, core: Core, place: u8, action: Action) -> Option
     returned(reads.test, reads.writes, reads.sources, &read)
 }
 
-/// Notes a write, if its value is known.
-fn note(walk: &mut Walk, write: Entry, value: Option<u32>) -> Result<(), NoMemory>
-    ensures writes { IfOk result (λ _. walk.new.writes.items
-        ≡ walk.old.writes.items ++ spec.write_with write.core.0 write.place write.kind write.loc value) }
+/// Notes a core's write, if its value is known.
+fn note(
+    walk: &mut Walk,
+    core: Core,
+    place: u8,
+    kind: Kind,
+    loc: Loc,
+    value: Option<u32>,
+) -> Result<(), NoMemory>
+    ensures writes { IfOk result (λ _. walk.new.writes.items ≡ walk.old.writes.items ++ spec.write_with core.0 place kind loc value) }
     ensures registers { walk.new.registers ≡ walk.old.registers }
 {
     if let Some(value) = value {
-        walk.writes.push(Entry { value, ..write })?;
+        walk.writes.push(Entry {
+            core,
+            place,
+            kind,
+            loc,
+            value,
+        })?;
     }
     Ok(())
 }
@@ -131,14 +143,7 @@ fn act(
     match action {
         Action::Store(loc, operand) => {
             let value = known_operand(&walk.registers, operand);
-            let write = Entry {
-                core,
-                place,
-                kind: Kind::W,
-                loc,
-                value: 0,
-            };
-            note(walk, write, value)
+            note(walk, core, place, Kind::W, loc, value)
         }
         Action::Load(reg, _) => {
             walk.registers[reg.index()] = word;
@@ -152,14 +157,7 @@ fn act(
         Action::Lock(loc, reg, update) => {
             let value = known_update(update, word, walk.registers[reg.index()]);
             walk.registers[reg.index()] = word;
-            let write = Entry {
-                core,
-                place,
-                kind: Kind::LW,
-                loc,
-                value: 0,
-            };
-            note(walk, write, value)
+            note(walk, core, place, Kind::LW, loc, value)
         }
     }
 }

@@ -1,5 +1,5 @@
 -- What the answers tell of values, as the code keeps it.
-use Rattle.std.specs.Prelude.{ℕ, ◌≡◌, ◌<◌, List, [], length, slice_index_or}
+use Rattle.std.specs.Prelude.{ℕ, ◌≡◌, ◌<◌, [], length, slice_index_or}
 use Rattle.tso_model.specs.Litmus.{Litmus}
 use Rattle.refutation_laws.specs.Known.{Known}
 use Rattle.refutation_laws.specs.Values.{returned, all_known, left_of, known_first_registers}

@@ -1,6 +1,4 @@
-use Rattle.refutations.proofs.Vocabulary.{◌≡◌, ◌≤◌, ◌++◌, map, drop, length, Some, filter, known_of, cases_of}
-use Rattle.tso_model.specs.ProgramOrder as program_order
-use Rattle.refutation_laws.specs.Known as known
+use Rattle.refutations.proofs.Vocabulary.{◌≡◌, ◌≤◌, ◌++◌, map, drop, length, Some, filter, known_of, cases_of, with_source, writes_to}
 use Rattle.refutations.proofs.checking.add_sources.Given as goal
 
 -- the writes that were gone over have their cases
@@ -8,7 +6,7 @@ abbrev pub invariant-loop-left : goal.invariant-loop-left
 invariant-loop-left l = record {
   within : l.left ≤ length l.events;
   cases : cases_of l.cases.items
-      ≡ map (known.with_source (known_of l.answers) l.read) (map (λ w. Some w) (filter (program_order.writes_to l.read.loc.0) (drop l.left l.events)))
+      ≡ map (with_source (known_of l.answers) l.read) (map (λ w. Some w) (filter (writes_to l.read.loc.0) (drop l.left l.events)))
       ++ cases_of l.fn.cases.items;
 }
 

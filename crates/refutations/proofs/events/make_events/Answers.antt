@@ -1,7 +1,6 @@
-use Rattle.refutations.proofs.Vocabulary.{◌<◌, ◌++◌, ap, ◌∙◌, subst}
-use Rattle.std.specs.Prelude.{map}
-use Rattle.refutation_laws.specs.Known as known
+use Rattle.refutations.proofs.Vocabulary.{◌<◌, ◌++◌, ap, ◌∙◌, subst, ◌≤◌, [], map, refl, sym, bare, events_from}
 use Rattle.refutations.proofs.Growing.{events-more}
+use Rattle.refutations.proofs.Walking.{all-appended}
 use Rattle.refutations.proofs.events.make_events.Goals as goal
 
 pub loop-number-preserved : goal.loop-number-preserved
@@ -10,5 +9,13 @@ loop-number-preserved c =
     events-more c.loop-number.number t.programs t.registers c.deref.result.now _ c.loop-number.events.items c.add_bare.new.events.items
     c.in_ok-thread.thread.entries.items (subst (λ n. c.loop-number.number < n) c.cores-number-end.ensures.value c.loop-number-test.true)
     c.in_ok-thread.ensures.entries
-    (c.in_ok-add_bare.ensures ∙ ap (λ es. c.loop-number.events.items ++ map known.bare es) c.deref-in-loop-number.ensures.value)
+    (c.in_ok-add_bare.ensures ∙ ap (λ es. c.loop-number.events.items ++ map bare es) c.deref-in-loop-number.ensures.value)
     c.loop-number.invariant
+
+pub loop-number-init : goal.loop-number-init
+loop-number-init c = ap (λ es. es ++ map bare (events_from 0 c.args.test.now.programs c.args.test.now.registers [])) (sym c.new-events.ensures.items)
+
+pub returns : goal.returns
+returns c =
+    all-appended (λ ps. map bare (events_from c.loop-number.number ps c.args.test.now.registers [])) c.args.test.now.programs c.loop-number.number c.loop-number.events.items _
+    (subst (λ n. n ≤ c.loop-number.number) c.cores-number-end.ensures.value c.loop-number-test.false) refl c.loop-number.invariant
